@@ -1,0 +1,22 @@
+//! Values of a program, what a slot of the machine holds, their order, their weight and their copies.
+#![tactic(auto)]
+
+mod copying;
+mod laws;
+mod octets;
+mod ordering;
+mod slots;
+#[cfg(test)]
+mod tests;
+mod value;
+mod weighing;
+
+pub use copying::{copy, copy_slot};
+pub use laws::{order_is_total, ties_are_equal};
+pub use octets::Octets;
+pub use ordering::{equal, order};
+pub use slots::Slots;
+/// There was no memory: the one answer of each call that takes memory which no clause speaks of.
+pub use std::alloc::AllocError as NoMemory;
+pub use value::{Slot, Value};
+pub use weighing::weight;

@@ -1,0 +1,58 @@
+//! Byte strings inside values.
+ghost use Rattle.std.specs.Prelude.{◌≡◌, ◌==◌, ℕ, List, length, IfOk};
+
+use crate::NoMemory;
+use std::alloc::Global;
+use std::marker::Model;
+
+/// The bytes of a byte string, which don't change once it is made.
+///
+/// Contracts see the list of its bytes.
+#[derive(Debug, Drop)]
+pub struct Octets {
+    held: Vec<u8>,
+}
+
+impl Model for Octets {
+    ghost Value = { List ℕ };
+
+    ghost view = { λ octets. octets.held.items };
+}
+
+impl Octets {
+    /// Takes over the bytes, and takes no memory.
+    pub fn from_vec(bytes: Vec<u8>) -> Octets
+        ensures value { result ≡ bytes.items }
+    {
+        Octets { held: bytes }
+    }
+
+    /// A copy of the bytes.
+    pub fn from_slice(alloc: Global, bytes: &[u8]) -> Result<Octets, NoMemory>
+        ensures value { IfOk result (λ octets. octets ≡ bytes.now) }
+    {
+        let held = Vec::from_slice(alloc, bytes)?;
+        Ok(Octets { held })
+    }
+
+    /// The bytes, in order.
+    pub fn as_slice(&self) -> &[u8]
+        ensures value { result.now ≡ self.now }
+    {
+        self.held.as_slice()
+    }
+
+    /// The number of bytes.
+    pub fn len(&self) -> usize
+        ensures value { result ≡ length self.now }
+    {
+        self.held.len()
+    }
+
+    /// Whether there are no bytes.
+    pub fn is_empty(&self) -> bool
+        ensures value { result ≡ (length self.now == 0) }
+    {
+        self.held.is_empty()
+    }
+}
