@@ -1,0 +1,29 @@
+-- What the calls that read and write a whole text promise.
+use Rattle.std.specs.Prelude.{◌≡◌, ℕ, ◌⊎◌, IsTrue, List, [], ◌∷◌, ◌++◌, Result, Ok, Err, IfSome, IsSome}
+use Rattle.std.specs.Io.KnownBytes.{IsAtEnd}
+use Rattle.sz_io.specs.declared.error.ReadError.{ReadError}
+use Rattle.sz_io.specs.declared.error.ReadError.TheVariants.{Failed, TooLong, NoMemory}
+use Rattle.sz_io.specs.declared.error.WriteError.{WriteError}
+use Rattle.sz_io.specs.declared.error.WriteError.TheVariants as Write
+use Rattle.sz_io.specs.declared.files.Files.{Ghosts}
+
+-- the names opened gain exactly this name; where memory ran out, this name or none
+abbrev pub NamesGain : {T : Type 0} → List (List ℕ) → List (List ℕ) → List ℕ → Result T ReadError → Type 0
+NamesGain old new name (Ok bytes) = new ≡ old ++ name ∷ []
+NamesGain old new name (Err Failed) = new ≡ old ++ name ∷ []
+NamesGain old new name (Err TooLong) = new ≡ old ++ name ∷ []
+NamesGain old new name (Err NoMemory) = (new ≡ old) ⊎ (new ≡ old ++ name ∷ [])
+
+-- One file was opened since, and no byte of it is left. It tells what is left where the bytes under the name were told.
+pub record ReadToEnd {F : Type 0} (files : Ghosts F) (old new : F) (name : List ℕ) : Type 0 where
+  pub file : ℕ
+  pub not_before : IsTrue (files.given old file) → ⊥
+  pub given_now : IsTrue (files.given new file)
+  pub no_other : (other : ℕ) → IsTrue (files.given new other) → (other ≡ file) ⊎ IsTrue (files.given old other)
+  pub none_left : IsAtEnd (files.left new file)
+  pub told : IfSome (files.held old name) (λ _. IsSome (files.left new file))
+
+-- how many bytes the sink took before the error
+abbrev pub bytes_taken : WriteError → ℕ
+bytes_taken (Write.Failed n) = n
+bytes_taken (Write.NoMemory n) = n

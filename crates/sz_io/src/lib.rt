@@ -1,0 +1,16 @@
+//! The outside as the program sees it: files to read, sinks to write to, and a gate before each attempt.
+#![tactic(auto)]
+
+mod error;
+mod files;
+mod gate;
+mod reading;
+mod sink;
+mod writing;
+
+pub use error::{Failed, NoMemory, OutsideError, ReadError, WriteError};
+pub use files::Files;
+pub use gate::{Gate, NoGate};
+pub use reading::read_whole;
+pub use sink::Sink;
+pub use writing::write_whole;

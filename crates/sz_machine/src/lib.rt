@@ -1,0 +1,8 @@
+//! The machine that runs the code of a program on one record.
+#![tactic(auto)]
+
+mod code;
+mod emits;
+
+pub use code::{Code, Instr};
+pub use emits::{Emit, Emits};

@@ -1,0 +1,8 @@
+-- what the public contracts rest on
+pub mod Numbers
+pub mod Tree
+pub mod Outcomes
+pub mod Meaning
+pub mod Rows
+pub mod Lists
+pub mod Programs
