@@ -1,4 +1,5 @@
 -- what the public contracts rest on
 pub mod Machine
 pub mod Emits
+
 -- what the functions inside the crate promise each other
