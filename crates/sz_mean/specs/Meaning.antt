@@ -67,3 +67,13 @@ ended (Faults kind place) = Fault kind place
 abbrev pub mean : Prog → ℕ → List ℕ → Outcome
 mean program budget text =
     ended (exec_all program.body text (replicate program.locals None) (record { left = budget; emits = [] }))
+
+-- the emits of a record that ends so
+abbrev pub emits_of : Outcome → List EmitDatum
+emits_of (Done emits) = emits
+emits_of (Fault kind place) = []
+
+-- the emits of all records, in the order of the records
+abbrev pub all_emits : Prog → ℕ → List (List ℕ) → List EmitDatum
+all_emits program budget [] = []
+all_emits program budget (text ∷ texts) = emits_of (mean program budget text) ++ all_emits program budget texts

@@ -1,0 +1,9 @@
+-- what the public contracts rest on
+pub mod Settings
+pub mod Records
+pub mod Text
+pub mod Outcome
+pub mod Promise
+-- what the functions inside the crate promise each other
+pub mod View
+pub mod Code

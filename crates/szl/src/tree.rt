@@ -1,0 +1,35 @@
+//! A program as a tree, with numbers for its names.
+use sz_mean::BinOp;
+
+/// A number, or a variable by its number.
+#[derive(Clone, Copy, Debug)]
+pub enum Operand {
+    Number(i64),
+    Variable(u32),
+}
+
+/// What gives a slot.
+#[derive(Clone, Copy, Debug)]
+pub enum Expr {
+    /// The record, converted to a whole number.
+    Input,
+    Operand(Operand),
+    Binary(BinOp, Operand, Operand),
+}
+
+/// A statement that does something when a record runs. Variables and tables are numbered from 0.
+#[derive(Clone, Copy, Debug)]
+pub enum Stmt {
+    /// Declares the variable with its value.
+    Declare(u32, Expr),
+    /// Emits the value to the table.
+    Emit(u32, Expr),
+}
+
+/// A program: the names of its tables in order of declaration, its number of variables, and its statements.
+#[derive(Debug, Drop)]
+pub struct Program<'t> {
+    pub tables: Vec<&'t [u8]>,
+    pub locals: u32,
+    pub body: Vec<Stmt>,
+}
