@@ -2,8 +2,8 @@
 -- A program is a list of statements, each ended by a semicolon:
 --   NAME: table sum of int;     NAME: int = input;     NAME: int = VALUE;     emit TABLE <- VALUE;
 -- A VALUE is one operand, or two with `+`, `-` or `*` between them; an operand is a decimal number or a variable.
-use Rattle.std.specs.Prelude.{ℕ, ℤ, zero, suc, ◌+◌, List, [], ◌∷◌, ◌++◌, length, Bool, true, false, not, ◌&&◌, ◌||◌, nat_lt, nat_le, nat_eq, ◌==◌, if◌then◌else◌, Option, Some, None, option_map, option_and_then, position, bytes_eq, codes}
-use Rattle.std.specs.List.{list_all, list_any}
+use Rattle.std.specs.Prelude.{ℕ, ℤ, zero, suc, ◌+◌, List, [], ◌∷◌, ◌++◌, length, Bool, true, false, not, ◌&&◌, ◌||◌, nat_lt, nat_le, nat_eq, ◌==◌, if◌then◌else◌, Option, Some, None, option_map, option_and_then, bytes_eq, codes}
+use Rattle.std.specs.List.{list_all, list_any, position_from}
 use Rattle.std.specs.Char.{is_ascii_digit}
 use Rattle.sz_mean.specs.declared.operator.BinOp.{BinOp}
 use Rattle.sz_mean.specs.declared.operator.BinOp.TheVariants.{Add, Sub, Mul}
@@ -66,6 +66,10 @@ pub record Draft : Type 0 where
   pub variables : List (List ℕ)
   pub body : List Stm
 
+-- the place of a text among the texts, counted from 0
+abbrev pub place_of : List ℕ → List (List ℕ) → Option ℕ
+place_of text texts = position_from (bytes_eq text) 0 texts
+
 -- whether the name may be declared now
 abbrev pub is_free : List ℕ → Draft → Bool
 is_free name d = is_name name && not (has_text name d.tables || has_text name d.variables)
@@ -73,7 +77,7 @@ is_free name d = is_name name && not (has_text name d.tables || has_text name d.
 -- the operand that a lexeme is
 abbrev pub operand : Draft → List ℕ → Option Exp
 operand d text =
-    if is_decimal text then option_map number (number_in text) else option_map variable (position (bytes_eq text) d.variables)
+    if is_decimal text then option_map number (number_in text) else option_map variable (place_of text d.variables)
 
 -- the operator that a lexeme is
 abbrev pub operator_in : List ℕ → Option BinOp
@@ -131,7 +135,7 @@ declaration d name kind rest =
 -- the draft with the emit of a value to a table
 abbrev pub emission : Draft → List ℕ → List (List ℕ) → Option Draft
 emission d table value =
-    option_and_then (λ t. option_and_then (with_emit d t) (value_in d value)) (position (bytes_eq table) d.tables)
+    option_and_then (λ t. option_and_then (with_emit d t) (value_in d value)) (place_of table d.tables)
 
 -- the draft with the statement that these lexemes are, without its semicolon
 abbrev pub statement : Draft → List (List ℕ) → Option Draft

@@ -8,6 +8,7 @@ use Rattle.szl.specs.declared.tree.Expr.TheVariants as expr
 use Rattle.szl.specs.declared.tree.Stmt.{Stmt}
 use Rattle.szl.specs.declared.tree.Stmt.TheVariants.{Declare, Emit}
 use Rattle.szl.specs.declared.tree.Program.{Program}
+use Rattle.std.specs.Borrow.{Bor}
 
 -- the plain data of an operand
 abbrev pub seen_operand : Operand → Exp
@@ -25,6 +26,10 @@ abbrev pub seen_stmt : Stmt → Stm
 seen_stmt (Declare x e) = declare x (seen_expr e)
 seen_stmt (Emit t e) = emit t (seen_expr e)
 
+-- the texts that references point to
+abbrev pub texts : List (Bor (List ℕ)) → List (List ℕ)
+texts references = map (λ r. r.now) references
+
 -- the plain data of a program
 abbrev pub seen_program : Program → Prog
-seen_program p = record { tables = map (λ name. name.now) p.tables.items; locals = p.locals; body = map seen_stmt p.body.items }
+seen_program p = record { tables = texts p.tables.items; locals = p.locals; body = map seen_stmt p.body.items }

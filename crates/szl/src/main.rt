@@ -1,7 +1,10 @@
 //! `szl` runs a program of counts over the records of a file.
 #![tactic(auto)]
 
+mod lexemes;
+mod names;
 mod status;
 mod tree;
+mod values;
 
 fn main() {}
