@@ -1,8 +1,8 @@
 -- The machine: what one instruction does to one state, and a run as its repetition.
-use Rattle.std.specs.Prelude.{◌≡◌, ℕ, ℤ, zero, suc, ◌+◌, List, [], ◌∷◌, length, nat_lt, if◌then◌else◌, Option, Some, None, slice_get, slice_set, replicate}
-use Rattle.sz_value.specs.Data.{Datum, int, bytes}
+use Rattle.std.specs.Prelude.{◌≡◌, ℕ, zero, suc, ◌+◌, List, [], ◌∷◌, length, nat_lt, if◌then◌else◌, Option, Some, None, slice_get, slice_set, replicate}
+use Rattle.sz_value.specs.Data.{int, bytes}
 use Rattle.sz_mean.specs.Numbers.{operated, converted}
-use Rattle.sz_mean.specs.Outcomes.{Slot, EmitDatum, World, Outcome, Done, Fault}
+use Rattle.sz_mean.specs.Outcomes.{Slot, EmitDatum, World, Outcome, Done}
 use Rattle.sz_mean.specs.Meaning.{on_value, emitted}
 use Rattle.sz_mean.specs.declared.operator.BinOp.{BinOp}
 use Rattle.sz_machine.specs.declared.code.Instr.{Instr}

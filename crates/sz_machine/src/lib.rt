@@ -3,6 +3,8 @@
 
 mod code;
 mod emits;
+mod numbers;
 
 pub use code::{Code, Instr};
 pub use emits::{Emit, Emits};
+pub use numbers::{number_in, operate};
