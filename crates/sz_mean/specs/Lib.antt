@@ -4,5 +4,4 @@ pub mod Tree
 pub mod Outcomes
 pub mod Meaning
 pub mod Rows
-pub mod Lists
 pub mod Programs

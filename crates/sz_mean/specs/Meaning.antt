@@ -1,5 +1,5 @@
 -- What a program means for one record: expressions give slots, statements change variables and emit.
-use Rattle.std.specs.Prelude.{ℕ, List, [], ◌∷◌, ◌++◌, Option, Some, None, slice_get, slice_set, replicate, unwrap_or}
+use Rattle.std.specs.Prelude.{ℕ, List, [], ◌∷◌, ◌++◌, Option, Some, None, slice_get, slice_set, replicate, unwrap_or, flat_map}
 use Rattle.sz_value.specs.Data.{Datum, int, bytes}
 use Rattle.sz_mean.specs.Numbers.{operated, converted}
 use Rattle.sz_mean.specs.Tree.{Exp, number, variable, input, convert, binary, Stm, declare, emit, Prog}
@@ -68,12 +68,11 @@ abbrev pub mean : Prog → ℕ → List ℕ → Outcome
 mean program budget text =
     ended (exec_all program.body text (replicate program.locals None) (record { left = budget; emits = [] }))
 
--- the emits of a record that ends so
+-- the emits of a record that ends so; no construct faults yet
 abbrev pub emits_of : Outcome → List EmitDatum
 emits_of (Done emits) = emits
 emits_of (Fault kind place) = []
 
 -- the emits of all records, in the order of the records
 abbrev pub all_emits : Prog → ℕ → List (List ℕ) → List EmitDatum
-all_emits program budget [] = []
-all_emits program budget (text ∷ texts) = emits_of (mean program budget text) ++ all_emits program budget texts
+all_emits program budget texts = flat_map (λ text. emits_of (mean program budget text)) texts

@@ -1,4 +1,5 @@
 -- What running leaves: slots, emits, and how an expression, a statement or a record ends.
+-- No construct takes ticks or faults yet; the ticks left and the faults have their places here for those that will.
 use Rattle.std.specs.Prelude.{ℕ, List, Option}
 use Rattle.sz_value.specs.Data.{Datum}
 

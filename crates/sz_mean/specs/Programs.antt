@@ -2,14 +2,14 @@
 -- A program is a list of statements, each ended by a semicolon:
 --   NAME: table sum of int;     NAME: int = input;     NAME: int = VALUE;     emit TABLE <- VALUE;
 -- A VALUE is one operand, or two with `+`, `-` or `*` between them; an operand is a decimal number or a variable.
-use Rattle.std.specs.Prelude.{ℕ, ℤ, zero, suc, ◌+◌, List, [], ◌∷◌, ◌++◌, length, Bool, true, false, not, ◌&&◌, ◌||◌, nat_lt, nat_le, nat_eq, ◌==◌, if◌then◌else◌, Option, Some, None, option_map, option_and_then, bytes_eq, codes}
-use Rattle.std.specs.List.{list_all, list_any, position_from}
+use Rattle.std.specs.Prelude.{ℕ, ℤ, zero, suc, ◌+◌, List, [], ◌∷◌, ◌++◌, length, slice_index, Bool, true, false, not, ◌&&◌, ◌||◌, nat_lt, nat_le, nat_eq, ◌==◌, if◌then◌else◌, Option, Some, None, option_map, option_and_then, bytes_eq, codes}
+use Rattle.std.specs.List.{list_all, list_any, position_from, slice_split, onto_first}
+use Rattle.std.specs.Cmp.Lexicographic.{pointwise}
 use Rattle.std.specs.Char.{is_ascii_digit}
 use Rattle.sz_mean.specs.declared.operator.BinOp.{BinOp}
 use Rattle.sz_mean.specs.declared.operator.BinOp.TheVariants.{Add, Sub, Mul}
 use Rattle.sz_mean.specs.Numbers.{is_numeral, number_in}
 use Rattle.sz_mean.specs.Tree.{Exp, number, variable, input, convert, binary, Stm, declare, emit, Prog}
-use Rattle.sz_mean.specs.Lists.{put_first, pieces}
 
 -- whether the byte is one of the letters A to Z and a to z, or `_`
 abbrev pub is_letter : ℕ → Bool
@@ -32,39 +32,46 @@ goes_on b (c ∷ rest) = (is_word_byte b && is_word_byte c) || (nat_eq b 60 && n
 abbrev pub lexemes : List ℕ → List (List ℕ)
 lexemes [] = []
 lexemes (b ∷ bs) =
-    if is_blank b then lexemes bs else (if goes_on b bs then put_first b (lexemes bs) else (b ∷ []) ∷ lexemes bs)
+    if is_blank b then lexemes bs else (if goes_on b bs then onto_first b (lexemes bs) else (b ∷ []) ∷ lexemes bs)
 
--- the texts that are no names, since the language has another use for them
-abbrev pub taken_names : List (List ℕ)
-taken_names =
+-- the words that the language reserves
+abbrev pub reserved_words : List (List ℕ)
+reserved_words =
     codes "all" ∷ codes "array" ∷ codes "bool" ∷ codes "break" ∷ codes "bytes" ∷ codes "continue" ∷ codes "def" ∷ codes "do"
     ∷ codes "each" ∷ codes "else" ∷ codes "emit" ∷ codes "false" ∷ codes "for" ∷ codes "function" ∷ codes "if" ∷ codes "int"
     ∷ codes "map" ∷ codes "of" ∷ codes "proto" ∷ codes "return" ∷ codes "some" ∷ codes "static" ∷ codes "string" ∷ codes "table"
-    ∷ codes "time" ∷ codes "true" ∷ codes "type" ∷ codes "weight" ∷ codes "when" ∷ codes "while"
-    ∷ codes "input" ∷ codes "len" ∷ codes "keys" ∷ codes "haskey" ∷ codes "strfind" ∷ []
+    ∷ codes "time" ∷ codes "true" ∷ codes "type" ∷ codes "weight" ∷ codes "when" ∷ codes "while" ∷ []
+
+-- the names that are there before any declaration: the record and the predeclared functions
+abbrev pub predeclared_names : List (List ℕ)
+predeclared_names = codes "input" ∷ codes "len" ∷ codes "keys" ∷ codes "haskey" ∷ codes "strfind" ∷ []
 
 -- whether a list of texts has this one
 abbrev pub has_text : List ℕ → List (List ℕ) → Bool
 has_text text texts = list_any (bytes_eq text) texts
 
+-- whether two lists of texts are the same
+abbrev pub same_texts : List (List ℕ) → List (List ℕ) → Bool
+same_texts = pointwise bytes_eq
+
 -- whether the lexeme can be declared as a name
 abbrev pub is_name : List ℕ → Bool
 is_name [] = false
-is_name (b ∷ bs) = is_letter b && list_all is_word_byte bs && not (has_text (b ∷ bs) taken_names)
+is_name (b ∷ bs) = is_letter b && list_all is_word_byte bs && not (has_text (b ∷ bs) reserved_words || has_text (b ∷ bs) predeclared_names)
 
 -- whether the lexeme is a decimal number without a leading zero
 abbrev pub is_decimal : List ℕ → Bool
-is_decimal text = is_numeral text && (nat_eq (length text) 1 || not (starts_with_zero text))
-  where
-    starts_with_zero : List ℕ → Bool
-    starts_with_zero [] = false
-    starts_with_zero (b ∷ bs) = nat_eq b 48
+is_decimal text = is_numeral text && (nat_eq (length text) 1 || not (nat_eq (slice_index text 0) 48))
 
 -- a program in the making: the names of its tables and of its variables in order of declaration, and its statements
 pub record Draft : Type 0 where
   pub tables : List (List ℕ)
   pub variables : List (List ℕ)
   pub body : List Stm
+
+-- the draft of a program before its first statement
+abbrev pub empty_draft : Draft
+empty_draft = record { tables = []; variables = []; body = [] }
 
 -- the place of a text among the texts, counted from 0
 abbrev pub place_of : List ℕ → List (List ℕ) → Option ℕ
@@ -97,8 +104,7 @@ value_in d _ = None
 
 -- the value of a declaration: the record as a number, or a value
 abbrev pub declared_in : Draft → List (List ℕ) → Option Exp
-declared_in d (a ∷ []) = if bytes_eq a (codes "input") then Some (convert input) else operand d a
-declared_in d ls = value_in d ls
+declared_in d ls = if same_texts ls (codes "input" ∷ []) then Some (convert input) else value_in d ls
 
 -- the draft with one more table, of which there are at most 64
 abbrev pub with_table : List ℕ → Draft → Option Draft
@@ -112,12 +118,6 @@ with_variable name d e =
 -- the draft with one more emit
 abbrev pub with_emit : Draft → ℕ → Exp → Option Draft
 with_emit d t e = Some (record d { body = d.body ++ emit t e ∷ [] })
-
--- whether two lists of texts are the same
-abbrev pub same_texts : List (List ℕ) → List (List ℕ) → Bool
-same_texts [] [] = true
-same_texts (a ∷ more) (b ∷ others) = bytes_eq a b && same_texts more others
-same_texts _ _ = false
 
 -- the draft with the variable declared by `NAME: int` and what follows
 abbrev pub variable_declared : Draft → List ℕ → List (List ℕ) → Option Draft
@@ -137,21 +137,21 @@ abbrev pub emission : Draft → List ℕ → List (List ℕ) → Option Draft
 emission d table value =
     option_and_then (λ t. option_and_then (with_emit d t) (value_in d value)) (place_of table d.tables)
 
+-- the draft with the statement that begins with these three lexemes
+unfoldable pub sentence : Draft → (first second third : List ℕ) → List (List ℕ) → Option Draft
+sentence d first second third rest =
+    if bytes_eq first (codes "emit") && bytes_eq third (codes "<-") then emission d second rest
+    else (if bytes_eq second (codes ":") && is_free first d then declaration d first third rest else None)
+
 -- the draft with the statement that these lexemes are, without its semicolon
 abbrev pub statement : Draft → List (List ℕ) → Option Draft
-statement d (a ∷ b ∷ c ∷ rest) =
-    if bytes_eq a (codes "emit") && bytes_eq c (codes "<-") then emission d b rest
-    else (if bytes_eq b (codes ":") && is_free a d then declaration d a c rest else None)
+statement d (first ∷ second ∷ third ∷ rest) = sentence d first second third rest
 statement d _ = None
 
 -- the draft after all statements; behind the last semicolon no lexeme stands
 abbrev pub statements : Draft → List (List ℕ) → Option Draft
 statements d [] = None
-statements d (rest ∷ []) = if is_empty (lexemes rest) then Some d else None
-  where
-    is_empty : List (List ℕ) → Bool
-    is_empty [] = true
-    is_empty (l ∷ ls) = false
+statements d (rest ∷ []) = if nat_eq (length (lexemes rest)) 0 then Some d else None
 statements d (s ∷ t ∷ ss) = option_and_then (λ (next : Draft). statements next (t ∷ ss)) (statement d (lexemes s))
 
 -- the program that a draft is at its end
@@ -160,4 +160,4 @@ finished d = record { tables = d.tables; locals = length d.variables; body = d.b
 
 -- the program that a text is
 abbrev pub program_in : List ℕ → Option Prog
-program_in text = option_map finished (statements (record { tables = []; variables = []; body = [] }) (pieces 59 text))
+program_in text = option_map finished (statements empty_draft (slice_split (λ b. nat_eq b 59) text))

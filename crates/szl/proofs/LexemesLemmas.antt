@@ -2,9 +2,8 @@
 use Rattle.std.proofs.Common.{◌≡◌, ℕ, suc, ◌+◌, ◌<◌, ◌≤◌, List, [], ◌∷◌, take, drop, length, Bool, true, false, refl, sym, ap, ◌∙◌, subst, arith}
 use Rattle.std.proofs.lemmas.Bool.Decides.{nat_tests}
 use Rattle.std.specs.Prelude.{◌&&◌, ◌||◌, nat_eq, if◌then◌else◌, slice_index}
-use Rattle.std.specs.List.{prefix_len}
+use Rattle.std.specs.List.{prefix_len, onto_first}
 use Rattle.std.proofs.lemmas.List.Sums.{prefix_len-le-length}
-use Rattle.sz_mean.specs.Lists.{put_first}
 use Rattle.sz_mean.specs.Programs.{is_blank, is_word_byte, goes_on, lexemes}
 
 -- a byte of a word is no blank, and it does not begin the sign `<-`
@@ -21,7 +20,7 @@ goes_on_is b c rest false word is = rw (word, is, no_sign b word) refl
 
 -- a byte that is no blank is a lexeme of its own, or stands before the first lexeme of the rest
 lexemes_step : (b : ℕ) (bs : List ℕ) (more : Bool) → is_blank b ≡ false → goes_on b bs ≡ more
-    → lexemes (b ∷ bs) ≡ (if more then put_first b (lexemes bs) else (b ∷ []) ∷ lexemes bs)
+    → lexemes (b ∷ bs) ≡ (if more then onto_first b (lexemes bs) else (b ∷ []) ∷ lexemes bs)
 lexemes_step b bs more blank on = rw (blank, on) refl
 
 -- how many bytes of a word the rest begins with, by whether its first byte is one
@@ -35,7 +34,7 @@ IsFirstLexeme b bs n = lexemes (b ∷ bs) ≡ (b ∷ take n bs) ∷ lexemes (dro
 word_goes_on : (b c : ℕ) (cs : List ℕ) (next : Bool) → is_word_byte b ≡ true → is_word_byte c ≡ next
     → (is_word_byte c ≡ true → IsFirstLexeme c cs (prefix_len is_word_byte cs)) → IsFirstLexeme b (c ∷ cs) (prefix_len is_word_byte (c ∷ cs))
 word_goes_on b c cs true word is rest =
-    lexemes_step b (c ∷ cs) true (no_blank b word) (goes_on_is b c cs true word is) ∙ ap (put_first b) (rest is)
+    lexemes_step b (c ∷ cs) true (no_blank b word) (goes_on_is b c cs true word is) ∙ ap (onto_first b) (rest is)
     ∙ ap (λ n. (b ∷ take n (c ∷ cs)) ∷ lexemes (drop n (c ∷ cs))) (sym (longer ∙ one_more))
   where
     longer : prefix_len is_word_byte (c ∷ cs) ≡ 1 + prefix_len is_word_byte cs

@@ -1,1 +1,2 @@
 mod LexemesLemmas
+mod ReadingLemmas

@@ -1,5 +1,5 @@
 -- The code of a program: which instructions stand for its expressions and statements.
-use Rattle.std.specs.Prelude.{ℕ, List, [], ◌∷◌, ◌++◌}
+use Rattle.std.specs.Prelude.{List, [], ◌∷◌, ◌++◌, flat_map}
 use Rattle.sz_mean.specs.Tree.{Exp, number, variable, input, convert, binary, Stm, declare, emit}
 use Rattle.sz_machine.specs.declared.code.Instr.{Instr}
 use Rattle.sz_machine.specs.declared.code.Instr.TheVariants as instr
@@ -19,8 +19,7 @@ stmt_code (emit t e) = expr_code e ++ instr.Emit t ∷ []
 
 -- the code of statements, one after the other
 abbrev pub body_code : List Stm → List Instr
-body_code [] = []
-body_code (s ∷ ss) = stmt_code s ++ body_code ss
+body_code ss = flat_map stmt_code ss
 
 -- the code of a record: that of the statements, and then the end
 abbrev pub record_code : List Stm → List Instr

@@ -1,5 +1,5 @@
 -- The outcome of a command line: what the source means, folded once over the records in input order.
-use Rattle.std.specs.Prelude.{ℕ, ◌^◌, List, [], ◌∷◌, ◌++◌, length, nat_lt, if◌then◌else◌, Option, Some, None, option_map, option_and_then, codes}
+use Rattle.std.specs.Prelude.{ℕ, ◌^◌, List, [], ◌∷◌, ◌++◌, length, nat_lt, if◌then◌else◌, Option, Some, None, codes}
 use Rattle.sz_mean.specs.Tree.{Prog}
 use Rattle.sz_mean.specs.Meaning.{all_emits}
 use Rattle.sz_mean.specs.Programs.{program_in}
@@ -19,6 +19,10 @@ pub record Answer : Type 0 where
 abbrev pub refusal : Status → List ℕ → Answer
 refusal status cause = record { status = status; output = []; line = cause ++ 10 ∷ [] }
 
+-- an answer of all the output
+abbrev pub success : List ℕ → Answer
+success output = record { status = Done; output = output; line = [] }
+
 -- the most bytes of a program's text
 abbrev pub most_program_bytes : ℕ
 most_program_bytes = 1048576
@@ -27,31 +31,30 @@ most_program_bytes = 1048576
 abbrev pub default_budget : ℕ
 default_budget = 2 ^ 24
 
--- the answer for a program and an input: the tables of all emits of all records, unless the input passes a limit
-abbrev pub ran : Prog → List ℕ → Answer
-ran program input =
+-- the outcome of a program over an input: the tables of all emits of all records, unless the input passes a limit
+abbrev pub outcome_of_program : Prog → List ℕ → Answer
+outcome_of_program program input =
     if is_within_limits input
-    then record { status = Done; output = tables_text 0 program.tables (all_emits program default_budget (records_in input)); line = [] }
+    then success (tables_text 0 program.tables (all_emits program default_budget (records_in input)))
     else refusal Limit (codes "input limit at byte 0")
 
--- the answer for a text that is this program, or none; the input is told where its bytes are
-abbrev pub judged : Option Prog → Option (List ℕ) → Option Answer
-judged None input = Some (refusal Program (codes "program: not built yet at 1:1"))
-judged (Some program) input = option_map (ran program) input
+-- the outcome where the text was read as this program, or as none
+abbrev pub outcome_of_reading : Option Prog → List ℕ → Answer
+outcome_of_reading None input = refusal Program (codes "program: not built yet at 1:1")
+outcome_of_reading (Some program) input = outcome_of_program program input
 
--- the answer for the text of a program
-abbrev pub answered : Option (List ℕ) → List ℕ → Option Answer
-answered input text =
+-- the outcome of a program's text over an input
+abbrev pub outcome_of_text : List ℕ → List ℕ → Answer
+outcome_of_text text input =
     if nat_lt most_program_bytes (length text)
-    then Some (refusal Program (codes "program: too long at 1:1"))
-    else judged (program_in text) input
+    then refusal Program (codes "program: too long at 1:1")
+    else outcome_of_reading (program_in text) input
 
--- the answer for the settings of a command line
-abbrev pub fulfilled : Option Settings → (List ℕ → Option (List ℕ)) → Option Answer
-fulfilled None held = Some (refusal Usage (codes "bad command line"))
-fulfilled (Some settings) held = option_and_then (answered (held settings.input)) (held settings.program)
+-- the outcome of settings, from the bytes of the program and of the input
+abbrev pub outcome_of_settings : Option Settings → List ℕ → List ℕ → Answer
+outcome_of_settings None text input = refusal Usage (codes "bad command line")
+outcome_of_settings (Some settings) text input = outcome_of_text text input
 
--- The outcome of a command line, from its words and the bytes held under each name. There is none where bytes that
--- decide it are not told.
-abbrev pub outcome : List (List ℕ) → (List ℕ → Option (List ℕ)) → Option Answer
-outcome words held = fulfilled (settings_in words) held
+-- the outcome of a command line, from its words and the bytes of the program and of the input
+abbrev pub outcome : List (List ℕ) → List ℕ → List ℕ → Answer
+outcome words text input = outcome_of_settings (settings_in words) text input

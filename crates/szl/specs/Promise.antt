@@ -1,18 +1,19 @@
--- What a call of the program promises of its devices.
-use Rattle.std.specs.Prelude.{◌≡◌, ℕ, ◌≤◌, ◌<◌, ◌⊎◌, IsTrue, List, [], ◌∷◌, ◌++◌, length, take, Option, Some, None, IfSome, IsSome, codes}
+-- What a call of the program promises.
+use Rattle.std.specs.Prelude.{◌≡◌, ◌≢◌, ℕ, ◌≤◌, ◌⊎◌, ⊤, IsTrue, List, [], ◌∷◌, ◌++◌, length, take, Option, Some, None, IfSome, IsSome, codes}
 use Rattle.std.specs.Io.KnownBytes.{Appends, IsAtEnd}
 use Rattle.sz_io.specs.Rose.{Rose}
 use Rattle.sz_io.specs.declared.files.Files as files
 use Rattle.sz_io.specs.declared.sink.Sink as sink
 use Rattle.szl.specs.declared.status.Status.{Status}
-use Rattle.szl.specs.declared.status.Status.TheVariants.{Done, Usage, Program, RecordFault, Damaged, ReadFailed, WriteFailed, ShardLost, NoMemory, Limit}
+use Rattle.szl.specs.declared.status.Status.TheVariants.{Done, Usage, Program, ReadFailed, WriteFailed, NoMemory}
 use Rattle.szl.specs.Settings.{Settings, settings_in}
-use Rattle.szl.specs.Outcome.{Answer}
+use Rattle.szl.specs.Outcome.{Answer, outcome}
 
--- the status is the answer's, or one of the three that a device or want of memory brings
+-- The status is the outcome's, or one of the three that a device or want of memory brings: reading can fail only where
+-- the words ask for files, and writing only where there is output.
 abbrev pub IsStatusOf : Answer → Status → Type 0
-IsStatusOf answer NoMemory = Unit {0}
-IsStatusOf answer ReadFailed = Unit {0}
+IsStatusOf answer NoMemory = ⊤
+IsStatusOf answer ReadFailed = answer.status ≢ Usage
 IsStatusOf answer WriteFailed = answer.status ≡ Done
 IsStatusOf answer status = status ≡ answer.status
 
@@ -28,7 +29,7 @@ GainsOutput WriteFailed old new output = AppendsPrefix old new output
 GainsOutput NoMemory old new output = AppendsPrefix old new output
 GainsOutput status old new output = Appends old new []
 
--- the line of a status: those of the free statuses are fixed, every other one is the answer's
+-- the line of a status: those of the three free statuses are fixed, every other one is the outcome's
 abbrev pub line_of : Answer → Status → List ℕ
 line_of answer ReadFailed = codes "read failed" ++ 10 ∷ []
 line_of answer WriteFailed = codes "write failed" ++ 10 ∷ []
@@ -41,31 +42,43 @@ pub record GainsLine {S : Type 0} (the_sink : sink.Ghosts S) (old new : S) (line
   pub appends : Appends (the_sink.taken old) (the_sink.taken new) (take count line)
   pub whole : (length line ≤ count) ⊎ (Rose (the_sink.faults old) (the_sink.faults new) ⊎ Rose (the_sink.refusals old) (the_sink.refusals new))
 
--- the names that a command line may open, in order: the program, then the input
-abbrev pub names_asked : Option Settings → List (List ℕ)
-names_asked None = []
-names_asked (Some settings) = settings.program ∷ settings.input ∷ []
-
--- the call opened the first of the names that the words may open, in order, and at most this many
-pub record OpensFirst (words old new : List (List ℕ)) (most : ℕ) : Type 0 where
-  pub count : ℕ
-  pub within : count ≤ most
-  pub opened : new ≡ old ++ take count (names_asked (settings_in words))
-
 -- how many files may be opened for a status: a refused program has only itself opened
 abbrev pub most_opened : Status → ℕ
 most_opened Program = 1
 most_opened status = 2
 
--- how many files may be opened for an outcome
-abbrev pub most_opened_for : Option Answer → ℕ
-most_opened_for None = 2
-most_opened_for (Some answer) = most_opened answer.status
+-- the names that settings may open, in order: the program, then the input
+abbrev pub names_asked : Option Settings → List (List ℕ)
+names_asked None = []
+names_asked (Some settings) = settings.program ∷ settings.input ∷ []
 
--- a file that was opened since is at its end; what is left of it is told where the bytes under the name were
-pub record IsReadToEnd {F : Type 0} (the_files : files.Ghosts F) (old new : F) (name : List ℕ) : Type 0 where
-  pub file : ℕ
-  pub not_before : IsTrue (the_files.given old file) → ⊥
-  pub given_now : IsTrue (the_files.given new file)
-  pub none_left : IsAtEnd (the_files.left new file)
-  pub told : IfSome (the_files.held old name) (λ _. IsSome (the_files.left new file))
+-- the call opened the first of the names that the words ask for, in order, and at most this many
+pub record OpensFirst (words old new : List (List ℕ)) (most : ℕ) : Type 0 where
+  pub count : ℕ
+  pub within : count ≤ most
+  pub opened : new ≡ old ++ take count (names_asked (settings_in words))
+
+-- the bytes under each name that the words ask for are these, where they are told
+abbrev pub AreHeld : Option Settings → (List ℕ → Option (List ℕ)) → List ℕ → List ℕ → Type 0
+AreHeld None held text input = ⊤
+AreHeld (Some settings) held text input = IfSome (held settings.program) (λ bytes. bytes ≡ text) × IfSome (held settings.input) (λ bytes. bytes ≡ input)
+
+-- The call's status, its output, its line and the files that it opens are those of the outcome, for the bytes that the
+-- files hold. Where a file doesn't tell its bytes, it is as if it held some.
+pub record MeansSource {F O E : Type 0} (the_files : files.Ghosts F) (the_out : sink.Ghosts O) (the_err : sink.Ghosts E)
+    (words : List (List ℕ)) (status : Status) (files new_files : F) (out new_out : O) (err new_err : E) : Type 0 where
+  pub text : List ℕ
+  pub input : List ℕ
+  pub held : AreHeld (settings_in words) (the_files.held files) text input
+  pub answers : IsStatusOf (outcome words text input) status
+  pub output : GainsOutput status (the_out.taken out) (the_out.taken new_out) (outcome words text input).output
+  pub line : GainsLine the_err err new_err (line_of (outcome words text input) status)
+  pub opened : OpensFirst words (the_files.names files) (the_files.names new_files) (most_opened (outcome words text input).status)
+
+-- each file opened since is at its end, and what is left of it is told where the bytes under both names are
+pub record AreReadToEnd {F : Type 0} (the_files : files.Ghosts F) (old new : F) (settings : Settings) : Type 0 where
+  pub both_opened : the_files.names new ≡ the_files.names old ++ settings.program ∷ settings.input ∷ []
+  pub none_left : (file : ℕ) → (IsTrue (the_files.given old file) → ⊥) → IsTrue (the_files.given new file)
+      → IsAtEnd (the_files.left new file)
+  pub told : (file : ℕ) → (IsTrue (the_files.given old file) → ⊥) → IsTrue (the_files.given new file)
+      → IfSome (the_files.held old settings.program) (λ _. IfSome (the_files.held old settings.input) (λ _. IsSome (the_files.left new file)))

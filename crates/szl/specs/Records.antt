@@ -1,7 +1,6 @@
 -- The records of an input, and whether the input is within the limits.
-use Rattle.std.specs.Prelude.{ℕ, ◌^◌, List, length, Bool, ◌&&◌, nat_le}
-use Rattle.std.specs.List.{list_all}
-use Rattle.sz_mean.specs.Lists.{ended_pieces}
+use Rattle.std.specs.Prelude.{ℕ, ◌^◌, List, [], ◌∷◌, length, Bool, ◌&&◌, nat_eq, nat_le}
+use Rattle.std.specs.List.{list_all, slice_split}
 
 -- the most bytes of a record
 abbrev pub most_record_bytes : ℕ
@@ -15,9 +14,15 @@ most_records = 2147483648
 abbrev pub most_input_bytes : ℕ
 most_input_bytes = 2 ^ 40
 
+-- the lines of an input without an empty one at its end
+abbrev pub without_empty_last : List (List ℕ) → List (List ℕ)
+without_empty_last [] = []
+without_empty_last ([] ∷ []) = []
+without_empty_last (line ∷ lines) = line ∷ without_empty_last lines
+
 -- the records of an input are its lines: the bytes before each newline, and those behind the last one if there are any
 abbrev pub records_in : List ℕ → List (List ℕ)
-records_in input = ended_pieces 10 input
+records_in input = without_empty_last (slice_split (λ b. nat_eq b 10) input)
 
 -- whether the input, its number of records and each record are within the limits
 abbrev pub is_within_limits : List ℕ → Bool

@@ -1,5 +1,5 @@
 -- What contracts see of a program's tree.
-use Rattle.std.specs.Prelude.{ℕ, List, map}
+use Rattle.std.specs.Prelude.{ℕ, ◌<◌, ◌^◌, length, List, map, Bool, if◌then◌else◌, Option, Some, None}
 use Rattle.sz_mean.specs.Tree.{Exp, number, variable, input, convert, binary, Stm, declare, emit, Prog}
 use Rattle.szl.specs.declared.tree.Operand.{Operand}
 use Rattle.szl.specs.declared.tree.Operand.TheVariants.{Number, Variable}
@@ -7,7 +7,9 @@ use Rattle.szl.specs.declared.tree.Expr.{Expr}
 use Rattle.szl.specs.declared.tree.Expr.TheVariants as expr
 use Rattle.szl.specs.declared.tree.Stmt.{Stmt}
 use Rattle.szl.specs.declared.tree.Stmt.TheVariants.{Declare, Emit}
+use Rattle.szl.specs.declared.tree.Draft.{Draft}
 use Rattle.szl.specs.declared.tree.Program.{Program}
+use Rattle.sz_mean.specs.Programs as programs
 use Rattle.std.specs.Borrow.{Bor}
 
 -- the plain data of an operand
@@ -29,6 +31,19 @@ seen_stmt (Emit t e) = emit t (seen_expr e)
 -- the texts that references point to
 abbrev pub texts : List (Bor (List ℕ)) → List (List ℕ)
 texts references = map (λ r. r.now) references
+
+-- the plain data of a program in the making
+abbrev pub seen_draft : Draft → programs.Draft
+seen_draft d = record { tables = texts d.tables.items; variables = texts d.variables.items; body = map seen_stmt d.body.items }
+
+-- the names of a program in the making can be numbered by 32 bits
+pub record HasRoom (d : programs.Draft) : Type 0 where
+  pub tables : length d.tables < 2 ^ 32
+  pub variables : length d.variables < 2 ^ 32
+
+-- a program in the making where what was read is one, else none
+abbrev pub drafted : Bool → Draft → Option programs.Draft
+drafted found d = if found then Some (seen_draft d) else None
 
 -- the plain data of a program
 abbrev pub seen_program : Program → Prog

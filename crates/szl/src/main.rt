@@ -1,6 +1,7 @@
 //! `szl` runs a program of counts over the records of a file.
 #![tactic(auto)]
 
+mod draft;
 mod lexemes;
 mod names;
 mod status;

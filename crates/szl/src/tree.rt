@@ -26,6 +26,14 @@ pub enum Stmt {
     Emit(u32, Expr),
 }
 
+/// A program in the making: the names of its tables and of its variables in order of declaration, and its statements.
+#[derive(Debug, Drop)]
+pub struct Draft<'t> {
+    pub tables: Vec<&'t [u8]>,
+    pub variables: Vec<&'t [u8]>,
+    pub body: Vec<Stmt>,
+}
+
 /// A program: the names of its tables in order of declaration, its number of variables, and its statements.
 #[derive(Debug, Drop)]
 pub struct Program<'t> {
