@@ -1,2 +1,4 @@
+mod Growth
 mod LexemesLemmas
 mod ReadingLemmas
+mod Sound
