@@ -1,2 +1,4 @@
 pub mod ForCallers
 pub mod NumbersLemmas
+pub mod ActingLemmas
+pub mod RunLemmas
