@@ -7,6 +7,8 @@ mod numbers;
 mod running;
 mod stack;
 mod state;
+#[cfg(test)]
+mod tests;
 
 pub use code::{Code, Instr};
 pub use emits::{Emit, Emits};
