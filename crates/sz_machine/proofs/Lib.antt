@@ -1,2 +1,5 @@
 pub mod ForCallers
 pub mod NumbersLemmas
+pub mod ActingLemmas
+pub mod RunLemmas
+mod TestLemmas

@@ -1,5 +1,5 @@
 -- What is known of a text of digits that is read from the front.
-use Rattle.std.proofs.Common.{◌≡◌, ◌≤◌, ◌<◌, ◌+◌, ◌*◌, ℕ, List, [], ◌∷◌, drop, get_or, length, nat_le, Bool, true, false, ◌&&◌, if◌then◌else◌, Option, Some, None, refl, arith, le_refl, le_trans, mul-le-mul_left}
+use Rattle.std.proofs.Common.{◌≡◌, ◌≤◌, ◌<◌, ◌+◌, ◌*◌, ℕ, List, [], ◌∷◌, drop, get_or, length, nat_le, Bool, true, false, ◌&&◌, if◌then◌else◌, Some, None, refl, arith, le_refl, le_trans}
 use Rattle.std.specs.List.{list_all}
 use Rattle.std.specs.Char.{is_ascii_digit, digit_value}
 use Rattle.std.specs.Str.Parse.{digits_value, digits_value_after}

@@ -1,5 +1,7 @@
 -- what the public contracts rest on
 pub mod Machine
 pub mod Emits
-
 -- what the functions inside the crate promise each other
+pub mod Operands
+pub mod Acting
+pub mod Going
