@@ -2,3 +2,5 @@
 pub mod Rose
 pub mod Opened
 pub mod Calls
+pub mod Listed
+pub mod MemSink

@@ -4,6 +4,8 @@
 mod error;
 mod files;
 mod gate;
+mod listed;
+mod mem_sink;
 mod reading;
 mod sink;
 mod writing;
@@ -11,6 +13,7 @@ mod writing;
 pub use error::{Failed, NoMemory, OutsideError, ReadError, WriteError};
 pub use files::Files;
 pub use gate::{Gate, NoGate};
+pub use mem_sink::MemSink;
 pub use reading::read_whole;
 pub use sink::Sink;
 pub use writing::write_whole;
