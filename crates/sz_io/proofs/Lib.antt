@@ -1,3 +1,4 @@
 pub mod ForCallers
 pub mod Moves
 pub mod ListedLemmas
+pub mod HeldLemmas

@@ -18,12 +18,16 @@ listed_next (k ∷ ks) call listed =
     let later : listed_before call ks ≤ listed_before (call + 1) ks = listed_later ks call (call + 1) (omega arith) in
     grind (arith, tests, rest, later, listed)
 
--- a call that is to fail lets the count rise
-pub listed_rises : (fails : List ℕ) (call : ℕ) → IsTrue (is_listed fails call)
-    → Rose (listed_before call fails) (listed_before (min (call + 1) (2 ^ 64 - 1)) fails)
-listed_rises fails call listed =
+-- a call that is to fail is one fault more
+pub listed_more : (fails : List ℕ) (call : ℕ) → IsTrue (is_listed fails call)
+    → listed_before call fails + 1 ≤ listed_before (min (call + 1) (2 ^ 64 - 1)) fails
+listed_more fails call listed =
     let both = and_parts (list_any (λ k. nat_eq k call) fails) (nat_lt call (2 ^ 64 - 1)) listed in
     let below : call < 2 ^ 64 - 1 = ltb-true call (2 ^ 64 - 1) both.1 in
     let next : min (call + 1) (2 ^ 64 - 1) ≡ call + 1 = omega arith in
-    let more : listed_before call fails + 1 ≤ listed_before (call + 1) fails = listed_next fails call both.0 in
-    rw next (omega arith)
+    rw next (listed_next fails call both.0)
+
+-- a call that is to fail lets the count rise
+pub listed_rises : (fails : List ℕ) (call : ℕ) → IsTrue (is_listed fails call)
+    → Rose (listed_before call fails) (listed_before (min (call + 1) (2 ^ 64 - 1)) fails)
+listed_rises fails call listed = omega (arith, listed_more fails call listed)

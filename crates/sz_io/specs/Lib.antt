@@ -4,3 +4,5 @@ pub mod Opened
 pub mod Calls
 pub mod Listed
 pub mod MemSink
+-- what the functions inside the crate promise each other
+pub mod HeldFiles

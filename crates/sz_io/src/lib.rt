@@ -4,6 +4,7 @@
 mod error;
 mod files;
 mod gate;
+mod held_file;
 mod listed;
 mod mem_sink;
 mod reading;
