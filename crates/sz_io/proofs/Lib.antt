@@ -2,3 +2,4 @@ pub mod ForCallers
 pub mod Moves
 pub mod ListedLemmas
 pub mod HeldLemmas
+pub mod PlacedLemmas

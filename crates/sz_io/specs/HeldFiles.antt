@@ -1,5 +1,5 @@
 -- The files that a device in memory holds, the newest last, and the bytes that opened ones have left.
-use Rattle.std.specs.Prelude.{◌≡◌, ℕ, ◌+◌, ◌<◌, ◌≤◌, suc, Bool, false, IsTrue, if◌then◌else◌, List, [], ◌∷◌, length, drop, Option, Some, None, string_bytes}
+use Rattle.std.specs.Prelude.{◌≡◌, ℕ, ◌+◌, ◌<◌, ◌≤◌, suc, Bool, false, IsTrue, if◌then◌else◌, List, [], ◌∷◌, length, drop, Option, Some, None, string_bytes, option_and_then}
 use Rattle.std.specs.List.{slice_get}
 use Rattle.std.specs.Option.{option_map, option_map_or}
 use Rattle.std.specs.Str.{bytes_eq}
@@ -25,9 +25,13 @@ bytes_at files i = option_map_or (λ file. file.bytes.items) (slice_get files i)
 abbrev pub held_in : List HeldFile → List ℕ → Option (List ℕ)
 held_in files name = option_map (bytes_at files) (place_in files name)
 
+-- the bytes behind a place
+abbrev pub rest_of : List HeldFile → Place → Option (List ℕ)
+rest_of files place = Some (drop place.at (bytes_at files place.file))
+
 -- the bytes that are left of an opened file
 abbrev pub left_in : List HeldFile → List Place → ℕ → Option (List ℕ)
-left_in files opened number = option_map (λ place. drop place.at (bytes_at files place.file)) (slice_get opened number)
+left_in files opened number = option_and_then (rest_of files) (slice_get opened number)
 
 -- how many calls on the files have failed
 abbrev pub faults_in : List HeldFile → ℕ

@@ -1,7 +1,10 @@
 //! The files that a device in memory holds, the newest last, and where an opened one stands.
-ghost use Rattle.std.specs.Prelude.{◌≡◌, ◌<◌, ◌≤◌, min, length, take};
-ghost use Rattle.sz_io.specs.HeldFiles.{place_in, is_next_listed, CallsOneFile};
+ghost use Rattle.std.specs.Prelude.{◌≡◌, ◌<◌, ◌≤◌, ◌-◌, min, length, take, ◌↔◌, IsTrue, IsErr, IfOk, IfSome};
+ghost use Rattle.std.specs.Io.KnownBytes.{ReadConsumes};
+ghost use Rattle.sz_io.specs.HeldFiles.{place_in, bytes_at, rest_of, is_next_listed, CallsOneFile};
+ghost use Rattle.sz_io.specs.Placed.{IsPlaced};
 
+use crate::Failed;
 use crate::listed::is_listed;
 
 /// A file under a name, with the numbers of the calls on it that fail.
@@ -22,7 +25,8 @@ pub struct Place {
 
 /// The place of the newest file under the name.
 pub fn find(files: &[HeldFile], name: &str) -> Option<usize>
-    ensures { result ≡ place_in files.now name.now }
+    ensures value { result ≡ place_in files.now name.now }
+    ensures within { IfSome result (λ file. file < length files.now) }
 {
     for i in (0..files.len()).rev() {
         if files[i].name.as_str() == name {
@@ -58,4 +62,26 @@ pub fn copy_front(from: &[u8], into: &mut [u8]) -> usize
     let count = from.len().min(into.len());
     into[..count].copy_from_slice(&from[..count]);
     count
+}
+
+/// Counts a read at the place, and moves the place behind the bytes that it gives.
+pub fn read_at(files: &mut [HeldFile], place: &mut Place, into: &mut [u8]) -> Result<usize, Failed>
+    requires { IsPlaced files.old place.old }
+
+    ensures call { CallsOneFile files.old files.new place.old.file }
+    ensures place { IsPlaced files.new place.new }
+    ensures file { place.new.file ≡ place.old.file }
+
+    ensures bytes { ReadConsumes (rest_of files.old place.old) (rest_of files.old place.new) result into.new }
+    ensures moves { IfOk result (λ n. n ≡ min (length (bytes_at files.old place.old.file) - place.old.at) (length into.old)) }
+    ensures listed { IsErr result ↔ IsTrue (is_next_listed files.old place.old.file) }
+{
+    let fails = fails_next(files, place.file);
+    count_call(files, place.file);
+    if fails {
+        return Err(Failed);
+    }
+    let count = copy_front(&files[place.file].bytes[place.at..], into);
+    place.at += count;
+    Ok(count)
 }
