@@ -1,2 +1,5 @@
 pub mod ForCallers
 pub mod Moves
+pub mod ListedLemmas
+pub mod HeldLemmas
+pub mod PlacedLemmas

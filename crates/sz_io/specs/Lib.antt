@@ -2,3 +2,9 @@
 pub mod Rose
 pub mod Opened
 pub mod Calls
+pub mod Listed
+pub mod MemSink
+pub mod MemFiles
+-- what the functions inside the crate promise each other
+pub mod HeldFiles
+pub mod Placed

@@ -40,6 +40,32 @@ pub enum WriteError {
     NoMemory(usize),
 }
 
+impl From<AllocError> for OutsideError {
+    ghost use Rattle.sz_io.specs.declared.error.OutsideError.TheVariants.{NoMemory};
+
+    ghost from_gives = { λ _ e. e ≡ NoMemory };
+
+    fn from(_: AllocError) -> Self {
+        OutsideError::NoMemory
+    }
+}
+
+impl<T: Drop> From<AllocFailed<T>> for OutsideError {
+    ghost use Rattle.sz_io.specs.declared.error.OutsideError.TheVariants.{NoMemory};
+
+    ghost from_gives = { λ _ e. e ≡ NoMemory };
+
+    fn from(_: AllocFailed<T>) -> Self {
+        OutsideError::NoMemory
+    }
+}
+
+impl<T: Drop> From<AllocFailed<T>> for NoMemory {
+    fn from(_: AllocFailed<T>) -> Self {
+        NoMemory
+    }
+}
+
 impl From<AllocError> for NoMemory {
     ghost from_gives = { λ _ e. e ≡ record {} };
 

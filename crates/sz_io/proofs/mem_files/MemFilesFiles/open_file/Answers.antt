@@ -1,0 +1,56 @@
+-- An opened file stands at the start of the newest file of its name, and the others stay where they are.
+use Rattle.std.proofs.Common.{◌≡◌, ◌≢◌, ◌∙◌, ◌+◌, ◌<◌, List, [], ◌∷◌, ◌++◌, ℕ, Bool, true, false, is_ok, IsTrue, nat_lt, Some, sym, ap, subst, refl, arith, string_bytes, length, length-append, tests, not}
+use Rattle.std.proofs.lemmas.Bool.{ltb-true, lt-ltb}
+use Rattle.std.specs.Vec.{with_items}
+use Rattle.sz_io.specs.HeldFiles.{held_in, left_in, place_in, CallsOneFile}
+use Rattle.sz_io.specs.declared.held_file.Place.{Place}
+use Rattle.sz_io.proofs.PlacedLemmas.{called_in, placed_kept, placed_start, placed_opened, pushed_if, left_in-opened, left_in-before, held_in-called}
+use Rattle.sz_io.proofs.mem_files.MemFilesFiles.open_file.Goals as goal
+
+pub invariant_of-self-then-fails_next-clause-placed : goal.invariant_of-self-then-fails_next-clause-placed
+invariant_of-self-then-fails_next-clause-placed c =
+    let files = c.args.self.now in
+    let called = called_in files.files _ _ _ c.deref_mut.ensures.value c.count_call.ensures in
+    placed_kept files.files.items _ files.opened.items _ called files.placed
+
+pub invariant_of-self-then-is_err-clause-placed : goal.invariant_of-self-then-is_err-clause-placed
+invariant_of-self-then-is_err-clause-placed c =
+    let files = c.args.self.now in
+    placed_opened files.files.items files.opened.items _ _ _ c.push-2.ensures.items (placed_start files.files.items c.in-Some.file (subst (λ l. c.in-Some.file < length l) c.deref.ensures.value c.in-Some.ensures.within)) files.placed
+
+pub invariant_of-self-2-clause-placed : goal.invariant_of-self-2-clause-placed
+invariant_of-self-2-clause-placed c =
+    let files = c.args.self.now in
+    let opened = placed_opened files.files.items files.opened.items _ _ _ c.push-2.ensures.items (placed_start files.files.items c.in-Some.file (subst (λ l. c.in-Some.file < length l) c.deref.ensures.value c.in-Some.ensures.within)) files.placed in
+    let called = called_in files.files _ _ _ c.deref_mut-2.ensures.value c.count_call-2.ensures in
+    placed_kept files.files.items _ c.push-2.new.self.items _ called opened
+
+pub returns-clause-bytes : goal.returns-clause-bytes
+returns-clause-bytes c =
+    let files = c.args.self.now in
+    let called = called_in files.files _ _ _ c.deref_mut-2.ensures.value c.count_call-2.ensures in
+    let succeeds : is_ok c.push-2.result ≡ true = c.is_err.ensures.negation ∙ ap not c.if-is_err.false in
+    let pushed = pushed_if _ files.opened.items _ (record { file = c.in-Some.file; at = 0 }) succeeds c.push-2.ensures.items in
+    let found = subst (λ l. Some c.in-Some.file ≡ place_in l c.args.name.now) c.deref.ensures.value c.in-Some.ensures.value in
+    let next : c.len-number.result ≡ length files.opened.items = c.len-number.ensures ∙ files.opened.ok.0 in
+    let all = left_in-opened files.files.items _ c.in-Some.file called files.opened.items c.args.name.now c.len-number.result found next in
+    ap (λ l. left_in (with_items files.files c.count_call-2.new.files).items l c.len-number.result) pushed ∙ all
+
+pub returns-clause-kept : goal.returns-clause-kept
+returns-clause-kept c =
+    let files = c.args.self.now in
+    let called = called_in files.files _ _ _ c.deref_mut-2.ensures.value c.count_call-2.ensures in
+    let succeeds : is_ok c.push-2.result ≡ true = c.is_err.ensures.negation ∙ ap not c.if-is_err.false in
+    let pushed = pushed_if _ files.opened.items _ (record { file = c.in-Some.file; at = 0 }) succeeds c.push-2.ensures.items in
+    let after = (with_items files.files c.count_call-2.new.files).items in
+    record {
+      held_same = λ name. held_in-called files.files.items after _ name called;
+      left_same = λ number was.
+        ap (λ l. left_in after l number) pushed
+        ∙ left_in-before files.files.items after _ called files.opened.items _ number (ltb-true number (length files.opened.items) was);
+      given_still = λ number was.
+        let before = ltb-true number (length files.opened.items) was in
+        let longer = ap length pushed ∙ length-append files.opened.items _ in
+        lt-ltb number _ (omega (arith, before, longer));
+      faults_later = let later = called.faults_later in omega (arith, later);
+    }

@@ -1,0 +1,42 @@
+-- A read is one step at the place of the opened file.
+use Rattle.std.proofs.Common.{◌≡◌, ◌∙◌, ℕ, ◌<◌, List, length, Some, sym, ap, subst, refl, arith, get_or, tests, nat_lt}
+use Rattle.std.proofs.Math.ListN.{length-set}
+use Rattle.std.proofs.lemmas.Option.{slice_get-get_or}
+use Rattle.std.proofs.lemmas.Bool.{ltb-true}
+use Rattle.std.specs.List.{slice_get}
+use Rattle.std.specs.Vec.{with_items}
+use Rattle.sz_io.specs.HeldFiles.{CallsOneFile}
+use Rattle.sz_io.specs.Placed.{IsPlaced}
+use Rattle.sz_io.proofs.PlacedLemmas.{called_in, placed_in, placed_kept, placed_set, left_in-set_other, left_in-called, held_in-called}
+use Rattle.sz_io.proofs.mem_files.MemFilesFiles.read.Goals as goal
+
+pub read_at-requires : goal.read_at-requires
+read_at-requires c =
+    let opened = c.args.self.now.opened.items in
+    let inside : c.args.file < length opened = ltb-true c.args.file (length opened) c.requires in
+    let there : slice_get opened c.args.file ≡ Some c.index_mut.result.now =
+      slice_get-get_or opened c.args.file c.index_mut.result.now inside ∙ ap Some (sym c.index_mut.ensures.value) in
+    subst (λ files. IsPlaced files c.index_mut.result.now) (sym c.deref_mut.ensures.value) (c.args.self.now.placed c.args.file c.index_mut.result.now there)
+
+pub invariant_of-self-clause-placed : goal.invariant_of-self-clause-placed
+invariant_of-self-clause-placed c =
+    let files = c.args.self.now.files in
+    let opened = c.args.self.now.opened.items in
+    let called = called_in files _ _ _ c.deref_mut.ensures.value c.read_at.ensures.call in
+    let here = placed_in files _ _ _ c.read_at.new.place c.deref_mut.ensures.value c.read_at.ensures.call c.read_at.ensures.place in
+    placed_set _ opened c.args.file c.read_at.new.place here (placed_kept files.items _ opened _ called c.args.self.now.placed)
+
+pub returns-clause-kept : goal.returns-clause-kept
+returns-clause-kept c =
+    let files = c.args.self.now.files in
+    let opened = c.args.self.now.opened.items in
+    let called : CallsOneFile files.items (with_items files c.read_at.new.files).items c.index_mut.result.now.file =
+      called_in files _ _ _ c.deref_mut.ensures.value c.read_at.ensures.call in
+    let after = (with_items files c.read_at.new.files).items in
+    record {
+      held_same = λ name. held_in-called files.items after _ name called;
+      left_same = λ other apart. left_in-set_other after opened c.args.file other c.read_at.new.place apart ∙ left_in-called files.items after opened _ other called;
+      given_same = λ other. ap (nat_lt other) (length-set opened c.args.file c.read_at.new.place);
+      names_same = refl;
+      faults_later = let later = called.faults_later in omega (arith, later);
+    }

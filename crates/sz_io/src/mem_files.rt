@@ -1,0 +1,92 @@
+//! Files in memory, on which calls fail where lists say so.
+ghost use Rattle.std.specs.Prelude.{◌≡◌, ◌≤◌, ℕ, List, vec_len, OnOk, OnErr};
+ghost use Rattle.sz_io.specs.Placed.{ArePlaced};
+
+use crate::held_file::{HeldFile, Place, count_call, fails_next, find, read_at};
+use crate::{Failed, Files, NoMemory, OutsideError};
+use std::alloc::Global;
+
+/// Files under names, each with a list of the calls on it that fail.
+#[derive(Drop)]
+pub struct MemFiles {
+    alloc: Global,
+    files: Vec<HeldFile>,
+    opened: Vec<Place>,
+    names: Vec<String>,
+    misses: u64,
+    ghost placed: { ArePlaced files.items opened.items },
+    ghost named: { vec_len opened ≤ vec_len names },
+}
+
+impl MemFiles {
+    ghost use Rattle.sz_io.specs.MemFiles.{IsEmpty, SameOpened, PutsFile, held_bytes};
+
+    /// No files.
+    pub fn new(alloc: Global) -> MemFiles
+        ensures empty { IsEmpty result }
+    {
+        MemFiles {
+            alloc,
+            files: Vec::new(alloc),
+            opened: Vec::new(alloc),
+            names: Vec::new(alloc),
+            misses: 0,
+        }
+    }
+
+    /// Adds a file, or replaces the one of this name. `fails` has the numbers of the calls on it that fail: each
+    /// `open_file` of the name and each read of what that opened is one, counted from 0. A file that was opened
+    /// before goes on with the bytes and the list that it had.
+    pub fn put(&mut self, name: &str, bytes: &[u8], fails: &[u64]) -> Result<(), NoMemory>
+        ensures ok { OnOk result (PutsFile self.old self.new name.now bytes.now) }
+        ensures err { OnErr result ((name : List ℕ) → held_bytes self.new name ≡ held_bytes self.old name) }
+        ensures kept { SameOpened self.old self.new }
+    {
+        let file = HeldFile {
+            name: String::from_str(self.alloc, name)?,
+            bytes: Vec::from_slice(self.alloc, bytes)?,
+            fails: Vec::from_slice(self.alloc, fails)?,
+            calls: 0,
+        };
+        self.files.push(file)?;
+        Ok(())
+    }
+}
+
+impl Files for MemFiles {
+    ghost use Rattle.sz_io.specs.MemFiles.{held_bytes, left_bytes, is_given, names_opened, files_faults};
+
+    ghost held = { held_bytes };
+
+    ghost left = { left_bytes };
+
+    ghost given = { is_given };
+
+    ghost names = { names_opened };
+
+    ghost faults = { files_faults };
+
+    fn open_file(&mut self, name: &str) -> Result<u32, OutsideError> {
+        let number = self.opened.len() as u32;
+        let found = find(&self.files, name);
+        self.names.push(String::from_str(self.alloc, name)?)?;
+        let Some(file) = found else {
+            self.misses = self.misses.saturating_add(1);
+            return Err(OutsideError::Failed);
+        };
+        if fails_next(&self.files, file) {
+            count_call(&mut self.files, file);
+            return Err(OutsideError::Failed);
+        }
+        if self.opened.push(Place { file, at: 0 }).is_err() {
+            let _ = self.names.pop();
+            return Err(OutsideError::NoMemory);
+        }
+        count_call(&mut self.files, file);
+        Ok(number)
+    }
+
+    fn read(&mut self, file: u32, into: &mut [u8]) -> Result<usize, Failed> {
+        read_at(&mut self.files, &mut self.opened[file as usize], into)
+    }
+}
