@@ -57,7 +57,7 @@ operand_typed d text =
     (number_typed (length d.variables) (number_in text))
     (variable_typed (length d.variables) (place_of text d.variables) (place_below (bytes_eq text) 0 d.variables))
 
-if_some_is : {A : Type 0} (P : A → Type 0) (o : Option A) (x : A) → IfSome o P → o ≡ Some x → P x
+pub if_some_is : {A : Type 0} (P : A → Type 0) (o : Option A) (x : A) → IfSome o P → o ≡ Some x → P x
 if_some_is {A = A} P o x h e = let Q : Option A → Type 0 = λ o. IfSome o P in subst Q e h
 
 operation_typed : (d : Draft) (a : Option Exp) (o : Option BinOp) (b : Option Exp) → IfSome a (IsValueIn d) → IfSome b (IsValueIn d) → IfSome (operation a o b) (IsValueIn d)
@@ -137,7 +137,7 @@ pub record GrowsBy (n : ℕ) (old new : Draft) : Type 0 where
   pub body : length new.body ≤ length old.body + n
   pub sound : AreSound (length old.variables) old.body → AreSound (length new.variables) new.body
 
-statements_grow : (d : Draft) (ss : List (List ℕ)) → IfSome (statements d ss) (GrowsBy (length ss) d)
+pub statements_grow : (d : Draft) (ss : List (List ℕ)) → IfSome (statements d ss) (GrowsBy (length ss) d)
 statements_grow d [] = tt
 statements_grow d (s ∷ []) =
     if_some_if (GrowsBy 1 d) (nat_eq (length (lexemes s)) 0) (Some d) None (record { body = omega arith; sound = λ h. h }) tt

@@ -1,3 +1,4 @@
+mod CutLemmas
 mod Growth
 mod LexemesLemmas
 mod ReadingLemmas

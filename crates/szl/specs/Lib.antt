@@ -6,4 +6,5 @@ pub mod Outcome
 pub mod Promise
 -- what the functions inside the crate promise each other
 pub mod View
+pub mod Cuts
 pub mod Code

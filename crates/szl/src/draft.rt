@@ -1,11 +1,11 @@
 //! A program in the making, statement by statement.
 ghost use Rattle.std.specs.Prelude.{◌≡◌, ◌≤◌, ◌+◌, ◌<◌, ◌∷◌, ℕ, [], ◌&&◌, ◌||◌, not, IsTrue, is_some, length, map, option_map, bytes_eq, IfOk, OnOk, Some, None, vec_len};
-ghost use Rattle.sz_mean.specs.Programs.{empty_draft, is_free, operand, value_in, declared_in, lexemes, sentence, statement, emission, declaration, variable_declared, with_table};
-ghost use Rattle.szl.specs.View.{seen_operand, seen_expr, texts, seen_draft, drafted, HasRoom};
+ghost use Rattle.sz_mean.specs.Programs.{empty_draft, finished, is_free, operand, value_in, declared_in, lexemes, sentence, statement, emission, declaration, variable_declared, with_table};
+ghost use Rattle.szl.specs.View.{seen_operand, seen_expr, texts, seen_draft, seen_program, drafted, HasRoom};
 
 use crate::names::{are, is_among, is_name, place_of};
 use crate::lexemes::lexemes;
-use crate::tree::{Draft, Expr, Operand, Stmt};
+use crate::tree::{Draft, Expr, Operand, Program, Stmt};
 use crate::values::{is_decimal, operator_in};
 use std::alloc::{AllocError, Global};
 use sz_machine::number_in;
@@ -170,6 +170,18 @@ impl<'t> Draft<'t> {
             self.declaration(first, third, rest)
         } else {
             Ok(false)
+        }
+    }
+
+    /// The program at the end of its text.
+    pub fn finish(self) -> Program<'t>
+        requires { HasRoom (seen_draft self) }
+        ensures value { seen_program result ≡ finished (seen_draft self.entry) }
+    {
+        Program {
+            tables: self.tables,
+            locals: self.variables.len() as u32,
+            body: self.body,
         }
     }
 }

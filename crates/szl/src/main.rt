@@ -1,9 +1,11 @@
 //! `szl` runs a program of counts over the records of a file.
 #![tactic(auto)]
 
+mod cutting;
 mod draft;
 mod lexemes;
 mod names;
+mod reading;
 mod status;
 mod tree;
 mod values;
