@@ -2,4 +2,5 @@ mod CutLemmas
 mod Growth
 mod LexemesLemmas
 mod ReadingLemmas
+mod Simulation
 mod Sound
