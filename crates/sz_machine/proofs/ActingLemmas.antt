@@ -1,5 +1,6 @@
 -- What it takes that an instruction isn't stuck, and what a step is.
-use Rattle.std.proofs.Common.{◌≡◌, ◌<◌, ℕ, List, [], ◌∷◌, length, get_or, Bool, true, false, if◌then◌else◌, nat_lt, Option, Some, None, refl, sym, ap, ◌∙◌, arith}
+use Rattle.std.proofs.Common.{Bool, true, false, if◌then◌else◌, nat_lt, Option, Some, None}
+use Rattle.std.proofs.Common.{◌≡◌, ◌<◌, ℕ, List, [], ◌∷◌, length, get_or, refl, sym, ap, ◌∙◌, arith}
 use Rattle.std.specs.Prelude.{slice_get}
 use Rattle.std.proofs.lemmas.Option.{slice_get_within, slice_get_read}
 use Rattle.std.proofs.lemmas.Bool.Decides.{nat_tests}
@@ -34,7 +35,8 @@ pub kept_within : (stack : List Slot) (x : ℕ) (s : State) → IsNotStuck (kept
 kept_within [] x s h = absurd h
 kept_within (v ∷ rest) x s h = within _ (nat_lt x (length s.locals)) refl h
   where
-    within : (next : Next) (b : Bool) → nat_lt x (length s.locals) ≡ b → IsNotStuck (if b then next else Stuck) → x < length s.locals
+    within : (next : Next) (b : Bool) → nat_lt x (length s.locals) ≡ b → IsNotStuck (if b then next else Stuck)
+        → x < length s.locals
     within next true e h1 = grind (arith, nat_tests)
     within next false e h1 = absurd h1
 
@@ -61,19 +63,29 @@ computed_numeric o (Some (int b) ∷ Some (int a) ∷ rest) s h = (tt, tt)
 computed_numeric o (Some (int b) ∷ Some (bytes a) ∷ rest) s h = absurd h
 computed_numeric o (Some (bytes b) ∷ rest) s h = absurd h
 
--- where a step isn't stuck there is an instruction
-pub step_within : (code : Code) (text : List ℕ) (s : State) → IsNotStuck (step code text s) → s.at < length code.instructions.items
-step_within code text s h = within (slice_get code.instructions.items s.at) refl h
-  where
-    within : (i : Option Instr) → slice_get code.instructions.items s.at ≡ i → IsNotStuck (step_by i text s) → s.at < length code.instructions.items
-    within None e h1 = absurd h1
-    within (Some i) e h1 = slice_get_within code.instructions.items s.at i e
+module _ (code : Code) (text : List ℕ) where
+  -- where a step isn't stuck there is an instruction
+  pub step_within : (s : State) → IsNotStuck (step code text s) → s.at < length code.instructions.items
+  step_within s h = within (slice_get code.instructions.items s.at) refl h
+    where
+      within : (i : Option Instr) → slice_get code.instructions.items s.at ≡ i → IsNotStuck (step_by i text s)
+          → s.at < length code.instructions.items
+      within None e h1 = absurd h1
+      within (Some i) e h1 = slice_get_within code.instructions.items s.at i e
 
--- the step is what the instruction at the state's place does
-pub step_is : (code : Code) (text : List ℕ) (i : Instr) (s : State) → s.at < length code.instructions.items → i ≡ get_or code.instructions.items s.at i → act i text s ≡ step code text s
-step_is code text i s more is = ap (λ o. step_by o text s) (sym (slice_get_read code.instructions.items _ s.at i refl more is))
+  -- the instruction at the state's place is i
+  abbrev pub IsNextAt : Instr → State → Type 0
+  IsNextAt i s = i ≡ get_or code.instructions.items s.at i
 
--- what the instruction has done is what the step has done
-pub step_acts : (code : Code) (text : List ℕ) (i : Instr) (old new : Held) → ((left : ℕ) → act i text (seen_state old left) ≡ step code text (seen_state old left)) → (going : Going) → Acts (act i text) going old new → Acts (step code text) going old new
-step_acts code text i old new same On h = λ left. sym (same left) ∙ h left
-step_acts code text i old new same Ended h = λ left. sym (same left) ∙ h left
+  -- the step is what the instruction at the state's place does
+  pub step_is : (i : Instr) (s : State) → IsNextAt i s → IsNotStuck (step code text s) → act i text s ≡ step code text s
+  step_is i s is h =
+      let found = slice_get_read code.instructions.items _ s.at i refl (step_within s h) is in
+      ap (λ o. step_by o text s) (sym found)
+
+  -- what the instruction has done is what the step has done
+  pub step_acts : (i : Instr) (old new : Held) → IsNextAt i (seen_state old 0)
+      → ((left : ℕ) → IsNotStuck (step code text (seen_state old left)))
+      → (going : Going) → Acts (act i text) going old new → Acts (step code text) going old new
+  step_acts i old new is can On h = λ left. sym (step_is i (seen_state old left) is (can left)) ∙ h left
+  step_acts i old new is can Ended h = λ left. sym (step_is i (seen_state old left) is (can left)) ∙ h left

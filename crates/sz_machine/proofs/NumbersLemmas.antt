@@ -1,5 +1,6 @@
 -- What is known of a text of digits that is read from the front.
-use Rattle.std.proofs.Common.{◌≡◌, ◌≤◌, ◌<◌, ◌+◌, ◌*◌, ℕ, List, [], ◌∷◌, drop, get_or, length, nat_le, Bool, true, false, ◌&&◌, if◌then◌else◌, Some, None, refl, arith, le_refl, le_trans}
+use Rattle.std.proofs.Common.{◌≡◌, ◌≤◌, ◌<◌, ◌+◌, ◌*◌, ℕ, List, [], ◌∷◌, drop, get_or, length, refl, arith, le_refl, le_trans}
+use Rattle.std.proofs.Common.{nat_le, Bool, true, false, ◌&&◌, if◌then◌else◌, Some, None}
 use Rattle.std.specs.List.{list_all}
 use Rattle.std.specs.Char.{is_ascii_digit, digit_value}
 use Rattle.std.specs.Str.Parse.{digits_value, digits_value_after}
@@ -23,7 +24,8 @@ grows value (d ∷ ds) =
 
 -- where one more digit is refused, the text's value is too large, and the text is refused
 pub refused : (text : List ℕ) (at value most : ℕ) → ReadsDigits text at value most → at < length text
-    → None ≡ (if nat_le (value * 10 + digit_value (get_or text at 0)) most then Some (value * 10 + digit_value (get_or text at 0)) else None)
+    → None ≡ (if nat_le (value * 10 + digit_value (get_or text at 0)) most
+    then Some (value * 10 + digit_value (get_or text at 0)) else None)
     → None ≡ (if is_numeral text && nat_le (digits_value 10 text) most then Some (digits_value 10 text) else None)
 refused text at value most reads more h =
     let next = value * 10 + digit_value (get_or text at 0) in
@@ -33,10 +35,12 @@ refused text at value most reads more h =
     let whole : nat_le (digits_value 10 text) most ≡ false = grind (arith, nat_tests, common_steps, reads.value_same) in
     at_false (is_numeral text) whole
   where
+    -- what is refused is too large
     from_none : (next : ℕ) (b : Bool) → nat_le next most ≡ b → None ≡ (if b then Some next else None) → most < next
     from_none next true is e = absurd (cc)
     from_none next false is e = grind (arith, nat_tests)
 
+    -- nothing is read where the second test fails
     at_false : (b : Bool) {c : Bool} → c ≡ false → None ≡ (if b && c then Some (digits_value 10 text) else None)
     at_false true e = rw e refl
     at_false false e = refl

@@ -5,7 +5,8 @@ use Rattle.sz_machine.specs.declared.state.State.{State as Held}
 
 -- the machine's state that is held, with this many ticks left
 abbrev pub seen_state : Held → ℕ → State
-seen_state s left = record { at = s.at; stack = s.stack; locals = s.locals; world = record { left = left; emits = s.emits } }
+seen_state s left =
+    record { at = s.at; stack = s.stack; locals = s.locals; world = record { left = left; emits = s.emits } }
 
 -- there is a next state, or an end
 abbrev pub IsNotStuck : Next → Type 0

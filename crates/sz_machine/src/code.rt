@@ -22,7 +22,8 @@ pub enum Instr {
     EndRecord,
 }
 
-/// The code of a program: its instructions, of which the first is the entry of each record, and its number of variables.
+/// The code of a program: its instructions, of which the first is the entry of each record, and its number of
+/// variables.
 #[derive(Debug, Drop)]
 pub struct Code {
     pub instructions: Vec<Instr>,

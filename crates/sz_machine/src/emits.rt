@@ -2,9 +2,9 @@
 ghost use Rattle.std.specs.Prelude.{◌≡◌, ◌++◌, ◌∷◌, [], map, OnOk, OnErr};
 ghost use Rattle.sz_machine.specs.Emits.{seen_emit};
 
-use std::alloc::{AllocError, Global};
+use std::alloc::Global;
 use std::marker::Model;
-use sz_value::Value;
+use sz_value::{NoMemory, Value};
 
 /// One emit: the number of its table, counted from 0, and its value.
 #[derive(Debug, Drop)]
@@ -43,7 +43,7 @@ impl Emits {
     }
 
     /// Appends an emit. Refused, it leaves the list as it was.
-    pub fn push(&mut self, emit: Emit) -> Result<(), AllocError>
+    pub fn push(&mut self, emit: Emit) -> Result<(), NoMemory>
         ensures ok { OnOk result (self.new ≡ self.old ++ seen_emit emit ∷ []) }
         ensures err { OnErr result (self.new ≡ self.old) }
     {

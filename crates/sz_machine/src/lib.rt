@@ -14,3 +14,4 @@ pub use code::{Code, Instr};
 pub use emits::{Emit, Emits};
 pub use numbers::{number_in, operate};
 pub use running::run;
+pub use sz_value::NoMemory;

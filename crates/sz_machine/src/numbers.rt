@@ -6,8 +6,9 @@ ghost use Rattle.sz_mean.specs.Numbers.{number_in, is_numeral, fits, operate};
 
 use sz_mean::BinOp;
 
-/// The number that a text spells: an optional sign and then decimal digits alone, at least one. `None` where the text is
-/// something else, or the number doesn't fit 64 bits with a sign.
+/// The number that a text spells: an optional sign and then decimal digits alone, at least one.
+///
+/// `None` where the text is something else, or the number doesn't fit 64 bits with a sign.
 pub fn number_in(text: &[u8]) -> Option<i64>
     ensures value { result ≡ number_in text.now }
 {

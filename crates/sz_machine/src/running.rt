@@ -25,7 +25,7 @@ pub fn run(alloc: Global, code: &Code, input: &[u8]) -> Result<Emits, NoMemory>
     requires ends { RunEnds code.now input.now }
     ensures value { (emits : List EmitDatum) → RunsTo code.now input.now emits → IfOk result (λ made. made ≡ emits) }
 {
-    let mut state = State::start(alloc, code.locals)?;
+    let mut state = State::start(alloc, code)?;
     for _ in 0..u64::MAX {
         match step(alloc, code, input, &mut state)? {
             Going::On => {}

@@ -6,12 +6,16 @@ ghost use Rattle.sz_mean.specs.Numbers.{converted, operated};
 ghost use Rattle.sz_mean.specs.Meaning.{on_value, on_values, emitted};
 ghost use Rattle.sz_machine.specs.Operands.{seen_operand, IsNumeric, AreNumeric};
 
+use crate::code::Code;
 use crate::emits::{Emit, Emits};
 use crate::numbers::{number_in, operate};
 use crate::stack::{Operand, Stack};
 use std::alloc::Global;
 use sz_mean::BinOp;
 use sz_value::{NoMemory, Slot, Slots, Value, copy_slot};
+
+// The operands that there is room for without more memory.
+const OPERANDS: usize = 8;
 
 /// Where a run is: the place of the next instruction, counted from 0, and what instructions change.
 #[derive(Drop)]
@@ -23,20 +27,17 @@ pub struct State<'r> {
 }
 
 impl<'r> State<'r> {
-    ghost use Rattle.sz_machine.specs.Machine.{onward, pushed, kept, whole, computed, emits};
-    ghost use Rattle.sz_machine.specs.Acting.{Does};
+    ghost use Rattle.sz_machine.specs.Machine.{start, onward, pushed, kept, whole, computed, emits};
+    ghost use Rattle.sz_machine.specs.Acting.{seen_state, Does};
 
-    /// The state in which a record begins, for a code of so many variables.
-    pub fn start(alloc: Global, locals: u32) -> Result<State<'r>, NoMemory>
-        ensures at { IfOk result (λ s. s.at ≡ 0) }
-        ensures stack { IfOk result (λ s. s.stack ≡ []) }
-        ensures locals { IfOk result (λ s. s.locals ≡ replicate locals None) }
-        ensures emits { IfOk result (λ s. s.emits ≡ []) }
+    /// The state in which a record begins.
+    pub fn start(alloc: Global, code: &Code) -> Result<State<'r>, NoMemory>
+        ensures value { IfOk result (λ s. (left : ℕ) → seen_state s left ≡ start code.now left) }
     {
         Ok(State {
             at: 0,
-            stack: Stack::with_capacity(alloc, 8)?,
-            locals: undefined_slots(alloc, locals)?,
+            stack: Stack::with_capacity(alloc, OPERANDS)?,
+            locals: undefined_slots(alloc, code.locals)?,
             emits: Emits::new(alloc),
         })
     }

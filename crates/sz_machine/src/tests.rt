@@ -47,8 +47,8 @@ fn operators_wrap(rt: HostRuntime) {
 
 // The code of `x: int = input; emit 3 <- x * 2;`, with the record's bytes emitted to table 1 before it ends.
 fn doubling(alloc: Global) -> Result<Code, NoMemory>
-    ensures code { IfOk result (λ code. code.instructions.items ≡ Input ∷ Convert ∷ Keep 0 ∷ Local 0 ∷ Push (pos 2) ∷ Binary Mul
-        ∷ Instr.Emit 3 ∷ Input ∷ Instr.Emit 1 ∷ EndRecord ∷ []) }
+    ensures code { IfOk result (λ code. code.instructions.items
+        ≡ Input ∷ Convert ∷ Keep 0 ∷ Local 0 ∷ Push (pos 2) ∷ Binary Mul ∷ Instr.Emit 3 ∷ Input ∷ Instr.Emit 1 ∷ EndRecord ∷ []) }
     ensures locals { IfOk result (λ code. code.locals ≡ 1) }
 {
     let instructions = vec![in alloc;

@@ -1,5 +1,5 @@
 -- The step is what the instruction at the state's place does.
-use Rattle.std.proofs.Common.{sym, subst, rules}
+use Rattle.std.proofs.Common.{rules, sym, subst}
 use Rattle.std.proofs.lemmas.Result.{IfOk-weaker}
 use Rattle.sz_machine.specs.Acting.{seen_state, IsNotStuck}
 use Rattle.sz_machine.proofs.ActingLemmas.{step_within, step_is, step_acts}
@@ -17,12 +17,11 @@ act-requires-clause-room c =
 
 pub act-requires-clause-can : goal.act-requires-clause-can
 act-requires-clause-can c = λ left.
-    let within = step_within c.args.code.now c.args.input.now (seen_state c.args.state.now left) (c.requires.can left) in
-    subst IsNotStuck (sym (step_is c.args.code.now c.args.input.now c.index.result.now (seen_state c.args.state.now left) within c.index.ensures)) (c.requires.can left)
+    let s = seen_state c.args.state.now left in
+    let is = step_is c.args.code.now c.args.input.now c.index.result.now s c.index.ensures (c.requires.can left) in
+    subst IsNotStuck (sym is) (c.requires.can left)
 
 pub returns : goal.returns
-returns c = record {
-  value = IfOk-weaker c.act.result _ _ (step_acts c.args.code.now c.args.input.now c.index.result.now c.args.state.now _ (λ left.
-      let within = step_within c.args.code.now c.args.input.now (seen_state c.args.state.now left) (c.requires.can left) in
-      step_is c.args.code.now c.args.input.now c.index.result.now (seen_state c.args.state.now left) within c.index.ensures)) c.act.ensures.value;
-}
+returns c =
+    let acts = step_acts c.args.code.now c.args.input.now c.index.result.now c.args.state.now _ c.index.ensures c.requires.can in
+    record { value = IfOk-weaker c.act.result _ _ acts c.act.ensures.value }
