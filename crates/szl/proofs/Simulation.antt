@@ -2,6 +2,7 @@
 -- just what it comes to from the state before.
 use Rattle.std.proofs.Common.{◌≡◌, ℕ, zero, suc, ◌+◌, ◌<◌, ◌≤◌, ℤ, List, [], ◌∷◌, ◌++◌, length, Bool, true, false, Option, Some, None, refl, sym, ap, ◌∙◌, subst, arith, length-append, append_assoc}
 use Rattle.std.specs.Prelude.{slice_get, slice_set, nat_lt, if◌then◌else◌, replicate, flat_map, unwrap_or, option_map}
+use Rattle.std.proofs.lemmas.List.{length-set, length-replicate}
 use Rattle.std.proofs.lemmas.Bool.Decides.{nat_tests}
 use Rattle.sz_value.specs.Data.{Datum, int, bytes}
 use Rattle.sz_mean.specs.declared.operator.BinOp.{BinOp}
@@ -141,3 +142,118 @@ module _ (code : Code) (text : List ℕ) where
             (computes o s at2 end v u w2 x len k1.typed k2.typed h2))
           (eval b s.locals text w1) h1))
         (eval a s.locals text s.world) h0)
+
+    -- first the value, then the statement that uses it
+    after_value : (s s1 : State) (end end1 : ℕ) (x : Next) (go : Slot → World → Exec)
+        → ((v : Slot) (w : World) → Kept whole v → AfterExec code text n s end x (go v w) → ComesTo code text (record s1 { at = end1; stack = v ∷ s1.stack; world = w }) x)
+        → (r : Eval) → AfterExec code text n s end x (with_value r go) → AfterEval code text whole s1 end1 x r
+    after_value s s1 end end1 x go next (Value v w) h = λ k. next v w k h
+    after_value s s1 end end1 x go next (Fails kind place) h = h
+
+    -- first one statement, then those behind it
+    after_then : (s : State) (end end1 : ℕ) (x : Next) (go : List Slot → World → Exec)
+        → ((locals : List Slot) (w : World) → AreWhole n locals → AfterExec code text n s end x (go locals w) → ComesTo code text (record s { at = end1; locals = locals; world = w }) x)
+        → (r : Exec) → AfterExec code text n s end x (then_do r go) → AfterExec code text n s end1 x r
+    after_then s end end1 x go next (Normal locals w) h = λ k. next locals w k h
+    after_then s end end1 x go next (Faults kind place) h = h
+
+    -- a variable that is there is kept
+    keeps : (s : State) (at end y : ℕ) (v : Slot) (w : World) (x : Next) → at + 1 ≡ end → y < n → AreWhole n s.locals → HasTy v whole
+        → AfterExec code text n s end x (Normal (slice_set s.locals y v) w)
+        → NextComes code text (act (instr.Keep y) text (record s { at = at; stack = v ∷ s.stack; world = w })) x
+    keeps s at end y v w x e lt locals typed h = by_test (nat_lt y (length s.locals)) (tested y (length s.locals) (omega (arith, lt, locals.size)))
+      where
+        tested : (a b : ℕ) → a < b → nat_lt a b ≡ true
+        tested a b lt = grind (arith, nat_tests)
+        after : AreWhole n (slice_set s.locals y v)
+        after = record { size = length-set s.locals y v ∙ locals.size; whole_at = whole_set s.locals y v typed locals.whole_at }
+        there : State
+        there = record s { at = at + 1; locals = slice_set s.locals y v; world = w }
+        by_test : (b : Bool) → b ≡ true → NextComes code text (if b then Goes there else Stuck) x
+        by_test b is = let P : Bool → Type 0 = λ b. NextComes code text (if b then Goes there else Stuck) x in
+            subst P (sym is) (subst (λ k. ComesTo code text (record s { at = k; locals = slice_set s.locals y v; world = w }) x) (sym e) (h after))
+
+    pub exec_runs : (st : Stm) (s : State) (end : ℕ) (x : Next) → IsSoundStm n st → AreWhole n s.locals
+        → HasAt code.instructions.items s.at (stmt_code st) → s.at + length (stmt_code st) ≡ end
+        → AfterExec code text n s end x (exec st text s.locals s.world) → ComesTo code text s x
+    exec_runs (declare y e) s end x sound locals has is h =
+        let ce = expr_code e in
+        let at1 = s.at + length ce in
+        let last = (has_back code.instructions.items s.at ce (instr.Keep y ∷ []) has).0 in
+        let len : at1 + 1 ≡ end = omega (arith, is, length-append ce (instr.Keep y ∷ [])) in
+        eval_runs e whole s at1 x sound.1 locals (has_front code.instructions.items s.at ce _ has) refl
+        (after_value s s end at1 x _ (λ v w k h1.
+          at_line code text (record s { at = at1; stack = v ∷ s.stack; world = w }) (instr.Keep y) x last
+          (keeps s at1 end y v w x len sound.0 locals k.typed h1))
+        (eval e s.locals text s.world) h)
+    exec_runs (emit t e) s end x sound locals has is h =
+        let ce = expr_code e in
+        let at1 = s.at + length ce in
+        let last = (has_back code.instructions.items s.at ce (instr.Emit t ∷ []) has).0 in
+        let len : at1 + 1 ≡ end = omega (arith, is, length-append ce (instr.Emit t ∷ [])) in
+        eval_runs e whole s at1 x sound locals (has_front code.instructions.items s.at ce _ has) refl
+        (after_value s s end at1 x _ (λ v w k h1.
+          at_line code text (record s { at = at1; stack = v ∷ s.stack; world = w }) (instr.Emit t) x last
+          (at_same s (at1 + 1) end s.stack (emitted t v w) x len (h1 locals)))
+        (eval e s.locals text s.world) h)
+
+    pub body_runs : (ss : List Stm) (s : State) (end : ℕ) (x : Next) → AreSound n ss → AreWhole n s.locals
+        → HasAt code.instructions.items s.at (body_code ss) → s.at + length (body_code ss) ≡ end
+        → AfterExec code text n s end x (exec_all ss text s.locals s.world) → ComesTo code text s x
+    body_runs [] s end x sound locals has is h =
+        let e : s.at ≡ end = omega (arith, is) in at_same s s.at end s.stack s.world x e (h locals)
+    body_runs (st ∷ ss) s end x sound locals has is h =
+        let c1 = stmt_code st in
+        let at1 = s.at + length c1 in
+        let len : at1 + length (body_code ss) ≡ end = omega (arith, is, length-append c1 (body_code ss)) in
+        exec_runs st s at1 x sound.0 locals (has_front code.instructions.items s.at c1 _ has) refl
+        (after_then s end at1 x (exec_all ss text) (λ ls w k h1.
+          body_runs ss (record s { at = at1; locals = ls; world = w }) end x sound.1 k (has_back code.instructions.items s.at c1 _ has) len h1)
+        (exec st text s.locals s.world) h)
+
+-- the instructions stand in the code that they are
+get_behind : (front : List Instr) (i : Instr) (is : List Instr) → slice_get (front ++ i ∷ is) (length front) ≡ Some i
+get_behind [] i is = refl
+get_behind (f ∷ front) i is = get_behind front i is
+
+has_behind : (front lines : List Instr) → HasAt (front ++ lines) (length front) lines
+has_behind front [] = tt
+has_behind front (i ∷ is) =
+    let len : length (front ++ i ∷ []) ≡ length front + 1 = omega (arith, length-append front (i ∷ [])) in
+    (get_behind front i is, subst (λ k. HasAt (front ++ i ∷ is) k is) len (subst (λ l. HasAt l (length (front ++ i ∷ [])) is) (append_assoc front (i ∷ []) is) (has_behind (front ++ i ∷ []) is)))
+
+-- undefined variables are of any type
+slot_replicate : (n x : ℕ) → HasTy (slot_at (replicate n None) x) whole
+slot_replicate zero x = tt
+slot_replicate (suc n) zero = tt
+slot_replicate (suc n) (suc x) = slot_replicate n x
+
+module _ (program : Prog) (code : Code) (text : List ℕ) where
+  -- behind its statements a record ends
+  ends_record : (s : State) (end : ℕ) (r : Exec) → slice_get code.instructions.items end ≡ Some instr.EndRecord
+      → AfterExec code text program.locals s end (Ends (ended r)) r
+  ends_record s end (Normal locals w) last = λ k. at_line code text (record s { at = end; locals = locals; world = w }) instr.EndRecord _ last refl
+  ends_record s end (Faults kind place) last = refl
+
+  record_runs : AreSound program.locals program.body → code.instructions.items ≡ record_code program.body → (locals : List Slot) (w : World)
+      → AreWhole program.locals locals → ComesTo code text (record { at = 0; stack = []; locals = locals; world = w }) (Ends (ended (exec_all program.body text locals w)))
+  record_runs sound lines locals w are =
+      let body = body_code program.body in
+      let has = subst (λ l. HasAt code.instructions.items 0 l) lines (has_behind [] code.instructions.items) in
+      let len : 0 + length body ≡ length body = omega arith in
+      let last = subst (λ k. HasAt code.instructions.items k (instr.EndRecord ∷ [])) len (has_back code.instructions.items 0 body (instr.EndRecord ∷ []) has) in
+      let s : State = record { at = 0; stack = []; locals = locals; world = w } in
+      body_runs code text program.locals program.body s (length body) _ sound are
+      (has_front code.instructions.items 0 body _ has) len (ends_record s (length body) (exec_all program.body text locals w) last.0)
+
+-- whatever the budget, the run of a record comes to what the program means for it
+abbrev pub Simulates : Prog → Code → Type 0
+Simulates program code = (text : List ℕ) (budget : ℕ) → ComesTo code text (start code budget) (Ends (mean program budget text))
+
+pub simulates : (program : Prog) (code : Code) → AreSound program.locals program.body → code.instructions.items ≡ record_code program.body
+    → code.locals ≡ program.locals → Simulates program code
+simulates program code sound lines locals text budget =
+    let w : World = record { left = budget; emits = [] } in
+    subst (λ n. ComesTo code text (record { at = 0; stack = []; locals = replicate n None; world = w }) (Ends (mean program budget text))) (sym locals)
+    (record_runs program code text sound lines (replicate program.locals None) w
+    (record { size = length-replicate program.locals None; whole_at = slot_replicate program.locals }))
