@@ -2,5 +2,6 @@ mod CutLemmas
 mod Growth
 mod LexemesLemmas
 mod ReadingLemmas
+mod RecordLemmas
 mod Simulation
 mod Sound
