@@ -5,3 +5,4 @@ mod ReadingLemmas
 mod RecordLemmas
 mod Simulation
 mod Sound
+mod TotalsLemmas

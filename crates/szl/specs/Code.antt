@@ -1,8 +1,9 @@
 -- The code of a program: which instructions stand for its expressions and statements.
-use Rattle.std.specs.Prelude.{List, [], ◌∷◌, ◌++◌, flat_map}
-use Rattle.sz_mean.specs.Tree.{Exp, number, variable, input, convert, binary, Stm, declare, emit}
+use Rattle.std.specs.Prelude.{◌≡◌, List, [], ◌∷◌, ◌++◌, flat_map}
+use Rattle.sz_mean.specs.Tree.{Exp, number, variable, input, convert, binary, Stm, declare, emit, Prog}
 use Rattle.sz_machine.specs.declared.code.Instr.{Instr}
 use Rattle.sz_machine.specs.declared.code.Instr.TheVariants as instr
+use Rattle.sz_machine.specs.declared.code.Code.{Code}
 
 -- the code of an expression leaves its slot on the stack
 abbrev pub expr_code : Exp → List Instr
@@ -24,3 +25,8 @@ body_code ss = flat_map stmt_code ss
 -- the code of a record: that of the statements, and then the end
 abbrev pub record_code : List Stm → List Instr
 record_code ss = body_code ss ++ instr.EndRecord ∷ []
+
+-- the code is that of the program
+pub record IsCodeOf (program : Prog) (code : Code) : Type 0 where
+  pub instructions : code.instructions.items ≡ record_code program.body
+  pub locals : code.locals ≡ program.locals

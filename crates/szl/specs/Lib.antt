@@ -7,4 +7,5 @@ pub mod Promise
 -- what the functions inside the crate promise each other
 pub mod View
 pub mod Cuts
+pub mod Totals
 pub mod Code

@@ -3,10 +3,12 @@
 
 mod cutting;
 mod draft;
+mod generate;
 mod lexemes;
 mod names;
 mod reading;
 mod status;
+mod sums;
 mod tree;
 mod values;
 

@@ -1,0 +1,84 @@
+//! Sums of tables, exact in 128 bits.
+ghost use Rattle.std.specs.Prelude.{◌≡◌, ◌<◌, ◌^◌, ◌+◌, ℕ, length, slice_get, IfOk, Some, None, replicate};
+ghost use Rattle.sz_machine.specs.Emits.{seen_emit};
+ghost use Rattle.sz_value.specs.Seen.{seen};
+ghost use Rattle.sz_mean.specs.Rows.{number_of};
+ghost use Rattle.szl.specs.Totals.{IsWithin, AreWithin, row_added, added, no_totals};
+
+use std::alloc::{AllocError, Global};
+use std::marker::Model;
+use sz_machine::Emit;
+use sz_value::Value;
+
+/// The sum of each table, none where nothing was emitted to it, and the number of emits that were added.
+///
+/// Contracts see a record of the two.
+#[derive(Debug, Drop)]
+pub struct Sums {
+    rows: Vec<Option<i128>>,
+    emits: u64,
+}
+
+impl Model for Sums {
+    ghost use Rattle.szl.specs.Totals.{Totals, AreWithin};
+    ghost use Rattle.std.specs.Prelude.{◌*◌, ◌^◌};
+
+    ghost Value = { Totals };
+
+    ghost view = { λ s. record { rows = s.rows.items; emits = s.emits } };
+
+    ghost invariant = { λ s. AreWithin (2 ^ 63 * s.emits) s.rows.items };
+}
+
+impl Sums {
+    #[tactic(auto, using(crate::proofs::TotalsLemmas::within_none))]
+    /// The sums of this many tables before any emit.
+    pub fn new(alloc: Global, tables: usize) -> Result<Sums, AllocError>
+        ensures value { IfOk result (λ sums. sums ≡ no_totals tables) }
+    {
+        let rows = Vec::from_elem(alloc, None, tables)?;
+        Ok(Sums { rows, emits: 0 })
+    }
+
+    /// The sum of a table, by its number, if anything was emitted to it.
+    pub fn row(&self, table: usize) -> Option<i128>
+        requires { table < length self.now.rows }
+        ensures value { slice_get self.now.rows table ≡ Some result }
+    {
+        self.rows[table]
+    }
+
+    #[tactic(auto, using(crate::proofs::TotalsLemmas::within_more, crate::proofs::TotalsLemmas::within_added))]
+    /// Adds an emit to the sum of its table. An emit to another table is only counted.
+    pub fn add(&mut self, emit: &Emit)
+        requires { self.old.emits < 2 ^ 63 }
+        ensures value { self.new ≡ added self.old (seen_emit emit.now) }
+    {
+        add_to(&mut self.rows, emit.table as usize, number_of(&emit.value));
+        self.emits += 1;
+    }
+}
+
+/// Adds a number to the row of a table, if it is there.
+#[tactic(auto, using(crate::proofs::TotalsLemmas::within_at, crate::proofs::TotalsLemmas::fits_wide))]
+fn add_to(rows: &mut [Option<i128>], table: usize, number: i128)
+    requires rows { AreWithin (2 ^ 126) rows.old }
+    requires number { IsWithin (2 ^ 63) number }
+    ensures value { rows.new ≡ row_added rows.old table number }
+{
+    if table < rows.len() {
+        let total = rows[table].unwrap_or(0);
+        rows[table] = Some(total + number);
+    }
+}
+
+/// The number that the value is.
+fn number_of(value: &Value) -> i128
+    ensures value { result ≡ number_of (seen value.now) }
+    ensures within { IsWithin (2 ^ 63) result }
+{
+    match value {
+        Value::Int(number) => i128::from(*number),
+        Value::Bytes(_) => 0,
+    }
+}
