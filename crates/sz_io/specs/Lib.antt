@@ -5,6 +5,8 @@ pub mod Calls
 pub mod Listed
 pub mod MemSink
 pub mod MemFiles
+pub mod OsSink
+pub mod OsFiles
 -- what the functions inside the crate promise each other
 pub mod HeldFiles
 pub mod Placed
