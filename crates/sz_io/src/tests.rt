@@ -39,7 +39,10 @@ fn a_whole_file_is_read_where_no_call_fails(rt: HostRuntime) -> Result<(), Fail>
         let read = read_one(alloc, b"three", fails, "p", limit)?;
         assert_eq!(rt; read.as_slice(), b"three".as_slice());
     }
-    assert_eq!(rt; read_one(alloc, &long, 9, "p", 20000)?.as_slice(), long.as_slice());
+    assert_eq!(rt;
+        read_one(alloc, &long, 9, "p", 20000)?.as_slice(),
+        long.as_slice()
+    );
     assert_eq!(rt; read_one(alloc, b"", 2, "p", 0)?.as_slice(), b"".as_slice());
     Ok(())
 }
@@ -55,7 +58,11 @@ fn a_file_is_refused_with_its_cause(rt: HostRuntime) -> Result<(), Fail> {
         ("q", 9, 5, ReadError::Failed),
     ] {
         let read = read_one(rt.alloc(), b"three", fails, name, limit);
-        assert_eq!(rt; read.err(), Some(want), "at {name}, call {fails}, limit {limit}");
+        assert_eq!(rt;
+            read.err(),
+            Some(want),
+            "at {name}, call {fails}, limit {limit}"
+        );
     }
     Ok(())
 }
@@ -70,7 +77,10 @@ fn a_name_holds_what_was_put_last(rt: HostRuntime) -> Result<(), Fail> {
     let mut room = [0u8; 8];
     assert_eq!(rt; files.read(opened, &mut room), Ok(3), "opened before");
     assert_eq!(rt; &room[..3], b"old".as_slice());
-    assert_eq!(rt; read_whole(alloc, &mut files, "p", 99)?.as_slice(), b"new text".as_slice());
+    assert_eq!(rt;
+        read_whole(alloc, &mut files, "p", 99)?.as_slice(),
+        b"new text".as_slice()
+    );
     Ok(())
 }
 
@@ -86,7 +96,11 @@ fn a_text_goes_out_in_pieces(rt: HostRuntime) -> Result<(), Fail> {
         (5, 0, Err(WriteError::Failed(0)), b""),
     ] {
         let mut sink = MemSink::new(alloc, step, &[fails])?;
-        assert_eq!(rt; write_whole(&mut sink, text), want, "at step {step}, call {fails}");
+        assert_eq!(rt;
+            write_whole(&mut sink, text),
+            want,
+            "at step {step}, call {fails}"
+        );
         assert_eq!(rt; sink.bytes(), taken, "at step {step}, call {fails}");
     }
     Ok(())
