@@ -1,5 +1,5 @@
 -- What a crate above may cite of counts and of files over several calls.
-use Rattle.std.proofs.Common.{◌≡◌, ℕ, ◌≤◌, Bool, IsTrue, List, Option, refl, ◌∙◌, arith}
+use Rattle.std.proofs.Common.{ℕ, ◌≤◌, Bool, List, Option, refl, ◌∙◌, arith}
 use Rattle.sz_io.specs.Rose.{Rose, DoNotFall}
 use Rattle.sz_io.specs.Opened.{KeepsFiles}
 

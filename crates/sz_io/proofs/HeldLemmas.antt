@@ -1,12 +1,14 @@
 -- What counting a call does to the files of a device in memory, and where a file is found.
-use Rattle.std.proofs.Common.{◌≡◌, ℕ, ◌+◌, ◌-◌, ◌^◌, ◌<◌, ◌≤◌, suc, zero, min, Bool, true, false, IsTrue, if◌then◌else◌, cond, List, [], ◌∷◌, Option, Some, None, refl, sym, ap, subst, ◌∙◌, length, drop, arith, string_bytes, add-one, get_or, drop-cons}
+use Rattle.std.proofs.Common.{◌≡◌, ℕ, ◌+◌, ◌-◌, ◌^◌, ◌<◌, ◌≤◌, suc, zero, min, true, false, if◌then◌else◌, List, [], ◌∷◌, Some, None, refl, sym, ap, ap₂, ◌∙◌, length, drop, arith, string_bytes, get_or, drop-cons}
 use Rattle.std.proofs.Math.ListN.{set, length-set}
 use Rattle.std.specs.List.{slice_get}
 use Rattle.std.specs.Option.{option_map, option_map_or}
 use Rattle.std.specs.Str.{bytes_eq}
 use Rattle.sz_io.specs.declared.held_file.HeldFile.{HeldFile}
 use Rattle.sz_io.specs.Listed.{listed_before, is_listed}
-use Rattle.sz_io.specs.HeldFiles.{or_else, place_in, bytes_at, faults_in, is_next_listed, CallsOneFile}
+use Rattle.std.proofs.lemmas.Option.{slice_get_within}
+use Rattle.sz_io.proofs.Gets.{slice_get-set_same, slice_get-set_other}
+use Rattle.sz_io.specs.HeldFiles.{file_plan, after_call, fails_next, or_else, place_in, bytes_at, faults_in, is_next_listed, CallsOneFile}
 use Rattle.sz_io.proofs.ListedLemmas.{listed_later, listed_more}
 
 -- the same file, after one call more
@@ -53,15 +55,19 @@ counted files i file new there fits called =
     let same : new.fails.items ≡ file.fails.items = ap (λ v. v.items) called.fails in
     let count : listed_before new.calls new.fails.items ≡ new_faults = cc (called.calls) in
     let later : old_faults ≤ new_faults = listed_later file.fails.items file.calls (min (file.calls + 1) (2 ^ 64 - 1)) (omega arith) in
-    let next : is_next_listed files i ≡ is_listed file.fails.items file.calls = ap (λ o. option_map_or (λ f. is_listed f.fails.items f.calls) o false) there in
+    let next : is_next_listed files i ≡ is_listed file.fails.items file.calls = ap (λ o. option_map_or fails_next (option_map file_plan o) false) there in
+    let written : slice_get (set files i new) i ≡ Some new = slice_get-set_same files i new (slice_get_within files i file there) in
+    let plan : file_plan new ≡ after_call (file_plan file) = ap₂ (λ n ks. record { calls = n; fails = ks }) called.calls same in
     record {
       same_length = length-set _ _ _;
       same_places = λ name. place_in-set files i file new name there called.name;
       same_bytes = λ k. bytes_at-set files i k file new there called.bytes;
+      counted = ap (option_map file_plan) written ∙ ap Some plan ∙ ap (λ o. option_map after_call (option_map file_plan o)) (sym there);
+      others_same = λ k apart. ap (option_map file_plan) (slice_get-set_other files i k new apart);
       faults_later = omega (arith, moved);
       faults_rise = λ listed.
-        let more : old_faults + 1 ≤ new_faults = listed_more file.fails.items file.calls (sym next ∙ listed) in
-        omega (arith, moved, more);
+          let more : old_faults + 1 ≤ new_faults = listed_more file.fails.items file.calls (sym next ∙ listed) in
+          omega (arith, moved, more);
     }
 
 -- a file found behind the first i is found there

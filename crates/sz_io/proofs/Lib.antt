@@ -1,5 +1,6 @@
 pub mod ForCallers
 pub mod Moves
+pub mod Gets
 pub mod ListedLemmas
 pub mod HeldLemmas
 pub mod PlacedLemmas

@@ -1,5 +1,5 @@
 -- The faults of a device that fails where a list says so.
-use Rattle.std.proofs.Common.{◌≡◌, ℕ, ◌+◌, ◌-◌, ◌^◌, ◌<◌, ◌≤◌, min, Bool, true, false, ◌&&◌, ◌||◌, IsTrue, if◌then◌else◌, cond, nat_lt, nat_eq, List, [], ◌∷◌, refl, sym, arith, tests}
+use Rattle.std.proofs.Common.{◌≡◌, ℕ, ◌+◌, ◌-◌, ◌^◌, ◌<◌, ◌≤◌, min, true, IsTrue, nat_lt, nat_eq, List, [], ◌∷◌, arith, tests}
 use Rattle.std.proofs.lemmas.Bool.{and_parts, ltb-true}
 use Rattle.std.specs.List.{list_any}
 use Rattle.sz_io.specs.Rose.{Rose}

@@ -1,6 +1,6 @@
 -- What happens to places, and to the bytes left, when a file is called, opened, read or put.
-use Rattle.std.proofs.Common.{Vec, Global, ◌≡◌, ◌≢◌, ◌⊎◌, inl, inr, ℕ, ◌+◌, ◌-◌, ◌<◌, ◌≤◌, suc, zero, Bool, true, false, if◌then◌else◌, List, [], ◌∷◌, ◌++◌, Option, Some, None, option_and_then, Result, refl, sym, ap, subst, ◌∙◌, length, drop, arith, string_bytes, length-append, tests}
-use Rattle.std.proofs.Math.ListN.{set, length-set}
+use Rattle.std.proofs.Common.{Vec, Global, ◌≡◌, ◌≢◌, inl, inr, ℕ, ◌+◌, ◌<◌, suc, zero, Bool, true, false, if◌then◌else◌, List, [], ◌∷◌, ◌++◌, Option, Some, None, option_and_then, Result, refl, sym, ap, subst, ◌∙◌, length, drop, arith, string_bytes, length-append, tests}
+use Rattle.std.proofs.Math.ListN.{set}
 use Rattle.std.proofs.lemmas.Slice.Eq.{bytes_eq-Decides}
 use Rattle.std.proofs.lemmas.List.{with_items_is}
 use Rattle.std.specs.Vec.{with_items}
@@ -11,44 +11,9 @@ use Rattle.std.specs.Io.KnownBytes.{ReadConsumes}
 use Rattle.sz_io.specs.declared.held_file.HeldFile.{HeldFile}
 use Rattle.sz_io.specs.declared.held_file.Place.{Place}
 use Rattle.sz_io.specs.Listed.{listed_before}
-use Rattle.sz_io.specs.HeldFiles.{or_else, place_in, bytes_at, held_in, rest_of, left_in, faults_in, CallsOneFile}
+use Rattle.sz_io.specs.HeldFiles.{file_plan, plan_at, after_call, fails_next, is_next_listed, or_else, place_in, bytes_at, held_in, rest_of, left_in, faults_in, CallsOneFile}
+use Rattle.sz_io.proofs.Gets.{slice_get-set, slice_get-set_same, slice_get-set_other, slice_get-push, slice_get-push_old, slice_get-push_new}
 use Rattle.sz_io.specs.Placed.{IsPlaced, ArePlaced}
-
--- ---- lists
-
-slice_get-set : {X : Type 0} (xs : List X) (k number : ℕ) (x y : X) → slice_get (set xs k x) number ≡ Some y → (y ≡ x) ⊎ (slice_get xs number ≡ Some y)
-slice_get-set [] k number x y there = inr there
-slice_get-set (z ∷ xs) zero zero x y there = inl (sym cc)
-slice_get-set (z ∷ xs) zero (suc number) x y there = inr there
-slice_get-set (z ∷ xs) (suc k) zero x y there = inr there
-slice_get-set (z ∷ xs) (suc k) (suc number) x y there = slice_get-set xs k number x y there
-
-slice_get-set_same : {X : Type 0} (xs : List X) (k : ℕ) (x : X) → k < length xs → slice_get (set xs k x) k ≡ Some x
-slice_get-set_same [] k x inside = absurd (omega arith)
-slice_get-set_same (z ∷ xs) zero x inside = refl
-slice_get-set_same (z ∷ xs) (suc k) x inside = slice_get-set_same xs k x (omega arith)
-
-slice_get-set_other : {X : Type 0} (xs : List X) (k j : ℕ) (x : X) → j ≢ k → slice_get (set xs k x) j ≡ slice_get xs j
-slice_get-set_other [] k j x apart = refl
-slice_get-set_other (z ∷ xs) zero zero x apart = absurd (apart refl)
-slice_get-set_other (z ∷ xs) zero (suc j) x apart = refl
-slice_get-set_other (z ∷ xs) (suc k) zero x apart = refl
-slice_get-set_other (z ∷ xs) (suc k) (suc j) x apart = slice_get-set_other xs k j x (λ e. apart (ap suc e))
-
-slice_get-push : {X : Type 0} (xs : List X) (number : ℕ) (x y : X) → slice_get (xs ++ x ∷ []) number ≡ Some y → (y ≡ x) ⊎ (slice_get xs number ≡ Some y)
-slice_get-push [] zero x y there = inl (sym cc)
-slice_get-push [] (suc number) x y there = inr there
-slice_get-push (z ∷ xs) zero x y there = inr there
-slice_get-push (z ∷ xs) (suc number) x y there = slice_get-push xs number x y there
-
-slice_get-push_old : {X : Type 0} (xs : List X) (j : ℕ) (x : X) → j < length xs → slice_get (xs ++ x ∷ []) j ≡ slice_get xs j
-slice_get-push_old [] j x inside = absurd (omega arith)
-slice_get-push_old (z ∷ xs) zero x inside = refl
-slice_get-push_old (z ∷ xs) (suc j) x inside = slice_get-push_old xs j x (omega arith)
-
-slice_get-push_new : {X : Type 0} (xs : List X) (x : X) → slice_get (xs ++ x ∷ []) (length xs) ≡ Some x
-slice_get-push_new [] x = refl
-slice_get-push_new (z ∷ xs) x = slice_get-push_new xs x
 
 -- ---- places
 
@@ -147,24 +112,33 @@ place_in-inside [] name i found = absurd cc
 place_in-inside (f ∷ fs) name i found =
     inside-step (place_in fs name) (bytes_eq (string_bytes f.name) name) (length fs) i (place_in-inside fs name) found
 
+place_in-put_same : (files : List HeldFile) (file : HeldFile) (name : List ℕ) → string_bytes file.name ≡ name
+    → place_in (files ++ file ∷ []) name ≡ Some (length files)
+place_in-put_same files file name same =
+    let equal : bytes_eq (string_bytes file.name) name ≡ true = (bytes_eq-Decides (string_bytes file.name) name).1 same in
+    place_in-more files file name ∙ ap (λ b. if b then Some (length files) else place_in files name) equal
+
+place_in-put_other : (files : List HeldFile) (file : HeldFile) (name : List ℕ) → (string_bytes file.name ≢ name)
+    → place_in (files ++ file ∷ []) name ≡ place_in files name
+place_in-put_other files file name apart =
+    let unequal : bytes_eq (string_bytes file.name) name ≡ false = grind (arith, bytes_eq-Decides (string_bytes file.name) name, apart) in
+    place_in-more files file name ∙ ap (λ b. if b then Some (length files) else place_in files name) unequal
+
 -- the new file is what its name holds
 pub held_in-put_same : (files : List HeldFile) (file : HeldFile) (name : List ℕ) → string_bytes file.name ≡ name
     → held_in (files ++ file ∷ []) name ≡ Some file.bytes.items
 held_in-put_same files file name same =
-    let equal : bytes_eq (string_bytes file.name) name ≡ true = (bytes_eq-Decides (string_bytes file.name) name).1 same in
-    let place : place_in (files ++ file ∷ []) name ≡ Some (length files) = place_in-more files file name ∙ ap (λ b. if b then Some (length files) else place_in files name) equal in
-    ap (option_map (bytes_at (files ++ file ∷ []))) place ∙ ap (λ o. Some (option_map_or (λ f. f.bytes.items) o [])) (slice_get-push_new files file)
+    ap (option_map (bytes_at (files ++ file ∷ []))) (place_in-put_same files file name same)
+    ∙ ap (λ o. Some (option_map_or (λ f. f.bytes.items) o [])) (slice_get-push_new files file)
 
 -- another name holds what it held
 pub held_in-put_other : (files : List HeldFile) (file : HeldFile) (name : List ℕ) → (string_bytes file.name ≢ name)
     → held_in (files ++ file ∷ []) name ≡ held_in files name
 held_in-put_other files file name apart =
-    let unequal : bytes_eq (string_bytes file.name) name ≡ false = grind (arith, bytes_eq-Decides (string_bytes file.name) name, apart) in
-    let place : place_in (files ++ file ∷ []) name ≡ place_in files name = place_in-more files file name ∙ ap (λ b. if b then Some (length files) else place_in files name) unequal in
-    ap (option_map (bytes_at (files ++ file ∷ []))) place ∙ at (place_in files name) refl where
-  at : (p : Option ℕ) → place_in files name ≡ p → option_map (bytes_at (files ++ file ∷ [])) p ≡ option_map (bytes_at files) p
-  at None found = refl
-  at (Some i) found = ap Some (bytes_at-push_old files file i (place_in-inside files name i found))
+    ap (option_map (bytes_at (files ++ file ∷ []))) (place_in-put_other files file name apart) ∙ at (place_in files name) refl where
+      at : (p : Option ℕ) → place_in files name ≡ p → option_map (bytes_at (files ++ file ∷ [])) p ≡ option_map (bytes_at files) p
+      at None found = refl
+      at (Some i) found = ap Some (bytes_at-push_old files file i (place_in-inside files name i found))
 
 pub held_in-called : (old new : List HeldFile) (i : ℕ) (name : List ℕ) → CallsOneFile old new i → held_in new name ≡ held_in old name
 held_in-called old new i name called = ap (option_map (bytes_at new)) (called.same_places name) ∙ at (place_in old name) where
@@ -243,3 +217,62 @@ module _ (old new : List HeldFile) (i : ℕ) (called : CallsOneFile old new i) (
 -- a push that succeeded
 pub pushed_if : {X : Type 0} (b : Bool) (old new : List X) (x : X) → b ≡ true → new ≡ (if b then old ++ x ∷ [] else old) → new ≡ old ++ x ∷ []
 pushed_if b old new x succeeds same = same ∙ ap (λ b. if b then old ++ x ∷ [] else old) succeeds
+
+-- ---- plans
+
+plan_at-push_old : (files : List HeldFile) (file : HeldFile) (i : ℕ) → i < length files → plan_at (files ++ file ∷ []) i ≡ plan_at files i
+plan_at-push_old files file i inside = ap (option_map file_plan) (slice_get-push_old files i file inside)
+
+-- the new file's plan is that of its name
+pub plan-put_same : (files : List HeldFile) (file : HeldFile) (name : List ℕ) → string_bytes file.name ≡ name
+    → option_and_then (plan_at (files ++ file ∷ [])) (place_in (files ++ file ∷ []) name) ≡ Some (file_plan file)
+plan-put_same files file name same =
+    ap (option_and_then (plan_at (files ++ file ∷ []))) (place_in-put_same files file name same) ∙ ap (option_map file_plan) (slice_get-push_new files file)
+
+-- another name has the plan that it had
+pub plan-put_other : (files : List HeldFile) (file : HeldFile) (name : List ℕ) → (string_bytes file.name ≢ name)
+    → option_and_then (plan_at (files ++ file ∷ [])) (place_in (files ++ file ∷ []) name) ≡ option_and_then (plan_at files) (place_in files name)
+plan-put_other files file name apart =
+    ap (option_and_then (plan_at (files ++ file ∷ []))) (place_in-put_other files file name apart) ∙ at (place_in files name) refl where
+      at : (p : Option ℕ) → place_in files name ≡ p → option_and_then (plan_at (files ++ file ∷ [])) p ≡ option_and_then (plan_at files) p
+      at None found = refl
+      at (Some i) found = plan_at-push_old files file i (place_in-inside files name i found)
+
+-- an opened file has the plan that it had, after a push that may have failed
+pub plan-pushed : (files new : List HeldFile) (opened : List Place) (file : HeldFile) → ArePlaced files opened → (b : Bool) (number : ℕ)
+    → new ≡ (if b then files ++ file ∷ [] else files)
+    → option_and_then (λ place. plan_at new place.file) (slice_get opened number) ≡ option_and_then (λ place. plan_at files place.file) (slice_get opened number)
+plan-pushed files new opened file placed false number same = ap (λ l. option_and_then (λ place. plan_at l place.file) (slice_get opened number)) same
+plan-pushed files new opened file placed true number same =
+    ap (λ l. option_and_then (λ place. plan_at l place.file) (slice_get opened number)) same ∙ at (slice_get opened number) refl where
+      at : (o : Option Place) → slice_get opened number ≡ o
+          → option_and_then (λ place. plan_at (files ++ file ∷ []) place.file) o ≡ option_and_then (λ place. plan_at files place.file) o
+      at None there = refl
+      at (Some place) there = plan_at-push_old files file place.file (placed number place there).known
+
+-- a file that is there has a plan, which says whether its next call fails
+pub plan_known : (files : List HeldFile) (i : ℕ) → i < length files → option_map_or fails_next (plan_at files i) true ≡ is_next_listed files i
+plan_known [] i inside = absurd (omega arith)
+plan_known (f ∷ fs) zero inside = refl
+plan_known (f ∷ fs) (suc i) inside = plan_known fs i (omega arith)
+
+-- the plan of a name, before and after a call on its file
+module _ (old new : List HeldFile) (i : ℕ) (name : List ℕ) (found : Some i ≡ place_in old name) where
+  plan_old : option_and_then (plan_at old) (place_in old name) ≡ plan_at old i
+  plan_old = ap (option_and_then (plan_at old)) (sym found)
+
+  pub opened_plan : i < length old → option_map_or fails_next (option_and_then (plan_at old) (place_in old name)) true ≡ is_next_listed old i
+  opened_plan inside = ap (λ p. option_map_or fails_next p true) plan_old ∙ plan_known old i inside
+
+  pub counted_plan : CallsOneFile old new i
+      → option_and_then (plan_at new) (place_in new name) ≡ option_map after_call (option_and_then (plan_at old) (place_in old name))
+  counted_plan called =
+      ap (option_and_then (plan_at new)) (called.same_places name ∙ sym found) ∙ called.counted ∙ ap (option_map after_call) (sym plan_old)
+
+-- the plan of an opened file, before and after a read
+pub read_plan : (old new : List HeldFile) (opened : List Place) (k : ℕ) (place moved : Place) → CallsOneFile old new place.file
+    → slice_get opened k ≡ Some place → k < length opened → moved.file ≡ place.file
+    → option_and_then (λ p. plan_at new p.file) (slice_get (set opened k moved) k) ≡ option_map after_call (option_and_then (λ p. plan_at old p.file) (slice_get opened k))
+read_plan old new opened k place moved called there inside same =
+    ap (option_and_then (λ p. plan_at new p.file)) (slice_get-set_same opened k moved inside) ∙ ap (plan_at new) same ∙ called.counted
+    ∙ ap (λ o. option_map after_call (option_and_then (λ p. plan_at old p.file) o)) (sym there)

@@ -1,5 +1,5 @@
 -- The files that a device in memory holds, the newest last, and the bytes that opened ones have left.
-use Rattle.std.specs.Prelude.{◌≡◌, ℕ, ◌+◌, ◌<◌, ◌≤◌, suc, Bool, false, IsTrue, if◌then◌else◌, List, [], ◌∷◌, length, drop, Option, Some, None, string_bytes, option_and_then}
+use Rattle.std.specs.Prelude.{◌≡◌, ◌≢◌, ℕ, ◌+◌, ◌-◌, ◌^◌, ◌≤◌, min, Bool, false, IsTrue, if◌then◌else◌, List, [], ◌∷◌, length, drop, Option, Some, None, string_bytes, option_and_then}
 use Rattle.std.specs.List.{slice_get}
 use Rattle.std.specs.Option.{option_map, option_map_or}
 use Rattle.std.specs.Str.{bytes_eq}
@@ -38,15 +38,38 @@ abbrev pub faults_in : List HeldFile → ℕ
 faults_in [] = 0
 faults_in (file ∷ files) = listed_before file.calls file.fails.items + faults_in files
 
+-- the number of calls made on a file, which is the number of the next one, and the numbers of those that fail
+pub record Plan : Type 0 where
+  pub calls : ℕ
+  pub fails : List ℕ
+
+-- the plan of a file
+abbrev pub file_plan : HeldFile → Plan
+file_plan file = record { calls = file.calls; fails = file.fails.items }
+
+-- the plan of the file at a place
+abbrev pub plan_at : List HeldFile → ℕ → Option Plan
+plan_at files i = option_map file_plan (slice_get files i)
+
+-- a plan after one call more
+abbrev pub after_call : Plan → Plan
+after_call plan = record { calls = min (plan.calls + 1) (2 ^ 64 - 1); fails = plan.fails }
+
+-- the next call of a plan is to fail
+abbrev pub fails_next : Plan → Bool
+fails_next plan = is_listed plan.fails plan.calls
+
 -- whether the next call on the file at a place is to fail
 abbrev pub is_next_listed : List HeldFile → ℕ → Bool
-is_next_listed files i = option_map_or (λ file. is_listed file.fails.items file.calls) (slice_get files i) false
+is_next_listed files i = option_map_or fails_next (plan_at files i) false
 
--- A call on the file at a place was counted: the names and bytes of all files are the same, and where the call was to
--- fail there is one fault more.
+-- A call on the file at a place was counted: the names and bytes of all files and the plans of the others are the same,
+-- and where the call was to fail there is one fault more.
 pub record CallsOneFile (old new : List HeldFile) (i : ℕ) : Type 0 where
   pub same_length : length new ≡ length old
   pub same_places : (name : List ℕ) → place_in new name ≡ place_in old name
   pub same_bytes : (k : ℕ) → bytes_at new k ≡ bytes_at old k
+  pub counted : plan_at new i ≡ option_map after_call (plan_at old i)
+  pub others_same : (k : ℕ) → k ≢ i → plan_at new k ≡ plan_at old k
   pub faults_later : faults_in old ≤ faults_in new
   pub faults_rise : IsTrue (is_next_listed old i) → faults_in old + 1 ≤ faults_in new

@@ -4,7 +4,9 @@ pub mod Opened
 pub mod Calls
 pub mod Listed
 pub mod MemSink
-pub mod MemFiles
--- what the functions inside the crate promise each other
 pub mod HeldFiles
+pub mod MemFiles
+pub mod OsSink
+pub mod OsFiles
+-- what the functions inside the crate promise each other
 pub mod Placed

@@ -1,5 +1,5 @@
 -- The calls of a device in memory that are to fail, as a list of their numbers.
-use Rattle.std.specs.Prelude.{ℕ, ◌+◌, ◌-◌, ◌^◌, ◌<◌, Bool, ◌&&◌, if◌then◌else◌, nat_lt, nat_eq, List, [], ◌∷◌}
+use Rattle.std.specs.Prelude.{ℕ, ◌+◌, ◌-◌, ◌^◌, Bool, ◌&&◌, if◌then◌else◌, nat_lt, nat_eq, List, [], ◌∷◌}
 use Rattle.std.specs.List.{list_any}
 
 -- how many entries of the list are calls before this one: the faults of a device that has made so many calls

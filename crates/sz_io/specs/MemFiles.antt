@@ -1,6 +1,10 @@
 -- Files in memory, as their callers see them.
-use Rattle.std.specs.Prelude.{◌≡◌, ◌≢◌, ℕ, ◌+◌, Bool, IsTrue, List, [], ◌∷◌, length, map, nat_lt, Option, Some, None, string_bytes}
-use Rattle.sz_io.specs.HeldFiles.{held_in, left_in, faults_in}
+use Rattle.std.specs.Prelude.{◌≡◌, ◌≢◌, ℕ, ◌+◌, Bool, true, false, IsTrue, Result, Ok, Err, List, [], length, map, nat_lt, Option, Some, None, string_bytes, option_and_then, is_err}
+use Rattle.std.specs.List.{slice_get}
+use Rattle.std.specs.Option.{option_map, option_map_or}
+use Rattle.sz_io.specs.HeldFiles.{Plan, place_in, held_in, left_in, faults_in, plan_at, after_call, fails_next}
+use Rattle.sz_io.specs.declared.error.OutsideError.{OutsideError}
+use Rattle.sz_io.specs.declared.error.OutsideError.TheVariants.{Failed, NoMemory}
 use Rattle.sz_io.specs.declared.mem_files.MemFiles.{MemFiles}
 
 -- the bytes under a name
@@ -23,6 +27,26 @@ names_opened files = map string_bytes files.names.items
 abbrev pub files_faults : MemFiles → ℕ
 files_faults files = files.misses + faults_in files.files.items
 
+-- the plan of the file that a name stands for
+abbrev pub plan_of : MemFiles → List ℕ → Option Plan
+plan_of files name = option_and_then (plan_at files.files.items) (place_in files.files.items name)
+
+-- the plan of the file that was opened under a number
+abbrev pub plan_behind : MemFiles → ℕ → Option Plan
+plan_behind files number = option_and_then (λ place. plan_at files.files.items place.file) (slice_get files.opened.items number)
+
+-- A call of `open_file` goes by the plan of its name: it fails where there is none or the plan says so, and it is counted,
+-- unless memory ran out.
+abbrev pub OpensByPlan : Option Plan → Option Plan → Result ℕ OutsideError → Type 0
+OpensByPlan old new (Ok file) = (option_map_or fails_next old true ≡ false) × (new ≡ option_map after_call old)
+OpensByPlan old new (Err Failed) = (option_map_or fails_next old true ≡ true) × (new ≡ option_map after_call old)
+OpensByPlan old new (Err NoMemory) = new ≡ old
+
+-- A read goes by the plan of its file: it fails exactly where the plan says so, and it is counted.
+pub record ReadsByPlan {E : Type 0} (old new : Option Plan) (result : Result ℕ E) : Type 0 where
+  pub fails : is_err result ≡ option_map_or fails_next old false
+  pub counted : new ≡ option_map after_call old
+
 -- no file is there, and none was opened
 pub record IsEmpty (files : MemFiles) : Type 0 where
   pub holds_none : (name : List ℕ) → held_bytes files name ≡ None
@@ -30,14 +54,17 @@ pub record IsEmpty (files : MemFiles) : Type 0 where
   pub opened_none : names_opened files ≡ []
   pub no_fault : files_faults files ≡ 0
 
--- every opened file has the same bytes left, and the names opened and the count of faults are the same
+-- every opened file has the same bytes left and the same plan, and the names opened and the count of faults are the same
 pub record SameOpened (old new : MemFiles) : Type 0 where
   pub left_same : (number : ℕ) → left_bytes new number ≡ left_bytes old number
+  pub plans_same : (number : ℕ) → plan_behind new number ≡ plan_behind old number
   pub given_same : (number : ℕ) → is_given new number ≡ is_given old number
   pub names_same : names_opened new ≡ names_opened old
   pub faults_same : files_faults new ≡ files_faults old
 
--- a file with these bytes is put under the name, and every other name holds what it held
-pub record PutsFile (old new : MemFiles) (name bytes : List ℕ) : Type 0 where
+-- a file with these bytes and this list is put under the name, and every other name has what it had
+pub record PutsFile (old new : MemFiles) (name bytes fails : List ℕ) : Type 0 where
   pub held_now : held_bytes new name ≡ Some bytes
+  pub plan_now : plan_of new name ≡ Some (record { calls = 0; fails = fails })
   pub others_same : (other : List ℕ) → other ≢ name → held_bytes new other ≡ held_bytes old other
+  pub other_plans_same : (other : List ℕ) → other ≢ name → plan_of new other ≡ plan_of old other

@@ -1,5 +1,5 @@
 -- A sink in memory, as its callers see it.
-use Rattle.std.specs.Prelude.{◌≡◌, ℕ, ◌+◌, ◌-◌, ◌^◌, min, List, [], length}
+use Rattle.std.specs.Prelude.{◌≡◌, ℕ, ◌+◌, ◌-◌, ◌^◌, min, List, []}
 use Rattle.sz_io.specs.Listed.{listed_before}
 use Rattle.sz_io.specs.declared.mem_sink.MemSink.{MemSink}
 

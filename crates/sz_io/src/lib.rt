@@ -8,6 +8,8 @@ mod held_file;
 mod listed;
 mod mem_files;
 mod mem_sink;
+mod os_files;
+mod os_sink;
 mod reading;
 mod sink;
 mod writing;
@@ -17,6 +19,11 @@ pub use files::Files;
 pub use gate::{Gate, NoGate};
 pub use mem_files::MemFiles;
 pub use mem_sink::MemSink;
+pub use os_files::OsFiles;
+pub use os_sink::OsSink;
 pub use reading::read_whole;
 pub use sink::Sink;
 pub use writing::write_whole;
+
+#[cfg(test)]
+mod tests;

@@ -1,5 +1,8 @@
 //! Files in memory, on which calls fail where lists say so.
-ghost use Rattle.std.specs.Prelude.{◌≡◌, ◌≤◌, ℕ, List, vec_len, OnOk, OnErr};
+ghost use Rattle.std.specs.Prelude.{◌≡◌, ◌<◌, ◌≤◌, min, ℕ, List, length, vec_len, IsTrue, IfOk, OnOk, OnErr, IfSome, IsErrOf};
+ghost use Rattle.std.specs.Io.KnownBytes.{ReadConsumes};
+ghost use Rattle.sz_io.specs.Rose.{Rose};
+ghost use Rattle.sz_io.specs.Opened.{names_after, given_after, KeepsFiles, KeepsOtherFiles};
 ghost use Rattle.sz_io.specs.Placed.{ArePlaced};
 
 use crate::held_file::{HeldFile, Place, count_call, fails_next, find, read_at};
@@ -38,7 +41,7 @@ impl MemFiles {
     /// `open_file` of the name and each read of what that opened is one, counted from 0. A file that was opened
     /// before goes on with the bytes and the list that it had.
     pub fn put(&mut self, name: &str, bytes: &[u8], fails: &[u64]) -> Result<(), NoMemory>
-        ensures ok { OnOk result (PutsFile self.old self.new name.now bytes.now) }
+        ensures ok { OnOk result (PutsFile self.old self.new name.now bytes.now fails.now) }
         ensures err { OnErr result ((name : List ℕ) → held_bytes self.new name ≡ held_bytes self.old name) }
         ensures kept { SameOpened self.old self.new }
     {
@@ -54,7 +57,7 @@ impl MemFiles {
 }
 
 impl Files for MemFiles {
-    ghost use Rattle.sz_io.specs.MemFiles.{held_bytes, left_bytes, is_given, names_opened, files_faults};
+    ghost use Rattle.sz_io.specs.MemFiles.{held_bytes, left_bytes, is_given, names_opened, files_faults, plan_of, plan_behind, OpensByPlan, ReadsByPlan};
 
     ghost held = { held_bytes };
 
@@ -66,7 +69,19 @@ impl Files for MemFiles {
 
     ghost faults = { files_faults };
 
-    fn open_file(&mut self, name: &str) -> Result<u32, OutsideError> {
+    /// Fails where the name isn't there, and where its list has the number of the call.
+    fn open_file(&mut self, name: &str) -> Result<u32, OutsideError>
+        requires { length (names_opened self.old) < 128 }
+
+        ensures fresh { IfOk result (λ file. IsTrue (is_given self.old file) → ⊥) }
+        ensures bytes { IfOk result (λ file. left_bytes self.new file ≡ held_bytes self.old name.now) }
+        ensures given { (file : ℕ) → is_given self.new file ≡ given_after (is_given self.old) result file }
+        ensures names { names_opened self.new ≡ names_after (names_opened self.old) name.now result }
+        ensures failed { IsErrOf result OutsideError.Failed → Rose (files_faults self.old) (files_faults self.new) }
+        ensures kept { KeepsFiles held_bytes left_bytes is_given files_faults self.old self.new }
+
+        ensures plan { OpensByPlan (plan_of self.old name.now) (plan_of self.new name.now) result }
+    {
         let number = self.opened.len() as u32;
         let found = find(&self.files, name);
         self.names.push(String::from_str(self.alloc, name)?)?;
@@ -86,7 +101,19 @@ impl Files for MemFiles {
         Ok(number)
     }
 
-    fn read(&mut self, file: u32, into: &mut [u8]) -> Result<usize, Failed> {
+    /// Moves the lesser of the number of bytes left and the length of `into`. Fails exactly where the file's list has
+    /// the number of the call.
+    fn read(&mut self, file: u32, into: &mut [u8]) -> Result<usize, Failed>
+        requires { IsTrue (is_given self.old file) }
+
+        ensures within { IfOk result (λ n. n ≤ length into.new) }
+        ensures bytes { ReadConsumes (left_bytes self.old file) (left_bytes self.new file) result into.new }
+        ensures failed { OnErr result (Rose (files_faults self.old) (files_faults self.new)) }
+        ensures kept { KeepsOtherFiles held_bytes left_bytes is_given names_opened files_faults file self.old self.new }
+
+        ensures plan { ReadsByPlan (plan_behind self.old file) (plan_behind self.new file) result }
+        ensures moves { IfOk result (λ n. IfSome (left_bytes self.old file) (λ left. n ≡ min (length left) (length into.new))) }
+    {
         read_at(&mut self.files, &mut self.opened[file as usize], into)
     }
 }

@@ -4,8 +4,7 @@ ghost use Rattle.std.specs.Io.KnownBytes.{WriteAppends};
 ghost use Rattle.sz_io.specs.Rose.{Rose, DoNotFall};
 ghost use Rattle.sz_io.specs.Listed.{is_listed};
 
-use crate::listed;
-use crate::{NoMemory, OutsideError, Sink};
+use crate::{NoMemory, OutsideError, Sink, listed};
 use std::alloc::Global;
 
 /// Takes at most `step` bytes a call, and keeps them.

@@ -1,5 +1,5 @@
 -- Where the name stands, no later file has it.
-use Rattle.std.proofs.Common.{◌≡◌, ◌+◌, ◌-◌, true, sym, ap, arith, ◌∙◌}
+use Rattle.std.proofs.Common.{◌≡◌, ◌-◌, true, sym, ap, arith, ◌∙◌}
 use Rattle.std.specs.Str.{bytes_eq}
 use Rattle.sz_io.proofs.HeldLemmas.{found_at}
 use Rattle.sz_io.proofs.held_file.find.Goals as goal

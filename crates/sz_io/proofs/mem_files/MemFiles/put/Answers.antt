@@ -1,8 +1,7 @@
 -- A file more at the end is the newest one of its name, and touches no opened one.
-use Rattle.std.proofs.Common.{◌≡◌, ◌≢◌, ◌∙◌, ◌+◌, List, ℕ, Bool, is_ok, Some, sym, ap, refl, arith, string_bytes}
-use Rattle.sz_io.specs.MemFiles.{PutsFile, SameOpened}
-use Rattle.sz_io.specs.HeldFiles.{held_in}
-use Rattle.sz_io.proofs.PlacedLemmas.{placed_pushed, left_in-pushed, faults_in-pushed, held_in-put_same, held_in-put_other}
+use Rattle.std.proofs.Common.{◌∙◌, ◌+◌, Some, option_and_then, sym, ap, refl}
+use Rattle.sz_io.specs.HeldFiles.{held_in, plan_at, place_in}
+use Rattle.sz_io.proofs.PlacedLemmas.{placed_pushed, left_in-pushed, faults_in-pushed, held_in-put_same, held_in-put_other, plan-put_same, plan-put_other, plan-pushed}
 use Rattle.sz_io.proofs.mem_files.MemFiles.put.Goals as goal
 
 pub invariant_of-self-clause-placed : goal.invariant_of-self-clause-placed
@@ -15,6 +14,8 @@ returns-clause-ok c =
     let named = c.in_ok-from_str.ensures.ok in
     record {
       held_now = ap (λ l. held_in l c.args.name.now) c.in_ok-push.ensures.items ∙ held_in-put_same files _ _ named ∙ ap Some c.in_ok-from_slice.ensures.items;
+      plan_now = ap (λ l. option_and_then (plan_at l) (place_in l c.args.name.now)) c.in_ok-push.ensures.items ∙ plan-put_same files _ _ named ∙ ap (λ ks. Some (record { calls = 0; fails = ks })) c.in_ok-from_slice-2.ensures.items;
+      other_plans_same = λ other apart. ap (λ l. option_and_then (plan_at l) (place_in l other)) c.in_ok-push.ensures.items ∙ plan-put_other files _ other (λ same. apart (sym same ∙ named));
       others_same = λ other apart. ap (λ l. held_in l other) c.in_ok-push.ensures.items ∙ held_in-put_other files _ other (λ same. apart (sym same ∙ named));
     }
 
@@ -23,6 +24,7 @@ returns-clause-kept c =
     let files = c.args.self.now in
     record {
       left_same = λ number. left_in-pushed files.files.items _ files.opened.items _ files.placed _ number c.push.ensures.items;
+      plans_same = λ number. plan-pushed files.files.items _ files.opened.items _ files.placed _ number c.push.ensures.items;
       given_same = λ number. refl;
       names_same = refl;
       faults_same = ap (λ n. files.misses + n) (faults_in-pushed files.files.items _ files.opened.items _ files.placed _ refl c.push.ensures.items);

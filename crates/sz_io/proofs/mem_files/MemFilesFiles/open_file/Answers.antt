@@ -1,10 +1,9 @@
 -- An opened file stands at the start of the newest file of its name, and the others stay where they are.
-use Rattle.std.proofs.Common.{◌≡◌, ◌≢◌, ◌∙◌, ◌+◌, ◌<◌, List, [], ◌∷◌, ◌++◌, ℕ, Bool, true, false, is_ok, IsTrue, nat_lt, Some, sym, ap, subst, refl, arith, string_bytes, length, length-append, tests, not}
+use Rattle.std.proofs.Common.{◌≡◌, ◌∙◌, ◌<◌, true, false, is_ok, Some, sym, ap, subst, arith, length, length-append, not}
 use Rattle.std.proofs.lemmas.Bool.{ltb-true, lt-ltb}
 use Rattle.std.specs.Vec.{with_items}
-use Rattle.sz_io.specs.HeldFiles.{held_in, left_in, place_in, CallsOneFile}
-use Rattle.sz_io.specs.declared.held_file.Place.{Place}
-use Rattle.sz_io.proofs.PlacedLemmas.{called_in, placed_kept, placed_start, placed_opened, pushed_if, left_in-opened, left_in-before, held_in-called}
+use Rattle.sz_io.specs.HeldFiles.{left_in, place_in, is_next_listed}
+use Rattle.sz_io.proofs.PlacedLemmas.{called_in, placed_kept, placed_start, placed_opened, pushed_if, left_in-opened, left_in-before, held_in-called, opened_plan, counted_plan}
 use Rattle.sz_io.proofs.mem_files.MemFilesFiles.open_file.Goals as goal
 
 pub invariant_of-self-then-fails_next-clause-placed : goal.invariant_of-self-then-fails_next-clause-placed
@@ -46,11 +45,24 @@ returns-clause-kept c =
     record {
       held_same = λ name. held_in-called files.files.items after _ name called;
       left_same = λ number was.
-        ap (λ l. left_in after l number) pushed
-        ∙ left_in-before files.files.items after _ called files.opened.items _ number (ltb-true number (length files.opened.items) was);
+          ap (λ l. left_in after l number) pushed
+          ∙ left_in-before files.files.items after _ called files.opened.items _ number (ltb-true number (length files.opened.items) was);
       given_still = λ number was.
-        let before = ltb-true number (length files.opened.items) was in
-        let longer = ap length pushed ∙ length-append files.opened.items _ in
-        lt-ltb number _ (omega (arith, before, longer));
+          let before = ltb-true number (length files.opened.items) was in
+          let longer = ap length pushed ∙ length-append files.opened.items _ in
+          lt-ltb number _ (omega (arith, before, longer));
       faults_later = let later = called.faults_later in omega (arith, later);
     }
+
+pub returns-clause-plan : goal.returns-clause-plan
+returns-clause-plan c =
+    let files = c.args.self.now.files in
+    let called = called_in files _ _ _ c.deref_mut-2.ensures.value c.count_call-2.ensures in
+    let found = subst (λ l. Some c.in-Some.file ≡ place_in l c.args.name.now) c.deref.ensures.value c.in-Some.ensures.value in
+    let inside = subst (λ l. c.in-Some.file < length l) c.deref.ensures.value c.in-Some.ensures.within in
+    let passes : is_next_listed files.items c.in-Some.file ≡ false =
+    ap (λ l. is_next_listed l c.in-Some.file) (sym c.deref-2.ensures.value) ∙ sym c.fails_next.ensures ∙ c.if-fails_next.false in
+    let after = (with_items files c.count_call-2.new.files).items in (
+      opened_plan files.items after c.in-Some.file c.args.name.now found inside ∙ passes,
+      counted_plan files.items after c.in-Some.file c.args.name.now found called,
+    )

@@ -1,5 +1,5 @@
 -- A read is one step at the place of the opened file.
-use Rattle.std.proofs.Common.{◌≡◌, ◌∙◌, ℕ, ◌<◌, List, length, Some, sym, ap, subst, refl, arith, get_or, tests, nat_lt}
+use Rattle.std.proofs.Common.{◌≡◌, ◌∙◌, ◌<◌, length, Some, sym, ap, subst, refl, arith, nat_lt}
 use Rattle.std.proofs.Math.ListN.{length-set}
 use Rattle.std.proofs.lemmas.Option.{slice_get-get_or}
 use Rattle.std.proofs.lemmas.Bool.{ltb-true}
@@ -15,7 +15,7 @@ read_at-requires c =
     let opened = c.args.self.now.opened.items in
     let inside : c.args.file < length opened = ltb-true c.args.file (length opened) c.requires in
     let there : slice_get opened c.args.file ≡ Some c.index_mut.result.now =
-      slice_get-get_or opened c.args.file c.index_mut.result.now inside ∙ ap Some (sym c.index_mut.ensures.value) in
+    slice_get-get_or opened c.args.file c.index_mut.result.now inside ∙ ap Some (sym c.index_mut.ensures.value) in
     subst (λ files. IsPlaced files c.index_mut.result.now) (sym c.deref_mut.ensures.value) (c.args.self.now.placed c.args.file c.index_mut.result.now there)
 
 pub invariant_of-self-clause-placed : goal.invariant_of-self-clause-placed
@@ -31,7 +31,7 @@ returns-clause-kept c =
     let files = c.args.self.now.files in
     let opened = c.args.self.now.opened.items in
     let called : CallsOneFile files.items (with_items files c.read_at.new.files).items c.index_mut.result.now.file =
-      called_in files _ _ _ c.deref_mut.ensures.value c.read_at.ensures.call in
+    called_in files _ _ _ c.deref_mut.ensures.value c.read_at.ensures.call in
     let after = (with_items files c.read_at.new.files).items in
     record {
       held_same = λ name. held_in-called files.items after _ name called;

@@ -1,0 +1,18 @@
+-- The files of the system, as their callers see them.
+use Rattle.std.specs.Prelude.{ℕ, List, map, string_bytes}
+use Rattle.std.specs.declared.io.traits.Read as Reading
+use Rattle.std.specs.declared.io.traits.Write as Writing
+use Rattle.std.specs.declared.io.traits.Seek as Seeking
+use Rattle.std.specs.declared.io.traits.BufRead as Buffering
+use Rattle.sz_io.specs.declared.os_files.OsFiles.{OsFiles}
+
+-- over a runtime of type R, with its types of files, folders and input, and what these tell of themselves
+module _ {R File Folder Input : Type 0} {reads : Reading.Ghosts File} {writes : Writing.Ghosts File} {seeks : Seeking.Ghosts File}
+    {lists : Reading.Ghosts Folder} {buffers : Buffering.Ghosts Input} {enters : Reading.Ghosts Input} where
+  -- the names opened
+  abbrev pub system_names : OsFiles R File Folder Input reads writes seeks lists buffers enters → List (List ℕ)
+  system_names files = map string_bytes files.names.items
+
+  -- how many calls have failed
+  abbrev pub system_faults : OsFiles R File Folder Input reads writes seeks lists buffers enters → ℕ
+  system_faults files = files.faults

@@ -1,0 +1,54 @@
+//! A sink over a real stream. Nothing is proved of what the stream keeps.
+ghost use Rattle.std.specs.Prelude.{◌≡◌, ℕ, ◌≤◌, length, None, IfOk};
+ghost use Rattle.std.specs.Io.{WritesAtMost};
+
+use crate::{OutsideError, Sink};
+use std::io;
+use std::io::Write;
+
+/// Hands each piece to the stream at once, and holds nothing back. It never runs out of memory.
+#[derive(Drop)]
+pub struct OsSink<W: Write + Drop> {
+    stream: W,
+    faults: u64,
+}
+
+impl<W: Write + Drop> OsSink<W> {
+    ghost use Rattle.sz_io.specs.OsSink.{stream_faults};
+
+    /// A sink over the stream.
+    pub fn new(stream: W) -> OsSink<W>
+        ensures no_fault { stream_faults result ≡ 0 }
+    {
+        OsSink { stream, faults: 0 }
+    }
+}
+
+impl<W: Write + Drop> Sink for OsSink<W> {
+    ghost use Rattle.sz_io.specs.OsSink.{stream_faults};
+
+    ghost taken = { λ _. None };
+
+    ghost faults = { stream_faults };
+
+    ghost refusals = { λ _. 0 };
+
+    fn write(&mut self, piece: &[u8]) -> Result<usize, OutsideError> {
+        match write_through(&mut self.stream, piece) {
+            Ok(count) if count > 0 || piece.is_empty() => Ok(count),
+            _ => {
+                self.faults = self.faults.saturating_add(1);
+                Err(OutsideError::Failed)
+            }
+        }
+    }
+}
+
+/// Writes some of the piece, and lets the stream pass on what it holds.
+fn write_through<W: Write>(stream: &mut W, piece: &[u8]) -> io::Result<usize>
+    ensures within { IfOk result (λ n. n ≤ length piece.now) }
+{
+    let count = stream.write(piece)?;
+    stream.flush()?;
+    Ok(count)
+}
