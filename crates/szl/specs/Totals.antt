@@ -1,5 +1,5 @@
 -- Running sums of tables.
-use Rattle.std.specs.Prelude.{◌≡◌, ℕ, ◌+◌, ◌<◌, ◌≤◌, ℤ, pos, ◌+ℤ◌, neg_ℤ, ◌≤ℤ◌, List, [], ◌∷◌, length, Option, Some, None, unwrap_or, slice_get, slice_set, replicate, nat_lt, if◌then◌else◌}
+use Rattle.std.specs.Prelude.{◌≡◌, ℕ, ◌+◌, ◌<◌, ◌≤◌, ℤ, pos, ◌+ℤ◌, neg_ℤ, ◌≤ℤ◌, List, [], ◌∷◌, length, Option, Some, None, unwrap_or, slice_get, slice_index_or, slice_set, replicate, nat_lt, if◌then◌else◌}
 use Rattle.sz_mean.specs.Outcomes.{EmitDatum}
 use Rattle.sz_mean.specs.Rows.{emitted_to, number_of, row_of}
 
@@ -25,7 +25,7 @@ no_totals tables = record { rows = replicate tables None; emits = 0 }
 
 -- the sum that a table has, 0 where it has none
 abbrev pub total_at : List (Option ℤ) → ℕ → ℤ
-total_at rows table = unwrap_or (unwrap_or (slice_get rows table) None) (pos 0)
+total_at rows table = unwrap_or (slice_index_or rows table None) (pos 0)
 
 -- the rows with a number added to that of a table; a table that isn't there changes nothing
 abbrev pub row_added : List (Option ℤ) → ℕ → ℤ → List (Option ℤ)

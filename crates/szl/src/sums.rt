@@ -1,5 +1,5 @@
 //! Sums of tables, exact in 128 bits.
-ghost use Rattle.std.specs.Prelude.{◌≡◌, ◌<◌, ◌^◌, ◌+◌, ℕ, length, slice_get, IfOk, Some, None, replicate};
+ghost use Rattle.std.specs.Prelude.{◌≡◌, ◌<◌, ◌^◌, ◌+◌, ◌+ℤ◌, ◌*◌, pos, unwrap_or, ℕ, length, slice_get, IfOk, Some, None, replicate};
 ghost use Rattle.sz_machine.specs.Emits.{seen_emit};
 ghost use Rattle.sz_value.specs.Seen.{seen};
 ghost use Rattle.sz_mean.specs.Rows.{number_of};
@@ -31,12 +31,14 @@ impl Model for Sums {
 }
 
 impl Sums {
-    #[tactic(auto, using(crate::proofs::TotalsLemmas::within_none))]
     /// The sums of this many tables before any emit.
     pub fn new(alloc: Global, tables: usize) -> Result<Sums, AllocError>
         ensures value { IfOk result (λ sums. sums ≡ no_totals tables) }
     {
-        let rows = Vec::from_elem(alloc, None, tables)?;
+        let mut rows = Vec::with_capacity(alloc, tables)?;
+        for _ in 0..tables {
+            rows.push(None)?;
+        }
         Ok(Sums { rows, emits: 0 })
     }
 
@@ -48,27 +50,36 @@ impl Sums {
         self.rows[table]
     }
 
-    #[tactic(auto, using(crate::proofs::TotalsLemmas::within_more, crate::proofs::TotalsLemmas::within_added))]
     /// Adds an emit to the sum of its table. An emit to another table is only counted.
     pub fn add(&mut self, emit: &Emit)
         requires { self.old.emits < 2 ^ 63 }
         ensures value { self.new ≡ added self.old (seen_emit emit.now) }
     {
-        add_to(&mut self.rows, emit.table as usize, number_of(&emit.value));
+        add_to(&mut self.rows, emit.table as usize, &emit.value);
         self.emits += 1;
     }
 }
 
-/// Adds a number to the row of a table, if it is there.
-#[tactic(auto, using(crate::proofs::TotalsLemmas::within_at, crate::proofs::TotalsLemmas::fits_wide))]
-fn add_to(rows: &mut [Option<i128>], table: usize, number: i128)
-    requires rows { AreWithin (2 ^ 126) rows.old }
-    requires number { IsWithin (2 ^ 63) number }
-    ensures value { rows.new ≡ row_added rows.old table number }
+/// Adds a value to the row of a table, if it is there.
+fn add_to(rows: &mut Vec<Option<i128>>, table: usize, value: &Value)
+    requires { AreWithin (2 ^ 126) rows.old.items }
+    ensures value { rows.new.items ≡ row_added rows.old.items table (number_of (seen value.now)) }
+    ensures within { (k : ℕ) → AreWithin (2 ^ 63 * k) rows.old.items → AreWithin (2 ^ 63 * (k + 1)) rows.new.items }
 {
     if table < rows.len() {
-        let total = rows[table].unwrap_or(0);
-        rows[table] = Some(total + number);
+        rows[table] = more(rows[table], value);
+    }
+}
+
+/// The row with a value added.
+fn more(row: Option<i128>, value: &Value) -> Option<i128>
+    requires { IsWithin (2 ^ 126) (unwrap_or row (pos 0)) }
+    ensures value { result ≡ Some (unwrap_or row (pos 0) +ℤ number_of (seen value.now)) }
+    ensures within { IsWithin (2 ^ 63) (number_of (seen value.now)) }
+{
+    match row {
+        None => Some(number_of(value)),
+        Some(total) => Some(total + number_of(value)),
     }
 }
 
