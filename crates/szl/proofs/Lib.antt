@@ -1,8 +1,12 @@
 mod CutLemmas
 mod Growth
 mod LexemesLemmas
+mod PrintLemmas
 mod ReadingLemmas
 mod RecordLemmas
+mod RecordsLemmas
+mod RunningLemmas
 mod Simulation
 mod Sound
+mod TakenLemmas
 mod TotalsLemmas

@@ -41,7 +41,7 @@ pub room : (text rest : List ℕ) (d : Draft) → length text < 2 ^ 32 → IsRea
 room text rest d short read = record { tables = omega (arith, read.tables); variables = omega (arith, read.variables) }
 
 -- the first piece and those of what is behind it
-split_some : (p : ℕ → Bool) (text : List ℕ) → (piece : List ℕ) × ((more : List (List ℕ)) × (slice_split p text ≡ piece ∷ more))
+pub split_some : (p : ℕ → Bool) (text : List ℕ) → (piece : List ℕ) × ((more : List (List ℕ)) × (slice_split p text ≡ piece ∷ more))
 split_some p [] = ([], ([], refl))
 split_some p (b ∷ bs) = by_test (p b) refl (split_some p bs)
   where

@@ -7,5 +7,7 @@ pub mod Promise
 -- what the functions inside the crate promise each other
 pub mod View
 pub mod Cuts
+pub mod Failing
 pub mod Totals
+pub mod Running
 pub mod Code

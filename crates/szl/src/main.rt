@@ -3,13 +3,17 @@
 
 mod cutting;
 mod draft;
+mod failure;
 mod generate;
 mod lexemes;
 mod names;
+mod print;
 mod reading;
+mod records;
 mod status;
 mod sums;
 mod tree;
 mod values;
+mod words;
 
 fn main() {}

@@ -1,0 +1,24 @@
+-- The records of an input, one after the other.
+use Rattle.std.proofs.Common.{◌≡◌, ℕ, ◌+◌, ◌<◌, List, [], ◌∷◌, drop, length, refl, sym, ap, ◌∙◌, subst, arith}
+use Rattle.szl.specs.Cuts.{pieces}
+use Rattle.szl.specs.Records.{without_empty_last, records_in}
+use Rattle.szl.proofs.ReadingLemmas.{split_some}
+use Rattle.std.specs.Prelude.{nat_eq}
+
+-- a line that others follow stays
+line_stays : (line : List ℕ) (others : List (List ℕ)) (t : List ℕ) (ts : List (List ℕ)) → others ≡ t ∷ ts
+    → without_empty_last (line ∷ others) ≡ line ∷ without_empty_last others
+line_stays [] others t ts e =
+    let P : List (List ℕ) → Type 0 = λ x. without_empty_last ([] ∷ x) ≡ [] ∷ without_empty_last x in subst P (sym e) refl
+line_stays (b ∷ bs) others t ts e = refl
+
+-- the record before the first newline
+pub records_first : (input line behind : List ℕ) → pieces 10 input ≡ line ∷ pieces 10 behind → records_in input ≡ line ∷ records_in behind
+records_first input line behind is =
+    let more = split_some (λ b. nat_eq b 10) behind in
+    ap without_empty_last is ∙ line_stays line (pieces 10 behind) more.0 more.1.0 more.1.1
+
+-- the record behind the last newline
+pub records_last : (input behind : List ℕ) → 0 < length input → pieces 10 input ≡ input ∷ [] → behind ≡ [] → records_in input ≡ input ∷ records_in behind
+records_last [] behind some is none = absurd (omega arith)
+records_last (b ∷ bs) behind some is none = ap without_empty_last is ∙ ap (λ e. (b ∷ bs) ∷ records_in e) (sym none)
