@@ -10,13 +10,13 @@ use Rattle.sz_machine.specs.Machine.{RunsTo, RunEnds}
 use Rattle.szl.specs.Records.{records_in, is_within_limits, most_records, most_record_bytes, most_input_bytes}
 use Rattle.szl.specs.Running.{MayRun, SumsAll}
 use Rattle.szl.specs.Totals.{Totals, StandFor, added, all_added}
-use Rattle.szl.proofs.TotalsLemmas.{stand_all}
+use Rattle.szl.proofs.TotalsLemmas.{stand_all, length-all_added}
 
 abbrev is_short : List ℕ → Bool
 is_short line = nat_le (length line) most_record_bytes
 
 -- the sums are those of the records in front of the rest, so many, none of them too long
-pub record IsRunUpTo (code : Code) (input rest : List ℕ) (count : ℕ) (totals : Totals) : Type 0 where
+pub record IsRunUpTo (code : Code) (input rest : List ℕ) (tables count : ℕ) (totals : Totals) : Type 0 where
   pub done : List (List ℕ)
   pub cut : records_in input ≡ done ++ records_in rest
   pub counted : length done ≡ count
@@ -24,8 +24,9 @@ pub record IsRunUpTo (code : Code) (input rest : List ℕ) (count : ℕ) (totals
   pub short : list_all is_short done ≡ true
   pub sums : (emits_of : List ℕ → List EmitDatum) → ((text : List ℕ) → RunsTo code text (emits_of text)) → StandFor totals (flat_map emits_of done)
   pub emits : totals.emits ≤ 2 ^ 30 * count
+  pub rows : length totals.rows ≡ tables
 
-pub run_none : (code : Code) (input : List ℕ) (totals : Totals) → StandFor totals [] → IsRunUpTo code input input 0 totals
+pub run_none : (code : Code) (input : List ℕ) (totals : Totals) → StandFor totals [] → IsRunUpTo code input input (length totals.rows) 0 totals
 run_none code input totals none = record {
     done = [];
     cut = refl;
@@ -34,11 +35,12 @@ run_none code input totals none = record {
     short = refl;
     sums = λ emits_of runs. none;
     emits = omega (arith, none.count);
+    rows = refl;
   }
 
 -- the sums count fewer emits than 62 bits number
-pub few_emits : (code : Code) (input rest : List ℕ) (count : ℕ) (totals : Totals) → IsRunUpTo code input rest count totals → totals.emits < 2 ^ 62
-few_emits code input rest count totals h = omega (arith, h.few, h.emits)
+pub few_emits : (code : Code) (input rest : List ℕ) (tables count : ℕ) (totals : Totals) → IsRunUpTo code input rest tables count totals → totals.emits < 2 ^ 62
+few_emits code input rest tables count totals h = omega (arith, h.few, h.emits)
 
 -- a test of each element, with one element more
 then_true : (b rest more : Bool) → (b && rest) ≡ true → (rest ≡ true → more ≡ true) → (b && more) ≡ true
@@ -89,12 +91,11 @@ emits_added totals [] = omega arith
 emits_added totals (e ∷ es) = let rest = emits_added (added totals e) es in omega (arith, rest)
 
 -- one record more was run
-pub run_more : (code : Code) (input rest line behind : List ℕ) (count : ℕ) (totals next : Totals) → MayRun code → IsRunUpTo code input rest count totals
+pub run_more : (code : Code) (input rest line behind : List ℕ) (tables count : ℕ) (totals next : Totals) → MayRun code → IsRunUpTo code input rest tables count totals
     → records_in rest ≡ line ∷ records_in behind → count ≢ most_records → length line ≤ most_record_bytes
-    → ((emits : List EmitDatum) → RunsTo code line emits → next ≡ all_added totals emits) → IsRunUpTo code input behind (count + 1) next
-run_more code input rest line behind count totals next may h cut below short added =
+    → ((emits : List EmitDatum) → RunsTo code line emits → next ≡ all_added totals emits) → IsRunUpTo code input behind tables (count + 1) next
+run_more code input rest line behind tables count totals next may h cut below short added =
     let ended = may.ends line in
-    let few = may.few line ended.emits ended.runs in
     let counted = ap (λ (t : Totals). t.emits) (added ended.emits ended.runs) ∙ emits_added totals ended.emits in
     record {
       done = h.done ++ line ∷ [];
@@ -107,34 +108,43 @@ run_more code input rest line behind count totals next may h cut below short add
         (subst (StandFor (all_added totals (emits_of line)))
           (sym (flat_map-append emits_of h.done (line ∷ []) ∙ ap (λ es. flat_map emits_of h.done ++ es) (append-nil (emits_of line))))
           (stand_all totals (flat_map emits_of h.done) (emits_of line) (h.sums emits_of runs)));
-      emits = omega (arith, counted, few, h.emits);
+      emits = omega (arith, counted, ended.few, h.emits);
+      rows = ap (λ (t : Totals). length t.rows) (added ended.emits ended.runs) ∙ length-all_added totals ended.emits ∙ h.rows;
     }
 
 -- at the end of the input its records are those that were run
-all_done : (code : Code) (input rest : List ℕ) (count : ℕ) (totals : Totals) → (h : IsRunUpTo code input rest count totals) → rest ≡ [] → records_in input ≡ h.done
-all_done code input rest count totals h none = h.cut ∙ ap (λ r. h.done ++ records_in r) none ∙ append-nil h.done
+all_done : (code : Code) (input rest : List ℕ) (tables count : ℕ) (totals : Totals) → (h : IsRunUpTo code input rest tables count totals) → rest ≡ [] → records_in input ≡ h.done
+all_done code input rest tables count totals h none = h.cut ∙ ap (λ r. h.done ++ records_in r) none ∙ append-nil h.done
 
 -- the end of the input
-pub run_all : (code : Code) (input rest : List ℕ) (count : ℕ) (totals : Totals) → IsRunUpTo code input rest count totals → rest ≡ [] → SumsAll code input totals
-run_all code input rest count totals h none = record {
-    sums = λ emits_of runs. subst (λ rs. StandFor totals (flat_map emits_of rs)) (sym (all_done code input rest count totals h none)) (h.sums emits_of runs);
+pub run_all : (code : Code) (input rest : List ℕ) (tables count : ℕ) (totals : Totals) → IsRunUpTo code input rest tables count totals → rest ≡ [] → SumsAll code input totals
+run_all code input rest tables count totals h none = record {
+    sums = λ emits_of runs. subst (λ rs. StandFor totals (flat_map emits_of rs)) (sym (all_done code input rest tables count totals h none)) (h.sums emits_of runs);
   }
 
-pub within : (code : Code) (input rest : List ℕ) (count : ℕ) (totals : Totals) → IsRunUpTo code input rest count totals → rest ≡ [] → length input ≤ most_input_bytes → is_within_limits input ≡ true
-within code input rest count totals h none size =
-    ap (limits_of input) (all_done code input rest count totals h none)
+pub within : (code : Code) (input rest : List ℕ) (tables count : ℕ) (totals : Totals) → IsRunUpTo code input rest tables count totals → rest ≡ [] → length input ≤ most_input_bytes → is_within_limits input ≡ true
+within code input rest tables count totals h none size =
+    ap (limits_of input) (all_done code input rest tables count totals h none)
     ∙ tests_pass _ _ _ (at_most (length input) most_input_bytes size) (at_most (length h.done) most_records (omega (arith, h.counted, h.few))) h.short
 
 -- a record too many, or too long a record
-pub too_many : (code : Code) (input rest line behind : List ℕ) (count : ℕ) (totals : Totals) → IsRunUpTo code input rest count totals
+pub too_many : (code : Code) (input rest line behind : List ℕ) (tables count : ℕ) (totals : Totals) → IsRunUpTo code input rest tables count totals
     → records_in rest ≡ line ∷ records_in behind → count ≡ most_records → is_within_limits input ≡ false
-too_many code input rest line behind count totals h cut full =
+too_many code input rest line behind tables count totals h cut full =
     let many : most_records < length (h.done ++ line ∷ records_in behind) =
       omega (arith, full, h.counted, length-append h.done (line ∷ records_in behind)) in
     ap (limits_of input) (h.cut ∙ ap (λ r. h.done ++ r) cut) ∙ second_fails _ _ _ (more_than _ most_records many)
 
-pub too_long : (code : Code) (input rest line behind : List ℕ) (count : ℕ) (totals : Totals) → IsRunUpTo code input rest count totals
+pub too_long : (code : Code) (input rest line behind : List ℕ) (tables count : ℕ) (totals : Totals) → IsRunUpTo code input rest tables count totals
     → records_in rest ≡ line ∷ records_in behind → most_record_bytes < length line → is_within_limits input ≡ false
-too_long code input rest line behind count totals h cut long =
+too_long code input rest line behind tables count totals h cut long =
     ap (limits_of input) (h.cut ∙ ap (λ r. h.done ++ r) cut)
     ∙ third_fails (nat_le (length input) most_input_bytes) (nat_le (length (h.done ++ line ∷ records_in behind)) most_records) _ (all_false h.done line (records_in behind) (more_than (length line) most_record_bytes long))
+
+-- the run of a record ends
+pub may_end : (code : Code) (text : List ℕ) → MayRun code → RunEnds code text
+may_end code text may = record { emits = (may.ends text).emits; runs = (may.ends text).runs }
+
+-- the emits that a run made are few
+pub few_made : (code : Code) (text : List ℕ) (made : List EmitDatum) → MayRun code → ((emits : List EmitDatum) → RunsTo code text emits → made ≡ emits) → length made ≤ 2 ^ 30
+few_made code text made may is = let e = may.ends text in let same = ap length (is e.emits e.runs) in omega (arith, same, e.few)

@@ -1,17 +1,26 @@
 -- What running code on the records of an input does.
-use Rattle.std.specs.Prelude.{◌≡◌, ℕ, ◌≤◌, ◌^◌, List, length, flat_map, ⊤}
+use Rattle.std.specs.Prelude.{◌≡◌, ℕ, ◌≤◌, ◌^◌, List, length, flat_map, ⊤, Some, codes, Result, Ok, Err}
 use Rattle.sz_mean.specs.Outcomes.{EmitDatum}
 use Rattle.sz_machine.specs.declared.code.Code.{Code}
-use Rattle.sz_machine.specs.Machine.{RunsTo, RunEnds}
+use Rattle.sz_machine.specs.Machine.{RunsTo}
 use Rattle.szl.specs.declared.failure.Failure.{Failure}
 use Rattle.szl.specs.declared.failure.Failure.TheVariants.{Limit, NoMemory}
+use Rattle.sz_mean.specs.Tree.{Prog}
+use Rattle.sz_mean.specs.Programs.{program_in}
+use Rattle.szl.specs.declared.status.Status.TheVariants as status
+use Rattle.szl.specs.Outcome.{outcome_of_program, success, refusal, most_program_bytes}
 use Rattle.szl.specs.Records.{records_in}
 use Rattle.szl.specs.Totals.{Totals, StandFor}
 
--- the code's run on each record ends, with few emits
+-- the code's run on a record ends with few emits
+pub record EndsWithFew (code : Code) (text : List ℕ) : Type 0 where
+  pub emits : List EmitDatum
+  pub runs : RunsTo code text emits
+  pub few : length emits ≤ 2 ^ 30
+
+-- the code may run on any record
 pub record MayRun (code : Code) : Type 0 where
-  pub ends : (text : List ℕ) → RunEnds code text
-  pub few : (text : List ℕ) (emits : List EmitDatum) → RunsTo code text emits → length emits ≤ 2 ^ 30
+  pub ends : (text : List ℕ) → EndsWithFew code text
 
 -- the sums are those of all emits of all records, where each record has these emits
 pub record SumsAll (code : Code) (input : List ℕ) (totals : Totals) : Type 0 where
@@ -22,3 +31,16 @@ abbrev pub IsLimitOrMemory : Failure → Type 0
 IsLimitOrMemory Limit = ⊤
 IsLimitOrMemory NoMemory = ⊤
 IsLimitOrMemory failure = ⊥
+
+-- the program was read from a text within the limit
+pub record IsRead (program : Prog) : Type 0 where
+  pub text : List ℕ
+  pub short : length text ≤ most_program_bytes
+  pub reads : program_in text ≡ Some program
+
+-- what running a program over an input gives: the text of its tables, the limit that the input passes, or want of memory
+abbrev pub GivesTables : Prog → List ℕ → Result (List ℕ) Failure → Type 0
+GivesTables program input (Ok text) = outcome_of_program program input ≡ success text
+GivesTables program input (Err Limit) = outcome_of_program program input ≡ refusal status.Limit (codes "input limit at byte 0")
+GivesTables program input (Err NoMemory) = ⊤
+GivesTables program input (Err failure) = ⊥

@@ -26,6 +26,8 @@ pub fn sum_records(alloc: Global, code: &Code, input: &[u8], sums: &mut Sums) ->
     requires size { length input.now ≤ 2 ^ 40 }
     requires none { StandFor sums.old [] }
     ensures ok { OnOk result (SumsAll code.now input.now sums.new) }
+    ensures tables { OnOk result (length sums.new.rows ≡ length sums.old.rows) }
+    ensures within { OnOk result (is_within_limits input.now ≡ true) }
     ensures limit { IsErrOf result Failure.Limit → is_within_limits input.now ≡ false }
     ensures causes { IfErr result IsLimitOrMemory }
 {
@@ -56,6 +58,7 @@ fn first_record(input: &[u8]) -> (&[u8], &[u8])
     }
 }
 
+#[tactic(auto, using(crate::proofs::RunningLemmas::may_end, crate::proofs::RunningLemmas::few_made))]
 /// Runs the code on a record and adds what it emits to the sums.
 fn sum_record(alloc: Global, code: &Code, line: &[u8], sums: &mut Sums) -> Result<(), AllocError>
     requires runs { MayRun code.now }
