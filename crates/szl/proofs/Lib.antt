@@ -2,6 +2,7 @@ mod CutLemmas
 mod Growth
 mod LexemesLemmas
 mod PrintLemmas
+mod ProgramLemmas
 mod ReadingLemmas
 mod RecordLemmas
 mod RecordsLemmas

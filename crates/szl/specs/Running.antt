@@ -1,5 +1,5 @@
 -- What running code on the records of an input does.
-use Rattle.std.specs.Prelude.{◌≡◌, ℕ, ◌≤◌, ◌^◌, List, length, flat_map, ⊤, Some, codes, Result, Ok, Err}
+use Rattle.std.specs.Prelude.{◌≡◌, ℕ, ◌≤◌, ◌^◌, List, length, flat_map, ⊤, Some, codes, Result, Ok, Err, Vec}
 use Rattle.sz_mean.specs.Outcomes.{EmitDatum}
 use Rattle.sz_machine.specs.declared.code.Code.{Code}
 use Rattle.sz_machine.specs.Machine.{RunsTo}
@@ -37,6 +37,11 @@ pub record IsRead (program : Prog) : Type 0 where
   pub text : List ℕ
   pub short : length text ≤ most_program_bytes
   pub reads : program_in text ≡ Some program
+
+-- the bytes of a vector that a result holds, or its failure
+abbrev pub vec_items_of : {A : Type 0} → Result (Vec ℕ A) Failure → Result (List ℕ) Failure
+vec_items_of (Ok bytes) = Ok bytes.items
+vec_items_of (Err failure) = Err failure
 
 -- what running a program over an input gives: the text of its tables, the limit that the input passes, or want of memory
 abbrev pub GivesTables : Prog → List ℕ → Result (List ℕ) Failure → Type 0

@@ -10,6 +10,7 @@ mod names;
 mod print;
 mod reading;
 mod records;
+mod running;
 mod status;
 mod sums;
 mod tree;
