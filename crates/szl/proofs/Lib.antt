@@ -1,6 +1,7 @@
 mod CutLemmas
 mod Growth
 mod LexemesLemmas
+mod OpeningLemmas
 mod PrintLemmas
 mod ProgramLemmas
 mod ReadingLemmas

@@ -8,6 +8,7 @@ pub mod Promise
 pub mod View
 pub mod Cuts
 pub mod Failing
+pub mod Opening
 pub mod Totals
 pub mod Running
 pub mod Code

@@ -52,11 +52,11 @@ abbrev pub names_asked : Option Settings → List (List ℕ)
 names_asked None = []
 names_asked (Some settings) = settings.program ∷ settings.input ∷ []
 
--- the call opened the first of the names that the words ask for, in order, and at most this many
-pub record OpensFirst (words old new : List (List ℕ)) (most : ℕ) : Type 0 where
+-- the first of the names asked for were opened, in order, and at most this many
+pub record OpensFirst (asked old new : List (List ℕ)) (most : ℕ) : Type 0 where
   pub count : ℕ
   pub within : count ≤ most
-  pub opened : new ≡ old ++ take count (names_asked (settings_in words))
+  pub opened : new ≡ old ++ take count asked
 
 -- the bytes under each name that the words ask for are these, where they are told
 abbrev pub AreHeld : Option Settings → (List ℕ → Option (List ℕ)) → List ℕ → List ℕ → Type 0
@@ -73,7 +73,7 @@ pub record MeansSource {F O E : Type 0} (the_files : files.Ghosts F) (the_out : 
   pub answers : IsStatusOf (outcome words text input) status
   pub output : GainsOutput status (the_out.taken out) (the_out.taken new_out) (outcome words text input).output
   pub line : GainsLine the_err err new_err (line_of (outcome words text input) status)
-  pub opened : OpensFirst words (the_files.names files) (the_files.names new_files) (most_opened (outcome words text input).status)
+  pub opened : OpensFirst (names_asked (settings_in words)) (the_files.names files) (the_files.names new_files) (most_opened (outcome words text input).status)
 
 -- each file opened since is at its end, and what is left of it is told where the bytes under both names are
 pub record AreReadToEnd {F : Type 0} (the_files : files.Ghosts F) (old new : F) (settings : Settings) : Type 0 where

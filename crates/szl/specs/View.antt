@@ -10,6 +10,8 @@ use Rattle.szl.specs.declared.tree.Stmt.TheVariants.{Declare, Emit}
 use Rattle.szl.specs.declared.tree.Draft.{Draft}
 use Rattle.szl.specs.declared.tree.Program.{Program}
 use Rattle.sz_mean.specs.Programs as programs
+use Rattle.szl.specs.declared.words.Settings.{Settings}
+use Rattle.szl.specs.Settings as settings
 use Rattle.std.specs.Borrow.{Bor}
 
 -- the plain data of an operand
@@ -48,3 +50,7 @@ drafted found d = if found then Some (seen_draft d) else None
 -- the plain data of a program
 abbrev pub seen_program : Program → Prog
 seen_program p = record { tables = texts p.tables.items; locals = p.locals; body = map seen_stmt p.body.items }
+
+-- the plain data of settings
+abbrev pub seen_settings : Settings → settings.Settings
+seen_settings s = record { program = s.program.now; input = s.input.now }

@@ -1,6 +1,7 @@
 //! The words of the command line.
 ghost use Rattle.std.specs.Prelude.{◌≡◌, ◌||◌, IfOk, map, string_bytes, codes, bytes_eq, ◌∷◌, [], MatchOption, None, Some};
 ghost use Rattle.szl.specs.Settings.{is_standard_input, is_file_name, settings_in};
+ghost use Rattle.szl.specs.View.{seen_settings};
 
 /// What the words ask for: the names of the program and of the input.
 #[derive(Clone, Copy, Debug)]
@@ -13,7 +14,7 @@ pub struct Settings<'w> {
 /// one of the two may be `-`.
 pub fn read_words(words: &[String]) -> Option<Settings<'_>>
     ensures value { MatchOption result (settings_in (map string_bytes words.now) ≡ None)
-        (λ s. settings_in (map string_bytes words.now) ≡ Some (record { program = s.program.now; input = s.input.now })) }
+        (λ s. settings_in (map string_bytes words.now) ≡ Some (seen_settings s)) }
 {
     match words {
         [command, program, input] => settings_of(command, program, input),
@@ -24,7 +25,7 @@ pub fn read_words(words: &[String]) -> Option<Settings<'_>>
 /// The settings of three words.
 fn settings_of<'w>(command: &str, program: &'w str, input: &'w str) -> Option<Settings<'w>>
     ensures value { MatchOption result (settings_in (command.now ∷ program.now ∷ input.now ∷ []) ≡ None)
-        (λ s. settings_in (command.now ∷ program.now ∷ input.now ∷ []) ≡ Some (record { program = s.program.now; input = s.input.now })) }
+        (λ s. settings_in (command.now ∷ program.now ∷ input.now ∷ []) ≡ Some (seen_settings s)) }
 {
     if command == "run"
         && is_file_name(program)

@@ -1,0 +1,57 @@
+-- What opening and reading the files of a command line gives.
+use Rattle.std.specs.Prelude.{◌≡◌, ◌≢◌, ℕ, ◌≤◌, ◌<◌, ◌-◌, ◌⊎◌, ⊤, IsTrue, List, [], ◌∷◌, ◌++◌, length, Option, Some, None, IfSome, Result, Ok, Err}
+use Rattle.sz_io.specs.Rose.{Rose}
+use Rattle.sz_io.specs.declared.files.Files as files
+use Rattle.szl.specs.declared.status.Status.{Status}
+use Rattle.szl.specs.declared.status.Status.TheVariants as status
+use Rattle.szl.specs.declared.failure.Failure.{Failure}
+use Rattle.szl.specs.declared.failure.Failure.TheVariants.{ReadFailed, WriteFailed, NoMemory}
+use Rattle.szl.specs.Failing.{status_of, line_of_failure}
+use Rattle.szl.specs.Outcome.{Answer, outcome_of_settings, success}
+use Rattle.szl.specs.Promise.{AreHeld, OpensFirst, names_asked, most_opened}
+use Rattle.szl.specs.Settings.{Settings}
+
+-- what reading a whole file says of its text: the text, that it is past the limit, that a read failed, or want of memory
+abbrev pub TellsText : List ℕ → ℕ → Failure → Type 0 → Result (List ℕ) Failure → Type 0
+TellsText text limit past rose (Ok bytes) = (bytes ≡ text) × (length text ≤ limit)
+TellsText text limit past rose (Err ReadFailed) = rose
+TellsText text limit past rose (Err NoMemory) = ⊤
+TellsText text limit past rose (Err failure) = (failure ≡ past) × (limit < length text)
+
+-- a file was read: it holds this text where it is told, and the answer is of this text
+pub record ReadsText (held : Option (List ℕ)) (limit : ℕ) (past : Failure) (rose : Type 0) (answer : Result (List ℕ) Failure) : Type 0 where
+  pub text : List ℕ
+  pub holds : IfSome held (λ bytes. bytes ≡ text)
+  pub tells : TellsText text limit past rose answer
+
+-- the names opened gain this one, or none where memory ran out
+abbrev pub GainsName : {T : Type 0} → List (List ℕ) → List (List ℕ) → List ℕ → Result T Failure → Type 0
+GainsName old new name (Err NoMemory) = (new ≡ old) ⊎ (new ≡ old ++ name ∷ [])
+GainsName old new name answer = new ≡ old ++ name ∷ []
+
+-- the cause of a failure, by the outcome: all but the free ones are the outcome itself
+abbrev pub IsCause : Failure → Answer → Type 0 → Type 0
+IsCause ReadFailed answer rose = rose × (answer.status ≢ status.Usage)
+IsCause WriteFailed answer rose = ⊥
+IsCause NoMemory answer rose = ⊤
+IsCause failure answer rose = answer ≡ record { status = status_of failure; output = []; line = line_of_failure failure }
+
+-- what is answered before anything is written: the outcome's output, or a failure with its cause
+abbrev pub Decides : Result (List ℕ) Failure → Answer → Type 0 → Type 0
+Decides (Ok output) answer rose = answer ≡ success output
+Decides (Err failure) answer rose = IsCause failure answer rose
+
+-- the answer is that of the outcome, for what the files hold under the names that settings ask for
+pub record Answers {F : Type 0} (the_files : files.Ghosts F) (asked : Option Settings) (old new : F) (answer : Result (List ℕ) Failure) : Type 0 where
+  pub text : List ℕ
+  pub input : List ℕ
+  pub held : AreHeld asked (the_files.held old) text input
+  pub decides : Decides answer (outcome_of_settings asked text input) (Rose (the_files.faults old) (the_files.faults new))
+  pub opened : OpensFirst (names_asked asked) (the_files.names old) (the_files.names new) (most_opened (outcome_of_settings asked text input).status)
+
+-- the answer is that of an outcome on what the file under the name holds; no file is opened for a refused program
+pub record AnswersOn {F : Type 0} (the_files : files.Ghosts F) (outcome_on : List ℕ → Answer) (name : List ℕ) (old new : F) (answer : Result (List ℕ) Failure) : Type 0 where
+  pub input : List ℕ
+  pub holds : IfSome (the_files.held old name) (λ bytes. bytes ≡ input)
+  pub decides : Decides answer (outcome_on input) (Rose (the_files.faults old) (the_files.faults new))
+  pub opened : OpensFirst (name ∷ []) (the_files.names old) (the_files.names new) (most_opened (outcome_on input).status - 1)

@@ -1,0 +1,77 @@
+//! What a command line is answered, before anything is written.
+ghost use Rattle.std.specs.Prelude.{◌≡◌, ◌<◌, ◌≤◌, ◌++◌, ◌∷◌, [], length, map, string_bytes, Some, OnOk, IfSome};
+ghost use Rattle.sz_io.specs.Opened.{KeepsFiles};
+ghost use Rattle.sz_io.specs.Calls.{ReadToEnd};
+ghost use Rattle.szl.specs.Opening.{Answers, AnswersOn};
+ghost use Rattle.szl.specs.Outcome.{outcome_of_text, outcome_of_program, most_program_bytes};
+ghost use Rattle.szl.specs.Promise.{AreReadToEnd};
+ghost use Rattle.szl.specs.Running.{IsRead, vec_items_of};
+ghost use Rattle.szl.specs.Settings.{settings_in};
+ghost use Rattle.szl.specs.View.{seen_program, seen_settings};
+
+use crate::failure::Failure;
+use crate::opening::read_text;
+use crate::reading::read_program;
+use crate::running::tables_of;
+use crate::tree::Program;
+use crate::words::{Settings, read_words};
+use std::alloc::Global;
+use sz_io::Files;
+
+/// The most bytes of a program's text.
+const MOST_PROGRAM_BYTES: usize = 1_048_576;
+
+/// The most bytes of an input.
+const MOST_INPUT_BYTES: usize = 1 << 40;
+
+/// The text that the words ask for, or why there is none.
+pub fn answer<F: Files>(alloc: Global, words: &[String], files: &mut F) -> Result<Vec<u8>, Failure>
+    requires { length (F.names files.old) < 127 }
+    ensures value { Answers F.Files (settings_in (map string_bytes words.now)) files.old files.new (vec_items_of result) }
+    ensures end { OnOk result (IfSome (settings_in (map string_bytes words.now)) (AreReadToEnd F.Files files.old files.new)) }
+    ensures kept { KeepsFiles F.held F.left F.given F.faults files.old files.new }
+{
+    match read_words(words) {
+        Some(settings) => answer_settings(alloc, settings, files),
+        None => Err(Failure::Usage),
+    }
+}
+
+/// The text that the settings ask for.
+fn answer_settings<F: Files>(alloc: Global, settings: Settings<'_>, files: &mut F) -> Result<Vec<u8>, Failure>
+    requires { length (F.names files.old) < 127 }
+    ensures value { Answers F.Files (Some (seen_settings settings)) files.old files.new (vec_items_of result) }
+    ensures end { OnOk result (AreReadToEnd F.Files files.old files.new (seen_settings settings)) }
+    ensures kept { KeepsFiles F.held F.left F.given F.faults files.old files.new }
+{
+    let text = read_text(alloc, files, settings.program, MOST_PROGRAM_BYTES, Failure::TooLong)?;
+    answer_text(alloc, &text, settings.input, files)
+}
+
+/// The text of the tables of the program that is spelled by a text.
+fn answer_text<F: Files>(alloc: Global, text: &[u8], input: &str, files: &mut F) -> Result<Vec<u8>, Failure>
+    requires few { length (F.names files.old) < 128 }
+    requires short { length text.now ≤ most_program_bytes }
+    ensures value { AnswersOn F.Files (outcome_of_text text.now) input.now files.old files.new (vec_items_of result) }
+    ensures end { OnOk result (ReadToEnd F.Files files.old files.new input.now) }
+    ensures names { OnOk result (F.names files.new ≡ F.names files.old ++ input.now ∷ []) }
+    ensures kept { KeepsFiles F.held F.left F.given F.faults files.old files.new }
+{
+    match read_program(alloc, text)? {
+        Some(program) => answer_program(alloc, &program, input, files),
+        None => Err(Failure::NotBuilt),
+    }
+}
+
+/// The text of the program's tables for the input under a name.
+fn answer_program<F: Files>(alloc: Global, program: &Program, input: &str, files: &mut F) -> Result<Vec<u8>, Failure>
+    requires few { length (F.names files.old) < 128 }
+    requires read { IsRead (seen_program program.now) }
+    ensures value { AnswersOn F.Files (outcome_of_program (seen_program program.now)) input.now files.old files.new (vec_items_of result) }
+    ensures end { OnOk result (ReadToEnd F.Files files.old files.new input.now) }
+    ensures names { OnOk result (F.names files.new ≡ F.names files.old ++ input.now ∷ []) }
+    ensures kept { KeepsFiles F.held F.left F.given F.faults files.old files.new }
+{
+    let input = read_text(alloc, files, input, MOST_INPUT_BYTES, Failure::Limit)?;
+    tables_of(alloc, program, &input)
+}

@@ -1,0 +1,35 @@
+//! The files of a command line.
+ghost use Rattle.std.specs.Prelude.{◌≡◌, ◌<◌, ℕ, length, OnOk, ◌⊎◌, Ok};
+ghost use Rattle.sz_io.specs.Rose.{Rose};
+ghost use Rattle.sz_io.specs.Opened.{KeepsFiles};
+ghost use Rattle.sz_io.specs.Calls.{ReadToEnd};
+ghost use Rattle.szl.specs.declared.failure.Failure.TheVariants.{TooLong, Limit};
+ghost use Rattle.szl.specs.Opening.{ReadsText, GainsName};
+ghost use Rattle.szl.specs.Running.{vec_items_of};
+
+use crate::failure::Failure;
+use std::alloc::Global;
+use sz_io::{Files, ReadError, read_whole};
+
+/// Reads a whole file of at most `limit` bytes; `past` is the failure where it has more.
+pub fn read_text<F: Files>(
+    alloc: Global,
+    files: &mut F,
+    name: &str,
+    limit: usize,
+    past: Failure,
+) -> Result<Vec<u8>, Failure>
+    requires few { length (F.names files.old) < 128 }
+    requires past { (past ≡ TooLong) ⊎ (past ≡ Limit) }
+    ensures text { ReadsText (F.held files.old name.now) limit past (Rose (F.faults files.old) (F.faults files.new)) (vec_items_of result) }
+    ensures names { GainsName (F.names files.old) (F.names files.new) name.now result }
+    ensures end { OnOk result (ReadToEnd F.Files files.old files.new name.now) }
+    ensures kept { KeepsFiles F.held F.left F.given F.faults files.old files.new }
+{
+    match read_whole(alloc, files, name, limit) {
+        Ok(bytes) => Ok(bytes),
+        Err(ReadError::TooLong) => Err(past),
+        Err(ReadError::Failed) => Err(Failure::ReadFailed),
+        Err(ReadError::NoMemory) => Err(Failure::NoMemory),
+    }
+}
