@@ -1,5 +1,6 @@
 -- Files in memory, as their callers see them.
-use Rattle.std.specs.Prelude.{◌≡◌, ◌≢◌, ℕ, ◌+◌, Bool, true, false, IsTrue, Result, Ok, Err, List, [], length, map, nat_lt, Option, Some, None, string_bytes, option_and_then, is_err}
+use Rattle.std.specs.Prelude.{◌≡◌, ◌≢◌, ℕ, ◌+◌, Bool, true, false, IsTrue, nat_lt, List, [], length, map, string_bytes}
+use Rattle.std.specs.Prelude.{Result, Ok, Err, is_err, Option, Some, None, option_and_then}
 use Rattle.std.specs.List.{slice_get}
 use Rattle.std.specs.Option.{option_map, option_map_or}
 use Rattle.sz_io.specs.HeldFiles.{Plan, place_in, held_in, left_in, faults_in, plan_at, after_call, fails_next}

@@ -57,7 +57,8 @@ impl MemFiles {
 }
 
 impl Files for MemFiles {
-    ghost use Rattle.sz_io.specs.MemFiles.{held_bytes, left_bytes, is_given, names_opened, files_faults, plan_of, plan_behind, OpensByPlan, ReadsByPlan};
+    ghost use Rattle.sz_io.specs.MemFiles.{held_bytes, left_bytes, is_given, names_opened, files_faults};
+    ghost use Rattle.sz_io.specs.MemFiles.{plan_of, plan_behind, OpensByPlan, ReadsByPlan};
 
     ghost held = { held_bytes };
 
