@@ -63,6 +63,11 @@ pub record SameOpened (old new : MemFiles) : Type 0 where
   pub names_same : names_opened new ≡ names_opened old
   pub faults_same : files_faults new ≡ files_faults old
 
+-- every name holds what it held, with the same plan
+pub record SameNames (old new : MemFiles) : Type 0 where
+  pub held_same : (name : List ℕ) → held_bytes new name ≡ held_bytes old name
+  pub plans_same : (name : List ℕ) → plan_of new name ≡ plan_of old name
+
 -- a file with these bytes and this list is put under the name, and every other name has what it had
 pub record PutsFile (old new : MemFiles) (name bytes fails : List ℕ) : Type 0 where
   pub held_now : held_bytes new name ≡ Some bytes
