@@ -27,7 +27,8 @@ module _ {S : Type 0} (held : S → List ℕ → Option (List ℕ)) (left : S �
     faults_later = omega arith;
   }
 
-  pub KeepsFiles_trans : (a b c : S) → KeepsFiles held left given faults a b → KeepsFiles held left given faults b c → KeepsFiles held left given faults a c
+  pub KeepsFiles_trans : (a b c : S) → KeepsFiles held left given faults a b → KeepsFiles held left given faults b c
+      → KeepsFiles held left given faults a c
   KeepsFiles_trans a b c p q = record {
     held_same = λ name. q.held_same name ∙ p.held_same name;
     left_same = λ file was. q.left_same file (p.given_still file was) ∙ p.left_same file was;

@@ -3,7 +3,8 @@ use Rattle.std.proofs.Common.{◌≡◌, ◌≢◌, ◌⊎◌, inl, inr, ℕ, �
 use Rattle.std.proofs.Math.ListN.{set}
 use Rattle.std.specs.List.{slice_get}
 
-pub slice_get-set : {X : Type 0} (xs : List X) (k number : ℕ) (x y : X) → slice_get (set xs k x) number ≡ Some y → (y ≡ x) ⊎ (slice_get xs number ≡ Some y)
+pub slice_get-set : {X : Type 0} (xs : List X) (k number : ℕ) (x y : X) → slice_get (set xs k x) number ≡ Some y
+    → (y ≡ x) ⊎ (slice_get xs number ≡ Some y)
 slice_get-set [] k number x y there = inr there
 slice_get-set (z ∷ xs) zero zero x y there = inl (sym cc)
 slice_get-set (z ∷ xs) zero (suc number) x y there = inr there
@@ -22,7 +23,8 @@ slice_get-set_other (z ∷ xs) zero (suc j) x apart = refl
 slice_get-set_other (z ∷ xs) (suc k) zero x apart = refl
 slice_get-set_other (z ∷ xs) (suc k) (suc j) x apart = slice_get-set_other xs k j x (λ e. apart (ap suc e))
 
-pub slice_get-push : {X : Type 0} (xs : List X) (number : ℕ) (x y : X) → slice_get (xs ++ x ∷ []) number ≡ Some y → (y ≡ x) ⊎ (slice_get xs number ≡ Some y)
+pub slice_get-push : {X : Type 0} (xs : List X) (number : ℕ) (x y : X) → slice_get (xs ++ x ∷ []) number ≡ Some y
+    → (y ≡ x) ⊎ (slice_get xs number ≡ Some y)
 slice_get-push [] zero x y there = inl (sym cc)
 slice_get-push [] (suc number) x y there = inr there
 slice_get-push (z ∷ xs) zero x y there = inr there

@@ -1,5 +1,6 @@
 -- What counting a call does to the files of a device in memory, and where a file is found.
-use Rattle.std.proofs.Common.{◌≡◌, ℕ, ◌+◌, ◌-◌, ◌^◌, ◌<◌, ◌≤◌, suc, zero, min, true, false, if◌then◌else◌, List, [], ◌∷◌, Some, None, refl, sym, ap, ap₂, ◌∙◌, length, drop, arith, string_bytes, get_or, drop-cons}
+use Rattle.std.proofs.Common.{◌≡◌, ℕ, ◌+◌, ◌-◌, ◌^◌, ◌<◌, ◌≤◌, suc, zero, min, true, false, if◌then◌else◌, List, [], ◌∷◌, Some, None}
+use Rattle.std.proofs.Common.{refl, sym, ap, ap₂, ◌∙◌, length, drop, arith, string_bytes, get_or, drop-cons}
 use Rattle.std.proofs.Math.ListN.{set, length-set}
 use Rattle.std.specs.List.{slice_get}
 use Rattle.std.specs.Option.{option_map, option_map_or}
@@ -25,7 +26,8 @@ place_in-set (f ∷ fs) zero file new name there same =
     let e : new.name ≡ f.name = cc in
     ap (λ n. or_else (option_map (λ k. k + 1) (place_in fs name)) (if bytes_eq (string_bytes n) name then Some 0 else None)) e
 place_in-set (f ∷ fs) (suc i) file new name there same =
-    ap (λ p. or_else (option_map (λ k. k + 1) p) (if bytes_eq (string_bytes f.name) name then Some 0 else None)) (place_in-set fs i file new name there same)
+    let head = if bytes_eq (string_bytes f.name) name then Some 0 else None in
+    ap (λ p. or_else (option_map (λ k. k + 1) p) head) (place_in-set fs i file new name there same)
 
 bytes_at-set : (files : List HeldFile) (i k : ℕ) (file new : HeldFile) → slice_get files i ≡ Some file → new.bytes ≡ file.bytes
     → bytes_at (set files i new) k ≡ bytes_at files k
@@ -40,14 +42,15 @@ faults_in-set : (files : List HeldFile) (i : ℕ) (file new : HeldFile) → slic
     → faults_in (set files i new) + listed_before file.calls file.fails.items ≡ faults_in files + listed_before new.calls new.fails.items
 faults_in-set [] i file new there = cc
 faults_in-set (f ∷ fs) zero file new there =
-    let e : listed_before f.calls f.fails.items ≡ listed_before file.calls file.fails.items = let s : f ≡ file = cc in ap (λ x. listed_before x.calls x.fails.items) s in
+    let s : f ≡ file = cc in
+    let e : listed_before f.calls f.fails.items ≡ listed_before file.calls file.fails.items = ap (λ x. listed_before x.calls x.fails.items) s in
     omega arith
 faults_in-set (f ∷ fs) (suc i) file new there =
     let rest = faults_in-set fs i file new there in omega (arith, rest)
 
 -- one file is the same after one call more, and the others stay
-pub counted : (files : List HeldFile) (i : ℕ) (file new : HeldFile) → slice_get files i ≡ Some file → file.calls < 2 ^ 64 → IsCalled file new
-    → CallsOneFile files (set files i new) i
+pub counted : (files : List HeldFile) (i : ℕ) (file new : HeldFile) → slice_get files i ≡ Some file → file.calls < 2 ^ 64
+    → IsCalled file new → CallsOneFile files (set files i new) i
 counted files i file new there fits called =
     let old_faults = listed_before file.calls file.fails.items in
     let new_faults = listed_before (min (file.calls + 1) (2 ^ 64 - 1)) file.fails.items in
@@ -55,7 +58,8 @@ counted files i file new there fits called =
     let same : new.fails.items ≡ file.fails.items = ap (λ v. v.items) called.fails in
     let count : listed_before new.calls new.fails.items ≡ new_faults = cc (called.calls) in
     let later : old_faults ≤ new_faults = listed_later file.fails.items file.calls (min (file.calls + 1) (2 ^ 64 - 1)) (omega arith) in
-    let next : is_next_listed files i ≡ is_listed file.fails.items file.calls = ap (λ o. option_map_or fails_next (option_map file_plan o) false) there in
+    let next : is_next_listed files i ≡ is_listed file.fails.items file.calls =
+    ap (λ o. option_map_or fails_next (option_map file_plan o) false) there in
     let written : slice_get (set files i new) i ≡ Some new = slice_get-set_same files i new (slice_get_within files i file there) in
     let plan : file_plan new ≡ after_call (file_plan file) = ap₂ (λ n ks. record { calls = n; fails = ks }) called.calls same in
     record {
@@ -71,7 +75,8 @@ counted files i file new there fits called =
     }
 
 -- a file found behind the first i is found there
-pub found_behind : (files : List HeldFile) (name : List ℕ) (i k : ℕ) → place_in (drop i files) name ≡ Some k → place_in files name ≡ Some (i + k)
+pub found_behind : (files : List HeldFile) (name : List ℕ) (i k : ℕ) → place_in (drop i files) name ≡ Some k
+    → place_in files name ≡ Some (i + k)
 found_behind files name zero k found = let e : 0 + k ≡ k = omega arith in rw e found
 found_behind [] name (suc i) k found = cc
 found_behind (f ∷ fs) name (suc i) k found =
@@ -80,12 +85,13 @@ found_behind (f ∷ fs) name (suc i) k found =
     rw rest (ap Some e)
 
 -- the name stands at i and at no later place
-pub found_at : (files : List HeldFile) (name : List ℕ) (i n : ℕ) (d : HeldFile) → i + 1 ≡ n → n ≤ length files → place_in (drop n files) name ≡ None
-    → bytes_eq (string_bytes (get_or files i d).name) name ≡ true → Some i ≡ place_in files name
+pub found_at : (files : List HeldFile) (name : List ℕ) (i n : ℕ) (d : HeldFile) → i + 1 ≡ n → n ≤ length files
+    → place_in (drop n files) name ≡ None → bytes_eq (string_bytes (get_or files i d).name) name ≡ true → Some i ≡ place_in files name
 found_at files name i n d next in_range later here =
     let inside : i < length files = omega arith in
     let behind : suc i ≡ n = omega arith in
-    let front : drop i files ≡ get_or files i d ∷ drop n files = drop-cons files i d inside ∙ ap (λ k. get_or files i d ∷ drop k files) behind in
+    let front : drop i files ≡ get_or files i d ∷ drop n files =
+    drop-cons files i d inside ∙ ap (λ k. get_or files i d ∷ drop k files) behind in
     let first : place_in (drop i files) name ≡ Some 0 = rw (front, later, here) refl in
     let all = found_behind files name i 0 first in
     let e : i + 0 ≡ i = omega arith in

@@ -4,3 +4,5 @@ pub mod Gets
 pub mod ListedLemmas
 pub mod HeldLemmas
 pub mod PlacedLemmas
+pub mod PutLemmas
+pub mod PlanLemmas

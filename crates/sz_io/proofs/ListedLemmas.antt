@@ -11,7 +11,8 @@ listed_later [] a b le = omega arith
 listed_later (k ∷ ks) a b le = grind (arith, tests, listed_later ks a b le)
 
 -- behind a listed call there is one fault more
-listed_next : (fails : List ℕ) (call : ℕ) → list_any (λ k. nat_eq k call) fails ≡ true → listed_before call fails + 1 ≤ listed_before (call + 1) fails
+listed_next : (fails : List ℕ) (call : ℕ) → list_any (λ k. nat_eq k call) fails ≡ true
+    → listed_before call fails + 1 ≤ listed_before (call + 1) fails
 listed_next [] call listed = cc
 listed_next (k ∷ ks) call listed =
     let rest : list_any (λ k. nat_eq k call) ks ≡ true → listed_before call ks + 1 ≤ listed_before (call + 1) ks = listed_next ks call in

@@ -1,5 +1,6 @@
 -- Bytes that are moved piece by piece are moved as a whole.
-use Rattle.std.proofs.Common.{◌≡◌, ℕ, ◌+◌, ◌-◌, ◌≤◌, List, ◌++◌, Option, Result, Ok, Err, IfOk, sym, ap, ◌∙◌, length, take, drop, subst, arith, length-take}
+use Rattle.std.proofs.Common.{◌≡◌, ℕ, ◌+◌, ◌-◌, ◌≤◌, List, ◌++◌, length, take, drop, length-take}
+use Rattle.std.proofs.Common.{Option, Result, Ok, Err, IfOk, sym, ap, ◌∙◌, subst, arith}
 use Rattle.std.proofs.Math.Seq.{take-add, take-append-add}
 use Rattle.std.proofs.lemmas.List.{take_rest, take-append-le}
 use Rattle.std.proofs.KnownBytes.{Appends-trans, Consumes-trans}
@@ -9,7 +10,8 @@ use Rattle.std.specs.Io.KnownBytes.{Appends, Consumes, ReadConsumes}
 pub took_more : (a b c : Option (List ℕ)) (bytes : List ℕ) (done count : ℕ) → Appends a b (take done bytes)
     → Appends b c (take count (take (length bytes - done) (drop done bytes))) → Appends a c (take (done + count) bytes)
 took_more a b c bytes done count first second =
-    let rest : Appends b c (take count (drop done bytes)) = let P : List ℕ → Type 0 = λ l. Appends b c (take count l) in subst P (take_rest bytes done) second in
+    let P : List ℕ → Type 0 = λ l. Appends b c (take count l) in
+    let rest : Appends b c (take count (drop done bytes)) = subst P (take_rest bytes done) second in
     rw (take-add done count bytes) (Appends-trans a b c _ _ first rest)
 
 -- the front of a buffer whose room behind the first `filled` bytes was written

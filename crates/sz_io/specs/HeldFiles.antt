@@ -1,5 +1,6 @@
 -- The files that a device in memory holds, the newest last, and the bytes that opened ones have left.
-use Rattle.std.specs.Prelude.{◌≡◌, ◌≢◌, ℕ, ◌+◌, ◌-◌, ◌^◌, ◌≤◌, min, Bool, false, IsTrue, if◌then◌else◌, List, [], ◌∷◌, length, drop, Option, Some, None, string_bytes, option_and_then}
+use Rattle.std.specs.Prelude.{◌≡◌, ◌≢◌, ℕ, ◌+◌, ◌-◌, ◌^◌, ◌≤◌, min, Bool, false, IsTrue, if◌then◌else◌}
+use Rattle.std.specs.Prelude.{List, [], ◌∷◌, length, drop, string_bytes, Option, Some, None, option_and_then}
 use Rattle.std.specs.List.{slice_get}
 use Rattle.std.specs.Option.{option_map, option_map_or}
 use Rattle.std.specs.Str.{bytes_eq}
@@ -15,7 +16,8 @@ or_else None other = other
 -- the place of the newest file under the name
 abbrev pub place_in : List HeldFile → List ℕ → Option ℕ
 place_in [] name = None
-place_in (file ∷ files) name = or_else (option_map (λ i. i + 1) (place_in files name)) (if bytes_eq (string_bytes file.name) name then Some 0 else None)
+place_in (file ∷ files) name =
+    or_else (option_map (λ i. i + 1) (place_in files name)) (if bytes_eq (string_bytes file.name) name then Some 0 else None)
 
 -- the bytes of the file at a place
 abbrev pub bytes_at : List HeldFile → ℕ → List ℕ

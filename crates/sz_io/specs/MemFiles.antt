@@ -1,5 +1,6 @@
 -- Files in memory, as their callers see them.
-use Rattle.std.specs.Prelude.{◌≡◌, ◌≢◌, ℕ, ◌+◌, Bool, true, false, IsTrue, Result, Ok, Err, List, [], length, map, nat_lt, Option, Some, None, string_bytes, option_and_then, is_err}
+use Rattle.std.specs.Prelude.{◌≡◌, ◌≢◌, ℕ, ◌+◌, Bool, true, false, IsTrue, nat_lt, List, [], length, map, string_bytes}
+use Rattle.std.specs.Prelude.{Result, Ok, Err, is_err, Option, Some, None, option_and_then}
 use Rattle.std.specs.List.{slice_get}
 use Rattle.std.specs.Option.{option_map, option_map_or}
 use Rattle.sz_io.specs.HeldFiles.{Plan, place_in, held_in, left_in, faults_in, plan_at, after_call, fails_next}
@@ -61,6 +62,11 @@ pub record SameOpened (old new : MemFiles) : Type 0 where
   pub given_same : (number : ℕ) → is_given new number ≡ is_given old number
   pub names_same : names_opened new ≡ names_opened old
   pub faults_same : files_faults new ≡ files_faults old
+
+-- every name holds what it held, with the same plan
+pub record SameNames (old new : MemFiles) : Type 0 where
+  pub held_same : (name : List ℕ) → held_bytes new name ≡ held_bytes old name
+  pub plans_same : (name : List ℕ) → plan_of new name ≡ plan_of old name
 
 -- a file with these bytes and this list is put under the name, and every other name has what it had
 pub record PutsFile (old new : MemFiles) (name bytes fails : List ℕ) : Type 0 where

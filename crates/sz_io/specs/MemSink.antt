@@ -1,6 +1,8 @@
 -- A sink in memory, as its callers see it.
-use Rattle.std.specs.Prelude.{◌≡◌, ℕ, ◌+◌, ◌-◌, ◌^◌, min, List, []}
-use Rattle.sz_io.specs.Listed.{listed_before}
+use Rattle.std.specs.Prelude.{◌≡◌, ℕ, ◌+◌, ◌-◌, ◌^◌, min, List, [], length, Result, IsTrue, IfOk, IsErrOf, ◌↔◌}
+use Rattle.sz_io.specs.declared.error.OutsideError.{OutsideError}
+use Rattle.sz_io.specs.declared.error.OutsideError.TheVariants.{Failed}
+use Rattle.sz_io.specs.Listed.{listed_before, is_listed}
 use Rattle.sz_io.specs.declared.mem_sink.MemSink.{MemSink}
 
 -- the bytes that it has taken
@@ -35,8 +37,11 @@ pub record IsNewSink (sink : MemSink) (step : ℕ) (fails : List ℕ) : Type 0 w
   pub same_step : sink_step sink ≡ step
   pub same_fails : sink_fails sink ≡ fails
 
--- one call more was made, of a sink with the same step and list
-pub record CallsOnce (old new : MemSink) : Type 0 where
+-- A call takes the lesser of the step and the piece's length. It fails exactly where the list has its number, and it is
+-- counted. Step and list stay.
+pub record WritesByList (old new : MemSink) (piece : List ℕ) (result : Result ℕ OutsideError) : Type 0 where
+  pub step : IfOk result (λ n. n ≡ min (sink_step old) (length piece))
+  pub listed : IsErrOf result Failed ↔ IsTrue (is_listed (sink_fails old) (sink_calls old))
   pub one_call : sink_calls new ≡ min (sink_calls old + 1) (2 ^ 64 - 1)
   pub same_step : sink_step new ≡ sink_step old
   pub same_fails : sink_fails new ≡ sink_fails old

@@ -22,7 +22,7 @@ pub struct MemFiles {
 }
 
 impl MemFiles {
-    ghost use Rattle.sz_io.specs.MemFiles.{IsEmpty, SameOpened, PutsFile, held_bytes};
+    ghost use Rattle.sz_io.specs.MemFiles.{IsEmpty, SameNames, SameOpened, PutsFile};
 
     /// No files.
     pub fn new(alloc: Global) -> MemFiles
@@ -42,7 +42,7 @@ impl MemFiles {
     /// before goes on with the bytes and the list that it had.
     pub fn put(&mut self, name: &str, bytes: &[u8], fails: &[u64]) -> Result<(), NoMemory>
         ensures ok { OnOk result (PutsFile self.old self.new name.now bytes.now fails.now) }
-        ensures err { OnErr result ((name : List ℕ) → held_bytes self.new name ≡ held_bytes self.old name) }
+        ensures err { OnErr result (SameNames self.old self.new) }
         ensures kept { SameOpened self.old self.new }
     {
         let file = HeldFile {
@@ -57,7 +57,8 @@ impl MemFiles {
 }
 
 impl Files for MemFiles {
-    ghost use Rattle.sz_io.specs.MemFiles.{held_bytes, left_bytes, is_given, names_opened, files_faults, plan_of, plan_behind, OpensByPlan, ReadsByPlan};
+    ghost use Rattle.sz_io.specs.MemFiles.{held_bytes, left_bytes, is_given, names_opened, files_faults};
+    ghost use Rattle.sz_io.specs.MemFiles.{plan_of, plan_behind, OpensByPlan, ReadsByPlan};
 
     ghost held = { held_bytes };
 

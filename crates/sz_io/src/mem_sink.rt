@@ -1,8 +1,7 @@
 //! A sink in memory, whose calls fail where a list says so.
-ghost use Rattle.std.specs.Prelude.{◌≡◌, ◌<◌, ◌≤◌, ◌↔◌, min, length, Some, IsTrue, IfOk, IsErrOf};
+ghost use Rattle.std.specs.Prelude.{◌≡◌, ◌<◌, ◌≤◌, length, Some, IfOk, IsErrOf};
 ghost use Rattle.std.specs.Io.KnownBytes.{WriteAppends};
 ghost use Rattle.sz_io.specs.Rose.{Rose, DoNotFall};
-ghost use Rattle.sz_io.specs.Listed.{is_listed};
 
 use crate::{NoMemory, OutsideError, Sink, listed};
 use std::alloc::Global;
@@ -44,7 +43,7 @@ impl MemSink {
 }
 
 impl Sink for MemSink {
-    ghost use Rattle.sz_io.specs.MemSink.{sink_bytes, sink_step, sink_fails, sink_calls, sink_faults, sink_refusals, CallsOnce};
+    ghost use Rattle.sz_io.specs.MemSink.{sink_bytes, sink_faults, sink_refusals, WritesByList};
 
     ghost taken = { λ sink. Some (sink_bytes sink) };
 
@@ -62,9 +61,7 @@ impl Sink for MemSink {
         ensures refused { IsErrOf result OutsideError.NoMemory → Rose (sink_refusals self.old) (sink_refusals self.new) }
         ensures kept { DoNotFall sink_faults sink_refusals self.old self.new }
 
-        ensures step { IfOk result (λ n. n ≡ min (sink_step self.old) (length piece.now)) }
-        ensures listed { IsErrOf result OutsideError.Failed ↔ IsTrue (is_listed (sink_fails self.old) (sink_calls self.old)) }
-        ensures call { CallsOnce self.old self.new }
+        ensures plan { WritesByList self.old self.new piece.now result }
     {
         let call = self.calls;
         self.calls = call.saturating_add(1);

@@ -8,4 +8,9 @@ pub returns : goal.returns
 returns c =
     let file = get_or c.args.files.now c.args.file c.index-files-file.result in
     let there = slice_get-get_or c.args.files.now c.args.file c.index-files-file.result c.requires in
-    counted c.args.files.now c.args.file file _ there (omega arith) (record { name = refl; bytes = refl; fails = refl; calls = c.saturating_add-called.ensures })
+    counted c.args.files.now c.args.file file _ there (omega arith) (record {
+      name = refl;
+      bytes = refl;
+      fails = refl;
+      calls = c.saturating_add-called.ensures;
+    })

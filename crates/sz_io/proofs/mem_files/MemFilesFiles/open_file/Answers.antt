@@ -3,7 +3,8 @@ use Rattle.std.proofs.Common.{◌≡◌, ◌∙◌, ◌<◌, true, false, is_ok,
 use Rattle.std.proofs.lemmas.Bool.{ltb-true, lt-ltb}
 use Rattle.std.specs.Vec.{with_items}
 use Rattle.sz_io.specs.HeldFiles.{left_in, place_in, is_next_listed}
-use Rattle.sz_io.proofs.PlacedLemmas.{called_in, placed_kept, placed_start, placed_opened, pushed_if, left_in-opened, left_in-before, held_in-called, opened_plan, counted_plan}
+use Rattle.sz_io.proofs.PlacedLemmas.{called_in, placed_kept, placed_start, placed_opened, pushed_if, left_in-opened, left_in-before, held_in-called}
+use Rattle.sz_io.proofs.PlanLemmas.{opened_plan, counted_plan}
 use Rattle.sz_io.proofs.mem_files.MemFilesFiles.open_file.Goals as goal
 
 pub invariant_of-self-then-fails_next-clause-placed : goal.invariant_of-self-then-fails_next-clause-placed
@@ -15,12 +16,16 @@ invariant_of-self-then-fails_next-clause-placed c =
 pub invariant_of-self-then-is_err-clause-placed : goal.invariant_of-self-then-is_err-clause-placed
 invariant_of-self-then-is_err-clause-placed c =
     let files = c.args.self.now in
-    placed_opened files.files.items files.opened.items _ _ _ c.push-2.ensures.items (placed_start files.files.items c.in-Some.file (subst (λ l. c.in-Some.file < length l) c.deref.ensures.value c.in-Some.ensures.within)) files.placed
+    let inside = subst (λ l. c.in-Some.file < length l) c.deref.ensures.value c.in-Some.ensures.within in
+    let start = placed_start files.files.items c.in-Some.file inside in
+    placed_opened files.files.items files.opened.items _ _ _ c.push-2.ensures.items start files.placed
 
 pub invariant_of-self-2-clause-placed : goal.invariant_of-self-2-clause-placed
 invariant_of-self-2-clause-placed c =
     let files = c.args.self.now in
-    let opened = placed_opened files.files.items files.opened.items _ _ _ c.push-2.ensures.items (placed_start files.files.items c.in-Some.file (subst (λ l. c.in-Some.file < length l) c.deref.ensures.value c.in-Some.ensures.within)) files.placed in
+    let inside = subst (λ l. c.in-Some.file < length l) c.deref.ensures.value c.in-Some.ensures.within in
+    let start = placed_start files.files.items c.in-Some.file inside in
+    let opened = placed_opened files.files.items files.opened.items _ _ _ c.push-2.ensures.items start files.placed in
     let called = called_in files.files _ _ _ c.deref_mut-2.ensures.value c.count_call-2.ensures in
     placed_kept files.files.items _ c.push-2.new.self.items _ called opened
 

@@ -16,7 +16,8 @@ read_at-requires c =
     let inside : c.args.file < length opened = ltb-true c.args.file (length opened) c.requires in
     let there : slice_get opened c.args.file ≡ Some c.index_mut.result.now =
     slice_get-get_or opened c.args.file c.index_mut.result.now inside ∙ ap Some (sym c.index_mut.ensures.value) in
-    subst (λ files. IsPlaced files c.index_mut.result.now) (sym c.deref_mut.ensures.value) (c.args.self.now.placed c.args.file c.index_mut.result.now there)
+    let placed = c.args.self.now.placed c.args.file c.index_mut.result.now there in
+    subst (λ files. IsPlaced files c.index_mut.result.now) (sym c.deref_mut.ensures.value) placed
 
 pub invariant_of-self-clause-placed : goal.invariant_of-self-clause-placed
 invariant_of-self-clause-placed c =
@@ -35,7 +36,8 @@ returns-clause-kept c =
     let after = (with_items files c.read_at.new.files).items in
     record {
       held_same = λ name. held_in-called files.items after _ name called;
-      left_same = λ other apart. left_in-set_other after opened c.args.file other c.read_at.new.place apart ∙ left_in-called files.items after opened _ other called;
+      left_same = λ other apart.
+          left_in-set_other after opened c.args.file other c.read_at.new.place apart ∙ left_in-called files.items after opened _ other called;
       given_same = λ other. ap (nat_lt other) (length-set opened c.args.file c.read_at.new.place);
       names_same = refl;
       faults_later = let later = called.faults_later in omega (arith, later);

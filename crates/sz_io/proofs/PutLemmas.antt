@@ -1,0 +1,82 @@
+-- Where names stand, what they hold and how many faults there are, when a file is put.
+use Rattle.std.proofs.Common.{◌≡◌, ◌≢◌, ℕ, ◌+◌, ◌<◌, suc, Bool, true, false, if◌then◌else◌, List, [], ◌∷◌, ◌++◌, length}
+use Rattle.std.proofs.Common.{Option, Some, None, refl, ap, ◌∙◌, arith, tests, string_bytes}
+use Rattle.std.proofs.lemmas.Slice.Eq.{bytes_eq-Decides}
+use Rattle.std.specs.Option.{option_map, option_map_or}
+use Rattle.std.specs.Str.{bytes_eq}
+use Rattle.sz_io.specs.declared.held_file.HeldFile.{HeldFile}
+use Rattle.sz_io.specs.Listed.{listed_before}
+use Rattle.sz_io.specs.HeldFiles.{or_else, place_in, bytes_at, held_in, faults_in}
+use Rattle.sz_io.proofs.Gets.{slice_get-push_new}
+use Rattle.sz_io.proofs.PlacedLemmas.{bytes_at-push_old}
+
+listed_before-none : (fails : List ℕ) → listed_before 0 fails ≡ 0
+listed_before-none [] = refl
+listed_before-none (k ∷ ks) = grind (arith, tests, listed_before-none ks)
+
+faults_in-more : (files : List HeldFile) (file : HeldFile) → file.calls ≡ 0 → faults_in (files ++ file ∷ []) ≡ faults_in files
+faults_in-more [] file fresh =
+    let e : listed_before file.calls file.fails.items ≡ 0 =
+    ap (λ n. listed_before n file.fails.items) fresh ∙ listed_before-none file.fails.items in
+    omega (arith, e)
+faults_in-more (f ∷ fs) file fresh = let rest = faults_in-more fs file fresh in omega (arith, rest)
+
+place_in-step : (b : Bool) (p head : Option ℕ) (n : ℕ)
+    → or_else (option_map (λ i. i + 1) (if b then Some n else p)) head ≡ (if b then Some (n + 1) else or_else (option_map (λ i. i + 1) p) head)
+place_in-step true p head n = refl
+place_in-step false p head n = refl
+
+place_in-more : (files : List HeldFile) (file : HeldFile) (name : List ℕ)
+    → place_in (files ++ file ∷ []) name ≡ (if bytes_eq (string_bytes file.name) name then Some (length files) else place_in files name)
+place_in-more [] file name = refl
+place_in-more (f ∷ fs) file name =
+    let head : Option ℕ = if bytes_eq (string_bytes f.name) name then Some 0 else None in
+    let rest = ap (λ p. or_else (option_map (λ i. i + 1) p) head) (place_in-more fs file name) in
+    let e : length fs + 1 ≡ length (f ∷ fs) = omega arith in
+    rest ∙ place_in-step (bytes_eq (string_bytes file.name) name) (place_in fs name) head (length fs)
+    ∙ ap (λ n. if bytes_eq (string_bytes file.name) name then Some n else place_in (f ∷ fs) name) e
+
+inside-step : (p : Option ℕ) (b : Bool) (n i : ℕ) → ((k : ℕ) → p ≡ Some k → k < n)
+    → or_else (option_map (λ k. k + 1) p) (if b then Some 0 else None) ≡ Some i → i < suc n
+inside-step None true n i rest found = let e : 0 ≡ i = cc in omega arith
+inside-step None false n i rest found = absurd cc
+inside-step (Some k) b n i rest found = let e : k + 1 ≡ i = cc in omega (arith, rest k refl)
+
+pub place_in-inside : (files : List HeldFile) (name : List ℕ) (i : ℕ) → place_in files name ≡ Some i → i < length files
+place_in-inside [] name i found = absurd cc
+place_in-inside (f ∷ fs) name i found =
+    inside-step (place_in fs name) (bytes_eq (string_bytes f.name) name) (length fs) i (place_in-inside fs name) found
+
+pub place_in-put_same : (files : List HeldFile) (file : HeldFile) (name : List ℕ) → string_bytes file.name ≡ name
+    → place_in (files ++ file ∷ []) name ≡ Some (length files)
+place_in-put_same files file name same =
+    let equal : bytes_eq (string_bytes file.name) name ≡ true = (bytes_eq-Decides (string_bytes file.name) name).1 same in
+    place_in-more files file name ∙ ap (λ b. if b then Some (length files) else place_in files name) equal
+
+pub place_in-put_other : (files : List HeldFile) (file : HeldFile) (name : List ℕ) → (string_bytes file.name ≢ name)
+    → place_in (files ++ file ∷ []) name ≡ place_in files name
+place_in-put_other files file name apart =
+    let unequal : bytes_eq (string_bytes file.name) name ≡ false = grind (arith, bytes_eq-Decides (string_bytes file.name) name, apart) in
+    place_in-more files file name ∙ ap (λ b. if b then Some (length files) else place_in files name) unequal
+
+-- the new file is what its name holds
+pub held_in-put_same : (files : List HeldFile) (file : HeldFile) (name : List ℕ) → string_bytes file.name ≡ name
+    → held_in (files ++ file ∷ []) name ≡ Some file.bytes.items
+held_in-put_same files file name same =
+    ap (option_map (bytes_at (files ++ file ∷ []))) (place_in-put_same files file name same)
+    ∙ ap (λ o. Some (option_map_or (λ f. f.bytes.items) o [])) (slice_get-push_new files file)
+
+-- another name holds what it held
+pub held_in-put_other : (files : List HeldFile) (file : HeldFile) (name : List ℕ) → (string_bytes file.name ≢ name)
+    → held_in (files ++ file ∷ []) name ≡ held_in files name
+held_in-put_other files file name apart =
+    ap (option_map (bytes_at (files ++ file ∷ []))) (place_in-put_other files file name apart) ∙ at (place_in files name) refl where
+      at : (p : Option ℕ) → place_in files name ≡ p → option_map (bytes_at (files ++ file ∷ [])) p ≡ option_map (bytes_at files) p
+      at None found = refl
+      at (Some i) found = ap Some (bytes_at-push_old files file i (place_in-inside files name i found))
+
+-- a file that was put, or one for which memory ran out, has no fault
+pub faults_in-pushed : (files new : List HeldFile) (file : HeldFile) (b : Bool) → file.calls ≡ 0
+    → new ≡ (if b then files ++ file ∷ [] else files) → faults_in new ≡ faults_in files
+faults_in-pushed files new file true fresh same = ap faults_in same ∙ faults_in-more files file fresh
+faults_in-pushed files new file false fresh same = ap faults_in same
