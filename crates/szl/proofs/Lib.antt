@@ -1,3 +1,4 @@
+mod AnswerLemmas
 mod CutLemmas
 mod Growth
 mod LexemesLemmas

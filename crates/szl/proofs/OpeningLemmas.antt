@@ -7,7 +7,7 @@ use Rattle.szl.specs.declared.failure.Failure.TheVariants.{TooLong, Limit, ReadF
 use Rattle.szl.specs.Opening.{TellsText, ReadsText}
 
 -- the text that is told, or this one
-holds_or : (held : Option (List ℕ)) (text : List ℕ) → IfSome held (λ bytes. bytes ≡ unwrap_or held text)
+pub holds_or : (held : Option (List ℕ)) (text : List ℕ) → IfSome held (λ bytes. bytes ≡ unwrap_or held text)
 holds_or None text = tt
 holds_or (Some bytes) text = refl
 
@@ -18,7 +18,7 @@ pub reads_no_memory : (held : Option (List ℕ)) (limit : ℕ) (past : Failure) 
 reads_no_memory held limit past rose = record { text = unwrap_or held []; holds = holds_or held []; tells = tt }
 
 long_or : (held : Option (List ℕ)) (limit : ℕ) → IfSome held (λ bytes. limit < length bytes) → limit < length (unwrap_or held (replicate (limit + 1) 0))
-long_or None limit h = omega (arith, length-replicate (limit + 1) 0)
+long_or None limit h = omega (arith, length-replicate {A = ℕ} (limit + 1) 0)
 long_or (Some bytes) limit h = h
 
 reads_past_as : (held : Option (List ℕ)) (limit : ℕ) (past : Failure) (rose : Type 0) → IfSome held (λ bytes. limit < length bytes) → ((text : List ℕ) → limit < length text → TellsText text limit past rose (Err past))

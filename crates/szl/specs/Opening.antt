@@ -25,7 +25,7 @@ pub record ReadsText (held : Option (List ℕ)) (limit : ℕ) (past : Failure) (
   pub tells : TellsText text limit past rose answer
 
 -- the names opened gain this one, or none where memory ran out
-abbrev pub GainsName : {T : Type 0} → List (List ℕ) → List (List ℕ) → List ℕ → Result T Failure → Type 0
+abbrev pub GainsName : List (List ℕ) → List (List ℕ) → List ℕ → Result (List ℕ) Failure → Type 0
 GainsName old new name (Err NoMemory) = (new ≡ old) ⊎ (new ≡ old ++ name ∷ [])
 GainsName old new name answer = new ≡ old ++ name ∷ []
 

@@ -40,8 +40,8 @@ pub fn answer<F: Files>(alloc: Global, words: &[String], files: &mut F) -> Resul
 /// The text that the settings ask for.
 fn answer_settings<F: Files>(alloc: Global, settings: Settings<'_>, files: &mut F) -> Result<Vec<u8>, Failure>
     requires { length (F.names files.old) < 127 }
-    ensures value { Answers F.Files (Some (seen_settings settings)) files.old files.new (vec_items_of result) }
-    ensures end { OnOk result (AreReadToEnd F.Files files.old files.new (seen_settings settings)) }
+    ensures value { Answers F.Files (Some (seen_settings settings.entry)) files.old files.new (vec_items_of result) }
+    ensures end { OnOk result (AreReadToEnd F.Files files.old files.new (seen_settings settings.entry)) }
     ensures kept { KeepsFiles F.held F.left F.given F.faults files.old files.new }
 {
     let text = read_text(alloc, files, settings.program, MOST_PROGRAM_BYTES, Failure::TooLong)?;

@@ -22,7 +22,7 @@ pub fn read_text<F: Files>(
     requires few { length (F.names files.old) < 128 }
     requires past { (past ≡ TooLong) ⊎ (past ≡ Limit) }
     ensures text { ReadsText (F.held files.old name.now) limit past (Rose (F.faults files.old) (F.faults files.new)) (vec_items_of result) }
-    ensures names { GainsName (F.names files.old) (F.names files.new) name.now result }
+    ensures names { GainsName (F.names files.old) (F.names files.new) name.now (vec_items_of result) }
     ensures end { OnOk result (ReadToEnd F.Files files.old files.new name.now) }
     ensures kept { KeepsFiles F.held F.left F.given F.faults files.old files.new }
 {
