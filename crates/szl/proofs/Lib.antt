@@ -2,6 +2,7 @@ mod AnswerLemmas
 mod CutLemmas
 mod Growth
 mod LexemesLemmas
+mod MainLemmas
 mod OpeningLemmas
 mod PrintLemmas
 mod ProgramLemmas
@@ -9,6 +10,7 @@ mod ReadingLemmas
 mod RecordLemmas
 mod RecordsLemmas
 mod RunningLemmas
+mod SettingsLemmas
 mod Simulation
 mod Sound
 mod TakenLemmas

@@ -9,6 +9,7 @@ pub mod View
 pub mod Cuts
 pub mod Failing
 pub mod Opening
+pub mod Printing
 pub mod Totals
 pub mod Running
 pub mod Code

@@ -15,6 +15,7 @@ mod records;
 mod running;
 mod status;
 mod sums;
+mod top;
 mod tree;
 mod values;
 mod words;

@@ -1,0 +1,173 @@
+-- The answer for the settings of a command line, from that for the program's text.
+use Rattle.std.proofs.Common.{◌≡◌, ◌≢◌, ℕ, zero, suc, ◌+◌, ◌-◌, ◌^◌, ◌<◌, ◌≤◌, ◌⊎◌, List, [], ◌∷◌, ◌++◌, length, take, Bool, true, false, Option, Some, None, refl, sym, ap, ◌∙◌, subst, arith, inl, inr, append-nil, append_assoc}
+use Rattle.std.specs.Prelude.{IfSome, IsSome, IsTrue, unwrap_or, Result, Ok, Err, codes, nat_lt, if◌then◌else◌, ⊤, OnOk}
+use Rattle.std.specs.Io.KnownBytes.{IsAtEnd}
+use Rattle.std.proofs.lemmas.Bool.Decides.{nat_tests}
+use Rattle.sz_io.specs.Rose.{Rose}
+use Rattle.sz_io.specs.Opened.{KeepsFiles}
+use Rattle.sz_io.specs.Calls.{ReadToEnd}
+use Rattle.sz_io.specs.declared.files.Files as files
+use Rattle.sz_mean.specs.Tree.{Prog}
+use Rattle.sz_mean.specs.Programs.{program_in}
+use Rattle.szl.specs.declared.status.Status.{Status}
+use Rattle.szl.specs.declared.status.Status.TheVariants as status
+use Rattle.szl.specs.declared.failure.Failure.{Failure}
+use Rattle.szl.specs.declared.failure.Failure.TheVariants.{Usage, TooLong, NotBuilt, Limit, ReadFailed, WriteFailed, NoMemory}
+use Rattle.szl.specs.Opening.{TellsText, ReadsText, GainsName, IsCause, Decides, Answers, AnswersOn}
+use Rattle.szl.specs.Outcome.{Answer, outcome_of_program, outcome_of_reading, outcome_of_text, outcome_of_settings, success, refusal, most_program_bytes}
+use Rattle.szl.specs.Promise.{OpensFirst, most_opened, names_asked, AreHeld, AreReadToEnd}
+use Rattle.szl.specs.Records.{is_within_limits}
+use Rattle.szl.specs.Settings.{Settings}
+use Rattle.szl.proofs.OpeningLemmas.{holds_or}
+
+-- the status of a text's outcome: done, refused, or past a limit
+data IsJudged : Status → Type 0 where
+  done : IsJudged status.Done
+  refused : IsJudged status.Program
+  limit : IsJudged status.Limit
+
+judged_program : (b : Bool) (output line : List ℕ) → IsJudged (if b then success output else record { status = status.Limit; output = []; line = line }).status
+judged_program true output line = done
+judged_program false output line = limit
+
+judged_reading : (read : Option Prog) (input : List ℕ) → IsJudged (outcome_of_reading read input).status
+judged_reading None input = refused
+judged_reading (Some p) input = judged_program (is_within_limits input) _ _
+
+judged_if : (b : Bool) (line : List ℕ) (answer : Answer) → IsJudged answer.status → IsJudged (if b then record { status = status.Program; output = []; line = line } else answer).status
+judged_if true line answer h = refused
+judged_if false line answer h = h
+
+judged : (text input : List ℕ) → IsJudged (outcome_of_text text input).status
+judged text input = judged_if (nat_lt most_program_bytes (length text)) _ _ (judged_reading (program_in text) input)
+
+some_opened : (s : Status) → IsJudged s → 1 ≤ most_opened s
+some_opened s done = omega arith
+some_opened s refused = omega arith
+some_opened s limit = omega arith
+
+no_usage : (s : Status) → IsJudged s → s ≢ status.Usage
+no_usage s done = λ e. cc
+no_usage s refused = λ e. cc
+no_usage s limit = λ e. cc
+
+-- a text past the limit
+long_outcome : (text input : List ℕ) → most_program_bytes < length text → outcome_of_text text input ≡ refusal status.Program (codes "program: too long at 1:1")
+long_outcome text input long =
+    ap (λ b. if b then refusal status.Program (codes "program: too long at 1:1") else outcome_of_reading (program_in text) input) (is_long (length text) long)
+  where
+    is_long : (n : ℕ) → most_program_bytes < n → nat_lt most_program_bytes n ≡ true
+    is_long n lt = grind (arith, nat_tests)
+
+-- a count that rose later rose
+decides_since : (answer : Result (List ℕ) Failure) (outcome : Answer) (later since : Type 0) → (later → since) → Decides answer outcome later → Decides answer outcome since
+decides_since (Ok output) outcome later since rose h = h
+decides_since (Err ReadFailed) outcome later since rose h = (rose h.0, h.1)
+decides_since (Err WriteFailed) outcome later since rose h = h
+decides_since (Err NoMemory) outcome later since rose h = h
+decides_since (Err Usage) outcome later since rose h = h
+decides_since (Err TooLong) outcome later since rose h = h
+decides_since (Err NotBuilt) outcome later since rose h = h
+decides_since (Err Limit) outcome later since rose h = h
+
+-- a fact under what may be told
+under : (P : Type 0) (h : Option (List ℕ)) → P → IfSome h (λ _. P)
+under P None p = tt
+under P (Some bytes) p = p
+
+over : (P : Type 0) (h k : Option (List ℕ)) → IfSome h (λ _. P) → IfSome h (λ _. IfSome k (λ _. P))
+over P None k p = tt
+over P (Some bytes) None p = tt
+over P (Some bytes) (Some more) p = p
+
+module _ {F : Type 0} (the_files : files.Ghosts F) (s : Settings) (old : F) where
+  opened_first : (new : F) (most : ℕ) → 1 ≤ most → the_files.names new ≡ the_files.names old ++ s.program ∷ []
+      → OpensFirst (names_asked (Some s)) (the_files.names old) (the_files.names new) most
+  opened_first new most le is = record { count = 1; within = le; opened = is }
+
+  gained_first : (new : F) (most : ℕ) → 1 ≤ most → (the_files.names new ≡ the_files.names old) ⊎ (the_files.names new ≡ the_files.names old ++ s.program ∷ [])
+      → OpensFirst (names_asked (Some s)) (the_files.names old) (the_files.names new) most
+  gained_first new most le (inl is) = record { count = 0; within = omega arith; opened = is ∙ sym (append-nil _) }
+  gained_first new most le (inr is) = opened_first new most le is
+
+  input_or : List ℕ
+  input_or = unwrap_or (the_files.held old s.input) []
+
+  -- the program's text couldn't be read
+  pub text_fails : (new : F) (f : Failure) → ReadsText (the_files.held old s.program) most_program_bytes TooLong (Rose (the_files.faults old) (the_files.faults new)) (Err f)
+      → GainsName (the_files.names old) (the_files.names new) s.program (Err f) → Answers the_files (Some s) old new (Err f)
+  unfolding input_or
+  text_fails new TooLong reads gains = record {
+      text = reads.text;
+      input = input_or;
+      held = (reads.holds, holds_or (the_files.held old s.input) []);
+      decides = long_outcome reads.text input_or reads.tells.1;
+      opened = opened_first new _ (some_opened _ (judged reads.text input_or)) gains;
+    }
+  text_fails new ReadFailed reads gains = record {
+      text = reads.text;
+      input = input_or;
+      held = (reads.holds, holds_or (the_files.held old s.input) []);
+      decides = (reads.tells, no_usage _ (judged reads.text input_or));
+      opened = opened_first new _ (some_opened _ (judged reads.text input_or)) gains;
+    }
+  text_fails new NoMemory reads gains = record {
+      text = reads.text;
+      input = input_or;
+      held = (reads.holds, holds_or (the_files.held old s.input) []);
+      decides = tt;
+      opened = gained_first new _ (some_opened _ (judged reads.text input_or)) gains;
+    }
+  text_fails new Usage reads gains = let e = reads.tells.0 in absurd (cc)
+  text_fails new Limit reads gains = let e = reads.tells.0 in absurd (cc)
+  text_fails new NotBuilt reads gains = let e = reads.tells.0 in absurd (cc)
+  text_fails new WriteFailed reads gains = let e = reads.tells.0 in absurd (cc)
+
+  -- the program's text was read, and the rest is answered on it
+  pub text_read : (mid new : F) (bytes : List ℕ) (answer : Result (List ℕ) Failure) (rose : Type 0) → ReadsText (the_files.held old s.program) most_program_bytes TooLong rose (Ok bytes)
+      → the_files.names mid ≡ the_files.names old ++ s.program ∷ [] → KeepsFiles the_files.held the_files.left the_files.given the_files.faults old mid
+      → AnswersOn the_files (outcome_of_text bytes) s.input mid new answer → Answers the_files (Some s) old new answer
+  text_read mid new bytes answer rose reads names keeps a =
+      let o = outcome_of_text bytes a.input in
+      let some = some_opened _ (judged bytes a.input) in
+      let one : suc a.opened.count ≤ most_opened o.status = omega (arith, some, a.opened.within) in
+      let next : the_files.names new ≡ the_files.names old ++ take (suc a.opened.count) (s.program ∷ s.input ∷ []) =
+        a.opened.opened ∙ ap (λ ns. ns ++ take a.opened.count (s.input ∷ [])) names ∙ append_assoc (the_files.names old) (s.program ∷ []) (take a.opened.count (s.input ∷ [])) in
+      record {
+        text = bytes;
+        input = a.input;
+        held = (subst (λ t. IfSome (the_files.held old s.program) (λ b. b ≡ t)) (sym reads.tells.0) reads.holds,
+          subst (λ h. IfSome h (λ b. b ≡ a.input)) (keeps.held_same s.input) a.holds);
+        decides = decides_since answer o _ _ (λ rose. omega (arith, rose, keeps.faults_later)) a.decides;
+        opened = record { count = suc a.opened.count; within = one; opened = next };
+      }
+
+  -- both files were read to their end
+  pub both_read : (mid new : F) → the_files.names mid ≡ the_files.names old ++ s.program ∷ [] → the_files.names new ≡ the_files.names mid ++ s.input ∷ []
+      → KeepsFiles the_files.held the_files.left the_files.given the_files.faults old mid → KeepsFiles the_files.held the_files.left the_files.given the_files.faults mid new
+      → ReadToEnd the_files old mid s.program → ReadToEnd the_files mid new s.input → AreReadToEnd the_files old new s
+  both_read mid new first second kept later r1 r2 = record {
+      both_opened = second ∙ ap (λ ns. ns ++ s.input ∷ []) first ∙ append_assoc (the_files.names old) (s.program ∷ []) (s.input ∷ []);
+      none_left = λ file fresh given. ended file fresh (r2.no_other file given);
+      told = λ file fresh given. tells file fresh (r2.no_other file given);
+    }
+    where
+      left_first : the_files.left new r1.file ≡ the_files.left mid r1.file
+      left_first = later.left_same r1.file r1.given_now
+
+      by_first : (file : ℕ) → (IsTrue (the_files.given old file) → ⊥) → (file ≡ r1.file) ⊎ IsTrue (the_files.given old file) → file ≡ r1.file
+      by_first file fresh (inl is) = is
+      by_first file fresh (inr was) = absurd (fresh was)
+
+      ended : (file : ℕ) → (IsTrue (the_files.given old file) → ⊥) → (file ≡ r2.file) ⊎ IsTrue (the_files.given mid file) → IsAtEnd (the_files.left new file)
+      ended file fresh (inl is) = subst (λ f. IsAtEnd (the_files.left new f)) (sym is) r2.none_left
+      ended file fresh (inr was) =
+          subst (λ f. IsAtEnd (the_files.left new f)) (sym (by_first file fresh (r1.no_other file was))) (subst IsAtEnd (sym left_first) r1.none_left)
+
+      tells : (file : ℕ) → (IsTrue (the_files.given old file) → ⊥) → (file ≡ r2.file) ⊎ IsTrue (the_files.given mid file)
+          → IfSome (the_files.held old s.program) (λ _. IfSome (the_files.held old s.input) (λ _. IsSome (the_files.left new file)))
+      tells file fresh (inl is) = under _ (the_files.held old s.program)
+          (subst (λ f. IfSome (the_files.held old s.input) (λ _. IsSome (the_files.left new f))) (sym is) (subst (λ h. IfSome h (λ _. IsSome (the_files.left new r2.file))) (kept.held_same s.input) r2.told))
+      tells file fresh (inr was) =
+          let at_first = subst (λ h. IfSome (the_files.held old s.program) (λ _. IsSome h)) (sym left_first) r1.told in
+          over _ (the_files.held old s.program) (the_files.held old s.input) (subst (λ f. IfSome (the_files.held old s.program) (λ _. IsSome (the_files.left new f))) (sym (by_first file fresh (r1.no_other file was))) at_first)

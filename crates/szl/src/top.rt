@@ -1,0 +1,84 @@
+//! The top call: from the words and the devices to the status.
+ghost use Rattle.std.specs.Prelude.{◌≡◌, ◌<◌, ◌⊎◌, Err, Ok, length, map, string_bytes, IfSome};
+ghost use Rattle.sz_io.specs.Opened.{KeepsFiles};
+ghost use Rattle.sz_io.specs.Rose.{Rose, DoNotFall};
+ghost use Rattle.szl.specs.Failing.{line_of_failure};
+ghost use Rattle.szl.specs.Printing.{Prints};
+ghost use Rattle.szl.specs.Promise.{MeansSource, GainsLine, AreReadToEnd};
+ghost use Rattle.szl.specs.Running.{vec_items_of};
+ghost use Rattle.szl.specs.Settings.{settings_in};
+
+use crate::answer::answer;
+use crate::failure::Failure;
+use crate::status::Status;
+use std::alloc::Global;
+use std::thread::Threads;
+use sz_io::{Files, Gate, Sink, WriteError, write_whole};
+
+/// Runs the command line of these words, which come without the program's name: opens what it names in `files`,
+/// writes its text to `out`, and the line that says why there is none to `err`.
+///
+/// No thread is started and no attempt is made yet, so `rt` and `gate` are not called.
+pub fn szl_main<R: Threads + Sync, F: Files, O: Sink, E: Sink, G: Gate + Sync>(
+    _rt: &R,
+    alloc: Global,
+    words: &[String],
+    files: &mut F,
+    out: &mut O,
+    err: &mut E,
+    _gate: &G,
+) -> Status
+    requires { length (F.names files.old) < 127 }
+
+    ensures outcome { MeansSource F.Files O.Sink E.Sink (map string_bytes words.now) result files.old files.new out.old out.new err.old err.new }
+    ensures end { result ≡ Status.Done → IfSome (settings_in (map string_bytes words.now)) (AreReadToEnd F.Files files.old files.new) }
+
+    ensures read_failed { result ≡ Status.ReadFailed → Rose (F.faults files.old) (F.faults files.new) }
+    ensures write_failed { result ≡ Status.WriteFailed → Rose (O.faults out.old) (O.faults out.new) }
+
+    ensures kept { KeepsFiles F.held F.left F.given F.faults files.old files.new }
+    ensures out_counts { DoNotFall O.faults O.refusals out.old out.new }
+    ensures err_counts { DoNotFall E.faults E.refusals err.old err.new }
+{
+    let answer = answer(alloc, words, files);
+    match print(out, answer) {
+        Ok(()) => Status::Done,
+        Err(failure) => {
+            tell(err, failure);
+            failure.status()
+        }
+    }
+}
+
+/// Writes the text of an answer, if it has one.
+fn print<O: Sink>(out: &mut O, answer: Result<Vec<u8>, Failure>) -> Result<(), Failure>
+    ensures value { Prints (O.taken out.old) (O.taken out.new) (vec_items_of answer) result }
+    ensures failed { result ≡ Err Failure.WriteFailed → (vec_items_of answer ≡ Err Failure.WriteFailed) ⊎ Rose (O.faults out.old) (O.faults out.new) }
+    ensures kept { DoNotFall O.faults O.refusals out.old out.new }
+{
+    match answer {
+        Ok(text) => print_text(out, &text),
+        Err(failure) => Err(failure),
+    }
+}
+
+/// Writes a text.
+fn print_text<O: Sink>(out: &mut O, text: &[u8]) -> Result<(), Failure>
+    ensures value { Prints (O.taken out.old) (O.taken out.new) (Ok text.now) result }
+    ensures failed { result ≡ Err Failure.WriteFailed → Rose (O.faults out.old) (O.faults out.new) }
+    ensures kept { DoNotFall O.faults O.refusals out.old out.new }
+{
+    match write_whole(out, text) {
+        Ok(()) => Ok(()),
+        Err(WriteError::Failed(_)) => Err(Failure::WriteFailed),
+        Err(WriteError::NoMemory(_)) => Err(Failure::NoMemory),
+    }
+}
+
+/// Writes the line of a failure. A line that can't be written changes nothing more.
+fn tell<E: Sink>(err: &mut E, failure: Failure)
+    ensures line { GainsLine E.Sink err.old err.new (line_of_failure failure) }
+    ensures kept { DoNotFall E.faults E.refusals err.old err.new }
+{
+    let _ = write_whole(err, failure.line().as_bytes());
+}
