@@ -1,8 +1,12 @@
 -- The promise of the top call, from the answer, what was printed of it, and the line.
 use Rattle.std.proofs.Common.{◌≡◌, ℕ, ◌≤◌, ◌⊎◌, List, [], ◌∷◌, ◌++◌, length, take, Option, Some, None, refl, sym, ap, ◌∙◌, subst, arith, inl, inr}
-use Rattle.std.specs.Prelude.{Result, Ok, Err}
+use Rattle.std.specs.Prelude.{Result, Ok, Err, OnOk, IfErr}
 use Rattle.std.specs.Io.KnownBytes.{Appends}
 use Rattle.std.proofs.KnownBytes.{Appends-nil}
+use Rattle.std.proofs.Math.Seq.{take-length}
+use Rattle.sz_io.specs.declared.error.WriteError.{WriteError}
+use Rattle.sz_io.specs.declared.error.WriteError.TheVariants as write
+use Rattle.sz_io.specs.Calls.{bytes_taken}
 use Rattle.sz_io.specs.Rose.{Rose}
 use Rattle.sz_io.specs.declared.files.Files as files
 use Rattle.sz_io.specs.declared.sink.Sink as sink
@@ -30,12 +34,99 @@ fits_done : (answer : Answer) (output : List ℕ) (old new : Option (List ℕ)) 
 fits_done answer output old new is h =
     subst (λ a. Fits a status.Done old new) (sym is) (record { status_is = refl; output = h })
 
+-- a failure before anything was printed
+fits_error : (answer : Answer) (f : Failure) (rose : Type 0) (old new : Option (List ℕ)) → Decides (Err f) answer rose → Appends old new [] → Fits answer (status_of f) old new
+fits_error answer Usage rose old new decides h = record { status_is = sym (ap (λ (a : Answer). a.status) decides); output = h }
+fits_error answer TooLong rose old new decides h = record { status_is = sym (ap (λ (a : Answer). a.status) decides); output = h }
+fits_error answer NotBuilt rose old new decides h = record { status_is = sym (ap (λ (a : Answer). a.status) decides); output = h }
+fits_error answer Limit rose old new decides h = record { status_is = sym (ap (λ (a : Answer). a.status) decides); output = h }
+fits_error answer ReadFailed rose old new decides h = record { status_is = decides.1; output = h }
+fits_error answer WriteFailed rose old new decides h = absurd decides
+fits_error answer NoMemory rose old new decides h = record { status_is = tt; output = prefix_none old answer.output new h }
+
 -- a failure, before or while something was printed
 fits_failure : (answer : Answer) (f : Failure) (made : Result (List ℕ) Failure) (rose : Type 0) (old new : Option (List ℕ)) → Decides made answer rose
     → Prints {T = Unit {0}} old new made (Err f) → Fits answer (status_of f) old new
-fits_failure answer f made rose old new decides printed = ?
+fits_failure answer f (Err g) rose old new decides printed =
+    subst (λ x. Fits answer (status_of x) old new) (sym printed.0) (fits_error answer g rose old new decides printed.1)
+fits_failure answer WriteFailed (Ok output) rose old new decides printed =
+    subst (λ a. Fits a status.WriteFailed old new) (sym decides) (record { status_is = refl; output = printed })
+fits_failure answer NoMemory (Ok output) rose old new decides printed =
+    subst (λ a. Fits a status.NoMemory old new) (sym decides) (record { status_is = tt; output = printed })
+fits_failure answer Usage (Ok output) rose old new decides printed = absurd printed
+fits_failure answer TooLong (Ok output) rose old new decides printed = absurd printed
+fits_failure answer NotBuilt (Ok output) rose old new decides printed = absurd printed
+fits_failure answer Limit (Ok output) rose old new decides printed = absurd printed
+fits_failure answer ReadFailed (Ok output) rose old new decides printed = absurd printed
+
+line_error : (answer : Answer) (f : Failure) (rose : Type 0) → Decides (Err f) answer rose → line_of_failure f ≡ line_of answer (status_of f)
+line_error answer Usage rose decides = sym (ap (λ (a : Answer). a.line) decides)
+line_error answer TooLong rose decides = sym (ap (λ (a : Answer). a.line) decides)
+line_error answer NotBuilt rose decides = sym (ap (λ (a : Answer). a.line) decides)
+line_error answer Limit rose decides = sym (ap (λ (a : Answer). a.line) decides)
+line_error answer ReadFailed rose decides = refl
+line_error answer WriteFailed rose decides = refl
+line_error answer NoMemory rose decides = refl
 
 -- the line of a failure is that of its status
 line_is : (answer : Answer) (f : Failure) (made : Result (List ℕ) Failure) (rose : Type 0) (old new : Option (List ℕ)) → Decides made answer rose
     → Prints {T = Unit {0}} old new made (Err f) → line_of_failure f ≡ line_of answer (status_of f)
-line_is answer f made rose old new decides printed = ?
+line_is answer f (Err g) rose old new decides printed =
+    subst (λ x. line_of_failure x ≡ line_of answer (status_of x)) (sym printed.0) (line_error answer g rose decides)
+line_is answer WriteFailed (Ok output) rose old new decides printed = refl
+line_is answer NoMemory (Ok output) rose old new decides printed = refl
+line_is answer Usage (Ok output) rose old new decides printed = absurd printed
+line_is answer TooLong (Ok output) rose old new decides printed = absurd printed
+line_is answer NotBuilt (Ok output) rose old new decides printed = absurd printed
+line_is answer Limit (Ok output) rose old new decides printed = absurd printed
+line_is answer ReadFailed (Ok output) rose old new decides printed = absurd printed
+
+module _ {F O E : Type 0} (the_files : files.Ghosts F) (the_out : sink.Ghosts O) (the_err : sink.Ghosts E) (words : List (List ℕ))
+    (old new : F) (out new_out : O) (err : E) where
+  -- all was printed, and nothing is told
+  pub means_done : (made : Result (List ℕ) Failure) → Answers the_files (settings_in words) old new made → Prints {T = Unit {0}} (the_out.taken out) (the_out.taken new_out) made (Ok tt)
+      → MeansSource the_files the_out the_err words status.Done old new out new_out err err
+  means_done (Err f) a printed = absurd printed
+  means_done (Ok output) a printed =
+      let o = outcome words a.text a.input in
+      let fit = fits_done o output (the_out.taken out) (the_out.taken new_out) a.decides printed in
+      let no_line : [] ≡ o.line = sym (ap (λ (x : Answer). x.line) a.decides) in
+      record {
+        text = a.text;
+        input = a.input;
+        held = a.held;
+        answers = fit.status_is;
+        output = fit.output;
+        line = subst (GainsLine the_err err err) no_line (record { count = 0; appends = Appends-nil (the_err.taken err); whole = inl (omega arith) });
+        opened = a.opened;
+      }
+
+  -- a failure, and its line is told
+  pub means_failure : (new_err : E) (f : Failure) (made : Result (List ℕ) Failure) → Answers the_files (settings_in words) old new made
+      → Prints {T = Unit {0}} (the_out.taken out) (the_out.taken new_out) made (Err f) → GainsLine the_err err new_err (line_of_failure f)
+      → MeansSource the_files the_out the_err words (status_of f) old new out new_out err new_err
+  means_failure new_err f made a printed told =
+      let o = outcome words a.text a.input in
+      let fit = fits_failure o f made _ (the_out.taken out) (the_out.taken new_out) a.decides printed in
+      record {
+        text = a.text;
+        input = a.input;
+        held = a.held;
+        answers = fit.status_is;
+        output = fit.output;
+        line = subst (GainsLine the_err err new_err) (line_is o f made _ (the_out.taken out) (the_out.taken new_out) a.decides printed) told;
+        opened = a.opened;
+      }
+
+-- what a write of a line says of it, whatever it answers
+pub line_told : {E : Type 0} (the_err : sink.Ghosts E) (old new : E) (line : List ℕ) (r : Result (Unit {0}) WriteError)
+    → OnOk r (Appends (the_err.taken old) (the_err.taken new) line) → IfErr r (λ e. Appends (the_err.taken old) (the_err.taken new) (take (bytes_taken e) line))
+    → ((n : ℕ) → r ≡ Err (write.Failed n) → Rose (the_err.faults old) (the_err.faults new))
+    → ((n : ℕ) → r ≡ Err (write.NoMemory n) → Rose (the_err.refusals old) (the_err.refusals new)) → GainsLine the_err old new line
+line_told the_err old new line (Ok _) whole part failed refused = record {
+    count = length line;
+    appends = subst (Appends (the_err.taken old) (the_err.taken new)) (sym (take-length line)) whole;
+    whole = inl (omega arith);
+  }
+line_told the_err old new line (Err (write.Failed n)) whole part failed refused = record { count = n; appends = part; whole = inr (inl (failed n refl)) }
+line_told the_err old new line (Err (write.NoMemory n)) whole part failed refused = record { count = n; appends = part; whole = inr (inr (refused n refl)) }
