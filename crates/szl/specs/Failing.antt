@@ -5,6 +5,19 @@ use Rattle.szl.specs.declared.status.Status.TheVariants as status
 use Rattle.szl.specs.declared.failure.Failure.{Failure}
 use Rattle.szl.specs.declared.failure.Failure.TheVariants.{Usage, TooLong, NotBuilt, Limit, ReadFailed, WriteFailed, NoMemory}
 
+-- the number that a status has as the exit status of the process
+abbrev pub code_of : Status → ℕ
+code_of status.Done = 0
+code_of status.Usage = 1
+code_of status.Program = 2
+code_of status.RecordFault = 3
+code_of status.Damaged = 4
+code_of status.ReadFailed = 5
+code_of status.WriteFailed = 6
+code_of status.ShardLost = 7
+code_of status.NoMemory = 8
+code_of status.Limit = 9
+
 -- the exit status of a failure
 abbrev pub status_of : Failure → Status
 status_of Usage = status.Usage

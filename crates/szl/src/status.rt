@@ -1,4 +1,6 @@
 //! How a call of the program ends.
+ghost use Rattle.std.specs.Prelude.{◌≡◌};
+ghost use Rattle.szl.specs.Failing.{code_of};
 
 /// The exit statuses 0 to 9, in order.
 #[derive(Clone, Copy, Debug, PartialEq, Eq)]
@@ -23,4 +25,13 @@ pub enum Status {
     NoMemory,
     /// The input passes a limit.
     Limit,
+}
+
+impl Status {
+    /// The number of the status, from 0.
+    pub fn code(self) -> u8
+        ensures value { result ≡ code_of self }
+    {
+        self as u8
+    }
 }
