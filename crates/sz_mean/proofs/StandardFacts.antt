@@ -1,13 +1,12 @@
 -- Worked examples of the definitions.
-use Rattle.std.specs.Prelude.{◌≡◌, ℤ, pos, negsuc, List, [], ◌∷◌, ◌++◌, Some, None, codes, refl, option_map}
+use Rattle.std.specs.Prelude.{◌≡◌, pos, negsuc, [], ◌∷◌, Some, None, codes, refl}
 use Rattle.std.specs.Int.{int_wrap}
-use Rattle.sz_value.specs.Data.{Datum, int, bytes}
-use Rattle.sz_mean.specs.declared.operator.BinOp.TheVariants.{Add, Sub, Mul}
+use Rattle.sz_value.specs.Data.{int}
+use Rattle.sz_mean.specs.declared.operator.BinOp.TheVariants.{Mul}
 use Rattle.sz_mean.specs.Numbers.{number_in}
 use Rattle.sz_mean.specs.Tree.{number, variable, input, convert, binary, declare, emit, Prog}
-use Rattle.sz_mean.specs.Outcomes.{EmitDatum, Done}
+use Rattle.sz_mean.specs.Outcomes.{Done}
 use Rattle.sz_mean.specs.Meaning.{mean}
-use Rattle.sz_mean.specs.Rows.{emitted_to, row_of}
 use Rattle.sz_mean.specs.Programs.{lexemes, sentence, program_in}
 
 -- a text of one table, one variable and one emit

@@ -1,9 +1,9 @@
 -- What a program means for one record: expressions give slots, statements change variables and emit.
-use Rattle.std.specs.Prelude.{ℕ, List, [], ◌∷◌, ◌++◌, Option, Some, None, slice_get, slice_set, replicate, unwrap_or, flat_map}
+use Rattle.std.specs.Prelude.{ℕ, List, [], ◌∷◌, ◌++◌, Some, None, slice_get, slice_set, replicate, unwrap_or, flat_map}
 use Rattle.sz_value.specs.Data.{Datum, int, bytes}
 use Rattle.sz_mean.specs.Numbers.{operated, converted}
 use Rattle.sz_mean.specs.Tree.{Exp, number, variable, input, convert, binary, Stm, declare, emit, Prog}
-use Rattle.sz_mean.specs.Outcomes.{Slot, EmitDatum, World, Where, Eval, Value, Fails, Exec, Normal, Faults, Outcome, Done, Fault}
+use Rattle.sz_mean.specs.Outcomes.{Slot, EmitDatum, World, Eval, Value, Fails, Exec, Normal, Faults, Outcome, Done, Fault}
 
 -- the slot of a variable, undefined where there is no such variable
 abbrev pub slot_at : List Slot → ℕ → Slot

@@ -1,5 +1,5 @@
 -- Whole numbers: which texts spell one, and what the operators make of two.
-use Rattle.std.specs.Prelude.{ℕ, ◌^◌, ℤ, pos, negsuc, ◌+ℤ◌, ◌-ℤ◌, ◌*ℤ◌, List, [], ◌∷◌, Bool, true, false, ◌&&◌, not, Option, Some, None, length, nat_lt, ◌==◌, if◌then◌else◌, option_map}
+use Rattle.std.specs.Prelude.{ℕ, ◌^◌, ℤ, pos, negsuc, ◌+ℤ◌, ◌-ℤ◌, ◌*ℤ◌, List, Bool, ◌&&◌, Option, Some, None, length, nat_lt, if◌then◌else◌, option_map}
 use Rattle.std.specs.Int.{int_wrap, w64}
 use Rattle.std.specs.List.{list_all}
 use Rattle.std.specs.Char.{is_ascii_digit}

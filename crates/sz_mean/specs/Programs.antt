@@ -2,7 +2,7 @@
 -- A program is a list of statements, each ended by a semicolon:
 --   NAME: table sum of int;     NAME: int = input;     NAME: int = VALUE;     emit TABLE <- VALUE;
 -- A VALUE is one operand, or two with `+`, `-` or `*` between them; an operand is a decimal number or a variable.
-use Rattle.std.specs.Prelude.{ℕ, ℤ, zero, suc, ◌+◌, List, [], ◌∷◌, ◌++◌, length, slice_index, Bool, true, false, not, ◌&&◌, ◌||◌, nat_lt, nat_le, nat_eq, ◌==◌, if◌then◌else◌, Option, Some, None, option_map, option_and_then, bytes_eq, codes}
+use Rattle.std.specs.Prelude.{ℕ, List, [], ◌∷◌, ◌++◌, length, slice_index, Bool, false, not, ◌&&◌, ◌||◌, nat_lt, nat_le, nat_eq, if◌then◌else◌, Option, Some, None, option_map, option_and_then, bytes_eq, codes}
 use Rattle.std.specs.List.{list_all, list_any, position_from, slice_split, onto_first}
 use Rattle.std.specs.Cmp.Lexicographic.{pointwise}
 use Rattle.std.specs.Char.{is_ascii_digit}

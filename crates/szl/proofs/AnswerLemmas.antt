@@ -1,9 +1,8 @@
 -- How the answer for a command line is put together: from the program's text, the program, and the input.
-use Rattle.std.proofs.Common.{◌≡◌, ◌≢◌, ℕ, zero, suc, ◌+◌, ◌-◌, ◌^◌, ◌<◌, ◌≤◌, ◌⊎◌, List, [], ◌∷◌, ◌++◌, length, take, Bool, true, false, Option, Some, None, refl, sym, ap, ◌∙◌, subst, arith, inl, inr, append-nil, append_assoc}
-use Rattle.std.specs.Prelude.{IfSome, unwrap_or, Result, Ok, Err, codes, nat_lt, nat_le, ◌&&◌, if◌then◌else◌, ⊤}
+use Rattle.std.proofs.Common.{◌≡◌, ◌≢◌, ℕ, ◌-◌, ◌<◌, ◌≤◌, ◌⊎◌, List, [], ◌∷◌, ◌++◌, length, Bool, true, false, Option, Some, None, refl, sym, ap, ◌∙◌, subst, arith, inl, inr, append-nil}
+use Rattle.std.specs.Prelude.{unwrap_or, Result, Ok, Err, codes, nat_lt, nat_le, ◌&&◌, if◌then◌else◌}
 use Rattle.std.proofs.lemmas.Bool.Decides.{nat_tests}
 use Rattle.sz_io.specs.Rose.{Rose}
-use Rattle.sz_io.specs.Opened.{KeepsFiles}
 use Rattle.sz_io.specs.declared.files.Files as files
 use Rattle.sz_mean.specs.Tree.{Prog}
 use Rattle.sz_mean.specs.Programs.{program_in}
@@ -11,13 +10,11 @@ use Rattle.szl.specs.declared.status.Status.{Status}
 use Rattle.szl.specs.declared.status.Status.TheVariants as status
 use Rattle.szl.specs.declared.failure.Failure.{Failure}
 use Rattle.szl.specs.declared.failure.Failure.TheVariants.{Usage, TooLong, NotBuilt, Limit, ReadFailed, WriteFailed, NoMemory}
-use Rattle.szl.specs.Failing.{status_of, line_of_failure}
-use Rattle.szl.specs.Opening.{TellsText, ReadsText, GainsName, IsCause, Decides, Answers, AnswersOn}
-use Rattle.szl.specs.Outcome.{Answer, outcome_of_program, outcome_of_reading, outcome_of_text, outcome_of_settings, success, refusal, most_program_bytes}
-use Rattle.szl.specs.Promise.{OpensFirst, most_opened, names_asked, AreHeld}
+use Rattle.szl.specs.Opening.{ReadsText, GainsName, Decides, AnswersOn}
+use Rattle.szl.specs.Outcome.{Answer, outcome_of_program, outcome_of_reading, outcome_of_text, success, refusal, most_program_bytes}
+use Rattle.szl.specs.Promise.{OpensFirst, most_opened}
 use Rattle.szl.specs.Records.{is_within_limits, most_input_bytes}
 use Rattle.szl.specs.Running.{GivesTables}
-use Rattle.szl.specs.Settings.{Settings}
 use Rattle.szl.proofs.OpeningLemmas.{holds_or}
 use Rattle.szl.proofs.ProgramLemmas.{outcome_past}
 
@@ -61,6 +58,7 @@ past_limit p input past = outcome_past p input (first_fails _ _ _ (too_many (len
   where
     too_many : (a b : ℕ) → b < a → nat_le a b ≡ false
     too_many a b lt = grind (arith, nat_tests)
+
     first_fails : (a b c : Bool) → a ≡ false → (a && b && c) ≡ false
     first_fails false b c h = refl
     first_fails true b c h = absurd (cc)
@@ -70,17 +68,17 @@ module _ {F : Type 0} (the_files : files.Ghosts F) (name : List ℕ) (old new : 
   pub input_fails : (p : Prog) (f : Failure) → ReadsText (the_files.held old name) most_input_bytes Limit (Rose (the_files.faults old) (the_files.faults new)) (Err f)
       → GainsName (the_files.names old) (the_files.names new) name (Err f) → AnswersOn the_files (outcome_of_program p) name old new (Err f)
   input_fails p Limit reads gains = record {
-      input = reads.text;
-      holds = reads.holds;
-      decides = past_limit p reads.text reads.tells.1;
-      opened = opened_one name _ _ _ (one_left p reads.text) gains;
-    }
+    input = reads.text;
+    holds = reads.holds;
+    decides = past_limit p reads.text reads.tells.1;
+    opened = opened_one name _ _ _ (one_left p reads.text) gains;
+  }
   input_fails p ReadFailed reads gains = record {
-      input = reads.text;
-      holds = reads.holds;
-      decides = (reads.tells, not_usage _ (run_status p reads.text));
-      opened = opened_one name _ _ _ (one_left p reads.text) gains;
-    }
+    input = reads.text;
+    holds = reads.holds;
+    decides = (reads.tells, not_usage _ (run_status p reads.text));
+    opened = opened_one name _ _ _ (one_left p reads.text) gains;
+  }
   input_fails p NoMemory reads gains = record { input = reads.text; holds = reads.holds; decides = tt; opened = gained name _ _ _ (one_left p reads.text) gains }
   input_fails p Usage reads gains = let e = reads.tells.0 in absurd (cc)
   input_fails p TooLong reads gains = let e = reads.tells.0 in absurd (cc)
@@ -101,20 +99,20 @@ module _ {F : Type 0} (the_files : files.Ghosts F) (name : List ℕ) (old new : 
   pub input_read : (p : Prog) (bytes : List ℕ) (answer : Result (List ℕ) Failure) → ReadsText (the_files.held old name) most_input_bytes Limit (Rose (the_files.faults old) (the_files.faults new)) (Ok bytes)
       → the_files.names new ≡ the_files.names old ++ name ∷ [] → GivesTables p bytes answer → AnswersOn the_files (outcome_of_program p) name old new answer
   input_read p bytes answer reads gains gives = record {
-      input = reads.text;
-      holds = reads.holds;
-      decides = decides_run p bytes reads.text answer _ reads.tells.0 gives;
-      opened = opened_one name _ _ _ (one_left p reads.text) gains;
-    }
+    input = reads.text;
+    holds = reads.holds;
+    decides = decides_run p bytes reads.text answer _ reads.tells.0 gives;
+    opened = opened_one name _ _ _ (one_left p reads.text) gains;
+  }
 
   -- the outcome is the same where the text is the program's
   pub same_outcome : (f g : List ℕ → Answer) (answer : Result (List ℕ) Failure) → ((input : List ℕ) → f input ≡ g input) → AnswersOn the_files f name old new answer → AnswersOn the_files g name old new answer
   same_outcome f g answer same a = record {
-      input = a.input;
-      holds = a.holds;
-      decides = subst (λ o. Decides answer o (Rose (the_files.faults old) (the_files.faults new))) (same a.input) a.decides;
-      opened = subst (λ (o : Answer). OpensFirst (name ∷ []) (the_files.names old) (the_files.names new) (most_opened o.status - 1)) (same a.input) a.opened;
-    }
+    input = a.input;
+    holds = a.holds;
+    decides = subst (λ o. Decides answer o (Rose (the_files.faults old) (the_files.faults new))) (same a.input) a.decides;
+    opened = subst (λ (o : Answer). OpensFirst (name ∷ []) (the_files.names old) (the_files.names new) (most_opened o.status - 1)) (same a.input) a.opened;
+  }
 
 -- the outcome of a text within the limit, as it is read
 reading_outcome : (text input : List ℕ) (read : Option Prog) → length text ≤ most_program_bytes → program_in text ≡ read → outcome_of_text text input ≡ outcome_of_reading read input
@@ -128,19 +126,19 @@ reading_outcome text input read short is =
 module _ {F : Type 0} (the_files : files.Ghosts F) (name : List ℕ) (old : F) where
   pub not_built : (text : List ℕ) → length text ≤ most_program_bytes → program_in text ≡ None → AnswersOn the_files (outcome_of_text text) name old old (Err NotBuilt)
   not_built text short is = record {
-      input = unwrap_or (the_files.held old name) [];
-      holds = holds_or (the_files.held old name) [];
-      decides = reading_outcome text _ None short is;
-      opened = opened_none (name ∷ []) _ _;
-    }
+    input = unwrap_or (the_files.held old name) [];
+    holds = holds_or (the_files.held old name) [];
+    decides = reading_outcome text _ None short is;
+    opened = opened_none (name ∷ []) _ _;
+  }
 
   pub no_memory : (f : List ℕ → Answer) → AnswersOn the_files f name old old (Err NoMemory)
   no_memory f = record {
-      input = unwrap_or (the_files.held old name) [];
-      holds = holds_or (the_files.held old name) [];
-      decides = tt;
-      opened = opened_none (name ∷ []) _ _;
-    }
+    input = unwrap_or (the_files.held old name) [];
+    holds = holds_or (the_files.held old name) [];
+    decides = tt;
+    opened = opened_none (name ∷ []) _ _;
+  }
 
 pub program_outcome : (text : List ℕ) (p : Prog) → length text ≤ most_program_bytes → program_in text ≡ Some p → (input : List ℕ) → outcome_of_program p input ≡ outcome_of_text text input
 program_outcome text p short is input = sym (reading_outcome text input (Some p) short is)

@@ -1,8 +1,8 @@
 -- What a statement adds to a program in the making, and that what is read is sound.
-use Rattle.std.proofs.Common.{◌≡◌, ℕ, suc, ◌+◌, ◌<◌, ◌≤◌, List, [], ◌∷◌, ◌++◌, length, Bool, true, false, Option, Some, None, refl, sym, ap, ◌∙◌, subst, arith, length-append}
+use Rattle.std.proofs.Common.{◌≡◌, ℕ, suc, ◌+◌, ◌<◌, ◌≤◌, List, [], ◌∷◌, ◌++◌, length, Bool, true, false, Option, Some, None, refl, subst, arith, length-append}
 use Rattle.std.specs.Prelude.{IfSome, if◌then◌else◌, ◌&&◌, nat_lt, nat_eq, ℤ, option_and_then, option_map, bytes_eq, codes}
-use Rattle.std.specs.List.{position_from, slice_split}
-use Rattle.sz_mean.specs.Tree.{Exp, number, variable, input, convert, binary, Stm, declare, emit, Prog}
+use Rattle.std.specs.List.{position_from}
+use Rattle.sz_mean.specs.Tree.{Exp, number, variable, input, convert, declare, emit}
 use Rattle.sz_mean.specs.Programs.{Draft, operand, operator_in, operation, value_in, declared_in, with_table, with_variable, with_emit, variable_declared, declaration, emission, sentence, statement, statements, place_of, lexemes, is_decimal, same_texts, is_free}
 use Rattle.sz_mean.specs.Numbers.{number_in}
 use Rattle.sz_mean.specs.declared.operator.BinOp.{BinOp}
@@ -95,11 +95,11 @@ variable_grows name d e typed =
 
 emit_grows : (d : Draft) (t : ℕ) (e : Exp) → IsValueIn d e → IfSome (with_emit d t e) (Grows d)
 emit_grows d t e typed = record {
-    tables = omega arith;
-    variables = omega arith;
-    body = omega (arith, length-append d.body (emit t e ∷ []));
-    sound = λ h. sound_push _ d.body _ h typed;
-  }
+  tables = omega arith;
+  variables = omega arith;
+  body = omega (arith, length-append d.body (emit t e ∷ []));
+  sound = λ h. sound_push _ d.body _ h typed;
+}
 
 declared_grows : (d : Draft) (name : List ℕ) (rest : List (List ℕ)) → IfSome (variable_declared d name rest) (Grows d)
 declared_grows d name [] = tt

@@ -1,7 +1,7 @@
 -- A word at the front of a text is its first lexeme.
-use Rattle.std.proofs.Common.{◌≡◌, ℕ, suc, ◌+◌, ◌<◌, ◌≤◌, List, [], ◌∷◌, take, drop, length, Bool, true, false, refl, sym, ap, ◌∙◌, subst, arith}
+use Rattle.std.proofs.Common.{◌≡◌, ℕ, suc, ◌+◌, ◌<◌, ◌≤◌, List, [], ◌∷◌, take, drop, length, Bool, true, false, refl, sym, ap, ◌∙◌, arith}
 use Rattle.std.proofs.lemmas.Bool.Decides.{nat_tests}
-use Rattle.std.specs.Prelude.{◌&&◌, ◌||◌, nat_eq, if◌then◌else◌, slice_index}
+use Rattle.std.specs.Prelude.{nat_eq, if◌then◌else◌, slice_index}
 use Rattle.std.specs.List.{prefix_len, onto_first}
 use Rattle.std.proofs.lemmas.List.Sums.{prefix_len-le-length}
 use Rattle.sz_mean.specs.Programs.{is_blank, is_word_byte, goes_on, lexemes}
@@ -39,6 +39,7 @@ word_goes_on b c cs true word is rest =
   where
     longer : prefix_len is_word_byte (c ∷ cs) ≡ 1 + prefix_len is_word_byte cs
     longer = rw is refl
+
     one_more : 1 + prefix_len is_word_byte cs ≡ suc (prefix_len is_word_byte cs)
     one_more = omega arith
 word_goes_on b c cs false word is rest =
@@ -61,6 +62,7 @@ front_word (b ∷ bs) some word =
   where
     longer : prefix_len is_word_byte (b ∷ bs) ≡ 1 + prefix_len is_word_byte bs
     longer = rw word refl
+
     one_more : 1 + prefix_len is_word_byte bs ≡ suc (prefix_len is_word_byte bs)
     one_more = omega arith
 

@@ -1,5 +1,5 @@
 -- The promise of the top call, from the answer, what was printed of it, and the line.
-use Rattle.std.proofs.Common.{◌≡◌, ℕ, ◌≤◌, ◌⊎◌, List, [], ◌∷◌, ◌++◌, length, take, Option, Some, None, refl, sym, ap, ◌∙◌, subst, arith, inl, inr}
+use Rattle.std.proofs.Common.{◌≡◌, ℕ, List, [], length, take, Option, refl, sym, ap, subst, arith, inl, inr}
 use Rattle.std.specs.Prelude.{Result, Ok, Err, OnOk, IfErr}
 use Rattle.std.specs.Io.KnownBytes.{Appends}
 use Rattle.std.proofs.KnownBytes.{Appends-nil}
@@ -124,9 +124,9 @@ pub line_told : {E : Type 0} (the_err : sink.Ghosts E) (old new : E) (line : Lis
     → ((n : ℕ) → r ≡ Err (write.Failed n) → Rose (the_err.faults old) (the_err.faults new))
     → ((n : ℕ) → r ≡ Err (write.NoMemory n) → Rose (the_err.refusals old) (the_err.refusals new)) → GainsLine the_err old new line
 line_told the_err old new line (Ok _) whole part failed refused = record {
-    count = length line;
-    appends = subst (Appends (the_err.taken old) (the_err.taken new)) (sym (take-length line)) whole;
-    whole = inl (omega arith);
-  }
+  count = length line;
+  appends = subst (Appends (the_err.taken old) (the_err.taken new)) (sym (take-length line)) whole;
+  whole = inl (omega arith);
+}
 line_told the_err old new line (Err (write.Failed n)) whole part failed refused = record { count = n; appends = part; whole = inr (inl (failed n refl)) }
 line_told the_err old new line (Err (write.NoMemory n)) whole part failed refused = record { count = n; appends = part; whole = inr (inr (refused n refl)) }

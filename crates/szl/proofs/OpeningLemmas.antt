@@ -1,6 +1,6 @@
 -- What reading the files of a command line says of their texts.
-use Rattle.std.proofs.Common.{◌≡◌, ℕ, ◌+◌, ◌<◌, ◌≤◌, ◌⊎◌, List, [], ◌∷◌, length, Option, Some, None, refl, sym, subst, arith, inl, inr}
-use Rattle.std.specs.Prelude.{IfSome, unwrap_or, replicate, Result, Ok, Err}
+use Rattle.std.proofs.Common.{◌≡◌, ℕ, ◌+◌, ◌<◌, ◌⊎◌, List, [], length, Option, Some, None, refl, sym, subst, arith, inl, inr}
+use Rattle.std.specs.Prelude.{IfSome, unwrap_or, replicate, Err}
 use Rattle.std.proofs.lemmas.List.{length-replicate}
 use Rattle.szl.specs.declared.failure.Failure.{Failure}
 use Rattle.szl.specs.declared.failure.Failure.TheVariants.{TooLong, Limit, ReadFailed, NoMemory}
@@ -24,10 +24,10 @@ long_or (Some bytes) limit h = h
 reads_past_as : (held : Option (List ℕ)) (limit : ℕ) (past : Failure) (rose : Type 0) → IfSome held (λ bytes. limit < length bytes) → ((text : List ℕ) → limit < length text → TellsText text limit past rose (Err past))
     → ReadsText held limit past rose (Err past)
 reads_past_as held limit past rose long tells = record {
-    text = unwrap_or held (replicate (limit + 1) 0);
-    holds = holds_or held (replicate (limit + 1) 0);
-    tells = tells (unwrap_or held (replicate (limit + 1) 0)) (long_or held limit long);
-  }
+  text = unwrap_or held (replicate (limit + 1) 0);
+  holds = holds_or held (replicate (limit + 1) 0);
+  tells = tells (unwrap_or held (replicate (limit + 1) 0)) (long_or held limit long);
+}
 
 pub reads_past : (held : Option (List ℕ)) (limit : ℕ) (past : Failure) (rose : Type 0) → IfSome held (λ bytes. limit < length bytes) → (past ≡ TooLong) ⊎ (past ≡ Limit)
     → ReadsText held limit past rose (Err past)

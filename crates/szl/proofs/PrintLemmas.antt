@@ -1,5 +1,5 @@
 -- How the text of the tables is printed one after the other.
-use Rattle.std.proofs.Common.{◌≡◌, ℕ, zero, suc, ◌+◌, ◌<◌, ◌≤◌, ℤ, List, [], ◌∷◌, ◌++◌, length, get_or, drop, Option, Some, None, refl, sym, ap, ◌∙◌, subst, arith, append_assoc, append-nil}
+use Rattle.std.proofs.Common.{◌≡◌, ℕ, zero, suc, ◌+◌, ◌<◌, ℤ, List, [], ◌∷◌, ◌++◌, length, get_or, drop, Option, Some, refl, sym, ap, ◌∙◌, arith, append_assoc, append-nil}
 use Rattle.std.specs.Prelude.{slice_get}
 use Rattle.std.specs.Borrow.{Bor}
 use Rattle.sz_mean.specs.Outcomes.{EmitDatum}
@@ -28,7 +28,7 @@ pub print_more : (names : List (Bor (List ℕ))) (totals : Totals) (table : ℕ)
     → table < length names → length names ≡ length totals.rows → name ≡ get_or names table name → slice_get totals.rows table ≡ Some row
     → next ≡ text ++ row_text name.now row → IsPrintedUpTo names totals table text → IsPrintedUpTo names totals (table + 1) next
 print_more names totals table text next name row there same is got grown h = record {
-    printed = λ emits stands.
+  printed = λ emits stands.
       let the_row = some_same row (row_of (emitted_to table emits)) (sym got ∙ stands.rows table (omega (arith, there, same))) in
       let more : suc table ≡ table + 1 = omega arith in
       let rest = tables_text (table + 1) (texts (drop (table + 1) names)) emits in
@@ -37,7 +37,7 @@ print_more names totals table text next name row there same is got grown h = rec
       ∙ ap (λ n. text ++ (row_text name.now (row_of (emitted_to table emits)) ++ tables_text (table + 1) (texts (drop n names)) emits)) (sym more)
       ∙ ap (λ ns. text ++ tables_text table (texts ns) emits) (sym (names_from names table name there is))
       ∙ h.printed emits stands;
-  }
+}
 
 pub print_all : (names : List (Bor (List ℕ))) (totals : Totals) (text : List ℕ) → IsPrintedUpTo names totals (length names) text
     → (emits : List EmitDatum) → StandFor totals emits → text ≡ tables_text 0 (texts names) emits

@@ -1,26 +1,23 @@
 -- A program that was read may run, and what its run gives is its outcome.
-use Rattle.std.proofs.Common.{◌≡◌, ℕ, ◌+◌, ◌^◌, ◌<◌, ◌≤◌, List, [], ◌∷◌, length, Bool, true, false, Option, Some, None, refl, sym, ap, ◌∙◌, subst, arith, length-append}
-use Rattle.std.specs.Prelude.{IfSome, option_map, nat_eq, flat_map, if◌then◌else◌, codes}
-use Rattle.std.specs.List.{slice_split}
+use Rattle.std.proofs.Common.{◌≡◌, ℕ, ◌≤◌, List, length, true, false, Option, Some, None, sym, ap, ◌∙◌, subst, arith}
+use Rattle.std.specs.Prelude.{IfSome, option_map, nat_eq, if◌then◌else◌, codes}
 use Rattle.std.proofs.lemmas.List.Splits.{length-slice_split}
 use Rattle.std.proofs.lemmas.List.Sums.{count_by-le-length}
 use Rattle.sz_mean.specs.Tree.{Prog}
-use Rattle.sz_mean.specs.Outcomes.{EmitDatum}
 use Rattle.sz_mean.specs.Meaning.{mean, emits_of, all_emits}
 use Rattle.sz_mean.specs.Programs.{Draft, empty_draft, statements, finished, program_in}
 use Rattle.sz_machine.specs.declared.code.Code.{Code}
-use Rattle.sz_machine.specs.Machine.{RunsTo}
 use Rattle.szl.specs.declared.status.Status.TheVariants as status
 use Rattle.szl.specs.Code.{IsCodeOf}
 use Rattle.szl.specs.Cuts.{pieces}
 use Rattle.szl.specs.Records.{records_in, is_within_limits}
-use Rattle.szl.specs.Outcome.{outcome_of_program, success, refusal, default_budget, most_program_bytes}
-use Rattle.szl.specs.Running.{EndsWithFew, MayRun, SumsAll, IsRead}
+use Rattle.szl.specs.Outcome.{outcome_of_program, success, refusal, default_budget}
+use Rattle.szl.specs.Running.{MayRun, SumsAll, IsRead}
 use Rattle.szl.specs.Text.{tables_text}
 use Rattle.szl.specs.Totals.{Totals, StandFor}
-use Rattle.szl.proofs.Growth.{GrowsBy, statements_grow, if_some_is}
+use Rattle.szl.proofs.Growth.{GrowsBy, statements_grow}
 use Rattle.szl.proofs.Sound.{AreSound}
-use Rattle.szl.proofs.Simulation.{Simulates, simulates}
+use Rattle.szl.proofs.Simulation.{simulates}
 use Rattle.szl.proofs.RecordLemmas.{emits_few, runs_to}
 
 -- what reading makes of a text: sound statements, at most one for each piece

@@ -1,11 +1,10 @@
 -- How a text is read statement by statement.
 use Rattle.std.proofs.Common.{◌≡◌, ◌≢◌, ℕ, suc, ◌+◌, ◌<◌, ◌≤◌, ◌^◌, List, [], ◌∷◌, length, Bool, true, false, Option, Some, None, refl, sym, ap, ◌∙◌, subst, arith}
-use Rattle.std.specs.Prelude.{nat_eq, IfSome, if◌then◌else◌, option_and_then, option_map}
+use Rattle.std.specs.Prelude.{nat_eq, if◌then◌else◌, option_and_then, option_map}
 use Rattle.std.specs.Borrow.{Bor}
 use Rattle.std.specs.List.{slice_split, onto_first, list_all}
 use Rattle.std.proofs.lemmas.List.Splits.{slice_split-cons_yes, slice_split-cons_no}
 use Rattle.std.proofs.lemmas.Bool.Decides.{nat_tests}
-use Rattle.sz_mean.specs.Tree.{Prog}
 use Rattle.sz_mean.specs.Programs.{Draft, empty_draft, is_blank, goes_on, lexemes, value_in, statement, statements, finished, program_in}
 use Rattle.szl.specs.View.{texts, HasRoom}
 use Rattle.szl.specs.Cuts.{pieces}
@@ -69,7 +68,7 @@ read_more text rest piece behind d next read cut len is =
     let grown = if_some_is (Grows d) (statement d (lexemes piece)) next (statement_grows d (lexemes piece)) (sym is) in
     record {
       same = ap (option_and_then (λ (n : Draft). statements n (pieces 59 behind))) is ∙ sym (statements_step d piece behind)
-        ∙ ap (statements d) (sym cut) ∙ read.same;
+          ∙ ap (statements d) (sym cut) ∙ read.same;
       tables = omega (arith, grown.tables, read.tables);
       variables = omega (arith, grown.variables, read.variables);
     }

@@ -1,10 +1,9 @@
 -- A record's run ends with emits that don't depend on the budget, at most one for each statement.
-use Rattle.std.proofs.Common.{◌≡◌, ℕ, zero, suc, ◌+◌, ◌≤◌, List, [], ◌∷◌, ◌++◌, length, Option, Some, None, refl, sym, ap, ◌∙◌, subst, arith, length-append, append_assoc, append-nil}
+use Rattle.std.proofs.Common.{◌≡◌, ℕ, ◌≤◌, List, [], ◌∷◌, ◌++◌, length, Some, None, refl, sym, ap, ◌∙◌, subst, arith, length-append, append_assoc, append-nil}
 use Rattle.std.specs.Prelude.{slice_set, replicate}
-use Rattle.sz_value.specs.Data.{Datum}
 use Rattle.sz_mean.specs.Numbers.{operated, converted}
 use Rattle.sz_mean.specs.Tree.{Exp, number, variable, input, convert, binary, Stm, declare, emit, Prog}
-use Rattle.sz_mean.specs.Outcomes.{Slot, EmitDatum, World, Eval, Value, Exec, Normal, Outcome, Done}
+use Rattle.sz_mean.specs.Outcomes.{Slot, EmitDatum, World, Value, Exec, Normal, Done}
 use Rattle.sz_mean.specs.Meaning.{on_value, on_values, and_then, with_value, then_do, eval, emitted, exec, exec_all, ended, mean, emits_of}
 use Rattle.sz_machine.specs.declared.code.Code.{Code}
 use Rattle.sz_machine.specs.Machine.{ComesTo, Ends, start, RunsTo, RunEnds}
@@ -32,7 +31,7 @@ gives_slot (binary o a b) locals text =
     record {
       slot = on_values (operated o) left.slot right.slot;
       gives = λ w. ap (λ r. and_then r (λ x w1. and_then (eval b locals text w1) (λ y w2. Value (on_values (operated o) x y) w2))) (left.gives w)
-        ∙ ap (λ r. and_then r (λ y w2. Value (on_values (operated o) left.slot y) w2)) (right.gives w);
+          ∙ ap (λ r. and_then r (λ y w2. Value (on_values (operated o) left.slot y) w2)) (right.gives w);
     }
 
 -- a statement leaves variables and adds emits, in any world
@@ -47,17 +46,17 @@ no_emits w = ap (λ (es : List EmitDatum). record w { emits = es }) (sym (append
 
 emits_one : (t : ℕ) (e : Exp) (text : List ℕ) (locals : List Slot) (v : Slot) → ((w : World) → eval e locals text w ≡ Value v w) → Leaves (exec (emit t e) text) 1 locals
 emits_one t e text locals None gives = record {
-    after = locals;
-    added = [];
-    few = omega arith;
-    leaves = λ w. ap (λ r. with_value r (λ v w1. Normal locals (emitted t v w1))) (gives w) ∙ ap (Normal locals) (no_emits w);
-  }
+  after = locals;
+  added = [];
+  few = omega arith;
+  leaves = λ w. ap (λ r. with_value r (λ v w1. Normal locals (emitted t v w1))) (gives w) ∙ ap (Normal locals) (no_emits w);
+}
 emits_one t e text locals (Some d) gives = record {
-    after = locals;
-    added = record { table = t; value = d } ∷ [];
-    few = omega arith;
-    leaves = λ w. ap (λ r. with_value r (λ v w1. Normal locals (emitted t v w1))) (gives w);
-  }
+  after = locals;
+  added = record { table = t; value = d } ∷ [];
+  few = omega arith;
+  leaves = λ w. ap (λ r. with_value r (λ v w1. Normal locals (emitted t v w1))) (gives w);
+}
 
 statement_leaves : (s : Stm) (text : List ℕ) (locals : List Slot) → Leaves (exec s text) 1 locals
 statement_leaves (declare x e) text locals =
@@ -80,7 +79,7 @@ body_leaves (s ∷ ss) text locals =
       added = one.added ++ rest.added;
       few = omega (arith, one.few, rest.few, length-append one.added rest.added);
       leaves = λ w. ap (λ r. then_do r (exec_all ss text)) (one.leaves w) ∙ rest.leaves (with_emits one.added w)
-        ∙ ap (λ (es : List EmitDatum). Normal rest.after (record w { emits = es })) (append_assoc w.emits one.added rest.added);
+          ∙ ap (λ (es : List EmitDatum). Normal rest.after (record w { emits = es })) (append_assoc w.emits one.added rest.added);
     }
 
 -- the emits of a record, whatever the budget

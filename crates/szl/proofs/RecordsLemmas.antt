@@ -1,5 +1,5 @@
 -- The records of an input, one after the other.
-use Rattle.std.proofs.Common.{◌≡◌, ℕ, ◌+◌, ◌<◌, List, [], ◌∷◌, drop, length, refl, sym, ap, ◌∙◌, subst, arith}
+use Rattle.std.proofs.Common.{◌≡◌, ℕ, ◌<◌, List, [], ◌∷◌, length, refl, sym, ap, ◌∙◌, subst, arith}
 use Rattle.szl.specs.Cuts.{pieces}
 use Rattle.szl.specs.Records.{without_empty_last, records_in}
 use Rattle.szl.proofs.ReadingLemmas.{split_some}

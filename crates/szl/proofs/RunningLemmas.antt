@@ -28,15 +28,15 @@ pub record IsRunUpTo (code : Code) (input rest : List ℕ) (tables count : ℕ) 
 
 pub run_none : (code : Code) (input : List ℕ) (totals : Totals) → StandFor totals [] → IsRunUpTo code input input (length totals.rows) 0 totals
 run_none code input totals none = record {
-    done = [];
-    cut = refl;
-    counted = refl;
-    few = omega arith;
-    short = refl;
-    sums = λ emits_of runs. none;
-    emits = omega (arith, none.count);
-    rows = refl;
-  }
+  done = [];
+  cut = refl;
+  counted = refl;
+  few = omega arith;
+  short = refl;
+  sums = λ emits_of runs. none;
+  emits = omega (arith, none.count);
+  rows = refl;
+}
 
 -- the sums count fewer emits than 62 bits number
 pub few_emits : (code : Code) (input rest : List ℕ) (tables count : ℕ) (totals : Totals) → IsRunUpTo code input rest tables count totals → totals.emits < 2 ^ 62
@@ -104,8 +104,8 @@ run_more code input rest line behind tables count totals next may h cut below sh
       few = omega (arith, below, h.few);
       short = all_push h.done line h.short (at_most (length line) most_record_bytes short);
       sums = λ emits_of runs.
-        subst (λ t. StandFor t (flat_map emits_of (h.done ++ line ∷ []))) (sym (added (emits_of line) (runs line)))
-        (subst (StandFor (all_added totals (emits_of line)))
+          subst (λ t. StandFor t (flat_map emits_of (h.done ++ line ∷ []))) (sym (added (emits_of line) (runs line)))
+          (subst (StandFor (all_added totals (emits_of line)))
           (sym (flat_map-append emits_of h.done (line ∷ []) ∙ ap (λ es. flat_map emits_of h.done ++ es) (append-nil (emits_of line))))
           (stand_all totals (flat_map emits_of h.done) (emits_of line) (h.sums emits_of runs)));
       emits = omega (arith, counted, ended.few, h.emits);
@@ -119,8 +119,8 @@ all_done code input rest tables count totals h none = h.cut ∙ ap (λ r. h.done
 -- the end of the input
 pub run_all : (code : Code) (input rest : List ℕ) (tables count : ℕ) (totals : Totals) → IsRunUpTo code input rest tables count totals → rest ≡ [] → SumsAll code input totals
 run_all code input rest tables count totals h none = record {
-    sums = λ emits_of runs. subst (λ rs. StandFor totals (flat_map emits_of rs)) (sym (all_done code input rest tables count totals h none)) (h.sums emits_of runs);
-  }
+  sums = λ emits_of runs. subst (λ rs. StandFor totals (flat_map emits_of rs)) (sym (all_done code input rest tables count totals h none)) (h.sums emits_of runs);
+}
 
 pub within : (code : Code) (input rest : List ℕ) (tables count : ℕ) (totals : Totals) → IsRunUpTo code input rest tables count totals → rest ≡ [] → length input ≤ most_input_bytes → is_within_limits input ≡ true
 within code input rest tables count totals h none size =
@@ -132,7 +132,7 @@ pub too_many : (code : Code) (input rest line behind : List ℕ) (tables count :
     → records_in rest ≡ line ∷ records_in behind → count ≡ most_records → is_within_limits input ≡ false
 too_many code input rest line behind tables count totals h cut full =
     let many : most_records < length (h.done ++ line ∷ records_in behind) =
-      omega (arith, full, h.counted, length-append h.done (line ∷ records_in behind)) in
+    omega (arith, full, h.counted, length-append h.done (line ∷ records_in behind)) in
     ap (limits_of input) (h.cut ∙ ap (λ r. h.done ++ r) cut) ∙ second_fails _ _ _ (more_than _ most_records many)
 
 pub too_long : (code : Code) (input rest line behind : List ℕ) (tables count : ℕ) (totals : Totals) → IsRunUpTo code input rest tables count totals

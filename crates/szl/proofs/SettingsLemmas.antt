@@ -1,6 +1,6 @@
 -- The answer for the settings of a command line, from that for the program's text.
-use Rattle.std.proofs.Common.{◌≡◌, ◌≢◌, ℕ, zero, suc, ◌+◌, ◌-◌, ◌^◌, ◌<◌, ◌≤◌, ◌⊎◌, List, [], ◌∷◌, ◌++◌, length, take, Bool, true, false, Option, Some, None, refl, sym, ap, ◌∙◌, subst, arith, inl, inr, append-nil, append_assoc}
-use Rattle.std.specs.Prelude.{IfSome, IsSome, IsTrue, unwrap_or, Result, Ok, Err, codes, nat_lt, if◌then◌else◌, ⊤, OnOk}
+use Rattle.std.proofs.Common.{◌≡◌, ◌≢◌, ℕ, suc, ◌<◌, ◌≤◌, ◌⊎◌, List, [], ◌∷◌, ◌++◌, length, take, Bool, true, false, Option, Some, None, sym, ap, ◌∙◌, subst, arith, inl, inr, append-nil, append_assoc}
+use Rattle.std.specs.Prelude.{IfSome, IsSome, IsTrue, unwrap_or, Result, Ok, Err, codes, nat_lt, if◌then◌else◌}
 use Rattle.std.specs.Io.KnownBytes.{IsAtEnd}
 use Rattle.std.proofs.lemmas.Bool.Decides.{nat_tests}
 use Rattle.sz_io.specs.Rose.{Rose}
@@ -13,9 +13,9 @@ use Rattle.szl.specs.declared.status.Status.{Status}
 use Rattle.szl.specs.declared.status.Status.TheVariants as status
 use Rattle.szl.specs.declared.failure.Failure.{Failure}
 use Rattle.szl.specs.declared.failure.Failure.TheVariants.{Usage, TooLong, NotBuilt, Limit, ReadFailed, WriteFailed, NoMemory}
-use Rattle.szl.specs.Opening.{TellsText, ReadsText, GainsName, IsCause, Decides, Answers, AnswersOn}
-use Rattle.szl.specs.Outcome.{Answer, outcome_of_program, outcome_of_reading, outcome_of_text, outcome_of_settings, success, refusal, most_program_bytes}
-use Rattle.szl.specs.Promise.{OpensFirst, most_opened, names_asked, AreHeld, AreReadToEnd}
+use Rattle.szl.specs.Opening.{ReadsText, GainsName, Decides, Answers, AnswersOn}
+use Rattle.szl.specs.Outcome.{Answer, outcome_of_reading, outcome_of_text, success, refusal, most_program_bytes}
+use Rattle.szl.specs.Promise.{OpensFirst, most_opened, names_asked, AreReadToEnd}
 use Rattle.szl.specs.Records.{is_within_limits}
 use Rattle.szl.specs.Settings.{Settings}
 use Rattle.szl.proofs.OpeningLemmas.{holds_or}
@@ -98,26 +98,26 @@ module _ {F : Type 0} (the_files : files.Ghosts F) (s : Settings) (old : F) wher
       → GainsName (the_files.names old) (the_files.names new) s.program (Err f) → Answers the_files (Some s) old new (Err f)
   unfolding input_or
   text_fails new TooLong reads gains = record {
-      text = reads.text;
-      input = input_or;
-      held = (reads.holds, holds_or (the_files.held old s.input) []);
-      decides = long_outcome reads.text input_or reads.tells.1;
-      opened = opened_first new _ (some_opened _ (judged reads.text input_or)) gains;
-    }
+    text = reads.text;
+    input = input_or;
+    held = (reads.holds, holds_or (the_files.held old s.input) []);
+    decides = long_outcome reads.text input_or reads.tells.1;
+    opened = opened_first new _ (some_opened _ (judged reads.text input_or)) gains;
+  }
   text_fails new ReadFailed reads gains = record {
-      text = reads.text;
-      input = input_or;
-      held = (reads.holds, holds_or (the_files.held old s.input) []);
-      decides = (reads.tells, no_usage _ (judged reads.text input_or));
-      opened = opened_first new _ (some_opened _ (judged reads.text input_or)) gains;
-    }
+    text = reads.text;
+    input = input_or;
+    held = (reads.holds, holds_or (the_files.held old s.input) []);
+    decides = (reads.tells, no_usage _ (judged reads.text input_or));
+    opened = opened_first new _ (some_opened _ (judged reads.text input_or)) gains;
+  }
   text_fails new NoMemory reads gains = record {
-      text = reads.text;
-      input = input_or;
-      held = (reads.holds, holds_or (the_files.held old s.input) []);
-      decides = tt;
-      opened = gained_first new _ (some_opened _ (judged reads.text input_or)) gains;
-    }
+    text = reads.text;
+    input = input_or;
+    held = (reads.holds, holds_or (the_files.held old s.input) []);
+    decides = tt;
+    opened = gained_first new _ (some_opened _ (judged reads.text input_or)) gains;
+  }
   text_fails new Usage reads gains = let e = reads.tells.0 in absurd (cc)
   text_fails new Limit reads gains = let e = reads.tells.0 in absurd (cc)
   text_fails new NotBuilt reads gains = let e = reads.tells.0 in absurd (cc)
@@ -132,12 +132,14 @@ module _ {F : Type 0} (the_files : files.Ghosts F) (s : Settings) (old : F) wher
       let some = some_opened _ (judged bytes a.input) in
       let one : suc a.opened.count ≤ most_opened o.status = omega (arith, some, a.opened.within) in
       let next : the_files.names new ≡ the_files.names old ++ take (suc a.opened.count) (s.program ∷ s.input ∷ []) =
-        a.opened.opened ∙ ap (λ ns. ns ++ take a.opened.count (s.input ∷ [])) names ∙ append_assoc (the_files.names old) (s.program ∷ []) (take a.opened.count (s.input ∷ [])) in
+      a.opened.opened ∙ ap (λ ns. ns ++ take a.opened.count (s.input ∷ [])) names ∙ append_assoc (the_files.names old) (s.program ∷ []) (take a.opened.count (s.input ∷ [])) in
       record {
         text = bytes;
         input = a.input;
-        held = (subst (λ t. IfSome (the_files.held old s.program) (λ b. b ≡ t)) (sym reads.tells.0) reads.holds,
-          subst (λ h. IfSome h (λ b. b ≡ a.input)) (keeps.held_same s.input) a.holds);
+        held = (
+          subst (λ t. IfSome (the_files.held old s.program) (λ b. b ≡ t)) (sym reads.tells.0) reads.holds,
+          subst (λ h. IfSome h (λ b. b ≡ a.input)) (keeps.held_same s.input) a.holds,
+        );
         decides = decides_since answer o _ _ (λ rose. omega (arith, rose, keeps.faults_later)) a.decides;
         opened = record { count = suc a.opened.count; within = one; opened = next };
       }
@@ -147,10 +149,10 @@ module _ {F : Type 0} (the_files : files.Ghosts F) (s : Settings) (old : F) wher
       → KeepsFiles the_files.held the_files.left the_files.given the_files.faults old mid → KeepsFiles the_files.held the_files.left the_files.given the_files.faults mid new
       → ReadToEnd the_files old mid s.program → ReadToEnd the_files mid new s.input → AreReadToEnd the_files old new s
   both_read mid new first second kept later r1 r2 = record {
-      both_opened = second ∙ ap (λ ns. ns ++ s.input ∷ []) first ∙ append_assoc (the_files.names old) (s.program ∷ []) (s.input ∷ []);
-      none_left = λ file fresh given. ended file fresh (r2.no_other file given);
-      told = λ file fresh given. tells file fresh (r2.no_other file given);
-    }
+    both_opened = second ∙ ap (λ ns. ns ++ s.input ∷ []) first ∙ append_assoc (the_files.names old) (s.program ∷ []) (s.input ∷ []);
+    none_left = λ file fresh given. ended file fresh (r2.no_other file given);
+    told = λ file fresh given. tells file fresh (r2.no_other file given);
+  }
     where
       left_first : the_files.left new r1.file ≡ the_files.left mid r1.file
       left_first = later.left_same r1.file r1.given_now

@@ -1,14 +1,14 @@
 -- Compiled code does what the source means: from what an expression, a statement or a record gives, the run comes to
 -- just what it comes to from the state before.
-use Rattle.std.proofs.Common.{◌≡◌, ℕ, zero, suc, ◌+◌, ◌<◌, ◌≤◌, ℤ, List, [], ◌∷◌, ◌++◌, length, Bool, true, false, Option, Some, None, refl, sym, ap, ◌∙◌, subst, arith, length-append, append_assoc}
-use Rattle.std.specs.Prelude.{slice_get, slice_set, nat_lt, if◌then◌else◌, replicate, flat_map, unwrap_or, option_map}
+use Rattle.std.proofs.Common.{◌≡◌, ℕ, zero, suc, ◌+◌, ◌<◌, ℤ, List, [], ◌∷◌, ◌++◌, length, Bool, true, Option, Some, None, refl, sym, ◌∙◌, subst, arith, length-append, append_assoc}
+use Rattle.std.specs.Prelude.{slice_get, slice_set, nat_lt, if◌then◌else◌, replicate, option_map}
 use Rattle.std.proofs.lemmas.List.{length-set, length-replicate}
 use Rattle.std.proofs.lemmas.Bool.Decides.{nat_tests}
-use Rattle.sz_value.specs.Data.{Datum, int, bytes}
+use Rattle.sz_value.specs.Data.{int, bytes}
 use Rattle.sz_mean.specs.declared.operator.BinOp.{BinOp}
 use Rattle.sz_mean.specs.Numbers.{operated, operate, converted, number_in}
 use Rattle.sz_mean.specs.Tree.{Exp, number, variable, input, convert, binary, Stm, declare, emit, Prog}
-use Rattle.sz_mean.specs.Outcomes.{Slot, EmitDatum, World, Where, Eval, Value, Fails, Exec, Normal, Faults, Outcome, Done, Fault}
+use Rattle.sz_mean.specs.Outcomes.{Slot, World, Eval, Value, Fails, Exec, Normal, Faults, Fault}
 use Rattle.sz_mean.specs.Meaning.{slot_at, on_value, on_values, and_then, with_value, then_do, eval, emitted, exec, exec_all, ended, mean}
 use Rattle.sz_machine.specs.declared.code.Instr.{Instr}
 use Rattle.sz_machine.specs.declared.code.Instr.TheVariants as instr
@@ -121,8 +121,8 @@ module _ (code : Code) (text : List ℕ) where
         let len : at1 + 1 ≡ end = omega (arith, is, length-append ce (instr.Convert ∷ [])) in
         eval_runs e typed.1.0 s at1 x typed.1.1 locals (has_front code.instructions.items s.at ce _ has) refl
         (after_first t typed.1.0 s s end at1 x _ (λ v w k h1.
-          at_line code text (record s { at = at1; stack = v ∷ s.stack; world = w }) instr.Convert x last
-          (at_same s (at1 + 1) end (on_value converted v ∷ s.stack) w x len (h1 (record { typed = subst (HasTy (on_value converted v)) (sym typed.0) (converted_typed v) }))))
+        at_line code text (record s { at = at1; stack = v ∷ s.stack; world = w }) instr.Convert x last
+        (at_same s (at1 + 1) end (on_value converted v ∷ s.stack) w x len (h1 (record { typed = subst (HasTy (on_value converted v)) (sym typed.0) (converted_typed v) }))))
         (eval e s.locals text s.world) h)
     eval_runs (binary o a b) t s end x typed locals has is h =
         let ca = expr_code a in
@@ -135,12 +135,12 @@ module _ (code : Code) (text : List ℕ) where
         let h0 = subst (λ u. AfterEval code text u s end x (eval (binary o a b) s.locals text s.world)) typed.0 h in
         eval_runs a whole s at1 x typed.1 locals (has_front code.instructions.items s.at ca _ has) refl
         (after_first whole whole s s end at1 x _ (λ v w1 k1 h1.
-          let s1 : State = record s { at = at1; stack = v ∷ s.stack; world = w1 } in
-          eval_runs b whole s1 at2 x typed.2 locals (has_front code.instructions.items at1 cb _ has1) refl
-          (after_first whole whole s s1 end at2 x _ (λ u w2 k2 h2.
-            at_line code text (record s { at = at2; stack = u ∷ v ∷ s.stack; world = w2 }) (instr.Binary o) x last
-            (computes o s at2 end v u w2 x len k1.typed k2.typed h2))
-          (eval b s.locals text w1) h1))
+        let s1 : State = record s { at = at1; stack = v ∷ s.stack; world = w1 } in
+        eval_runs b whole s1 at2 x typed.2 locals (has_front code.instructions.items at1 cb _ has1) refl
+        (after_first whole whole s s1 end at2 x _ (λ u w2 k2 h2.
+        at_line code text (record s { at = at2; stack = u ∷ v ∷ s.stack; world = w2 }) (instr.Binary o) x last
+        (computes o s at2 end v u w2 x len k1.typed k2.typed h2))
+        (eval b s.locals text w1) h1))
         (eval a s.locals text s.world) h0)
 
     -- first the value, then the statement that uses it
@@ -165,10 +165,13 @@ module _ (code : Code) (text : List ℕ) where
       where
         tested : (a b : ℕ) → a < b → nat_lt a b ≡ true
         tested a b lt = grind (arith, nat_tests)
+
         after : AreWhole n (slice_set s.locals y v)
         after = record { size = length-set s.locals y v ∙ locals.size; whole_at = whole_set s.locals y v typed locals.whole_at }
+
         there : State
         there = record s { at = at + 1; locals = slice_set s.locals y v; world = w }
+
         by_test : (b : Bool) → b ≡ true → NextComes code text (if b then Goes there else Stuck) x
         by_test b is = let P : Bool → Type 0 = λ b. NextComes code text (if b then Goes there else Stuck) x in
             subst P (sym is) (subst (λ k. ComesTo code text (record s { at = k; locals = slice_set s.locals y v; world = w }) x) (sym e) (h after))
@@ -183,8 +186,8 @@ module _ (code : Code) (text : List ℕ) where
         let len : at1 + 1 ≡ end = omega (arith, is, length-append ce (instr.Keep y ∷ [])) in
         eval_runs e whole s at1 x sound.1 locals (has_front code.instructions.items s.at ce _ has) refl
         (after_value s s end at1 x _ (λ v w k h1.
-          at_line code text (record s { at = at1; stack = v ∷ s.stack; world = w }) (instr.Keep y) x last
-          (keeps s at1 end y v w x len sound.0 locals k.typed h1))
+        at_line code text (record s { at = at1; stack = v ∷ s.stack; world = w }) (instr.Keep y) x last
+        (keeps s at1 end y v w x len sound.0 locals k.typed h1))
         (eval e s.locals text s.world) h)
     exec_runs (emit t e) s end x sound locals has is h =
         let ce = expr_code e in
@@ -193,8 +196,8 @@ module _ (code : Code) (text : List ℕ) where
         let len : at1 + 1 ≡ end = omega (arith, is, length-append ce (instr.Emit t ∷ [])) in
         eval_runs e whole s at1 x sound locals (has_front code.instructions.items s.at ce _ has) refl
         (after_value s s end at1 x _ (λ v w k h1.
-          at_line code text (record s { at = at1; stack = v ∷ s.stack; world = w }) (instr.Emit t) x last
-          (at_same s (at1 + 1) end s.stack (emitted t v w) x len (h1 locals)))
+        at_line code text (record s { at = at1; stack = v ∷ s.stack; world = w }) (instr.Emit t) x last
+        (at_same s (at1 + 1) end s.stack (emitted t v w) x len (h1 locals)))
         (eval e s.locals text s.world) h)
 
     pub body_runs : (ss : List Stm) (s : State) (end : ℕ) (x : Next) → AreSound n ss → AreWhole n s.locals
@@ -208,7 +211,7 @@ module _ (code : Code) (text : List ℕ) where
         let len : at1 + length (body_code ss) ≡ end = omega (arith, is, length-append c1 (body_code ss)) in
         exec_runs st s at1 x sound.0 locals (has_front code.instructions.items s.at c1 _ has) refl
         (after_then s end at1 x (exec_all ss text) (λ ls w k h1.
-          body_runs ss (record s { at = at1; locals = ls; world = w }) end x sound.1 k (has_back code.instructions.items s.at c1 _ has) len h1)
+        body_runs ss (record s { at = at1; locals = ls; world = w }) end x sound.1 k (has_back code.instructions.items s.at c1 _ has) len h1)
         (exec st text s.locals s.world) h)
 
 -- the instructions stand in the code that they are

@@ -1,12 +1,11 @@
 -- Running sums: they stay within bounds, and they are the rows of the emits that were added.
-use Rattle.std.proofs.Common.{◌≡◌, ◌≢◌, ℕ, zero, suc, ◌+◌, ◌*◌, ◌^◌, ◌<◌, ◌≤◌, ℤ, pos, neg_ℤ, ◌+ℤ◌, ◌≤ℤ◌, List, [], ◌∷◌, ◌++◌, length, Bool, true, false, Option, Some, None, refl, sym, ap, ◌∙◌, subst, arith, append_assoc, append-nil, length-append}
-use Rattle.std.specs.Prelude.{slice_get, slice_index_or, slice_set, nat_lt, nat_eq, if◌then◌else◌, replicate, unwrap_or, map, filter, FitsSigned}
+use Rattle.std.proofs.Common.{◌≡◌, ◌≢◌, ℕ, zero, suc, ◌+◌, ◌*◌, ◌^◌, ◌<◌, ◌≤◌, ℤ, pos, ◌+ℤ◌, List, [], ◌∷◌, ◌++◌, length, Bool, true, false, Option, Some, None, refl, sym, ap, ◌∙◌, subst, arith, append_assoc, append-nil, length-append}
+use Rattle.std.specs.Prelude.{slice_get, slice_index_or, slice_set, nat_lt, nat_eq, if◌then◌else◌, replicate, unwrap_or, map, filter}
 use Rattle.std.proofs.lemmas.Int.{ints}
 use Rattle.std.proofs.lemmas.Bool.Decides.{nat_tests}
 use Rattle.std.proofs.lemmas.List.{length-set, length-replicate, map-append}
 use Rattle.std.proofs.lemmas.List.Elements.{filter-append}
-use mir.Syntax.{w128}
-use Rattle.sz_value.specs.Data.{Datum, int, bytes}
+use Rattle.sz_value.specs.Data.{Datum}
 use Rattle.sz_mean.specs.Outcomes.{EmitDatum}
 use Rattle.sz_mean.specs.Rows.{emitted_to, number_of, sum_of, row_of}
 use Rattle.szl.specs.Totals.{Totals, IsWithin, AreWithin, total_at, row_added, added, all_added, no_totals, StandFor}
@@ -55,7 +54,7 @@ pub within_added : (k : ℕ) (rows : List (Option ℤ)) (table : ℕ) (row more 
 within_added k rows table row more z there is sum here h =
     let total = within_row (2 ^ 63 * k) rows table row there is h in
     let within : IsWithin (2 ^ 63 * (k + 1)) (unwrap_or row (pos 0) +ℤ z) =
-      record { low = omega (arith, ints, total.low, here.low); high = omega (arith, ints, total.high, here.high) } in
+    record { low = omega (arith, ints, total.low, here.low); high = omega (arith, ints, total.high, here.high) } in
     subst (λ m. AreWithin (2 ^ 63 * (k + 1)) (slice_set rows table m)) (sym sum)
     (within_set (2 ^ 63 * (k + 1)) rows table _ (within_more (2 ^ 63 * k) (2 ^ 63 * (k + 1)) rows (omega arith) h) within)
 
@@ -112,10 +111,13 @@ row_after rows es e table there is = by_test (nat_eq e.table table) refl
   where
     tested : nat_eq e.table table ≡ true → nat_lt e.table (length rows) ≡ true
     tested same = grind (arith, nat_tests)
+
     apart : nat_eq e.table table ≡ false → e.table ≢ table
     apart other = grind (arith, nat_tests)
+
     equal : nat_eq e.table table ≡ true → e.table ≡ table
     equal same = grind (arith, nat_tests)
+
     by_test : (b : Bool) → nat_eq e.table table ≡ b → slice_get (row_added rows e.table (number_of e.value)) table ≡ Some (row_of (emitted_to table (es ++ e ∷ [])))
     by_test true same =
         let sum = total_at rows e.table +ℤ number_of e.value in
@@ -143,10 +145,10 @@ stand_none tables = record { rows = λ t there. no_row tables t (omega (arith, t
 
 stand_one : (totals : Totals) (es : List EmitDatum) (e : EmitDatum) → StandFor totals es → StandFor (added totals e) (es ++ e ∷ [])
 stand_one totals es e stands = record {
-    rows = λ t there. let here : t < length totals.rows = omega (arith, length-row_added totals.rows e.table (number_of e.value)) in
+  rows = λ t there. let here : t < length totals.rows = omega (arith, length-row_added totals.rows e.table (number_of e.value)) in
       row_after totals.rows es e t here (stands.rows t here);
-    count = omega (arith, stands.count, length-append es (e ∷ []));
-  }
+  count = omega (arith, stands.count, length-append es (e ∷ []));
+}
 
 -- sums that stand for emits stand for more of them once these are added
 pub stand_all : (totals : Totals) (es more : List EmitDatum) → StandFor totals es → StandFor (all_added totals more) (es ++ more)
@@ -172,6 +174,6 @@ added_nothing old = record { sums = refl; emits = omega arith }
 
 pub added_more : (old : Totals) (es : List EmitDatum) (e : EmitDatum) (count : ℕ) (now : Totals) → IsAddedUpTo old es count now → IsAddedUpTo old (es ++ e ∷ []) (count + 1) (added now e)
 added_more old es e count now h = record {
-    sums = ap (λ t. added t e) h.sums ∙ sym (all_added-append old es (e ∷ []));
-    emits = omega (arith, h.emits);
-  }
+  sums = ap (λ t. added t e) h.sums ∙ sym (all_added-append old es (e ∷ []));
+  emits = omega (arith, h.emits);
+}

@@ -1,8 +1,7 @@
 -- What opening and reading the files of a command line gives.
-use Rattle.std.specs.Prelude.{◌≡◌, ◌≢◌, ℕ, ◌≤◌, ◌<◌, ◌-◌, ◌⊎◌, ⊤, IsTrue, List, [], ◌∷◌, ◌++◌, length, Option, Some, None, IfSome, Result, Ok, Err}
+use Rattle.std.specs.Prelude.{◌≡◌, ◌≢◌, ℕ, ◌≤◌, ◌<◌, ◌-◌, ◌⊎◌, ⊤, List, [], ◌∷◌, ◌++◌, length, Option, IfSome, Result, Ok, Err}
 use Rattle.sz_io.specs.Rose.{Rose}
 use Rattle.sz_io.specs.declared.files.Files as files
-use Rattle.szl.specs.declared.status.Status.{Status}
 use Rattle.szl.specs.declared.status.Status.TheVariants as status
 use Rattle.szl.specs.declared.failure.Failure.{Failure}
 use Rattle.szl.specs.declared.failure.Failure.TheVariants.{ReadFailed, WriteFailed, NoMemory}

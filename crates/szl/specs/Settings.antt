@@ -1,5 +1,5 @@
 -- Which words are a command line, and what they ask for.
-use Rattle.std.specs.Prelude.{ℕ, List, [], ◌∷◌, Bool, true, false, not, ◌&&◌, ◌||◌, nat_eq, Option, Some, None, bytes_eq, codes, if◌then◌else◌}
+use Rattle.std.specs.Prelude.{ℕ, List, [], ◌∷◌, Bool, false, not, ◌&&◌, ◌||◌, nat_eq, Option, Some, None, bytes_eq, codes, if◌then◌else◌}
 
 -- what a command line asks for: the name of the program and the name of the input
 pub record Settings : Type 0 where

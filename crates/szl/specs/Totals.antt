@@ -1,5 +1,5 @@
 -- Running sums of tables.
-use Rattle.std.specs.Prelude.{◌≡◌, ℕ, ◌+◌, ◌<◌, ◌≤◌, ℤ, pos, ◌+ℤ◌, neg_ℤ, ◌≤ℤ◌, List, [], ◌∷◌, length, Option, Some, None, unwrap_or, slice_get, slice_index_or, slice_set, replicate, nat_lt, if◌then◌else◌}
+use Rattle.std.specs.Prelude.{◌≡◌, ℕ, ◌+◌, ◌<◌, ℤ, pos, ◌+ℤ◌, neg_ℤ, ◌≤ℤ◌, List, [], ◌∷◌, length, Option, Some, None, unwrap_or, slice_get, slice_index_or, slice_set, replicate, nat_lt, if◌then◌else◌}
 use Rattle.sz_mean.specs.Outcomes.{EmitDatum}
 use Rattle.sz_mean.specs.Rows.{emitted_to, number_of, row_of}
 

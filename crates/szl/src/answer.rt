@@ -38,18 +38,33 @@ pub fn answer<F: Files>(alloc: Global, words: &[String], files: &mut F) -> Resul
 }
 
 /// The text that the settings ask for.
-fn answer_settings<F: Files>(alloc: Global, settings: Settings<'_>, files: &mut F) -> Result<Vec<u8>, Failure>
+fn answer_settings<F: Files>(
+    alloc: Global,
+    settings: Settings<'_>,
+    files: &mut F,
+) -> Result<Vec<u8>, Failure>
     requires { length (F.names files.old) < 127 }
     ensures value { Answers F.Files (Some (seen_settings settings.entry)) files.old files.new (vec_items_of result) }
     ensures end { OnOk result (AreReadToEnd F.Files files.old files.new (seen_settings settings.entry)) }
     ensures kept { KeepsFiles F.held F.left F.given F.faults files.old files.new }
 {
-    let text = read_text(alloc, files, settings.program, MOST_PROGRAM_BYTES, Failure::TooLong)?;
+    let text = read_text(
+        alloc,
+        files,
+        settings.program,
+        MOST_PROGRAM_BYTES,
+        Failure::TooLong,
+    )?;
     answer_text(alloc, &text, settings.input, files)
 }
 
 /// The text of the tables of the program that is spelled by a text.
-fn answer_text<F: Files>(alloc: Global, text: &[u8], input: &str, files: &mut F) -> Result<Vec<u8>, Failure>
+fn answer_text<F: Files>(
+    alloc: Global,
+    text: &[u8],
+    input: &str,
+    files: &mut F,
+) -> Result<Vec<u8>, Failure>
     requires few { length (F.names files.old) < 128 }
     requires short { length text.now ≤ most_program_bytes }
     ensures value { AnswersOn F.Files (outcome_of_text text.now) input.now files.old files.new (vec_items_of result) }
@@ -64,7 +79,12 @@ fn answer_text<F: Files>(alloc: Global, text: &[u8], input: &str, files: &mut F)
 }
 
 /// The text of the program's tables for the input under a name.
-fn answer_program<F: Files>(alloc: Global, program: &Program, input: &str, files: &mut F) -> Result<Vec<u8>, Failure>
+fn answer_program<F: Files>(
+    alloc: Global,
+    program: &Program,
+    input: &str,
+    files: &mut F,
+) -> Result<Vec<u8>, Failure>
     requires few { length (F.names files.old) < 128 }
     requires read { IsRead (seen_program program.now) }
     ensures value { AnswersOn F.Files (outcome_of_program (seen_program program.now)) input.now files.old files.new (vec_items_of result) }

@@ -3,8 +3,8 @@ ghost use Rattle.std.specs.Prelude.{◌≡◌, ◌≤◌, ◌+◌, ◌<◌, ◌�
 ghost use Rattle.sz_mean.specs.Programs.{empty_draft, finished, is_free, operand, value_in, declared_in, lexemes, sentence, statement, emission, declaration, variable_declared, with_table};
 ghost use Rattle.szl.specs.View.{seen_operand, seen_expr, texts, seen_draft, seen_program, drafted, HasRoom};
 
-use crate::names::{are, is_among, is_name, place_of};
 use crate::lexemes::lexemes;
+use crate::names::{are, is_among, is_name, place_of};
 use crate::tree::{Draft, Expr, Operand, Program, Stmt};
 use crate::values::{is_decimal, operator_in};
 use std::alloc::{AllocError, Global};
@@ -95,7 +95,8 @@ impl<'t> Draft<'t> {
                 let Some(value) = self.declared(value) else {
                     return Ok(false);
                 };
-                self.body.push(Stmt::Declare(self.variables.len() as u32, value))?;
+                self.body
+                    .push(Stmt::Declare(self.variables.len() as u32, value))?;
                 self.variables.push(name)?;
                 Ok(true)
             }
@@ -104,7 +105,12 @@ impl<'t> Draft<'t> {
     }
 
     /// Adds the declaration `NAME: KIND` and what follows.
-    fn declaration(&mut self, name: &'t [u8], kind: &[u8], rest: &[&[u8]]) -> Result<bool, AllocError>
+    fn declaration(
+        &mut self,
+        name: &'t [u8],
+        kind: &[u8],
+        rest: &[&[u8]],
+    ) -> Result<bool, AllocError>
         requires { HasRoom (seen_draft self.old) }
         ensures value { IfOk result (λ found. drafted found self.new ≡ declaration (seen_draft self.old) name.now kind.now (texts rest.now)) }
     {
@@ -159,7 +165,13 @@ impl<'t> Draft<'t> {
 
     /// Adds the statement that begins with these three lexemes.
     #[tactic(auto, unfolding(sz_mean::specs::Programs::sentence))]
-    fn sentence(&mut self, first: &'t [u8], second: &'t [u8], third: &'t [u8], rest: &[&'t [u8]]) -> Result<bool, AllocError>
+    fn sentence(
+        &mut self,
+        first: &'t [u8],
+        second: &'t [u8],
+        third: &'t [u8],
+        rest: &[&'t [u8]],
+    ) -> Result<bool, AllocError>
         requires { HasRoom (seen_draft self.old) }
         ensures value { IfOk result (λ found. drafted found self.new
             ≡ sentence (seen_draft self.old) first.now second.now third.now (texts rest.now)) }

@@ -58,6 +58,7 @@ impl Failure {
 
 impl From<AllocError> for Failure {
     ghost use Rattle.szl.specs.declared.failure.Failure.TheVariants.{NoMemory};
+
     ghost from_gives = { λ _ failure. failure ≡ NoMemory };
 
     fn from(_: AllocError) -> Failure {

@@ -47,6 +47,14 @@ fn main(rt: HostRuntime) -> ExitCode {
     let mut files = OsFiles::new(&rt, alloc);
     let mut out = OsSink::new(rt.stdout());
     let mut err = OsSink::new(rt.stderr());
-    let status = szl_main(&rt, alloc, &given_words(&rt), &mut files, &mut out, &mut err, &NoGate);
+    let status = szl_main(
+        &rt,
+        alloc,
+        &given_words(&rt),
+        &mut files,
+        &mut out,
+        &mut err,
+        &NoGate,
+    );
     ExitCode::from(status.code())
 }

@@ -8,9 +8,9 @@ use crate::lexemes::{is_letter, is_word_byte};
 
 /// The words that the language reserves.
 const RESERVED_WORDS: [&str; 30] = [
-    "all", "array", "bool", "break", "bytes", "continue", "def", "do", "each", "else", "emit", "false", "for",
-    "function", "if", "int", "map", "of", "proto", "return", "some", "static", "string", "table", "time", "true",
-    "type", "weight", "when", "while",
+    "all", "array", "bool", "break", "bytes", "continue", "def", "do", "each", "else", "emit",
+    "false", "for", "function", "if", "int", "map", "of", "proto", "return", "some", "static",
+    "string", "table", "time", "true", "type", "weight", "when", "while",
 ];
 
 /// The names that are there before any declaration: the record and the predeclared functions.
@@ -58,7 +58,8 @@ pub fn are(lexemes: &[&[u8]], expected: &[&str]) -> bool
 {
     match (lexemes, expected) {
         ([], []) => true,
-        ([lexeme, lexemes @ ..], [text, expected @ ..]) => *lexeme == text.as_bytes() && are(lexemes, expected),
+        ([lexeme, lexemes @ ..], [text, expected @ ..]) => *lexeme == text.as_bytes()
+            && are(lexemes, expected),
         _ => false,
     }
 }

@@ -23,7 +23,11 @@ pub fn read_program<'t>(alloc: Global, text: &'t [u8]) -> Result<Option<Program<
         }
         rest = behind;
     }
-    if are_blank(rest) { Ok(Some(draft.finish())) } else { Ok(None) }
+    if are_blank(rest) {
+        Ok(Some(draft.finish()))
+    } else {
+        Ok(None)
+    }
 }
 
 /// Whether the bytes are blanks alone.

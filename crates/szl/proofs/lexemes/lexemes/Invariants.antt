@@ -1,4 +1,4 @@
-use Rattle.std.proofs.Common.{◌≡◌, ◌++◌, map, length}
+use Rattle.std.proofs.Common.{◌≡◌, ◌++◌, length}
 use Rattle.sz_mean.specs.Programs.{lexemes}
 use Rattle.szl.specs.View.{texts}
 use Rattle.szl.proofs.lexemes.lexemes.Given as goal

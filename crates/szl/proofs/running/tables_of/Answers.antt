@@ -1,4 +1,4 @@
-use Rattle.std.proofs.Common.{◌≡◌, [], sym, ap, ◌∙◌, subst}
+use Rattle.std.proofs.Common.{[], sym, ap, ◌∙◌, subst}
 use Rattle.sz_mean.specs.Meaning.{all_emits}
 use Rattle.szl.specs.Outcome.{default_budget}
 use Rattle.szl.specs.Records.{records_in}
@@ -25,5 +25,5 @@ returns c =
     let stands = stands_for_all p c.in_ok-code.code c.args.input.now _ c.requires.read c.in_ok-code.ensures.value c.in_ok-sum_records.ensures.ok in
     record {
       value = outcome_within p c.args.input.now c.in_ok-text.text.items c.in_ok-sum_records.ensures.within
-        (c.in_ok-text.ensures.value emits stands ∙ ap (λ names. tables_text 0 (texts names) emits) c.deref.ensures.value);
+          (c.in_ok-text.ensures.value emits stands ∙ ap (λ names. tables_text 0 (texts names) emits) c.deref.ensures.value);
     }

@@ -1,4 +1,4 @@
-use Rattle.std.proofs.Common.{◌*◌, ◌+◌, ◌^◌, ◌<◌, ◌∙◌, length, arith, rules}
+use Rattle.std.proofs.Common.{◌*◌, ◌+◌, ◌^◌, ◌<◌, length, arith, rules}
 use Rattle.szl.proofs.TotalsLemmas.{within_row, within_more, within_added}
 use Rattle.szl.proofs.sums.add_to.Goals as goal
 

@@ -12,4 +12,4 @@ returns-in-Err-clause-outcome g c =
     subst (λ s. MeansSource g.F.Files g.O.Sink g.E.Sink words s c.args.files.now c.answer-answer.new.files c.args.out.now c.print.new.out c.args.err.now c.tell.new.err)
     (sym c.status.ensures.value)
     (means_failure g.F.Files g.O.Sink g.E.Sink words c.args.files.now c.answer-answer.new.files c.args.out.now c.print.new.out c.args.err.now
-      c.tell.new.err c.in-Err.failure (vec_items_of c.answer-answer.result) c.answer-answer.ensures.value c.in-Err.ensures.value c.tell.ensures.line)
+    c.tell.new.err c.in-Err.failure (vec_items_of c.answer-answer.result) c.answer-answer.ensures.value c.in-Err.ensures.value c.tell.ensures.line)

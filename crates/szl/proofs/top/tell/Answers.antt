@@ -8,4 +8,4 @@ pub returns-clause-line : goal.returns-clause-line
 returns-clause-line g c =
     subst (GainsLine g.E.Sink c.args.err.now c.write_whole.new.sink) (c.as_bytes.ensures.value ∙ c.line.ensures.value)
     (line_told g.E.Sink c.args.err.now c.write_whole.new.sink c.as_bytes.result.now c.write_whole.result c.write_whole.ensures.whole
-      c.write_whole.ensures.prefix c.write_whole.ensures.failed c.write_whole.ensures.refused)
+    c.write_whole.ensures.prefix c.write_whole.ensures.failed c.write_whole.ensures.refused)

@@ -1,5 +1,5 @@
-use Rattle.std.proofs.Common.{◌≡◌, ◌<◌, ◌*◌, ◌^◌, sym, subst, ap, arith}
-use Rattle.szl.specs.Totals.{Totals, AreWithin}
+use Rattle.std.proofs.Common.{◌<◌, ◌*◌, ◌^◌, ap, arith}
+use Rattle.szl.specs.Totals.{Totals}
 use Rattle.szl.proofs.TotalsLemmas.{within_more}
 use Rattle.szl.proofs.sums.Sums.add.Goals as goal
 
