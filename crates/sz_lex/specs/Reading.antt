@@ -1,0 +1,242 @@
+-- How a text is read from left to right: each function of the crate gives what one of these gives.
+use Rattle.std.specs.Prelude.{◌≡◌, ℕ, ℤ, zero, suc, ◌+◌, ◌-◌, ◌<◌, List, [], ◌∷◌, ◌++◌, length, take, drop, Option, Some, None, Result, Ok, Err, Bool, true, false, ◌==◌, ◌&&◌, ◌||◌, not, find, if◌then◌else◌}
+use Rattle.std.specs.Str.{bytes_eq, is_utf8, chars}
+use Rattle.std.specs.List.{prefix_len}
+use Rattle.std.specs.Option.{option_map, option_and_then}
+use Rattle.sz_types.specs.declared.place.Place.{Place}
+use Rattle.sz_lex.specs.declared.token.Token.{Token}
+use Rattle.sz_lex.specs.declared.token.Kind.{Kind}
+use Rattle.sz_lex.specs.declared.token.Kind.TheVariants as kinds
+use Rattle.sz_lex.specs.declared.error.LexError.{LexError}
+use Rattle.sz_lex.specs.declared.error.LexError.TheVariants as errors
+use Rattle.sz_lex.specs.declared.escape.Escape.{Escape}
+use Rattle.sz_lex.specs.declared.escape.Quoted.{Quoted}
+use Rattle.sz_lex.specs.declared.escape.Quoted.TheVariants as quoteds
+use Rattle.sz_lex.specs.declared.word.Word.{Word}
+use Rattle.sz_lex.specs.declared.word.Word.TheVariants as words
+use Rattle.sz_lex.specs.declared.sign.Sign.{Sign}
+use Rattle.sz_lex.specs.declared.sign.Sign.TheVariants as signs
+use Rattle.sz_lex.specs.declared.item.Item.{Item}
+use Rattle.sz_lex.specs.declared.item.Item.TheVariants.{Gap, Lexeme, BadChar, BadLiteral}
+use Rattle.sz_lex.specs.Classes.{is_blank, is_letter, is_digit, is_word}
+use Rattle.sz_lex.specs.Words.{word_text}
+use Rattle.sz_lex.specs.Numbers.{number_of}
+use Rattle.sz_lex.specs.Literals.{escape_of, escape_code, escape_bytes, opening}
+use Rattle.sz_lex.specs.Tokens.{after, begins_literal}
+
+-- ---- words and signs
+
+-- each reserved word once
+abbrev pub all_words : List Word
+all_words =
+    words.All ∷ words.Array ∷ words.Bool ∷ words.Break ∷ words.Bytes ∷ words.Continue ∷ words.Def ∷ words.Do ∷ words.Each ∷ words.Else ∷ words.Emit ∷ words.False ∷ words.For ∷ words.Function ∷ words.If ∷ words.Int ∷ words.Map ∷ words.Of ∷ words.Proto ∷ words.Return ∷ words.Some ∷ words.Static ∷ words.String ∷ words.Table ∷ words.Time ∷ words.True ∷ words.Type ∷ words.Weight ∷ words.When ∷ words.While ∷ []
+
+-- the reserved word that is spelled so
+abbrev pub word_of : List ℕ → Option Word
+word_of text = find (λ w. bytes_eq (word_text w) text) all_words
+
+-- the sign that two bytes spell
+abbrev pub pair_sign : ℕ → ℕ → Option Sign
+pair_sign a b =
+    if a == 60 && b == 45 then Some signs.Arrow
+    else (if a == 60 && b == 61 then Some signs.LessEqual
+    else (if a == 60 && b == 60 then Some signs.ShiftLeft
+    else (if a == 62 && b == 61 then Some signs.GreaterEqual
+    else (if a == 62 && b == 62 then Some signs.ShiftRight
+    else (if a == 61 && b == 61 then Some signs.EqualEqual
+    else (if a == 33 && b == 61 then Some signs.NotEqual
+    else (if a == 38 && b == 38 then Some signs.AndAnd
+    else (if a == 124 && b == 124 then Some signs.OrOr
+    else (if a == 43 && b == 43 then Some signs.Increment
+    else (if a == 45 && b == 45 then Some signs.Decrement
+    else (if a == 58 && b == 61 then Some signs.Define
+    else None)))))))))))
+
+-- the sign that a byte spells
+abbrev pub single_sign : ℕ → Option Sign
+single_sign a =
+    if a == 60 then Some signs.Less
+    else (if a == 62 then Some signs.Greater
+    else (if a == 61 then Some signs.Assign
+    else (if a == 33 then Some signs.Not
+    else (if a == 38 then Some signs.And
+    else (if a == 124 then Some signs.Or
+    else (if a == 43 then Some signs.Plus
+    else (if a == 45 then Some signs.Minus
+    else (if a == 58 then Some signs.Colon
+    else (if a == 42 then Some signs.Star
+    else (if a == 47 then Some signs.Slash
+    else (if a == 37 then Some signs.Percent
+    else (if a == 94 then Some signs.Caret
+    else (if a == 126 then Some signs.Tilde
+    else (if a == 40 then Some signs.OpenParen
+    else (if a == 41 then Some signs.CloseParen
+    else (if a == 91 then Some signs.OpenBracket
+    else (if a == 93 then Some signs.CloseBracket
+    else (if a == 123 then Some signs.OpenBrace
+    else (if a == 125 then Some signs.CloseBrace
+    else (if a == 44 then Some signs.Comma
+    else (if a == 59 then Some signs.Semicolon
+    else (if a == 46 then Some signs.Dot
+    else (if a == 64 then Some signs.At
+    else None)))))))))))))))))))))))
+
+-- a sign of two bytes, or else one of a single byte, and its length
+abbrev pub sign_or : Option Sign → Option Sign → Option (Sign × ℕ)
+sign_or (Some s) t = Some (s, 2)
+sign_or None (Some t) = Some (t, 1)
+sign_or None None = None
+
+-- the longest sign at the front of bytes that begin with these two, and its length
+abbrev pub sign_at : ℕ → ℕ → Option (Sign × ℕ)
+sign_at a b = sign_or (pair_sign a b) (single_sign a)
+
+-- ---- literals
+
+-- how many bytes an escape takes behind its backslash, if its first byte is this
+abbrev pub escape_size : ℕ → ℕ
+escape_size b = if b == 120 then 3 else (if b == 117 then 5 else 1)
+
+-- the escape at the front, behind its backslash
+abbrev pub escape_at : List ℕ → Option Escape
+escape_at [] = None
+escape_at (b ∷ bs) = escape_of (take (escape_size b) (b ∷ bs))
+
+-- the first byte, or 0 at the end
+abbrev pub first : List ℕ → ℕ
+first [] = 0
+first (b ∷ bs) = b
+
+-- a literal's body: the number of its bytes with the closing quote, and the bytes that it stands for
+pub record Body : Type 0 where
+  pub len : ℕ
+  pub value : List ℕ
+
+-- a body with one more byte, which adds these to its value
+abbrev pub longer : List ℕ → Option Body → Option Body
+longer v None = None
+longer v (Some b) = Some (record { len = suc b.len; value = v ++ b.value })
+
+-- the body of a string or bytes literal at the front, where so many bytes belong to an escape that came before
+unfoldable pub body_at : Quoted → ℕ → List ℕ → Option Body
+body_at q k [] = None
+body_at q (suc k) (b ∷ bs) = longer [] (body_at q k bs)
+body_at q zero (b ∷ bs) =
+    if b == 34 then Some (record { len = 1; value = [] })
+    else (if b == 92 then option_and_then (λ v. longer v (body_at q (escape_size (first bs)) bs)) (option_and_then (escape_bytes q) (escape_at bs))
+    else (if b == 10 then None
+    else longer (b ∷ []) (body_at q zero bs)))
+
+-- the only one of these characters, if it needs no escape
+abbrev pub only_plain : List ℕ → Option ℕ
+only_plain (c ∷ []) = if c == 39 || c == 92 || c == 10 then None else Some c
+only_plain _ = None
+
+-- the only character of these bytes, if it needs no escape
+abbrev pub plain_character : List ℕ → Option ℕ
+plain_character bytes = if is_utf8 bytes then only_plain (chars bytes) else None
+
+abbrev pub not_quote : ℕ → Bool
+not_quote b = not (b == 39)
+
+-- a character and the number of its bytes, if the closing quote stands behind them
+abbrev pub quoted_character : Option ℕ → ℕ → List ℕ → Option (ℕ × ℕ)
+quoted_character None n rest = None
+quoted_character (Some c) n rest = if first rest == 39 then Some (c, n + 1) else None
+
+-- the character behind an opening quote, and the number of bytes with the closing one
+abbrev pub character_at : List ℕ → Option (ℕ × ℕ)
+character_at [] = None
+character_at (b ∷ bs) =
+    if b == 92 then quoted_character (option_and_then escape_code (escape_at bs)) (1 + escape_size (first bs)) (drop (escape_size (first bs)) bs)
+    else quoted_character (plain_character (take (prefix_len not_quote (b ∷ bs)) (b ∷ bs))) (prefix_len not_quote (b ∷ bs)) (drop (prefix_len not_quote (b ∷ bs)) (b ∷ bs))
+
+-- ---- the item at the front
+
+abbrev pub not_newline : ℕ → Bool
+not_newline b = not (b == 10)
+
+abbrev pub quoted_kind : Quoted → Kind
+quoted_kind quoteds.Str = kinds.Str
+quoted_kind quoteds.Bytes = kinds.Bytes
+
+-- a reserved word, or else a name
+abbrev pub kind_of : Option Word → Kind
+kind_of None = kinds.Name
+kind_of (Some w) = kinds.Word w
+
+abbrev pub word_kind : List ℕ → Kind
+word_kind word = kind_of (word_of word)
+
+abbrev pub number_item : Option ℤ → ℕ → Item
+number_item None n = BadLiteral
+number_item (Some v) n = Lexeme (kinds.Number v) n
+
+abbrev pub character_item : Option (ℕ × ℕ) → Item
+character_item None = BadLiteral
+character_item (Some c) = Lexeme (kinds.Character c.0) (c.1 + 1)
+
+abbrev pub quoted_item : Quoted → Option Body → Item
+quoted_item q None = BadLiteral
+quoted_item q (Some b) = Lexeme (quoted_kind q) (length (opening q) + b.len)
+
+abbrev pub sign_item : Option (Sign × ℕ) → Item
+sign_item None = BadChar
+sign_item (Some s) = Lexeme (kinds.Sign s.0) s.1
+
+-- the literal that begins with this byte
+abbrev pub literal_item : ℕ → List ℕ → Item
+literal_item b bs =
+    if is_digit b then number_item (number_of (take (prefix_len is_word (b ∷ bs)) (b ∷ bs))) (prefix_len is_word (b ∷ bs))
+    else (if b == 39 then character_item (character_at bs)
+    else (if b == 34 then quoted_item quoteds.Str (body_at quoteds.Str 0 bs)
+    else quoted_item quoteds.Bytes (body_at quoteds.Bytes 0 (drop 1 bs))))
+
+-- the literal that begins at the front
+abbrev pub literal_of : List ℕ → Item
+literal_of [] = BadLiteral
+literal_of (b ∷ bs) = literal_item b bs
+
+-- what stands at the front of bytes that begin so
+abbrev pub item_of : ℕ → List ℕ → Item
+item_of b bs =
+    if is_blank b then Gap 1
+    else (if b == 35 then Gap (prefix_len not_newline bs + 1)
+    else (if begins_literal (b ∷ bs) then literal_item b bs
+    else (if is_letter b then Lexeme (word_kind (take (prefix_len is_word (b ∷ bs)) (b ∷ bs))) (prefix_len is_word (b ∷ bs))
+    else sign_item (sign_at b (first bs)))))
+
+abbrev pub item : List ℕ → Item
+item [] = BadChar
+item (b ∷ bs) = item_of b bs
+
+-- ---- all tokens
+
+unfoldable pub bind : {A B : Type 0} → Result A LexError → (A → Result B LexError) → Result B LexError
+bind (Ok x) f = f x
+bind (Err e) f = Err e
+
+-- goes on behind the item at this index, with the number of its bytes that are still to pass
+abbrev pub act : ℕ → Place → Item → (ℕ → Result (List Token) LexError) → Result (List Token) LexError
+act at p (Gap n) go = go (n - 1)
+act at p (Lexeme k n) go = bind (go (n - 1)) (λ ts. Ok (record { kind = k; place = p; start = at; len = n } ∷ ts))
+act at p BadChar go = Err (errors.BadChar p)
+act at p BadLiteral go = Err (errors.BadLiteral p)
+
+-- the tokens from this index on, where so many bytes belong to what came before
+unfoldable pub lexed : ℕ → ℕ → Place → List ℕ → Result (List Token) LexError
+lexed k at p [] = Ok []
+lexed (suc k) at p (b ∷ bs) = lexed k (at + 1) (after b p) bs
+lexed zero at p (b ∷ bs) = act at p (item_of b bs) (λ k. lexed k (at + 1) (after b p) bs)
+
+-- what a function returned, seen by view, is what this gives, unless memory ran out
+abbrev pub Gives : {X Y : Type 0} → (X → Y) → Result X LexError → Result Y LexError → Type 0
+Gives view (Ok x) read = read ≡ Ok (view x)
+Gives view (Err errors.NoMemory) read = Unit {0}
+Gives view (Err (errors.BadChar p)) read = read ≡ Err (errors.BadChar p)
+Gives view (Err (errors.BadLiteral p)) read = read ≡ Err (errors.BadLiteral p)
+Gives view (Err (errors.NotUtf8 p)) read = ⊥
+
+-- tokens that were found, and those that are still to be found
+unfoldable pub with_front : List Token → Result (List Token) LexError → Result (List Token) LexError
+with_front front read = bind read (λ ts. Ok (front ++ ts))

@@ -1,0 +1,66 @@
+//! Escapes in literals.
+ghost use Rattle.std.specs.Prelude.{◌≡◌, ◌+◌, ◌≤◌, length};
+ghost use Rattle.sz_lex.specs.Literals.{letter_escape, escape_of};
+ghost use Rattle.sz_lex.specs.Reading.{escape_size, escape_at};
+
+use crate::number::digits;
+
+/// A literal between double quotes: a string, or bytes, which have a `B` before the opening quote.
+#[derive(Clone, Copy, Debug, PartialEq, Eq)]
+pub enum Quoted {
+    Str,
+    Bytes,
+}
+
+/// What an escape stands for.
+#[derive(Clone, Copy, Debug, PartialEq, Eq)]
+pub enum Escape {
+    Byte(u8),
+    Char(char),
+}
+
+fn letter_escape(letter: u8) -> Option<Escape>
+    ensures { result ≡ letter_escape letter }
+{
+    match letter {
+        b'n' => Some(Escape::Char('\n')),
+        b't' => Some(Escape::Char('\t')),
+        b'r' => Some(Escape::Char('\r')),
+        b'\\' | b'"' | b'\'' => Some(Escape::Char(char::from(letter))),
+        _ => None,
+    }
+}
+
+// What an escape stands for, which is written without its backslash.
+fn escape_of(text: &[u8]) -> Option<Escape>
+    ensures { result ≡ escape_of text.now }
+{
+    match text {
+        [letter] => letter_escape(*letter),
+        [b'x', _, _] => Some(Escape::Byte(digits(&text[1..], 16)? as u8)),
+        [b'u', _, _, _, _] => Some(Escape::Char(char::from_u32(digits(&text[1..], 16)? as u32)?)),
+        _ => None,
+    }
+}
+
+// How many bytes an escape takes behind its backslash, if its first byte is this.
+pub fn escape_size(first: u8) -> usize
+    ensures { result ≡ escape_size first }
+{
+    match first {
+        b'x' => 3,
+        b'u' => 5,
+        _ => 1,
+    }
+}
+
+// The escape at the front, behind its backslash.
+pub fn escape_at(text: &[u8]) -> Option<Escape>
+    ensures { result ≡ escape_at text.now }
+{
+    if text.is_empty() {
+        return None;
+    }
+    let size = escape_size(text[0]);
+    escape_of(&text[..size.min(text.len())])
+}

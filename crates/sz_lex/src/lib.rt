@@ -1,0 +1,24 @@
+//! From a program's text to its tokens.
+#![tactic(auto)]
+
+mod error;
+mod escape;
+mod item;
+mod literal;
+mod number;
+mod scan;
+mod sign;
+mod token;
+mod tokens;
+mod word;
+
+pub use error::LexError;
+pub use escape::Quoted;
+pub use scan::lex;
+pub use sign::Sign;
+pub use token::{Kind, Token};
+pub use tokens::Tokens;
+pub use word::Word;
+
+#[cfg(test)]
+mod tests;
