@@ -326,10 +326,10 @@ digit_value_is : (b : ℕ) → is_digit b ≡ true → (v : ℤ) × (number_of (
 digit_value_is b h =
     let value = digit_value_digit b (digit_range b h) in
     let low : nat_lt (digit_value b) 10 ≡ true = lt-ltb (digit_value b) 10 (omega (arith, value, (digit_range b h).1)) in
-    let fits : nat_lt (10 * 0 + digit_value b) (2 ^ 63) ≡ true = lt-ltb (10 * 0 + digit_value b) (2 ^ 63) (omega (arith, value, (digit_range b h).1)) in
-    (pos (10 * 0 + digit_value b), step (digit_value b) low fits)
+    let fits : nat_lt (0 * 10 + digit_value b) (2 ^ 63) ≡ true = lt-ltb (0 * 10 + digit_value b) (2 ^ 63) (omega (arith, value, (digit_range b h).1)) in
+    (pos (0 * 10 + digit_value b), step (digit_value b) low fits)
   where
-    step : (d : ℕ) → nat_lt d 10 ≡ true → nat_lt (10 * 0 + d) (2 ^ 63) ≡ true → option_map pos (below (2 ^ 63) (cond (nat_lt d 10) (Some (10 * 0 + d)) None)) ≡ Some (pos (10 * 0 + d))
+    step : (d : ℕ) → nat_lt d 10 ≡ true → nat_lt (0 * 10 + d) (2 ^ 63) ≡ true → option_map pos (below (2 ^ 63) (cond (nat_lt d 10) (Some (0 * 10 + d)) None)) ≡ Some (pos (0 * 10 + d))
     step d low fits = rw low (rw fits refl)
 
 begins_some : (b : ℕ) (bs : List ℕ) → begins_literal (b ∷ bs) ≡ true → Begins b
@@ -382,3 +382,35 @@ bad_literal_item b bs begins none = go (front_of b bs)
 -- and where there is a bad literal, no token is
 pub bad_literal_none : (bs : List ℕ) → item bs ≡ BadLiteral → (k : Kind) (l others : List ℕ) → bs ≡ l ++ others → IsLexeme k l → IsLongest l others → ⊥
 bad_literal_none bs bad k l others e h longest = let both : BadLiteral ≡ Lexeme k (length l) = sym bad ∙ ap item e ∙ token_item k l others h longest in absurd cc
+
+-- ---- how much stands there
+
+pub gap_positive : (text : List ℕ) (n : ℕ) → Gap n ≡ item text → 1 ≤ n
+gap_positive [] n e = absurd cc
+gap_positive (b ∷ bs) n e = go (front_of b bs)
+  where
+    go : Front b bs → 1 ≤ n
+    go (blank f) = let one : Gap n ≡ Gap 1 = e ∙ rw f refl in let same : n ≡ 1 = cc in omega (arith, same)
+    go (comment f g) = let more : Gap n ≡ Gap (prefix_len not_newline bs + 1) = e ∙ rw (f, g) refl in let same : n ≡ prefix_len not_newline bs + 1 = cc in omega (arith, same)
+    go (lexeme k m f a) = let both : Gap n ≡ Lexeme k m = e ∙ f in absurd cc
+    go (bad_char f x) = let both : Gap n ≡ BadChar = e ∙ f in absurd cc
+    go (bad_literal f x) = let both : Gap n ≡ BadLiteral = e ∙ f in absurd cc
+
+positive : (k : Kind) (l : List ℕ) → IsLexeme k l → 1 ≤ length l
+positive k [] h = absurd (no_empty k h)
+positive k (b ∷ l) h = omega arith
+
+-- a token that the item tells
+pub lexeme_here : (text : List ℕ) (k : Kind) (n : ℕ) → Lexeme k n ≡ item text → At k n text
+lexeme_here [] k n e = absurd cc
+lexeme_here (b ∷ bs) k n e = go (front_of b bs)
+  where
+    go : Front b bs → At k n (b ∷ bs)
+    go (blank f) = let both : Lexeme k n ≡ Gap 1 = e ∙ rw f refl in absurd cc
+    go (comment f g) = let both : Lexeme k n ≡ Gap (prefix_len not_newline bs + 1) = e ∙ rw (f, g) refl in absurd cc
+    go (lexeme j m f a) = at_is j k m n (b ∷ bs) (sym f ∙ sym e) a
+    go (bad_char f x) = let both : Lexeme k n ≡ BadChar = e ∙ f in absurd cc
+    go (bad_literal f x) = let both : Lexeme k n ≡ BadLiteral = e ∙ f in absurd cc
+
+pub lexeme_positive : (text : List ℕ) (k : Kind) (n : ℕ) → Lexeme k n ≡ item text → 1 ≤ n
+lexeme_positive text k n e = let a = lexeme_here text k n e in omega (arith, a.len, positive k a.lexeme a.spelled)

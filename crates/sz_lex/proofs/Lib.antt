@@ -5,3 +5,8 @@ pub mod FormLemmas
 pub mod ItemLemmas
 pub mod FrontLemmas
 pub mod WholeLemmas
+pub mod NumberLemmas
+pub mod SearchLemmas
+pub mod BodyLemmas
+pub mod Turns
+pub mod AnswerLemmas

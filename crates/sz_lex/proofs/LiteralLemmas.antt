@@ -100,7 +100,7 @@ escape_is (k ∷ bs) e h =
 -- ---- bodies
 
 -- a body behind so many bytes more
-abbrev ahead : ℕ → Option Body → Option Body
+abbrev pub ahead : ℕ → Option Body → Option Body
 ahead n o = option_map (λ (b : Body). record { len = n + b.len; value = b.value }) o
 
 longer_ahead : (n : ℕ) (o : Option Body) → longer [] (ahead n o) ≡ ahead (suc n) o
@@ -112,16 +112,20 @@ ahead_zero None = refl
 ahead_zero (Some b) = let e : b.len ≡ 0 + b.len = omega arith in ap (λ (m : ℕ). Some (record { len = m; value = b.value })) e
 
 -- bytes of an escape are passed
-skipped : (q : Quoted) (l more : List ℕ) → body_at q (length l) (l ++ more) ≡ ahead (length l) (body_at q 0 more)
+pub skipped : (q : Quoted) (l more : List ℕ) → body_at q (length l) (l ++ more) ≡ ahead (length l) (body_at q 0 more)
 unfolding body_at
 skipped q [] more = ahead_zero (body_at q 0 more)
 skipped q (b ∷ l) more = ap (longer []) (skipped q l more) ∙ longer_ahead (length l) (body_at q 0 more)
 
-at_quote : (q : Quoted) (rest : List ℕ) → body_at q 0 (34 ∷ rest) ≡ Some (record { len = 1; value = [] })
+pub at_quote : (q : Quoted) (rest : List ℕ) → body_at q 0 (34 ∷ rest) ≡ Some (record { len = 1; value = [] })
 unfolding body_at
 at_quote q rest = refl
 
-at_escape : (q : Quoted) (bs : List ℕ) (v : List ℕ) → option_and_then (escape_bytes q) (escape_at bs) ≡ Some v → body_at q 0 (92 ∷ bs) ≡ longer v (body_at q (escape_size (first bs)) bs)
+pub at_newline : (q : Quoted) (rest : List ℕ) → body_at q 0 (10 ∷ rest) ≡ None
+unfolding body_at
+at_newline q rest = refl
+
+pub at_escape : (q : Quoted) (bs : List ℕ) (v : List ℕ) → option_and_then (escape_bytes q) (escape_at bs) ≡ Some v → body_at q 0 (92 ∷ bs) ≡ longer v (body_at q (escape_size (first bs)) bs)
 unfolding body_at
 at_escape q bs v e = ap (option_and_then (λ (v : List ℕ). longer v (body_at q (escape_size (first bs)) bs))) e
 

@@ -217,28 +217,31 @@ unfolding TokensThen
 tokens_grow P grows [] c d b at p bs step h = grows c d b at p bs step h
 tokens_grow P grows (t ∷ ts) c d b at p bs step h =
     let n = h.0 in
-    let m : at + 1 + length n.gap ≡ at + suc (length n.gap) = omega arith in
-    (record {
-      gap = b ∷ n.gap;
-      lexeme = n.lexeme;
-      rest = n.rest;
-      parts = ap (λ (x : List ℕ). b ∷ x) n.parts;
-      closed = step n.gap ∙ n.closed;
-      start = n.start ∙ m;
-      place = n.place;
-      len = n.len;
-      spelled = n.spelled;
-      longest = n.longest;
-    }, subst (λ (m : ℕ). TokensThen P ts false (m + length n.lexeme) (behind n.lexeme (behind n.gap (after b p))) n.rest) m h.1)
+    let m : at + 1 + length n.gap ≡ at + suc (length n.gap) = omega arith in (
+      record {
+        gap = b ∷ n.gap;
+        lexeme = n.lexeme;
+        rest = n.rest;
+        parts = ap (λ (x : List ℕ). b ∷ x) n.parts;
+        closed = step n.gap ∙ n.closed;
+        start = n.start ∙ m;
+        place = n.place;
+        len = n.len;
+        spelled = n.spelled;
+        longest = n.longest;
+      },
+      subst (λ (m : ℕ). TokensThen P ts false (m + length n.lexeme) (behind n.lexeme (behind n.gap (after b p))) n.rest) m h.1,
+    )
 
 -- a token at the front
 token_front : (P : Tail) (k : Kind) (l rest : List ℕ) (ts : List Token) (at : ℕ) (p : Place) → IsLexeme k l → IsLongest l rest → TokensThen P ts false (at + length l) (behind l p) rest
     → TokensThen P (record { kind = k; place = p; start = at; len = length l } ∷ ts) false at p (l ++ rest)
 unfolding TokensThen
 token_front P k l rest ts at p h longest others =
-    let n : at ≡ at + 0 = omega arith in
-    (record { gap = []; lexeme = l; rest = rest; parts = refl; closed = refl; start = n; place = refl; len = refl; spelled = h; longest = longest },
-     subst (λ (m : ℕ). TokensThen P ts false (m + length l) (behind l p) rest) n others)
+    let n : at ≡ at + 0 = omega arith in (
+      record { gap = []; lexeme = l; rest = rest; parts = refl; closed = refl; start = n; place = refl; len = refl; spelled = h; longest = longest },
+      subst (λ (m : ℕ). TokensThen P ts false (m + length l) (behind l p) rest) n others,
+    )
 
 -- one of the three
 data Outcome (c : Bool) (at : ℕ) (p : Place) (text : List ℕ) : Type 0 where

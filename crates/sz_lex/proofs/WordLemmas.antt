@@ -1,11 +1,11 @@
 -- Words, runs and signs at the front of a text.
-use Rattle.std.proofs.Common.{◌≡◌, ◌≢◌, ◌⊎◌, ℕ, zero, suc, ◌+◌, ◌-◌, ◌≤◌, ◌<◌, Bool, true, false, cond, not, ◌||◌, ◌&&◌, eqb, List, [], ◌∷◌, ◌++◌, length, take, drop, Option, Some, None, refl, sym, ap, subst, ◌∙◌, inl, inr, append_assoc, arith, find, is_some}
+use Rattle.std.proofs.Common.{◌≡◌, ◌≢◌, ◌⊎◌, ℕ, zero, suc, ◌+◌, ◌-◌, ◌≤◌, ◌<◌, Bool, true, false, cond, not, ◌||◌, ◌&&◌, eqb, List, [], ◌∷◌, ◌++◌, length, take, drop, Option, Some, None, refl, sym, ap, subst, ◌∙◌, inl, inr, append_assoc, arith, find, is_some, get_or}
 use Rattle.std.specs.List.{prefix_len}
 use Rattle.std.specs.Str.{bytes_eq}
 use Rattle.std.proofs.lemmas.Bool.{eqb-true}
 use Rattle.std.proofs.lemmas.Slice.Eq.{bytes_eq-Decides}
 use Rattle.std.proofs.lemmas.Bool.Decides.{nat_tests}
-use Rattle.std.proofs.lemmas.List.{length-append, append-nil}
+use Rattle.std.proofs.lemmas.List.{length-append, append-nil, at_drop_more}
 use Rattle.sz_lex.specs.declared.token.Kind.{Kind}
 use Rattle.sz_lex.specs.declared.token.Kind.TheVariants as kinds
 use Rattle.sz_lex.specs.declared.word.Word.{Word}
@@ -139,6 +139,13 @@ found_spells (v ∷ ws) text w h = go (bytes_eq (word_text v) text) refl (found_
 
 pub word_spells : (text : List ℕ) (w : Word) → word_of text ≡ Some w → word_text w ≡ text
 word_spells text w e = (bytes_eq-Decides (word_text w) text).0 (found_spells all_words text w e)
+
+-- the word at i, or a later one
+pub found_word : (ws : List Word) (i : ℕ) (d : Word) (text : List ℕ) → i < length ws → bytes_eq (word_text (get_or ws i d)) text ≡ true → find (λ (w : Word). bytes_eq (word_text w) text) (drop i ws) ≡ Some (get_or ws i d)
+found_word ws i d text lt e = at_drop_more (find (λ (w : Word). bytes_eq (word_text w) text)) ws i d lt ∙ rw e refl
+
+pub passed_word : (ws : List Word) (i : ℕ) (d : Word) (text : List ℕ) → i < length ws → bytes_eq (word_text (get_or ws i d)) text ≡ false → find (λ (w : Word). bytes_eq (word_text w) text) (drop i ws) ≡ find (λ (w : Word). bytes_eq (word_text w) text) (drop (i + 1) ws)
+passed_word ws i d text lt e = at_drop_more (find (λ (w : Word). bytes_eq (word_text w) text)) ws i d lt ∙ rw e refl
 
 -- ---- signs
 

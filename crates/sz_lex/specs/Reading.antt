@@ -1,5 +1,5 @@
 -- How a text is read from left to right: each function of the crate gives what one of these gives.
-use Rattle.std.specs.Prelude.{◌≡◌, ℕ, ℤ, zero, suc, ◌+◌, ◌-◌, ◌<◌, List, [], ◌∷◌, ◌++◌, length, take, drop, Option, Some, None, Result, Ok, Err, Bool, true, false, ◌==◌, ◌&&◌, ◌||◌, not, find, if◌then◌else◌}
+use Rattle.std.specs.Prelude.{◌≡◌, ℕ, ℤ, zero, suc, ◌+◌, ◌-◌, ◌*◌, ◌^◌, nat_lt, List, [], ◌∷◌, ◌++◌, length, take, drop, Option, Some, None, Result, Ok, Err, Bool, true, false, ◌==◌, ◌&&◌, ◌||◌, not, find, if◌then◌else◌}
 use Rattle.std.specs.Str.{bytes_eq, is_utf8, chars}
 use Rattle.std.specs.List.{prefix_len}
 use Rattle.std.specs.Option.{option_map, option_and_then}
@@ -20,7 +20,8 @@ use Rattle.sz_lex.specs.declared.item.Item.{Item}
 use Rattle.sz_lex.specs.declared.item.Item.TheVariants.{Gap, Lexeme, BadChar, BadLiteral}
 use Rattle.sz_lex.specs.Classes.{is_blank, is_letter, is_digit, is_word}
 use Rattle.sz_lex.specs.Words.{word_text}
-use Rattle.sz_lex.specs.Numbers.{number_of}
+use Rattle.std.specs.Char.{digit_value}
+use Rattle.sz_lex.specs.Numbers.{number_of, below}
 use Rattle.sz_lex.specs.Literals.{escape_of, escape_code, escape_bytes, opening}
 use Rattle.sz_lex.specs.Tokens.{after, begins_literal}
 
@@ -91,6 +92,12 @@ sign_or None None = None
 abbrev pub sign_at : ℕ → ℕ → Option (Sign × ℕ)
 sign_at a b = sign_or (pair_sign a b) (single_sign a)
 
+-- ---- numbers
+
+-- the number with one more digit behind it, if the byte is a digit to the base and 64 bits hold the number
+abbrev pub push_digit : ℕ → ℕ → ℕ → Option ℕ
+push_digit base n b = if nat_lt (digit_value b) base then below (2 ^ 64) (Some (n * base + digit_value b)) else None
+
 -- ---- literals
 
 -- how many bytes an escape takes behind its backslash, if its first byte is this
@@ -127,9 +134,13 @@ body_at q zero (b ∷ bs) =
     else (if b == 10 then None
     else longer (b ∷ []) (body_at q zero bs)))
 
+-- the character, if it needs no escape
+abbrev pub unescaped : ℕ → Option ℕ
+unescaped c = if c == 39 || c == 92 || c == 10 then None else Some c
+
 -- the only one of these characters, if it needs no escape
 abbrev pub only_plain : List ℕ → Option ℕ
-only_plain (c ∷ []) = if c == 39 || c == 92 || c == 10 then None else Some c
+only_plain (c ∷ []) = unescaped c
 only_plain _ = None
 
 -- the only character of these bytes, if it needs no escape
@@ -144,12 +155,18 @@ abbrev pub quoted_character : Option ℕ → ℕ → List ℕ → Option (ℕ ×
 quoted_character None n rest = None
 quoted_character (Some c) n rest = if first rest == 39 then Some (c, n + 1) else None
 
+-- an escaped character behind its backslash, and the number of bytes from there on with the backslash and the closing quote
+abbrev pub escaped_at : List ℕ → Option (ℕ × ℕ)
+escaped_at bs = quoted_character (option_and_then escape_code (escape_at bs)) (1 + escape_size (first bs)) (drop (escape_size (first bs)) bs)
+
+-- a character that needs no escape, and the number of bytes with the closing quote
+abbrev pub unescaped_at : List ℕ → Option (ℕ × ℕ)
+unescaped_at bs = let n = prefix_len not_quote bs in quoted_character (plain_character (take n bs)) n (drop n bs)
+
 -- the character behind an opening quote, and the number of bytes with the closing one
 abbrev pub character_at : List ℕ → Option (ℕ × ℕ)
 character_at [] = None
-character_at (b ∷ bs) =
-    if b == 92 then quoted_character (option_and_then escape_code (escape_at bs)) (1 + escape_size (first bs)) (drop (escape_size (first bs)) bs)
-    else quoted_character (plain_character (take (prefix_len not_quote (b ∷ bs)) (b ∷ bs))) (prefix_len not_quote (b ∷ bs)) (drop (prefix_len not_quote (b ∷ bs)) (b ∷ bs))
+character_at (b ∷ bs) = if b == 92 then escaped_at bs else unescaped_at (b ∷ bs)
 
 -- ---- the item at the front
 
@@ -196,6 +213,11 @@ literal_item b bs =
 abbrev pub literal_of : List ℕ → Item
 literal_of [] = BadLiteral
 literal_of (b ∷ bs) = literal_item b bs
+
+-- the sign at the front
+abbrev pub sign_of_text : List ℕ → Item
+sign_of_text [] = BadChar
+sign_of_text (b ∷ bs) = sign_item (sign_at b (first bs))
 
 -- what stands at the front of bytes that begin so
 abbrev pub item_of : ℕ → List ℕ → Item

@@ -1,9 +1,11 @@
 //! Escapes in literals.
 ghost use Rattle.std.specs.Prelude.{◌≡◌, ◌+◌, ◌≤◌, length};
-ghost use Rattle.sz_lex.specs.Literals.{letter_escape, escape_of};
+ghost use Rattle.std.specs.Option.{option_and_then};
+ghost use Rattle.sz_lex.specs.Numbers.{digits_from};
+ghost use Rattle.sz_lex.specs.Literals.{letter_escape, character_escape, escape_of};
 ghost use Rattle.sz_lex.specs.Reading.{escape_size, escape_at};
 
-use crate::number::digits;
+use crate::number;
 
 /// A literal between double quotes: a string, or bytes, which have a `B` before the opening quote.
 #[derive(Clone, Copy, Debug, PartialEq, Eq)]
@@ -31,14 +33,23 @@ fn letter_escape(letter: u8) -> Option<Escape>
     }
 }
 
+// The character whose code four hexadecimal digits spell.
+fn character_escape(digits: &[u8]) -> Option<Escape>
+    requires { length digits.now ≡ 4 }
+    ensures { result ≡ option_and_then character_escape (digits_from 16 0 digits.now) }
+{
+    let code = number::digits(16, digits)?;
+    Some(Escape::Char(char::from_u32(code as u32)?))
+}
+
 // What an escape stands for, which is written without its backslash.
 fn escape_of(text: &[u8]) -> Option<Escape>
     ensures { result ≡ escape_of text.now }
 {
     match text {
         [letter] => letter_escape(*letter),
-        [b'x', _, _] => Some(Escape::Byte(digits(&text[1..], 16)? as u8)),
-        [b'u', _, _, _, _] => Some(Escape::Char(char::from_u32(digits(&text[1..], 16)? as u32)?)),
+        [b'x', _, _] => Some(Escape::Byte(number::digits(16, &text[1..])? as u8)),
+        [b'u', _, _, _, _] => character_escape(&text[1..]),
         _ => None,
     }
 }

@@ -3,7 +3,7 @@ ghost use Rattle.std.specs.Prelude.{◌≡◌, ◌+◌, ◌<◌, ◌≤◌, leng
 ghost use Rattle.std.specs.List.{prefix_len};
 ghost use Rattle.sz_lex.specs.Classes.{is_blank, is_letter, is_digit, is_word};
 ghost use Rattle.sz_lex.specs.Tokens.{begins_literal};
-ghost use Rattle.sz_lex.specs.Reading.{not_newline, word_kind, body_at, quoted_item, literal_of, item};
+ghost use Rattle.sz_lex.specs.Reading.{not_newline, word_kind, body_at, quoted_item, literal_of, sign_of_text, item};
 
 use crate::escape::Quoted;
 use crate::literal::{body_len, character_at};
@@ -122,6 +122,18 @@ fn literal_item(text: &[u8]) -> Item
     }
 }
 
+// The sign at the front.
+fn sign_item(text: &[u8]) -> Item
+    requires { 0 < length text.now }
+    ensures { result ≡ sign_of_text text.now }
+{
+    let second = if text.len() > 1 { text[1] } else { 0 };
+    match sign_at(text[0], second) {
+        Some((sign, len)) => Item::Lexeme(Kind::Sign(sign), len),
+        None => Item::BadChar,
+    }
+}
+
 // What stands at the front of a text that isn't empty.
 pub fn first_item(text: &[u8]) -> Item
     requires some { 0 < length text.now }
@@ -139,10 +151,6 @@ pub fn first_item(text: &[u8]) -> Item
         let len = word_len(text);
         Item::Lexeme(word_kind(&text[..len]), len)
     } else {
-        let second = if text.len() > 1 { text[1] } else { 0 };
-        match sign_at(first, second) {
-            Some((sign, len)) => Item::Lexeme(Kind::Sign(sign), len),
-            None => Item::BadChar,
-        }
+        sign_item(text)
     }
 }

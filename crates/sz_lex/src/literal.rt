@@ -1,8 +1,9 @@
 //! Literals between quotes: where they end, and what they stand for.
-ghost use Rattle.std.specs.Prelude.{◌≡◌, ◌≤◌, length, is_some, IfSome};
+ghost use Rattle.std.specs.Prelude.{◌≡◌, ◌+◌, ◌≤◌, length, is_some, IfSome};
 ghost use Rattle.std.specs.Option.{option_map, option_and_then};
 ghost use Rattle.sz_lex.specs.Literals.{escape_code, escape_bytes};
-ghost use Rattle.sz_lex.specs.Reading.{first, escape_size, escape_at, body_at, plain_character, character_at};
+ghost use Rattle.std.specs.Str.{chars};
+ghost use Rattle.sz_lex.specs.Reading.{first, escape_size, escape_at, body_at, unescaped, only_plain, plain_character, unescaped_at, escaped_at, character_at};
 
 use crate::escape::{Escape, Quoted, escape_at, escape_size};
 use memchr::{memchr, memchr3};
@@ -38,11 +39,14 @@ pub fn body_len(quoted: Quoted, text: &[u8]) -> Option<usize>
     let mut at = 0;
     while let Some(plain) = memchr3(b'"', b'\\', b'\n', &text[at..]) {
         let mark = at + plain;
-        match text[mark] {
-            b'"' => return Some(mark + 1),
-            b'\\' => at = mark + 1 + escape_len(quoted, &text[mark + 1..])?,
-            _ => return None,
+        if text[mark] == b'"' {
+            return Some(mark + 1);
         }
+        if text[mark] != b'\\' {
+            return None;
+        }
+        let escape = escape_len(quoted, &text[mark + 1..])?;
+        at = mark + 1 + escape;
     }
     None
 }
@@ -58,37 +62,71 @@ fn escape_code(escape: Escape) -> Option<char>
     }
 }
 
-// The only character of these bytes, if it needs no escape.
-fn plain_character(bytes: &[u8]) -> Option<char>
-    ensures { result ≡ plain_character bytes.now }
+// The only character of a text, if it needs no escape.
+fn only_plain(text: &str) -> Option<char>
+    ensures { result ≡ only_plain (chars text.now) }
 {
-    let text = std::str::from_utf8(bytes).ok()?;
     let mut chars = text.chars();
     let c = chars.next()?;
-    if chars.next().is_some() || c == '\'' || c == '\\' || c == '\n' {
+    match chars.next() {
+        Some(_) => None,
+        None => unescaped(c),
+    }
+}
+
+// The character, if it needs no escape.
+fn unescaped(c: char) -> Option<char>
+    ensures { result ≡ unescaped c }
+{
+    if c == '\'' || c == '\\' || c == '\n' {
         None
     } else {
         Some(c)
     }
 }
 
-// The character behind an opening quote, and the number of bytes with the closing one.
-pub fn character_at(text: &[u8]) -> Option<(char, usize)>
-    ensures { result ≡ character_at text.now }
+// The only character of these bytes, if it needs no escape.
+fn plain_character(bytes: &[u8]) -> Option<char>
+    ensures { result ≡ plain_character bytes.now }
 {
-    if text.is_empty() {
-        return None;
+    match std::str::from_utf8(bytes) {
+        Ok(text) => only_plain(text),
+        Err(_) => None,
     }
-    let (character, end) = if text[0] == b'\\' {
-        let escape = &text[1..];
-        (escape_code(escape_at(escape)?)?, 1 + escape_size(escape[0]))
-    } else {
-        let end = memchr(b'\'', text)?;
-        (plain_character(&text[..end])?, end)
-    };
-    if end < text.len() && text[end] == b'\'' {
-        Some((character, end + 1))
+}
+
+// The character and its length with the closing quote, where no backslash stands behind the opening one.
+fn unescaped_at(text: &[u8]) -> Option<(char, usize)>
+    ensures value { result ≡ unescaped_at text.now }
+    ensures within { IfSome result (λ r. r.1 ≤ length text.now) }
+{
+    let end = memchr(b'\'', text)?;
+    let character = plain_character(&text[..end])?;
+    Some((character, end + 1))
+}
+
+// The same, where an escape stands behind the opening quote, from behind its backslash on.
+fn escaped_at(text: &[u8]) -> Option<(char, usize)>
+    ensures value { result ≡ escaped_at text.now }
+    ensures within { IfSome result (λ r. r.1 ≤ length text.now + 1) }
+{
+    let character = escape_code(escape_at(text)?)?;
+    let size = escape_size(text[0]);
+    if size < text.len() && text[size] == b'\'' {
+        Some((character, 1 + size + 1))
     } else {
         None
+    }
+}
+
+// The character behind an opening quote, and the number of bytes with the closing one.
+pub fn character_at(text: &[u8]) -> Option<(char, usize)>
+    ensures value { result ≡ character_at text.now }
+    ensures within { IfSome result (λ r. r.1 ≤ length text.now) }
+{
+    match text {
+        [] => None,
+        [b'\\', ..] => escaped_at(&text[1..]),
+        _ => unescaped_at(text),
     }
 }

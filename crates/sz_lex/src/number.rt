@@ -1,17 +1,29 @@
 //! Numbers: decimal digits, or `0x` and hexadecimal digits.
 ghost use Rattle.std.specs.Prelude.{◌≡◌, ◌^◌, ◌≤◌};
 ghost use Rattle.sz_lex.specs.Numbers.{digits_from, below, decimal, hexadecimal, number_of};
+ghost use Rattle.sz_lex.specs.Reading.{push_digit};
 
-// The number below 2^64 that digits to a base from 2 to 16 spell.
-pub fn digits(run: &[u8], base: u32) -> Option<u64>
+// The number with one more digit behind it, if this is a digit to the base and 64 bits hold the number.
+fn push_digit(base: u32, number: u64, byte: u8) -> Option<u64>
+    requires low { 2 ≤ base }
+    requires high { base ≤ 16 }
+    ensures { result ≡ push_digit base number byte }
+{
+    let digit = char::from(byte).to_digit(base)?;
+    number
+        .checked_mul(u64::from(base))?
+        .checked_add(u64::from(digit))
+}
+
+// The number below 2^64 that digits to a base spell.
+pub fn digits(base: u32, run: &[u8]) -> Option<u64>
     requires low { 2 ≤ base }
     requires high { base ≤ 16 }
     ensures { result ≡ below (2 ^ 64) (digits_from base 0 run.now) }
 {
-    let mut number: u64 = 0;
+    let mut number = 0;
     for byte in run {
-        let digit = char::from(*byte).to_digit(base)?;
-        number = number.checked_mul(u64::from(base))?.checked_add(u64::from(digit))?;
+        number = push_digit(base, number, *byte)?;
     }
     Some(number)
 }
@@ -31,8 +43,12 @@ pub fn number_of(run: &[u8]) -> Option<i64>
 fn decimal(run: &[u8]) -> Option<i64>
     ensures { result ≡ decimal run.now }
 {
-    let number = digits(run, 10)?;
-    if number < 1 << 63 { Some(number as i64) } else { None }
+    let number = digits(10, run)?;
+    if number < 1 << 63 {
+        Some(number as i64)
+    } else {
+        None
+    }
 }
 
 fn hexadecimal(run: &[u8]) -> Option<i64>
@@ -41,5 +57,5 @@ fn hexadecimal(run: &[u8]) -> Option<i64>
     if run.is_empty() {
         return None;
     }
-    Some(digits(run, 16)?.cast_signed())
+    Some(digits(16, run)?.cast_signed())
 }

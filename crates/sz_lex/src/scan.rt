@@ -77,6 +77,16 @@ fn scan(alloc: Global, text: &[u8]) -> Result<Vec<Token>, LexError>
     Ok(tokens)
 }
 
+// The tokens with a copy of the text.
+fn tokens_of(alloc: Global, text: &[u8]) -> Result<Tokens, LexError>
+    requires { length text.now ≤ 1048576 }
+    ensures read { Gives (λ t. t.tokens) result (lexed 0 0 first_place text.now) }
+    ensures copied { IfOk result (λ t. t.text ≡ text.now) }
+{
+    let tokens = scan(alloc, text)?;
+    Tokens::new(alloc, text, tokens)
+}
+
 /// The tokens of a program's text.
 ///
 /// A text that isn't UTF-8 is refused first, at the first byte that isn't part of a valid front. Otherwise tokens are
@@ -97,9 +107,8 @@ pub fn lex(alloc: Global, text: &[u8]) -> Result<Tokens, LexError>
     ensures only_refused { (e : Reason) → IsRefused text.now e
         → MatchResult result (λ _. ⊥) (λ f. (f ≡ LexError.NoMemory) ⊎ (f ≡ e)) }
 {
-    if let Err(error) = simdutf8::compat::from_utf8(text) {
-        return Err(LexError::NotUtf8(place_behind(&text[..error.valid_up_to()])));
+    match simdutf8::compat::from_utf8(text) {
+        Ok(_) => tokens_of(alloc, text),
+        Err(error) => Err(LexError::NotUtf8(place_behind(&text[..error.valid_up_to()]))),
     }
-    let tokens = scan(alloc, text)?;
-    Tokens::new(alloc, text, tokens)
 }

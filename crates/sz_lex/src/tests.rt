@@ -4,7 +4,10 @@ use std::test::Fail;
 
 #[test]
 fn a_line_of_each_kind(rt: HostRuntime) -> Result<(), Fail> {
-    let tokens = lex(rt.alloc(), b"if x1 <- 12 # end\n <<< 0xffffffffffffffff 'a' '\\u00e9' \"a\\n\" B\"\\xff\" .@")?;
+    let tokens = lex(
+        rt.alloc(),
+        b"if x1 <- 12 # end\n <<< 0xffffffffffffffff 'a' '\\u00e9' \"a\\n\" B\"\\xff\" .@",
+    )?;
     println!(rt; "{tokens:?}")?;
     assert_eq!(rt; tokens.as_slice().len(), 13);
     Ok(())
