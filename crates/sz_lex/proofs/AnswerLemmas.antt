@@ -61,7 +61,7 @@ only_refused view text r utf8 h errors.NoMemory k = absurd k
 
 -- ---- a text that isn't
 
-one_front : (text : List ℕ) (m n : ℕ) → IsValidUpTo text m → IsValidUpTo text n → m ≡ n
+pub one_front : (text : List ℕ) (m n : ℕ) → IsValidUpTo text m → IsValidUpTo text n → m ≡ n
 one_front text m n h k = sym (utf8_valid_len-IsValidUpTo text m h) ∙ utf8_valid_len-IsValidUpTo text n k
 
 pub only_not_utf8 : (text : List ℕ) (p : Place) → HasNotUtf8 text p → (e : LexError) → IsRefused text e → (errors.NotUtf8 p ≡ errors.NoMemory) ⊎ (errors.NotUtf8 p ≡ e)

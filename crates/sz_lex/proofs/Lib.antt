@@ -10,3 +10,5 @@ pub mod SearchLemmas
 pub mod BodyLemmas
 pub mod Turns
 pub mod AnswerLemmas
+pub mod DecodeLemmas
+pub mod LawLemmas

@@ -6,5 +6,6 @@ pub mod Numbers
 pub mod Literals
 pub mod Tokens
 pub mod Lexed
+pub mod Laws
 -- what the functions inside the crate promise each other
 pub mod Reading

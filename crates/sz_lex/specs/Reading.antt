@@ -1,5 +1,5 @@
 -- How a text is read from left to right: each function of the crate gives what one of these gives.
-use Rattle.std.specs.Prelude.{◌≡◌, ℕ, ℤ, zero, suc, ◌+◌, ◌-◌, ◌*◌, ◌^◌, nat_lt, List, [], ◌∷◌, ◌++◌, length, take, drop, Option, Some, None, Result, Ok, Err, Bool, true, false, ◌==◌, ◌&&◌, ◌||◌, not, find, if◌then◌else◌}
+use Rattle.std.specs.Prelude.{◌≡◌, ℕ, ℤ, zero, suc, ◌+◌, ◌-◌, ◌*◌, ◌^◌, nat_lt, List, [], ◌∷◌, ◌++◌, length, take, drop, Option, Some, None, Result, Ok, Err, Bool, true, false, ◌==◌, ◌&&◌, ◌||◌, not, find, if◌then◌else◌, encode_utf8}
 use Rattle.std.specs.Str.{bytes_eq, is_utf8, chars}
 use Rattle.std.specs.List.{prefix_len}
 use Rattle.std.specs.Option.{option_map, option_and_then}
@@ -10,6 +10,7 @@ use Rattle.sz_lex.specs.declared.token.Kind.TheVariants as kinds
 use Rattle.sz_lex.specs.declared.error.LexError.{LexError}
 use Rattle.sz_lex.specs.declared.error.LexError.TheVariants as errors
 use Rattle.sz_lex.specs.declared.escape.Escape.{Escape}
+use Rattle.sz_lex.specs.declared.escape.Escape.TheVariants as escapes
 use Rattle.sz_lex.specs.declared.escape.Quoted.{Quoted}
 use Rattle.sz_lex.specs.declared.escape.Quoted.TheVariants as quoteds
 use Rattle.sz_lex.specs.declared.word.Word.{Word}
@@ -109,6 +110,11 @@ abbrev pub escape_at : List ℕ → Option Escape
 escape_at [] = None
 escape_at (b ∷ bs) = escape_of (take (escape_size b) (b ∷ bs))
 
+-- the bytes that an escape stands for, where it may stand
+abbrev pub escape_value : Escape → List ℕ
+escape_value (escapes.Byte b) = b ∷ []
+escape_value (escapes.Char c) = encode_utf8 c
+
 -- the first byte, or 0 at the end
 abbrev pub first : List ℕ → ℕ
 first [] = 0
@@ -118,6 +124,11 @@ first (b ∷ bs) = b
 pub record Body : Type 0 where
   pub len : ℕ
   pub value : List ℕ
+
+-- what a body stands for, if it takes so many bytes
+abbrev pub whole_value : ℕ → Option Body → Option (List ℕ)
+whole_value n None = None
+whole_value n (Some b) = if b.len == n then Some b.value else None
 
 -- a body with one more byte, which adds these to its value
 abbrev pub longer : List ℕ → Option Body → Option Body

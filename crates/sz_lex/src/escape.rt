@@ -2,7 +2,7 @@
 ghost use Rattle.std.specs.Prelude.{◌≡◌, ◌+◌, ◌≤◌, length};
 ghost use Rattle.std.specs.Option.{option_and_then};
 ghost use Rattle.sz_lex.specs.Numbers.{digits_from};
-ghost use Rattle.sz_lex.specs.Literals.{letter_escape, character_escape, escape_of};
+ghost use Rattle.sz_lex.specs.Literals.{opening, letter_escape, character_escape, escape_of};
 ghost use Rattle.sz_lex.specs.Reading.{escape_size, escape_at};
 
 use crate::number;
@@ -12,6 +12,18 @@ use crate::number;
 pub enum Quoted {
     Str,
     Bytes,
+}
+
+impl Quoted {
+    /// What stands before the literal's first part.
+    pub fn opening(self) -> &'static [u8]
+        ensures value { result.now ≡ opening self }
+    {
+        match self {
+            Quoted::Str => b"\"",
+            Quoted::Bytes => b"B\"",
+        }
+    }
 }
 
 /// What an escape stands for.

@@ -4,6 +4,7 @@
 mod error;
 mod escape;
 mod item;
+mod laws;
 mod literal;
 mod number;
 mod scan;
@@ -14,6 +15,11 @@ mod word;
 
 pub use error::LexError;
 pub use escape::Quoted;
+pub use laws::{
+    refusal_is_unique, refused_place_is_in_text, spans_lie_in_order, tokens_are_unique,
+    value_is_unique,
+};
+pub use literal::decode;
 pub use scan::lex;
 pub use sign::Sign;
 pub use token::{Kind, Token};

@@ -1,12 +1,13 @@
 //! Literals between quotes: where they end, and what they stand for.
-ghost use Rattle.std.specs.Prelude.{◌≡◌, ◌+◌, ◌≤◌, length, is_some, IfSome};
+ghost use Rattle.std.specs.Prelude.{◌≡◌, ℕ, ◌+◌, ◌<◌, ◌≤◌, List, ◌++◌, length, is_some, IfSome, IfNone, IfOk, OnOk};
 ghost use Rattle.std.specs.Option.{option_map, option_and_then};
-ghost use Rattle.sz_lex.specs.Literals.{escape_code, escape_bytes};
+ghost use Rattle.sz_lex.specs.Literals.{escape_code, escape_bytes, IsQuoted};
 ghost use Rattle.std.specs.Str.{chars};
-ghost use Rattle.sz_lex.specs.Reading.{first, escape_size, escape_at, body_at, unescaped, only_plain, plain_character, unescaped_at, escaped_at, character_at};
+ghost use Rattle.sz_lex.specs.Reading.{first, escape_size, escape_at, body_at, unescaped, only_plain, plain_character, unescaped_at, escaped_at, character_at, escape_value, whole_value};
 
 use crate::escape::{Escape, Quoted, escape_at, escape_size};
 use memchr::{memchr, memchr3};
+use std::alloc::{AllocError, Global};
 
 // Whether the escape may stand in such a literal.
 fn may_stand(quoted: Quoted, escape: Escape) -> bool
@@ -128,5 +129,70 @@ pub fn character_at(text: &[u8]) -> Option<(char, usize)>
         [] => None,
         [b'\\', ..] => escaped_at(&text[1..]),
         _ => unescaped_at(text),
+    }
+}
+
+// What an escape adds to the value of such a literal, if it may stand there.
+fn escape_in(quoted: Quoted, text: &[u8]) -> Option<Escape>
+    ensures value { option_map escape_value result ≡ option_and_then (escape_bytes quoted) (escape_at text.now) }
+    ensures within { IfSome result (λ _. escape_size (first text.now) ≤ length text.now) }
+    ensures some { IfSome result (λ _. 0 < length text.now) }
+{
+    let escape = escape_at(text)?;
+    if may_stand(quoted, escape) {
+        Some(escape)
+    } else {
+        None
+    }
+}
+
+// Writes what an escape stands for behind the value.
+fn push_escape(value: &mut Vec<u8>, escape: Escape) -> Result<(), AllocError>
+    ensures { OnOk result (value.new.items ≡ value.old.items ++ escape_value escape) }
+{
+    match escape {
+        Escape::Byte(byte) => value.extend_from_slice(&[byte]),
+        Escape::Char(c) => {
+            let mut buffer = [0; 4];
+            value.extend_from_slice(c.encode_utf8(&mut buffer).as_bytes())
+        }
+    }
+}
+
+// The bytes that the body of a literal stands for, with its closing quote at the end.
+fn decode_body(alloc: Global, quoted: Quoted, body: &[u8]) -> Result<Option<Vec<u8>>, AllocError>
+    ensures { IfOk result (λ o. option_map (λ v. v.items) o ≡ whole_value (length body.now) (body_at quoted 0 body.now)) }
+{
+    let mut value = Vec::new(alloc);
+    let mut at = 0;
+    while let Some(plain) = memchr3(b'"', b'\\', b'\n', &body[at..]) {
+        let mark = at + plain;
+        value.extend_from_slice(&body[at..mark])?;
+        if body[mark] == b'"' && mark + 1 == body.len() {
+            return Ok(Some(value));
+        }
+        if body[mark] != b'\\' {
+            return Ok(None);
+        }
+        let rest = &body[mark + 1..];
+        let Some(escape) = escape_in(quoted, rest) else {
+            return Ok(None);
+        };
+        push_escape(&mut value, escape)?;
+        let size = escape_size(rest[0]);
+        at = mark + 1 + size;
+    }
+    Ok(None)
+}
+
+/// The bytes that the text of a string or bytes literal, with its quotes, stands for: UTF-8 for a string.
+/// `None` if the text is no such literal.
+pub fn decode(alloc: Global, quoted: Quoted, literal: &[u8]) -> Result<Option<Vec<u8>>, AllocError>
+    ensures found { IfOk result (λ o. IfSome o (λ v. IsQuoted quoted literal.now v.items)) }
+    ensures none { IfOk result (λ o. IfNone o ((value : List ℕ) → IsQuoted quoted literal.now value → ⊥)) }
+{
+    match literal.strip_prefix(quoted.opening()) {
+        Some(body) => decode_body(alloc, quoted, body),
+        None => Ok(None),
     }
 }

@@ -1,0 +1,52 @@
+-- Laws of tokens, in the words of a reader of programs. Each is proved, by an empty function of the crate.
+use Rattle.std.specs.Prelude.{◌≡◌, ◌≢◌, ℕ, ◌+◌, ◌-◌, ◌<◌, ◌≤◌, List, [], ◌∷◌, ◌++◌, length, take, drop, Some, false, map}
+use Rattle.sz_types.specs.declared.place.Place.{Place}
+use Rattle.sz_lex.specs.declared.token.Token.{Token}
+use Rattle.sz_lex.specs.declared.token.Kind.{Kind}
+use Rattle.sz_lex.specs.declared.error.LexError.{LexError}
+use Rattle.sz_lex.specs.declared.error.LexError.TheVariants as errors
+use Rattle.sz_lex.specs.declared.escape.Quoted.{Quoted}
+use Rattle.sz_lex.specs.Literals.{IsQuoted}
+use Rattle.sz_lex.specs.Tokens.{IsLexeme, gap_from, behind, first_place, HasTokens, IsRefused}
+use Rattle.sz_lex.specs.Lexed.{lexeme_of}
+
+-- nothing but blanks and comments, of which the last may be ended by the end of the text
+abbrev pub IsGap : List ℕ → Type 0
+IsGap bytes = (comment : _) × (gap_from false bytes ≡ Some comment)
+
+-- from this index on the spans of the tokens lie one after another in the text, with nothing but blanks and comments
+-- before, between and behind them, and each has its place and spells its kind
+abbrev pub LieInOrder : List ℕ → ℕ → List Token → Type 0
+LieInOrder text at [] = IsGap (drop at text)
+LieInOrder text at (t ∷ ts) = (at ≤ t.start) × (t.start + t.len ≤ length text) × IsGap (take (t.start - at) (drop at text))
+    × (t.place ≡ behind (take t.start text) first_place) × IsLexeme t.kind (lexeme_of text t) × LieInOrder text (t.start + t.len) ts
+
+-- the spans of a text's tokens lie one after another
+abbrev pub SpansLieInOrder : Type 0
+SpansLieInOrder = (text : List ℕ) (ts : List Token) → HasTokens text ts → LieInOrder text 0 ts
+
+-- a text has at most one list of tokens
+abbrev pub HasOneList : Type 0
+HasOneList = (text : List ℕ) (ts us : List Token) → HasTokens text ts → HasTokens text us → ts ≡ us
+
+-- a text that has tokens is refused for no reason, and no text is refused for two
+abbrev pub HasNoRefusal : Type 0
+HasNoRefusal = (text : List ℕ) (ts : List Token) (e : LexError) → HasTokens text ts → IsRefused text e → ⊥
+
+abbrev pub HasOneRefusal : Type 0
+HasOneRefusal = (text : List ℕ) (e f : LexError) → IsRefused text e → IsRefused text f → e ≡ f
+
+-- the place of a refusal
+abbrev pub place_of : LexError → Place
+place_of (errors.BadChar q) = q
+place_of (errors.BadLiteral q) = q
+place_of (errors.NotUtf8 q) = q
+place_of errors.NoMemory = first_place
+
+-- a refused place is that of a byte of the text
+abbrev pub RefusedPlaceIsInText : Type 0
+RefusedPlaceIsInText = (text : List ℕ) (e : LexError) → IsRefused text e → (at : ℕ) × (at < length text) × (place_of e ≡ behind (take at text) first_place)
+
+-- a literal between double quotes stands for one value
+abbrev pub HasOneValue : Type 0
+HasOneValue = (q : Quoted) (literal v w : List ℕ) → IsQuoted q literal v → IsQuoted q literal w → v ≡ w

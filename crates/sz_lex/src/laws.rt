@@ -1,0 +1,28 @@
+//! What holds of all texts. The calls do nothing: each promises a law of `specs/Laws.antt`.
+ghost use Rattle.sz_lex.specs.Laws.{SpansLieInOrder, HasOneList, HasNoRefusal, HasOneRefusal, RefusedPlaceIsInText, HasOneValue};
+
+/// The spans of a text's tokens lie one after another in it, with nothing but blanks and comments around them.
+pub fn spans_lie_in_order()
+    ensures { SpansLieInOrder }
+{}
+
+/// A text has at most one list of tokens.
+pub fn tokens_are_unique()
+    ensures { HasOneList }
+{}
+
+/// A text that has tokens is not refused, and a text is refused for one reason at most.
+pub fn refusal_is_unique()
+    ensures none { HasNoRefusal }
+    ensures one { HasOneRefusal }
+{}
+
+/// The place of a refusal is that of a byte of the text.
+pub fn refused_place_is_in_text()
+    ensures { RefusedPlaceIsInText }
+{}
+
+/// A string or bytes literal stands for one value.
+pub fn value_is_unique()
+    ensures { HasOneValue }
+{}
