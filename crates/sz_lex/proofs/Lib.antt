@@ -12,3 +12,4 @@ pub mod Turns
 pub mod AnswerLemmas
 pub mod DecodeLemmas
 pub mod LawLemmas
+pub mod ApartLemmas

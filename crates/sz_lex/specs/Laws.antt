@@ -1,11 +1,12 @@
 -- Laws of tokens, in the words of a reader of programs. Each is proved, by an empty function of the crate.
-use Rattle.std.specs.Prelude.{◌≡◌, ◌≢◌, ℕ, ◌+◌, ◌-◌, ◌<◌, ◌≤◌, List, [], ◌∷◌, ◌++◌, length, take, drop, Some, false, map}
+use Rattle.std.specs.Prelude.{◌≡◌, ℕ, ◌+◌, ◌-◌, ◌<◌, ◌≤◌, ◌==◌, ◌||◌, List, [], ◌∷◌, ◌++◌, length, take, drop, Some, true, false, map, IsUtf8}
 use Rattle.sz_types.specs.declared.place.Place.{Place}
 use Rattle.sz_lex.specs.declared.token.Token.{Token}
 use Rattle.sz_lex.specs.declared.token.Kind.{Kind}
 use Rattle.sz_lex.specs.declared.error.LexError.{LexError}
 use Rattle.sz_lex.specs.declared.error.LexError.TheVariants as errors
 use Rattle.sz_lex.specs.declared.escape.Quoted.{Quoted}
+use Rattle.sz_lex.specs.Classes.{is_blank}
 use Rattle.sz_lex.specs.Literals.{IsQuoted}
 use Rattle.sz_lex.specs.Tokens.{IsLexeme, gap_from, behind, first_place, HasTokens, IsRefused}
 use Rattle.sz_lex.specs.Lexed.{lexeme_of}
@@ -50,3 +51,33 @@ RefusedPlaceIsInText = (text : List ℕ) (e : LexError) → IsRefused text e →
 -- a literal between double quotes stands for one value
 abbrev pub HasOneValue : Type 0
 HasOneValue = (q : Quoted) (literal v w : List ℕ) → IsQuoted q literal v → IsQuoted q literal w → v ≡ w
+
+-- a kind, and bytes that spell it
+pub record Spelled : Type 0 where
+  pub kind : Kind
+  pub text : List ℕ
+
+-- the bytes are none, or begin with a blank or a comment
+abbrev pub BeginsApart : List ℕ → Type 0
+BeginsApart [] = Unit {0}
+BeginsApart (b ∷ bs) = (is_blank b || b == 35) ≡ true
+
+-- the text is the bytes of these tokens, with blanks and comments before and behind them, and some between any two
+abbrev pub IsWrittenApart : List Spelled → List ℕ → Type 0
+IsWrittenApart [] text = IsGap text
+IsWrittenApart (s ∷ ss) text = (gap rest : List ℕ) × (text ≡ gap ++ (s.text ++ rest)) × (gap_from false gap ≡ Some false)
+    × IsLexeme s.kind s.text × BeginsApart rest × IsWrittenApart ss rest
+
+-- a token's kind and its bytes in a text
+abbrev pub spelled_in : List ℕ → Token → Spelled
+spelled_in text t = record { kind = t.kind; text = lexeme_of text t }
+
+-- tokens that are written apart are read as they were written, whatever blanks and comments stand between them
+abbrev pub WrittenApartIsRead : Type 0
+WrittenApartIsRead = (ss : List Spelled) (text : List ℕ) → IsUtf8 text → IsWrittenApart ss text
+    → (ts : List Token) × HasTokens text ts × (map (spelled_in text) ts ≡ ss)
+
+-- so two texts that differ only in what stands between tokens that are apart in both have the same kinds and values
+abbrev pub BlanksMeanNothing : Type 0
+BlanksMeanNothing = (ss : List Spelled) (a b : List ℕ) (ts us : List Token) → IsWrittenApart ss a → IsWrittenApart ss b
+    → HasTokens a ts → HasTokens b us → map (spelled_in a) ts ≡ map (spelled_in b) us

@@ -1,5 +1,5 @@
 //! What holds of all texts. The calls do nothing: each promises a law of `specs/Laws.antt`.
-ghost use Rattle.sz_lex.specs.Laws.{SpansLieInOrder, HasOneList, HasNoRefusal, HasOneRefusal, RefusedPlaceIsInText, HasOneValue};
+ghost use Rattle.sz_lex.specs.Laws.{SpansLieInOrder, HasOneList, HasNoRefusal, HasOneRefusal, RefusedPlaceIsInText, HasOneValue, WrittenApartIsRead, BlanksMeanNothing};
 
 /// The spans of a text's tokens lie one after another in it, with nothing but blanks and comments around them.
 pub fn spans_lie_in_order()
@@ -25,4 +25,10 @@ pub fn refused_place_is_in_text()
 /// A string or bytes literal stands for one value.
 pub fn value_is_unique()
     ensures { HasOneValue }
+{}
+
+/// Tokens that are written apart are read as they were written, so blanks and comments between them mean nothing.
+pub fn blanks_mean_nothing()
+    ensures read { WrittenApartIsRead }
+    ensures same { BlanksMeanNothing }
 {}
