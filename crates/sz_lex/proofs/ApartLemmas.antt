@@ -1,9 +1,8 @@
 -- Tokens that are written apart are read as they were written.
-use Rattle.std.proofs.Common.{◌≡◌, ◌⊎◌, ℕ, suc, ◌+◌, ◌-◌, ◌≤◌, ◌<◌, Bool, true, false, not, ◌&&◌, ◌||◌, eqb, List, [], ◌∷◌, ◌++◌, length, take, drop, Option, Some, None, map, refl, sym, ap, subst, ◌∙◌, append_assoc, inl, inr, arith}
-use Rattle.std.specs.Prelude.{IsUtf8}
-use Rattle.std.proofs.lemmas.Bool.{eqb-true}
+use Rattle.std.proofs.Common.{◌≡◌, ◌⊎◌, ℕ, ◌+◌, Bool, true, false, not, ◌&&◌, ◌||◌, eqb, List, [], ◌∷◌, ◌++◌, length, take, drop, map, refl}
+use Rattle.std.proofs.Common.{sym, ap, subst, ◌∙◌, append_assoc, inl, inr, arith}
 use Rattle.std.proofs.lemmas.Bool.Decides.{nat_tests}
-use Rattle.std.proofs.lemmas.List.{append-nil, length-append, take_at, drop_at}
+use Rattle.std.proofs.lemmas.List.{length-append, take_at, drop_at}
 use Rattle.sz_types.specs.declared.place.Place.{Place}
 use Rattle.sz_lex.specs.declared.token.Token.{Token}
 use Rattle.sz_lex.specs.declared.token.Kind.{Kind}
@@ -12,8 +11,7 @@ use Rattle.sz_lex.specs.declared.sign.Sign.{Sign}
 use Rattle.sz_lex.specs.declared.sign.Sign.TheVariants as signs
 use Rattle.sz_lex.specs.Classes.{is_blank, is_word}
 use Rattle.sz_lex.specs.Signs.{sign_text}
-use Rattle.sz_lex.specs.Tokens.{all_word, IsName, IsLexeme, HasForm, IsLongest, gap_from, behind, first_place, Next, TokensThen, Nothing, HasTokens}
-use Rattle.sz_lex.specs.Lexed.{lexeme_of}
+use Rattle.sz_lex.specs.Tokens.{all_word, IsName, IsLexeme, IsLongest, behind, first_place, TokensThen, Nothing, HasTokens}
 use Rattle.sz_lex.specs.Laws.{Spelled, BeginsApart, IsWrittenApart, spelled_in, WrittenApartIsRead, BlanksMeanNothing}
 use Rattle.sz_lex.proofs.WordLemmas.{apart, heads, nil_cons, and_parts, letter_word, digit_word, Stops, word_is_name, begins_sign}
 use Rattle.sz_lex.proofs.FormLemmas.{words_longest, sign_form, quoted_is_longest, character_is_longest}
@@ -110,11 +108,22 @@ read (s ∷ ss) before text whole e h =
     let front = before ++ gap in
     let parts : whole ≡ front ++ (s.text ++ rest) = e ∙ ap (λ (x : List ℕ). before ++ x) h.2 ∙ sym (append_assoc before gap (s.text ++ rest)) in
     let more = read ss (front ++ s.text) rest whole (parts ∙ sym (append_assoc front s.text rest)) h.6 in
-    let index : length (front ++ s.text) ≡ length before + length gap + length s.text = omega (arith, length-append front s.text, length-append before gap) in
-    let place : behind (front ++ s.text) first_place ≡ behind s.text (behind gap (behind before first_place)) = behind-append front s.text first_place ∙ ap (behind s.text) (behind-append before gap first_place) in
-    let lexeme : take (length s.text) (drop (length before + length gap) whole) ≡ s.text = ap (λ (x : List ℕ). take (length s.text) (drop (length before + length gap) x)) parts ∙ ap (take (length s.text)) (drop_at front (s.text ++ rest) (length before + length gap) (length-append before gap)) ∙ take_at s.text rest (length s.text) refl in
+    let index : length (front ++ s.text) ≡ length before + length gap + length s.text =
+    omega (arith, length-append front s.text, length-append before gap) in
+    let place : behind (front ++ s.text) first_place ≡ behind s.text (behind gap (behind before first_place)) =
+    behind-append front s.text first_place ∙ ap (behind s.text) (behind-append before gap first_place) in
+    let lexeme : take (length s.text) (drop (length before + length gap) whole) ≡ s.text =
+    ap (λ (x : List ℕ). take (length s.text) (drop (length before + length gap) x)) parts
+    ∙ ap (take (length s.text)) (drop_at front (s.text ++ rest) (length before + length gap) (length-append before gap))
+    ∙ take_at s.text rest (length s.text) refl in
     record {
-      ts = record { kind = s.kind; place = behind gap (behind before first_place); start = length before + length gap; len = length s.text } ∷ more.ts;
+      ts = record {
+        kind = s.kind;
+        place = behind gap (behind before first_place);
+        start = length before + length gap;
+        len =
+            length s.text;
+      } ∷ more.ts;
       tokens = (
         record {
           gap = gap;
@@ -128,9 +137,11 @@ read (s ∷ ss) before text whole e h =
           spelled = h.4;
           longest = lexeme_apart s.kind s.text rest h.4 h.5;
         },
-        subst (λ (p : Place). TokensThen Nothing more.ts false (length before + length gap + length s.text) p rest) place (subst (λ (i : ℕ). TokensThen Nothing more.ts false i (behind (front ++ s.text) first_place) rest) index more.tokens),
+        subst (λ (p : Place). TokensThen Nothing more.ts false (length before + length gap + length s.text) p rest) place (subst (λ
+            (i : ℕ). TokensThen Nothing more.ts false i (behind (front ++ s.text) first_place) rest) index more.tokens),
       );
-      same = ap (λ (x : List ℕ). record { kind = s.kind; text = x } ∷ map (spelled_in whole) more.ts) lexeme ∙ ap (λ (xs : List Spelled). s ∷ xs) more.same;
+      same = ap (λ (x : List ℕ). record { kind = s.kind; text = x } ∷ map (spelled_in whole) more.ts) lexeme
+          ∙ ap (λ (xs : List Spelled). s ∷ xs) more.same;
     }
 
 pub written_apart : WrittenApartIsRead

@@ -1,19 +1,21 @@
 -- A character literal is read as it is written, and no other way.
-use Rattle.std.proofs.Common.{◌≡◌, ◌≢◌, ◌⊎◌, ℕ, zero, suc, ◌+◌, ◌-◌, ◌≤◌, ◌<◌, Bool, true, false, cond, not, ◌||◌, ◌&&◌, eqb, List, [], ◌∷◌, ◌++◌, length, take, drop, get_or, Option, Some, None, refl, sym, ap, subst, ◌∙◌, inl, inr, append_assoc, arith}
-use Rattle.std.proofs.lemmas.List.{take_at, drop_at, append-nil, length-append, take-append-drop, length-take, length-drop, get_or_at}
-use Rattle.std.proofs.lemmas.List.Sums.{prefix_len_is, prefix_len-le-length}
+use Rattle.std.proofs.Common.{◌≡◌, ◌≢◌, ℕ, suc, ◌+◌, ◌<◌, Bool, true, false, not, ◌||◌, ◌&&◌, eqb, List, [], ◌∷◌, ◌++◌, length, take, drop}
+use Rattle.std.proofs.Common.{get_or, Option, Some, None, refl, sym, ap, subst, ◌∙◌, arith}
+use Rattle.std.proofs.lemmas.List.{take_at, drop_at, append-nil, length-append, take-append-drop, get_or_at}
+use Rattle.std.proofs.lemmas.List.Sums.{prefix_len_is}
 use Rattle.std.proofs.lemmas.List.Folds.{length-prefix_len}
 use Rattle.std.proofs.lemmas.Bool.{eqb-true, eq-eqb}
-use Rattle.std.proofs.lemmas.Str.{char_from_byte, inside_one, is_utf8-from_IsUtf8, IsUtf8-from_is_utf8, IsUtf8-encode, chars-encodes, encodes-chars, scalars-chars, length-encode, len_utf8_bounds}
+use Rattle.std.proofs.lemmas.Str.{inside_one, is_utf8-from_IsUtf8, IsUtf8-from_is_utf8, IsUtf8-encode, chars-encodes, encodes-chars}
+use Rattle.std.proofs.lemmas.Str.{scalars-chars, length-encode, len_utf8_bounds}
 use Rattle.std.specs.List.{prefix_len}
 use Rattle.std.specs.Str.{is_utf8, chars, all_scalars}
-use Rattle.std.specs.Char.{IsScalar, encode_utf8, len_utf8}
-use Rattle.std.specs.Prelude.{encode_utf8_all, IsUtf8}
-use Rattle.std.specs.Option.{option_map, option_and_then}
+use Rattle.std.specs.Char.{IsScalar, encode_utf8}
+use Rattle.std.specs.Prelude.{encode_utf8_all}
+use Rattle.std.specs.Option.{option_and_then}
 use Rattle.sz_lex.specs.declared.escape.Escape.{Escape}
 use Rattle.sz_lex.specs.Literals.{escape_of, escape_code, IsCharacter, plain, escaped}
 use Rattle.sz_lex.specs.Reading.{escape_size, escape_at, first, not_quote, only_plain, plain_character, quoted_character, character_at}
-use Rattle.sz_lex.proofs.LiteralLemmas.{none_some, escape_read, first_front, EscapeAt, escape_is}
+use Rattle.sz_lex.proofs.LiteralLemmas.{none_some, escape_read, first_front, escape_is}
 
 -- ---- a character that needs no escape
 
@@ -81,7 +83,12 @@ closed_of (Some d) n (b ∷ rest) c m h = go (eqb b 39) refl
     go true e =
         let is : Some (d, n + 1) ≡ Some (c, m) = rw e at h in
         let pair : (d, n + 1) ≡ (c, m) = some_is is in
-        record { is = ap (λ (p : ℕ × ℕ). Some p.0) pair; len = sym (ap (λ (p : ℕ × ℕ). p.1) pair); quote = ap (λ (x : ℕ). x ∷ rest) (eqb-true b 39 e) }
+        record {
+          is = ap (λ (p : ℕ × ℕ). Some p.0) pair;
+          len = sym (ap (λ (p : ℕ × ℕ). p.1) pair);
+          quote =
+              ap (λ (x : ℕ). x ∷ rest) (eqb-true b 39 e);
+        }
       where
         some_is : {x y : ℕ × ℕ} → Some x ≡ Some y → x ≡ y
         some_is e = cc
@@ -99,30 +106,36 @@ pub record CharacterAt (bs : List ℕ) (c n : ℕ) : Type 0 where
   pub len : n ≡ length body + 1
   pub is : IsCharacter (39 ∷ (body ++ (39 ∷ []))) c
 
-escape_case : (bs : List ℕ) → character_at (92 ∷ bs) ≡ quoted_character (option_and_then escape_code (escape_at bs)) (1 + escape_size (first bs)) (drop (escape_size (first bs)) bs)
+escape_case : (bs : List ℕ) → character_at (92 ∷ bs) ≡ quoted_character (option_and_then escape_code (escape_at bs))
+    (1 + escape_size (first bs)) (drop (escape_size (first bs)) bs)
 escape_case bs = refl
 
-plain_case : (b : ℕ) (bs : List ℕ) → eqb b 92 ≡ false → let n = prefix_len not_quote (b ∷ bs) in character_at (b ∷ bs) ≡ quoted_character (plain_character (take n (b ∷ bs))) n (drop n (b ∷ bs))
+plain_case : (b : ℕ) (bs : List ℕ) → eqb b 92 ≡ false → let n =
+    prefix_len not_quote (b ∷ bs) in character_at (b ∷ bs) ≡ quoted_character (plain_character (take n (b ∷ bs))) n (drop n (b ∷ bs))
 plain_case b bs e = rw e refl
 
 -- a text's character literal is read
-pub escaped_read : (text rest : List ℕ) (c : ℕ) → option_and_then escape_code (escape_of text) ≡ Some c → character_at (92 ∷ (text ++ (39 ∷ rest))) ≡ Some (c, suc (length text) + 1)
+pub escaped_read : (text rest : List ℕ) (c : ℕ) → option_and_then escape_code (escape_of text) ≡ Some c
+    → character_at (92 ∷ (text ++ (39 ∷ rest))) ≡ Some (c, suc (length text) + 1)
 escaped_read text rest c h = go (escape_of text) refl
   where
     go : (o : Option Escape) → escape_of text ≡ o → character_at (92 ∷ (text ++ (39 ∷ rest))) ≡ Some (c, suc (length text) + 1)
     go None e = let no : None ≡ Some c = rw e at h in none_some no
     go (Some x) e =
         let more = 39 ∷ rest in
-        let code : option_and_then escape_code (escape_at (text ++ more)) ≡ Some c = ap (option_and_then escape_code) (escape_read text more x e ∙ sym e) ∙ h in
+        let code : option_and_then escape_code (escape_at (text ++ more)) ≡ Some c =
+        ap (option_and_then escape_code) (escape_read text more x e ∙ sym e) ∙ h in
         let size : escape_size (first (text ++ more)) ≡ length text = first_front text more x e in
         let n : 1 + length text ≡ suc (length text) = omega arith in
         ap (λ (k : ℕ). quoted_character (option_and_then escape_code (escape_at (text ++ more))) (1 + k) (drop k (text ++ more))) size
-        ∙ ap (λ (t : List ℕ). quoted_character (option_and_then escape_code (escape_at (text ++ more))) (1 + length text) t) (drop_at text more (length text) refl)
+        ∙ ap (λ (t : List ℕ). quoted_character (option_and_then escape_code (escape_at (text ++ more))) (1 + length text) t)
+        (drop_at text more (length text) refl)
         ∙ closed_read _ (1 + length text) rest c code
         ∙ ap (λ (k : ℕ). Some (c, k + 1)) n
 
 -- a character's bytes have no quote inside, and do not begin with a backslash
-plain_byte : (c : ℕ) → IsPlain c → (rest : List ℕ) (k : ℕ) → k < length (encode_utf8 c) → (d : ℕ) → d < 128 → eqb c d ≡ false → get_or (encode_utf8 c ++ rest) k 0 ≢ d
+plain_byte : (c : ℕ) → IsPlain c → (rest : List ℕ) (k : ℕ) → k < length (encode_utf8 c) → (d : ℕ) → d < 128 → eqb c d ≡ false
+    → get_or (encode_utf8 c ++ rest) k 0 ≢ d
 plain_byte c h rest k lt d low other is =
     let same : c ≡ d = inside_one c rest (encode_utf8 c ++ rest) k refl lt (rw is low) ∙ is in
     let yes : eqb c d ≡ true = eq-eqb c d same in
@@ -164,7 +177,8 @@ plain_at c h rest = go (encode_utf8 c) refl
         let bs = encode_utf8 c ++ (39 ∷ rest) in
         let n = length (encode_utf8 c) in
         let begins : bs ≡ b ∷ (t ++ (39 ∷ rest)) = ap (λ (x : List ℕ). x ++ (39 ∷ rest)) e in
-        let byte : eqb b 92 ≡ false = ap (λ (x : ℕ). eqb x 92) (sym (ap (λ (x : List ℕ). get_or x 0 0) begins)) ∙ not_eqb (get_or bs 0 0) 92 (plain_byte c h (39 ∷ rest) 0 positive 92 (omega arith) parts.1) in
+        let byte : eqb b 92 ≡ false = ap (λ (x : ℕ). eqb x 92) (sym (ap (λ (x : List ℕ). get_or x 0 0) begins))
+        ∙ not_eqb (get_or bs 0 0) 92 (plain_byte c h (39 ∷ rest) 0 positive 92 (omega arith) parts.1) in
         let len : prefix_len not_quote (b ∷ (t ++ (39 ∷ rest))) ≡ n = ap (prefix_len not_quote) (sym begins) ∙ quote_place c h rest in
         ap character_at begins
         ∙ plain_case b (t ++ (39 ∷ rest)) byte
@@ -188,7 +202,8 @@ escape_character bs c n h = go (escape_at bs) refl
     go None e = let no : None ≡ Some c = rw e at closed.is in none_some no
     go (Some x) e =
         let k = escape_is bs x e in
-        let rest : drop size bs ≡ k.rest = ap (λ (m : ℕ). drop m bs) k.size ∙ ap (drop (length k.text)) k.parts ∙ drop_at k.text k.rest (length k.text) refl in
+        let rest : drop size bs ≡ k.rest = ap (λ (m : ℕ). drop m bs) k.size ∙ ap (drop (length k.text)) k.parts
+        ∙ drop_at k.text k.rest (length k.text) refl in
         let quote : k.rest ≡ 39 ∷ drop 1 k.rest = rw rest at closed.quote in
         let code : option_and_then escape_code (escape_of k.text) ≡ Some c = ap (option_and_then escape_code) (k.is ∙ sym e) ∙ closed.is in
         record {
@@ -217,5 +232,6 @@ character_is [] c n h = none_some h
 character_is (b ∷ bs) c n h = go (eqb b 92) refl
   where
     go : (x : Bool) → eqb b 92 ≡ x → CharacterAt (b ∷ bs) c n
-    go true e = let same : 92 ≡ b = sym (eqb-true b 92 e) in subst (λ (m : ℕ). CharacterAt (m ∷ bs) c n) same (escape_character bs c n (subst (λ (m : ℕ). character_at (m ∷ bs) ≡ Some (c, n)) (sym same) h))
+    go true e = let same : 92 ≡ b = sym (eqb-true b 92 e) in subst (λ (m : ℕ). CharacterAt (m ∷ bs) c n) same
+        (escape_character bs c n (subst (λ (m : ℕ). character_at (m ∷ bs) ≡ Some (c, n)) (sym same) h))
     go false e = plain_literal b bs c n e h

@@ -1,23 +1,21 @@
 -- What the first byte of a form tells, and that a token at the front of a text is the longest.
-use Rattle.std.proofs.Common.{◌≡◌, ◌≢◌, ℕ, zero, suc, ◌+◌, ◌-◌, ◌≤◌, ◌<◌, Bool, true, false, cond, eqb, List, [], ◌∷◌, ◌++◌, length, take, drop, Option, Some, None, refl, sym, ap, subst, ◌∙◌, append_assoc, arith}
+use Rattle.std.proofs.Common.{◌≡◌, ℕ, suc, ◌+◌, true, false, eqb, List, [], ◌∷◌, ◌++◌, length, Some, refl, sym, ap, subst, ◌∙◌, append_assoc, arith}
 use Rattle.std.proofs.lemmas.List.{length-append, append_cancel_left}
 use Rattle.std.proofs.lemmas.Bool.{eq-eqb}
 use Rattle.std.specs.Char.{encode_utf8}
-use Rattle.sz_lex.specs.declared.token.Kind.{Kind}
 use Rattle.sz_lex.specs.declared.token.Kind.TheVariants as kinds
 use Rattle.sz_lex.specs.declared.escape.Quoted.{Quoted}
 use Rattle.sz_lex.specs.declared.escape.Quoted.TheVariants as quoteds
-use Rattle.sz_lex.specs.declared.word.Word.{Word}
 use Rattle.sz_lex.specs.declared.sign.Sign.{Sign}
-use Rattle.sz_lex.specs.Classes.{is_blank, is_letter, is_digit, is_word}
-use Rattle.sz_lex.specs.Words.{word_text}
+use Rattle.sz_lex.specs.Classes.{is_letter, is_word}
 use Rattle.sz_lex.specs.Signs.{sign_text}
-use Rattle.sz_lex.specs.Literals.{Part, parts_text, parts_value, IsQuoted, opening, IsCharacter, plain, escaped}
-use Rattle.sz_lex.specs.Tokens.{all_word, IsName, IsRun, IsLexeme, HasForm, name, run, token, opens, IsLongest}
-use Rattle.sz_lex.specs.Reading.{Body, body_at, character_at, pair_sign, single_sign, first}
-use Rattle.sz_lex.proofs.LiteralLemmas.{none_some, body_read}
+use Rattle.sz_lex.specs.Literals.{parts_text, IsQuoted, opening, IsCharacter, plain, escaped}
+use Rattle.sz_lex.specs.Tokens.{all_word, IsName, HasForm, name, run, token, opens, IsLongest}
+use Rattle.sz_lex.specs.Reading.{Body, body_at, character_at}
+use Rattle.sz_lex.proofs.LiteralLemmas.{body_read}
 use Rattle.sz_lex.proofs.CharacterLemmas.{escaped_read, plain_at}
-use Rattle.sz_lex.proofs.WordLemmas.{letter_word, digit_word, apart, heads, tails, nil_cons, and_parts, Stops, all_word_end, word_is_name, sign_of, sign_again, BeginsSign, begins_sign}
+use Rattle.sz_lex.proofs.WordLemmas.{letter_word, digit_word, apart, heads, tails, and_parts, Stops, all_word_end, word_is_name, BeginsSign}
+use Rattle.sz_lex.proofs.WordLemmas.{begins_sign}
 
 -- what a form can be, by its first byte
 pub data Shape (b : ℕ) (l : List ℕ) : Type 0 where
@@ -52,11 +50,13 @@ pub record Opened (q : Quoted) (literal v : List ℕ) : Type 0 where
 
 pub opened : (q : Quoted) (literal v : List ℕ) → IsQuoted q literal v → Opened q literal v
 opened q literal v h =
-    let n : suc (length (parts_text h.parts)) ≡ length (parts_text h.parts ++ (34 ∷ [])) = omega (arith, length-append (parts_text h.parts) (34 ∷ [])) in
+    let n : suc (length (parts_text h.parts)) ≡ length (parts_text h.parts ++ (34 ∷ [])) =
+    omega (arith, length-append (parts_text h.parts) (34 ∷ [])) in
     record {
       body = parts_text h.parts ++ (34 ∷ []);
       spelled = h.spelled;
-      read = λ rest. ap (body_at q 0) (append_assoc (parts_text h.parts) (34 ∷ []) rest) ∙ body_read q h.parts rest v h.stands ∙ ap (λ (m : ℕ). Some (record { len = m; value = v })) n;
+      read = λ rest. ap (body_at q 0) (append_assoc (parts_text h.parts) (34 ∷ []) rest) ∙ body_read q h.parts rest v h.stands
+          ∙ ap (λ (m : ℕ). Some (record { len = m; value = v })) n;
     }
 
 nil_of : (xs : List ℕ) → length xs ≡ 0 → xs ≡ []
@@ -70,13 +70,16 @@ same_len b c e = ap (λ (b : Body). b.len) (some_is e)
     some_is e = cc
 
 -- the literals of one text are one
-pub quoted_longest : (q : Quoted) (l v extra w rest others : List ℕ) → IsQuoted q l v → IsQuoted q (l ++ extra) w → rest ≡ extra ++ others → extra ≡ []
+pub quoted_longest : (q : Quoted) (l v extra w rest others : List ℕ) → IsQuoted q l v → IsQuoted q (l ++ extra) w
+    → rest ≡ extra ++ others → extra ≡ []
 quoted_longest q l v extra w rest others h k e =
     let a = opened q l v h in
     let b = opened q (l ++ extra) w k in
-    let longer : opening q ++ (a.body ++ extra) ≡ opening q ++ b.body = sym (append_assoc (opening q) a.body extra) ∙ ap (λ (t : List ℕ). t ++ extra) (sym a.spelled) ∙ b.spelled in
+    let longer : opening q ++ (a.body ++ extra) ≡ opening q ++ b.body = sym (append_assoc (opening q) a.body extra)
+    ∙ ap (λ (t : List ℕ). t ++ extra) (sym a.spelled) ∙ b.spelled in
     let body : a.body ++ extra ≡ b.body = append_cancel_left (opening q) (a.body ++ extra) b.body longer in
-    let text : a.body ++ rest ≡ b.body ++ others = ap (λ (t : List ℕ). a.body ++ t) e ∙ sym (append_assoc a.body extra others) ∙ ap (λ (t : List ℕ). t ++ others) body in
+    let text : a.body ++ rest ≡ b.body ++ others = ap (λ (t : List ℕ). a.body ++ t) e ∙ sym (append_assoc a.body extra others)
+    ∙ ap (λ (t : List ℕ). t ++ others) body in
     let len : length a.body ≡ length b.body = same_len _ _ (sym (a.read rest) ∙ ap (body_at q 0) text ∙ b.read others) in
     nil_of extra (omega (arith, ap length body, length-append a.body extra, len))
 
@@ -84,10 +87,15 @@ pub character_read : (b c : ℕ) (l rest : List ℕ) → IsCharacter (b ∷ l) c
 character_read b c l rest (plain scalar itself h) =
     let body = encode_utf8 c in
     let n : length body + 1 ≡ length l = omega (arith, ap length (tails h), length-append body (39 ∷ [])) in
-    ap character_at (ap (λ (t : List ℕ). t ++ rest) (tails h) ∙ append_assoc body (39 ∷ []) rest) ∙ plain_at c (record { scalar = scalar; itself = itself }) rest ∙ ap (λ (m : ℕ). Some (c, m)) n
+    ap character_at (ap (λ (t : List ℕ). t ++ rest) (tails h) ∙ append_assoc body (39 ∷ []) rest) ∙ plain_at c (record {
+      scalar =
+          scalar;
+      itself = itself;
+    }) rest ∙ ap (λ (m : ℕ). Some (c, m)) n
 character_read b c l rest (escaped text code h) =
     let n : suc (length text) + 1 ≡ length l = omega (arith, ap length (tails h), length-append text (39 ∷ [])) in
-    ap character_at (ap (λ (t : List ℕ). t ++ rest) (tails h) ∙ ap (λ (t : List ℕ). 92 ∷ t) (append_assoc text (39 ∷ []) rest)) ∙ escaped_read text rest c code ∙ ap (λ (m : ℕ). Some (c, m)) n
+    ap character_at (ap (λ (t : List ℕ). t ++ rest) (tails h) ∙ ap (λ (t : List ℕ). 92 ∷ t) (append_assoc text (39 ∷ []) rest))
+    ∙ escaped_read text rest c code ∙ ap (λ (m : ℕ). Some (c, m)) n
 
 pub character_quote : (b c : ℕ) (l : List ℕ) → IsCharacter (b ∷ l) c → b ≡ 39
 character_quote b c l (plain scalar itself h) = heads h
@@ -99,10 +107,12 @@ second_same x y e = ap (λ (p : ℕ × ℕ). p.1) (some_is e)
     some_is : Some x ≡ Some y → x ≡ y
     some_is e = cc
 
-pub character_longest : (b c d : ℕ) (l extra rest others : List ℕ) → IsCharacter (b ∷ l) c → IsCharacter (b ∷ (l ++ extra)) d → rest ≡ extra ++ others → extra ≡ []
+pub character_longest : (b c d : ℕ) (l extra rest others : List ℕ) → IsCharacter (b ∷ l) c → IsCharacter (b ∷ (l ++ extra)) d
+    → rest ≡ extra ++ others → extra ≡ []
 character_longest b c d l extra rest others h k e =
     let text : l ++ rest ≡ (l ++ extra) ++ others = ap (λ (t : List ℕ). l ++ t) e ∙ sym (append_assoc l extra others) in
-    let len : length l ≡ length (l ++ extra) = second_same (c, length l) (d, length (l ++ extra)) (sym (character_read b c l rest h) ∙ ap character_at text ∙ character_read b d (l ++ extra) others k) in
+    let len : length l ≡ length (l ++ extra) = second_same (c, length l) (d, length (l ++ extra)) (sym (character_read b c l rest h)
+    ∙ ap character_at text ∙ character_read b d (l ++ extra) others k) in
     nil_of extra (omega (arith, length-append l extra, len))
 
 -- the first bytes of a literal between double quotes
@@ -117,14 +127,16 @@ quoted_front quoteds.Bytes b l v h = (_, heads h.spelled, tails h.spelled)
 -- ---- the longest
 
 -- a whole run of word's bytes is the longest, unless it is the B of bytes
-pub words_longest : (b : ℕ) (l rest : List ℕ) → is_word b ≡ true → Stops rest → ((t : List ℕ) → b ≡ 66 → l ++ rest ≡ 34 ∷ t → ⊥) → IsLongest (b ∷ l) rest
+pub words_longest : (b : ℕ) (l rest : List ℕ) → is_word b ≡ true → Stops rest → ((t : List ℕ) → b ≡ 66 → l ++ rest ≡ 34 ∷ t → ⊥)
+    → IsLongest (b ∷ l) rest
 words_longest b l rest w stops no_b extra others e form = go (shape_of b (l ++ extra) form)
   where
     no_word : (d : ℕ) → is_word d ≡ false → b ≡ d → extra ≡ []
     no_word d outside same = apart (sym w ∙ ap is_word same ∙ outside)
 
     opening_b : (t : List ℕ) → b ≡ 66 → l ++ extra ≡ 34 ∷ t → extra ≡ []
-    opening_b t is h = absurd (no_b (t ++ others) is (ap (λ (x : List ℕ). l ++ x) e ∙ sym (append_assoc l extra others) ∙ ap (λ (x : List ℕ). x ++ others) h))
+    opening_b t is h = absurd (no_b (t ++ others) is (ap (λ (x : List ℕ). l ++ x) e ∙ sym (append_assoc l extra others)
+        ∙ ap (λ (x : List ℕ). x ++ others) h))
 
     front : (q : Quoted) → QuotedFront q b (l ++ extra) → extra ≡ []
     front quoteds.Str is = no_word 34 refl is
@@ -189,7 +201,8 @@ bytes_longest b l v rest h extra others e form = go (shape_of b (l ++ extra) for
     is = quoted_front quoteds.Bytes b l v h
 
     no_words : all_word (l ++ extra) ≡ true → extra ≡ []
-    no_words all = let first : all_word (34 ∷ (is.0 ++ extra)) ≡ true = ap (λ (x : List ℕ). all_word (x ++ extra)) (sym is.2) ∙ all in apart (sym (and_parts false (all_word (is.0 ++ extra)) first).0)
+    no_words all = let first : all_word (34 ∷ (is.0 ++ extra)) ≡ true = ap (λ (x : List ℕ). all_word (x ++ extra)) (sym is.2)
+        ∙ all in apart (sym (and_parts false (all_word (is.0 ++ extra)) first).0)
 
     other : (q : Quoted) (w : List ℕ) → IsQuoted q (b ∷ (l ++ extra)) w → extra ≡ []
     other quoteds.Bytes w k = quoted_longest quoteds.Bytes (b ∷ l) v extra w rest others h k e

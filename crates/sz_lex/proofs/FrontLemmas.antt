@@ -1,12 +1,8 @@
 -- What stands at the front of a text: a blank, a comment, a token, or the reason why none does.
-use Rattle.std.proofs.Common.{◌≡◌, ◌≢◌, ℕ, ℤ, pos, nat_lt, ◌*◌, ◌^◌, zero, suc, ◌+◌, ◌-◌, ◌≤◌, ◌<◌, Bool, true, false, cond, not, ◌&&◌, ◌||◌, eqb, List, [], ◌∷◌, ◌++◌, length, take, drop, Option, Some, None, refl, sym, ap, subst, ◌∙◌, append_assoc, arith}
-use Rattle.std.proofs.lemmas.Bool.{eqb-true, eq-eqb, lt-ltb}
-use Rattle.std.proofs.lemmas.Bool.Decides.{nat_tests}
-use Rattle.std.proofs.lemmas.List.{length-append, take_at, append-nil}
-use Rattle.std.specs.Char.{encode_utf8}
-use Rattle.std.specs.List.{prefix_len}
-use Rattle.std.specs.Option.{option_map, option_and_then}
-use Rattle.std.proofs.lemmas.Slice.Eq.{bytes_eq-Decides}
+use Rattle.std.proofs.Common.{◌≡◌, ◌≢◌, ℕ, ℤ, suc, ◌+◌, Bool, true, false, cond, eqb, List, [], ◌∷◌, ◌++◌, length, drop, Option, Some, None}
+use Rattle.std.proofs.Common.{refl, sym, ap, subst, ◌∙◌, append_assoc, arith}
+use Rattle.std.proofs.lemmas.Bool.{eqb-true}
+use Rattle.std.proofs.lemmas.List.{length-append}
 use Rattle.sz_lex.specs.declared.token.Kind.{Kind}
 use Rattle.sz_lex.specs.declared.token.Kind.TheVariants as kinds
 use Rattle.sz_lex.specs.declared.escape.Quoted.{Quoted}
@@ -15,20 +11,22 @@ use Rattle.sz_lex.specs.declared.word.Word.{Word}
 use Rattle.sz_lex.specs.declared.sign.Sign.{Sign}
 use Rattle.sz_lex.specs.declared.item.Item.{Item}
 use Rattle.sz_lex.specs.declared.item.Item.TheVariants.{Gap, Lexeme, BadChar, BadLiteral}
-use Rattle.sz_lex.specs.Classes.{is_blank, is_letter, is_digit, is_word}
+use Rattle.sz_lex.specs.Classes.{is_blank, is_letter, is_digit}
 use Rattle.sz_lex.specs.Words.{word_text}
 use Rattle.sz_lex.specs.Signs.{sign_text}
-use Rattle.sz_lex.specs.Numbers.{number_of, below}
-use Rattle.std.specs.Char.{digit_value}
-use Rattle.std.proofs.lemmas.Str.{digit_value_digit}
-use Rattle.sz_lex.specs.Literals.{Part, parts_text, parts_value, IsQuoted, opening, IsCharacter, plain, escaped}
-use Rattle.sz_lex.specs.Tokens.{all_word, IsName, IsRun, IsLexeme, HasForm, name, run, token, opens, IsLongest, begins_literal}
-use Rattle.sz_lex.specs.Reading.{Body, body_at, character_at, pair_sign, single_sign, sign_or, sign_at, first, word_of, kind_of, word_kind, number_item, character_item, quoted_item, quoted_kind, sign_item, literal_item, item_of, item, not_newline}
-use Rattle.sz_lex.proofs.LiteralLemmas.{none_some, body_read, body_is, BodyAt}
-use Rattle.sz_lex.proofs.CharacterLemmas.{escaped_read, plain_at, character_is, CharacterAt}
-use Rattle.sz_lex.proofs.WordLemmas.{letter_no_blank, letter_no_hash, digit_no_blank, digit_no_hash, letter_no_digit, digit_no_letter, letter_no_quotes, digit_no_quotes, letter_word, digit_word, apart, heads, tails, nil_cons, and_parts, Stops, prefix_all, run_at, RunAt, all_word_push, all_word_end, word_again, word_is_name, word_spells, sign_of, sign_again, pair_text, single_text, no_pair_at_end, BeginsSign, begins_sign}
-use Rattle.sz_lex.proofs.FormLemmas.{Opened, opened, character_read, character_quote, quoted_front, words_longest, sign_form, quoted_is_longest, character_is_longest}
-use Rattle.sz_lex.proofs.ItemLemmas.{digit_begins, quote_begins, single_quote_begins, opens_bytes, OpensBytes, literal_case, other_case, name_item, number_item_is, no_empty, token_item}
+use Rattle.sz_lex.specs.Numbers.{number_of}
+use Rattle.sz_lex.specs.Literals.{parts_text, IsQuoted, opening}
+use Rattle.sz_lex.specs.Tokens.{all_word, IsName, IsLexeme, HasForm, IsLongest, begins_literal}
+use Rattle.sz_lex.specs.Lookup.{pair_sign, single_sign, sign_or, word_of}
+use Rattle.sz_lex.specs.Reading.{Body, body_at, character_at, first, kind_of, word_kind, number_item, character_item, quoted_item}
+use Rattle.sz_lex.specs.Reading.{quoted_kind, sign_item, literal_item, item_of}
+use Rattle.sz_lex.proofs.LiteralLemmas.{none_some, body_is}
+use Rattle.sz_lex.proofs.CharacterLemmas.{character_is}
+use Rattle.sz_lex.proofs.WordLemmas.{letter_word, digit_word, apart, Stops, run_at, word_again, word_is_name, word_spells, sign_of}
+use Rattle.sz_lex.proofs.WordLemmas.{sign_again, pair_text, single_text, no_pair_at_end, begins_sign}
+use Rattle.sz_lex.proofs.FormLemmas.{character_quote, quoted_front, words_longest, sign_form, quoted_is_longest, character_is_longest}
+use Rattle.sz_lex.proofs.ItemLemmas.{digit_begins, quote_begins, single_quote_begins, opens_bytes, literal_case, other_case, name_item}
+use Rattle.sz_lex.proofs.ItemLemmas.{number_item_is}
 
 -- a token of this kind and length at the front of a text
 pub record At (k : Kind) (n : ℕ) (text : List ℕ) : Type 0 where
@@ -39,8 +37,9 @@ pub record At (k : Kind) (n : ℕ) (text : List ℕ) : Type 0 where
   pub spelled : IsLexeme k lexeme
   pub longest : IsLongest lexeme rest
 
-at_is : (j k : Kind) (m n : ℕ) (text : List ℕ) → Lexeme j m ≡ Lexeme k n → At j m text → At k n text
-at_is j k m n text e h = let kind : j ≡ k = cc in let len : m ≡ n = cc in subst (λ (x : ℕ). At k x text) len (subst (λ (x : Kind). At x m text) kind h)
+pub at_is : (j k : Kind) (m n : ℕ) (text : List ℕ) → Lexeme j m ≡ Lexeme k n → At j m text → At k n text
+at_is j k m n text e h = let kind : j ≡ k = cc in let len : m ≡ n =
+    cc in subst (λ (x : ℕ). At k x text) len (subst (λ (x : Kind). At x m text) kind h)
 
 -- ---- words and numbers
 
@@ -67,7 +66,8 @@ word_lexeme l h = go (word_of l) refl
     go (Some w) e = subst (λ (o : Option Word). IsLexeme (kind_of o) l) (sym e) (sym (word_spells l w e))
 
 no_b_of : (b : ℕ) (bs l rest : List ℕ) → bs ≡ l ++ rest → begins_literal (b ∷ bs) ≡ false → (t : List ℕ) → b ≡ 66 → l ++ rest ≡ 34 ∷ t → ⊥
-no_b_of b bs l rest e none t is h = apart (sym (ap (λ (x : List ℕ). begins_literal x) (ap (λ (x : ℕ). x ∷ bs) is ∙ ap (λ (x : List ℕ). 66 ∷ x) (e ∙ h))) ∙ none)
+no_b_of b bs l rest e none t is h = apart (sym (ap (λ (x : List ℕ). begins_literal x) (ap (λ (x : ℕ). x ∷ bs) is
+    ∙ ap (λ (x : List ℕ). 66 ∷ x) (e ∙ h))) ∙ none)
 
 -- a front that begins with a letter is a word
 record WordFront (b : ℕ) (bs : List ℕ) : Type 0 where
@@ -108,14 +108,15 @@ number_sound b bs k n d h = go (number_of (b ∷ r.l)) refl
 
     go : (o : Option ℤ) → number_of (b ∷ r.l) ≡ o → At k n (b ∷ bs)
     go None e = let bad : BadLiteral ≡ Lexeme k n = ap (λ (o : Option ℤ). number_item o (suc (length r.l))) (sym e) ∙ item in absurd cc
-    go (Some v) e = at_is (kinds.Number v) k (suc (length r.l)) n (b ∷ bs) (ap (λ (o : Option ℤ). number_item o (suc (length r.l))) (sym e) ∙ item) (record {
-      lexeme = b ∷ r.l;
-      rest = r.rest;
-      parts = ap (λ (t : List ℕ). b ∷ t) r.parts;
-      len = refl;
-      spelled = ((d, r.words), e);
-      longest = words_longest b r.l r.rest (digit_word b d) r.stops no_b;
-    })
+    go (Some v) e = at_is (kinds.Number v) k (suc (length r.l)) n (b ∷ bs) (ap (λ (o : Option ℤ). number_item o (suc (length r.l)))
+        (sym e) ∙ item) (record {
+          lexeme = b ∷ r.l;
+          rest = r.rest;
+          parts = ap (λ (t : List ℕ). b ∷ t) r.parts;
+          len = refl;
+          spelled = ((d, r.words), e);
+          longest = words_longest b r.l r.rest (digit_word b d) r.stops no_b;
+        })
 
 -- ---- literals between quotes
 
@@ -155,13 +156,15 @@ quoted_sound q bs k n h = go (body_at q 0 bs) refl
         at_is (quoted_kind q) k (length (opening q) + x.len) n (opening q ++ bs) (ap (quoted_item q) (sym e) ∙ h) (record {
           lexeme = opening q ++ body;
           rest = b.rest;
-          parts = ap (λ (t : List ℕ). opening q ++ t) (b.text ∙ sym (append_assoc (parts_text b.ps) (34 ∷ []) b.rest)) ∙ sym (append_assoc (opening q) body b.rest);
+          parts = ap (λ (t : List ℕ). opening q ++ t) (b.text ∙ sym (append_assoc (parts_text b.ps) (34 ∷ []) b.rest))
+              ∙ sym (append_assoc (opening q) body b.rest);
           len = omega (arith, b.len, length-append (opening q) body, length-append (parts_text b.ps) (34 ∷ []));
           spelled = quoted_spelled q (opening q ++ body) x.value is;
           longest = quoted_is_whole q body x.value b.rest is;
         })
 
-literal_sound : (b : ℕ) (bs : List ℕ) (k : Kind) (n : ℕ) → begins_literal (b ∷ bs) ≡ true → is_digit b ≡ false → literal_item b bs ≡ Lexeme k n → At k n (b ∷ bs)
+literal_sound : (b : ℕ) (bs : List ℕ) (k : Kind) (n : ℕ) → begins_literal (b ∷ bs) ≡ true → is_digit b ≡ false
+    → literal_item b bs ≡ Lexeme k n → At k n (b ∷ bs)
 literal_sound b bs k n begins d h = go (eqb b 39) (eqb b 34) refl refl
   where
     go : (x y : Bool) → eqb b 39 ≡ x → eqb b 34 ≡ y → At k n (b ∷ bs)
@@ -171,7 +174,8 @@ literal_sound b bs k n begins d h = go (eqb b 39) (eqb b 34) refl refl
         let o = opens_bytes b bs begins d f e in
         let text : 66 ∷ 34 ∷ o.more ≡ b ∷ bs = ap (λ (x : ℕ). x ∷ 34 ∷ o.more) (sym o.first) ∙ ap (λ (t : List ℕ). b ∷ t) (sym o.second) in
         let item : quoted_item quoteds.Bytes (body_at quoteds.Bytes 0 (drop 1 bs)) ≡ Lexeme k n = rw (d, e, f) at h in
-        subst (At k n) text (quoted_sound quoteds.Bytes o.more k n (ap (λ (t : List ℕ). quoted_item quoteds.Bytes (body_at quoteds.Bytes 0 (drop 1 t))) (sym o.second) ∙ item))
+        subst (At k n) text (quoted_sound quoteds.Bytes o.more k n (ap (λ (t : List ℕ). quoted_item quoteds.Bytes
+        (body_at quoteds.Bytes 0 (drop 1 t))) (sym o.second) ∙ item))
 
 -- ---- signs
 
@@ -242,8 +246,10 @@ sign_front b bs no_blank no_hash begins letter = go (pair_sign b (first bs)) (si
 
     go : (o p : Option Sign) → pair_sign b (first bs) ≡ o → single_sign b ≡ p → Front b bs
     go (Some s) p e f = lexeme (kinds.Sign s) 2 (item ∙ ap (λ (o : Option Sign). sign_item (sign_or o (single_sign b))) e) (pair_front bs s e)
-    go None (Some s) e f = lexeme (kinds.Sign s) 1 (item ∙ ap (λ (o : Option Sign). sign_item (sign_or o (single_sign b))) e ∙ ap (λ (o : Option Sign). sign_item (sign_or None o)) f) (single_sound b bs s e f)
-    go None None e f = bad_char (item ∙ ap (λ (o : Option Sign). sign_item (sign_or o (single_sign b))) e ∙ ap (λ (o : Option Sign). sign_item (sign_or None o)) f) (record { blank = no_blank; hash = no_hash; none = none f })
+    go None (Some s) e f = lexeme (kinds.Sign s) 1 (item ∙ ap (λ (o : Option Sign). sign_item (sign_or o (single_sign b))) e
+        ∙ ap (λ (o : Option Sign). sign_item (sign_or None o)) f) (single_sound b bs s e f)
+    go None None e f = bad_char (item ∙ ap (λ (o : Option Sign). sign_item (sign_or o (single_sign b))) e
+        ∙ ap (λ (o : Option Sign). sign_item (sign_or None o)) f) (record { blank = no_blank; hash = no_hash; none = none f })
 
 -- a literal is a token or bad
 abbrev OfLiteral : Item → Type 0
@@ -269,7 +275,8 @@ of_quoted q None = tt
 of_quoted q (Some b) = tt
 
 of_literal : (b : ℕ) (bs : List ℕ) → OfLiteral (literal_item b bs)
-of_literal b bs = of_cond (is_digit b) _ _ (of_number _ _) (of_cond (eqb b 39) _ _ (of_character _) (of_cond (eqb b 34) _ _ (of_quoted quoteds.Str _) (of_quoted quoteds.Bytes _)))
+of_literal b bs = of_cond (is_digit b) _ _ (of_number _ _) (of_cond (eqb b 39) _ _ (of_character _) (of_cond (eqb b 34) _ _
+    (of_quoted quoteds.Str _) (of_quoted quoteds.Bytes _)))
 
 literal_front : (b : ℕ) (bs : List ℕ) → is_blank b ≡ false → eqb b 35 ≡ false → begins_literal (b ∷ bs) ≡ true → Front b bs
 literal_front b bs no_blank no_hash begins = go (literal_item b bs) refl (of_literal b bs)
@@ -299,118 +306,3 @@ front_of b bs = go (is_blank b) (eqb b 35) (begins_literal (b ∷ bs)) (is_lette
     go false false true t e f g h = literal_front b bs e f g
     go false false false true e f g h = word (word_front b bs h g)
     go false false false false e f g h = sign_front b bs e f g h
-
--- ---- refusals
-
-blank_no_literal : (b : ℕ) → is_blank b ≡ true → (is_digit b ≡ false) × (eqb b 34 ≡ false) × (eqb b 39 ≡ false) × (eqb b 66 ≡ false)
-blank_no_literal b h = (grind (arith, nat_tests), grind (arith, nat_tests), grind (arith, nat_tests), grind (arith, nat_tests))
-
-blank_begins_none : (b : ℕ) (bs : List ℕ) → is_blank b ≡ true → begins_literal (b ∷ bs) ≡ false
-blank_begins_none b [] h = let t = blank_no_literal b h in rw (t.0, t.1, t.2) refl
-blank_begins_none b (c ∷ bs) h = let t = blank_no_literal b h in rw (t.0, t.1, t.2, t.3) refl
-
-hash_begins_none : (bs : List ℕ) → begins_literal (35 ∷ bs) ≡ false
-hash_begins_none [] = refl
-hash_begins_none (c ∷ bs) = refl
-
--- a token that begins with this byte
-record Begins (b : ℕ) : Type 0 where
-  k : Kind
-  l : List ℕ
-  spelled : IsLexeme k (b ∷ l)
-
-digit_range : (b : ℕ) → is_digit b ≡ true → (48 ≤ b) × (b ≤ 57)
-digit_range b h = (grind (arith, nat_tests), grind (arith, nat_tests))
-
-digit_value_is : (b : ℕ) → is_digit b ≡ true → (v : ℤ) × (number_of (b ∷ []) ≡ Some v)
-digit_value_is b h =
-    let value = digit_value_digit b (digit_range b h) in
-    let low : nat_lt (digit_value b) 10 ≡ true = lt-ltb (digit_value b) 10 (omega (arith, value, (digit_range b h).1)) in
-    let fits : nat_lt (0 * 10 + digit_value b) (2 ^ 63) ≡ true = lt-ltb (0 * 10 + digit_value b) (2 ^ 63) (omega (arith, value, (digit_range b h).1)) in
-    (pos (0 * 10 + digit_value b), step (digit_value b) low fits)
-  where
-    step : (d : ℕ) → nat_lt d 10 ≡ true → nat_lt (0 * 10 + d) (2 ^ 63) ≡ true → option_map pos (below (2 ^ 63) (cond (nat_lt d 10) (Some (0 * 10 + d)) None)) ≡ Some (pos (0 * 10 + d))
-    step d low fits = rw low (rw fits refl)
-
-begins_some : (b : ℕ) (bs : List ℕ) → begins_literal (b ∷ bs) ≡ true → Begins b
-begins_some b bs h = go (is_digit b) (eqb b 39) (eqb b 34) refl refl refl
-  where
-    digit : is_digit b ≡ true → Begins b
-    digit e = let v = digit_value_is b e in record { k = kinds.Number v.0; l = []; spelled = ((e, refl), v.1) }
-
-    bytes : OpensBytes b bs → Begins b
-    bytes o = record { k = word_kind (b ∷ []); l = []; spelled = word_lexeme (b ∷ []) (ap is_letter o.first, refl) }
-
-    go : (x y z : Bool) → is_digit b ≡ x → eqb b 39 ≡ y → eqb b 34 ≡ z → Begins b
-    go true y z e f g = digit e
-    go false true z e f g = subst Begins (sym (eqb-true b 39 f)) (record { k = kinds.Character 10; l = 92 ∷ 110 ∷ 39 ∷ []; spelled = escaped (110 ∷ []) refl refl })
-    go false false true e f g = subst Begins (sym (eqb-true b 34 g)) (record { k = kinds.Str; l = 34 ∷ []; spelled = ([], record { parts = []; spelled = refl; stands = refl }) })
-    go false false false e f g = bytes (opens_bytes b bs h e g f)
-
--- a byte with which no token begins is a bad byte
-pub bad_char_item : (b : ℕ) (bs : List ℕ) → BeginsNone b → item_of b bs ≡ BadChar
-bad_char_item b bs h = go (front_of b bs)
-  where
-    begun : Begins b → ⊥
-    begun x = h.none x.k x.l x.spelled
-
-    token_begins : (k : Kind) (l rest : List ℕ) → b ∷ bs ≡ l ++ rest → IsLexeme k l → ⊥
-    token_begins k [] rest e s = no_empty k s
-    token_begins k (c ∷ l) rest e s = h.none k l (subst (λ (x : ℕ). IsLexeme k (x ∷ l)) (sym (heads e)) s)
-
-    go : Front b bs → item_of b bs ≡ BadChar
-    go (blank e) = apart (sym e ∙ h.blank)
-    go (comment e f) = apart (sym f ∙ h.hash)
-    go (lexeme k n e a) = absurd (token_begins k a.lexeme a.rest a.parts a.spelled)
-    go (bad_char e x) = e
-    go (bad_literal e x) = absurd (begun (begins_some b bs x))
-
--- the beginning of a literal where no token is, is a bad literal
-pub bad_literal_item : (b : ℕ) (bs : List ℕ) → begins_literal (b ∷ bs) ≡ true → ((k : Kind) (l others : List ℕ) → b ∷ bs ≡ l ++ others → IsLexeme k l → IsLongest l others → ⊥) → item_of b bs ≡ BadLiteral
-bad_literal_item b bs begins none = go (front_of b bs)
-  where
-    begun : BeginsNone b → Begins b → ⊥
-    begun h x = h.none x.k x.l x.spelled
-
-    go : Front b bs → item_of b bs ≡ BadLiteral
-    go (blank e) = apart (sym begins ∙ blank_begins_none b bs e)
-    go (comment e f) = apart (sym begins ∙ ap (λ (x : ℕ). begins_literal (x ∷ bs)) (eqb-true b 35 f) ∙ hash_begins_none bs)
-    go (lexeme k n e a) = absurd (none k a.lexeme a.rest a.parts a.spelled a.longest)
-    go (bad_char e x) = absurd (begun x (begins_some b bs begins))
-    go (bad_literal e x) = e
-
--- and where there is a bad literal, no token is
-pub bad_literal_none : (bs : List ℕ) → item bs ≡ BadLiteral → (k : Kind) (l others : List ℕ) → bs ≡ l ++ others → IsLexeme k l → IsLongest l others → ⊥
-bad_literal_none bs bad k l others e h longest = let both : BadLiteral ≡ Lexeme k (length l) = sym bad ∙ ap item e ∙ token_item k l others h longest in absurd cc
-
--- ---- how much stands there
-
-pub gap_positive : (text : List ℕ) (n : ℕ) → Gap n ≡ item text → 1 ≤ n
-gap_positive [] n e = absurd cc
-gap_positive (b ∷ bs) n e = go (front_of b bs)
-  where
-    go : Front b bs → 1 ≤ n
-    go (blank f) = let one : Gap n ≡ Gap 1 = e ∙ rw f refl in let same : n ≡ 1 = cc in omega (arith, same)
-    go (comment f g) = let more : Gap n ≡ Gap (prefix_len not_newline bs + 1) = e ∙ rw (f, g) refl in let same : n ≡ prefix_len not_newline bs + 1 = cc in omega (arith, same)
-    go (lexeme k m f a) = let both : Gap n ≡ Lexeme k m = e ∙ f in absurd cc
-    go (bad_char f x) = let both : Gap n ≡ BadChar = e ∙ f in absurd cc
-    go (bad_literal f x) = let both : Gap n ≡ BadLiteral = e ∙ f in absurd cc
-
-positive : (k : Kind) (l : List ℕ) → IsLexeme k l → 1 ≤ length l
-positive k [] h = absurd (no_empty k h)
-positive k (b ∷ l) h = omega arith
-
--- a token that the item tells
-pub lexeme_here : (text : List ℕ) (k : Kind) (n : ℕ) → Lexeme k n ≡ item text → At k n text
-lexeme_here [] k n e = absurd cc
-lexeme_here (b ∷ bs) k n e = go (front_of b bs)
-  where
-    go : Front b bs → At k n (b ∷ bs)
-    go (blank f) = let both : Lexeme k n ≡ Gap 1 = e ∙ rw f refl in absurd cc
-    go (comment f g) = let both : Lexeme k n ≡ Gap (prefix_len not_newline bs + 1) = e ∙ rw (f, g) refl in absurd cc
-    go (lexeme j m f a) = at_is j k m n (b ∷ bs) (sym f ∙ sym e) a
-    go (bad_char f x) = let both : Lexeme k n ≡ BadChar = e ∙ f in absurd cc
-    go (bad_literal f x) = let both : Lexeme k n ≡ BadLiteral = e ∙ f in absurd cc
-
-pub lexeme_positive : (text : List ℕ) (k : Kind) (n : ℕ) → Lexeme k n ≡ item text → 1 ≤ n
-lexeme_positive text k n e = let a = lexeme_here text k n e in omega (arith, a.len, positive k a.lexeme a.spelled)

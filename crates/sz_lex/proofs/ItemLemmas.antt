@@ -1,31 +1,29 @@
 -- The item at the front of a text is the token there, and says which refusal it is where there is none.
-use Rattle.std.proofs.Common.{◌≡◌, ◌≢◌, ℕ, ℤ, zero, suc, ◌+◌, ◌-◌, ◌≤◌, ◌<◌, Bool, true, false, cond, not, ◌&&◌, ◌||◌, eqb, List, [], ◌∷◌, ◌++◌, length, take, drop, Option, Some, None, refl, sym, ap, subst, ◌∙◌, append_assoc, arith}
-use Rattle.std.proofs.lemmas.Bool.{eqb-true, eq-eqb}
-use Rattle.std.proofs.lemmas.Bool.Decides.{nat_tests}
-use Rattle.std.proofs.lemmas.List.{length-append, take_at, append-nil}
-use Rattle.std.specs.Char.{encode_utf8}
+use Rattle.std.proofs.Common.{◌≡◌, ◌≢◌, ℕ, ℤ, suc, ◌+◌, Bool, true, false, ◌&&◌, eqb, List, [], ◌∷◌, ◌++◌, length, take, Option, Some, None}
+use Rattle.std.proofs.Common.{refl, sym, ap, subst, ◌∙◌, arith}
+use Rattle.std.proofs.lemmas.Bool.{eqb-true}
+use Rattle.std.proofs.lemmas.List.{take_at}
 use Rattle.std.specs.List.{prefix_len}
-use Rattle.std.specs.Option.{option_map, option_and_then}
-use Rattle.std.proofs.lemmas.Slice.Eq.{bytes_eq-Decides}
 use Rattle.sz_lex.specs.declared.token.Kind.{Kind}
 use Rattle.sz_lex.specs.declared.token.Kind.TheVariants as kinds
-use Rattle.sz_lex.specs.declared.escape.Quoted.{Quoted}
 use Rattle.sz_lex.specs.declared.escape.Quoted.TheVariants as quoteds
 use Rattle.sz_lex.specs.declared.word.Word.{Word}
 use Rattle.sz_lex.specs.declared.sign.Sign.{Sign}
-use Rattle.sz_lex.specs.declared.item.Item.{Item}
-use Rattle.sz_lex.specs.declared.item.Item.TheVariants.{Gap, Lexeme, BadChar, BadLiteral}
+use Rattle.sz_lex.specs.declared.item.Item.TheVariants.{Lexeme}
 use Rattle.sz_lex.specs.Classes.{is_blank, is_letter, is_digit, is_word}
 use Rattle.sz_lex.specs.Words.{word_text}
 use Rattle.sz_lex.specs.Signs.{sign_text}
 use Rattle.sz_lex.specs.Numbers.{number_of}
-use Rattle.sz_lex.specs.Literals.{Part, parts_text, parts_value, IsQuoted, opening, IsCharacter, plain, escaped}
+use Rattle.sz_lex.specs.Literals.{IsQuoted, IsCharacter, plain, escaped}
 use Rattle.sz_lex.specs.Tokens.{all_word, IsName, IsRun, IsLexeme, HasForm, name, run, token, opens, IsLongest, begins_literal}
-use Rattle.sz_lex.specs.Reading.{Body, body_at, character_at, pair_sign, single_sign, sign_or, sign_at, first, word_of, kind_of, word_kind, number_item, character_item, quoted_item, quoted_kind, sign_item, literal_item, item_of, item, not_newline}
-use Rattle.sz_lex.proofs.LiteralLemmas.{none_some, body_read, body_is, BodyAt}
-use Rattle.sz_lex.proofs.CharacterLemmas.{escaped_read, plain_at, character_is, CharacterAt}
-use Rattle.sz_lex.proofs.WordLemmas.{letter_no_blank, letter_no_hash, digit_no_blank, digit_no_hash, letter_no_digit, digit_no_letter, letter_no_quotes, digit_no_quotes, letter_word, digit_word, apart, heads, tails, nil_cons, and_parts, Stops, prefix_all, run_at, RunAt, all_word_push, all_word_end, word_again, word_is_name, word_spells, sign_of, sign_again, pair_text, single_text, no_pair_at_end, BeginsSign, begins_sign}
-use Rattle.sz_lex.proofs.FormLemmas.{Opened, opened, character_read, character_quote, quoted_front, words_longest, sign_form, quoted_is_longest, character_is_longest}
+use Rattle.sz_lex.specs.Lookup.{pair_sign, sign_at, word_of}
+use Rattle.sz_lex.specs.Reading.{body_at, first, kind_of, word_kind, number_item, character_item, quoted_item, sign_item, literal_item, item_of, item}
+use Rattle.sz_lex.proofs.LiteralLemmas.{none_some}
+use Rattle.sz_lex.proofs.WordLemmas.{letter_no_blank, letter_no_hash, digit_no_blank, digit_no_hash, letter_no_digit, letter_no_quotes}
+use Rattle.sz_lex.proofs.WordLemmas.{letter_word, digit_word, apart, heads, tails, nil_cons, and_parts, Stops, prefix_all, all_word_push}
+use Rattle.sz_lex.proofs.WordLemmas.{word_again, word_is_name, word_spells, sign_of, sign_again, pair_text, no_pair_at_end, BeginsSign}
+use Rattle.sz_lex.proofs.WordLemmas.{begins_sign}
+use Rattle.sz_lex.proofs.FormLemmas.{opened, character_read, character_quote}
 
 -- ---- what begins a literal
 
@@ -70,20 +68,24 @@ pub record OpensBytes (b : ℕ) (bs : List ℕ) : Type 0 where
 
 pub opens_bytes : (b : ℕ) (bs : List ℕ) → begins_literal (b ∷ bs) ≡ true → is_digit b ≡ false → eqb b 34 ≡ false → eqb b 39 ≡ false → OpensBytes b bs
 opens_bytes b [] h d q s = let no_more : false ≡ true = rw (d, q, s) at h in apart (sym no_more)
-opens_bytes b (c ∷ bs) h d q s = let both : (eqb b 66 && eqb c 34) ≡ true = rw (d, q, s) at h in let p = and_parts (eqb b 66) (eqb c 34) both in record { more = bs; first = eqb-true b 66 p.0; second = ap (λ (x : ℕ). x ∷ bs) (eqb-true c 34 p.1) }
+opens_bytes b (c ∷ bs) h d q s = let both : (eqb b 66 && eqb c 34) ≡ true = rw (d, q, s) at h in let p =
+    and_parts (eqb b 66) (eqb c 34) both in record { more = bs; first = eqb-true b 66 p.0; second = ap (λ (x : ℕ). x ∷ bs) (eqb-true c 34 p.1) }
 
 -- ---- the tests of an item, in their order
 
 pub literal_case : (b : ℕ) (bs : List ℕ) → is_blank b ≡ false → eqb b 35 ≡ false → begins_literal (b ∷ bs) ≡ true → item_of b bs ≡ literal_item b bs
 literal_case b bs e f g = rw (e, f, g) refl
 
-letter_case : (b : ℕ) (bs : List ℕ) → is_letter b ≡ true → begins_literal (b ∷ bs) ≡ false → item_of b bs ≡ Lexeme (word_kind (take (prefix_len is_word (b ∷ bs)) (b ∷ bs))) (prefix_len is_word (b ∷ bs))
+letter_case : (b : ℕ) (bs : List ℕ) → is_letter b ≡ true → begins_literal (b ∷ bs) ≡ false
+    → item_of b bs ≡ Lexeme (word_kind (take (prefix_len is_word (b ∷ bs)) (b ∷ bs))) (prefix_len is_word (b ∷ bs))
 letter_case b bs h g = rw (letter_no_blank b h, letter_no_hash b h, g, h) refl
 
-pub other_case : (b : ℕ) (bs : List ℕ) → is_blank b ≡ false → eqb b 35 ≡ false → begins_literal (b ∷ bs) ≡ false → is_letter b ≡ false → item_of b bs ≡ sign_item (sign_at b (first bs))
+pub other_case : (b : ℕ) (bs : List ℕ) → is_blank b ≡ false → eqb b 35 ≡ false → begins_literal (b ∷ bs) ≡ false
+    → is_letter b ≡ false → item_of b bs ≡ sign_item (sign_at b (first bs))
 other_case b bs e f g h = rw (e, f, g, h) refl
 
-digit_literal : (b : ℕ) (bs : List ℕ) → is_digit b ≡ true → literal_item b bs ≡ number_item (number_of (take (prefix_len is_word (b ∷ bs)) (b ∷ bs))) (prefix_len is_word (b ∷ bs))
+digit_literal : (b : ℕ) (bs : List ℕ) → is_digit b ≡ true → literal_item b bs ≡ number_item (number_of (take (prefix_len is_word
+    (b ∷ bs)) (b ∷ bs))) (prefix_len is_word (b ∷ bs))
 digit_literal b bs h = rw h refl
 
 -- ---- words
@@ -106,7 +108,8 @@ not_opening : (b : ℕ) (l rest : List ℕ) → all_word l ≡ true → IsLonges
 not_opening b [] rest all longest t is e = nil_cons (sym (longest (34 ∷ []) t e (opens (ap (λ (x : ℕ). x ∷ 34 ∷ []) is))))
 not_opening b (d ∷ l) rest all longest t is e = no_quote_word l (ap (λ (x : ℕ). all_word (x ∷ l)) (sym (heads e)) ∙ all)
 
-pub name_item : (b : ℕ) (l rest : List ℕ) → IsName (b ∷ l) → Stops rest → ((t : List ℕ) → b ≡ 66 → l ++ rest ≡ 34 ∷ t → ⊥) → item_of b (l ++ rest) ≡ Lexeme (word_kind (b ∷ l)) (suc (length l))
+pub name_item : (b : ℕ) (l rest : List ℕ) → IsName (b ∷ l) → Stops rest → ((t : List ℕ) → b ≡ 66 → l ++ rest ≡ 34 ∷ t → ⊥)
+    → item_of b (l ++ rest) ≡ Lexeme (word_kind (b ∷ l)) (suc (length l))
 name_item b l rest h stops no_b =
     let n : prefix_len is_word (b ∷ (l ++ rest)) ≡ suc (length l) = prefix_all (b ∷ l) rest (rw (letter_word b h.0) h.1) stops in
     let t : take (suc (length l)) (b ∷ (l ++ rest)) ≡ b ∷ l = take_at (b ∷ l) rest (suc (length l)) refl in
@@ -114,7 +117,10 @@ name_item b l rest h stops no_b =
     ∙ ap (λ m. Lexeme (word_kind (take m (b ∷ (l ++ rest)))) m) n ∙ ap (λ (x : List ℕ). Lexeme (word_kind x) (suc (length l))) t
 
 word_item : (b : ℕ) (l rest : List ℕ) → IsName (b ∷ l) → IsLongest (b ∷ l) rest → item_of b (l ++ rest) ≡ Lexeme (word_kind (b ∷ l)) (suc (length l))
-word_item b l rest h longest = name_item b l rest h (stops_of (b ∷ l) rest (λ c w. name (h.0, all_word_push l c h.1 w)) longest) (not_opening b l rest h.1 longest)
+word_item b l rest h longest = name_item b l rest h (stops_of (b ∷ l) rest (λ c w. name (
+  h.0,
+  all_word_push l c h.1 w,
+)) longest) (not_opening b l rest h.1 longest)
 
 pub number_item_is : (b : ℕ) (l rest : List ℕ) → IsRun (b ∷ l) → Stops rest → item_of b (l ++ rest) ≡ number_item (number_of (b ∷ l)) (suc (length l))
 number_item_is b l rest h stops =
@@ -133,7 +139,8 @@ no_word_found text h = go (word_of text) refl
 
 -- ---- signs
 
-sign_here : (s : Sign) (b : ℕ) (l rest : List ℕ) → sign_of (b ∷ l) ≡ Some s → IsLongest (b ∷ l) rest → sign_at b (first (l ++ rest)) ≡ Some (s, suc (length l))
+sign_here : (s : Sign) (b : ℕ) (l rest : List ℕ) → sign_of (b ∷ l) ≡ Some s → IsLongest (b ∷ l) rest
+    → sign_at b (first (l ++ rest)) ≡ Some (s, suc (length l))
 sign_here s b [] [] h longest = go (pair_sign b 0) refl
   where
     go : (o : Option Sign) → pair_sign b 0 ≡ o → sign_at b 0 ≡ Some (s, 1)
@@ -189,16 +196,22 @@ bytes_lexeme b l v rest h =
     ∙ ap (quoted_item quoteds.Bytes) (o.read rest)
     ∙ ap (λ (m : ℕ). Lexeme kinds.Bytes m) n
 
-sign_lexeme : (s : Sign) (b : ℕ) (l rest : List ℕ) → b ∷ l ≡ sign_text s → IsLongest (b ∷ l) rest → item_of b (l ++ rest) ≡ Lexeme (kinds.Sign s) (suc (length l))
+sign_lexeme : (s : Sign) (b : ℕ) (l rest : List ℕ) → b ∷ l ≡ sign_text s → IsLongest (b ∷ l) rest
+    → item_of b (l ++ rest) ≡ Lexeme (kinds.Sign s) (suc (length l))
 sign_lexeme s b l rest h longest =
     let f = begins_sign s b l (sym h) in
     other_case b (l ++ rest) f.blank f.hash (sign_begins_none b (l ++ rest) f) f.letter
     ∙ ap sign_item (sign_here s b l rest (ap sign_of h ∙ sign_again s) longest)
 
 lexeme_of : (k : Kind) (b : ℕ) (l rest : List ℕ) → IsLexeme k (b ∷ l) → IsLongest (b ∷ l) rest → item_of b (l ++ rest) ≡ Lexeme k (suc (length l))
-lexeme_of kinds.Name b l rest h longest = word_item b l rest h.0 longest ∙ ap (λ (o : Option Word). Lexeme (kind_of o) (suc (length l))) (no_word_found (b ∷ l) h.1)
-lexeme_of (kinds.Word w) b l rest h longest = word_item b l rest (subst IsName (sym h) (word_is_name w)) longest ∙ ap (λ (o : Option Word). Lexeme (kind_of o) (suc (length l))) (ap word_of h ∙ word_again w)
-lexeme_of (kinds.Number n) b l rest h longest = number_item_is b l rest h.0 (stops_of (b ∷ l) rest (λ c w. run (h.0.0, all_word_push l c h.0.1 w)) longest) ∙ ap (λ (o : Option ℤ). number_item o (suc (length l))) h.1
+lexeme_of kinds.Name b l rest h longest = word_item b l rest h.0 longest
+    ∙ ap (λ (o : Option Word). Lexeme (kind_of o) (suc (length l))) (no_word_found (b ∷ l) h.1)
+lexeme_of (kinds.Word w) b l rest h longest = word_item b l rest (subst IsName (sym h) (word_is_name w)) longest
+    ∙ ap (λ (o : Option Word). Lexeme (kind_of o) (suc (length l))) (ap word_of h ∙ word_again w)
+lexeme_of (kinds.Number n) b l rest h longest = number_item_is b l rest h.0 (stops_of (b ∷ l) rest (λ c w. run (
+  h.0.0,
+  all_word_push l c h.0.1 w,
+)) longest) ∙ ap (λ (o : Option ℤ). number_item o (suc (length l))) h.1
 lexeme_of (kinds.Character c) b l rest h longest = character_lexeme b c l rest h
 lexeme_of kinds.Str b l rest h longest = str_lexeme b l h.0 rest h.1
 lexeme_of kinds.Bytes b l rest h longest = bytes_lexeme b l h.0 rest h.1

@@ -4,6 +4,8 @@ pub mod WordLemmas
 pub mod FormLemmas
 pub mod ItemLemmas
 pub mod FrontLemmas
+pub mod RefusalLemmas
+pub mod GapLemmas
 pub mod WholeLemmas
 pub mod NumberLemmas
 pub mod SearchLemmas

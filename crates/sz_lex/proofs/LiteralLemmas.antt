@@ -1,14 +1,12 @@
 -- A literal between double quotes is read as it is written, and no other way.
-use Rattle.std.proofs.Common.{◌≡◌, ◌⊎◌, ℕ, zero, suc, ◌+◌, ◌-◌, ◌≤◌, ◌<◌, Bool, true, false, cond, not, ◌||◌, eqb, List, [], ◌∷◌, ◌++◌, length, take, drop, Option, Some, None, refl, sym, ap, subst, ◌∙◌, inl, inr, append_assoc, arith}
-use Rattle.std.proofs.lemmas.List.{take_at, drop_at, append-nil, length-append, take-append-drop, length-take, length-drop}
+use Rattle.std.proofs.Common.{◌≡◌, ℕ, zero, suc, ◌+◌, ◌≤◌, ◌<◌, Bool, true, false, cond, eqb, List, [], ◌∷◌, ◌++◌, length, take, drop}
+use Rattle.std.proofs.Common.{Option, Some, None, refl, sym, ap, subst, ◌∙◌, append_assoc, arith}
+use Rattle.std.proofs.lemmas.List.{take_at, length-append, take-append-drop}
 use Rattle.std.proofs.lemmas.Bool.{eqb-true}
-use Rattle.std.proofs.lemmas.Bool.Decides.{nat_tests}
 use Rattle.std.specs.Option.{option_map, option_and_then}
 use Rattle.sz_lex.specs.declared.escape.Escape.{Escape}
-use Rattle.sz_lex.specs.declared.escape.Escape.TheVariants as escapes
 use Rattle.sz_lex.specs.declared.escape.Quoted.{Quoted}
-use Rattle.sz_lex.specs.Numbers.{digits_from}
-use Rattle.sz_lex.specs.Literals.{letter_escape, character_escape, escape_of, escape_bytes, Part, plain, escape, parts_text, is_plain, part_value, parts_value, IsQuoted, opening}
+use Rattle.sz_lex.specs.Literals.{letter_escape, escape_of, escape_bytes, Part, plain, escape, parts_text, is_plain, part_value, parts_value}
 use Rattle.sz_lex.specs.Reading.{escape_size, escape_at, first, Body, longer, body_at}
 
 -- ---- escapes
@@ -125,7 +123,8 @@ pub at_newline : (q : Quoted) (rest : List ℕ) → body_at q 0 (10 ∷ rest) �
 unfolding body_at
 at_newline q rest = refl
 
-pub at_escape : (q : Quoted) (bs : List ℕ) (v : List ℕ) → option_and_then (escape_bytes q) (escape_at bs) ≡ Some v → body_at q 0 (92 ∷ bs) ≡ longer v (body_at q (escape_size (first bs)) bs)
+pub at_escape : (q : Quoted) (bs : List ℕ) (v : List ℕ) → option_and_then (escape_bytes q) (escape_at bs) ≡ Some v
+    → body_at q 0 (92 ∷ bs) ≡ longer v (body_at q (escape_size (first bs)) bs)
 unfolding body_at
 at_escape q bs v e = ap (option_and_then (λ (v : List ℕ). longer v (body_at q (escape_size (first bs)) bs))) e
 
@@ -143,7 +142,8 @@ unfolding body_at
 at_plain q b bs h = let t = plain_tests b h in rw (t.0, t.1, t.2) refl
 
 -- the value of one part more
-value_step : (q : Quoted) (p : Part) (ps : List Part) (v vs : List ℕ) → part_value q p ≡ Some v → parts_value q ps ≡ Some vs → parts_value q (p ∷ ps) ≡ Some (v ++ vs)
+value_step : (q : Quoted) (p : Part) (ps : List Part) (v vs : List ℕ) → part_value q p ≡ Some v → parts_value q ps ≡ Some vs
+    → parts_value q (p ∷ ps) ≡ Some (v ++ vs)
 value_step q p ps v vs e f = rw e (rw f refl)
 
 -- the values of a part and of those behind it
@@ -160,7 +160,14 @@ values_of q p ps value h = go (part_value q p) (parts_value q ps) refl refl
     go : (o m : Option (List ℕ)) → part_value q p ≡ o → parts_value q ps ≡ m → Values q p ps value
     go None m e f = let no : None ≡ Some value = rw e at h in none_some no
     go (Some v) None e f = let no : None ≡ Some value = rw f at (rw e at h) in none_some no
-    go (Some v) (Some vs) e f = let is : Some (v ++ vs) ≡ Some value = rw f at (rw e at h) in record { v = v; vs = vs; one = e; more = f; joined = cc }
+    go (Some v) (Some vs) e f = let is : Some (v ++ vs) ≡ Some value = rw f at (rw e at h) in record {
+      v = v;
+      vs = vs;
+      one =
+          e;
+      more = f;
+      joined = cc;
+    }
 
 -- the value of an escape, and the escape
 record Escaped (q : Quoted) (text v : List ℕ) : Type 0 where
@@ -184,7 +191,11 @@ body_read q (plain b ∷ ps) rest value h =
     let p : is_plain b ≡ true = plain_is b vs.v vs.one in
     at_plain q b (parts_text ps ++ (34 ∷ rest)) p
     ∙ ap (longer (b ∷ [])) (body_read q ps rest vs.vs vs.more)
-    ∙ ap (λ (v : List ℕ). Some (record { len = suc (suc (length (parts_text ps))); value = v })) (ap (λ (v : List ℕ). v ++ vs.vs) (plain_value b vs.v vs.one) ∙ sym vs.joined)
+    ∙ ap (λ (v : List ℕ). Some (record {
+      len = suc (suc (length (parts_text ps)));
+      value =
+          v;
+    })) (ap (λ (v : List ℕ). v ++ vs.vs) (plain_value b vs.v vs.one) ∙ sym vs.joined)
   where
     plain_is : (b : ℕ) (v : List ℕ) → cond (is_plain b) (Some (b ∷ [])) None ≡ Some v → is_plain b ≡ true
     plain_is b v h = go (is_plain b) refl
@@ -199,8 +210,10 @@ body_read q (escape text ∷ ps) rest value h =
     let vs = values_of q (escape text) ps value h in
     let es = escaped_of q text vs.v vs.one in
     let more = parts_text ps ++ (34 ∷ rest) in
-    let seen : option_and_then (escape_bytes q) (escape_at (text ++ more)) ≡ Some vs.v = ap (option_and_then (escape_bytes q)) (escape_read text more es.e es.is) ∙ es.bytes in
-    let n : suc (length text + suc (length (parts_text ps))) ≡ suc (suc (length (text ++ parts_text ps))) = omega (arith, length-append text (parts_text ps)) in
+    let seen : option_and_then (escape_bytes q) (escape_at (text ++ more)) ≡ Some vs.v =
+    ap (option_and_then (escape_bytes q)) (escape_read text more es.e es.is) ∙ es.bytes in
+    let n : suc (length text + suc (length (parts_text ps))) ≡ suc (suc (length (text ++ parts_text ps))) =
+    omega (arith, length-append text (parts_text ps)) in
     ap (λ (t : List ℕ). body_at q 0 (92 ∷ t)) (append_assoc text (parts_text ps) (34 ∷ rest))
     ∙ at_escape q (text ++ more) vs.v seen
     ∙ ap (λ (m : ℕ). longer vs.v (body_at q m (text ++ more))) (first_front text more es.e es.is)
@@ -225,7 +238,13 @@ record Longer (v : List ℕ) (o : Option Body) (b : Body) : Type 0 where
 
 longer_of : (v : List ℕ) (o : Option Body) (b : Body) → longer v o ≡ Some b → Longer v o b
 longer_of v None b h = none_some h
-longer_of v (Some r) b h = let same : record { len = suc r.len; value = v ++ r.value } ≡ b = some_is h in record { rest = r; is = refl; len = ap (λ (b : Body). b.len) (sym same); value = ap (λ (b : Body). b.value) (sym same) }
+longer_of v (Some r) b h = let same : record { len = suc r.len; value = v ++ r.value } ≡ b = some_is h in record {
+  rest = r;
+  is =
+      refl;
+  len = ap (λ (b : Body). b.len) (sym same);
+  value = ap (λ (b : Body). b.value) (sym same);
+}
   where
     some_is : {x y : Body} → Some x ≡ Some y → x ≡ y
     some_is e = cc
@@ -238,7 +257,13 @@ record Ahead (n : ℕ) (o : Option Body) (b : Body) : Type 0 where
 
 ahead_of : (n : ℕ) (o : Option Body) (b : Body) → ahead n o ≡ Some b → Ahead n o b
 ahead_of n None b h = none_some h
-ahead_of n (Some r) b h = let same : record { len = n + r.len; value = r.value } ≡ b = some_is h in record { rest = r; is = refl; len = ap (λ (b : Body). b.len) (sym same); value = ap (λ (b : Body). b.value) (sym same) }
+ahead_of n (Some r) b h = let same : record { len = n + r.len; value = r.value } ≡ b = some_is h in record {
+  rest = r;
+  is =
+      refl;
+  len = ap (λ (b : Body). b.len) (sym same);
+  value = ap (λ (b : Body). b.value) (sym same);
+}
   where
     some_is : {x y : Body} → Some x ≡ Some y → x ≡ y
     some_is e = cc
@@ -246,7 +271,8 @@ ahead_of n (Some r) b h = let same : record { len = n + r.len; value = r.value }
 abbrev Again : Quoted → ℕ → Type 0
 Again q n = (bs : List ℕ) (b : Body) → length bs ≤ n → body_at q 0 bs ≡ Some b → BodyAt q bs b
 
-plain_body : (q : Quoted) (n : ℕ) → Again q n → (c : ℕ) (bs : List ℕ) (b : Body) → length bs ≤ n → is_plain c ≡ true → longer (c ∷ []) (body_at q 0 bs) ≡ Some b → BodyAt q (c ∷ bs) b
+plain_body : (q : Quoted) (n : ℕ) → Again q n → (c : ℕ) (bs : List ℕ) (b : Body) → length bs ≤ n → is_plain c ≡ true
+    → longer (c ∷ []) (body_at q 0 bs) ≡ Some b → BodyAt q (c ∷ bs) b
 plain_body q n again c bs b le p h =
     let l = longer_of (c ∷ []) (body_at q 0 bs) b h in
     let r = again bs l.rest le l.is in
@@ -258,23 +284,34 @@ plain_body q n again c bs b le p h =
       value = value_step q (plain c) r.ps (c ∷ []) l.rest.value (rw p refl) r.value ∙ ap (λ (v : List ℕ). Some v) (sym l.value);
     }
 
-escape_body : (q : Quoted) (n : ℕ) → Again q n → (bs v : List ℕ) (e : Escape) (b : Body) → length bs ≤ n → EscapeAt bs e → escape_bytes q e ≡ Some v → longer v (body_at q (escape_size (first bs)) bs) ≡ Some b → BodyAt q (92 ∷ bs) b
+escape_body : (q : Quoted) (n : ℕ) → Again q n → (bs v : List ℕ) (e : Escape) (b : Body) → length bs ≤ n → EscapeAt bs e
+    → escape_bytes q e ≡ Some v → longer v (body_at q (escape_size (first bs)) bs) ≡ Some b → BodyAt q (92 ∷ bs) b
 escape_body q n again bs v e b le x bytes h =
     let l = longer_of v (body_at q (escape_size (first bs)) bs) b h in
-    let passed : body_at q (escape_size (first bs)) bs ≡ ahead (length x.text) (body_at q 0 x.rest) = ap (λ (m : ℕ). body_at q m bs) x.size ∙ ap (body_at q (length x.text)) x.parts ∙ skipped q x.text x.rest in
+    let passed : body_at q (escape_size (first bs)) bs ≡ ahead (length x.text) (body_at q 0 x.rest) =
+    ap (λ (m : ℕ). body_at q m bs) x.size ∙ ap (body_at q (length x.text)) x.parts ∙ skipped q x.text x.rest in
     let a = ahead_of (length x.text) (body_at q 0 x.rest) l.rest (sym passed ∙ l.is) in
     let r = again x.rest a.rest (omega (arith, ap length x.parts, length-append x.text x.rest)) a.is in
     let one : part_value q (escape x.text) ≡ Some v = ap (option_and_then (escape_bytes q)) x.is ∙ bytes in
     record {
       ps = escape x.text ∷ r.ps;
       rest = r.rest;
-      text = ap (λ (t : List ℕ). 92 ∷ t) (x.parts ∙ ap (λ (t : List ℕ). x.text ++ t) r.text ∙ sym (append_assoc x.text (parts_text r.ps) (34 ∷ r.rest)));
+      text = ap (λ (t : List ℕ). 92 ∷ t) (x.parts ∙ ap (λ (t : List ℕ). x.text ++ t) r.text
+          ∙ sym (append_assoc x.text (parts_text r.ps) (34 ∷ r.rest)));
       len = omega (arith, l.len, a.len, r.len, length-append x.text (parts_text r.ps));
-      value = value_step q (escape x.text) r.ps v a.rest.value one r.value ∙ ap (λ (w : List ℕ). Some w) (ap (λ (w : List ℕ). v ++ w) (sym a.value) ∙ sym l.value);
+      value = value_step q (escape x.text) r.ps v a.rest.value one r.value
+          ∙ ap (λ (w : List ℕ). Some w) (ap (λ (w : List ℕ). v ++ w) (sym a.value) ∙ sym l.value);
     }
 
 quote_body : (q : Quoted) (bs : List ℕ) (b : Body) → Some (record { len = 1; value = [] }) ≡ Some b → BodyAt q (34 ∷ bs) b
-quote_body q bs b h = let same : record { len = 1; value = [] } ≡ b = some_is h in record { ps = []; rest = bs; text = refl; len = ap (λ (b : Body). b.len) (sym same); value = ap (λ (b : Body). Some b.value) same }
+quote_body q bs b h = let same : record { len = 1; value = [] } ≡ b = some_is h in record {
+  ps = [];
+  rest = bs;
+  text = refl;
+  len =
+      ap (λ (b : Body). b.len) (sym same);
+  value = ap (λ (b : Body). Some b.value) same;
+}
   where
     some_is : {x y : Body} → Some x ≡ Some y → x ≡ y
     some_is e = cc
@@ -289,11 +326,14 @@ body_step q n again c bs b le h = go (eqb c 34) (eqb c 92) (eqb c 10) refl refl 
       where
         stands : (o : Option (List ℕ)) → escape_bytes q x ≡ o → BodyAt q (92 ∷ bs) b
         stands None f = let no : None ≡ Some b = rw f at (rw e at k) in none_some no
-        stands (Some v) f = escape_body q n again bs v x b le (escape_is bs x e) f (sym (at_escape q bs v (ap (option_and_then (escape_bytes q)) e ∙ f)) ∙ k)
+        stands (Some v) f = escape_body q n again bs v x b le (escape_is bs x e) f (sym (at_escape q bs v (ap (option_and_then
+            (escape_bytes q)) e ∙ f)) ∙ k)
 
     go : (x y z : Bool) → eqb c 34 ≡ x → eqb c 92 ≡ y → eqb c 10 ≡ z → BodyAt q (c ∷ bs) b
-    go true y z p r s = let same : 34 ≡ c = sym (eqb-true c 34 p) in subst (λ (m : ℕ). BodyAt q (m ∷ bs) b) same (quote_body q bs b (rw (← same) at h))
-    go false true z p r s = let same : 92 ≡ c = sym (eqb-true c 92 r) in subst (λ (m : ℕ). BodyAt q (m ∷ bs) b) same (escaped (escape_at bs) refl (subst (λ (m : ℕ). body_at q 0 (m ∷ bs) ≡ Some b) (sym same) h))
+    go true y z p r s = let same : 34 ≡ c = sym (eqb-true c 34 p) in subst (λ (m : ℕ). BodyAt q (m ∷ bs) b) same (quote_body q bs b
+        (rw (← same) at h))
+    go false true z p r s = let same : 92 ≡ c = sym (eqb-true c 92 r) in subst (λ (m : ℕ). BodyAt q (m ∷ bs) b) same (escaped
+        (escape_at bs) refl (subst (λ (m : ℕ). body_at q 0 (m ∷ bs) ≡ Some b) (sym same) h))
     go false false true p r s = let no : None ≡ Some b = rw (p, r, s) at h in none_some no
     go false false false p r s = plain_body q n again c bs b le (rw (p, r, s) refl) (rw (p, r, s) at h)
 

@@ -1,117 +1,20 @@
 -- A text has exactly the tokens, or exactly the refusal, that reading it from left to right gives.
-use Rattle.std.proofs.Common.{◌≡◌, ℕ, zero, suc, ◌+◌, ◌-◌, ◌≤◌, ◌<◌, Bool, true, false, cond, eqb, List, [], ◌∷◌, ◌++◌, length, take, drop, Option, Some, None, Result, Ok, Err, refl, sym, ap, subst, ◌∙◌, append_assoc, arith}
-use Rattle.std.proofs.lemmas.Bool.{eqb-true}
-use Rattle.std.proofs.lemmas.Bool.Decides.{nat_tests}
+use Rattle.std.proofs.Common.{◌≡◌, ℕ, zero, suc, ◌+◌, ◌-◌, ◌≤◌, Bool, true, false, eqb, List, [], ◌∷◌, ◌++◌, length, Ok, Err, refl, sym, ap}
+use Rattle.std.proofs.Common.{subst, ◌∙◌, arith}
 use Rattle.std.proofs.lemmas.List.{length-append, append-nil}
-use Rattle.std.specs.List.{prefix_len}
 use Rattle.sz_types.specs.declared.place.Place.{Place}
 use Rattle.sz_lex.specs.declared.token.Token.{Token}
 use Rattle.sz_lex.specs.declared.token.Kind.{Kind}
-use Rattle.sz_lex.specs.declared.error.LexError.{LexError}
 use Rattle.sz_lex.specs.declared.error.LexError.TheVariants as errors
 use Rattle.sz_lex.specs.declared.item.Item.{Item}
-use Rattle.sz_lex.specs.declared.item.Item.TheVariants.{Gap, Lexeme, BadChar, BadLiteral}
-use Rattle.sz_lex.specs.Classes.{is_blank}
-use Rattle.sz_lex.specs.Tokens.{IsLexeme, IsLongest, gap_from, after, behind, first_place, Next, Tail, TokensThen, Nothing, NoToken, BadCharAt, begins_literal, NoLiteral, BadLiteralAt}
-use Rattle.sz_lex.specs.Reading.{not_newline, item_of, item, act, bind, lexed}
-use Rattle.sz_lex.proofs.LiteralLemmas.{none_some}
-use Rattle.sz_lex.proofs.WordLemmas.{nil_cons, heads}
+use Rattle.sz_lex.specs.declared.item.Item.TheVariants.{BadChar, BadLiteral}
+use Rattle.sz_lex.specs.Tokens.{IsLexeme, IsLongest, gap_from, after, behind, first_place, Tail, TokensThen, Nothing, BadCharAt}
+use Rattle.sz_lex.specs.Tokens.{begins_literal, BadLiteralAt}
+use Rattle.sz_lex.specs.Reading.{item_of, act, bind, lexed}
+use Rattle.sz_lex.proofs.GapLemmas.{Answer, passed, left_of, gap_end, gap_more, gap_blank, gap_hash, gap_passed, last_gap}
 use Rattle.sz_lex.proofs.ItemLemmas.{no_empty, token_item}
-use Rattle.sz_lex.proofs.FrontLemmas.{At, BeginsNone, Front, blank, comment, lexeme, bad_char, bad_literal, front_of, bad_char_item, bad_literal_item, bad_literal_none}
-
-abbrev Answer : Type 0
-Answer = Result (List Token) LexError
-
--- ---- gaps
-
--- bytes that belong to what came before are passed
-passed : (l rest : List ℕ) (at : ℕ) (p : Place) → lexed (length l) at p (l ++ rest) ≡ lexed 0 (at + length l) (behind l p) rest
-unfolding lexed
-passed [] rest at p = let e : at + 0 ≡ at = omega arith in rw e refl
-passed (b ∷ l) rest at p = let e : at + 1 + length l ≡ at + suc (length l) = omega arith in passed l rest (at + 1) (after b p) ∙ ap (λ n. lexed 0 n (behind l (after b p)) rest) e
-
--- how many bytes of the text belong to the comment that it begins in
-abbrev left_of : Bool → List ℕ → ℕ
-left_of false bs = 0
-left_of true bs = prefix_len not_newline bs
-
-turn_at : (b : ℕ) (bs : List ℕ) (at n : ℕ) (p : Place) → item_of b bs ≡ Gap n → lexed 0 at p (b ∷ bs) ≡ lexed (n - 1) (at + 1) (after b p) bs
-unfolding lexed
-turn_at b bs at n p e = ap (λ (x : Item). act at p x (λ k. lexed k (at + 1) (after b p) bs)) e
-
-item_blank : (b : ℕ) (bs : List ℕ) → is_blank b ≡ true → item_of b bs ≡ Gap 1
-item_blank b bs e = rw e refl
-
-item_hash : (b : ℕ) (bs : List ℕ) → is_blank b ≡ false → eqb b 35 ≡ true → item_of b bs ≡ Gap (prefix_len not_newline bs + 1)
-item_hash b bs e f = rw (e, f) refl
-
-left_end : (b : ℕ) (bs : List ℕ) → eqb b 10 ≡ true → left_of true (b ∷ bs) ≡ 0
-left_end b bs e = rw e refl
-
-left_more : (b : ℕ) (bs : List ℕ) → eqb b 10 ≡ false → left_of true (b ∷ bs) ≡ suc (left_of true bs)
-left_more b bs e = rw e (omega arith)
-
-newline_blank : (b : ℕ) → eqb b 10 ≡ true → is_blank b ≡ true
-newline_blank b e = grind (arith, nat_tests)
-
-gap_end : (b : ℕ) (g : List ℕ) → eqb b 10 ≡ true → gap_from true (b ∷ g) ≡ gap_from false g
-gap_end b g e = rw e refl
-
-gap_more : (b : ℕ) (g : List ℕ) → eqb b 10 ≡ false → gap_from true (b ∷ g) ≡ gap_from true g
-gap_more b g e = rw e refl
-
-gap_blank : (b : ℕ) (g : List ℕ) → is_blank b ≡ true → gap_from false (b ∷ g) ≡ gap_from false g
-gap_blank b g e = rw e refl
-
-gap_hash : (b : ℕ) (g : List ℕ) → is_blank b ≡ false → eqb b 35 ≡ true → gap_from false (b ∷ g) ≡ gap_from true g
-gap_hash b g e f = rw (e, f) refl
-
-gap_none : (b : ℕ) (g : List ℕ) → is_blank b ≡ false → eqb b 35 ≡ false → gap_from false (b ∷ g) ≡ None
-gap_none b g e f = rw (e, f) refl
-
-blank_turn : (b : ℕ) (bs : List ℕ) (at : ℕ) (p : Place) → is_blank b ≡ true → lexed 0 at p (b ∷ bs) ≡ lexed 0 (at + 1) (after b p) bs
-blank_turn b bs at p e = turn_at b bs at 1 p (item_blank b bs e)
-
-hash_turn : (b : ℕ) (bs : List ℕ) (at : ℕ) (p : Place) → is_blank b ≡ false → eqb b 35 ≡ true → lexed 0 at p (b ∷ bs) ≡ lexed (left_of true bs) (at + 1) (after b p) bs
-hash_turn b bs at p e f =
-    let k : prefix_len not_newline bs + 1 - 1 ≡ prefix_len not_newline bs = omega arith in
-    turn_at b bs at _ p (item_hash b bs e f) ∙ ap (λ n. lexed n (at + 1) (after b p) bs) k
-
-end_turn : (b : ℕ) (bs : List ℕ) (at : ℕ) (p : Place) → eqb b 10 ≡ true → lexed (left_of true (b ∷ bs)) at p (b ∷ bs) ≡ lexed 0 (at + 1) (after b p) bs
-end_turn b bs at p e = ap (λ n. lexed n at p (b ∷ bs)) (left_end b bs e) ∙ blank_turn b bs at p (newline_blank b e)
-
-more_turn : (b : ℕ) (bs : List ℕ) (at : ℕ) (p : Place) → eqb b 10 ≡ false → lexed (left_of true (b ∷ bs)) at p (b ∷ bs) ≡ lexed (left_of true bs) (at + 1) (after b p) bs
-unfolding lexed
-more_turn b bs at p e = ap (λ n. lexed n at p (b ∷ bs)) (left_more b bs e)
-
--- one byte of a gap
-gap_turn : (c : Bool) (b : ℕ) (g rest : List ℕ) (at : ℕ) (p : Place) (d : Bool) (r : Answer) → gap_from c (b ∷ g) ≡ Some d
-    → ((e : Bool) → gap_from e g ≡ Some d → lexed (left_of e (g ++ rest)) (at + 1) (after b p) (g ++ rest) ≡ r)
-    → lexed (left_of c (b ∷ (g ++ rest))) at p (b ∷ (g ++ rest)) ≡ r
-gap_turn true b g rest at p d r h k = go (eqb b 10) refl
-  where
-    go : (x : Bool) → eqb b 10 ≡ x → lexed (left_of true (b ∷ (g ++ rest))) at p (b ∷ (g ++ rest)) ≡ r
-    go true e = end_turn b (g ++ rest) at p e ∙ k false (sym (gap_end b g e) ∙ h)
-    go false e = more_turn b (g ++ rest) at p e ∙ k true (sym (gap_more b g e) ∙ h)
-gap_turn false b g rest at p d r h k = go (is_blank b) (eqb b 35) refl refl
-  where
-    go : (x y : Bool) → is_blank b ≡ x → eqb b 35 ≡ y → lexed 0 at p (b ∷ (g ++ rest)) ≡ r
-    go true y e f = blank_turn b (g ++ rest) at p e ∙ k false (sym (gap_blank b g e) ∙ h)
-    go false true e f = hash_turn b (g ++ rest) at p e f ∙ k true (sym (gap_hash b g e f) ∙ h)
-    go false false e f = none_some (sym (gap_none b g e f) ∙ h)
-
--- a gap is passed
-gap_passed : (c : Bool) (g rest : List ℕ) (at : ℕ) (p : Place) → gap_from c g ≡ Some false → lexed (left_of c (g ++ rest)) at p (g ++ rest) ≡ lexed 0 (at + length g) (behind g p) rest
-gap_passed true [] rest at p h = absurd cc
-gap_passed false [] rest at p h = let e : at + 0 ≡ at = omega arith in rw e refl
-gap_passed c (b ∷ g) rest at p h =
-    let n : at + 1 + length g ≡ at + suc (length g) = omega arith in
-    gap_turn c b g rest at p false _ h (λ d k. gap_passed d g rest (at + 1) (after b p) k) ∙ ap (λ n. lexed 0 n (behind g (after b p)) rest) n
-
-last_gap : (c d : Bool) (g : List ℕ) (at : ℕ) (p : Place) → gap_from c g ≡ Some d → lexed (left_of c (g ++ [])) at p (g ++ []) ≡ Ok []
-unfolding lexed
-last_gap c d [] at p h = refl
-last_gap c d (b ∷ g) at p h = gap_turn c b g [] at p d _ h (λ e k. last_gap e d g (at + 1) (after b p) k)
+use Rattle.sz_lex.proofs.FrontLemmas.{At, BeginsNone, Front, blank, comment, lexeme, bad_char, bad_literal, front_of}
+use Rattle.sz_lex.proofs.RefusalLemmas.{bad_char_item, bad_literal_item, bad_literal_none}
 
 -- ---- a token is found
 
@@ -119,7 +22,14 @@ head_item : (b : ℕ) (bs : List ℕ) (at : ℕ) (p : Place) → lexed 0 at p (b
 unfolding lexed
 head_item b bs at p = refl
 
-token_found : (k : Kind) (l rest : List ℕ) (at : ℕ) (p : Place) → IsLexeme k l → IsLongest l rest → lexed 0 at p (l ++ rest) ≡ bind (lexed 0 (at + length l) (behind l p) rest) (λ ts. Ok (record { kind = k; place = p; start = at; len = length l } ∷ ts))
+token_found : (k : Kind) (l rest : List ℕ) (at : ℕ) (p : Place) → IsLexeme k l → IsLongest l rest
+    → lexed 0 at p (l ++ rest) ≡ bind (lexed 0 (at + length l) (behind l p) rest) (λ ts. Ok (record {
+      kind = k;
+      place = p;
+      start =
+          at;
+      len = length l;
+    } ∷ ts))
 token_found k [] rest at p h longest = absurd (no_empty k h)
 token_found k (b ∷ l) rest at p h longest =
     let n : suc (length l) - 1 ≡ length l = omega arith in
@@ -127,7 +37,13 @@ token_found k (b ∷ l) rest at p h longest =
     head_item b (l ++ rest) at p
     ∙ ap (λ (x : Item). act at p x (λ j. lexed j (at + 1) (after b p) (l ++ rest))) (token_item k (b ∷ l) rest h longest)
     ∙ ap (λ x. bind (lexed x (at + 1) (after b p) (l ++ rest)) (λ ts. Ok (record { kind = k; place = p; start = at; len = suc (length l) } ∷ ts))) n
-    ∙ ap (λ (x : Answer). bind x (λ ts. Ok (record { kind = k; place = p; start = at; len = suc (length l) } ∷ ts))) (passed l rest (at + 1) (after b p) ∙ ap (λ x. lexed 0 x (behind l (after b p)) rest) m)
+    ∙ ap (λ (x : Answer). bind x (λ ts. Ok (record {
+      kind = k;
+      place = p;
+      start = at;
+      len =
+          suc (length l);
+    } ∷ ts))) (passed l rest (at + 1) (after b p) ∙ ap (λ x. lexed 0 x (behind l (after b p)) rest) m)
 
 -- ---- what the text has is what reading gives
 
@@ -145,16 +61,24 @@ none_behind (Ok us) = refl
 none_behind (Err e) = refl
 
 complete : (P : Tail) (r : Answer) → ((c : Bool) (at : ℕ) (p : Place) (text : List ℕ) → P c at p text → lexed (left_of c text) at p text ≡ r)
-    → (ts : List Token) (c : Bool) (at : ℕ) (p : Place) (text : List ℕ) → TokensThen P ts c at p text → lexed (left_of c text) at p text ≡ behind_tokens ts r
+    → (ts : List Token) (c : Bool) (at : ℕ) (p : Place) (text : List ℕ) → TokensThen P ts c at p text
+    → lexed (left_of c text) at p text ≡ behind_tokens ts r
 unfolding TokensThen
 complete P r k [] c at p text h = k c at p text h ∙ sym (none_behind r)
 complete P r k (t ∷ ts) c at p text h =
     let n = h.0 in
-    let same : record { kind = t.kind; place = behind n.gap p; start = at + length n.gap; len = length n.lexeme } ≡ t = rw (← n.start, ← n.place, ← n.len) refl in
+    let same : record { kind = t.kind; place = behind n.gap p; start = at + length n.gap; len = length n.lexeme } ≡ t =
+    rw (← n.start, ← n.place, ← n.len) refl in
     ap (λ (x : List ℕ). lexed (left_of c x) at p x) n.parts
     ∙ gap_passed c n.gap (n.lexeme ++ n.rest) at p n.closed
     ∙ token_found t.kind n.lexeme n.rest (at + length n.gap) (behind n.gap p) n.spelled n.longest
-    ∙ ap (λ (x : Answer). bind x (λ us. Ok (record { kind = t.kind; place = behind n.gap p; start = at + length n.gap; len = length n.lexeme } ∷ us))) (complete P r k ts false (at + length n.gap + length n.lexeme) (behind n.lexeme (behind n.gap p)) n.rest h.1)
+    ∙ ap (λ (x : Answer). bind x (λ us. Ok (record {
+      kind = t.kind;
+      place = behind n.gap p;
+      start = at + length n.gap;
+      len =
+          length n.lexeme;
+    } ∷ us))) (complete P r k ts false (at + length n.gap + length n.lexeme) (behind n.lexeme (behind n.gap p)) n.rest h.1)
     ∙ bind_bind _ ts r
     ∙ ap (λ (x : Token). behind_tokens (x ∷ ts) r) same
 
@@ -167,18 +91,21 @@ bad_turn b bs at p e = head_item b bs at p ∙ ap (λ (x : Item). act at p x (λ
 literal_turn : (b : ℕ) (bs : List ℕ) (at : ℕ) (p : Place) → item_of b bs ≡ BadLiteral → lexed 0 at p (b ∷ bs) ≡ Err (errors.BadLiteral p)
 literal_turn b bs at p e = head_item b bs at p ∙ ap (λ (x : Item). act at p x (λ k. lexed k (at + 1) (after b p) bs)) e
 
-no_token : (q : Place) (c : Bool) (at : ℕ) (p : Place) (text : List ℕ) → BadCharAt q c at p text → lexed (left_of c text) at p text ≡ Err (errors.BadChar q)
+no_token : (q : Place) (c : Bool) (at : ℕ) (p : Place) (text : List ℕ) → BadCharAt q c at p text
+    → lexed (left_of c text) at p text ≡ Err (errors.BadChar q)
 no_token q c at p text h =
     ap (λ (x : List ℕ). lexed (left_of c x) at p x) h.parts
     ∙ gap_passed c h.gap (h.byte ∷ h.rest) at p h.closed
     ∙ bad_turn h.byte h.rest _ _ (bad_char_item h.byte h.rest (record { blank = h.blank; hash = h.hash; none = h.none }))
     ∙ ap (λ (x : Place). Err (errors.BadChar x)) (sym h.place)
 
-literal_here : (rest : List ℕ) (at : ℕ) (p : Place) → begins_literal rest ≡ true → ((k : Kind) (l others : List ℕ) → rest ≡ l ++ others → IsLexeme k l → IsLongest l others → ⊥) → lexed 0 at p rest ≡ Err (errors.BadLiteral p)
+literal_here : (rest : List ℕ) (at : ℕ) (p : Place) → begins_literal rest ≡ true → ((k : Kind) (l others : List ℕ)
+    → rest ≡ l ++ others → IsLexeme k l → IsLongest l others → ⊥) → lexed 0 at p rest ≡ Err (errors.BadLiteral p)
 literal_here [] at p begins none = absurd cc
 literal_here (b ∷ bs) at p begins none = literal_turn b bs at p (bad_literal_item b bs begins none)
 
-no_literal : (q : Place) (c : Bool) (at : ℕ) (p : Place) (text : List ℕ) → BadLiteralAt q c at p text → lexed (left_of c text) at p text ≡ Err (errors.BadLiteral q)
+no_literal : (q : Place) (c : Bool) (at : ℕ) (p : Place) (text : List ℕ) → BadLiteralAt q c at p text
+    → lexed (left_of c text) at p text ≡ Err (errors.BadLiteral q)
 no_literal q c at p text h =
     ap (λ (x : List ℕ). lexed (left_of c x) at p x) h.parts
     ∙ gap_passed c h.gap h.rest at p h.closed
@@ -189,11 +116,13 @@ pub tokens_given : (text : List ℕ) (ts : List Token) → TokensThen Nothing ts
 unfolding behind_tokens bind
 tokens_given text ts h = complete Nothing (Ok []) nothing_left ts false 0 first_place text h ∙ ap (λ (x : List Token). Ok x) (append-nil ts)
 
-pub char_given : (text : List ℕ) (q : Place) (ts : List Token) → TokensThen (BadCharAt q) ts false 0 first_place text → lexed 0 0 first_place text ≡ Err (errors.BadChar q)
+pub char_given : (text : List ℕ) (q : Place) (ts : List Token) → TokensThen (BadCharAt q) ts false 0 first_place text
+    → lexed 0 0 first_place text ≡ Err (errors.BadChar q)
 unfolding behind_tokens bind
 char_given text q ts h = complete (BadCharAt q) (Err (errors.BadChar q)) (no_token q) ts false 0 first_place text h
 
-pub literal_given : (text : List ℕ) (q : Place) (ts : List Token) → TokensThen (BadLiteralAt q) ts false 0 first_place text → lexed 0 0 first_place text ≡ Err (errors.BadLiteral q)
+pub literal_given : (text : List ℕ) (q : Place) (ts : List Token) → TokensThen (BadLiteralAt q) ts false 0 first_place text
+    → lexed 0 0 first_place text ≡ Err (errors.BadLiteral q)
 unfolding behind_tokens bind
 literal_given text q ts h = complete (BadLiteralAt q) (Err (errors.BadLiteral q)) (no_literal q) ts false 0 first_place text h
 
@@ -201,16 +130,37 @@ literal_given text q ts h = complete (BadLiteralAt q) (Err (errors.BadLiteral q)
 
 -- a tail that may begin a byte earlier, if that belongs to the gap
 abbrev IsGrowing : Tail → Type 0
-IsGrowing P = (c d : Bool) (b : ℕ) (at : ℕ) (p : Place) (bs : List ℕ) → ((g : List ℕ) → gap_from c (b ∷ g) ≡ gap_from d g) → P d (at + 1) (after b p) bs → P c at p (b ∷ bs)
+IsGrowing P = (c d : Bool) (b : ℕ) (at : ℕ) (p : Place) (bs : List ℕ) → ((g : List ℕ) → gap_from c (b ∷ g) ≡ gap_from d g)
+    → P d (at + 1) (after b p) bs → P c at p (b ∷ bs)
 
 nothing_grows : IsGrowing Nothing
 nothing_grows c d b at p bs step h = (h.0, step bs ∙ h.1)
 
 char_grows : (q : Place) → IsGrowing (BadCharAt q)
-char_grows q c d b at p bs step h = record { gap = b ∷ h.gap; byte = h.byte; rest = h.rest; parts = ap (λ (t : List ℕ). b ∷ t) h.parts; closed = step h.gap ∙ h.closed; place = h.place; blank = h.blank; hash = h.hash; none = h.none }
+char_grows q c d b at p bs step h = record {
+  gap = b ∷ h.gap;
+  byte = h.byte;
+  rest = h.rest;
+  parts =
+      ap (λ (t : List ℕ). b ∷ t) h.parts;
+  closed = step h.gap ∙ h.closed;
+  place = h.place;
+  blank = h.blank;
+  hash = h.hash;
+  none = h.none;
+}
 
 literal_grows : (q : Place) → IsGrowing (BadLiteralAt q)
-literal_grows q c d b at p bs step h = record { gap = b ∷ h.gap; rest = h.rest; parts = ap (λ (t : List ℕ). b ∷ t) h.parts; closed = step h.gap ∙ h.closed; place = h.place; begins = h.begins; none = h.none }
+literal_grows q c d b at p bs step h = record {
+  gap = b ∷ h.gap;
+  rest = h.rest;
+  parts =
+      ap (λ (t : List ℕ). b ∷ t) h.parts;
+  closed = step h.gap ∙ h.closed;
+  place = h.place;
+  begins = h.begins;
+  none = h.none;
+}
 
 tokens_grow : (P : Tail) → IsGrowing P → (ts : List Token) → IsGrowing (TokensThen P ts)
 unfolding TokensThen
@@ -234,7 +184,8 @@ tokens_grow P grows (t ∷ ts) c d b at p bs step h =
     )
 
 -- a token at the front
-token_front : (P : Tail) (k : Kind) (l rest : List ℕ) (ts : List Token) (at : ℕ) (p : Place) → IsLexeme k l → IsLongest l rest → TokensThen P ts false (at + length l) (behind l p) rest
+token_front : (P : Tail) (k : Kind) (l rest : List ℕ) (ts : List Token) (at : ℕ) (p : Place) → IsLexeme k l → IsLongest l rest
+    → TokensThen P ts false (at + length l) (behind l p) rest
     → TokensThen P (record { kind = k; place = p; start = at; len = length l } ∷ ts) false at p (l ++ rest)
 unfolding TokensThen
 token_front P k l rest ts at p h longest others =
@@ -249,12 +200,14 @@ data Outcome (c : Bool) (at : ℕ) (p : Place) (text : List ℕ) : Type 0 where
   has_bad_char : (q : Place) (ts : List Token) → TokensThen (BadCharAt q) ts c at p text → Outcome c at p text
   has_bad_literal : (q : Place) (ts : List Token) → TokensThen (BadLiteralAt q) ts c at p text → Outcome c at p text
 
-grown : (c d : Bool) (b : ℕ) (at : ℕ) (p : Place) (bs : List ℕ) → ((g : List ℕ) → gap_from c (b ∷ g) ≡ gap_from d g) → Outcome d (at + 1) (after b p) bs → Outcome c at p (b ∷ bs)
+grown : (c d : Bool) (b : ℕ) (at : ℕ) (p : Place) (bs : List ℕ) → ((g : List ℕ) → gap_from c (b ∷ g) ≡ gap_from d g)
+    → Outcome d (at + 1) (after b p) bs → Outcome c at p (b ∷ bs)
 grown c d b at p bs step (has_tokens ts h) = has_tokens ts (tokens_grow Nothing nothing_grows ts c d b at p bs step h)
 grown c d b at p bs step (has_bad_char q ts h) = has_bad_char q ts (tokens_grow (BadCharAt q) (char_grows q) ts c d b at p bs step h)
 grown c d b at p bs step (has_bad_literal q ts h) = has_bad_literal q ts (tokens_grow (BadLiteralAt q) (literal_grows q) ts c d b at p bs step h)
 
-with_token : (k : Kind) (l rest : List ℕ) (at : ℕ) (p : Place) → IsLexeme k l → IsLongest l rest → Outcome false (at + length l) (behind l p) rest → Outcome false at p (l ++ rest)
+with_token : (k : Kind) (l rest : List ℕ) (at : ℕ) (p : Place) → IsLexeme k l → IsLongest l rest
+    → Outcome false (at + length l) (behind l p) rest → Outcome false at p (l ++ rest)
 with_token k l rest at p h longest (has_tokens ts o) = has_tokens (_ ∷ ts) (token_front Nothing k l rest ts at p h longest o)
 with_token k l rest at p h longest (has_bad_char q ts o) = has_bad_char q (_ ∷ ts) (token_front (BadCharAt q) k l rest ts at p h longest o)
 with_token k l rest at p h longest (has_bad_literal q ts o) = has_bad_literal q (_ ∷ ts) (token_front (BadLiteralAt q) k l rest ts at p h longest o)
@@ -271,17 +224,38 @@ unfolding TokensThen
 decide_here n again b bs at p le = go (front_of b bs)
   where
     token : (k : Kind) (m : ℕ) → At k m (b ∷ bs) → Outcome false at p (b ∷ bs)
-    token k m a = subst (Outcome false at p) (sym a.parts) (with_token k a.lexeme a.rest at p a.spelled a.longest (again false _ _ a.rest (rest_shorter k b bs a.lexeme a.rest n a.spelled a.parts le)))
+    token k m a = subst (Outcome false at p) (sym a.parts) (with_token k a.lexeme a.rest at p a.spelled a.longest
+        (again false _ _ a.rest (rest_shorter k b bs a.lexeme a.rest n a.spelled a.parts le)))
 
     char : BeginsNone b → Outcome false at p (b ∷ bs)
-    char x = has_bad_char p [] (record { gap = []; byte = b; rest = bs; parts = refl; closed = refl; place = refl; blank = x.blank; hash = x.hash; none = x.none })
+    char x = has_bad_char p [] (record {
+      gap = [];
+      byte = b;
+      rest = bs;
+      parts = refl;
+      closed = refl;
+      place = refl;
+      blank =
+          x.blank;
+      hash = x.hash;
+      none = x.none;
+    })
 
     go : Front b bs → Outcome false at p (b ∷ bs)
     go (blank e) = grown false false b at p bs (λ k. gap_blank b k e) (again false (at + 1) (after b p) bs le)
     go (comment e f) = grown false true b at p bs (λ k. gap_hash b k e f) (again true (at + 1) (after b p) bs le)
     go (lexeme k m e a) = token k m a
     go (bad_char e x) = char x
-    go (bad_literal e x) = has_bad_literal p [] (record { gap = []; rest = b ∷ bs; parts = refl; closed = refl; place = refl; begins = x; none = bad_literal_none (b ∷ bs) e })
+    go (bad_literal e x) = has_bad_literal p [] (record {
+      gap = [];
+      rest = b ∷ bs;
+      parts = refl;
+      closed = refl;
+      place =
+          refl;
+      begins = x;
+      none = bad_literal_none (b ∷ bs) e;
+    })
 
 comment_here : (n : ℕ) → Again n → (b : ℕ) (bs : List ℕ) (at : ℕ) (p : Place) → length bs ≤ n → Outcome true at p (b ∷ bs)
 comment_here n again b bs at p le = go (eqb b 10) refl

@@ -1,13 +1,12 @@
 -- Words, runs and signs at the front of a text.
-use Rattle.std.proofs.Common.{◌≡◌, ◌≢◌, ◌⊎◌, ℕ, zero, suc, ◌+◌, ◌-◌, ◌≤◌, ◌<◌, Bool, true, false, cond, not, ◌||◌, ◌&&◌, eqb, List, [], ◌∷◌, ◌++◌, length, take, drop, Option, Some, None, refl, sym, ap, subst, ◌∙◌, inl, inr, append_assoc, arith, find, is_some, get_or}
+use Rattle.std.proofs.Common.{◌≡◌, ℕ, ◌+◌, ◌<◌, Bool, true, false, cond, not, ◌||◌, ◌&&◌, eqb, List, [], ◌∷◌, ◌++◌, length, drop, Option}
+use Rattle.std.proofs.Common.{Some, None, refl, sym, ap, subst, ◌∙◌, arith, find, is_some, get_or}
 use Rattle.std.specs.List.{prefix_len}
 use Rattle.std.specs.Str.{bytes_eq}
 use Rattle.std.proofs.lemmas.Bool.{eqb-true}
 use Rattle.std.proofs.lemmas.Slice.Eq.{bytes_eq-Decides}
 use Rattle.std.proofs.lemmas.Bool.Decides.{nat_tests}
-use Rattle.std.proofs.lemmas.List.{length-append, append-nil, at_drop_more}
-use Rattle.sz_lex.specs.declared.token.Kind.{Kind}
-use Rattle.sz_lex.specs.declared.token.Kind.TheVariants as kinds
+use Rattle.std.proofs.lemmas.List.{at_drop_more}
 use Rattle.sz_lex.specs.declared.word.Word.{Word}
 use Rattle.sz_lex.specs.declared.word.Word.TheVariants as words
 use Rattle.sz_lex.specs.declared.sign.Sign.{Sign}
@@ -15,8 +14,8 @@ use Rattle.sz_lex.specs.declared.sign.Sign.TheVariants as signs
 use Rattle.sz_lex.specs.Classes.{is_blank, is_letter, is_digit, is_word}
 use Rattle.sz_lex.specs.Words.{word_text}
 use Rattle.sz_lex.specs.Signs.{sign_text}
-use Rattle.sz_lex.specs.Tokens.{all_word, IsName, IsRun, IsLexeme}
-use Rattle.sz_lex.specs.Reading.{all_words, word_of, kind_of, word_kind, pair_sign, single_sign, sign_or, sign_at, first}
+use Rattle.sz_lex.specs.Tokens.{all_word, IsName}
+use Rattle.sz_lex.specs.Lookup.{all_words, word_of, pair_sign, single_sign}
 use Rattle.sz_lex.proofs.LiteralLemmas.{none_some}
 
 -- ---- classes of bytes
@@ -95,7 +94,15 @@ run_at [] = record { run = []; rest = []; parts = refl; len = refl; words = refl
 run_at (b ∷ bs) = go (is_word b) refl (run_at bs)
   where
     go : (x : Bool) → is_word b ≡ x → RunAt bs (prefix_len is_word bs) → RunAt (b ∷ bs) (prefix_len is_word (b ∷ bs))
-    go true e r = record { run = b ∷ r.run; rest = r.rest; parts = ap (λ (t : List ℕ). b ∷ t) r.parts; len = rw e (omega (arith, r.len)); words = rw e r.words; stops = r.stops }
+    go true e r = record {
+      run = b ∷ r.run;
+      rest = r.rest;
+      parts = ap (λ (t : List ℕ). b ∷ t) r.parts;
+      len =
+          rw e (omega (arith, r.len));
+      words = rw e r.words;
+      stops = r.stops;
+    }
     go false e r = record { run = []; rest = b ∷ bs; parts = refl; len = rw e refl; words = refl; stops = e }
 
 pub all_word_push : (l : List ℕ) (c : ℕ) → all_word l ≡ true → is_word c ≡ true → all_word (l ++ c ∷ []) ≡ true
@@ -107,8 +114,10 @@ pub all_word_end : (l extra others rest : List ℕ) → Stops rest → rest ≡ 
 unfolding Stops
 all_word_end l [] others rest s e h = refl
 all_word_end [] (c ∷ extra) others [] s e h = nil_cons e
-all_word_end [] (c ∷ extra) others (d ∷ rest) s e h = let p = and_parts (is_word c) (all_word extra) h in apart (sym p.0 ∙ ap is_word (sym (heads e)) ∙ s)
-all_word_end (b ∷ l) (c ∷ extra) others rest s e h = let p = and_parts (is_word b) (all_word (l ++ c ∷ extra)) h in all_word_end l (c ∷ extra) others rest s e p.1
+all_word_end [] (c ∷ extra) others (d ∷ rest) s e h = let p = and_parts (is_word c) (all_word extra) h in apart (sym p.0
+    ∙ ap is_word (sym (heads e)) ∙ s)
+all_word_end (b ∷ l) (c ∷ extra) others rest s e h = let p =
+    and_parts (is_word b) (all_word (l ++ c ∷ extra)) h in all_word_end l (c ∷ extra) others rest s e p.1
 
 -- ---- reserved words
 
@@ -129,11 +138,13 @@ pub word_is_name : (w : Word) → IsName (word_text w)
 word_is_name w = name_is (word_text w) (elim w as (λ (w : Word). is_name (word_text w) ≡ true) [ words.All ↦ refl | _ ↦ refl ])
 
 -- what is found is spelled so
-found_spells : (ws : List Word) (text : List ℕ) (w : Word) → find (λ (w : Word). bytes_eq (word_text w) text) ws ≡ Some w → bytes_eq (word_text w) text ≡ true
+found_spells : (ws : List Word) (text : List ℕ) (w : Word) → find (λ (w : Word). bytes_eq (word_text w) text) ws ≡ Some w
+    → bytes_eq (word_text w) text ≡ true
 found_spells [] text w h = none_some h
 found_spells (v ∷ ws) text w h = go (bytes_eq (word_text v) text) refl (found_spells ws text w)
   where
-    go : (x : Bool) → bytes_eq (word_text v) text ≡ x → (find (λ (w : Word). bytes_eq (word_text w) text) ws ≡ Some w → bytes_eq (word_text w) text ≡ true) → bytes_eq (word_text w) text ≡ true
+    go : (x : Bool) → bytes_eq (word_text v) text ≡ x → (find (λ (w : Word). bytes_eq (word_text w) text) ws ≡ Some w
+        → bytes_eq (word_text w) text ≡ true) → bytes_eq (word_text w) text ≡ true
     go true e again = let is : Some v ≡ Some w = rw e at h in let same : v ≡ w = cc in rw (← same) e
     go false e again = again (rw e at h)
 
@@ -141,10 +152,13 @@ pub word_spells : (text : List ℕ) (w : Word) → word_of text ≡ Some w → w
 word_spells text w e = (bytes_eq-Decides (word_text w) text).0 (found_spells all_words text w e)
 
 -- the word at i, or a later one
-pub found_word : (ws : List Word) (i : ℕ) (d : Word) (text : List ℕ) → i < length ws → bytes_eq (word_text (get_or ws i d)) text ≡ true → find (λ (w : Word). bytes_eq (word_text w) text) (drop i ws) ≡ Some (get_or ws i d)
+pub found_word : (ws : List Word) (i : ℕ) (d : Word) (text : List ℕ) → i < length ws
+    → bytes_eq (word_text (get_or ws i d)) text ≡ true → find (λ (w : Word). bytes_eq (word_text w) text) (drop i ws) ≡ Some (get_or ws i d)
 found_word ws i d text lt e = at_drop_more (find (λ (w : Word). bytes_eq (word_text w) text)) ws i d lt ∙ rw e refl
 
-pub passed_word : (ws : List Word) (i : ℕ) (d : Word) (text : List ℕ) → i < length ws → bytes_eq (word_text (get_or ws i d)) text ≡ false → find (λ (w : Word). bytes_eq (word_text w) text) (drop i ws) ≡ find (λ (w : Word). bytes_eq (word_text w) text) (drop (i + 1) ws)
+pub passed_word : (ws : List Word) (i : ℕ) (d : Word) (text : List ℕ) → i < length ws
+    → bytes_eq (word_text (get_or ws i d)) text ≡ false → find (λ (w : Word). bytes_eq (word_text w) text) (drop i ws) ≡ find (λ
+    (w : Word). bytes_eq (word_text w) text) (drop (i + 1) ws)
 passed_word ws i d text lt e = at_drop_more (find (λ (w : Word). bytes_eq (word_text w) text)) ws i d lt ∙ rw e refl
 
 -- ---- signs
@@ -279,4 +293,12 @@ begins_sign s b bs e =
     let t = and_parts (not (is_word b)) _ r.1 in
     let u = and_parts (not (eqb b 34)) (not (eqb b 39)) t.1 in
     let w = or_false (is_letter b) (is_digit b) (not_true _ t.0) in
-    record { blank = not_true _ q.0; hash = not_true _ r.0; letter = w.0; digit = w.1; quotes = (not_true _ u.0, not_true _ u.1); single = some_sign (single_sign b) p.1 }
+    record {
+      blank = not_true _ q.0;
+      hash = not_true _ r.0;
+      letter = w.0;
+      digit = w.1;
+      quotes =
+          (not_true _ u.0, not_true _ u.1);
+      single = some_sign (single_sign b) p.1;
+    }

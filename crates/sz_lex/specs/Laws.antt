@@ -46,7 +46,8 @@ place_of errors.NoMemory = first_place
 
 -- a refused place is that of a byte of the text
 abbrev pub RefusedPlaceIsInText : Type 0
-RefusedPlaceIsInText = (text : List ℕ) (e : LexError) → IsRefused text e → (at : ℕ) × (at < length text) × (place_of e ≡ behind (take at text) first_place)
+RefusedPlaceIsInText = (text : List ℕ) (e : LexError) → IsRefused text e → (at : ℕ) × (at < length text)
+    × (place_of e ≡ behind (take at text) first_place)
 
 -- a literal between double quotes stands for one value
 abbrev pub HasOneValue : Type 0

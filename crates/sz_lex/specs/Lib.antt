@@ -8,4 +8,5 @@ pub mod Tokens
 pub mod Lexed
 pub mod Laws
 -- what the functions inside the crate promise each other
+pub mod Lookup
 pub mod Reading

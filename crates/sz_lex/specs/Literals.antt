@@ -1,5 +1,6 @@
 -- Strings, bytes and characters between quotes, and what they stand for.
-use Rattle.std.specs.Prelude.{◌≡◌, ℕ, List, [], ◌∷◌, ◌++◌, Option, Some, None, Bool, false, nat_lt, nat_le, ◌==◌, ◌&&◌, ◌||◌, not, if◌then◌else◌, encode_utf8}
+use Rattle.std.specs.Prelude.{◌≡◌, ℕ, List, [], ◌∷◌, ◌++◌, Option, Some, None, Bool, false, nat_lt, nat_le, ◌==◌, ◌&&◌, ◌||◌, not}
+use Rattle.std.specs.Prelude.{if◌then◌else◌, encode_utf8}
 use Rattle.std.specs.Char.{IsScalar}
 use Rattle.std.specs.Option.{option_map, option_and_then}
 use Rattle.sz_lex.specs.declared.escape.Escape.{Escape}
@@ -78,4 +79,5 @@ pub record IsQuoted (q : Quoted) (literal value : List ℕ) : Type 0 where
 -- the literal is ', one character other than ', \ and a newline, or one escape, and '
 pub data IsCharacter (literal : List ℕ) (c : ℕ) : Type 0 where
   plain : IsScalar c → (c == 39 || c == 92 || c == 10) ≡ false → literal ≡ 39 ∷ (encode_utf8 c ++ (39 ∷ [])) → IsCharacter literal c
-  escaped : (text : List ℕ) → option_and_then escape_code (escape_of text) ≡ Some c → literal ≡ 39 ∷ (92 ∷ (text ++ (39 ∷ []))) → IsCharacter literal c
+  escaped : (text : List ℕ) → option_and_then escape_code (escape_of text) ≡ Some c → literal ≡ 39 ∷ (92 ∷ (text ++ (39 ∷ [])))
+      → IsCharacter literal c

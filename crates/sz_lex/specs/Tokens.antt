@@ -1,5 +1,6 @@
 -- Which tokens a text has, or why it has none.
-use Rattle.std.specs.Prelude.{◌≡◌, ◌≢◌, ℕ, ◌+◌, List, [], ◌∷◌, ◌++◌, length, take, Option, Some, None, Bool, true, false, ◌==◌, ◌||◌, ◌&&◌, if◌then◌else◌, IsUtf8}
+use Rattle.std.specs.Prelude.{◌≡◌, ◌≢◌, ℕ, ◌+◌, List, [], ◌∷◌, ◌++◌, length, take, Option, Some, None, Bool, true, false, ◌==◌, ◌||◌, ◌&&◌}
+use Rattle.std.specs.Prelude.{if◌then◌else◌, IsUtf8}
 use Rattle.std.specs.Str.{IsValidUpTo}
 use Rattle.sz_types.specs.declared.place.Place.{Place}
 use Rattle.sz_lex.specs.declared.token.Token.{Token}
@@ -9,7 +10,6 @@ use Rattle.sz_lex.specs.declared.error.LexError.{LexError}
 use Rattle.sz_lex.specs.declared.error.LexError.TheVariants as errors
 use Rattle.sz_lex.specs.declared.escape.Quoted.TheVariants as quoteds
 use Rattle.sz_lex.specs.declared.word.Word.{Word}
-use Rattle.sz_lex.specs.declared.sign.Sign.{Sign}
 use Rattle.sz_lex.specs.Classes.{is_blank, is_letter, is_digit, is_word}
 use Rattle.sz_lex.specs.Words.{word_text}
 use Rattle.sz_lex.specs.Signs.{sign_text}

@@ -1,7 +1,7 @@
 //! The signs.
 ghost use Rattle.std.specs.Prelude.{◌≡◌};
 ghost use Rattle.sz_lex.specs.Signs.{sign_text};
-ghost use Rattle.sz_lex.specs.Reading.{pair_sign, single_sign, sign_at};
+ghost use Rattle.sz_lex.specs.Lookup.{pair_sign, single_sign, sign_at};
 
 /// An operator or a mark of punctuation.
 #[derive(Clone, Copy, Debug, PartialEq, Eq)]

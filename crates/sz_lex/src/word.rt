@@ -2,7 +2,7 @@
 ghost use Rattle.std.specs.Prelude.{◌≡◌, ◌≢◌, IfSome, IfNone};
 ghost use Rattle.sz_lex.specs.declared.word.Word.{Word as Reserved};
 ghost use Rattle.sz_lex.specs.Words.{word_text};
-ghost use Rattle.sz_lex.specs.Reading.{word_of};
+ghost use Rattle.sz_lex.specs.Lookup.{word_of};
 
 /// A reserved word. It is no name.
 #[derive(Clone, Copy, Debug, PartialEq, Eq)]

@@ -1,4 +1,4 @@
-use Rattle.std.proofs.Common.{◌≡◌, sym, ◌∙◌}
+use Rattle.std.proofs.Common.{◌∙◌}
 use Rattle.memchr.specs.Find.{is_byte}
 use Rattle.sz_lex.proofs.SearchLemmas.{first_passes}
 use Rattle.sz_lex.proofs.item.line_len.Goals as goal

@@ -1,5 +1,4 @@
-use Rattle.std.proofs.Common.{◌≡◌, ◌+◌, ◌-◌, ◌≤◌, length, drop}
-use Rattle.sz_lex.specs.Reading.{body_at}
+use Rattle.std.proofs.Common.{◌-◌, ◌≤◌, length}
 use Rattle.sz_lex.proofs.BodyLemmas.{IsDecoded}
 use Rattle.sz_lex.proofs.literal.decode_body.Given as goal
 

@@ -1,4 +1,4 @@
-use Rattle.std.proofs.Common.{◌≡◌, ◌+◌, ℕ, List, Option, Some, None, take, sym, ap, ◌∙◌}
+use Rattle.std.proofs.Common.{◌+◌, ℕ, sym, ap, ◌∙◌}
 use Rattle.std.specs.Option.{option_map}
 use Rattle.sz_lex.proofs.SearchLemmas.{none_closed, first_closes}
 use Rattle.sz_lex.proofs.literal.unescaped_at.Goals as goal
