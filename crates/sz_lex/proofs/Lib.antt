@@ -15,3 +15,4 @@ pub mod AnswerLemmas
 pub mod DecodeLemmas
 pub mod LawLemmas
 pub mod ApartLemmas
+pub mod Utf8Lemmas

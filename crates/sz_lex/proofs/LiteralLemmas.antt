@@ -147,14 +147,14 @@ value_step : (q : Quoted) (p : Part) (ps : List Part) (v vs : List ℕ) → part
 value_step q p ps v vs e f = rw e (rw f refl)
 
 -- the values of a part and of those behind it
-record Values (q : Quoted) (p : Part) (ps : List Part) (value : List ℕ) : Type 0 where
-  v : List ℕ
-  vs : List ℕ
-  one : part_value q p ≡ Some v
-  more : parts_value q ps ≡ Some vs
-  joined : value ≡ v ++ vs
+pub record Values (q : Quoted) (p : Part) (ps : List Part) (value : List ℕ) : Type 0 where
+  pub v : List ℕ
+  pub vs : List ℕ
+  pub one : part_value q p ≡ Some v
+  pub more : parts_value q ps ≡ Some vs
+  pub joined : value ≡ v ++ vs
 
-values_of : (q : Quoted) (p : Part) (ps : List Part) (value : List ℕ) → parts_value q (p ∷ ps) ≡ Some value → Values q p ps value
+pub values_of : (q : Quoted) (p : Part) (ps : List Part) (value : List ℕ) → parts_value q (p ∷ ps) ≡ Some value → Values q p ps value
 values_of q p ps value h = go (part_value q p) (parts_value q ps) refl refl
   where
     go : (o m : Option (List ℕ)) → part_value q p ≡ o → parts_value q ps ≡ m → Values q p ps value
@@ -170,17 +170,27 @@ values_of q p ps value h = go (part_value q p) (parts_value q ps) refl refl
     }
 
 -- the value of an escape, and the escape
-record Escaped (q : Quoted) (text v : List ℕ) : Type 0 where
-  e : Escape
-  is : escape_of text ≡ Some e
-  bytes : escape_bytes q e ≡ Some v
+pub record Escaped (q : Quoted) (text v : List ℕ) : Type 0 where
+  pub e : Escape
+  pub is : escape_of text ≡ Some e
+  pub bytes : escape_bytes q e ≡ Some v
 
-escaped_of : (q : Quoted) (text v : List ℕ) → option_and_then (escape_bytes q) (escape_of text) ≡ Some v → Escaped q text v
+pub escaped_of : (q : Quoted) (text v : List ℕ) → option_and_then (escape_bytes q) (escape_of text) ≡ Some v → Escaped q text v
 escaped_of q text v h = go (escape_of text) refl
   where
     go : (o : Option Escape) → escape_of text ≡ o → Escaped q text v
     go None e = let no : None ≡ Some v = rw e at h in none_some no
     go (Some x) e = let is : escape_bytes q x ≡ Some v = rw e at h in record { e = x; is = e; bytes = is }
+
+plain_is : (b : ℕ) (v : List ℕ) → cond (is_plain b) (Some (b ∷ [])) None ≡ Some v → is_plain b ≡ true
+plain_is b v h = go (is_plain b) refl
+  where
+    go : (x : Bool) → is_plain b ≡ x → is_plain b ≡ true
+    go true e = e
+    go false e = let no : None ≡ Some v = rw e at h in none_some no
+
+pub plain_value : (b : ℕ) (v : List ℕ) → cond (is_plain b) (Some (b ∷ [])) None ≡ Some v → b ∷ [] ≡ v
+plain_value b v h = let is : Some (b ∷ []) ≡ Some v = rw (plain_is b v h) at h in cc
 
 -- what is written as parts is read
 pub body_read : (q : Quoted) (ps : List Part) (rest value : List ℕ) → parts_value q ps ≡ Some value
@@ -196,16 +206,6 @@ body_read q (plain b ∷ ps) rest value h =
       value =
           v;
     })) (ap (λ (v : List ℕ). v ++ vs.vs) (plain_value b vs.v vs.one) ∙ sym vs.joined)
-  where
-    plain_is : (b : ℕ) (v : List ℕ) → cond (is_plain b) (Some (b ∷ [])) None ≡ Some v → is_plain b ≡ true
-    plain_is b v h = go (is_plain b) refl
-      where
-        go : (x : Bool) → is_plain b ≡ x → is_plain b ≡ true
-        go true e = e
-        go false e = let no : None ≡ Some v = rw e at h in none_some no
-
-    plain_value : (b : ℕ) (v : List ℕ) → cond (is_plain b) (Some (b ∷ [])) None ≡ Some v → b ∷ [] ≡ v
-    plain_value b v h = let is : Some (b ∷ []) ≡ Some v = rw (plain_is b v h) at h in cc
 body_read q (escape text ∷ ps) rest value h =
     let vs = values_of q (escape text) ps value h in
     let es = escaped_of q text vs.v vs.one in

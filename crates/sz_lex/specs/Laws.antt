@@ -1,11 +1,12 @@
 -- Laws of tokens, in the words of a reader of programs. Each is proved, by an empty function of the crate.
-use Rattle.std.specs.Prelude.{◌≡◌, ℕ, ◌+◌, ◌-◌, ◌<◌, ◌≤◌, ◌==◌, ◌||◌, List, [], ◌∷◌, ◌++◌, length, take, drop, Some, true, false, map, IsUtf8}
+use Rattle.std.specs.Prelude.{◌≡◌, ℕ, ◌+◌, ◌-◌, ◌<◌, ◌≤◌, ◌==◌, ◌||◌, List, [], ◌∷◌, ◌++◌, length, take, drop, Some, true, false, map, All, IsUtf8}
 use Rattle.sz_types.specs.declared.place.Place.{Place}
 use Rattle.sz_lex.specs.declared.token.Token.{Token}
 use Rattle.sz_lex.specs.declared.token.Kind.{Kind}
 use Rattle.sz_lex.specs.declared.error.LexError.{LexError}
 use Rattle.sz_lex.specs.declared.error.LexError.TheVariants as errors
 use Rattle.sz_lex.specs.declared.escape.Quoted.{Quoted}
+use Rattle.sz_lex.specs.declared.escape.Quoted.TheVariants as quoteds
 use Rattle.sz_lex.specs.Classes.{is_blank}
 use Rattle.sz_lex.specs.Literals.{IsQuoted}
 use Rattle.sz_lex.specs.Tokens.{IsLexeme, gap_from, behind, first_place, HasTokens, IsRefused}
@@ -82,3 +83,11 @@ WrittenApartIsRead = (ss : List Spelled) (text : List ℕ) → IsUtf8 text → I
 abbrev pub BlanksMeanNothing : Type 0
 BlanksMeanNothing = (ss : List Spelled) (a b : List ℕ) (ts us : List Token) → IsWrittenApart ss a → IsWrittenApart ss b
     → HasTokens a ts → HasTokens b us → map (spelled_in a) ts ≡ map (spelled_in b) us
+
+-- a string that is written in UTF-8 stands for UTF-8
+abbrev pub StringsAreUtf8 : Type 0
+StringsAreUtf8 = (literal value : List ℕ) → IsUtf8 literal → IsQuoted quoteds.Str literal value → IsUtf8 value
+
+-- the bytes of each token of a text are UTF-8
+abbrev pub LexemesAreUtf8 : Type 0
+LexemesAreUtf8 = (text : List ℕ) (ts : List Token) → HasTokens text ts → All (λ t. IsUtf8 (lexeme_of text t)) ts

@@ -1,5 +1,5 @@
 //! What holds of all texts. The calls do nothing: each promises a law of `specs/Laws.antt`.
-ghost use Rattle.sz_lex.specs.Laws.{SpansLieInOrder, HasOneList, HasNoRefusal, HasOneRefusal, RefusedPlaceIsInText, HasOneValue, WrittenApartIsRead, BlanksMeanNothing};
+ghost use Rattle.sz_lex.specs.Laws.{SpansLieInOrder, HasOneList, HasNoRefusal, HasOneRefusal, RefusedPlaceIsInText, HasOneValue, WrittenApartIsRead, BlanksMeanNothing, StringsAreUtf8, LexemesAreUtf8};
 
 /// The spans of a text's tokens lie one after another in it, with nothing but blanks and comments around them.
 pub fn spans_lie_in_order()
@@ -32,3 +32,10 @@ pub fn blanks_mean_nothing()
     ensures read { WrittenApartIsRead }
     ensures same { BlanksMeanNothing }
 {}
+
+/// The bytes of a text's tokens are UTF-8, and so is what its strings stand for.
+pub fn tokens_are_utf8()
+    ensures lexemes { LexemesAreUtf8 }
+    ensures strings { StringsAreUtf8 }
+{
+}
