@@ -1,14 +1,15 @@
 -- Tokens and strings of a text that is UTF-8 are UTF-8.
-use Rattle.std.proofs.Common.{◌≡◌, ◌⊎◌, ℕ, zero, suc, ◌+◌, ◌-◌, ◌*◌, ◌≤◌, ◌<◌, ◌^◌, Bool, true, false, cond, not, nat_lt, nat_le, ◌&&◌, ◌||◌, eqb, inl, inr}
+use Rattle.std.proofs.Common.{◌≡◌, ℕ, zero, suc, ◌+◌, ◌-◌, ◌*◌, ◌≤◌, ◌<◌, Bool, true, false, cond, nat_lt, nat_le, ◌&&◌, eqb}
 use Rattle.std.proofs.Common.{List, [], ◌∷◌, ◌++◌, length, take, drop, get_or, Option, Some, None, refl, sym, ap, subst, ◌∙◌, append_assoc, arith}
 use Rattle.std.specs.Prelude.{IsUtf8, All}
 use Rattle.std.specs.Char.{IsScalar, encode_utf8, digit_value}
 use Rattle.std.specs.Option.{option_map, option_and_then}
 use Rattle.std.proofs.lemmas.Bool.{eqb-true, ltb-true, ltb-false, lt-ltb, le-leb, leb-false}
 use Rattle.std.proofs.lemmas.Bool.Decides.{nat_tests}
-use Rattle.std.proofs.lemmas.List.{append-nil, length-append, take_at, drop_at, take-append-drop, get_or_at, get_or-append-add}
+use Rattle.std.proofs.lemmas.List.{append-nil, length-append, take_at, drop_at, take-append-drop, get_or_at}
 use Rattle.std.proofs.lemmas.List.Elements.{All-nil, All-cons}
-use Rattle.std.proofs.lemmas.Str.{IsUtf8-append, IsUtf8-nil, IsUtf8-encode, IsUtf8-take, IsUtf8-drop, IsUtf8-between, IsUtf8-past_char, IsUtf8-from_ascii, IsCharBoundary-before_ascii, IsCharBoundary-after_ascii, encode_ascii}
+use Rattle.std.proofs.lemmas.Str.{IsUtf8-append, IsUtf8-encode, IsUtf8-take, IsUtf8-drop, IsUtf8-between, IsUtf8-past_char}
+use Rattle.std.proofs.lemmas.Str.{IsUtf8-from_ascii, IsCharBoundary-before_ascii, IsCharBoundary-after_ascii, encode_ascii}
 use Rattle.sz_lex.specs.declared.token.Token.{Token}
 use Rattle.sz_lex.specs.declared.token.Kind.{Kind}
 use Rattle.sz_lex.specs.declared.token.Kind.TheVariants as kinds
@@ -21,14 +22,15 @@ use Rattle.sz_lex.specs.declared.escape.Quoted.TheVariants as quoteds
 use Rattle.sz_lex.specs.Numbers.{digits_from}
 use Rattle.sz_lex.specs.Classes.{is_word}
 use Rattle.sz_lex.specs.Signs.{sign_text}
-use Rattle.sz_lex.specs.Literals.{Part, escape, letter_escape, character_escape, escape_of, escape_bytes, parts_value, part_value, parts_text, IsQuoted, opening, IsCharacter, plain, escaped}
-use Rattle.sz_lex.specs.Tokens.{all_word, IsName, IsRun, IsLexeme, behind, first_place, TokensThen, Nothing, HasTokens}
+use Rattle.sz_lex.specs.Literals.{Part, escape, letter_escape, character_escape, escape_of, escape_bytes, parts_value, parts_text, IsQuoted}
+use Rattle.sz_lex.specs.Literals.{opening, plain, escaped}
+use Rattle.sz_lex.specs.Tokens.{all_word, IsName, IsLexeme}
 use Rattle.sz_lex.specs.Lexed.{lexeme_of}
 use Rattle.sz_lex.specs.Laws.{LieInOrder, LexemesAreUtf8, StringsAreUtf8}
-use Rattle.sz_lex.proofs.WordLemmas.{apart, and_parts, letter_word, digit_word, word_is_name, nil_cons}
+use Rattle.sz_lex.proofs.WordLemmas.{apart, and_parts, letter_word, digit_word, word_is_name}
 use Rattle.sz_lex.proofs.ItemLemmas.{no_empty}
 use Rattle.sz_lex.proofs.LawLemmas.{spans_in_order}
-use Rattle.sz_lex.proofs.LiteralLemmas.{none_some, values_of, Values, escaped_of, Escaped, plain_value}
+use Rattle.sz_lex.proofs.LiteralLemmas.{none_some, values_of, escaped_of, plain_value}
 use Rattle.sz_lex.proofs.NumberLemmas.{four_digits}
 
 -- ---- the ends of a token are ASCII
@@ -88,8 +90,17 @@ signs_low : (s : Sign) → all_low (sign_text s) ≡ true
 signs_low s = elim s as (λ (s : Sign). all_low (sign_text s) ≡ true) [ signs.Arrow ↦ refl | _ ↦ refl ]
 
 quote_ends : (b c : ℕ) (l inner : List ℕ) → b ∷ l ≡ c ∷ (inner ++ (c ∷ [])) → c < 128 → Ends (b ∷ l)
-quote_ends b c l inner e low = record { first = c; more = inner ++ (c ∷ []); begins = e; first_low = low; front = c ∷ inner; last =
-    c; ends = e; last_low = low }
+quote_ends b c l inner e low = record {
+  first = c;
+  more = inner ++ (c ∷ []);
+  begins = e;
+  first_low = low;
+  front = c ∷ inner;
+  last =
+      c;
+  ends = e;
+  last_low = low;
+}
 
 quoted_ends : (q : Quoted) (l v : List ℕ) → IsQuoted q l v → (first : ℕ) (more : List ℕ) → opening q ≡ first ∷ more → first < 128 → Ends l
 quoted_ends q l v h first more e low = record {
@@ -121,12 +132,12 @@ cut front l rest text h e utf8 =
     let size : length l ≡ length h.front + 1 = omega (arith, ap length h.ends, length-append h.front (h.last ∷ [])) in
     let whole : length text ≡ i + (length l + length rest) = omega (arith, ap length e, length-append front (l ++ rest), length-append l rest) in
     let first : get_or text i 0 ≡ h.first = ap (λ (t : List ℕ). get_or t i 0) (e
-        ∙ ap (λ (t : List ℕ). front ++ (t ++ rest)) h.begins) ∙ get_or_at front h.first (h.more ++ rest) 0 i refl in
+    ∙ ap (λ (t : List ℕ). front ++ (t ++ rest)) h.begins) ∙ get_or_at front h.first (h.more ++ rest) 0 i refl in
     let parts : text ≡ (front ++ h.front) ++ (h.last ∷ rest) =
-        e ∙ ap (λ (t : List ℕ). front ++ (t ++ rest)) h.ends
-            ∙ ap (λ (t : List ℕ). front ++ t) (append_assoc h.front (h.last ∷ []) rest) ∙ sym (append_assoc front h.front (h.last ∷ rest)) in
+    e ∙ ap (λ (t : List ℕ). front ++ (t ++ rest)) h.ends
+    ∙ ap (λ (t : List ℕ). front ++ t) (append_assoc h.front (h.last ∷ []) rest) ∙ sym (append_assoc front h.front (h.last ∷ rest)) in
     let last : get_or text (i + length h.front) 0 ≡ h.last = ap (λ (t : List ℕ). get_or t (i + length h.front) 0) parts
-        ∙ get_or_at (front ++ h.front) h.last rest 0 (i + length h.front) (length-append front h.front) in
+    ∙ get_or_at (front ++ h.front) h.last rest 0 (i + length h.front) (length-append front h.front) in
     let low : get_or text i 0 < 128 = omega (arith, first, h.first_low) in
     let high : get_or text (i + length h.front) 0 < 128 = omega (arith, last, h.last_low) in
     let before = IsCharBoundary-before_ascii text i (omega (arith, whole, size)) low in
@@ -134,7 +145,7 @@ cut front l rest text h e utf8 =
     let inside = IsUtf8-between text i (i + length h.front + 1) utf8 (omega arith) before after in
     let n : i + length h.front + 1 - i ≡ length l = omega (arith, size) in
     subst IsUtf8 (ap (λ (m : ℕ). take m (drop i text)) n ∙ ap (λ (t : List ℕ). take (length l) (drop i t)) e
-        ∙ ap (take (length l)) (drop_at front (l ++ rest) i refl) ∙ take_at l rest (length l) refl) inside
+    ∙ ap (take (length l)) (drop_at front (l ++ rest) i refl) ∙ take_at l rest (length l) refl) inside
 
 ends : (k : Kind) (l : List ℕ) → IsLexeme k l → Ends l
 ends k [] h = absurd (no_empty k h)
@@ -145,7 +156,7 @@ lexemes [] at text utf8 h = All-nil (λ (t : Token). IsUtf8 (lexeme_of text t))
 lexemes (t ∷ ts) at text utf8 h =
     let behind_start = drop t.start text in
     let parts : text ≡ take t.start text ++ (lexeme_of text t ++ drop t.len behind_start) =
-        sym (take-append-drop t.start text) ∙ ap (λ (x : List ℕ). take t.start text ++ x) (sym (take-append-drop t.len behind_start)) in
+    sym (take-append-drop t.start text) ∙ ap (λ (x : List ℕ). take t.start text ++ x) (sym (take-append-drop t.len behind_start)) in
     All-cons (λ (t : Token). IsUtf8 (lexeme_of text t)) t ts
     (cut (take t.start text) (lexeme_of text t) (drop t.len behind_start) text (ends t.kind (lexeme_of text t) h.4) parts utf8)
     (lexemes ts (t.start + t.len) text utf8 h.5)
@@ -197,8 +208,14 @@ digit_low b h = go (nat_lt b 128) refl
     go true e = e
     go false e =
         let high : 128 ≤ b = ltb-false b 128 e in
-        let none : digit_value b ≡ 36 = rw (no_lt b 48 (omega (arith, high)), no_lt b 58 (omega (arith, high)), no_lt b 65 (omega (arith, high)),
-            no_lt b 91 (omega (arith, high)), no_lt b 97 (omega (arith, high)), no_lt b 123 (omega (arith, high))) refl in
+        let none : digit_value b ≡ 36 = rw (
+          no_lt b 48 (omega (arith, high)),
+          no_lt b 58 (omega (arith, high)),
+          no_lt b 65 (omega (arith, high)),
+          no_lt b 91 (omega (arith, high)),
+          no_lt b 97 (omega (arith, high)),
+          no_lt b 123 (omega (arith, high)),
+        ) refl in
         apart (sym h ∙ ap (λ (n : ℕ). nat_lt n 16) none)
 
 digits_low : (n : ℕ) (ds : List ℕ) (m : ℕ) → digits_from 16 n ds ≡ Some m → all_low ds ≡ true
@@ -232,8 +249,10 @@ letter k e h = go (eqb k 110) (eqb k 116) (eqb k 114) (eqb k 92) (eqb k 34) (eqb
     go false false true t u v p q r f g i = of 13 (omega (arith, eqb-true k 114 r)) (omega arith) (rw (p, q, r) at h)
     go false false false true u v p q r f g i = of k (omega (arith, eqb-true k 92 f)) (omega (arith, eqb-true k 92 f)) (rw (p, q, r, f) at h)
     go false false false false true v p q r f g i = of k (omega (arith, eqb-true k 34 g)) (omega (arith, eqb-true k 34 g)) (rw (p, q, r, f, g) at h)
-    go false false false false false true p q r f g i = of k (omega (arith, eqb-true k 39 i)) (omega (arith,
-        eqb-true k 39 i)) (rw (p, q, r, f, g, i) at h)
+    go false false false false false true p q r f g i = of k (omega (arith, eqb-true k 39 i)) (omega (
+      arith,
+      eqb-true k 39 i,
+    )) (rw (p, q, r, f, g, i) at h)
     go false false false false false false p q r f g i = let nothing : None ≡ Some e = rw (p, q, r, f, g, i) at h in none_some nothing
 
 letter_ascii : (k : ℕ) (e : Escape) → Letter k e → IsAsciiEscape (k ∷ []) e
@@ -314,7 +333,7 @@ parts_utf8 (plain b ∷ ps) run value utf8 h =
     let vs = values_of quoteds.Str (plain b) ps value h in
     let more = parts_utf8 ps (run ++ (b ∷ [])) vs.vs (subst IsUtf8 (sym (append_assoc run (b ∷ []) (parts_text ps ++ (34 ∷ [])))) utf8) vs.more in
     subst IsUtf8 (append_assoc run (b ∷ []) vs.vs ∙ ap (λ (w : List ℕ). run ++ w) (ap (λ (v : List ℕ). v ++ vs.vs)
-        (plain_value b vs.v vs.one) ∙ sym vs.joined)) more
+    (plain_value b vs.v vs.one) ∙ sym vs.joined)) more
 parts_utf8 (escape text ∷ ps) run value utf8 h =
     let vs = values_of quoteds.Str (escape text) ps value h in
     let es = escaped_of quoteds.Str text vs.v vs.one in

@@ -37,5 +37,4 @@ pub fn blanks_mean_nothing()
 pub fn tokens_are_utf8()
     ensures lexemes { LexemesAreUtf8 }
     ensures strings { StringsAreUtf8 }
-{
-}
+{}

@@ -19,17 +19,27 @@ fn may_stand(quoted: Quoted, escape: Escape) -> bool
     }
 }
 
+// The escape at the front, behind its backslash, if it may stand in such a literal.
+fn escape_in(quoted: Quoted, text: &[u8]) -> Option<Escape>
+    ensures value { option_map escape_value result ≡ option_and_then (escape_bytes quoted) (escape_at text.now) }
+    ensures within { IfSome result (λ _. escape_size (first text.now) ≤ length text.now) }
+    ensures some { IfSome result (λ _. 0 < length text.now) }
+{
+    let escape = escape_at(text)?;
+    if may_stand(quoted, escape) {
+        Some(escape)
+    } else {
+        None
+    }
+}
+
 // The length of the escape at the front, behind its backslash, if it may stand in such a literal.
 fn escape_len(quoted: Quoted, text: &[u8]) -> Option<usize>
     ensures value { result ≡ option_map (λ _. escape_size (first text.now)) (option_and_then (escape_bytes quoted) (escape_at text.now)) }
     ensures within { IfSome result (λ n. n ≤ length text.now) }
 {
-    let escape = escape_at(text)?;
-    if may_stand(quoted, escape) {
-        Some(escape_size(text[0]))
-    } else {
-        None
-    }
+    escape_in(quoted, text)?;
+    Some(escape_size(text[0]))
 }
 
 // How many bytes the body of a literal at the front takes, with the closing quote.
@@ -129,20 +139,6 @@ pub fn character_at(text: &[u8]) -> Option<(char, usize)>
         [] => None,
         [b'\\', ..] => escaped_at(&text[1..]),
         _ => unescaped_at(text),
-    }
-}
-
-// What an escape adds to the value of such a literal, if it may stand there.
-fn escape_in(quoted: Quoted, text: &[u8]) -> Option<Escape>
-    ensures value { option_map escape_value result ≡ option_and_then (escape_bytes quoted) (escape_at text.now) }
-    ensures within { IfSome result (λ _. escape_size (first text.now) ≤ length text.now) }
-    ensures some { IfSome result (λ _. 0 < length text.now) }
-{
-    let escape = escape_at(text)?;
-    if may_stand(quoted, escape) {
-        Some(escape)
-    } else {
-        None
     }
 }
 
