@@ -1,0 +1,9 @@
+use Rattle.std.proofs.Common.{◌≡◌, drop, find}
+use Rattle.std.specs.Str.{bytes_eq}
+use Rattle.sz_lex.specs.Words.{word_text}
+use Rattle.sz_lex.proofs.word.word_of.Given as goal
+
+-- no word so far is spelled so
+abbrev pub invariant-loop-word : goal.invariant-loop-word
+invariant-loop-word l = find (λ w. bytes_eq (word_text w) l.text) (drop l.word-index l.word-items) ≡ find (λ w. bytes_eq
+    (word_text w) l.text) l.word-items

@@ -1,0 +1,43 @@
+-- The signs.
+use Rattle.std.specs.Prelude.{ℕ, List, codes}
+use Rattle.sz_lex.specs.declared.sign.Sign.{Sign}
+use Rattle.sz_lex.specs.declared.sign.Sign.TheVariants as signs
+
+-- how a sign is spelled
+abbrev pub sign_text : Sign → List ℕ
+sign_text signs.Arrow = codes "<-"
+sign_text signs.LessEqual = codes "<="
+sign_text signs.ShiftLeft = codes "<<"
+sign_text signs.Less = codes "<"
+sign_text signs.GreaterEqual = codes ">="
+sign_text signs.ShiftRight = codes ">>"
+sign_text signs.Greater = codes ">"
+sign_text signs.EqualEqual = codes "=="
+sign_text signs.Assign = codes "="
+sign_text signs.NotEqual = codes "!="
+sign_text signs.Not = codes "!"
+sign_text signs.AndAnd = codes "&&"
+sign_text signs.And = codes "&"
+sign_text signs.OrOr = codes "||"
+sign_text signs.Or = codes "|"
+sign_text signs.Increment = codes "++"
+sign_text signs.Plus = codes "+"
+sign_text signs.Decrement = codes "--"
+sign_text signs.Minus = codes "-"
+sign_text signs.Define = codes ":="
+sign_text signs.Colon = codes ":"
+sign_text signs.Star = codes "*"
+sign_text signs.Slash = codes "/"
+sign_text signs.Percent = codes "%"
+sign_text signs.Caret = codes "^"
+sign_text signs.Tilde = codes "~"
+sign_text signs.OpenParen = codes "("
+sign_text signs.CloseParen = codes ")"
+sign_text signs.OpenBracket = codes "["
+sign_text signs.CloseBracket = codes "]"
+sign_text signs.OpenBrace = codes "{"
+sign_text signs.CloseBrace = codes "}"
+sign_text signs.Comma = codes ","
+sign_text signs.Semicolon = codes ";"
+sign_text signs.Dot = codes "."
+sign_text signs.At = codes "@"

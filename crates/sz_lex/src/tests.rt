@@ -1,0 +1,245 @@
+//! What no contract says: that calls succeed where there is memory, and that the definition is the one that was meant.
+use super::*;
+use std::alloc::Global;
+use std::fmt::Write;
+use std::process::Abort;
+use std::test::Fail;
+use sz_types::Place;
+
+// The kinds of a text's tokens, each behind a space, or why the text has none.
+fn outcome(alloc: Global, text: &[u8]) -> Result<String, Fail> {
+    if text.len() > 1_048_576 {
+        return Ok(format!(in alloc; "too long")?);
+    }
+    match lex(alloc, text) {
+        Ok(tokens) => {
+            let mut kinds = String::new(alloc);
+            for token in tokens.as_slice() {
+                write!(kinds, " {:?}", token.kind)?;
+            }
+            Ok(kinds)
+        }
+        Err(LexError::BadChar(place)) => refusal(alloc, "bad character", place),
+        Err(LexError::BadLiteral(place)) => refusal(alloc, "bad literal", place),
+        Err(LexError::NotUtf8(place)) => refusal(alloc, "not UTF-8", place),
+        Err(LexError::NoMemory) => Ok(format!(in alloc; "no memory")?),
+    }
+}
+
+fn refusal(alloc: Global, reason: &str, place: Place) -> Result<String, Fail> {
+    Ok(format!(in alloc; " {reason} {}:{}", place.line, place.column)?)
+}
+
+// In each line of the table a text stands before `=>`, and its outcome behind it.
+fn holds(rt: &impl Abort, alloc: Global, table: &str) -> Result<(), Fail> {
+    for line in table.lines() {
+        let (text, expected) = line.split_once(" =>").ok_or("no arrow")?;
+        let found = outcome(alloc, text.as_bytes())?;
+        assert_eq!(rt; found.as_str(), expected, "at {text}");
+    }
+    Ok(())
+}
+
+#[test]
+fn words_and_names(rt: HostRuntime) -> Result<(), Fail> {
+    let table = "\
+all array bool break bytes continue => Word(All) Word(Array) Word(Bool) Word(Break) Word(Bytes) Word(Continue)
+def do each else emit false for function => Word(Def) Word(Do) Word(Each) Word(Else) Word(Emit) Word(False) Word(For) Word(Function)
+if int map of proto return some static => Word(If) Word(Int) Word(Map) Word(Of) Word(Proto) Word(Return) Word(Some) Word(Static)
+string table time true type weight when while => Word(String) Word(Table) Word(Time) Word(True) Word(Type) Word(Weight) Word(When) Word(While)
+_ a Z9 B b_1 iff If in whilea int_ __all__ => Name Name Name Name Name Name Name Name Name Name Name";
+    holds(&rt, rt.alloc(), table)
+}
+
+#[test]
+fn numbers(rt: HostRuntime) -> Result<(), Fail> {
+    let table = "\
+0 9 10 => Number(0) Number(9) Number(10)
+9223372036854775807 => Number(9223372036854775807)
+0x0 0x1fA => Number(0) Number(506)
+0x00000000000000000000000a => Number(10)
+0x7fffffffffffffff => Number(9223372036854775807)
+0x8000000000000000 => Number(-9223372036854775808)
+0xffffffffffffffff 0xFFFFFFFFFFFFFFFE => Number(-1) Number(-2)
+x: int = 07; => bad literal 1:10
+00 => bad literal 1:1
+9223372036854775808 => bad literal 1:1
+18446744073709551616 => bad literal 1:1
+-9223372036854775808 => bad literal 1:2
+0x => bad literal 1:1
+0X1 => bad literal 1:1
+0x1g => bad literal 1:1
+0x10000000000000000 => bad literal 1:1
+1a => bad literal 1:1
+1_000 => bad literal 1:1";
+    holds(&rt, rt.alloc(), table)
+}
+
+#[test]
+fn characters(rt: HostRuntime) -> Result<(), Fail> {
+    let alloc = rt.alloc();
+    let table = r#"'a' '"' ' ' => Character('a') Character('"') Character(' ')
+'é' '€' '😀' => Character('é') Character('€') Character('😀')
+'\n' '\t' '\r' => Character('\n') Character('\t') Character('\r')
+'\\' '\"' '\'' => Character('\\') Character('"') Character('\'')
+'\x41' '\x7E' '\u20aC' => Character('A') Character('~') Character('€')
+'a'b' => bad literal 1:5
+'' => bad literal 1:1
+' => bad literal 1:1
+'a => bad literal 1:1
+'ab' => bad literal 1:1
+'éé' => bad literal 1:1
+'\' => bad literal 1:1
+'\a' => bad literal 1:1
+'\x80' => bad literal 1:1
+'\x7' => bad literal 1:1
+'\u00e' => bad literal 1:1
+'\ud800' => bad literal 1:1
+'\udfff' => bad literal 1:1
+'\U0041' => bad literal 1:1"#;
+    holds(&rt, alloc, table)?;
+    assert_eq!(rt; outcome(alloc, b"'\n'")?.as_str(), " bad literal 1:1");
+    Ok(())
+}
+
+#[test]
+fn strings_and_bytes(rt: HostRuntime) -> Result<(), Fail> {
+    let alloc = rt.alloc();
+    let table = r#""" B"" "it's # no comment" => Str Bytes Str
+"\n\t\r\\\"\'" B"\x00\xff\u00ff" AB"a" => Str Bytes Name Str
+"\x80" => bad literal 1:1
+"\x4" => bad literal 1:1
+"\ud800" => bad literal 1:1
+"\a" => bad literal 1:1
+"\" => bad literal 1:1
+"a => bad literal 1:1
+B" => bad literal 1:1
+x B"\x4g" => bad literal 1:3
+B"\udfff" => bad literal 1:1"#;
+    holds(&rt, alloc, table)?;
+    assert_eq!(rt; outcome(alloc, b"\"a\n\"")?.as_str(), " bad literal 1:1");
+    Ok(())
+}
+
+// What a literal stands for, or `none`.
+fn decoded(alloc: Global, quoted: Quoted, literal: &str) -> Result<Vec<u8>, Fail> {
+    match decode(alloc, quoted, literal.as_bytes())? {
+        Some(value) => Ok(value),
+        None => Ok(Vec::from_slice(alloc, b"none")?),
+    }
+}
+
+#[test]
+fn literals_are_decoded(rt: HostRuntime) -> Result<(), Fail> {
+    let alloc = rt.alloc();
+    let text = decoded(alloc, Quoted::Str, r#""a\n\t\r\\\"\'\x41\u00e9é\u20ac""#)?;
+    assert_eq!(rt;
+        text.as_slice(),
+        b"a\n\t\r\\\"'A\xc3\xa9\xc3\xa9\xe2\x82\xac".as_slice()
+    );
+    let bytes = decoded(alloc, Quoted::Bytes, r#"B"\x00\xff\x80\u00ffé""#)?;
+    assert_eq!(rt;
+        bytes.as_slice(),
+        b"\x00\xff\x80\xc3\xbf\xc3\xa9".as_slice()
+    );
+    assert_eq!(rt; decoded(alloc, Quoted::Str, "\"\"")?.len(), 0);
+    assert_eq!(rt;
+        decoded(alloc, Quoted::Str, "\"a\" ")?.as_slice(),
+        b"none".as_slice()
+    );
+    assert_eq!(rt;
+        decoded(alloc, Quoted::Bytes, "\"a\"")?.as_slice(),
+        b"none".as_slice()
+    );
+    Ok(())
+}
+
+#[test]
+fn the_longest_sign_is_taken(rt: HostRuntime) -> Result<(), Fail> {
+    let table = "\
+<<- <-< <=<- => Sign(ShiftLeft) Sign(Minus) Sign(Arrow) Sign(Less) Sign(LessEqual) Sign(Arrow)
+>=> >>>= => Sign(GreaterEqual) Sign(Greater) Sign(ShiftRight) Sign(GreaterEqual)
+=== !=! => Sign(EqualEqual) Sign(Assign) Sign(NotEqual) Sign(Not)
+&&& ||| => Sign(AndAnd) Sign(And) Sign(OrOr) Sign(Or)
++++ --- :=: => Sign(Increment) Sign(Plus) Sign(Decrement) Sign(Minus) Sign(Define) Sign(Colon)
+*/%^~ => Sign(Star) Sign(Slash) Sign(Percent) Sign(Caret) Sign(Tilde)
+()[]{} => Sign(OpenParen) Sign(CloseParen) Sign(OpenBracket) Sign(CloseBracket) Sign(OpenBrace) Sign(CloseBrace)
+,;.@ => Sign(Comma) Sign(Semicolon) Sign(Dot) Sign(At)
+a ? b => bad character 1:3
+a $ => bad character 1:3
+a é => bad character 1:3";
+    holds(&rt, rt.alloc(), table)
+}
+
+#[test]
+fn places_count_lines_and_bytes(rt: HostRuntime) -> Result<(), Fail> {
+    let alloc = rt.alloc();
+    let text = "\tx: int; # é\n\r\n  \"é€\" AB\"b\" # end\n'😀'\tB\"é\"+1";
+    let mut found = String::new(alloc);
+    let tokens = lex(alloc, text.as_bytes())?;
+    for token in tokens.as_slice() {
+        write!(
+            found,
+            "{}:{}+{} ",
+            token.place.line,
+            token.place.column,
+            tokens.lexeme(token).len()
+        )?;
+    }
+    assert_eq!(rt;
+        found.as_str(),
+        "1:2+1 1:3+1 1:5+3 1:8+1 3:3+7 3:11+2 3:13+3 4:1+6 4:8+5 4:13+1 4:14+1 "
+    );
+    assert_eq!(rt;
+        outcome(alloc, "\n 'é' \"é".as_bytes())?.as_str(),
+        " bad literal 2:7"
+    );
+    assert_eq!(rt; outcome(alloc, b"\x61\xc3\x28")?.as_str(), " not UTF-8 1:2");
+    assert_eq!(rt; outcome(alloc, b"07 ?\n \xff")?.as_str(), " not UTF-8 2:2");
+    Ok(())
+}
+
+// What one byte alone is.
+fn class_of(byte: u8) -> &'static str {
+    match byte {
+        b' ' | b'\t' | b'\n' | b'\r' | b'#' => "",
+        b'A'..=b'Z' | b'a'..=b'z' | b'_' => " Name",
+        b'0'..=b'9' => " Number",
+        b'"' | b'\'' => " bad literal 1:1",
+        b'<' | b'>' | b'=' | b'!' | b'&' | b'|' | b'+' | b'-' | b':' | b'*' | b'/' | b'%' =>
+            " Sign",
+        b'^' | b'~' | b'(' | b')' | b'[' | b']' | b'{' | b'}' | b',' | b';' | b'.' | b'@' =>
+            " Sign",
+        128.. => " not UTF-8 1:1",
+        _ => " bad character 1:1",
+    }
+}
+
+#[test]
+fn every_byte_alone(rt: HostRuntime) -> Result<(), Fail> {
+    let alloc = rt.alloc();
+    for byte in 0..=255u8 {
+        let found = outcome(alloc, &[byte])?;
+        assert!(rt; found.as_str().starts_with(class_of(byte)), "at {byte}");
+        assert!(rt; class_of(byte) != "" || found.is_empty(), "at {byte}");
+    }
+    Ok(())
+}
+
+#[test]
+fn the_shortest_and_the_longest_text(rt: HostRuntime) -> Result<(), Fail> {
+    let alloc = rt.alloc();
+    assert_eq!(rt; outcome(alloc, b"")?.as_str(), "");
+    assert_eq!(rt; outcome(alloc, b" # no newline")?.as_str(), "");
+    let mut text = Vec::new(alloc);
+    for _ in 0..65_536 {
+        text.extend_from_slice(b"total <- 0x1f; \n")?;
+    }
+    assert_eq!(rt; text.len(), 1_048_576);
+    let tokens = lex(alloc, &text)?;
+    assert_eq!(rt; tokens.text().len(), 1_048_576);
+    assert_eq!(rt; tokens.as_slice().len(), 262_144);
+    let last = tokens.as_slice().last().ok_or("no token")?;
+    assert_eq!(rt; (last.place.line, last.place.column), (65_536, 14));
+    Ok(())
+}

@@ -1,0 +1,60 @@
+//! A text and its tokens.
+ghost use Rattle.std.specs.Prelude.{◌≡◌, IfOk, IfErr};
+ghost use Rattle.sz_lex.specs.Lexed.{lexeme_of};
+
+use crate::error::LexError;
+use crate::token::Token;
+use std::alloc::Global;
+use std::marker::Model;
+
+/// The tokens of a text, in order, and a copy of the text.
+#[derive(Debug, Drop)]
+pub struct Tokens {
+    text: Vec<u8>,
+    tokens: Vec<Token>,
+}
+
+impl Model for Tokens {
+    ghost use Rattle.sz_lex.specs.Lexed.{Lexed};
+
+    ghost Value = { Lexed };
+
+    ghost view = { λ t. record { text = t.text.items; tokens = t.tokens.items } };
+}
+
+impl Tokens {
+    // A copy of the text, and its tokens.
+    pub(crate) fn new(alloc: Global, text: &[u8], tokens: Vec<Token>) -> Result<Tokens, LexError>
+        ensures ok { IfOk result (λ t. t ≡ record { text = text.now; tokens = tokens.items }) }
+        ensures err { IfErr result (λ e. e ≡ LexError.NoMemory) }
+    {
+        match Vec::from_slice(alloc, text) {
+            Ok(text) => Ok(Tokens { text, tokens }),
+            Err(_) => Err(LexError::NoMemory),
+        }
+    }
+
+    /// The text.
+    pub fn text(&self) -> &[u8]
+        ensures value { result.now ≡ self.now.text }
+    {
+        self.text.as_slice()
+    }
+
+    /// The tokens, in the order of the text.
+    pub fn as_slice(&self) -> &[Token]
+        ensures value { result.now ≡ self.now.tokens }
+    {
+        self.tokens.as_slice()
+    }
+
+    /// The bytes of the text in a token's span, as far as the text reaches.
+    pub fn lexeme(&self, token: &Token) -> &[u8]
+        ensures value { result.now ≡ lexeme_of self.now.text token.now }
+    {
+        let text = self.text.as_slice();
+        let start = token.start.min(text.len());
+        let rest = &text[start..];
+        &rest[..token.len.min(rest.len())]
+    }
+}
