@@ -1,11 +1,20 @@
-//! Plain data that the crates above share: places in a program's text, and texts.
+//! Plain data that the crates above share: places in a program's text, texts, types and the declarations of tables.
 #![tactic(auto)]
 
+mod comparing;
+mod copying;
+mod encoding;
 mod place;
 mod text;
+mod ty;
 
+pub use copying::{copy_fields, copy_ty};
+pub use encoding::Encoding;
 pub use place::Place;
+/// There was no memory: the one answer of each call that takes memory which no clause speaks of.
+pub use std::alloc::AllocError as NoMemory;
 pub use text::Text;
+pub use ty::{Field, Fields, Ty};
 
 #[cfg(test)]
 mod tests;
