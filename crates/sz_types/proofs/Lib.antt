@@ -1,2 +1,4 @@
 pub mod SeenLemmas
 pub mod SameLemmas
+pub mod AlikeLemmas
+pub mod ConversionLemmas

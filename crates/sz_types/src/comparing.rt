@@ -6,9 +6,17 @@ ghost use Rattle.sz_types.specs.Seen.{seen, seen_field, seen_fields};
 
 use crate::ty::{Field, Fields, Ty};
 
+/// Whether two types are the same: of one kind, with the same parts. Fields agree in order, and each in its name, its
+/// type, its number and its encoding. A tuple and a proto type are never the same.
+pub fn same(a: &Ty, b: &Ty) -> bool
+    ensures value { IsTrue result ↔ (seen a.now ≡ seen b.now) }
+{
+    types_agree(a, b)
+}
+
 // Whether two types are of one kind and agree in all parts.
 #[cycle(agree)]
-fn types_agree(a: &Ty, b: &Ty) -> bool
+pub(crate) fn types_agree(a: &Ty, b: &Ty) -> bool
     ensures value { result ≡ alike (seen a.now) (seen b.now) }
 {
     match (a, b) {

@@ -3,7 +3,7 @@ ghost use Rattle.std.specs.Prelude.{◌≡◌};
 ghost use Rattle.sz_types.specs.Conversions.{converts_to, has_row};
 ghost use Rattle.sz_types.specs.Seen.{seen};
 
-use crate::comparing::same;
+use crate::comparing::types_agree;
 use crate::ty::Ty;
 
 /// Whether a value of the type `from` may be converted to the type `to`: a type converts to itself, strings, bytes and
@@ -12,7 +12,7 @@ use crate::ty::Ty;
 pub fn converts(from: &Ty, to: &Ty) -> bool
     ensures value { result ≡ converts_to (seen from.now) (seen to.now) }
 {
-    has_conversion(from, to) || same(from, to)
+    has_conversion(from, to) || types_agree(from, to)
 }
 
 // Whether there is a conversion between two types that differ.
