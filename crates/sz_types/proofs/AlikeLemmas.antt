@@ -5,16 +5,7 @@ use Rattle.std.specs.Cmp.Lexicographic.{pointwise, bytes_decides}
 use Rattle.std.proofs.lemmas.Bool.{eqb-true, eq-eqb}
 use Rattle.sz_types.specs.Data.{Shape, truth, int, time, str, bytes, array, mapping, tuple, proto, FieldShape, field, FieldShapes, no_fields, with_field}
 use Rattle.sz_types.specs.Same.{alike, alike_field, alike_fields, encoding_number}
-use Rattle.sz_types.specs.declared.encoding.Encoding.{Encoding}
-use Rattle.sz_types.specs.declared.encoding.Encoding.TheVariants.{Plain, Zigzag, Fixed32, Fixed64}
-
--- encodings with one place are the same
-pub encoding_apart : (c d : Encoding) → encoding_number c ≡ encoding_number d → c ≡ d
-encoding_apart Plain Plain p = refl
-encoding_apart Zigzag Zigzag p = refl
-encoding_apart Fixed32 Fixed32 p = refl
-encoding_apart Fixed64 Fixed64 p = refl
-encoding_apart c d p = absurd (omega (arith, p))
+use Rattle.sz_types.specs.Code.{encoding_apart}
 
 mutual
   -- types that are alike are equal

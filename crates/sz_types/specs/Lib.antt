@@ -3,3 +3,7 @@ pub mod Data
 pub mod Seen
 pub mod Same
 pub mod Conversions
+pub mod Tables
+pub mod SeenTables
+-- what the functions inside the crate promise each other
+pub mod Code
