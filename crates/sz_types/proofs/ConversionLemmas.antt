@@ -71,11 +71,11 @@ by_equality from to same = subst (λ t. converts_to from t ≡ true) same (ap (�
 -- a type converts to another exactly where they are equal, or there is a row for them
 pub table_is_exact : (from to : Shape) → (converts_to from to ≡ true) ↔ ((from ≡ to) ⊎ (Contains rows (from, to) ⊎ ((from ≡ bytes) × IsProto to)))
 table_is_exact from to = (
-    λ h. ⊎_elim (λ row. inr (row_listed from to row)) (λ same. inl (alike_equal from to same)) (either (has_row from to) (alike from to) h),
-    λ h. ⊎_elim (by_equality from to) (λ row. by_row from to (⊎_elim
-        (λ listed. All-contains (λ row. has_row row.0 row.1 ≡ true) rows (from, to) listed_rows listed)
-        (λ message. subst (λ f. has_row f to ≡ true) (sym message.0) (proto_row to message.1)) row)) h
-  )
+  λ h. ⊎_elim (λ row. inr (row_listed from to row)) (λ same. inl (alike_equal from to same)) (either (has_row from to) (alike from to) h),
+  λ h. ⊎_elim (by_equality from to) (λ row. by_row from to (⊎_elim
+      (λ listed. All-contains (λ row. has_row row.0 row.1 ≡ true) rows (from, to) listed_rows listed)
+      (λ message. subst (λ f. has_row f to ≡ true) (sym message.0) (proto_row to message.1)) row)) h,
+)
 
 -- each type converts to itself
 pub converts_itself : (s : Shape) → converts_to s s ≡ true

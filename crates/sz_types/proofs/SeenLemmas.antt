@@ -1,5 +1,6 @@
 -- What is seen of each kind of type, and of fields.
-use Rattle.std.proofs.Common.{◌≡◌, List, map, sym, ap, ◌∙◌, Box, Global}
+use Rattle.std.proofs.Common.{◌≡◌, ◌<◌, ℕ, zero, suc, ◌+◌, List, [], ◌∷◌, length, get_or, map, Some, arith, sym, ap, ◌∙◌, Box, Global}
+use Rattle.std.specs.Prelude.{slice_get}
 use Rattle.sz_types.specs.Data.{Shape, truth, int, time, str, bytes, array, mapping, tuple, proto, FieldShape, fields_of}
 use Rattle.sz_types.specs.Seen.{seen, seen_field, seen_fields, ty_step, field_step, fields_step}
 use Rattle.sz_types.specs.declared.ty.Ty.{Ty, fold-roll-Ty, roll-Ty, map-Ty}
@@ -49,3 +50,9 @@ seen_tuple fields = ap seen (sym (rolls-Tuple fields)) ∙ levels (Ty-F.Tuple fi
 
 pub seen_proto : (fields : Fields) → seen (Proto fields) ≡ proto (fields_of (seen_fields fields))
 seen_proto fields = ap seen (sym (rolls-Proto fields)) ∙ levels (Ty-F.Proto fields)
+
+-- the field at a place is seen at that place
+pub field_at : (fs : List Field) (i : ℕ) (f : Field) → f ≡ get_or fs i f → i < length (map seen_field fs) → slice_get (map seen_field fs) i ≡ Some (seen_field f)
+field_at [] i f is within = absurd (omega (arith, within))
+field_at (g ∷ fs) zero f is within = ap (λ h. Some (seen_field h)) (sym is)
+field_at (g ∷ fs) (suc i) f is within = field_at fs i f is (omega (arith, within))

@@ -52,7 +52,6 @@ impl Fields {
     }
 
     /// The field at a place.
-    #[tactic(auto, using(crate::proofs::SeenLemmas::fields_seen))]
     pub fn get(&self, index: usize) -> &Field
         requires within { index < length (seen_fields self.now) }
         ensures value { slice_get (seen_fields self.now) index ≡ Some (seen_field result.now) }
