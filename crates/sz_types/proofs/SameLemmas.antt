@@ -1,7 +1,7 @@
 -- When types and lists of fields are alike.
-use Rattle.std.proofs.Common.{◌≡◌, Box, Global, ◌≢◌, ℕ, ◌+◌, Bool, true, false, List, [], ◌∷◌, length, map, drop, refl, sym, ap, ◌∙◌, arith, ◌&&◌}
+use Rattle.std.proofs.Common.{◌≡◌, Box, Global, ◌≢◌, ℕ, Bool, true, false, List, [], ◌∷◌, length, drop, refl, ap, ◌∙◌, arith, ◌&&◌}
 use Rattle.std.proofs.lemmas.List.{length-drop}
-use Rattle.sz_types.specs.Data.{Shape, array, mapping, tuple, proto, FieldShape, FieldShapes, fields_of}
+use Rattle.sz_types.specs.Data.{Shape, array, mapping, tuple, proto, FieldShapes}
 use Rattle.sz_types.specs.Same.{alike, alike_field, alike_lists}
 use Rattle.sz_types.specs.Seen.{seen, seen_field}
 use Rattle.sz_types.specs.declared.ty.Ty.{Ty}

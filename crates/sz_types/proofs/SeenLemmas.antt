@@ -1,5 +1,5 @@
 -- What is seen of each kind of type, and of fields.
-use Rattle.std.proofs.Common.{◌≡◌, ◌<◌, ℕ, zero, suc, ◌+◌, List, [], ◌∷◌, length, get_or, map, Some, arith, sym, ap, ◌∙◌, Box, Global}
+use Rattle.std.proofs.Common.{◌≡◌, ◌<◌, ℕ, zero, suc, List, [], ◌∷◌, length, get_or, map, Some, arith, sym, ap, ◌∙◌, Box, Global}
 use Rattle.std.specs.Prelude.{slice_get}
 use Rattle.sz_types.specs.Data.{Shape, truth, int, time, str, bytes, array, mapping, tuple, proto, FieldShape, fields_of}
 use Rattle.sz_types.specs.Seen.{seen, seen_field, seen_fields, ty_step, field_step, fields_step}

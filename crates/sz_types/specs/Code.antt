@@ -1,5 +1,5 @@
 -- How the logic stores the plain data of types and of declarations: what the models of their lists have to give.
-use Rattle.std.specs.Prelude.{◌≡◌, ◌≢◌, ℕ, zero, suc, ◌+◌, List, Option}
+use Rattle.std.specs.Prelude.{◌≡◌, ℕ, zero, suc, List, Option}
 use Rattle.std.proofs.Common.{refl, ap, arith}
 use Rattle.std.specs.Coded.{Coded, code_by, coded_ℕ, coded_list, coded_option, coded×}
 use base.Stored.{Gv, gnil, gnum, gcons, num}

@@ -1,5 +1,5 @@
 -- What contracts see of a type, of a field and of a list of fields.
-use Rattle.std.specs.Prelude.{List, map}
+use Rattle.std.specs.Prelude.{List}
 use Rattle.sz_types.specs.Data.{Shape, truth, int, time, str, bytes, array, mapping, tuple, proto, FieldShape, field, fields_of}
 use Rattle.sz_types.specs.declared.ty.Ty.{Ty, fold-Ty}
 use Rattle.sz_types.specs.declared.ty.Ty.TheOpen.{Ty-F, Field-F, Fields-F}

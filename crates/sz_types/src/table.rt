@@ -4,18 +4,18 @@ use crate::text::Text;
 use crate::ty::Ty;
 use crate::tys::Tys;
 
-/// What a table keeps of the values that are emitted to it.
+/// What a table keeps of the values that are emitted under the same indexes.
 #[derive(Clone, Copy, Debug, PartialEq, Eq)]
 pub enum TableKind {
-    /// Their sum.
+    /// Their exact sum, by component.
     Sum,
     /// Those of the greatest weights.
     Maximum,
     /// Those of the least weights.
     Minimum,
-    /// The first distinct ones in their order.
+    /// The distinct ones.
     Set,
-    /// All of them.
+    /// All of them, with repeats.
     Collection,
 }
 
@@ -26,7 +26,7 @@ pub enum TableKind {
 pub struct TableDecl {
     pub name: Text,
     pub kind: TableKind,
-    /// The number in parentheses behind the kind.
+    /// How many values a maximum or a minimum keeps, and a set can hold: the number in parentheses behind the kind.
     pub limit: u32,
     /// The types of the indexes, in order.
     pub indexes: Tys,

@@ -270,12 +270,12 @@ fn handle_chain(alloc: Global, height: u32) -> Result<bool, NoMemory> {
 }
 
 #[test]
-fn a_type_of_thirty_thousand_levels_fits_a_stack_of_64_mebibytes(
+fn a_type_of_thirty_thousand_levels_fits_a_stack_of_256_mebibytes(
     rt: HostRuntime,
 ) -> Result<(), Fail> {
     let alloc = rt.alloc();
     let thread = Builder::new()
-        .stack_size(64 << 20)
+        .stack_size(256 << 20)
         .spawn(&rt, move || handle_chain(alloc, 30_000))?;
     assert_eq!(rt; thread.join(&rt), Ok(true));
     Ok(())

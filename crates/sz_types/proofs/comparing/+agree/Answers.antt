@@ -1,5 +1,5 @@
 -- Types of two kinds are not alike.
-use Rattle.std.proofs.Common.{rules, ◌≡◌, sym, ◌∙◌}
+use Rattle.std.proofs.Common.{sym}
 use Rattle.sz_types.proofs.SeenLemmas.{seen_array, seen_map, seen_tuple, seen_proto}
 use Rattle.sz_types.proofs.SameLemmas.{only_array, only_map, only_tuple, only_proto}
 use Rattle.sz_types.proofs.comparing.+agree.Goals as goal
