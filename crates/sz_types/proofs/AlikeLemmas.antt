@@ -40,7 +40,9 @@ mutual
   fields_equal no_fields (with_field g gs) h = absurd (true≢false (sym h))
   fields_equal (with_field f fs) no_fields h = absurd (true≢false (sym h))
   fields_equal (with_field f fs) (with_field g gs) h =
-      λ i. with_field (field_equal f g (first_so (alike_field f g) (alike_fields fs gs) h) i) (fields_equal fs gs (second_so (alike_field f g) (alike_fields fs gs) h) i)
+      let first = first_so (alike_field f g) (alike_fields fs gs) h in
+      let rest = second_so (alike_field f g) (alike_fields fs gs) h in
+      λ i. with_field (field_equal f g first i) (fields_equal fs gs rest i)
 
 mutual
   -- a type is alike to itself

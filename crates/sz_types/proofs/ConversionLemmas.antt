@@ -10,7 +10,7 @@ use Rattle.sz_types.specs.declared.ty.Ty.{Ty}
 use Rattle.sz_types.specs.declared.ty.Ty.TheVariants.{Bool as BoolTy, Int, Time, Str, Bytes, Array', Map', Tuple, Proto}
 use Rattle.sz_types.specs.declared.ty.Fields.{Fields}
 use Rattle.sz_types.specs.Conversions.{has_row, converts_to, rows, IsProto}
-use Rattle.sz_types.proofs.SeenLemmas.{seen_bool, seen_time, seen_bytes, seen_array, seen_map, seen_tuple}
+use Rattle.sz_types.proofs.SeenLemmas.{box_of, seen_bool, seen_time, seen_bytes, seen_array, seen_map, seen_tuple}
 use Rattle.sz_types.proofs.AlikeLemmas.{alike_equal, alike_itself}
 
 -- bytes convert to no other type than whole numbers, strings and proto types
@@ -20,9 +20,9 @@ bytes_rows Int whole text message = absurd (whole refl)
 bytes_rows Time whole text message = ap (has_row bytes) seen_time
 bytes_rows Str whole text message = absurd (text refl)
 bytes_rows Bytes whole text message = ap (has_row bytes) seen_bytes
-bytes_rows (Array' p e) whole text message = ap (has_row bytes) (seen_array (record { ptr = p.ptr; alloc = p.alloc; value = e }))
+bytes_rows (Array' p e) whole text message = ap (has_row bytes) (seen_array (box_of p e))
 bytes_rows (Map' p l q w) whole text message =
-    ap (has_row bytes) (seen_map (record { ptr = p.ptr; alloc = p.alloc; value = l }) (record { ptr = q.ptr; alloc = q.alloc; value = w }))
+    ap (has_row bytes) (seen_map (box_of p l) (box_of q w))
 bytes_rows (Tuple x) whole text message = ap (has_row bytes) (seen_tuple x)
 bytes_rows (Proto x) whole text message = absurd (message x refl)
 
@@ -69,7 +69,8 @@ by_equality from to same = subst (λ t. converts_to from t ≡ true) same (ap (�
     always false = refl
 
 -- a type converts to another exactly where they are equal, or there is a row for them
-pub table_is_exact : (from to : Shape) → (converts_to from to ≡ true) ↔ ((from ≡ to) ⊎ (Contains rows (from, to) ⊎ ((from ≡ bytes) × IsProto to)))
+pub table_is_exact : (from to : Shape)
+    → (converts_to from to ≡ true) ↔ ((from ≡ to) ⊎ (Contains rows (from, to) ⊎ ((from ≡ bytes) × IsProto to)))
 table_is_exact from to = (
   λ h. ⊎_elim (λ row. inr (row_listed from to row)) (λ same. inl (alike_equal from to same)) (either (has_row from to) (alike from to) h),
   λ h. ⊎_elim (by_equality from to) (λ row. by_row from to (⊎_elim

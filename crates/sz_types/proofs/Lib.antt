@@ -1,3 +1,4 @@
+pub mod ForCallers
 pub mod SeenLemmas
 pub mod SameLemmas
 pub mod AlikeLemmas

@@ -2,13 +2,14 @@
 use Rattle.std.proofs.Common.{◌≡◌, Box, Global, ◌≢◌, ℕ, Bool, true, false, List, [], ◌∷◌, length, drop, refl, ap, ◌∙◌, arith, ◌&&◌}
 use Rattle.std.proofs.lemmas.List.{length-drop}
 use Rattle.sz_types.specs.Data.{Shape, array, mapping, tuple, proto, FieldShapes}
-use Rattle.sz_types.specs.Same.{alike, alike_field, alike_lists}
+use Rattle.sz_types.specs.FieldLists.{alike_lists}
+use Rattle.sz_types.specs.Same.{alike, alike_field}
 use Rattle.sz_types.specs.Seen.{seen, seen_field}
 use Rattle.sz_types.specs.declared.ty.Ty.{Ty}
 use Rattle.sz_types.specs.declared.ty.Ty.TheVariants.{Bool as BoolTy, Int, Time, Str, Bytes, Array, Array', Map, Map', Tuple, Proto}
 use Rattle.sz_types.specs.declared.ty.Field.{Field}
 use Rattle.sz_types.specs.declared.ty.Fields.{Fields}
-use Rattle.sz_types.proofs.SeenLemmas.{seen_bool, seen_int, seen_time, seen_str, seen_bytes, seen_array, seen_map, seen_tuple, seen_proto}
+use Rattle.sz_types.proofs.SeenLemmas.{box_of, seen_bool, seen_int, seen_time, seen_str, seen_bytes, seen_array, seen_map, seen_tuple, seen_proto}
 
 -- lists of two lengths are not alike
 pub lengths_differ : (vs ws : List Field) → length vs ≢ length ws → alike_lists vs ws ≡ false
@@ -40,8 +41,8 @@ only_array s Int none = ap (alike (array s)) seen_int
 only_array s Time none = ap (alike (array s)) seen_time
 only_array s Str none = ap (alike (array s)) seen_str
 only_array s Bytes none = ap (alike (array s)) seen_bytes
-only_array s (Array' p e) none = absurd (none (record { ptr = p.ptr; alloc = p.alloc; value = e }) refl)
-only_array s (Map' p l q w) none = ap (alike (array s)) (seen_map (record { ptr = p.ptr; alloc = p.alloc; value = l }) (record { ptr = q.ptr; alloc = q.alloc; value = w }))
+only_array s (Array' p e) none = absurd (none (box_of p e) refl)
+only_array s (Map' p l q w) none = ap (alike (array s)) (seen_map (box_of p l) (box_of q w))
 only_array s (Tuple x) none = ap (alike (array s)) (seen_tuple x)
 only_array s (Proto x) none = ap (alike (array s)) (seen_proto x)
 
@@ -52,8 +53,8 @@ only_map k v Int none = ap (alike (mapping k v)) seen_int
 only_map k v Time none = ap (alike (mapping k v)) seen_time
 only_map k v Str none = ap (alike (mapping k v)) seen_str
 only_map k v Bytes none = ap (alike (mapping k v)) seen_bytes
-only_map k v (Array' p e) none = ap (alike (mapping k v)) (seen_array (record { ptr = p.ptr; alloc = p.alloc; value = e }))
-only_map k v (Map' p l q w) none = absurd (none (record { ptr = p.ptr; alloc = p.alloc; value = l }) (record { ptr = q.ptr; alloc = q.alloc; value = w }) refl)
+only_map k v (Array' p e) none = ap (alike (mapping k v)) (seen_array (box_of p e))
+only_map k v (Map' p l q w) none = absurd (none (box_of p l) (box_of q w) refl)
 only_map k v (Tuple x) none = ap (alike (mapping k v)) (seen_tuple x)
 only_map k v (Proto x) none = ap (alike (mapping k v)) (seen_proto x)
 
@@ -64,8 +65,8 @@ only_tuple fs Int none = ap (alike (tuple fs)) seen_int
 only_tuple fs Time none = ap (alike (tuple fs)) seen_time
 only_tuple fs Str none = ap (alike (tuple fs)) seen_str
 only_tuple fs Bytes none = ap (alike (tuple fs)) seen_bytes
-only_tuple fs (Array' p e) none = ap (alike (tuple fs)) (seen_array (record { ptr = p.ptr; alloc = p.alloc; value = e }))
-only_tuple fs (Map' p l q w) none = ap (alike (tuple fs)) (seen_map (record { ptr = p.ptr; alloc = p.alloc; value = l }) (record { ptr = q.ptr; alloc = q.alloc; value = w }))
+only_tuple fs (Array' p e) none = ap (alike (tuple fs)) (seen_array (box_of p e))
+only_tuple fs (Map' p l q w) none = ap (alike (tuple fs)) (seen_map (box_of p l) (box_of q w))
 only_tuple fs (Tuple x) none = absurd (none x refl)
 only_tuple fs (Proto x) none = ap (alike (tuple fs)) (seen_proto x)
 
@@ -76,7 +77,7 @@ only_proto fs Int none = ap (alike (proto fs)) seen_int
 only_proto fs Time none = ap (alike (proto fs)) seen_time
 only_proto fs Str none = ap (alike (proto fs)) seen_str
 only_proto fs Bytes none = ap (alike (proto fs)) seen_bytes
-only_proto fs (Array' p e) none = ap (alike (proto fs)) (seen_array (record { ptr = p.ptr; alloc = p.alloc; value = e }))
-only_proto fs (Map' p l q w) none = ap (alike (proto fs)) (seen_map (record { ptr = p.ptr; alloc = p.alloc; value = l }) (record { ptr = q.ptr; alloc = q.alloc; value = w }))
+only_proto fs (Array' p e) none = ap (alike (proto fs)) (seen_array (box_of p e))
+only_proto fs (Map' p l q w) none = ap (alike (proto fs)) (seen_map (box_of p l) (box_of q w))
 only_proto fs (Tuple x) none = ap (alike (proto fs)) (seen_tuple x)
 only_proto fs (Proto x) none = absurd (none x refl)

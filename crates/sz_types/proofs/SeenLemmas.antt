@@ -9,6 +9,10 @@ use Rattle.sz_types.specs.declared.ty.Ty.TheVariants.{Bool, Int, Time, Str, Byte
 use Rattle.sz_types.specs.declared.ty.Field.{Field, fold-Field, fold_out-Field}
 use Rattle.sz_types.specs.declared.ty.Fields.{Fields, out-Fields, fold_out-Fields}
 
+-- the box with this pointer and allocator around a type
+abbrev pub box_of : Box (Unit {0}) Global → Ty → Box Ty Global
+box_of p t = record { ptr = p.ptr; alloc = p.alloc; value = t }
+
 -- the data of a field by the fold
 field_folds : (f : Field) → fold-Field Shape FieldShape (List FieldShape) ty_step field_step fields_step f ≡ seen_field f
 field_folds = fold_out-Field Shape FieldShape (List FieldShape) ty_step field_step fields_step
@@ -52,7 +56,8 @@ pub seen_proto : (fields : Fields) → seen (Proto fields) ≡ proto (fields_of 
 seen_proto fields = ap seen (sym (rolls-Proto fields)) ∙ levels (Ty-F.Proto fields)
 
 -- the field at a place is seen at that place
-pub field_at : (fs : List Field) (i : ℕ) (f : Field) → f ≡ get_or fs i f → i < length (map seen_field fs) → slice_get (map seen_field fs) i ≡ Some (seen_field f)
+pub field_at : (fs : List Field) (i : ℕ) (f : Field) → f ≡ get_or fs i f → i < length (map seen_field fs)
+    → slice_get (map seen_field fs) i ≡ Some (seen_field f)
 field_at [] i f is within = absurd (omega (arith, within))
 field_at (g ∷ fs) zero f is within = ap (λ h. Some (seen_field h)) (sym is)
 field_at (g ∷ fs) (suc i) f is within = field_at fs i f is (omega (arith, within))

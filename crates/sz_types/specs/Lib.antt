@@ -7,3 +7,4 @@ pub mod Tables
 pub mod SeenTables
 -- what the functions inside the crate promise each other
 pub mod Code
+pub mod FieldLists

@@ -1,9 +1,7 @@
 -- When two types are the same.
-use Rattle.std.specs.Prelude.{ℕ, Bool, true, false, ◌&&◌, nat_eq, List, map}
+use Rattle.std.specs.Prelude.{ℕ, Bool, true, false, ◌&&◌, nat_eq}
 use Rattle.std.specs.Cmp.Lexicographic.{pointwise}
-use Rattle.sz_types.specs.Data.{Shape, truth, int, time, str, bytes, array, mapping, tuple, proto, FieldShape, field, FieldShapes, no_fields, with_field, fields_of}
-use Rattle.sz_types.specs.Seen.{seen_field}
-use Rattle.sz_types.specs.declared.ty.Field.{Field}
+use Rattle.sz_types.specs.Data.{Shape, truth, int, time, str, bytes, array, mapping, tuple, proto, FieldShape, field, FieldShapes, no_fields, with_field}
 use Rattle.sz_types.specs.declared.encoding.Encoding.{Encoding}
 use Rattle.sz_types.specs.declared.encoding.Encoding.TheVariants.{Plain, Zigzag, Fixed32, Fixed64}
 
@@ -38,7 +36,3 @@ abbrev mutual
   alike_fields no_fields no_fields = true
   alike_fields (with_field f fs) (with_field g gs) = alike_field f g && alike_fields fs gs
   alike_fields _ _ = false
-
--- whether the plain data of two lists of fields are alike
-abbrev pub alike_lists : List Field → List Field → Bool
-alike_lists vs ws = alike_fields (fields_of (map seen_field vs)) (fields_of (map seen_field ws))

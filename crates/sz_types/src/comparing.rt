@@ -1,7 +1,8 @@
 //! When two types are the same.
 ghost use Rattle.std.specs.Prelude.{◌≡◌, ◌↔◌, IsTrue};
 ghost use Rattle.sz_types.specs.Data.{fields_of};
-ghost use Rattle.sz_types.specs.Same.{alike, alike_field, alike_fields, alike_lists};
+ghost use Rattle.sz_types.specs.FieldLists.{alike_lists};
+ghost use Rattle.sz_types.specs.Same.{alike, alike_field, alike_fields};
 ghost use Rattle.sz_types.specs.Seen.{seen, seen_field, seen_fields};
 
 use crate::ty::{Field, Fields, Ty};

@@ -1,6 +1,6 @@
 -- What is left of the two lists is alike exactly where the whole lists are.
 use Rattle.std.proofs.Common.{◌≡◌, drop}
-use Rattle.sz_types.specs.Same.{alike_lists}
+use Rattle.sz_types.specs.FieldLists.{alike_lists}
 use Rattle.sz_types.proofs.comparing.+agree.Given as goal
 
 abbrev pub invariant-lists_agree-loop-i : goal.invariant-lists_agree-loop-i

@@ -6,4 +6,5 @@ use Rattle.sz_types.proofs.converting.has_conversion.Goals as goal
 
 pub returns-in_default-2 : goal.returns-in_default-2
 returns-in_default-2 c =
-    record { value = rw (c.in_default.is-0, seen_bytes) (sym (bytes_rows c.args.to.now c.in_default.not-Int-1 c.in_default.not-Str-1 c.in_default.not-Proto-1)) }
+    let none = bytes_rows c.args.to.now c.in_default.not-Int-1 c.in_default.not-Str-1 c.in_default.not-Proto-1 in
+    record { value = rw (c.in_default.is-0, seen_bytes) (sym none) }

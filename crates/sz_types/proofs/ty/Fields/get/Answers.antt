@@ -6,4 +6,5 @@ use Rattle.sz_types.proofs.ty.Fields.get.Goals as goal
 pub returns : goal.returns
 returns c =
     let within = rw (fields_seen c.args.self.now) at c.requires.within in
-    record { value = rw (fields_seen c.args.self.now) (field_at (out-Fields c.args.self.now).held.items c.args.index c.index.result.now c.index.ensures within) }
+    let found = field_at (out-Fields c.args.self.now).held.items c.args.index c.index.result.now c.index.ensures within in
+    record { value = rw (fields_seen c.args.self.now) found }
