@@ -1,11 +1,37 @@
-//! Plain data that the crates above share: places in a program's text, and texts.
+//! Plain data that the crates above share: places in a program's text, texts, types, declarations of tables, operators.
 #![tactic(auto)]
 
+mod comparing;
+mod converting;
+mod copying;
+mod encoding;
+mod fields;
+mod frame;
+mod laws;
+mod operator;
 mod place;
-mod text;
-
-pub use place::Place;
-pub use text::Text;
-
+mod table;
+mod tables;
 #[cfg(test)]
 mod tests;
+mod text;
+mod ty;
+mod tys;
+
+pub use comparing::same;
+pub use converting::converts;
+pub use copying::{copy_fields, copy_table, copy_ty, copy_tys};
+pub use encoding::Encoding;
+pub use frame::Frame;
+pub use laws::{
+    a_type_converts_to_itself, alike_is_an_equivalence, alike_is_equal, conversions_are_the_table,
+};
+pub use operator::{BinOp, Builtin, UnOp};
+pub use place::Place;
+/// There was no memory: the one answer of each call that takes memory which no clause speaks of.
+pub use std::alloc::AllocError as NoMemory;
+pub use table::{TableDecl, TableKind};
+pub use tables::TableDecls;
+pub use text::Text;
+pub use ty::{Field, Fields, Ty};
+pub use tys::Tys;

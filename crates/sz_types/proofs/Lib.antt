@@ -1,0 +1,5 @@
+pub mod ForCallers
+pub mod SeenLemmas
+pub mod SameLemmas
+pub mod AlikeLemmas
+pub mod ConversionLemmas

@@ -1,0 +1,10 @@
+-- what the public contracts rest on
+pub mod Data
+pub mod Seen
+pub mod Same
+pub mod Conversions
+pub mod Tables
+pub mod SeenTables
+-- what the functions inside the crate promise each other
+pub mod Code
+pub mod FieldLists

@@ -1,0 +1,100 @@
+//! Copies of types, fields and declarations.
+ghost use Rattle.std.specs.Prelude.{◌≡◌, IfOk};
+ghost use Rattle.std.specs.Option.{option_map};
+ghost use Rattle.sz_types.specs.Seen.{seen, seen_field, seen_fields};
+ghost use Rattle.sz_types.specs.SeenTables.{seen_table};
+
+use crate::NoMemory;
+use crate::table::TableDecl;
+use crate::text::Text;
+use crate::ty::{Field, Fields, Ty};
+use crate::tys::Tys;
+use std::alloc::Global;
+
+/// A copy of the type.
+#[cycle(copy)]
+pub fn copy_ty(alloc: Global, ty: &Ty) -> Result<Ty, NoMemory>
+    ensures value { IfOk result (λ made. seen made ≡ seen ty.now) }
+{
+    match ty {
+        Ty::Bool => Ok(Ty::Bool),
+        Ty::Int => Ok(Ty::Int),
+        Ty::Time => Ok(Ty::Time),
+        Ty::Str => Ok(Ty::Str),
+        Ty::Bytes => Ok(Ty::Bytes),
+        Ty::Array(element) => Ok(Ty::Array(Box::new(alloc, copy_ty(alloc, element)?)?)),
+        Ty::Map(key, value) => {
+            let key = Box::new(alloc, copy_ty(alloc, key)?)?;
+            let value = Box::new(alloc, copy_ty(alloc, value)?)?;
+            Ok(Ty::Map(key, value))
+        }
+        Ty::Tuple(fields) => Ok(Ty::Tuple(copy_fields(alloc, fields)?)),
+        Ty::Proto(fields) => Ok(Ty::Proto(copy_fields(alloc, fields)?)),
+    }
+}
+
+/// A copy of the fields.
+#[cycle(copy)]
+pub fn copy_fields(alloc: Global, fields: &Fields) -> Result<Fields, NoMemory>
+    ensures value { IfOk result (λ made. seen_fields made ≡ seen_fields fields.now) }
+{
+    let mut held = Vec::with_capacity(alloc, fields.held.len())?;
+    for field in &fields.held {
+        held.push(copy_field(alloc, field)?)?;
+    }
+    Ok(Fields { held })
+}
+
+// A copy of the field.
+#[cycle(copy)]
+fn copy_field(alloc: Global, field: &Field) -> Result<Field, NoMemory>
+    ensures value { IfOk result (λ made. seen_field made ≡ seen_field field.now) }
+{
+    let name = Text::from_str(alloc, field.name.as_str())?;
+    let ty = copy_ty(alloc, &field.ty)?;
+    Ok(Field {
+        name,
+        ty,
+        number: field.number,
+        code: field.code,
+    })
+}
+
+/// A copy of the types.
+pub fn copy_tys(alloc: Global, types: &Tys) -> Result<Tys, NoMemory>
+    ensures value { IfOk result (λ made. made ≡ types.now) }
+{
+    let mut held = Vec::with_capacity(alloc, types.held.len())?;
+    for ty in &types.held {
+        held.push(copy_ty(alloc, ty)?)?;
+    }
+    Ok(Tys { held })
+}
+
+/// A copy of the declaration.
+pub fn copy_table(alloc: Global, table: &TableDecl) -> Result<TableDecl, NoMemory>
+    ensures value { IfOk result (λ made. seen_table made ≡ seen_table table.now) }
+{
+    let name = Text::from_str(alloc, table.name.as_str())?;
+    let indexes = copy_tys(alloc, &table.indexes)?;
+    let element = copy_ty(alloc, &table.element)?;
+    let weight = copy_weight(alloc, &table.weight)?;
+    Ok(TableDecl {
+        name,
+        kind: table.kind,
+        limit: table.limit,
+        indexes,
+        element,
+        weight,
+    })
+}
+
+// A copy of the type of the weights, where there is one.
+fn copy_weight(alloc: Global, weight: &Option<Ty>) -> Result<Option<Ty>, NoMemory>
+    ensures value { IfOk result (λ made. option_map seen made ≡ option_map seen weight.now) }
+{
+    match weight {
+        Some(ty) => Ok(Some(copy_ty(alloc, ty)?)),
+        None => Ok(None),
+    }
+}
