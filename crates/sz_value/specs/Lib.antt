@@ -2,5 +2,8 @@
 pub mod Data
 pub mod Seen
 pub mod Order
-pub mod Total
 pub mod Weight
+-- what the functions inside the crate promise each other
+pub mod Code
+pub mod Falls
+pub mod Total

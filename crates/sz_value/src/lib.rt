@@ -6,17 +6,17 @@ mod laws;
 mod octets;
 mod ordering;
 mod slots;
-#[cfg(test)]
-mod tests;
+mod text;
 mod value;
 mod weighing;
 
-pub use copying::{copy, copy_slot};
+pub use copying::{copy, copy_list, copy_pairs, copy_slot};
 pub use laws::{order_is_total, ties_are_equal};
 pub use octets::Octets;
 pub use ordering::{equal, order};
-pub use slots::Slots;
+pub use slots::{Slot, Slots};
 /// There was no memory: the one answer of each call that takes memory which no clause speaks of.
 pub use std::alloc::AllocError as NoMemory;
-pub use value::{Slot, Value};
+pub use text::Text;
+pub use value::{List, Pair, Pairs, Value};
 pub use weighing::weight;
