@@ -3,7 +3,9 @@ pub mod Data
 pub mod Seen
 pub mod Order
 pub mod Weight
+pub mod Maps
 -- what the functions inside the crate promise each other
 pub mod Code
 pub mod Falls
 pub mod Total
+pub mod Places

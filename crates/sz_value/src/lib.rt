@@ -3,8 +3,10 @@
 
 mod copying;
 mod laws;
+mod list;
 mod octets;
 mod ordering;
+mod pairs;
 mod slots;
 mod text;
 mod value;

@@ -1,0 +1,93 @@
+//! The calls of the pairs of a map.
+ghost use Rattle.std.specs.Prelude.{◌≡◌, ◌==◌, ◌<◌, ◌↔◌, [], length, map, set, slice_get, IfOk, IfErr, IfSome, IsNone, OnOk, OnErr, Some, Contains};
+ghost use Rattle.std.specs.Map.{keys_of, values_of};
+ghost use Rattle.std.specs.List.Sorted.{IsSearchInRange};
+ghost use Rattle.std.specs.Option.{option_map};
+ghost use Rattle.sz_value.specs.Seen.{seen, seen_pair};
+ghost use Rattle.sz_value.specs.Order.{compare, KeysRise};
+ghost use Rattle.sz_value.specs.Maps.{value_at, with_pair};
+ghost use Rattle.sz_value.specs.Places.{IsPlaceOf, IsGapFor};
+
+use crate::NoMemory;
+use crate::ordering::order;
+use crate::value::{Pair, Pairs, Value};
+use std::alloc::Global;
+use std::cmp::Ordering;
+
+impl Pairs {
+    /// No pairs, which takes no memory. They keep the allocator for their calls.
+    pub fn new(alloc: Global) -> Pairs
+        ensures value { result ≡ [] }
+    {
+        Pairs {
+            held: Vec::new(alloc),
+        }
+    }
+
+    /// The pairs, in ascending order of their keys.
+    pub fn as_slice(&self) -> &[Pair]
+        ensures value { map seen_pair result.now ≡ self.now }
+        ensures rising { KeysRise self.now }
+    {
+        self.held.as_slice()
+    }
+
+    /// The number of pairs.
+    pub fn len(&self) -> usize
+        ensures value { result ≡ length self.now }
+    {
+        self.held.len()
+    }
+
+    /// Whether there are no pairs.
+    pub fn is_empty(&self) -> bool
+        ensures value { result ≡ (length self.now == 0) }
+    {
+        self.held.is_empty()
+    }
+
+    /// The value at a key, if the key is there.
+    pub fn get(&self, key: &Value) -> Option<&Value>
+        ensures value { option_map (λ found. seen found.now) result ≡ value_at (seen key.now) self.now }
+    {
+        match place_of(&self.held, key) {
+            Ok(place) => Some(&self.held[place].value),
+            Err(_) => None,
+        }
+    }
+
+    /// Puts the value at the key: in the stead of the value there, which is dropped, or as a new pair at its place in
+    /// the order. Where there is no memory for a new pair the key and the value are dropped.
+    pub fn insert(&mut self, key: Value, value: Value) -> Result<(), NoMemory>
+        ensures ok { OnOk result (self.new ≡ with_pair (seen key) (seen value) self.old) }
+        ensures err { OnErr result (self.new ≡ self.old) }
+    {
+        put_in(&mut self.held, key, value)
+    }
+}
+
+// Where the key is, or where it would go, by halving.
+fn place_of(pairs: &[Pair], key: &Value) -> Result<usize, usize>
+    requires rising { KeysRise (map seen_pair pairs.now) }
+    ensures within { IsSearchInRange result (length pairs.now) }
+    ensures found { IfOk result (λ place. IsPlaceOf (seen key.now) place (map seen_pair pairs.now)) }
+    ensures none { IfErr result (λ place. IsGapFor (seen key.now) place (map seen_pair pairs.now)) }
+{
+    pairs.binary_search_by(|pair| order(&pair.key, key))
+}
+
+// Puts the value at the key, as `Pairs::insert` does.
+fn put_in(pairs: &mut Vec<Pair>, key: Value, value: Value) -> Result<(), NoMemory>
+    requires rising { KeysRise (map seen_pair pairs.old.items) }
+    ensures rising { KeysRise (map seen_pair pairs.new.items) }
+    ensures ok { OnOk result (map seen_pair pairs.new.items ≡ with_pair (seen key) (seen value) (map seen_pair pairs.old.items)) }
+    ensures err { OnErr result (pairs.new.items ≡ pairs.old.items) }
+{
+    match place_of(pairs, &key) {
+        Ok(place) => {
+            pairs[place] = Pair { key, value };
+            Ok(())
+        }
+        Err(place) => Ok(pairs.insert(place, Pair { key, value })?),
+    }
+}
