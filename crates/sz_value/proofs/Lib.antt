@@ -1,3 +1,4 @@
 pub mod OrderLemmas
 pub mod WeightLemmas
 pub mod MapLemmas
+pub mod PartLemmas

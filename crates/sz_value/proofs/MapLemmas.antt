@@ -1,5 +1,5 @@
 -- What a search among rising keys finds, and what an edit at that place does.
-use Rattle.std.proofs.Common.{◌≡◌, ℕ, zero, suc, ◌+◌, ◌<◌, ◌≤◌, List, [], ◌∷◌, length, set, map, get_or, Option, Some, None, Result, Ok, Err, IfOk, IfErr, cond, refl, sym, ap, ◌∙◌, subst, true≢false, arith}
+use Rattle.std.proofs.Common.{◌≡◌, ◌≢◌, ℕ, zero, suc, ◌+◌, ◌<◌, ◌≤◌, List, [], ◌∷◌, length, set, map, get_or, Option, Some, None, Result, Ok, Err, IfOk, IfErr, cond, refl, sym, ap, ◌∙◌, subst, true≢false, arith}
 use Rattle.std.specs.List.{insert, AllByRecursion}
 use Rattle.std.specs.List.Sorted.{IsStrictlySortedBy, IsNonDecreasingBy, IsSearchInRange, IsBinarySearchResult}
 use Rattle.std.specs.Ordering.{ordering_index, ordering_reverse, match_ordering, is_eq}
@@ -9,7 +9,7 @@ use Rattle.std.specs.Map.{keys_of}
 use Rattle.std.proofs.lemmas.List.{map-set}
 use Rattle.sz_value.specs.Data.{Datum}
 use Rattle.sz_value.specs.Order.{compare, KeysRise}
-use Rattle.sz_value.specs.Total.{compare_total, compare_ties}
+use Rattle.sz_value.specs.Total.{compare_total, compare_ties, compare_itself}
 use Rattle.sz_value.specs.Maps.{value_at, with_pair}
 use Rattle.sz_value.specs.Places.{IsPlaceOf, IsGapFor}
 use Rattle.sz_value.specs.Seen.{seen, seen_pair}
@@ -169,3 +169,41 @@ map-insert f (y ∷ ys) (suc i) x = ap (λ zs. f y ∷ zs) (map-insert f ys i x)
 -- putting the pair into the gap for its key
 pub put_between : (ps : List Pair) (i : ℕ) (p : Pair) → KeysRise (map seen_pair ps) → IsGapFor (seen p.key) i (map seen_pair ps) → Puts ps (insert ps i p) p
 put_between ps i p rise gap = puts ps (insert ps i p) p rise (map-insert seen_pair ps i p ∙ gap_filled (seen p.key) (seen p.value) (map seen_pair ps) i gap)
+
+module _ (k v : Datum) where
+  -- the first pair has the key, so the look-up ends there
+  first_hit : (key w : Datum) (ps : List (Datum × Datum)) → compare k key ≡ Equal → value_at k ((key, w) ∷ ps) ≡ Some w
+  first_hit key w ps hit = ap (λ o. cond (is_eq o) (Some w) (value_at k ps)) hit
+
+  found_chosen : (p : Datum × Datum) (ps : List (Datum × Datum)) (o : Ordering) → compare k p.0 ≡ o → value_at k (with_pair k v ps) ≡ Some v → value_at k (chosen k v p ps o) ≡ Some v
+  found_chosen p ps Less is rest = first_hit k v (p ∷ ps) (compare_itself k k refl)
+  found_chosen p ps Equal is rest = first_hit p.0 v ps is
+  found_chosen p ps Greater is rest = ap (λ o. cond (is_eq o) (Some p.1) (value_at k (with_pair k v ps))) is ∙ rest
+
+  -- at its key the new pairs have the value
+  pub value_put : (ps : List (Datum × Datum)) → value_at k (with_pair k v ps) ≡ Some v
+  value_put [] = first_hit k v [] (compare_itself k k refl)
+  value_put (p ∷ ps) = found_chosen p ps (compare k p.0) refl (value_put ps)
+
+  module _ (j : Datum) where
+    miss_by : (key w : Datum) (ps : List (Datum × Datum)) (o : Ordering) → compare j key ≡ o → j ≢ key → value_at j ((key, w) ∷ ps) ≡ value_at j ps
+    miss_by key w ps Less is other = ap (λ o. cond (is_eq o) (Some w) (value_at j ps)) is
+    miss_by key w ps Equal is other = absurd (other (compare_ties j key is))
+    miss_by key w ps Greater is other = ap (λ o. cond (is_eq o) (Some w) (value_at j ps)) is
+
+    -- the first pair has another key, so the look-up goes on
+    first_miss : (key w : Datum) (ps : List (Datum × Datum)) → j ≢ key → value_at j ((key, w) ∷ ps) ≡ value_at j ps
+    first_miss key w ps other = miss_by key w ps (compare j key) refl other
+
+    kept_chosen : (p : Datum × Datum) (ps : List (Datum × Datum)) (o : Ordering) → compare k p.0 ≡ o → j ≢ k → value_at j (with_pair k v ps) ≡ value_at j ps
+        → value_at j (chosen k v p ps o) ≡ value_at j (p ∷ ps)
+    kept_chosen p ps Less is other rest = first_miss k v (p ∷ ps) other
+    kept_chosen p ps Equal is other rest =
+        let apart : j ≢ p.0 = λ same. other (same ∙ sym (compare_ties k p.0 is)) in
+        first_miss p.0 v ps apart ∙ sym (first_miss p.0 p.1 ps apart)
+    kept_chosen p ps Greater is other rest = ap (λ found. cond (is_eq (compare j p.0)) (Some p.1) found) rest
+
+    -- at each other key they have what was there
+    pub value_kept : (ps : List (Datum × Datum)) → j ≢ k → value_at j (with_pair k v ps) ≡ value_at j ps
+    value_kept [] other = first_miss k v [] other
+    value_kept (p ∷ ps) other = kept_chosen p ps (compare k p.0) refl other (value_kept ps other)

@@ -1,6 +1,7 @@
 //! Values of a program, what a slot of the machine holds, their order, their weight and their copies.
 #![tactic(auto)]
 
+mod comparing;
 mod copying;
 mod laws;
 mod list;
@@ -13,7 +14,9 @@ mod value;
 mod weighing;
 
 pub use copying::{copy, copy_list, copy_pairs, copy_slot};
-pub use laws::{order_is_total, ties_are_equal};
+pub use laws::{
+    a_pair_sets_its_key, lists_compare_by_parts, order_is_total, ties_are_equal, weight_is_a_sum,
+};
 pub use octets::Octets;
 pub use ordering::{equal, order};
 pub use slots::{Slot, Slots};

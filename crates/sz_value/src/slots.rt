@@ -10,7 +10,7 @@ use std::marker::Model;
 /// A value, or none where the program's value is undefined.
 ///
 /// Contracts see it by `seen_slot` of `specs/Seen.antt`.
-#[derive(Drop)]
+#[derive(Debug, Drop)]
 pub enum Slot {
     Defined(Value),
     Undefined,
@@ -19,7 +19,7 @@ pub enum Slot {
 /// A list of slots. Places are counted from 0.
 ///
 /// Contracts see a list with an `Option` of plain data for each slot, `None` where the slot is undefined.
-#[derive(Drop)]
+#[derive(Debug, Drop)]
 pub struct Slots {
     held: Vec<Slot>,
 }

@@ -8,7 +8,7 @@ use std::marker::Model;
 ///
 /// Contracts see it as plain data, by `seen` of `specs/Seen.antt`.
 #[cycle(value)]
-#[derive(Drop)]
+#[derive(Debug, Drop)]
 pub enum Value {
     Bool(bool),
     Int(i64),
@@ -25,14 +25,14 @@ pub enum Value {
 ///
 /// Contracts see the list of their plain data.
 #[cycle(value)]
-#[derive(Drop)]
+#[derive(Debug, Drop)]
 pub struct List {
     pub(crate) held: Vec<Value>,
 }
 
 /// A key of a map and its value.
 #[cycle(value)]
-#[derive(Drop)]
+#[derive(Debug, Drop)]
 pub struct Pair {
     pub key: Value,
     pub value: Value,
@@ -42,7 +42,7 @@ pub struct Pair {
 ///
 /// Contracts see the list of the keys and values as plain data.
 #[cycle(value)]
-#[derive(Drop)]
+#[derive(Debug, Drop)]
 pub struct Pairs {
     pub(crate) held: Vec<Pair>,
 }

@@ -1,0 +1,6 @@
+-- The law is proved with the lemmas on maps.
+use Rattle.sz_value.proofs.MapLemmas.{value_put, value_kept}
+use Rattle.sz_value.proofs.laws.a_pair_sets_its_key.Goals as goal
+
+pub returns : goal.returns
+returns c = record { here = value_put; others = λ other key value pairs apart. value_kept key value other pairs apart }
