@@ -13,6 +13,7 @@ use Rattle.sz_value.specs.Total.{compare_total, compare_ties, compare_itself}
 use Rattle.sz_value.specs.Maps.{value_at, with_pair}
 use Rattle.sz_value.specs.Places.{IsPlaceOf, IsGapFor}
 use Rattle.sz_value.specs.Seen.{seen, seen_pair}
+use Rattle.sz_value.specs.declared.value.Value.{Value}
 use Rattle.sz_value.specs.declared.value.Pair.{Pair}
 
 -- a comparison turned round
@@ -185,6 +186,18 @@ module _ (k v : Datum) where
   value_put [] = first_hit k v [] (compare_itself k k refl)
   value_put (p ∷ ps) = found_chosen p ps (compare k p.0) refl (value_put ps)
 
+  module _ (w : Datum) where
+    over_chosen : (p : Datum × Datum) (ps : List (Datum × Datum)) (o : Ordering) → compare k p.0 ≡ o → with_pair k w (with_pair k v ps) ≡ with_pair k w ps
+        → with_pair k w (chosen k v p ps o) ≡ chosen k w p ps o
+    over_chosen p ps Less is rest = ap (chosen k w (k, v) (p ∷ ps)) (compare_itself k k refl)
+    over_chosen p ps Equal is rest = ap (chosen k w (p.0, v) ps) is
+    over_chosen p ps Greater is rest = ap (chosen k w p (with_pair k v ps)) is ∙ ap (λ qs. p ∷ qs) rest
+
+    -- of two values at one key the later stands
+    pub later_stands : (ps : List (Datum × Datum)) → with_pair k w (with_pair k v ps) ≡ with_pair k w ps
+    later_stands [] = ap (chosen k w (k, v) []) (compare_itself k k refl)
+    later_stands (p ∷ ps) = over_chosen p ps (compare k p.0) refl (later_stands ps)
+
   module _ (j : Datum) where
     miss_by : (key w : Datum) (ps : List (Datum × Datum)) (o : Ordering) → compare j key ≡ o → j ≢ key → value_at j ((key, w) ∷ ps) ≡ value_at j ps
     miss_by key w ps Less is other = ap (λ o. cond (is_eq o) (Some w) (value_at j ps)) is
@@ -207,3 +220,28 @@ module _ (k v : Datum) where
     pub value_kept : (ps : List (Datum × Datum)) → j ≢ k → value_at j (with_pair k v ps) ≡ value_at j ps
     value_kept [] other = first_miss k v [] other
     value_kept (p ∷ ps) other = kept_chosen p ps (compare k p.0) refl other (value_kept ps other)
+
+-- the key of the pair at the place is the key looked for
+key_found : (ps : List Pair) (i : ℕ) (d : Pair) (k : Datum) → IsPlaceOf k i (map seen_pair ps) → seen (get_or ps i d).key ≡ k
+key_found [] i d k at = absurd at
+key_found (p ∷ ps) zero d k at = sym (compare_ties k (seen p.key) at)
+key_found (p ∷ ps) (suc i) d k at = key_found ps i d k at.1
+
+-- the list qs shows the pairs of ps with the value w at the key k, where the value old was, and its keys rise
+pub record Replaces (ps qs : List Pair) (k : Datum) (old w : Value) : Type 0 where
+  pub pairs : map seen_pair qs ≡ with_pair k (seen w) (map seen_pair ps)
+  pub rising : KeysRise (map seen_pair qs)
+  pub found : value_at k (map seen_pair ps) ≡ Some (seen old)
+
+-- writing another value beside the key at its place
+pub value_over : (ps : List Pair) (i : ℕ) (k : Datum) (p : Pair) (w : Value) → p ≡ get_or ps i p → KeysRise (map seen_pair ps) → IsPlaceOf k i (map seen_pair ps)
+    → Replaces ps (set ps i (record { key = p.key; value = w })) k p.value w
+value_over ps i k p w is rise at =
+    let q : Pair = record { key = p.key; value = w } in
+    let same : seen p.key ≡ k = ap (λ r. seen r.key) is ∙ key_found ps i p k at in
+    let put = put_over ps i q rise (subst (λ x. IsPlaceOf x i (map seen_pair ps)) (sym same) at) in
+    record {
+      pairs = put.pairs ∙ ap (λ x. with_pair x (seen w) (map seen_pair ps)) same;
+      rising = put.rising;
+      found = value_found k ps i p at ∙ ap (λ r. Some (seen r.value)) (sym is);
+    }

@@ -35,8 +35,10 @@ pub fn weight_is_a_sum()
     ensures maps { (ps : List (Datum × Datum)) → full_weight (mapping (entries_of ps)) ≡ 1 + sum_by (λ p. full_weight p.0 + full_weight p.1) ps }
 {}
 
-/// Pairs with one more have its value at its key, and at each other key what they had before.
+/// Pairs with one more have its value at its key, and at each other key what they had before. Of two values at one
+/// key the later stands.
 pub fn a_pair_sets_its_key()
     ensures here { (key value : Datum) (pairs : List (Datum × Datum)) → value_at key (with_pair key value pairs) ≡ Some value }
     ensures others { (other key value : Datum) (pairs : List (Datum × Datum)) → other ≢ key → value_at other (with_pair key value pairs) ≡ value_at other pairs }
+    ensures later { (key first second : Datum) (pairs : List (Datum × Datum)) → with_pair key second (with_pair key first pairs) ≡ with_pair key second pairs }
 {}

@@ -9,6 +9,8 @@ mod octets;
 mod ordering;
 mod pairs;
 mod slots;
+#[cfg(test)]
+mod tests;
 mod text;
 mod value;
 mod weighing;

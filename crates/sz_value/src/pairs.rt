@@ -1,10 +1,9 @@
 //! The calls of the pairs of a map.
-ghost use Rattle.std.specs.Prelude.{◌≡◌, ◌==◌, ◌<◌, ◌↔◌, [], length, map, set, slice_get, IfOk, IfErr, IfSome, IsNone, OnOk, OnErr, Some, Contains};
-ghost use Rattle.std.specs.Map.{keys_of, values_of};
+ghost use Rattle.std.specs.Prelude.{◌≡◌, ◌==◌, ◌<◌, [], length, map, set, slice_get, IfOk, IfErr, OnOk, OnErr, IsOk, IsSome, Some, None};
 ghost use Rattle.std.specs.List.Sorted.{IsSearchInRange};
 ghost use Rattle.std.specs.Option.{option_map};
 ghost use Rattle.sz_value.specs.Seen.{seen, seen_pair};
-ghost use Rattle.sz_value.specs.Order.{compare, KeysRise};
+ghost use Rattle.sz_value.specs.Order.{KeysRise};
 ghost use Rattle.sz_value.specs.Maps.{value_at, with_pair};
 ghost use Rattle.sz_value.specs.Places.{IsPlaceOf, IsGapFor};
 
@@ -12,7 +11,7 @@ use crate::NoMemory;
 use crate::ordering::order;
 use crate::value::{Pair, Pairs, Value};
 use std::alloc::Global;
-use std::cmp::Ordering;
+use std::mem;
 
 impl Pairs {
     /// No pairs, which takes no memory. They keep the allocator for their calls.
@@ -61,8 +60,31 @@ impl Pairs {
     pub fn insert(&mut self, key: Value, value: Value) -> Result<(), NoMemory>
         ensures ok { OnOk result (self.new ≡ with_pair (seen key) (seen value) self.old) }
         ensures err { OnErr result (self.new ≡ self.old) }
+
+        // A key that is there already needs no memory.
+        ensures room { IsSome (value_at (seen key) self.old) → IsOk result }
     {
         put_in(&mut self.held, key, value)
+    }
+
+    /// Puts the value in the stead of that at the key, and gives that one back. Where the key isn't there the value
+    /// itself is given back, as the error. It takes no memory.
+    pub fn replace(&mut self, key: &Value, value: Value) -> Result<Value, Value>
+        ensures ok { OnOk result (self.new ≡ with_pair (seen key.now) (seen value) self.old) }
+        ensures found { IfOk result (λ old. value_at (seen key.now) self.old ≡ Some (seen old)) }
+
+        ensures err { OnErr result (self.new ≡ self.old) }
+        ensures none { IfErr result (λ given. (given ≡ value) × (value_at (seen key.now) self.old ≡ None)) }
+    {
+        replace_in(&mut self.held, key, value)
+    }
+
+    /// Gives the pairs back, in ascending order of their keys, and takes no memory.
+    pub fn into_vec(self) -> Vec<Pair>
+        ensures value { map seen_pair result.items ≡ self }
+        ensures rising { KeysRise self }
+    {
+        self.held
     }
 }
 
@@ -82,6 +104,7 @@ fn put_in(pairs: &mut Vec<Pair>, key: Value, value: Value) -> Result<(), NoMemor
     ensures rising { KeysRise (map seen_pair pairs.new.items) }
     ensures ok { OnOk result (map seen_pair pairs.new.items ≡ with_pair (seen key) (seen value) (map seen_pair pairs.old.items)) }
     ensures err { OnErr result (pairs.new.items ≡ pairs.old.items) }
+    ensures room { IsSome (value_at (seen key) (map seen_pair pairs.old.items)) → IsOk result }
 {
     match place_of(pairs, &key) {
         Ok(place) => {
@@ -89,5 +112,20 @@ fn put_in(pairs: &mut Vec<Pair>, key: Value, value: Value) -> Result<(), NoMemor
             Ok(())
         }
         Err(place) => Ok(pairs.insert(place, Pair { key, value })?),
+    }
+}
+
+// Puts the value in the stead of that at the key, as `Pairs::replace` does.
+fn replace_in(pairs: &mut Vec<Pair>, key: &Value, value: Value) -> Result<Value, Value>
+    requires rising { KeysRise (map seen_pair pairs.old.items) }
+    ensures rising { KeysRise (map seen_pair pairs.new.items) }
+    ensures ok { OnOk result (map seen_pair pairs.new.items ≡ with_pair (seen key.now) (seen value) (map seen_pair pairs.old.items)) }
+    ensures found { IfOk result (λ old. value_at (seen key.now) (map seen_pair pairs.old.items) ≡ Some (seen old)) }
+    ensures err { OnErr result (pairs.new.items ≡ pairs.old.items) }
+    ensures none { IfErr result (λ given. (given ≡ value) × (value_at (seen key.now) (map seen_pair pairs.old.items) ≡ None)) }
+{
+    match place_of(pairs, key) {
+        Ok(place) => Ok(mem::replace(&mut pairs[place].value, value)),
+        Err(_) => Err(value),
     }
 }

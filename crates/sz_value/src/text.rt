@@ -1,5 +1,5 @@
 //! Texts inside values.
-ghost use Rattle.std.specs.Prelude.{◌≡◌, ◌==◌, ℕ, List, length, string_bytes, IfOk};
+ghost use Rattle.std.specs.Prelude.{◌≡◌, ◌==◌, ℕ, List, length, string_bytes, IfOk, IsUtf8};
 
 use crate::NoMemory;
 use std::alloc::Global;
@@ -38,6 +38,7 @@ impl Text {
     /// The text.
     pub fn as_str(&self) -> &str
         ensures value { result.now ≡ self.now }
+        ensures utf8 { IsUtf8 self.now }
     {
         self.held.as_str()
     }
