@@ -1,13 +1,13 @@
 -- What is made of parts compares and weighs by its parts.
-use Rattle.std.proofs.Common.{◌≡◌, ℕ, ◌+◌, List, [], ◌∷◌, refl, sym, ap, ◌∙◌, arith}
+use Rattle.std.proofs.Common.{◌≡◌, ◌+◌, List, [], ◌∷◌, refl, ap, ◌∙◌, arith}
 use Rattle.std.specs.List.{sum_by}
 use Rattle.std.specs.Cmp.Lexicographic.{slice_cmp}
-use Rattle.std.specs.Ordering.{ordering_then, on, then_cmp}
+use Rattle.std.specs.Ordering.{ordering_then}
 use Rattle.std.specs.declared.cmp.Ordering.{Ordering}
 use Rattle.std.specs.declared.cmp.Ordering.TheVariants.{Less, Equal, Greater}
 use Rattle.std.proofs.lemmas.List.Sums.{sum_by-cons}
 use Rattle.sz_value.specs.Data.{Datum, data_of, entries_of}
-use Rattle.sz_value.specs.Order.{compare, compare_data, compare_entries}
+use Rattle.sz_value.specs.Order.{compare, compare_data, compare_entries, compare_pairs}
 use Rattle.sz_value.specs.Weight.{full_weight, data_weight, entries_weight}
 
 -- parts compare as lists do
@@ -16,10 +16,6 @@ compare_data-slice_cmp [] [] = refl
 compare_data-slice_cmp [] (e ∷ es) = refl
 compare_data-slice_cmp (d ∷ ds) [] = refl
 compare_data-slice_cmp (d ∷ ds) (e ∷ es) = ap (ordering_then (compare d e)) (compare_data-slice_cmp ds es)
-
--- the order of pairs: the key comes before the value
-abbrev pub compare_pairs : (Datum × Datum) → (Datum × Datum) → Ordering
-compare_pairs = then_cmp (on (λ p. p.0) compare) (on (λ p. p.1) compare)
 
 then_assoc : (a b c : Ordering) → ordering_then a (ordering_then b c) ≡ ordering_then (ordering_then a b) c
 then_assoc Less b c = refl

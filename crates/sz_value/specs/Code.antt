@@ -1,5 +1,5 @@
 -- How the logic stores plain data, and the number of its nodes: what a model over data of our own has to give.
-use Rattle.std.specs.Prelude.{◌≡◌, ◌≢◌, ℕ, ◌+◌, List, Option}
+use Rattle.std.specs.Prelude.{◌≡◌, ℕ, ◌+◌, List, Option}
 use Rattle.std.proofs.Common.{ap, arith}
 use Rattle.std.specs.Coded.{Coded, coded_ℕ, coded_ℤ, coded_bool, coded_list, coded_option, coded×}
 use base.Stored.{Gv, gnil, gnum, gcons, num}

@@ -1,5 +1,5 @@
 -- Plain data: what contracts see of a value.
-use Rattle.std.specs.Prelude.{Bool, ℕ, ℤ, ◌+◌, List, [], ◌∷◌}
+use Rattle.std.specs.Prelude.{Bool, ℕ, ℤ, List, [], ◌∷◌}
 
 mutual
   -- a value as plain data

@@ -1,5 +1,5 @@
 -- The parts of a value have fewer nodes than the value.
-use Rattle.std.specs.Prelude.{ℕ, ◌+◌, ◌≤◌, List, [], ◌∷◌, map, max}
+use Rattle.std.specs.Prelude.{◌≤◌, List, [], ◌∷◌, map, max}
 use Rattle.std.proofs.Common.{arith}
 use denote.Param.Weighed.{most}
 use Rattle.sz_value.specs.Code.{datum_nodes, parts_nodes, pairs_nodes}

@@ -4,6 +4,7 @@ pub mod Seen
 pub mod Order
 pub mod Weight
 pub mod Maps
+pub mod Laws
 -- what the functions inside the crate promise each other
 pub mod Code
 pub mod Falls

@@ -1,6 +1,6 @@
 -- The order of values.
-use Rattle.std.specs.Prelude.{ℕ, List, map}
-use Rattle.std.specs.Ordering.{nat_cmp, int_cmp, bool_cmp, ordering_then}
+use Rattle.std.specs.Prelude.{ℕ, List}
+use Rattle.std.specs.Ordering.{nat_cmp, int_cmp, bool_cmp, ordering_then, then_cmp, on}
 use Rattle.std.specs.declared.cmp.Ordering.{Ordering}
 use Rattle.std.specs.declared.cmp.Ordering.TheVariants.{Less, Equal, Greater}
 use Rattle.std.specs.Cmp.Lexicographic.{slice_cmp}
@@ -45,6 +45,10 @@ abbrev mutual
   compare_entries no_entries (entry l w qs) = Less
   compare_entries (entry k v ps) no_entries = Greater
   compare_entries (entry k v ps) (entry l w qs) = ordering_then (compare k l) (ordering_then (compare v w) (compare_entries ps qs))
+
+-- how two pairs compare: by their keys, and where those are equal by their values
+abbrev pub compare_pairs : Datum × Datum → Datum × Datum → Ordering
+compare_pairs = then_cmp (on (λ p. p.0) compare) (on (λ p. p.1) compare)
 
 -- each key is less than all keys behind it
 abbrev pub KeysRise : List (Datum × Datum) → Type 0

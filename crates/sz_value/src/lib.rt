@@ -17,7 +17,8 @@ mod weighing;
 
 pub use copying::{copy, copy_list, copy_pairs, copy_slot};
 pub use laws::{
-    a_pair_sets_its_key, lists_compare_by_parts, order_is_total, ties_are_equal, weight_is_a_sum,
+    a_pair_sets_its_key, compounds_compare_by_parts, compounds_weigh_their_parts, order_is_total,
+    ties_are_equal,
 };
 pub use octets::Octets;
 pub use ordering::{equal, order};

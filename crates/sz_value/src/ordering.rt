@@ -1,9 +1,8 @@
 //! The order of values, and when two are equal.
 ghost use Rattle.std.specs.Prelude.{◌≡◌, ◌↔◌, IsTrue};
-ghost use Rattle.std.specs.Ordering.{ordering_then};
 ghost use Rattle.sz_value.specs.Data.{data_of, entries_of};
-ghost use Rattle.sz_value.specs.Order.{compare, compare_data, compare_entries, kind};
-ghost use Rattle.sz_value.specs.Seen.{seen};
+ghost use Rattle.sz_value.specs.Order.{compare, compare_data, compare_entries, compare_pairs, kind};
+ghost use Rattle.sz_value.specs.Seen.{seen, seen_pair};
 
 use crate::value::{List, Pair, Pairs, Value};
 use std::cmp::Ordering;
@@ -68,7 +67,7 @@ fn order_maps(a: &Pairs, b: &Pairs) -> Ordering
 // Compares the keys, and where they are equal the values.
 #[cycle(order)]
 fn order_pairs(a: &Pair, b: &Pair) -> Ordering
-    ensures value { result ≡ ordering_then (compare (seen a.now.key) (seen b.now.key)) (compare (seen a.now.value) (seen b.now.value)) }
+    ensures value { result ≡ compare_pairs (seen_pair a.now) (seen_pair b.now) }
 {
     match order(&a.key, &b.key) {
         Ordering::Equal => order(&a.value, &b.value),

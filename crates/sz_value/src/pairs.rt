@@ -1,8 +1,8 @@
 //! The calls of the pairs of a map.
-ghost use Rattle.std.specs.Prelude.{◌≡◌, ◌==◌, ◌<◌, [], length, map, set, slice_get, IfOk, IfErr, OnOk, OnErr, IsOk, IsSome, Some, None};
+ghost use Rattle.std.specs.Prelude.{◌≡◌, ◌==◌, [], length, IfOk, IfErr, OnOk, OnErr, IsOk, IsSome, Some, None};
 ghost use Rattle.std.specs.List.Sorted.{IsSearchInRange};
 ghost use Rattle.std.specs.Option.{option_map};
-ghost use Rattle.sz_value.specs.Seen.{seen, seen_pair};
+ghost use Rattle.sz_value.specs.Seen.{seen, seen_pairs};
 ghost use Rattle.sz_value.specs.Order.{KeysRise};
 ghost use Rattle.sz_value.specs.Maps.{value_at, with_pair};
 ghost use Rattle.sz_value.specs.Places.{IsPlaceOf, IsGapFor};
@@ -25,7 +25,7 @@ impl Pairs {
 
     /// The pairs, in ascending order of their keys.
     pub fn as_slice(&self) -> &[Pair]
-        ensures value { map seen_pair result.now ≡ self.now }
+        ensures value { seen_pairs result.now ≡ self.now }
         ensures rising { KeysRise self.now }
     {
         self.held.as_slice()
@@ -81,7 +81,7 @@ impl Pairs {
 
     /// Gives the pairs back, in ascending order of their keys, and takes no memory.
     pub fn into_vec(self) -> Vec<Pair>
-        ensures value { map seen_pair result.items ≡ self }
+        ensures value { seen_pairs result.items ≡ self }
         ensures rising { KeysRise self }
     {
         self.held
@@ -90,21 +90,21 @@ impl Pairs {
 
 // Where the key is, or where it would go, by halving.
 fn place_of(pairs: &[Pair], key: &Value) -> Result<usize, usize>
-    requires rising { KeysRise (map seen_pair pairs.now) }
+    requires rising { KeysRise (seen_pairs pairs.now) }
     ensures within { IsSearchInRange result (length pairs.now) }
-    ensures found { IfOk result (λ place. IsPlaceOf (seen key.now) place (map seen_pair pairs.now)) }
-    ensures none { IfErr result (λ place. IsGapFor (seen key.now) place (map seen_pair pairs.now)) }
+    ensures found { IfOk result (λ place. IsPlaceOf (seen key.now) place (seen_pairs pairs.now)) }
+    ensures none { IfErr result (λ place. IsGapFor (seen key.now) place (seen_pairs pairs.now)) }
 {
     pairs.binary_search_by(|pair| order(&pair.key, key))
 }
 
 // Puts the value at the key, as `Pairs::insert` does.
 fn put_in(pairs: &mut Vec<Pair>, key: Value, value: Value) -> Result<(), NoMemory>
-    requires rising { KeysRise (map seen_pair pairs.old.items) }
-    ensures rising { KeysRise (map seen_pair pairs.new.items) }
-    ensures ok { OnOk result (map seen_pair pairs.new.items ≡ with_pair (seen key) (seen value) (map seen_pair pairs.old.items)) }
+    requires rising { KeysRise (seen_pairs pairs.old.items) }
+    ensures rising { KeysRise (seen_pairs pairs.new.items) }
+    ensures ok { OnOk result (seen_pairs pairs.new.items ≡ with_pair (seen key) (seen value) (seen_pairs pairs.old.items)) }
     ensures err { OnErr result (pairs.new.items ≡ pairs.old.items) }
-    ensures room { IsSome (value_at (seen key) (map seen_pair pairs.old.items)) → IsOk result }
+    ensures room { IsSome (value_at (seen key) (seen_pairs pairs.old.items)) → IsOk result }
 {
     match place_of(pairs, &key) {
         Ok(place) => {
@@ -117,12 +117,12 @@ fn put_in(pairs: &mut Vec<Pair>, key: Value, value: Value) -> Result<(), NoMemor
 
 // Puts the value in the stead of that at the key, as `Pairs::replace` does.
 fn replace_in(pairs: &mut Vec<Pair>, key: &Value, value: Value) -> Result<Value, Value>
-    requires rising { KeysRise (map seen_pair pairs.old.items) }
-    ensures rising { KeysRise (map seen_pair pairs.new.items) }
-    ensures ok { OnOk result (map seen_pair pairs.new.items ≡ with_pair (seen key.now) (seen value) (map seen_pair pairs.old.items)) }
-    ensures found { IfOk result (λ old. value_at (seen key.now) (map seen_pair pairs.old.items) ≡ Some (seen old)) }
+    requires rising { KeysRise (seen_pairs pairs.old.items) }
+    ensures rising { KeysRise (seen_pairs pairs.new.items) }
+    ensures ok { OnOk result (seen_pairs pairs.new.items ≡ with_pair (seen key.now) (seen value) (seen_pairs pairs.old.items)) }
+    ensures found { IfOk result (λ old. value_at (seen key.now) (seen_pairs pairs.old.items) ≡ Some (seen old)) }
     ensures err { OnErr result (pairs.new.items ≡ pairs.old.items) }
-    ensures none { IfErr result (λ given. (given ≡ value) × (value_at (seen key.now) (map seen_pair pairs.old.items) ≡ None)) }
+    ensures none { IfErr result (λ given. (given ≡ value) × (value_at (seen key.now) (seen_pairs pairs.old.items) ≡ None)) }
 {
     match place_of(pairs, key) {
         Ok(place) => Ok(mem::replace(&mut pairs[place].value, value)),

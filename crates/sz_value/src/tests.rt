@@ -1,4 +1,4 @@
-//! Tests of what no clause says: that the calls succeed where there is memory, examples worked by hand, and high values.
+//! Tests of what no clause says: that calls succeed where there is memory, examples worked by hand, and high values.
 use crate::{
     List, NoMemory, Octets, Pairs, Slot, Slots, Text, Value, copy, copy_slot, equal, order, weight,
 };

@@ -4,7 +4,9 @@ use Rattle.sz_value.proofs.laws.a_pair_sets_its_key.Goals as goal
 
 pub returns : goal.returns
 returns c = record {
-  here = value_put;
-  others = λ other key value pairs apart. value_kept key value other pairs apart;
-  later = λ key first second pairs. later_stands key first second pairs;
+  sets = λ key value pairs. record {
+    here = value_put key value pairs;
+    others = λ other apart. value_kept key value other pairs apart;
+    last_stands = λ later. later_stands key value later pairs;
+  };
 }

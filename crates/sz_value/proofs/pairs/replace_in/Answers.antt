@@ -1,7 +1,7 @@
 -- The value beside the key at its place is written over, or the key has a gap.
 use Rattle.std.proofs.Common.{refl}
 use Rattle.sz_value.specs.Seen.{seen}
-use Rattle.sz_value.proofs.MapLemmas.{Replaces, value_over, value_missing}
+use Rattle.sz_value.proofs.MapLemmas.{value_over, value_missing}
 use Rattle.sz_value.proofs.pairs.replace_in.Goals as goal
 
 pub returns-in-Ok-clause-ok : goal.returns-in-Ok-clause-ok

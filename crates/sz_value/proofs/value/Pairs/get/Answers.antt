@@ -1,5 +1,5 @@
 -- The search ends at the place of the key, or at the gap for it.
-use Rattle.std.proofs.Common.{sym, ap, ◌∙◌}
+use Rattle.std.proofs.Common.{sym}
 use Rattle.sz_value.specs.Seen.{seen}
 use Rattle.sz_value.proofs.MapLemmas.{value_found, value_missing}
 use Rattle.sz_value.proofs.value.Pairs.get.Goals as goal

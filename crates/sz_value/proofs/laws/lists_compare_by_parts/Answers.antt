@@ -1,6 +1,0 @@
--- The law is proved with the lemmas on parts.
-use Rattle.sz_value.proofs.PartLemmas.{compare_data-slice_cmp, compare_entries-slice_cmp}
-use Rattle.sz_value.proofs.laws.lists_compare_by_parts.Goals as goal
-
-pub returns : goal.returns
-returns c = record { arrays = compare_data-slice_cmp; tuples = compare_data-slice_cmp; maps = compare_entries-slice_cmp }
