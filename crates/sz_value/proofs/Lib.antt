@@ -2,3 +2,4 @@ pub mod OrderLemmas
 pub mod WeightLemmas
 pub mod MapLemmas
 pub mod PartLemmas
+pub mod HashLemmas

@@ -10,3 +10,4 @@ pub mod Code
 pub mod Falls
 pub mod Total
 pub mod Places
+pub mod Hashing

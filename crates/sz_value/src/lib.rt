@@ -3,6 +3,7 @@
 
 mod comparing;
 mod copying;
+mod hashing;
 mod laws;
 mod list;
 mod octets;

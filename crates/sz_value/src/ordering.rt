@@ -76,7 +76,7 @@ fn order_pairs(a: &Pair, b: &Pair) -> Ordering
 }
 
 // The place of a value's variant in the order of the variants.
-fn kind_of(value: &Value) -> u8
+pub(crate) fn kind_of(value: &Value) -> u8
     ensures value { result ≡ kind (seen value.now) }
 {
     match value {

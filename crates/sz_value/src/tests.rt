@@ -4,6 +4,7 @@ use crate::{
 };
 use std::alloc::Global;
 use std::cmp::Ordering;
+use std::hash::{DefaultHasher, Hash, Hasher};
 use std::test::Fail;
 use std::thread::Builder;
 
@@ -192,6 +193,21 @@ fn slots_hold_values_and_none(rt: HostRuntime) -> Result<(), Fail> {
     assert!(rt; matches!(slots.pop(), Some(Slot::Defined(Value::Int(3)))));
     assert!(rt; matches!(slots.pop(), Some(Slot::Undefined)));
     assert!(rt; slots.is_empty());
+    Ok(())
+}
+
+fn hash_of(value: &Value) -> u64 {
+    let mut hasher = DefaultHasher::new();
+    value.hash(&mut hasher);
+    hasher.finish()
+}
+
+#[test]
+fn equal_values_have_one_hash(rt: HostRuntime) -> Result<(), Fail> {
+    let value = Value::Tuple(numbers(rt.alloc(), &[1, 2])?);
+    let made = copy(rt.alloc(), &value)?;
+    assert_eq!(rt; hash_of(&made), hash_of(&value));
+    assert!(rt; hash_of(&Value::Int(1)) != hash_of(&Value::Time(1)));
     Ok(())
 }
 
