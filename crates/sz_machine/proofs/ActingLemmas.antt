@@ -4,7 +4,7 @@ use Rattle.std.proofs.Common.{◌≡◌, ◌<◌, ℕ, List, [], ◌∷◌, leng
 use Rattle.std.specs.Prelude.{slice_get}
 use Rattle.std.proofs.lemmas.Option.{slice_get_within, slice_get_read}
 use Rattle.std.proofs.lemmas.Bool.Decides.{nat_tests}
-use Rattle.sz_value.specs.Data.{int, bytes}
+use Rattle.sz_value.specs.Data.{int}
 use Rattle.sz_mean.specs.Outcomes.{Slot}
 use Rattle.sz_mean.specs.declared.operator.BinOp.{BinOp}
 use Rattle.sz_machine.specs.declared.code.Instr.{Instr}
@@ -52,16 +52,11 @@ emits_some (v ∷ rest) table s h = omega arith
 
 -- an operator's operands are two numbers, or undefined
 pub computed_numeric : (o : BinOp) (stack : List Slot) (s : State) → IsNotStuck (computed o stack s) → AreNumeric stack
-computed_numeric o [] s h = absurd h
-computed_numeric o (None ∷ []) s h = absurd h
-computed_numeric o (Some (int b) ∷ []) s h = absurd h
 computed_numeric o (None ∷ None ∷ rest) s h = (tt, tt)
 computed_numeric o (None ∷ Some (int a) ∷ rest) s h = (tt, tt)
-computed_numeric o (None ∷ Some (bytes a) ∷ rest) s h = absurd h
 computed_numeric o (Some (int b) ∷ None ∷ rest) s h = (tt, tt)
 computed_numeric o (Some (int b) ∷ Some (int a) ∷ rest) s h = (tt, tt)
-computed_numeric o (Some (int b) ∷ Some (bytes a) ∷ rest) s h = absurd h
-computed_numeric o (Some (bytes b) ∷ rest) s h = absurd h
+computed_numeric o stack s h = absurd h
 
 module _ (code : Code) (text : List ℕ) where
   -- where a step isn't stuck there is an instruction

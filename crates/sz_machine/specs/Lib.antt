@@ -2,6 +2,7 @@
 pub mod Machine
 pub mod Emits
 -- what the functions inside the crate promise each other
+pub mod Stored
 pub mod Operands
 pub mod Acting
 pub mod Going

@@ -14,7 +14,7 @@ seen_operand (Record text) = Some (bytes text.now)
 abbrev pub IsNumeric : Option Datum → Type 0
 IsNumeric None = Unit {0}
 IsNumeric (Some (int number)) = Unit {0}
-IsNumeric (Some (bytes text)) = ⊥
+IsNumeric _ = ⊥
 
 -- the two top slots are there, each a number or undefined
 abbrev pub AreNumeric : List (Option Datum) → Type 0

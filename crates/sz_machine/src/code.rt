@@ -12,7 +12,8 @@ pub enum Instr {
     Input,
     /// Pops a slot into the variable, undefined too.
     Keep(u32),
-    /// Pops a slot and pushes it as a whole number: undefined stays, and bytes that spell no number become undefined.
+    /// Pops a slot and pushes it as a whole number: undefined stays, and what neither is nor spells a
+    /// number becomes undefined.
     Convert,
     /// Pops the right and the left operand and pushes the result, undefined if one of them is.
     Binary(BinOp),

@@ -24,8 +24,11 @@ pub struct Emits {
 impl Model for Emits {
     ghost use Rattle.std.specs.Prelude.{List, map};
     ghost use Rattle.sz_mean.specs.Outcomes.{EmitDatum};
+    ghost use Rattle.sz_machine.specs.Stored.{emits_code};
 
     ghost Value = { List EmitDatum };
+
+    ghost coded = { emits_code };
 
     ghost use Rattle.sz_machine.specs.Emits.{seen_emit};
 

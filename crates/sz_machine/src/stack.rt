@@ -47,8 +47,11 @@ pub struct Stack<'r> {
 impl<'r> Model for Stack<'r> {
     ghost use Rattle.std.specs.Prelude.{List, Option, map, reverse};
     ghost use Rattle.sz_value.specs.Data.{Datum};
+    ghost use Rattle.sz_value.specs.Code.{slots_code};
 
     ghost Value = { List (Option Datum) };
+
+    ghost coded = { slots_code };
 
     ghost use Rattle.sz_machine.specs.Operands.{seen_operand};
 

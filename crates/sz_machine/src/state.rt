@@ -137,14 +137,16 @@ fn undefined_slots(alloc: Global, count: u32) -> Result<Slots, NoMemory>
     Ok(slots)
 }
 
-// The operand as a whole number: undefined where it is, or where its bytes spell no number.
+// The operand as a whole number: undefined where it is, where its text spells no number, or where it is neither
+// number nor text.
 fn whole_number(operand: &Operand) -> Slot
     ensures value { seen_slot result ≡ on_value converted (seen_operand operand.now) }
 {
     match operand {
-        Operand::Owned(Slot::Undefined) => Slot::Undefined,
         Operand::Owned(Slot::Defined(Value::Int(number))) => Slot::Defined(Value::Int(*number)),
+        Operand::Owned(Slot::Defined(Value::Str(text))) => spelled(text.as_str().as_bytes()),
         Operand::Owned(Slot::Defined(Value::Bytes(text))) => spelled(text.as_slice()),
+        Operand::Owned(_) => Slot::Undefined,
         Operand::Record(text) => spelled(text),
     }
 }

@@ -77,14 +77,14 @@ fn doubled(alloc: Global, input: &[u8]) -> Result<Emits, NoMemory> {
 fn is_number(emit: &Emit, table: u32, expected: i64) -> bool {
     match &emit.value {
         Value::Int(number) => emit.table == table && *number == expected,
-        Value::Bytes(_) => false,
+        _ => false,
     }
 }
 
 fn is_bytes(emit: &Emit, table: u32, expected: &[u8]) -> bool {
     match &emit.value {
-        Value::Int(_) => false,
         Value::Bytes(bytes) => emit.table == table && bytes.as_slice() == expected,
+        _ => false,
     }
 }
 

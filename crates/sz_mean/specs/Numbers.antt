@@ -4,7 +4,7 @@ use Rattle.std.specs.Int.{int_wrap, w64}
 use Rattle.std.specs.List.{list_all}
 use Rattle.std.specs.Char.{is_ascii_digit}
 use Rattle.std.specs.Str.Parse.{signed_digits_value, without_leading_sign}
-use Rattle.sz_value.specs.Data.{Datum, int, bytes}
+use Rattle.sz_value.specs.Data.{Datum, int, str, bytes}
 use Rattle.sz_mean.specs.declared.operator.BinOp.{BinOp}
 use Rattle.sz_mean.specs.declared.operator.BinOp.TheVariants.{Add, Sub, Mul}
 
@@ -34,7 +34,10 @@ abbrev pub operated : BinOp → Datum → Datum → Option Datum
 operated o (int a) (int b) = Some (int (operate o a b))
 operated o _ _ = None
 
--- the value as a whole number: a number is itself, a byte string is the number that it spells
+-- the value as a whole number: a number is itself, a string or a byte string is the number that it spells, and no other
+-- value is one
 abbrev pub converted : Datum → Option Datum
 converted (int n) = Some (int n)
+converted (str s) = option_map int (number_in s)
 converted (bytes b) = option_map int (number_in b)
+converted _ = None

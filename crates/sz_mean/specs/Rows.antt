@@ -1,16 +1,16 @@
 -- What tables of sums show of a list of emits.
 use Rattle.std.specs.Prelude.{ℕ, ℤ, pos, ◌+ℤ◌, List, [], ◌∷◌, map, filter, nat_eq, Option, Some, None}
-use Rattle.sz_value.specs.Data.{Datum, int, bytes}
+use Rattle.sz_value.specs.Data.{Datum, int}
 use Rattle.sz_mean.specs.Outcomes.{EmitDatum}
 
 -- the values that were emitted to this table, in order
 abbrev pub emitted_to : ℕ → List EmitDatum → List Datum
 emitted_to table emits = map (λ (e : EmitDatum). e.value) (filter (λ (e : EmitDatum). nat_eq e.table table) emits)
 
--- the number that a value is
+-- the number that a value is, 0 where it is none
 abbrev pub number_of : Datum → ℤ
 number_of (int n) = n
-number_of (bytes b) = pos 0
+number_of _ = pos 0
 
 -- the exact sum of the values
 abbrev pub sum_of : List Datum → ℤ

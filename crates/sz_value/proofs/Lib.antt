@@ -1,1 +1,5 @@
 pub mod OrderLemmas
+pub mod WeightLemmas
+pub mod MapLemmas
+pub mod PartLemmas
+pub mod HashLemmas

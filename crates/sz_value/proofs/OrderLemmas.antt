@@ -1,11 +1,58 @@
--- What a comparison that is known tells of the two values.
-use Rattle.std.proofs.Common.{◌≡◌, ◌↔◌, IsTrue, refl, sym, ◌∙◌, ap, true≢false}
-use Rattle.std.specs.Ordering.{is_eq}
+-- How lists compare from a place on, where all before it is equal.
+use Rattle.std.proofs.Common.{◌≡◌, ◌↔◌, IsTrue, true≢false, ℕ, ◌-◌, ◌≤◌, ◌<◌, List, [], ◌∷◌, length, drop, map, refl, sym, ap, ◌∙◌, arith}
+use Rattle.std.specs.Prelude.{min}
+use Rattle.std.specs.Ordering.{nat_cmp, is_eq}
 use Rattle.std.specs.declared.cmp.Ordering.{Ordering}
 use Rattle.std.specs.declared.cmp.Ordering.TheVariants.{Less, Equal, Greater}
-use Rattle.sz_value.specs.Data.{Datum}
-use Rattle.sz_value.specs.Order.{compare}
+use Rattle.std.proofs.lemmas.Cmp.{ranked}
+use Rattle.std.proofs.lemmas.List.{length-drop}
+use Rattle.std.specs.Cmp.{nat_cmp_is}
+use Rattle.sz_value.specs.Data.{Datum, data_of, entries_of}
+use Rattle.sz_value.specs.Order.{compare, compare_data, compare_entries}
 use Rattle.sz_value.specs.Total.{compare_ties, compare_itself}
+use Rattle.sz_value.specs.Seen.{seen, seen_pair}
+use Rattle.sz_value.specs.declared.value.Value.{Value}
+use Rattle.sz_value.specs.declared.value.Pair.{Pair}
+
+-- how the plain data of two lists of values compare
+abbrev pub list_order : List Value → List Value → Ordering
+list_order vs ws = compare_data (data_of (map seen vs)) (data_of (map seen ws))
+
+-- how the plain data of two lists of pairs compare
+abbrev pub pairs_order : List Pair → List Pair → Ordering
+pairs_order ps qs = compare_entries (entries_of (map seen_pair ps)) (entries_of (map seen_pair qs))
+
+-- two numbers compare as they do where each is less by the same number
+shifted : (n m i : ℕ) (r : Ordering) → r ≡ nat_cmp n m → i ≤ n → i ≤ m → nat_cmp (n - i) (m - i) ≡ r
+shifted n m i Less is low high = sym (nat_cmp_is (n - i) (m - i) Less (let rank = ranked n m Less is in omega arith))
+shifted n m i Equal is low high = sym (nat_cmp_is (n - i) (m - i) Equal (let rank = ranked n m Equal is in omega arith))
+shifted n m i Greater is low high = sym (nat_cmp_is (n - i) (m - i) Greater (let rank = ranked n m Greater is in omega arith))
+
+-- an order of lists in which a front comes first
+module _ {X : Type 0} (order : List X → List X → Ordering)
+    (both : order [] [] ≡ Equal) (front : (y : X) (ys : List X) → order [] (y ∷ ys) ≡ Less) (back : (x : X) (xs : List X) → order (x ∷ xs) [] ≡ Greater) where
+  by_length : (xs ys : List X) → (0 < length xs → 0 < length ys → ⊥) → order xs ys ≡ nat_cmp (length xs) (length ys)
+  by_length [] [] one_is_done = both
+  by_length [] (y ∷ ys) one_is_done = front y ys ∙ nat_cmp_is 0 (length (y ∷ ys)) Less (omega arith)
+  by_length (x ∷ xs) [] one_is_done = back x xs ∙ nat_cmp_is (length (x ∷ xs)) 0 Greater (omega arith)
+  by_length (x ∷ xs) (y ∷ ys) one_is_done = absurd (one_is_done (omega arith) (omega arith))
+
+  -- behind the shorter of two lists the lengths decide
+  ends : (xs ys : List X) (i : ℕ) → i ≡ min (length xs) (length ys) → order (drop i xs) (drop i ys) ≡ nat_cmp (length xs) (length ys)
+  ends xs ys i is =
+      let left = length-drop i xs in
+      let right = length-drop i ys in
+      by_length (drop i xs) (drop i ys) (λ more others. omega arith)
+      ∙ (λ t. nat_cmp (left t) (right t))
+      ∙ shifted (length xs) (length ys) i (nat_cmp (length xs) (length ys)) refl (omega arith) (omega arith)
+
+-- behind the shorter of two lists of values the lengths decide
+pub list_end : (vs ws : List Value) (i : ℕ) → i ≡ min (length vs) (length ws) → list_order (drop i vs) (drop i ws) ≡ nat_cmp (length vs) (length ws)
+list_end = ends list_order refl (λ w ws. refl) (λ v vs. refl)
+
+-- behind the shorter of two lists of pairs the lengths decide
+pub pairs_end : (ps qs : List Pair) (i : ℕ) → i ≡ min (length ps) (length qs) → pairs_order (drop i ps) (drop i qs) ≡ nat_cmp (length ps) (length qs)
+pairs_end = ends pairs_order refl (λ q qs. refl) (λ p ps. refl)
 
 -- a comparison finds the two equal exactly where they are the same
 pub equal_means_same : (d e : Datum) (found : Ordering) → found ≡ compare d e → IsTrue (is_eq found) ↔ (d ≡ e)

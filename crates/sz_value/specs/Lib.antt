@@ -2,5 +2,12 @@
 pub mod Data
 pub mod Seen
 pub mod Order
-pub mod Total
 pub mod Weight
+pub mod Maps
+pub mod Laws
+-- what the functions inside the crate promise each other
+pub mod Code
+pub mod Falls
+pub mod Total
+pub mod Places
+pub mod Hashing

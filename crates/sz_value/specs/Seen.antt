@@ -1,15 +1,30 @@
--- What contracts see of a value and of a slot.
-use Rattle.std.specs.Prelude.{Option, Some, None}
-use Rattle.sz_value.specs.Data.{Datum, int, bytes}
+-- What contracts see of a value, of a pair of a map, and of a slot.
+use Rattle.std.specs.Prelude.{List, map, Option, Some, None}
+use Rattle.sz_value.specs.Data.{Datum, truth, int, time, str, bytes, array, tuple, mapping, data_of, entries_of}
 use Rattle.sz_value.specs.declared.value.Value.{Value}
-use Rattle.sz_value.specs.declared.value.Value.TheVariants.{Int, Bytes}
-use Rattle.sz_value.specs.declared.value.Slot.{Slot}
-use Rattle.sz_value.specs.declared.value.Slot.TheVariants.{Defined, Undefined}
+use Rattle.sz_value.specs.declared.value.Value.TheVariants.{Bool, Int, Time, Str, Bytes, Array, Tuple, Map}
+use Rattle.sz_value.specs.declared.value.Pair.{Pair}
+use Rattle.sz_value.specs.declared.slots.Slot.{Slot}
+use Rattle.sz_value.specs.declared.slots.Slot.TheVariants.{Defined, Undefined}
 
 -- the plain data of a value
 abbrev pub seen : Value → Datum
-seen (Int number) = int number
+seen (Bool b) = truth b
+seen (Int n) = int n
+seen (Time n) = time n
+seen (Str text) = str text
 seen (Bytes octets) = bytes octets
+seen (Array parts) = array (data_of parts)
+seen (Tuple parts) = tuple (data_of parts)
+seen (Map pairs) = mapping (entries_of pairs)
+
+-- the plain data of a key and its value
+abbrev pub seen_pair : Pair → Datum × Datum
+seen_pair pair = (seen pair.key, seen pair.value)
+
+-- the plain data of pairs
+abbrev pub seen_pairs : List Pair → List (Datum × Datum)
+seen_pairs pairs = map seen_pair pairs
 
 -- the plain data of the value in a slot, if it holds one
 abbrev pub seen_slot : Slot → Option Datum

@@ -1,20 +1,63 @@
 //! Copies of values and slots.
 ghost use Rattle.std.specs.Prelude.{◌≡◌, IfOk};
-ghost use Rattle.sz_value.specs.Seen.{seen, seen_slot};
+ghost use Rattle.sz_value.specs.Seen.{seen, seen_pair, seen_slot};
 
 use crate::NoMemory;
 use crate::octets::Octets;
-use crate::value::{Slot, Value};
+use crate::slots::Slot;
+use crate::text::Text;
+use crate::value::{List, Pair, Pairs, Value};
 use std::alloc::Global;
 
 /// A copy of the value.
+#[cycle(copy)]
 pub fn copy(alloc: Global, value: &Value) -> Result<Value, NoMemory>
     ensures value { IfOk result (λ made. seen made ≡ seen value.now) }
 {
     match value {
+        Value::Bool(truth) => Ok(Value::Bool(*truth)),
         Value::Int(number) => Ok(Value::Int(*number)),
+        Value::Time(number) => Ok(Value::Time(*number)),
+        Value::Str(text) => Ok(Value::Str(Text::new(alloc, text.as_str())?)),
         Value::Bytes(bytes) => Ok(Value::Bytes(Octets::from_slice(alloc, bytes.as_slice())?)),
+        Value::Array(list) => Ok(Value::Array(copy_list(alloc, list)?)),
+        Value::Tuple(list) => Ok(Value::Tuple(copy_list(alloc, list)?)),
+        Value::Map(pairs) => Ok(Value::Map(copy_pairs(alloc, pairs)?)),
     }
+}
+
+/// A copy of the list.
+#[cycle(copy)]
+pub fn copy_list(alloc: Global, list: &List) -> Result<List, NoMemory>
+    ensures value { IfOk result (λ made. made ≡ list.now) }
+{
+    let mut held = Vec::with_capacity(alloc, list.held.len())?;
+    for value in &list.held {
+        held.push(copy(alloc, value)?)?;
+    }
+    Ok(List { held })
+}
+
+/// A copy of the pairs.
+#[cycle(copy)]
+pub fn copy_pairs(alloc: Global, pairs: &Pairs) -> Result<Pairs, NoMemory>
+    ensures value { IfOk result (λ made. made ≡ pairs.now) }
+{
+    let mut held = Vec::with_capacity(alloc, pairs.held.len())?;
+    for pair in &pairs.held {
+        held.push(copy_pair(alloc, pair)?)?;
+    }
+    Ok(Pairs { held })
+}
+
+// A copy of a key and its value.
+#[cycle(copy)]
+fn copy_pair(alloc: Global, pair: &Pair) -> Result<Pair, NoMemory>
+    ensures value { IfOk result (λ made. seen_pair made ≡ seen_pair pair.now) }
+{
+    let key = copy(alloc, &pair.key)?;
+    let value = copy(alloc, &pair.value)?;
+    Ok(Pair { key, value })
 }
 
 /// A copy of the slot.

@@ -3,9 +3,18 @@ ghost use Rattle.std.specs.Prelude.{◌≡◌, ◌==◌, ◌<◌, ◌++◌, ◌�
 ghost use Rattle.sz_value.specs.Seen.{seen_slot};
 
 use crate::NoMemory;
-use crate::value::Slot;
+use crate::value::Value;
 use std::alloc::Global;
 use std::marker::Model;
+
+/// A value, or none where the program's value is undefined.
+///
+/// Contracts see it by `seen_slot` of `specs/Seen.antt`.
+#[derive(Debug, Drop)]
+pub enum Slot {
+    Defined(Value),
+    Undefined,
+}
 
 /// A list of slots. Places are counted from 0.
 ///
@@ -18,8 +27,11 @@ pub struct Slots {
 impl Model for Slots {
     ghost use Rattle.std.specs.Prelude.{List, map, Option};
     ghost use Rattle.sz_value.specs.Data.{Datum};
+    ghost use Rattle.sz_value.specs.Code.{slots_code};
 
     ghost Value = { List (Option Datum) };
+
+    ghost coded = { slots_code };
 
     ghost use Rattle.sz_value.specs.Seen.{seen_slot};
 

@@ -1,21 +1,91 @@
-//! Values, and slots that hold one or none.
+//! Values, and the lists and maps inside them.
 
 use crate::octets::Octets;
+use crate::text::Text;
+use std::marker::Model;
 
 /// A value of a program.
 ///
 /// Contracts see it as plain data, by `seen` of `specs/Seen.antt`.
+#[cycle(value)]
 #[derive(Debug, Drop)]
 pub enum Value {
+    Bool(bool),
     Int(i64),
+    /// A number of microseconds.
+    Time(i64),
+    Str(Text),
     Bytes(Octets),
+    Array(List),
+    Tuple(List),
+    Map(Pairs),
 }
 
-/// A value, or none where the program's value is undefined.
+/// The elements of an array, or the fields of a tuple, in order. Places are counted from 0.
 ///
-/// Contracts see it by `seen_slot` of `specs/Seen.antt`.
+/// Contracts see the list of their plain data.
+#[cycle(value)]
 #[derive(Debug, Drop)]
-pub enum Slot {
-    Defined(Value),
-    Undefined,
+pub struct List {
+    pub(crate) held: Vec<Value>,
+}
+
+/// A key of a map and its value.
+#[cycle(value)]
+#[derive(Debug, Drop)]
+pub struct Pair {
+    pub key: Value,
+    pub value: Value,
+}
+
+/// The pairs of a map, in ascending order of their keys, no two of which are equal. Places are counted from 0.
+///
+/// Contracts see the list of the keys and values as plain data.
+#[cycle(value)]
+#[derive(Debug, Drop)]
+pub struct Pairs {
+    pub(crate) held: Vec<Pair>,
+}
+
+impl Model for List {
+    ghost use Rattle.std.specs.Prelude as std;
+    ghost use Rattle.sz_value.specs.Data.{Datum};
+    ghost use Rattle.sz_value.specs.Code.{parts_code, parts_nodes};
+
+    ghost Value = { std.List Datum };
+
+    ghost coded = { parts_code };
+
+    ghost use Rattle.sz_value.specs.Seen.{seen};
+
+    ghost view = { λ list. std.map seen list.held.items };
+
+    ghost size = { parts_nodes };
+
+    ghost use Rattle.sz_value.specs.Falls.{most_le-parts};
+
+    ghost size_decreases = { λ list h. most_le-parts list.held.items };
+}
+
+impl Model for Pairs {
+    ghost use Rattle.std.specs.Prelude as std;
+    ghost use Rattle.sz_value.specs.Data.{Datum};
+    ghost use Rattle.sz_value.specs.Code.{pairs_code, pairs_nodes};
+
+    ghost Value = { std.List (Datum × Datum) };
+
+    ghost coded = { pairs_code };
+
+    ghost use Rattle.sz_value.specs.Order.{KeysRise};
+    ghost use Rattle.sz_value.specs.Seen.{seen_pair};
+
+    ghost view = { λ pairs. std.map seen_pair pairs.held.items };
+
+    ghost invariant = { λ pairs. KeysRise (std.map seen_pair pairs.held.items) };
+
+    ghost size = { pairs_nodes };
+
+    ghost use Rattle.sz_value.specs.Falls.{most_le-pairs};
+
+    ghost size_decreases = { λ pairs h. most_le-pairs pairs.held.items };
 }

@@ -4,7 +4,7 @@ use Rattle.std.proofs.Common.{◌≡◌, ℕ, zero, suc, ◌+◌, ◌<◌, ℤ, 
 use Rattle.std.specs.Prelude.{slice_get, slice_set, nat_lt, if◌then◌else◌, replicate, option_map}
 use Rattle.std.proofs.lemmas.List.{length-set, length-replicate}
 use Rattle.std.proofs.lemmas.Bool.Decides.{nat_tests}
-use Rattle.sz_value.specs.Data.{int, bytes}
+use Rattle.sz_value.specs.Data.{int, str, bytes}
 use Rattle.sz_mean.specs.declared.operator.BinOp.{BinOp}
 use Rattle.sz_mean.specs.Numbers.{operated, operate, converted, number_in}
 use Rattle.sz_mean.specs.Tree.{Exp, number, variable, input, convert, binary, Stm, declare, emit, Prog}
@@ -22,9 +22,8 @@ use Rattle.szl.proofs.Sound.{Ty, whole, octets, IsTyped, IsSoundStm, AreSound}
 abbrev pub HasTy : Slot → Ty → Type 0
 HasTy None t = Unit {0}
 HasTy (Some (int n)) whole = Unit {0}
-HasTy (Some (int n)) octets = ⊥
-HasTy (Some (bytes b)) whole = ⊥
 HasTy (Some (bytes b)) octets = Unit {0}
+HasTy _ t = ⊥
 
 -- n variables, each undefined or a whole number
 pub record AreWhole (n : ℕ) (locals : List Slot) : Type 0 where
@@ -65,11 +64,12 @@ read_typed None = tt
 read_typed (Some z) = tt
 
 -- a slot as a number is undefined or a whole number
-
 converted_typed : (v : Slot) → HasTy (on_value converted v) whole
 converted_typed None = tt
 converted_typed (Some (int n)) = tt
+converted_typed (Some (str s)) = read_typed (number_in s)
 converted_typed (Some (bytes b)) = read_typed (number_in b)
+converted_typed (Some d) = tt
 
 module _ (code : Code) (text : List ℕ) where
   -- the state at a place, written another way
@@ -92,9 +92,9 @@ module _ (code : Code) (text : List ℕ) where
   computes o s at end (Some (int a)) None w x e ta tb h = at_same s (at + 1) end (None ∷ s.stack) w x e (h (record { typed = tt }))
   computes o s at end (Some (int a)) (Some (int b)) w x e ta tb h =
       at_same s (at + 1) end (Some (int (operate o a b)) ∷ s.stack) w x e (h (record { typed = tt }))
-  computes o s at end (Some (bytes a)) b w x e ta tb h = absurd ta
-  computes o s at end None (Some (bytes b)) w x e ta tb h = absurd tb
-  computes o s at end (Some (int a)) (Some (bytes b)) w x e ta tb h = absurd tb
+  computes o s at end None (Some d) w x e ta tb h = absurd tb
+  computes o s at end (Some (int a)) (Some d) w x e ta tb h = absurd tb
+  computes o s at end (Some d) b w x e ta tb h = absurd ta
 
   module _ (n : ℕ) where
     pub eval_runs : (e : Exp) (t : Ty) (s : State) (end : ℕ) (x : Next) → IsTyped n e t → AreWhole n s.locals

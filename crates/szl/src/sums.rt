@@ -83,13 +83,13 @@ fn more(row: Option<i128>, value: &Value) -> Option<i128>
     }
 }
 
-/// The number that the value is.
+/// The number that the value is, 0 where it is none.
 fn number_of(value: &Value) -> i128
     ensures value { result ≡ number_of (seen value.now) }
     ensures within { IsWithin (2 ^ 63) result }
 {
     match value {
         Value::Int(number) => i128::from(*number),
-        Value::Bytes(_) => 0,
+        _ => 0,
     }
 }
