@@ -12,26 +12,26 @@ use Rattle.sz_machine.specs.declared.code.Code.{Code}
 use Rattle.sz_machine.specs.declared.state.State.{State as Held}
 use Rattle.sz_machine.specs.declared.running.Going.{Going}
 use Rattle.sz_machine.specs.declared.running.Going.TheVariants.{On, Ended}
-use Rattle.sz_machine.specs.Machine.{State, Next, Stuck, pushed, kept, whole, computed, emits, act, step, step_by}
+use Rattle.sz_machine.specs.Machine.{State, Next, Stuck, after_push, after_keep, after_convert, after_operator, emits, act, step, step_by}
 use Rattle.sz_machine.specs.Operands.{AreNumeric}
 use Rattle.sz_machine.specs.Acting.{seen_state, IsNotStuck}
 use Rattle.sz_machine.specs.Going.{Acts}
 
 -- a variable that is pushed is there
-pub pushed_within : (slots : List Slot) (x : ℕ) (s : State) → IsNotStuck (pushed (slice_get slots x) s) → x < length slots
+pub pushed_within : (slots : List Slot) (x : ℕ) (s : State) → IsNotStuck (after_push (slice_get slots x) s) → x < length slots
 pushed_within slots x s h = within (slice_get slots x) refl h
   where
-    within : (v : Option Slot) → slice_get slots x ≡ v → IsNotStuck (pushed v s) → x < length slots
+    within : (v : Option Slot) → slice_get slots x ≡ v → IsNotStuck (after_push v s) → x < length slots
     within None e h1 = absurd h1
     within (Some v) e h1 = slice_get_within slots x v e
 
 -- where an operand is kept there is one
-pub kept_some : (stack : List Slot) (x : ℕ) (s : State) → IsNotStuck (kept stack x s) → 0 < length stack
+pub kept_some : (stack : List Slot) (x : ℕ) (s : State) → IsNotStuck (after_keep stack x s) → 0 < length stack
 kept_some [] x s h = absurd h
 kept_some (v ∷ rest) x s h = omega arith
 
 -- and the variable is there
-pub kept_within : (stack : List Slot) (x : ℕ) (s : State) → IsNotStuck (kept stack x s) → x < length s.locals
+pub kept_within : (stack : List Slot) (x : ℕ) (s : State) → IsNotStuck (after_keep stack x s) → x < length s.locals
 kept_within [] x s h = absurd h
 kept_within (v ∷ rest) x s h = within _ (nat_lt x (length s.locals)) refl h
   where
@@ -41,7 +41,7 @@ kept_within (v ∷ rest) x s h = within _ (nat_lt x (length s.locals)) refl h
     within next false e h1 = absurd h1
 
 -- where an operand is converted there is one
-pub whole_some : (stack : List Slot) (s : State) → IsNotStuck (whole stack s) → 0 < length stack
+pub whole_some : (stack : List Slot) (s : State) → IsNotStuck (after_convert stack s) → 0 < length stack
 whole_some [] s h = absurd h
 whole_some (v ∷ rest) s h = omega arith
 
@@ -51,7 +51,7 @@ emits_some [] table s h = absurd h
 emits_some (v ∷ rest) table s h = omega arith
 
 -- an operator's operands are two numbers, or undefined
-pub computed_numeric : (o : BinOp) (stack : List Slot) (s : State) → IsNotStuck (computed o stack s) → AreNumeric stack
+pub computed_numeric : (o : BinOp) (stack : List Slot) (s : State) → IsNotStuck (after_operator o stack s) → AreNumeric stack
 computed_numeric o (None ∷ None ∷ rest) s h = (tt, tt)
 computed_numeric o (None ∷ Some (int a) ∷ rest) s h = (tt, tt)
 computed_numeric o (Some (int b) ∷ None ∷ rest) s h = (tt, tt)

@@ -1,9 +1,9 @@
 -- The machine: what one instruction does to one state, and a run as its repetition.
 use Rattle.std.specs.Prelude.{◌≡◌, ℕ, zero, suc, ◌+◌, List, [], ◌∷◌, length, nat_lt, if◌then◌else◌, Option, Some, None, slice_get, slice_set, replicate}
 use Rattle.sz_value.specs.Data.{int, bytes}
-use Rattle.sz_mean.specs.Numbers.{operated, converted}
+use Rattle.sz_mean.specs.Numbers.{result_of_values, whole_number_of}
 use Rattle.sz_mean.specs.Outcomes.{Slot, EmitDatum, World, Outcome, Done}
-use Rattle.sz_mean.specs.Meaning.{on_value, emitted}
+use Rattle.sz_mean.specs.Meaning.{on_value, world_with_emit}
 use Rattle.sz_mean.specs.declared.operator.BinOp.{BinOp}
 use Rattle.sz_machine.specs.declared.code.Instr.{Instr}
 use Rattle.sz_machine.specs.declared.code.Instr.TheVariants.{Push, Local, Input, Keep, Convert, Binary, Emit, EndRecord}
@@ -27,44 +27,44 @@ abbrev pub onward : State → List Slot → Next
 onward s stack = Goes (record s { at = s.at + 1; stack = stack })
 
 -- pushes a slot, if there is one to push
-abbrev pub pushed : Option Slot → State → Next
-pushed None s = Stuck
-pushed (Some v) s = onward s (v ∷ s.stack)
+abbrev pub after_push : Option Slot → State → Next
+after_push None s = Stuck
+after_push (Some v) s = onward s (v ∷ s.stack)
 
 -- pops a slot into a variable, undefined too
-abbrev pub kept : List Slot → ℕ → State → Next
-kept [] x s = Stuck
-kept (v ∷ rest) x s =
+abbrev pub after_keep : List Slot → ℕ → State → Next
+after_keep [] x s = Stuck
+after_keep (v ∷ rest) x s =
     if nat_lt x (length s.locals)
     then Goes (record s { at = s.at + 1; stack = rest; locals = slice_set s.locals x v })
     else Stuck
 
 -- pops a slot and pushes it as a whole number
-abbrev pub whole : List Slot → State → Next
-whole [] s = Stuck
-whole (v ∷ rest) s = onward s (on_value converted v ∷ rest)
+abbrev pub after_convert : List Slot → State → Next
+after_convert [] s = Stuck
+after_convert (v ∷ rest) s = onward s (on_value whole_number_of v ∷ rest)
 
 -- pops the right and then the left operand and pushes what the operator makes of them; operands are numbers or undefined
-abbrev pub computed : BinOp → List Slot → State → Next
-computed o (None ∷ None ∷ rest) s = onward s (None ∷ rest)
-computed o (None ∷ Some (int a) ∷ rest) s = onward s (None ∷ rest)
-computed o (Some (int b) ∷ None ∷ rest) s = onward s (None ∷ rest)
-computed o (Some (int b) ∷ Some (int a) ∷ rest) s = onward s (operated o (int a) (int b) ∷ rest)
-computed o _ s = Stuck
+abbrev pub after_operator : BinOp → List Slot → State → Next
+after_operator o (None ∷ None ∷ rest) s = onward s (None ∷ rest)
+after_operator o (None ∷ Some (int a) ∷ rest) s = onward s (None ∷ rest)
+after_operator o (Some (int b) ∷ None ∷ rest) s = onward s (None ∷ rest)
+after_operator o (Some (int b) ∷ Some (int a) ∷ rest) s = onward s (result_of_values o (int a) (int b) ∷ rest)
+after_operator o _ s = Stuck
 
 -- pops a slot and emits its value to a table, if it has one
 abbrev pub emits : List Slot → ℕ → State → Next
 emits [] table s = Stuck
-emits (v ∷ rest) table s = Goes (record s { at = s.at + 1; stack = rest; world = emitted table v s.world })
+emits (v ∷ rest) table s = Goes (record s { at = s.at + 1; stack = rest; world = world_with_emit table v s.world })
 
 -- what an instruction does to a state, for this record
 abbrev pub act : Instr → List ℕ → State → Next
 act (Push n) text s = onward s (Some (int n) ∷ s.stack)
-act (Local x) text s = pushed (slice_get s.locals x) s
+act (Local x) text s = after_push (slice_get s.locals x) s
 act Input text s = onward s (Some (bytes text) ∷ s.stack)
-act (Keep x) text s = kept s.stack x s
-act Convert text s = whole s.stack s
-act (Binary o) text s = computed o s.stack s
+act (Keep x) text s = after_keep s.stack x s
+act Convert text s = after_convert s.stack s
+act (Binary o) text s = after_operator o s.stack s
 act (Emit table) text s = emits s.stack table s
 act EndRecord text s = Ends (Done s.world.emits)
 

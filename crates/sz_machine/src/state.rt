@@ -2,8 +2,8 @@
 ghost use Rattle.std.specs.Prelude.{◌≡◌, ℕ, ◌<◌, [], ◌∷◌, length, slice_get, replicate, None, Some, option_map, IfOk, OnOk};
 ghost use Rattle.sz_value.specs.Data.{int, bytes};
 ghost use Rattle.sz_value.specs.Seen.{seen_slot};
-ghost use Rattle.sz_mean.specs.Numbers.{converted, operated};
-ghost use Rattle.sz_mean.specs.Meaning.{on_value, on_values, emitted};
+ghost use Rattle.sz_mean.specs.Numbers.{whole_number_of, result_of_values};
+ghost use Rattle.sz_mean.specs.Meaning.{on_value, on_values, world_with_emit};
 ghost use Rattle.sz_machine.specs.Operands.{seen_operand, IsNumeric, AreNumeric};
 
 use crate::code::Code;
@@ -27,7 +27,7 @@ pub struct State<'r> {
 }
 
 impl<'r> State<'r> {
-    ghost use Rattle.sz_machine.specs.Machine.{start, onward, pushed, kept, whole, computed, emits};
+    ghost use Rattle.sz_machine.specs.Machine.{start, onward, after_push, after_keep, after_convert, after_operator, emits};
     ghost use Rattle.sz_machine.specs.Acting.{seen_state, Does};
 
     /// The state in which a record begins.
@@ -66,7 +66,7 @@ impl<'r> State<'r> {
     pub fn push_local(&mut self, alloc: Global, local: u32) -> Result<(), NoMemory>
         requires room { self.old.at < usize.MAX }
         requires within { local < length self.old.locals }
-        ensures value { OnOk result (Does (λ s. pushed (slice_get s.locals local) s) self.old self.new) }
+        ensures value { OnOk result (Does (λ s. after_push (slice_get s.locals local) s) self.old self.new) }
     {
         let slot = copy_slot(alloc, self.locals.get(local as usize))?;
         self.stack.push(Operand::Owned(slot))?;
@@ -79,7 +79,7 @@ impl<'r> State<'r> {
         requires room { self.old.at < usize.MAX }
         requires some { 0 < length self.old.stack }
         requires within { local < length self.old.locals }
-        ensures value { OnOk result (Does (λ s. kept s.stack local s) self.old self.new) }
+        ensures value { OnOk result (Does (λ s. after_keep s.stack local s) self.old self.new) }
     {
         let slot = self.stack.pop().into_slot(alloc)?;
         self.locals.set(local as usize, slot);
@@ -91,7 +91,7 @@ impl<'r> State<'r> {
     pub fn convert(&mut self) -> Result<(), NoMemory>
         requires room { self.old.at < usize.MAX }
         requires some { 0 < length self.old.stack }
-        ensures value { OnOk result (Does (λ s. whole s.stack s) self.old self.new) }
+        ensures value { OnOk result (Does (λ s. after_convert s.stack s) self.old self.new) }
     {
         let slot = whole_number(&self.stack.pop());
         self.stack.push(Operand::Owned(slot))?;
@@ -103,11 +103,11 @@ impl<'r> State<'r> {
     pub fn compute(&mut self, operator: BinOp) -> Result<(), NoMemory>
         requires room { self.old.at < usize.MAX }
         requires numeric { AreNumeric self.old.stack }
-        ensures value { OnOk result (Does (λ s. computed operator s.stack s) self.old self.new) }
+        ensures value { OnOk result (Does (λ s. after_operator operator s.stack s) self.old self.new) }
     {
         let right = self.stack.pop();
         let left = self.stack.pop();
-        let slot = computed(operator, &left, &right);
+        let slot = slot_of_operator(operator, &left, &right);
         self.stack.push(Operand::Owned(slot))?;
         self.at += 1;
         Ok(())
@@ -140,7 +140,7 @@ fn undefined_slots(alloc: Global, count: u32) -> Result<Slots, NoMemory>
 // The operand as a whole number: undefined where it is, where its text spells no number, or where it is neither
 // number nor text.
 fn whole_number(operand: &Operand) -> Slot
-    ensures value { seen_slot result ≡ on_value converted (seen_operand operand.now) }
+    ensures value { seen_slot result ≡ on_value whole_number_of (seen_operand operand.now) }
 {
     match operand {
         Operand::Owned(Slot::Defined(Value::Int(number))) => Slot::Defined(Value::Int(*number)),
@@ -153,7 +153,7 @@ fn whole_number(operand: &Operand) -> Slot
 
 // The number that the bytes spell, undefined where they spell none.
 fn spelled(text: &[u8]) -> Slot
-    ensures value { seen_slot result ≡ converted (bytes text.now) }
+    ensures value { seen_slot result ≡ whole_number_of (bytes text.now) }
 {
     match number_in(text) {
         Some(number) => Slot::Defined(Value::Int(number)),
@@ -162,10 +162,10 @@ fn spelled(text: &[u8]) -> Slot
 }
 
 // What the operator makes of two operands, undefined where one of them is.
-fn computed(operator: BinOp, left: &Operand, right: &Operand) -> Slot
+fn slot_of_operator(operator: BinOp, left: &Operand, right: &Operand) -> Slot
     requires left { IsNumeric (seen_operand left.now) }
     requires right { IsNumeric (seen_operand right.now) }
-    ensures value { seen_slot result ≡ on_values (operated operator) (seen_operand left.now) (seen_operand right.now) }
+    ensures value { seen_slot result ≡ on_values (result_of_values operator) (seen_operand left.now) (seen_operand right.now) }
 {
     match (number_of(left), number_of(right)) {
         (Some(left), Some(right)) => Slot::Defined(Value::Int(operate(operator, left, right))),
@@ -187,7 +187,7 @@ fn number_of(operand: &Operand) -> Option<i64>
 
 // Appends the slot's value as an emit to the table, if it has one.
 fn emit_slot(emits: &mut Emits, table: u32, slot: Slot) -> Result<(), NoMemory>
-    ensures value { OnOk result ((left : ℕ) → emitted table (seen_slot slot) (record { left = left; emits = emits.old })
+    ensures value { OnOk result ((left : ℕ) → world_with_emit table (seen_slot slot) (record { left = left; emits = emits.old })
         ≡ record { left = left; emits = emits.new }) }
 {
     match slot {

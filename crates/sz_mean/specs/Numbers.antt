@@ -30,14 +30,14 @@ operate Sub a b = int_wrap w64 (a -ℤ b)
 operate Mul a b = int_wrap w64 (a *ℤ b)
 
 -- what an operator makes of two values: nothing where one of them is no number
-abbrev pub operated : BinOp → Datum → Datum → Option Datum
-operated o (int a) (int b) = Some (int (operate o a b))
-operated o _ _ = None
+abbrev pub result_of_values : BinOp → Datum → Datum → Option Datum
+result_of_values o (int a) (int b) = Some (int (operate o a b))
+result_of_values o _ _ = None
 
 -- the value as a whole number: a number is itself, a string or a byte string is the number that it spells, and no other
 -- value is one
-abbrev pub converted : Datum → Option Datum
-converted (int n) = Some (int n)
-converted (str s) = option_map int (number_in s)
-converted (bytes b) = option_map int (number_in b)
-converted _ = None
+abbrev pub whole_number_of : Datum → Option Datum
+whole_number_of (int n) = Some (int n)
+whole_number_of (str s) = option_map int (number_in s)
+whole_number_of (bytes b) = option_map int (number_in b)
+whole_number_of _ = None

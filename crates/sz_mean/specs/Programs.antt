@@ -155,9 +155,9 @@ statements d (rest ∷ []) = if nat_eq (length (lexemes rest)) 0 then Some d els
 statements d (s ∷ t ∷ ss) = option_and_then (λ (next : Draft). statements next (t ∷ ss)) (statement d (lexemes s))
 
 -- the program that a draft is at its end
-abbrev pub finished : Draft → Prog
-finished d = record { tables = d.tables; locals = length d.variables; body = d.body }
+abbrev pub program_of : Draft → Prog
+program_of d = record { tables = d.tables; locals = length d.variables; body = d.body }
 
 -- the program that a text is
 abbrev pub program_in : List ℕ → Option Prog
-program_in text = option_map finished (statements empty_draft (slice_split (λ b. nat_eq b 59) text))
+program_in text = option_map program_of (statements empty_draft (slice_split (λ b. nat_eq b 59) text))

@@ -3,7 +3,7 @@ ghost use Rattle.std.specs.Prelude.{◌≡◌, ◌+◌, ◌+ℤ◌, ◌++◌, �
 ghost use Rattle.sz_value.specs.Data.{Datum};
 ghost use Rattle.sz_mean.specs.Tree.{Prog, Stm, emit};
 ghost use Rattle.sz_mean.specs.Outcomes.{Slot, EmitDatum, World, Normal};
-ghost use Rattle.sz_mean.specs.Meaning.{emitted, exec_all, then_do, all_emits};
+ghost use Rattle.sz_mean.specs.Meaning.{world_with_emit, exec_all, then_do, all_emits};
 ghost use Rattle.sz_mean.specs.Rows.{emitted_to, sum_of};
 
 /// The sum over two lists of values is that of the one and of the other: a table may be summed up in parts.

@@ -5,7 +5,7 @@ use Rattle.std.proofs.lemmas.List.Splits.{length-slice_split}
 use Rattle.std.proofs.lemmas.List.Sums.{count_by-le-length}
 use Rattle.sz_mean.specs.Tree.{Prog}
 use Rattle.sz_mean.specs.Meaning.{mean, emits_of, all_emits}
-use Rattle.sz_mean.specs.Programs.{Draft, empty_draft, statements, finished, program_in}
+use Rattle.sz_mean.specs.Programs.{Draft, empty_draft, statements, program_of, program_in}
 use Rattle.sz_machine.specs.declared.code.Code.{Code}
 use Rattle.szl.specs.declared.status.Status.TheVariants as status
 use Rattle.szl.specs.Code.{IsCodeOf}
@@ -25,12 +25,12 @@ record IsFit (text : List ℕ) (p : Prog) : Type 0 where
   sound : AreSound p.locals p.body
   few : length p.body ≤ length (pieces 59 text)
 
-fit_of : (text : List ℕ) (d : Draft) → GrowsBy (length (pieces 59 text)) empty_draft d → IsFit text (finished d)
+fit_of : (text : List ℕ) (d : Draft) → GrowsBy (length (pieces 59 text)) empty_draft d → IsFit text (program_of d)
 fit_of text d g = record { sound = g.sound tt; few = omega (arith, g.body) }
 
-finished_fit : (text : List ℕ) (o : Option Draft) (p : Prog) → IfSome o (GrowsBy (length (pieces 59 text)) empty_draft) → option_map finished o ≡ Some p → IsFit text p
+finished_fit : (text : List ℕ) (o : Option Draft) (p : Prog) → IfSome o (GrowsBy (length (pieces 59 text)) empty_draft) → option_map program_of o ≡ Some p → IsFit text p
 finished_fit text None p h e = absurd (cc)
-finished_fit text (Some d) p h e = let same : finished d ≡ p = cc in subst (IsFit text) same (fit_of text d h)
+finished_fit text (Some d) p h e = let same : program_of d ≡ p = cc in subst (IsFit text) same (fit_of text d h)
 
 read_fit : (text : List ℕ) (p : Prog) → program_in text ≡ Some p → IsFit text p
 read_fit text p e = finished_fit text (statements empty_draft (pieces 59 text)) p (statements_grow empty_draft (pieces 59 text)) e

@@ -5,7 +5,7 @@ use Rattle.std.specs.Borrow.{Bor}
 use Rattle.std.specs.List.{slice_split, onto_first, list_all}
 use Rattle.std.proofs.lemmas.List.Splits.{slice_split-cons_yes, slice_split-cons_no}
 use Rattle.std.proofs.lemmas.Bool.Decides.{nat_tests}
-use Rattle.sz_mean.specs.Programs.{Draft, empty_draft, is_blank, goes_on, lexemes, value_in, statement, statements, finished, program_in}
+use Rattle.sz_mean.specs.Programs.{Draft, empty_draft, is_blank, goes_on, lexemes, value_in, statement, statements, program_of, program_in}
 use Rattle.szl.specs.View.{texts, HasRoom}
 use Rattle.szl.specs.Cuts.{pieces}
 use Rattle.szl.proofs.Growth.{Grows, statement_grows, if_some_is}
@@ -77,8 +77,8 @@ read_more text rest piece behind d next read cut len is =
 pub read_none : (text rest piece behind : List ℕ) (d : Draft) → IsReadUpTo text rest d → pieces 59 rest ≡ piece ∷ pieces 59 behind
     → None ≡ statement d (lexemes piece) → None ≡ program_in text
 read_none text rest piece behind d read cut is =
-    ap (λ (o : Option Draft). option_map finished (option_and_then (λ (n : Draft). statements n (pieces 59 behind)) o)) is
-    ∙ ap (option_map finished) (sym (statements_step d piece behind) ∙ ap (statements d) (sym cut) ∙ read.same)
+    ap (λ (o : Option Draft). option_map program_of (option_and_then (λ (n : Draft). statements n (pieces 59 behind)) o)) is
+    ∙ ap (option_map program_of) (sym (statements_step d piece behind) ∙ ap (statements d) (sym cut) ∙ read.same)
 
 not_zero : (n : ℕ) → nat_eq (suc n) 0 ≡ false
 not_zero n = grind (arith, nat_tests)
@@ -99,13 +99,13 @@ blank_is [] = refl
 blank_is (b ∷ bs) = blank_step b bs (is_blank b) (goes_on b bs) refl refl (blank_is bs)
 
 -- a choice of what a program in the making becomes
-finish_if : (b : Bool) (d : Draft) → option_map finished (if b then Some d else None) ≡ (if b then Some (finished d) else None)
+finish_if : (b : Bool) (d : Draft) → option_map program_of (if b then Some d else None) ≡ (if b then Some (program_of d) else None)
 finish_if true d = refl
 finish_if false d = refl
 
 -- the end of the text
 pub read_end : (text rest : List ℕ) (d : Draft) → IsReadUpTo text rest d → pieces 59 rest ≡ rest ∷ []
-    → program_in text ≡ (if list_all is_blank rest then Some (finished d) else None)
+    → program_in text ≡ (if list_all is_blank rest then Some (program_of d) else None)
 read_end text rest d read cut =
-    ap (option_map finished) (sym read.same ∙ ap (statements d) cut) ∙ finish_if (nat_eq (length (lexemes rest)) 0) d
-    ∙ ap (λ b. if b then Some (finished d) else None) (blank_is rest)
+    ap (option_map program_of) (sym read.same ∙ ap (statements d) cut) ∙ finish_if (nat_eq (length (lexemes rest)) 0) d
+    ∙ ap (λ b. if b then Some (program_of d) else None) (blank_is rest)

@@ -1,10 +1,10 @@
 -- A record's run ends with emits that don't depend on the budget, at most one for each statement.
 use Rattle.std.proofs.Common.{◌≡◌, ℕ, ◌≤◌, List, [], ◌∷◌, ◌++◌, length, Some, None, refl, sym, ap, ◌∙◌, subst, arith, length-append, append_assoc, append-nil}
 use Rattle.std.specs.Prelude.{slice_set, replicate}
-use Rattle.sz_mean.specs.Numbers.{operated, converted}
+use Rattle.sz_mean.specs.Numbers.{result_of_values, whole_number_of}
 use Rattle.sz_mean.specs.Tree.{Exp, number, variable, input, convert, binary, Stm, declare, emit, Prog}
 use Rattle.sz_mean.specs.Outcomes.{Slot, EmitDatum, World, Value, Exec, Normal, Done}
-use Rattle.sz_mean.specs.Meaning.{on_value, on_values, and_then, with_value, then_do, eval, emitted, exec, exec_all, ended, mean, emits_of}
+use Rattle.sz_mean.specs.Meaning.{on_value, on_values, and_then, with_value, then_do, eval, world_with_emit, exec, exec_all, outcome_of, mean, emits_of}
 use Rattle.sz_machine.specs.declared.code.Code.{Code}
 use Rattle.sz_machine.specs.Machine.{ComesTo, Ends, start, RunsTo, RunEnds}
 use Rattle.szl.proofs.Simulation.{Simulates}
@@ -24,14 +24,14 @@ gives_slot (variable x) locals text = record { slot = _; gives = λ w. refl }
 gives_slot input locals text = record { slot = _; gives = λ w. refl }
 gives_slot (convert e) locals text =
     let part = gives_slot e locals text in
-    record { slot = on_value converted part.slot; gives = λ w. ap (λ r. and_then r (λ v w1. Value (on_value converted v) w1)) (part.gives w) }
+    record { slot = on_value whole_number_of part.slot; gives = λ w. ap (λ r. and_then r (λ v w1. Value (on_value whole_number_of v) w1)) (part.gives w) }
 gives_slot (binary o a b) locals text =
     let left = gives_slot a locals text in
     let right = gives_slot b locals text in
     record {
-      slot = on_values (operated o) left.slot right.slot;
-      gives = λ w. ap (λ r. and_then r (λ x w1. and_then (eval b locals text w1) (λ y w2. Value (on_values (operated o) x y) w2))) (left.gives w)
-          ∙ ap (λ r. and_then r (λ y w2. Value (on_values (operated o) left.slot y) w2)) (right.gives w);
+      slot = on_values (result_of_values o) left.slot right.slot;
+      gives = λ w. ap (λ r. and_then r (λ x w1. and_then (eval b locals text w1) (λ y w2. Value (on_values (result_of_values o) x y) w2))) (left.gives w)
+          ∙ ap (λ r. and_then r (λ y w2. Value (on_values (result_of_values o) left.slot y) w2)) (right.gives w);
     }
 
 -- a statement leaves variables and adds emits, in any world
@@ -49,13 +49,13 @@ emits_one t e text locals None gives = record {
   after = locals;
   added = [];
   few = omega arith;
-  leaves = λ w. ap (λ r. with_value r (λ v w1. Normal locals (emitted t v w1))) (gives w) ∙ ap (Normal locals) (no_emits w);
+  leaves = λ w. ap (λ r. with_value r (λ v w1. Normal locals (world_with_emit t v w1))) (gives w) ∙ ap (Normal locals) (no_emits w);
 }
 emits_one t e text locals (Some d) gives = record {
   after = locals;
   added = record { table = t; value = d } ∷ [];
   few = omega arith;
-  leaves = λ w. ap (λ r. with_value r (λ v w1. Normal locals (emitted t v w1))) (gives w);
+  leaves = λ w. ap (λ r. with_value r (λ v w1. Normal locals (world_with_emit t v w1))) (gives w);
 }
 
 statement_leaves : (s : Stm) (text : List ℕ) (locals : List Slot) → Leaves (exec s text) 1 locals
@@ -91,7 +91,7 @@ pub record EmitsAlways (program : Prog) (text : List ℕ) : Type 0 where
 pub emits_always : (program : Prog) (text : List ℕ) → EmitsAlways program text
 emits_always program text =
     let body = body_leaves program.body text (replicate program.locals None) in
-    record { emits = body.added; few = body.few; always = λ budget. ap ended (body.leaves (record { left = budget; emits = [] })) }
+    record { emits = body.added; few = body.few; always = λ budget. ap outcome_of (body.leaves (record { left = budget; emits = [] })) }
 
 -- the emits of a record are at most as many as the statements
 pub emits_few : (program : Prog) (budget : ℕ) (text : List ℕ) → length (emits_of (mean program budget text)) ≤ length program.body

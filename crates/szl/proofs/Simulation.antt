@@ -6,14 +6,14 @@ use Rattle.std.proofs.lemmas.List.{length-set, length-replicate}
 use Rattle.std.proofs.lemmas.Bool.Decides.{nat_tests}
 use Rattle.sz_value.specs.Data.{int, str, bytes}
 use Rattle.sz_mean.specs.declared.operator.BinOp.{BinOp}
-use Rattle.sz_mean.specs.Numbers.{operated, operate, converted, number_in}
+use Rattle.sz_mean.specs.Numbers.{result_of_values, operate, whole_number_of, number_in}
 use Rattle.sz_mean.specs.Tree.{Exp, number, variable, input, convert, binary, Stm, declare, emit, Prog}
 use Rattle.sz_mean.specs.Outcomes.{Slot, World, Eval, Value, Fails, Exec, Normal, Faults, Fault}
-use Rattle.sz_mean.specs.Meaning.{slot_at, on_value, on_values, and_then, with_value, then_do, eval, emitted, exec, exec_all, ended, mean}
+use Rattle.sz_mean.specs.Meaning.{slot_at, on_value, on_values, and_then, with_value, then_do, eval, world_with_emit, exec, exec_all, outcome_of, mean}
 use Rattle.sz_machine.specs.declared.code.Instr.{Instr}
 use Rattle.sz_machine.specs.declared.code.Instr.TheVariants as instr
 use Rattle.sz_machine.specs.declared.code.Code.{Code}
-use Rattle.sz_machine.specs.Machine.{State, Next, Goes, Ends, Stuck, act, pushed, computed, ComesTo, start}
+use Rattle.sz_machine.specs.Machine.{State, Next, Goes, Ends, Stuck, act, after_push, after_operator, ComesTo, start}
 use Rattle.sz_machine.proofs.ForCallers.{HasAt, has_front, has_back, NextComes, at_line}
 use Rattle.szl.specs.Code.{expr_code, stmt_code, body_code, record_code}
 use Rattle.szl.proofs.Sound.{Ty, whole, octets, IsTyped, IsSoundStm, AreSound}
@@ -64,7 +64,7 @@ read_typed None = tt
 read_typed (Some z) = tt
 
 -- a slot as a number is undefined or a whole number
-converted_typed : (v : Slot) → HasTy (on_value converted v) whole
+converted_typed : (v : Slot) → HasTy (on_value whole_number_of v) whole
 converted_typed None = tt
 converted_typed (Some (int n)) = tt
 converted_typed (Some (str s)) = read_typed (number_in s)
@@ -85,8 +85,8 @@ module _ (code : Code) (text : List ℕ) where
 
   -- the operator on two typed slots is never stuck
   computes : (o : BinOp) (s : State) (at end : ℕ) (a b : Slot) (w : World) (x : Next) → at + 1 ≡ end → HasTy a whole → HasTy b whole
-      → AfterEval code text whole s end x (Value (on_values (operated o) a b) w)
-      → NextComes code text (computed o (b ∷ a ∷ s.stack) (record s { at = at; stack = b ∷ a ∷ s.stack; world = w })) x
+      → AfterEval code text whole s end x (Value (on_values (result_of_values o) a b) w)
+      → NextComes code text (after_operator o (b ∷ a ∷ s.stack) (record s { at = at; stack = b ∷ a ∷ s.stack; world = w })) x
   computes o s at end None None w x e ta tb h = at_same s (at + 1) end (None ∷ s.stack) w x e (h (record { typed = tt }))
   computes o s at end None (Some (int b)) w x e ta tb h = at_same s (at + 1) end (None ∷ s.stack) w x e (h (record { typed = tt }))
   computes o s at end (Some (int a)) None w x e ta tb h = at_same s (at + 1) end (None ∷ s.stack) w x e (h (record { typed = tt }))
@@ -107,7 +107,7 @@ module _ (code : Code) (text : List ℕ) where
     eval_runs (variable y) t s end x typed locals has is h =
         let v = slot_at s.locals y in
         let there = slot_there s.locals y (omega (arith, typed.1, locals.size)) in
-        let P : Option Slot → Type 0 = λ o. NextComes code text (pushed o s) x in
+        let P : Option Slot → Type 0 = λ o. NextComes code text (after_push o s) x in
         at_line code text s (instr.Local y) x has.0
         (subst P (sym there) (at_same s (s.at + 1) end (v ∷ s.stack) s.world x is (h (record { typed = subst (HasTy v) (sym typed.0) (locals.whole_at y) }))))
     eval_runs input t s end x typed locals has is h =
@@ -122,7 +122,7 @@ module _ (code : Code) (text : List ℕ) where
         eval_runs e typed.1.0 s at1 x typed.1.1 locals (has_front code.instructions.items s.at ce _ has) refl
         (after_first t typed.1.0 s s end at1 x _ (λ v w k h1.
         at_line code text (record s { at = at1; stack = v ∷ s.stack; world = w }) instr.Convert x last
-        (at_same s (at1 + 1) end (on_value converted v ∷ s.stack) w x len (h1 (record { typed = subst (HasTy (on_value converted v)) (sym typed.0) (converted_typed v) }))))
+        (at_same s (at1 + 1) end (on_value whole_number_of v ∷ s.stack) w x len (h1 (record { typed = subst (HasTy (on_value whole_number_of v)) (sym typed.0) (converted_typed v) }))))
         (eval e s.locals text s.world) h)
     eval_runs (binary o a b) t s end x typed locals has is h =
         let ca = expr_code a in
@@ -197,7 +197,7 @@ module _ (code : Code) (text : List ℕ) where
         eval_runs e whole s at1 x sound locals (has_front code.instructions.items s.at ce _ has) refl
         (after_value s s end at1 x _ (λ v w k h1.
         at_line code text (record s { at = at1; stack = v ∷ s.stack; world = w }) (instr.Emit t) x last
-        (at_same s (at1 + 1) end s.stack (emitted t v w) x len (h1 locals)))
+        (at_same s (at1 + 1) end s.stack (world_with_emit t v w) x len (h1 locals)))
         (eval e s.locals text s.world) h)
 
     pub body_runs : (ss : List Stm) (s : State) (end : ℕ) (x : Next) → AreSound n ss → AreWhole n s.locals
@@ -234,12 +234,12 @@ slot_replicate (suc n) (suc x) = slot_replicate n x
 module _ (program : Prog) (code : Code) (text : List ℕ) where
   -- behind its statements a record ends
   ends_record : (s : State) (end : ℕ) (r : Exec) → slice_get code.instructions.items end ≡ Some instr.EndRecord
-      → AfterExec code text program.locals s end (Ends (ended r)) r
+      → AfterExec code text program.locals s end (Ends (outcome_of r)) r
   ends_record s end (Normal locals w) last = λ k. at_line code text (record s { at = end; locals = locals; world = w }) instr.EndRecord _ last refl
   ends_record s end (Faults kind place) last = refl
 
   record_runs : AreSound program.locals program.body → code.instructions.items ≡ record_code program.body → (locals : List Slot) (w : World)
-      → AreWhole program.locals locals → ComesTo code text (record { at = 0; stack = []; locals = locals; world = w }) (Ends (ended (exec_all program.body text locals w)))
+      → AreWhole program.locals locals → ComesTo code text (record { at = 0; stack = []; locals = locals; world = w }) (Ends (outcome_of (exec_all program.body text locals w)))
   record_runs sound lines locals w are =
       let body = body_code program.body in
       let has = subst (λ l. HasAt code.instructions.items 0 l) lines (has_behind [] code.instructions.items) in

@@ -1,6 +1,6 @@
 //! A program in the making, statement by statement.
 ghost use Rattle.std.specs.Prelude.{◌≡◌, ◌≤◌, ◌+◌, ◌<◌, ◌∷◌, ℕ, [], ◌&&◌, ◌||◌, not, IsTrue, is_some, length, map, option_map, bytes_eq, IfOk, OnOk, Some, None, vec_len};
-ghost use Rattle.sz_mean.specs.Programs.{empty_draft, finished, is_free, operand, value_in, declared_in, lexemes, sentence, statement, emission, declaration, variable_declared, with_table};
+ghost use Rattle.sz_mean.specs.Programs.{empty_draft, program_of, is_free, operand, value_in, declared_in, lexemes, sentence, statement, emission, declaration, variable_declared, with_table};
 ghost use Rattle.szl.specs.View.{seen_operand, seen_expr, texts, seen_draft, seen_program, drafted, HasRoom};
 
 use crate::lexemes::lexemes;
@@ -188,7 +188,7 @@ impl<'t> Draft<'t> {
     /// The program at the end of its text.
     pub fn finish(self) -> Program<'t>
         requires { HasRoom (seen_draft self) }
-        ensures value { seen_program result ≡ finished (seen_draft self.entry) }
+        ensures value { seen_program result ≡ program_of (seen_draft self.entry) }
     {
         Program {
             tables: self.tables,
