@@ -3,7 +3,7 @@ use crate::sign::Sign;
 use crate::word::Word;
 use sz_types::Place;
 
-/// What a token is, with the value that its text spells, unless that is a string or bytes: those are decoded by `quoted_value`.
+/// What a token is, with the value that its text spells, unless that is a string or bytes: those are decoded by `decode`.
 #[derive(Clone, Copy, Debug, PartialEq, Eq)]
 pub enum Kind {
     Name,
