@@ -1,0 +1,11 @@
+//! What operators, predeclared functions and conversions make of values.
+#![tactic(auto)]
+
+mod joining;
+mod numbers;
+mod one_operand;
+mod two_operands;
+
+pub use one_operand::unary;
+pub use sz_value::NoMemory;
+pub use two_operands::binary;
