@@ -1,2 +1,5 @@
 -- what the public contracts rest on
 pub mod Operators
+pub mod Places
+-- what the functions inside the crate promise each other
+pub mod Characters
