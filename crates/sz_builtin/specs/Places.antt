@@ -1,5 +1,6 @@
 -- Places in strings, byte strings, arrays and maps. Places are counted from 0, those of strings in characters.
-use Rattle.std.specs.Prelude.{ℕ, ◌-◌, ℤ, pos, negsuc, ◌&&◌, nat_le, if◌then◌else◌, List, length, take, drop, slice_get, chars, encode_utf8_all, Option, Some, None, option_map}
+use Rattle.std.specs.Prelude.{ℕ, ◌+◌, ◌-◌, ℤ, pos, negsuc, nat_le, if◌then◌else◌, List, length, take, drop, slice_get, chars, encode_utf8_all, Option, Some, None, option_map}
+use Rattle.std.specs.Option.{option_and_then}
 use Rattle.sz_value.specs.Data.{Datum, int, str, bytes, array, mapping, data_of, parts_of, pairs_of}
 use Rattle.sz_value.specs.Maps.{value_at}
 
@@ -20,14 +21,22 @@ index (bytes s) (int n) = option_map code (at_place s n)
 index (mapping es) key = value_at key (pairs_of es)
 index _ _ = None
 
--- the elements from place i up to place j, unless the places are out of order or past the end
-abbrev pub part : {X : Type 0} → List X → ℤ → ℤ → Option (List X)
-part xs (pos i) (pos j) = if nat_le i j && nat_le j (length xs) then Some (take (j - i) (drop i xs)) else None
-part xs _ _ = None
+-- how many elements a slice passes over and how many it takes, unless its places are out of order
+abbrev pub span : ℤ → ℤ → Option (ℕ × ℕ)
+span (pos i) (pos j) = if nat_le i j then Some (i, j - i) else None
+span _ _ = None
 
--- `a[i:j]` of a string, a byte string and an array
+-- the elements of such a part, unless the list has fewer
+abbrev pub cut : {X : Type 0} → List X → ℕ × ℕ → Option (List X)
+cut xs p = if nat_le (p.0 + p.1) (length xs) then Some (take p.1 (drop p.0 xs)) else None
+
+-- such a part of a string, a byte string or an array
+abbrev pub part : Datum → ℕ × ℕ → Option Datum
+part (str s) p = option_map (λ cs. str (encode_utf8_all cs)) (cut (chars s) p)
+part (bytes s) p = option_map bytes (cut s p)
+part (array ds) p = option_map (λ es. array (data_of es)) (cut (parts_of ds) p)
+part _ p = None
+
+-- `a[i:j]`: the elements from place i up to place j
 abbrev pub slice : Datum → ℤ → ℤ → Option Datum
-slice (str s) i j = option_map (λ cs. str (encode_utf8_all cs)) (part (chars s) i j)
-slice (bytes s) i j = option_map bytes (part s i j)
-slice (array ds) i j = option_map (λ es. array (data_of es)) (part (parts_of ds) i j)
-slice _ i j = None
+slice d i j = option_and_then (part d) (span i j)

@@ -1,5 +1,5 @@
 //! Texts by characters.
-ghost use Rattle.std.specs.Prelude.{◌≡◌, ◌+◌, ◌≤◌, ◌<◌, length, take, drop, slice_get, chars, encode_utf8_all, IfSome, IfNone};
+ghost use Rattle.std.specs.Prelude.{◌≡◌, ◌+◌, ◌≤◌, ◌<◌, ◌^◌, length, take, drop, slice_get, chars, encode_utf8_all, IfSome, IfNone};
 ghost use Rattle.sz_builtin.specs.Characters.{IsRestAfter};
 
 /// The text behind its first `count` characters, or none where it has fewer.
@@ -38,6 +38,7 @@ pub fn characters_from(text: &str, skip: u64, count: u64) -> Option<&str>
 /// The number of characters.
 pub fn character_count(text: &str) -> usize
     ensures value { result ≡ length (chars text.now) }
+    ensures small { result < 2 ^ 63 }
 {
     text.chars().count()
 }
