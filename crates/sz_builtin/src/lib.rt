@@ -2,14 +2,17 @@
 #![tactic(auto)]
 
 mod characters;
+mod conversions;
 mod indexing;
 mod joining;
 mod numbers;
+mod numerals;
 mod one_operand;
 mod predeclared;
 mod slicing;
 mod two_operands;
 
+pub use conversions::convert;
 pub use indexing::index;
 pub use one_operand::unary;
 pub use slicing::slice;
