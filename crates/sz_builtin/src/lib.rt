@@ -1,6 +1,7 @@
 //! What operators, predeclared functions and conversions make of values.
 #![tactic(auto)]
 
+mod calling;
 mod characters;
 mod conversions;
 mod indexing;
@@ -9,9 +10,11 @@ mod numbers;
 mod numerals;
 mod one_operand;
 mod predeclared;
+mod searching;
 mod slicing;
 mod two_operands;
 
+pub use calling::builtin;
 pub use conversions::convert;
 pub use indexing::index;
 pub use one_operand::unary;
