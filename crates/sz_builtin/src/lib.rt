@@ -12,6 +12,8 @@ mod one_operand;
 mod predeclared;
 mod searching;
 mod slicing;
+#[cfg(test)]
+mod tests;
 mod two_operands;
 
 pub use calling::builtin;
