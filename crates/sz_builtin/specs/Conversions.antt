@@ -1,5 +1,5 @@
 -- What a value becomes by a conversion to a type. A type that converts to itself keeps the value.
-use Rattle.std.specs.Prelude.{ℕ, ◌^◌, ℤ, pos, negsuc, List, Bool, true, false, ◌&&◌, Option, Some, None, length, nat_lt, if◌then◌else◌, option_map, codes}
+use Rattle.std.specs.Prelude.{ℕ, ◌^◌, ℤ, pos, negsuc, List, Bool, ◌&&◌, Option, Some, None, length, nat_lt, if◌then◌else◌, option_map, codes}
 use Rattle.std.specs.Fmt.{signed_decimal}
 use Rattle.std.specs.List.{list_all}
 use Rattle.std.specs.Char.{is_ascii_digit}

@@ -1,5 +1,5 @@
 -- What the operators make of values. A slot without a value is undefined.
-use Rattle.std.specs.Prelude.{ℕ, ◌*◌, ◌^◌, ℤ, pos, negsuc, neg_ℤ, ◌+ℤ◌, ◌-ℤ◌, ◌*ℤ◌, Bool, true, false, not, nat_eq, nat_lt, if◌then◌else◌, ◌++◌, Option, Some, None, option_map, int_rem}
+use Rattle.std.specs.Prelude.{ℕ, ℤ, pos, negsuc, neg_ℤ, ◌+ℤ◌, ◌-ℤ◌, ◌*ℤ◌, Bool, false, not, nat_eq, nat_lt, if◌then◌else◌, ◌++◌, Option, Some, None, option_map, int_rem}
 use Rattle.std.specs.Int.{int_wrap, int_wrapping_div, int_bit_and, int_bit_or, int_bit_xor, int_bit_not, int_shl, int_shr, w64}
 use Rattle.std.specs.Ordering.{is_eq, is_ne, is_lt, is_le, is_gt, is_ge}
 use Rattle.sz_types.specs.declared.operator.UnOp.{UnOp}
