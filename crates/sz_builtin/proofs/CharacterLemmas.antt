@@ -1,0 +1,70 @@
+-- Texts that are cut between characters.
+use Rattle.std.proofs.Common.{◌≡◌, ℕ, ◌+◌, ◌-◌, ◌<◌, ◌≤◌, subst, List, [], ◌∷◌, ◌++◌, length, take, drop, refl, sym, ap, ◌∙◌, arith}
+use Rattle.std.specs.Prelude.{slice_get, chars, encode_utf8_all, IsUtf8}
+use Rattle.std.specs.Str.{IsCharBoundary}
+use Rattle.std.specs.Char.{encode_utf8}
+use Rattle.std.proofs.lemmas.List.{append-nil, append_assoc, length-append, take_at, drop_at, nil_from_length}
+use Rattle.std.proofs.lemmas.Str.{encodes-append, chars_past_char, IsUtf8-past_char, chars-nil, IsCharBoundary-at_seam}
+use Rattle.sz_builtin.specs.Characters.{IsRestAfter}
+
+-- at the front nothing is behind
+pub at_front : (text : List ℕ) → IsUtf8 text → IsRestAfter 0 text text
+at_front text u = record { front = []; many = refl; whole = refl; characters = refl; utf8 = u }
+
+-- one character more is behind
+pub one_more : (count : ℕ) (text r t : List ℕ) (c : ℕ) → IsRestAfter count text r → r ≡ encode_utf8 c ++ t → IsRestAfter (count + 1) text t
+one_more count text r t c h e = record {
+  front = h.front ++ c ∷ [];
+  many = length-append h.front (c ∷ []) ∙ ap (λ n. n + 1) h.many;
+  whole = h.whole ∙ ap (λ x. encode_utf8_all h.front ++ x) e
+      ∙ sym (ap (λ x. x ++ t) (encodes-append h.front (c ∷ []) ∙ ap (λ x. encode_utf8_all h.front ++ x) (append-nil (encode_utf8 c)))
+      ∙ append_assoc (encode_utf8_all h.front) (encode_utf8 c) t);
+  characters = h.characters ∙ ap (λ x. h.front ++ x) (chars_past_char r t c h.utf8 e) ∙ sym (append_assoc h.front (c ∷ []) (chars t));
+  utf8 = IsUtf8-past_char r t c h.utf8 e;
+}
+
+-- what is behind the front of a list, by the front's length
+pub get_behind : {X : Type 0} (f xs : List X) → slice_get (f ++ xs) (length f) ≡ slice_get xs 0
+get_behind [] xs = refl
+get_behind (x ∷ f) xs = get_behind f xs
+
+-- fewer characters than rounds are in a text that is at its end
+pub too_few : (at count : ℕ) (text rest : List ℕ) → IsRestAfter at text rest → length rest ≡ 0 → at < count → length (chars text) < count
+too_few at count text rest h nothing less =
+    let none : chars rest ≡ [] = ap chars (nil_from_length rest nothing) ∙ chars-nil in
+    let e = ap length h.characters ∙ length-append h.front (chars rest) in
+    let z = ap length none in omega (arith, e, z, h.many)
+
+-- a character of the rest is a character of the text
+pub character_behind : (count : ℕ) (text rest : List ℕ) → IsRestAfter count text rest → slice_get (chars text) count ≡ slice_get (chars rest) 0
+character_behind count text rest h =
+    sym (ap (λ n. slice_get (chars text) n) h.many) ∙ ap (λ cs. slice_get cs (length h.front)) h.characters ∙ get_behind h.front (chars rest)
+
+-- fewer characters of the rest are fewer of the text
+pub fewer_behind : (skip count : ℕ) (text rest : List ℕ) → IsRestAfter skip text rest → length (chars rest) < count → length (chars text) < skip + count
+fewer_behind skip count text rest h few =
+    let e = ap length h.characters ∙ length-append h.front (chars rest) in omega (arith, e, h.many)
+
+-- two cuts one behind the other take the characters between them
+pub characters_between : (skip count : ℕ) (text tail rest : List ℕ) → IsRestAfter skip text tail → IsRestAfter count tail rest
+    → take (length tail - length rest) tail ≡ encode_utf8_all (take count (drop skip (chars text)))
+characters_between skip count text tail rest h k =
+    let bytes = ap length k.whole ∙ length-append (encode_utf8_all k.front) rest in
+    let size : length tail - length rest ≡ length (encode_utf8_all k.front) = omega (arith, bytes) in
+    let left = ap (take (length tail - length rest)) k.whole ∙ take_at (encode_utf8_all k.front) rest (length tail - length rest) (sym size) in
+    let behind : drop skip (chars text) ≡ chars tail = ap (drop skip) h.characters ∙ drop_at h.front (chars tail) skip h.many in
+    let taken : take count (chars tail) ≡ k.front = ap (take count) k.characters ∙ take_at k.front (chars rest) count k.many in
+    left ∙ sym (ap (λ cs. encode_utf8_all (take count cs)) behind ∙ ap encode_utf8_all taken)
+
+-- they aren't more than the text has
+pub within_text : (skip count : ℕ) (text tail rest : List ℕ) → IsRestAfter skip text tail → IsRestAfter count tail rest → skip + count ≤ length (chars text)
+within_text skip count text tail rest h k =
+    let e = ap length h.characters ∙ length-append h.front (chars tail) in
+    let d = ap length k.characters ∙ length-append k.front (chars rest) in omega (arith, e, d, h.many, k.many)
+
+-- the text may be cut at the second of them
+pub cut_between : (count : ℕ) (tail rest : List ℕ) → IsRestAfter count tail rest → IsCharBoundary tail (length tail - length rest)
+cut_between count tail rest k =
+    let bytes = ap length k.whole ∙ length-append (encode_utf8_all k.front) rest in
+    let size : length (encode_utf8_all k.front) ≡ length tail - length rest = omega (arith, bytes) in
+    subst (λ n. IsCharBoundary tail n) size (IsCharBoundary-at_seam tail (encode_utf8_all k.front) rest k.whole k.utf8)

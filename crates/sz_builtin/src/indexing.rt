@@ -1,0 +1,76 @@
+//! Elements of arrays, strings, byte strings and maps.
+ghost use Rattle.std.specs.Prelude.{◌≡◌, IfOk, map, chars, option_map};
+ghost use Rattle.sz_value.specs.Seen.{seen, seen_slot};
+ghost use Rattle.sz_value.specs.Maps.{value_at};
+ghost use Rattle.sz_builtin.specs.Places.{index, at_place, code};
+
+use crate::characters::character_at;
+use std::alloc::Global;
+use sz_value::{NoMemory, Pairs, Slot, Value, copy};
+
+/// The element of an array, the code of a character of a string, or the byte of a byte string at a place counted
+/// from 0, or the value of a map at a key.
+///
+/// The slot is undefined where the place is below 0 or not below the length, where the key isn't there, and where
+/// the values are of other kinds.
+#[tactic(auto, using(crate::proofs::Parts::parts_back, crate::proofs::Parts::pairs_back))]
+pub fn index(alloc: Global, base: &Value, at: &Value) -> Result<Slot, NoMemory>
+    ensures value { IfOk result (λ slot. seen_slot slot ≡ index (seen base.now) (seen at.now)) }
+{
+    match (base, at) {
+        (Value::Array(list), Value::Int(place)) => element(alloc, list.as_slice(), *place),
+        (Value::Str(text), Value::Int(place)) => Ok(character(text.as_str(), *place)),
+        (Value::Bytes(bytes), Value::Int(place)) => Ok(byte(bytes.as_slice(), *place)),
+        (Value::Map(pairs), key) => value_of(alloc, pairs, key),
+        _ => Ok(Slot::Undefined),
+    }
+}
+
+// A copy of the value at a place.
+fn element(alloc: Global, values: &[Value], place: i64) -> Result<Slot, NoMemory>
+    ensures value { IfOk result (λ slot. seen_slot slot ≡ at_place (map seen values.now) place) }
+{
+    if place < 0 {
+        return Ok(Slot::Undefined);
+    }
+    match values.get(place as usize) {
+        Some(value) => Ok(Slot::Defined(copy(alloc, value)?)),
+        None => Ok(Slot::Undefined),
+    }
+}
+
+// A copy of the value at a key.
+fn value_of(alloc: Global, pairs: &Pairs, key: &Value) -> Result<Slot, NoMemory>
+    ensures value { IfOk result (λ slot. seen_slot slot ≡ value_at (seen key.now) pairs.now) }
+{
+    match pairs.get(key) {
+        Some(value) => Ok(Slot::Defined(copy(alloc, value)?)),
+        None => Ok(Slot::Undefined),
+    }
+}
+
+// The code of the character at a place.
+fn character(text: &str, place: i64) -> Slot
+    ensures value { seen_slot result ≡ option_map code (at_place (chars text.now) place) }
+{
+    if place < 0 {
+        return Slot::Undefined;
+    }
+    match character_at(text, place as u64) {
+        Some(character) => Slot::Defined(Value::Int(i64::from(u32::from(character)))),
+        None => Slot::Undefined,
+    }
+}
+
+// The byte at a place.
+fn byte(bytes: &[u8], place: i64) -> Slot
+    ensures value { seen_slot result ≡ option_map code (at_place bytes.now place) }
+{
+    if place < 0 {
+        return Slot::Undefined;
+    }
+    match bytes.get(place as usize) {
+        Some(byte) => Slot::Defined(Value::Int(i64::from(*byte))),
+        None => Slot::Undefined,
+    }
+}

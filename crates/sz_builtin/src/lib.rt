@@ -1,0 +1,27 @@
+//! What operators, predeclared functions and conversions make of values.
+#![tactic(auto)]
+
+mod calling;
+mod characters;
+mod conversions;
+mod indexing;
+mod joining;
+mod laws;
+mod numbers;
+mod numerals;
+mod one_operand;
+mod predeclared;
+mod searching;
+mod slicing;
+#[cfg(test)]
+mod tests;
+mod two_operands;
+
+pub use calling::builtin;
+pub use conversions::convert;
+pub use indexing::index;
+pub use laws::operators_keep_types;
+pub use one_operand::unary;
+pub use slicing::slice;
+pub use sz_value::NoMemory;
+pub use two_operands::binary;

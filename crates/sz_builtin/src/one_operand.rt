@@ -1,0 +1,24 @@
+//! Operators of one operand.
+ghost use Rattle.std.specs.Prelude.{◌≡◌};
+ghost use Rattle.sz_value.specs.Seen.{seen, seen_slot};
+ghost use Rattle.sz_builtin.specs.Operators.{unary};
+
+use crate::numbers::negated;
+use sz_types::UnOp;
+use sz_value::{Slot, Value};
+
+/// What the operator makes of the value: `-`, `+` and `~` of a whole number, `!` of a truth value. A number that
+/// doesn't fit 64 bits with a sign wraps.
+///
+/// The slot is undefined where the operator takes no such value.
+pub fn unary(op: UnOp, a: &Value) -> Slot
+    ensures value { seen_slot result ≡ unary op (seen a.now) }
+{
+    match (op, a) {
+        (UnOp::Negate, Value::Int(number)) => Slot::Defined(Value::Int(negated(*number))),
+        (UnOp::Plus, Value::Int(number)) => Slot::Defined(Value::Int(*number)),
+        (UnOp::Not, Value::Bool(truth)) => Slot::Defined(Value::Bool(!*truth)),
+        (UnOp::Flip, Value::Int(number)) => Slot::Defined(Value::Int(!*number)),
+        _ => Slot::Undefined,
+    }
+}

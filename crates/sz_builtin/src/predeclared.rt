@@ -1,0 +1,82 @@
+//! The functions that each program has.
+ghost use Rattle.std.specs.Prelude.{◌≡◌, ◌<◌, ◌^◌, pos, length, IfOk};
+ghost use Rattle.std.specs.Map.{keys_of};
+ghost use Rattle.sz_value.specs.Seen.{seen, seen_slot, seen_pairs};
+ghost use Rattle.sz_value.specs.declared.value.Value.TheVariants.{Int};
+ghost use Rattle.sz_value.specs.declared.slots.Slot.TheVariants.{Defined};
+ghost use Rattle.sz_builtin.specs.Predeclared.{len, keys, haskey};
+
+use crate::characters::character_count;
+use std::alloc::Global;
+use sz_value::{List, NoMemory, Pair, Pairs, Slot, Value, copy};
+
+// The number of characters, bytes, elements or pairs.
+#[tactic(auto, using(crate::proofs::Parts::parts_back, crate::proofs::Parts::pairs_back))]
+pub fn len(value: &Value) -> Slot
+    ensures value { seen_slot result ≡ len (seen value.now) }
+{
+    match value {
+        Value::Str(text) => count(character_count(text.as_str())),
+        Value::Bytes(bytes) => count(bytes.as_slice().len()),
+        Value::Array(list) => count(list_len(list)),
+        Value::Map(pairs) => count(pairs_len(pairs)),
+        _ => Slot::Undefined,
+    }
+}
+
+// The number of values of a list.
+fn list_len(list: &List) -> usize
+    ensures value { result ≡ length list.now }
+    ensures small { result < 2 ^ 63 }
+{
+    list.as_slice().len()
+}
+
+// The number of pairs.
+fn pairs_len(pairs: &Pairs) -> usize
+    ensures value { result ≡ length pairs.now }
+    ensures small { result < 2 ^ 63 }
+{
+    pairs.as_slice().len()
+}
+
+// A number of elements as a value.
+fn count(count: usize) -> Slot
+    requires { count < 2 ^ 63 }
+    ensures value { result ≡ Defined (Int (pos count)) }
+{
+    Slot::Defined(Value::Int(count as i64))
+}
+
+// The keys of a map.
+#[tactic(auto, using(crate::proofs::Parts::pairs_back))]
+pub fn keys(alloc: Global, value: &Value) -> Result<Slot, NoMemory>
+    ensures value { IfOk result (λ slot. seen_slot slot ≡ keys (seen value.now)) }
+{
+    match value {
+        Value::Map(pairs) => Ok(Slot::Defined(Value::Array(copied_keys(alloc, pairs.as_slice())?))),
+        _ => Ok(Slot::Undefined),
+    }
+}
+
+// Copies of the keys of the pairs.
+fn copied_keys(alloc: Global, pairs: &[Pair]) -> Result<List, NoMemory>
+    ensures value { IfOk result (λ list. list ≡ keys_of (seen_pairs pairs.now)) }
+{
+    let mut list = List::with_capacity(alloc, pairs.len())?;
+    for pair in pairs {
+        list.push(copy(alloc, &pair.key)?)?;
+    }
+    Ok(list)
+}
+
+// Whether a map has a key.
+#[tactic(auto, using(crate::proofs::Parts::pairs_back))]
+pub fn haskey(value: &Value, key: &Value) -> Slot
+    ensures value { seen_slot result ≡ haskey (seen value.now) (seen key.now) }
+{
+    match value {
+        Value::Map(pairs) => Slot::Defined(Value::Bool(pairs.get(key).is_some())),
+        _ => Slot::Undefined,
+    }
+}

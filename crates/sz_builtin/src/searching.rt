@@ -1,0 +1,52 @@
+//! Searches of a string or a byte string in another.
+ghost use Rattle.std.specs.Prelude.{◌≡◌, ◌<◌, ◌^◌, IfSome, Some, chars};
+ghost use Rattle.sz_value.specs.Seen.{seen, seen_slot};
+ghost use Rattle.sz_builtin.specs.Predeclared.{strfind, first_place, place};
+
+use crate::characters::character_count;
+use memchr::memmem;
+use sz_value::{Slot, Value};
+
+/// The first place of a string or a byte string in another, counted from 0, in characters or in bytes, or -1.
+pub fn strfind(needle: &Value, hay: &Value) -> Slot
+    ensures value { seen_slot result ≡ strfind (seen needle.now) (seen hay.now) }
+{
+    match (needle, hay) {
+        (Value::Str(needle), Value::Str(hay)) => place(text_place(needle.as_str(), hay.as_str())),
+        (Value::Bytes(needle), Value::Bytes(hay)) => place(byte_place(
+            needle.as_slice(),
+            hay.as_slice(),
+        )),
+        _ => Slot::Undefined,
+    }
+}
+
+// A place as a value.
+fn place(found: Option<usize>) -> Slot
+    requires small { IfSome found (λ at. at < 2 ^ 63) }
+    ensures value { seen_slot result ≡ Some (place found) }
+{
+    match found {
+        Some(at) => Slot::Defined(Value::Int(at as i64)),
+        None => Slot::Defined(Value::Int(-1)),
+    }
+}
+
+// The first place of bytes in others.
+fn byte_place(needle: &[u8], hay: &[u8]) -> Option<usize>
+    ensures value { result ≡ first_place needle.now hay.now }
+    ensures small { IfSome result (λ at. at < 2 ^ 63) }
+{
+    memmem::find(hay, needle)
+}
+
+// The first place of a text in another, counted in characters.
+fn text_place(needle: &str, hay: &str) -> Option<usize>
+    ensures value { result ≡ first_place (chars needle.now) (chars hay.now) }
+    ensures small { IfSome result (λ at. at < 2 ^ 63) }
+{
+    match memmem::find(hay.as_bytes(), needle.as_bytes()) {
+        Some(at) => Some(character_count(&hay[..at])),
+        None => None,
+    }
+}

@@ -1,0 +1,101 @@
+//! Parts of strings, byte strings and arrays.
+ghost use Rattle.std.specs.Prelude.{◌≡◌, ◌∷◌, IfOk, Some, None, IfSome, IfNone, map, chars, encode_utf8_all, option_map};
+ghost use Rattle.sz_value.specs.Data.{str, bytes, array, data_of};
+ghost use Rattle.sz_value.specs.Seen.{seen, seen_slot};
+ghost use Rattle.sz_builtin.specs.Places.{slice, part, span, cut};
+
+use crate::characters::characters_from;
+use std::alloc::Global;
+use sz_value::{List, NoMemory, Octets, Slot, Text, Value, copy};
+
+/// The elements from the place `from` up to the place `to` of a string, a byte string or an array. Places are counted
+/// from 0, those of a string in characters.
+///
+/// The slot is undefined unless `0 <= from <= to`, and `to` is at most the length, and where the value is of another
+/// kind.
+pub fn slice(alloc: Global, base: &Value, from: i64, to: i64) -> Result<Slot, NoMemory>
+    ensures value { IfOk result (λ slot. seen_slot slot ≡ slice (seen base.now) from to) }
+{
+    match span(from, to) {
+        Some((skip, count)) => part(alloc, base, skip, count),
+        None => Ok(Slot::Undefined),
+    }
+}
+
+// How many elements the slice passes over and how many it takes.
+fn span(from: i64, to: i64) -> Option<(u64, u64)>
+    ensures value { result ≡ span from to }
+{
+    if from < 0 || to < from {
+        None
+    } else {
+        Some((from as u64, (to - from) as u64))
+    }
+}
+
+// The `count` elements behind the first `skip`.
+#[tactic(auto, using(crate::proofs::Parts::parts_back))]
+fn part(alloc: Global, base: &Value, skip: u64, count: u64) -> Result<Slot, NoMemory>
+    ensures value { IfOk result (λ slot. seen_slot slot ≡ part (seen base.now) (skip, count)) }
+{
+    match base {
+        Value::Str(text) => part_of_text(alloc, text.as_str(), skip, count),
+        Value::Bytes(bytes) => part_of_bytes(alloc, bytes.as_slice(), skip, count),
+        Value::Array(list) => part_of_list(alloc, list.as_slice(), skip, count),
+        _ => Ok(Slot::Undefined),
+    }
+}
+
+// Characters of a text.
+fn part_of_text(alloc: Global, text: &str, skip: u64, count: u64) -> Result<Slot, NoMemory>
+    ensures value { IfOk result (λ slot. seen_slot slot ≡ option_map (λ cs. str (encode_utf8_all cs)) (cut (chars text.now) (skip, count))) }
+{
+    match characters_from(text, skip, count) {
+        Some(part) => Ok(Slot::Defined(Value::Str(Text::new(alloc, part)?))),
+        None => Ok(Slot::Undefined),
+    }
+}
+
+// Bytes of a byte string.
+fn part_of_bytes(alloc: Global, held: &[u8], skip: u64, count: u64) -> Result<Slot, NoMemory>
+    ensures value { IfOk result (λ slot. seen_slot slot ≡ option_map bytes (cut held.now (skip, count))) }
+{
+    match cut(held, skip, count) {
+        Some(part) => Ok(Slot::Defined(Value::Bytes(Octets::from_slice(alloc, part)?))),
+        None => Ok(Slot::Undefined),
+    }
+}
+
+// Copies of the values of an array.
+fn part_of_list(alloc: Global, values: &[Value], skip: u64, count: u64) -> Result<Slot, NoMemory>
+    ensures value { IfOk result (λ slot. seen_slot slot ≡ option_map (λ es. array (data_of es)) (cut (map seen values.now) (skip, count))) }
+{
+    match cut(values, skip, count) {
+        Some(part) => Ok(Slot::Defined(Value::Array(copies(alloc, part)?))),
+        None => Ok(Slot::Undefined),
+    }
+}
+
+// The `count` items behind the first `skip`, or none where there are fewer.
+fn cut<T>(items: &[T], skip: u64, count: u64) -> Option<&[T]>
+    ensures some { IfSome result (λ part. cut items.now (skip, count) ≡ Some part.now) }
+    ensures none { IfNone result (cut items.now (skip, count) ≡ None) }
+{
+    let len = items.len() as u64;
+    if skip > len || count > len - skip {
+        None
+    } else {
+        Some(&items[skip as usize..][..count as usize])
+    }
+}
+
+// A list of copies.
+fn copies(alloc: Global, values: &[Value]) -> Result<List, NoMemory>
+    ensures value { IfOk result (λ list. list ≡ map seen values.now) }
+{
+    let mut list = List::with_capacity(alloc, values.len())?;
+    for value in values {
+        list.push(copy(alloc, value)?)?;
+    }
+    Ok(list)
+}
