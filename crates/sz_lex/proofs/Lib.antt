@@ -16,3 +16,4 @@ pub mod DecodeLemmas
 pub mod LawLemmas
 pub mod ApartLemmas
 pub mod Utf8Lemmas
+pub mod TotalLemmas
