@@ -17,3 +17,4 @@ pub mod LawLemmas
 pub mod ApartLemmas
 pub mod Utf8Lemmas
 pub mod TotalLemmas
+pub mod KeptLemmas
