@@ -16,3 +16,5 @@ pub mod DecodeLemmas
 pub mod LawLemmas
 pub mod ApartLemmas
 pub mod Utf8Lemmas
+pub mod TotalLemmas
+pub mod KeptLemmas

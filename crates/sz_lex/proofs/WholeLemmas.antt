@@ -195,7 +195,7 @@ token_front P k l rest ts at p h longest others =
     )
 
 -- one of the three
-data Outcome (c : Bool) (at : ℕ) (p : Place) (text : List ℕ) : Type 0 where
+pub data Outcome (c : Bool) (at : ℕ) (p : Place) (text : List ℕ) : Type 0 where
   has_tokens : (ts : List Token) → TokensThen Nothing ts c at p text → Outcome c at p text
   has_bad_char : (q : Place) (ts : List Token) → TokensThen (BadCharAt q) ts c at p text → Outcome c at p text
   has_bad_literal : (q : Place) (ts : List Token) → TokensThen (BadLiteralAt q) ts c at p text → Outcome c at p text
@@ -274,7 +274,7 @@ decide zero c at p (b ∷ bs) le = absurd (omega arith)
 decide (suc n) false at p (b ∷ bs) le = decide_here n (decide n) b bs at p (omega arith)
 decide (suc n) true at p (b ∷ bs) le = comment_here n (decide n) b bs at p (omega arith)
 
-outcome : (text : List ℕ) → Outcome false 0 first_place text
+pub outcome : (text : List ℕ) → Outcome false 0 first_place text
 outcome text = decide (length text) false 0 first_place text (omega arith)
 
 -- ---- what reading gives is what the text has

@@ -1,5 +1,5 @@
 -- Laws of tokens, in the words of a reader of programs. Each is proved, by an empty function of the crate.
-use Rattle.std.specs.Prelude.{◌≡◌, ℕ, ◌+◌, ◌-◌, ◌<◌, ◌≤◌, ◌==◌, ◌||◌, List, [], ◌∷◌, ◌++◌, length, take, drop, Some, true, false, map, All, IsUtf8}
+use Rattle.std.specs.Prelude.{◌≡◌, ℕ, ◌+◌, ◌-◌, ◌<◌, ◌≤◌, ◌==◌, ◌||◌, ◌⊎◌, List, [], ◌∷◌, ◌++◌, length, take, drop, Some, true, false, map, All, IsUtf8}
 use Rattle.sz_types.specs.declared.place.Place.{Place}
 use Rattle.sz_lex.specs.declared.token.Token.{Token}
 use Rattle.sz_lex.specs.declared.token.Kind.{Kind}
@@ -26,6 +26,10 @@ LieInOrder text at (t ∷ ts) = (at ≤ t.start) × (t.start + t.len ≤ length 
 -- the spans of a text's tokens lie one after another
 abbrev pub SpansLieInOrder : Type 0
 SpansLieInOrder = (text : List ℕ) (ts : List Token) → HasTokens text ts → LieInOrder text 0 ts
+
+-- each text has tokens or is refused
+abbrev pub EveryTextIsRead : Type 0
+EveryTextIsRead = (text : List ℕ) → ((ts : List Token) × HasTokens text ts) ⊎ ((e : LexError) × IsRefused text e)
 
 -- a text has at most one list of tokens
 abbrev pub HasOneList : Type 0

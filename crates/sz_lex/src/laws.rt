@@ -1,5 +1,10 @@
 //! What holds of all texts. The calls do nothing: each promises a law of `specs/Laws.antt`.
-ghost use Rattle.sz_lex.specs.Laws.{SpansLieInOrder, HasOneList, HasNoRefusal, HasOneRefusal, RefusedPlaceIsInText, HasOneValue, WrittenApartIsRead, BlanksMeanNothing, StringsAreUtf8, LexemesAreUtf8};
+ghost use Rattle.sz_lex.specs.Laws.{EveryTextIsRead, SpansLieInOrder, HasOneList, HasNoRefusal, HasOneRefusal, RefusedPlaceIsInText, HasOneValue, WrittenApartIsRead, BlanksMeanNothing, StringsAreUtf8, LexemesAreUtf8};
+
+/// A text has tokens, or it is refused.
+pub fn every_text_is_read()
+    ensures { EveryTextIsRead }
+{}
 
 /// The spans of a text's tokens lie one after another in it, with nothing but blanks and comments around them.
 pub fn spans_lie_in_order()

@@ -16,8 +16,8 @@ mod word;
 pub use error::LexError;
 pub use escape::Quoted;
 pub use laws::{
-    blanks_mean_nothing, refusal_is_unique, refused_place_is_in_text, spans_lie_in_order,
-    tokens_are_unique, tokens_are_utf8, value_is_unique,
+    blanks_mean_nothing, every_text_is_read, refusal_is_unique, refused_place_is_in_text,
+    spans_lie_in_order, tokens_are_unique, tokens_are_utf8, value_is_unique,
 };
 pub use literal::decode;
 pub use scan::lex;

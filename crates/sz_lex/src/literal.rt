@@ -181,8 +181,8 @@ fn decode_body(alloc: Global, quoted: Quoted, body: &[u8]) -> Result<Option<Vec<
     Ok(None)
 }
 
-/// The bytes that the text of a string or bytes literal, with its quotes, stands for: UTF-8 for a string.
-/// `None` if the text is no such literal.
+/// The bytes that a string or bytes literal, with its quotes, stands for. Those of a string are UTF-8 if the literal is.
+/// `None` if the bytes are no such literal.
 pub fn decode(alloc: Global, quoted: Quoted, literal: &[u8]) -> Result<Option<Vec<u8>>, AllocError>
     ensures found { IfOk result (λ o. IfSome o (λ v. IsQuoted quoted literal.now v.items)) }
     ensures none { IfOk result (λ o. IfNone o ((value : List ℕ) → IsQuoted quoted literal.now value → ⊥)) }

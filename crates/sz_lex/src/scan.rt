@@ -1,5 +1,5 @@
 //! From a text to its tokens.
-ghost use Rattle.std.specs.Prelude.{◌≡◌, ◌-◌, ◌<◌, ◌≤◌, ◌^◌, ◌⊎◌, List, length};
+ghost use Rattle.std.specs.Prelude.{◌≡◌, ◌-◌, ◌<◌, ◌≤◌, ◌^◌, ◌⊎◌, List, length, IsUtf8};
 ghost use Rattle.std.specs.Prelude.{IfOk, IfErr, OnOk, IsErrOf, MatchResult};
 ghost use Rattle.sz_lex.specs.declared.token.Token.{Token as Tok};
 ghost use Rattle.sz_lex.specs.declared.error.LexError.{LexError as Reason};
@@ -79,7 +79,8 @@ fn scan(alloc: Global, text: &[u8]) -> Result<Vec<Token>, LexError>
 
 // The tokens with a copy of the text.
 fn tokens_of(alloc: Global, text: &[u8]) -> Result<Tokens, LexError>
-    requires { length text.now ≤ 1048576 }
+    requires within { length text.now ≤ 1048576 }
+    requires utf8 { IsUtf8 text.now }
     ensures read { Gives (λ t. t.tokens) result (lexed 0 0 first_place text.now) }
     ensures copied { IfOk result (λ t. t.text ≡ text.now) }
 {
@@ -87,7 +88,7 @@ fn tokens_of(alloc: Global, text: &[u8]) -> Result<Tokens, LexError>
     Tokens::new(alloc, text, tokens)
 }
 
-/// The tokens of a program's text.
+/// The tokens of a program's text of at most 1,048,576 bytes.
 ///
 /// A text that isn't UTF-8 is refused first, at the first byte that isn't part of a valid front. Otherwise tokens are
 /// taken from the left, each as long as possible, and the first byte that begins none, or the first literal that isn't

@@ -47,7 +47,9 @@ all array bool break bytes continue => Word(All) Word(Array) Word(Bool) Word(Bre
 def do each else emit false for function => Word(Def) Word(Do) Word(Each) Word(Else) Word(Emit) Word(False) Word(For) Word(Function)
 if int map of proto return some static => Word(If) Word(Int) Word(Map) Word(Of) Word(Proto) Word(Return) Word(Some) Word(Static)
 string table time true type weight when while => Word(String) Word(Table) Word(Time) Word(True) Word(Type) Word(Weight) Word(When) Word(While)
-_ a Z9 B b_1 iff If in whilea int_ __all__ => Name Name Name Name Name Name Name Name Name Name Name";
+_ a Z9 B b_1 iff If in whilea int_ __all__ => Name Name Name Name Name Name Name Name Name Name Name
+x B => Name Name
+B'a' => Name Character('a')";
     holds(&rt, rt.alloc(), table)
 }
 
@@ -83,6 +85,7 @@ fn characters(rt: HostRuntime) -> Result<(), Fail> {
 '\n' '\t' '\r' => Character('\n') Character('\t') Character('\r')
 '\\' '\"' '\'' => Character('\\') Character('"') Character('\'')
 '\x41' '\x7E' '\u20aC' => Character('A') Character('~') Character('€')
+'\ud7ff' '\ue000' => Character('\u{d7ff}') Character('\u{e000}')
 'a'b' => bad literal 1:5
 '' => bad literal 1:1
 ' => bad literal 1:1
@@ -118,6 +121,7 @@ x B"\x4g" => bad literal 1:3
 B"\udfff" => bad literal 1:1"#;
     holds(&rt, alloc, table)?;
     assert_eq!(rt; outcome(alloc, b"\"a\n\"")?.as_str(), " bad literal 1:1");
+    assert_eq!(rt; outcome(alloc, b"\"a\tb\rc\"")?.as_str(), " Str");
     Ok(())
 }
 
@@ -137,6 +141,8 @@ fn literals_are_decoded(rt: HostRuntime) -> Result<(), Fail> {
         text.as_slice(),
         b"a\n\t\r\\\"'A\xc3\xa9\xc3\xa9\xe2\x82\xac".as_slice()
     );
+    let ends = decoded(alloc, Quoted::Str, r#""\ud7ff\ue000""#)?;
+    assert_eq!(rt; ends.as_slice(), b"\xed\x9f\xbf\xee\x80\x80".as_slice());
     let bytes = decoded(alloc, Quoted::Bytes, r#"B"\x00\xff\x80\u00ffé""#)?;
     assert_eq!(rt;
         bytes.as_slice(),
@@ -194,8 +200,28 @@ fn places_count_lines_and_bytes(rt: HostRuntime) -> Result<(), Fail> {
         outcome(alloc, "\n 'é' \"é".as_bytes())?.as_str(),
         " bad literal 2:7"
     );
+    Ok(())
+}
+
+#[test]
+fn the_first_byte_that_is_not_utf8(rt: HostRuntime) -> Result<(), Fail> {
+    let alloc = rt.alloc();
     assert_eq!(rt; outcome(alloc, b"\x61\xc3\x28")?.as_str(), " not UTF-8 1:2");
     assert_eq!(rt; outcome(alloc, b"07 ?\n \xff")?.as_str(), " not UTF-8 2:2");
+    assert_eq!(rt;
+        outcome(alloc, b"a\xed\xa0\x80")?.as_str(),
+        " not UTF-8 1:2"
+    );
+    assert_eq!(rt; outcome(alloc, b"\xc0\x80")?.as_str(), " not UTF-8 1:1");
+    assert_eq!(rt;
+        outcome(alloc, b"\n\xf4\x90\x80\x80")?.as_str(),
+        " not UTF-8 2:1"
+    );
+    // The end cuts a character off.
+    assert_eq!(rt;
+        outcome(alloc, b"\"\xc3\xa9\xf0\x9f\x98")?.as_str(),
+        " not UTF-8 1:4"
+    );
     Ok(())
 }
 
@@ -231,6 +257,7 @@ fn the_shortest_and_the_longest_text(rt: HostRuntime) -> Result<(), Fail> {
     let alloc = rt.alloc();
     assert_eq!(rt; outcome(alloc, b"")?.as_str(), "");
     assert_eq!(rt; outcome(alloc, b" # no newline")?.as_str(), "");
+    assert_eq!(rt; outcome(alloc, b"# a\rb\nc")?.as_str(), " Name");
     let mut text = Vec::new(alloc);
     for _ in 0..65_536 {
         text.extend_from_slice(b"total <- 0x1f; \n")?;

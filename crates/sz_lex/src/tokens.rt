@@ -1,5 +1,6 @@
 //! A text and its tokens.
 ghost use Rattle.std.specs.Prelude.{◌≡◌, IfOk, IfErr};
+ghost use Rattle.sz_lex.specs.Tokens.{HasTokens};
 ghost use Rattle.sz_lex.specs.Lexed.{lexeme_of};
 
 use crate::error::LexError;
@@ -7,7 +8,7 @@ use crate::token::Token;
 use std::alloc::Global;
 use std::marker::Model;
 
-/// The tokens of a text, in order, and a copy of the text.
+/// A text that has tokens, and its tokens in order.
 #[derive(Debug, Drop)]
 pub struct Tokens {
     text: Vec<u8>,
@@ -15,16 +16,20 @@ pub struct Tokens {
 }
 
 impl Model for Tokens {
+    ghost use Rattle.sz_lex.specs.Tokens.{HasTokens};
     ghost use Rattle.sz_lex.specs.Lexed.{Lexed};
 
     ghost Value = { Lexed };
 
     ghost view = { λ t. record { text = t.text.items; tokens = t.tokens.items } };
+
+    ghost invariant = { λ t. ∥ HasTokens t.text.items t.tokens.items ∥₁ };
 }
 
 impl Tokens {
     // A copy of the text, and its tokens.
     pub(crate) fn new(alloc: Global, text: &[u8], tokens: Vec<Token>) -> Result<Tokens, LexError>
+        requires { HasTokens text.now tokens.items }
         ensures ok { IfOk result (λ t. t ≡ record { text = text.now; tokens = tokens.items }) }
         ensures err { IfErr result (λ e. e ≡ LexError.NoMemory) }
     {
@@ -41,9 +46,10 @@ impl Tokens {
         self.text.as_slice()
     }
 
-    /// The tokens, in the order of the text.
+    /// The tokens that the text has, in its order.
     pub fn as_slice(&self) -> &[Token]
         ensures value { result.now ≡ self.now.tokens }
+        ensures read { HasTokens self.now.text self.now.tokens }
     {
         self.tokens.as_slice()
     }
