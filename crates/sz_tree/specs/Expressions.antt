@@ -108,19 +108,20 @@ IsPostfix (binary p o l r) = ⊥
 IsPostfix _ = Unit {0}
 
 unfoldable mutual
-  -- 1 more than the greatest height of a part; names, literals and basic types are parts of height 1
+  -- 1 more than the greatest height of a part; names, literals and basic types are parts of height 1,
+  -- and add nothing where another expression is a part
   pub height : Exp → ℕ
   height (literal p l) = 1
   height (named n) = 1
   height (call n es) = 1 + max 1 (heights es)
   height (def p e) = 1 + height e
   height (paren p e) = 1 + height e
-  height (convert p b e) = 1 + max 1 (height e)
+  height (convert p b e) = 1 + height e
   height (list p es) = 1 + heights es
   height (mapping p ps) = 1 + pair_heights ps
   height (index p e i) = 1 + max (height e) (height i)
   height (slice p e i j) = 1 + max (max (height e) (height i)) (height j)
-  height (field p e n) = 1 + max (height e) 1
+  height (field p e n) = 1 + height e
   height (unary p o e) = 1 + height e
   height (binary p o l r) = 1 + max (height l) (height r)
 

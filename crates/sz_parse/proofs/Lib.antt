@@ -1,0 +1,5 @@
+mod Holds
+mod Steps
+mod Items
+mod TokenLemmas
+mod ExpressionSound
