@@ -345,7 +345,7 @@ unary_of_sound : (k : Kind) → Holds (unary_of k) (λ o. k ≡ kinds.Sign (unar
 unary_of_sound (kinds.Sign s) = weaker (sign_unary_sound s) (λ o e. ap kinds.Sign e)
 unary_of_sound _ = none_holds _
 
-sign_binary_sound : (s : Sign) → Holds (sign_binary s) (λ o. s ≡ sign_of o)
+pub sign_binary_sound : (s : Sign) → Holds (sign_binary s) (λ o. s ≡ sign_of o)
 sign_binary_sound signs.OrOr = some_holds _ _ refl
 sign_binary_sound signs.AndAnd = some_holds _ _ refl
 sign_binary_sound signs.EqualEqual = some_holds _ _ refl

@@ -3,3 +3,4 @@ mod Steps
 mod Items
 mod TokenLemmas
 mod ExpressionSound
+mod ExpressionComplete
