@@ -2,6 +2,8 @@
 use Rattle.std.proofs.Common.{◌≡◌, ℕ, zero, suc, ◌+◌, ◌-◌, ◌≤◌, ◌<◌, List, [], ◌∷◌, ◌++◌, length, Option, Some, None, refl, sym, ap, ◌∙◌, append_assoc, arith}
 use Rattle.std.proofs.lemmas.List.{append-nil}
 use Rattle.sz_lex.specs.declared.token.Token.{Token}
+use Rattle.std.specs.Prelude.{max}
+use Rattle.sz_tree.specs.Statements.{greatest}
 use Rattle.sz_parse.specs.Tokens.{Many}
 use Rattle.sz_parse.specs.Reading.{Read, bind, choose, many_at, all_at, with_items}
 use Rattle.sz_parse.proofs.Holds.{Holds, some_holds, bind_holds, chosen_holds}
@@ -56,3 +58,25 @@ pub many_shorter : {A : Type 0} {step : List Token → Option (Read A)} {R : A �
 unfolding Many
 many_shorter i [] ts rest m = omega (arith, ap length m)
 many_shorter i (x ∷ xs) ts rest m = omega (arith, i.shorter x ts m.0 m.1, many_shorter i xs m.0 rest m.2)
+
+-- an item that is so spelled and at most so high
+abbrev pub Low : {A : Type 0} → (A → List Token → List Token → Type 0) → (A → ℕ) → ℕ → A → List Token → List Token → Type 0
+Low S h d x ts rest = S x ts rest × (h x ≤ d)
+
+pub many_split : {A : Type 0} (S : A → List Token → List Token → Type 0) (h : A → ℕ) (d : ℕ) (xs : List A) (ts rest : List Token) → Many (Low S h d) xs ts rest → Many S xs ts rest × (greatest h xs ≤ d)
+unfolding Many
+many_split S h d [] ts rest m = (m, omega arith)
+many_split S h d (x ∷ xs) ts rest m =
+    let l = many_split S h d xs m.0 rest m.2 in
+    ((m.0, m.1.0, l.0), omega (arith, m.1.1, l.1))
+
+pub many_join : {A : Type 0} (S : A → List Token → List Token → Type 0) (h : A → ℕ) (d : ℕ) (xs : List A) (ts rest : List Token) → Many S xs ts rest → greatest h xs ≤ d → Many (Low S h d) xs ts rest
+unfolding Many
+many_join S h d [] ts rest m low = m
+many_join S h d (x ∷ xs) ts rest m low = (m.0, (m.1, omega arith), many_join S h d xs m.0 rest m.2 (omega arith))
+
+-- items that take tokens
+pub many_fewer : {A : Type 0} (R : A → List Token → List Token → Type 0) → ((x : A) (ts rest : List Token) → R x ts rest → length rest < length ts) → (xs : List A) (ts rest : List Token) → Many R xs ts rest → length rest ≤ length ts
+unfolding Many
+many_fewer R h [] ts rest m = omega (arith, ap length m)
+many_fewer R h (x ∷ xs) ts rest m = omega (arith, h x ts m.0 m.1, many_fewer R h xs m.0 rest m.2)

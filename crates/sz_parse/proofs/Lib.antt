@@ -4,3 +4,6 @@ mod Items
 mod TokenLemmas
 mod ExpressionSound
 mod ExpressionComplete
+mod TypeSound
+mod TypeComplete
+mod StatementSound

@@ -7,3 +7,5 @@ pub mod Program
 -- what the functions inside the crate promise each other
 pub mod Reading
 pub mod ReadingExpressions
+pub mod ReadingTypes
+pub mod ReadingStatements

@@ -32,6 +32,10 @@ Perhaps R (Some x) ts rest = R x ts rest
 abbrev pub NotElse : List Token → Type 0
 NotElse ts = (rest : List Token) → IsWord words.Else ts rest → ⊥
 
+-- a number in parentheses
+abbrev pub ReadsArgument : ℤ → List Token → List Token → Type 0
+ReadsArgument n ts rest = (a b : List Token) × IsSign signs.OpenParen ts a × Is (kinds.Number n) a b × IsSign signs.CloseParen b rest
+
 module _ (text : List ℕ) where
   -- a sign or a word and an expression behind it
   abbrev pub ReadsBehind : Sign → Exp → List Token → List Token → Type 0
@@ -68,10 +72,6 @@ module _ (text : List ℕ) where
 
   abbrev pub ReadsTableWeight : ElemForm → List Token → List Token → Type 0
   ReadsTableWeight e ts rest = (a : List Token) × IsWord words.Weight ts a × ReadsElem text e a rest
-
-  -- a number in parentheses
-  abbrev pub ReadsArgument : ℤ → List Token → List Token → Type 0
-  ReadsArgument n ts rest = (a b : List Token) × IsSign signs.OpenParen ts a × Is (kinds.Number n) a b × IsSign signs.CloseParen b rest
 
   -- what stands behind `table`, up to the semicolon
   unfoldable pub ReadsTable : TableForm → List Token → List Token → Type 0

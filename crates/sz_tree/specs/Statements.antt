@@ -124,10 +124,10 @@ abbrev pub greatest : {A : Type 0} → (A → ℕ) → List A → ℕ
 greatest h [] = 0
 greatest h (x ∷ xs) = max (h x) (greatest h xs)
 
--- a path, an index of a table and a quantifier are as high as the highest of their parts
+-- a path, an index of a table and a quantifier are as high as the highest of their parts; a name adds nothing to those
 abbrev pub step_height : StepForm → ℕ
 step_height (at_index e) = height e
-step_height (at_field n) = 1
+step_height (at_field n) = 0
 
 abbrev pub elem_height : ElemForm → ℕ
 elem_height e = type_height e.of
