@@ -107,13 +107,13 @@ binary_of_sign ops.ShiftRight = refl
 binary_of_sign ops.BitAnd = refl
 
 -- what is known of an operator's looseness
-record Looseness (o : BinaryOp) : Type 0 where
-  grips : sign_grip (sign_of o) ≡ loose_of o
-  most : loose_of o ≤ 5
-  least : 1 ≤ loose_of o
-  left : left_loose o ≤ loose_of o
+pub record Looseness (o : BinaryOp) : Type 0 where
+  pub grips : sign_grip (sign_of o) ≡ loose_of o
+  pub most : loose_of o ≤ 5
+  pub least : 1 ≤ loose_of o
+  pub left : left_loose o ≤ loose_of o
 
-looseness : (o : BinaryOp) → Looseness o
+pub looseness : (o : BinaryOp) → Looseness o
 looseness ops.Or = record { grips = refl; most = omega arith; least = omega arith; left = omega arith }
 looseness ops.And = record { grips = refl; most = omega arith; least = omega arith; left = omega arith }
 looseness ops.Equal = record { grips = refl; most = omega arith; least = omega arith; left = omega arith }

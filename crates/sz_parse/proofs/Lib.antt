@@ -7,3 +7,5 @@ mod ExpressionComplete
 mod TypeSound
 mod TypeComplete
 mod StatementSound
+mod StatementComplete
+mod Whole
