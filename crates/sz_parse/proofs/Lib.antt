@@ -9,3 +9,7 @@ mod TypeComplete
 mod StatementSound
 mod StatementComplete
 mod Whole
+mod Loops
+mod ExpressionTurns
+mod ExpressionRows
+mod TypeTurns

@@ -125,25 +125,40 @@ module _ (text : List ℕ) (sub : Sub) (d : ℕ) (s : IsSound text sub d) (h : I
       → (n : Ident) × (a : List Token) × AtName text n ts a × (simple_behind text sub d n a ≡ Some (x, rest)) × (after_sign signs.Colon a ≡ None) × (after_sign signs.Define a ≡ None)
   unfolding simple_behind assign_at ReadsSimple simple_height
   simple_complete (assign p e) ts rest re low g =
-      let m = all_complete (path_item text sub d s) path_found p.steps re.0 re.1 (many_join (ReadsStep text) step_height d p.steps re.0 re.1 re.4 (omega arith)) tt (no_step signs.Assign re.1 re.2 re.5 refl refl) in
-      (p.name, re.0, re.3, choose_none _ _ _ _ (path_other signs.Increment p.steps re.0 re.1 re.2 re.4 re.5 refl refl refl)
-      (choose_none _ _ _ _ (path_other signs.Decrement p.steps re.0 re.1 re.2 re.4 re.5 refl refl refl)
-      (choose_none _ _ _ _ (path_other signs.OpenParen p.steps re.0 re.1 re.2 re.4 re.5 refl refl refl)
-      (bind_step _ _ _ _ m (bind_step _ _ _ _ (after_sign_is signs.Assign re.1 re.2 re.5)
-      (bind_step _ _ _ _ (whole text sub d s h e re.2 rest re.6 (omega arith) g) refl))))),
-      path_other signs.Colon p.steps re.0 re.1 re.2 re.4 re.5 refl refl refl, path_other signs.Define p.steps re.0 re.1 re.2 re.4 re.5 refl refl refl)
+      let m = all_complete (path_item text sub d s) path_found p.steps re.0 re.1 (many_join (ReadsStep text) step_height d p.steps re.0 re.1 re.4 (omega arith)) tt (no_step signs.Assign re.1 re.2 re.5 refl refl) in (
+        p.name,
+        re.0,
+        re.3,
+        choose_none _ _ _ _ (path_other signs.Increment p.steps re.0 re.1 re.2 re.4 re.5 refl refl refl)
+            (choose_none _ _ _ _ (path_other signs.Decrement p.steps re.0 re.1 re.2 re.4 re.5 refl refl refl)
+            (choose_none _ _ _ _ (path_other signs.OpenParen p.steps re.0 re.1 re.2 re.4 re.5 refl refl refl)
+            (bind_step _ _ _ _ m (bind_step _ _ _ _ (after_sign_is signs.Assign re.1 re.2 re.5)
+            (bind_step _ _ _ _ (whole text sub d s h e re.2 rest re.6 (omega arith) g) refl))))),
+        path_other signs.Colon p.steps re.0 re.1 re.2 re.4 re.5 refl refl refl,
+        path_other signs.Define p.steps re.0 re.1 re.2 re.4 re.5 refl refl refl,
+      )
   simple_complete (increment n) ts rest re low g =
       let some : 2 ≤ d = omega arith in
       (n, re.0, re.1, choose_some _ _ _ _ _ (after_sign_is signs.Increment re.0 rest re.2) (guard_step _ _ _ (le-leb _ _ some) refl), other_sign signs.Colon signs.Increment re.0 rest re.2 refl, other_sign signs.Define signs.Increment re.0 rest re.2 refl)
   simple_complete (decrement n) ts rest re low g =
-      let some : 2 ≤ d = omega arith in
-      (n, re.0, re.1, choose_none _ _ _ _ (other_sign signs.Increment signs.Decrement re.0 rest re.2 refl) (choose_some _ _ _ _ _ (after_sign_is signs.Decrement re.0 rest re.2) (guard_step _ _ _ (le-leb _ _ some) refl)),
-      other_sign signs.Colon signs.Decrement re.0 rest re.2 refl, other_sign signs.Define signs.Decrement re.0 rest re.2 refl)
+      let some : 2 ≤ d = omega arith in (
+        n,
+        re.0,
+        re.1,
+        choose_none _ _ _ _ (other_sign signs.Increment signs.Decrement re.0 rest re.2 refl) (choose_some _ _ _ _ _ (after_sign_is signs.Decrement re.0 rest re.2) (guard_step _ _ _ (le-leb _ _ some) refl)),
+        other_sign signs.Colon signs.Decrement re.0 rest re.2 refl,
+        other_sign signs.Define signs.Decrement re.0 rest re.2 refl,
+      )
   simple_complete (call_of n es) ts rest re low g =
-      let some : 1 ≤ d = omega arith in
-      (n, re.0, re.3, choose_none _ _ _ _ (other_sign signs.Increment signs.OpenParen re.0 re.1 re.4 refl) (choose_none _ _ _ _ (other_sign signs.Decrement signs.OpenParen re.0 re.1 re.4 refl)
-      (choose_some _ _ _ _ _ (after_sign_is signs.OpenParen re.0 re.1 re.4) (guard_step _ _ _ (le-leb _ _ some) (bind_step _ _ _ _ (call_complete text sub d s h es re.1 re.2 rest re.5 (omega arith) re.6) refl)))),
-      other_sign signs.Colon signs.OpenParen re.0 re.1 re.4 refl, other_sign signs.Define signs.OpenParen re.0 re.1 re.4 refl)
+      let some : 1 ≤ d = omega arith in (
+        n,
+        re.0,
+        re.3,
+        choose_none _ _ _ _ (other_sign signs.Increment signs.OpenParen re.0 re.1 re.4 refl) (choose_none _ _ _ _ (other_sign signs.Decrement signs.OpenParen re.0 re.1 re.4 refl)
+            (choose_some _ _ _ _ _ (after_sign_is signs.OpenParen re.0 re.1 re.4) (guard_step _ _ _ (le-leb _ _ some) (bind_step _ _ _ _ (call_complete text sub d s h es re.1 re.2 rest re.5 (omega arith) re.6) refl)))),
+        other_sign signs.Colon signs.OpenParen re.0 re.1 re.4 refl,
+        other_sign signs.Define signs.OpenParen re.0 re.1 re.4 refl,
+      )
 
 simple_positive : (x : SimpleForm) → 0 < simple_height x
 unfolding simple_height

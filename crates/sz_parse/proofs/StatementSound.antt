@@ -61,12 +61,16 @@ module _ (text : List ℕ) where
   table_shorter : (t : TableForm) (ts rest : List Token) → ReadsTable text t ts rest → length rest < length ts
   unfolding ReadsTable
   table_shorter t ts rest i =
-      omega (arith, name_length i.6,
-      perhaps_shorter ReadsArgument (λ n ts rest a. omega (arith, is_length a.2, is_length a.3, is_length a.4)) t.argument i.0 i.1 i.7,
-      many_fewer (ReadsTableIndex text) (λ e ts rest x. omega (arith, is_length x.2, label_elem_shorter e _ _ x.3, is_length x.4)) t.indexes i.1 i.2 i.8,
-      is_length i.9, label_elem_shorter t.of _ _ i.10,
-      perhaps_shorter (ReadsTableWeight text) (λ e ts rest x. omega (arith, is_length x.1, label_elem_shorter e _ _ x.2)) t.weight i.4 i.5 i.11,
-      is_length i.12)
+      omega (
+        arith,
+        name_length i.6,
+        perhaps_shorter ReadsArgument (λ n ts rest a. omega (arith, is_length a.2, is_length a.3, is_length a.4)) t.argument i.0 i.1 i.7,
+        many_fewer (ReadsTableIndex text) (λ e ts rest x. omega (arith, is_length x.2, label_elem_shorter e _ _ x.3, is_length x.4)) t.indexes i.1 i.2 i.8,
+        is_length i.9,
+        label_elem_shorter t.of _ _ i.10,
+        perhaps_shorter (ReadsTableWeight text) (λ e ts rest x. omega (arith, is_length x.1, label_elem_shorter e _ _ x.2)) t.weight i.4 i.5 i.11,
+        is_length i.12,
+      )
 
   all_names_shorter : (ns : List Ident) (ts rest : List Token) → ReadsNames text ns ts rest → length rest < length ts
   all_names_shorter [] ts rest i = absurd i
@@ -108,14 +112,32 @@ module _ (text : List ℕ) where
     stm_shorter (forms.while p c s) ts rest h = omega (arith, at_length h.2, condition_shorter c _ _ h.3, stm_shorter s _ _ h.4)
     stm_shorter (forms.do_while p s c) ts rest h = omega (arith, at_length h.4, stm_shorter s _ _ h.5, is_length h.6, condition_shorter c _ _ h.7, is_length h.8)
     stm_shorter (forms.for_loop p f c t s) ts rest h =
-        omega (arith, at_length h.8, is_length h.9, perhaps_shorter (ReadsFirst text) first_shorter f _ _ h.10, is_length h.11, expr_part_shorter c _ _ h.12, is_length h.13,
-        perhaps_shorter (ReadsSimple text) (λ x ts rest r. omega (arith, simple_shorter x ts rest r)) t _ _ h.14, is_length h.15, stm_shorter s _ _ h.16)
+        omega (
+          arith,
+          at_length h.8,
+          is_length h.9,
+          perhaps_shorter (ReadsFirst text) first_shorter f _ _ h.10,
+          is_length h.11,
+          expr_part_shorter c _ _ h.12,
+          is_length h.13,
+          perhaps_shorter (ReadsSimple text) (λ x ts rest r. omega (arith, simple_shorter x ts rest r)) t _ _ h.14,
+          is_length h.15,
+          stm_shorter s _ _ h.16,
+        )
     stm_shorter (forms.break p) ts rest h = omega (arith, at_length h.1, is_length h.2)
     stm_shorter (forms.continue p) ts rest h = omega (arith, at_length h.1, is_length h.2)
     stm_shorter (forms.return p e) ts rest h = omega (arith, at_length h.2, expr_part_shorter e _ _ h.3, is_length h.4)
     stm_shorter (forms.emit p n es e w) ts rest h =
-        omega (arith, at_length h.8, name_length h.9, many_fewer (ReadsIndex text) (λ x ts rest r. omega (arith, is_length r.2, shorter text x _ _ r.3, is_length r.4)) h.0 _ _ h.10, is_length h.11, shorter text e _ _ h.12,
-        perhaps_shorter (ReadsWeight text) (λ x ts rest r. omega (arith, is_length r.1, shorter text x _ _ r.2)) w _ _ h.13, is_length h.14)
+        omega (
+          arith,
+          at_length h.8,
+          name_length h.9,
+          many_fewer (ReadsIndex text) (λ x ts rest r. omega (arith, is_length r.2, shorter text x _ _ r.3, is_length r.4)) h.0 _ _ h.10,
+          is_length h.11,
+          shorter text e _ _ h.12,
+          perhaps_shorter (ReadsWeight text) (λ x ts rest r. omega (arith, is_length r.1, shorter text x _ _ r.2)) w _ _ h.13,
+          is_length h.14,
+        )
     stm_shorter (forms.when p qs c s) ts rest h = omega (arith, at_length h.5, is_length h.6, quantifiers_shorter qs _ _ h.7, shorter text c _ _ h.8, is_length h.9, stm_shorter s _ _ h.10)
 
     pub stms_shorter : (ss : Stms) (ts rest : List Token) → ReadsStms text ss ts rest → length rest ≤ length ts

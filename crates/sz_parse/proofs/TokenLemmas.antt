@@ -119,3 +119,10 @@ decoded_is q l v h =
     let read : body_at q 0 o.body ≡ Some (record { len = length o.body; value = v }) = ap (body_at q 0) (sym (append-nil o.body)) ∙ o.read [] in
     let same : eqb (length o.body) (length o.body) ≡ true = eq-eqb (length o.body) (length o.body) refl in
     rw test (ap (λ (b : List ℕ). whole_value (length b) (body_at q 0 b)) body ∙ ap (whole_value (length o.body)) read ∙ rw same refl)
+
+pub decoded_none : (q : Quoted) (l : List ℕ) → ((v : List ℕ) → IsQuoted q l v → ⊥) → decoded q l ≡ None
+decoded_none q l none = go (decoded q l) refl
+  where
+    go : (o : Option (List ℕ)) → decoded q l ≡ o → decoded q l ≡ None
+    go (Some v) e = absurd (none v ((decoded_sound q l).holds v e))
+    go None e = e

@@ -9,3 +9,4 @@ pub mod Reading
 pub mod ReadingExpressions
 pub mod ReadingTypes
 pub mod ReadingStatements
+pub mod Outcome

@@ -185,6 +185,10 @@ field_at text e ts = name_at text ts >>= λ n. Some (field (place_of e) e n.0, n
 unfoldable pub part_step : List ℕ → Sub → Exp → List Token → Option (Read Exp)
 part_step text sub e ts = choose (after_sign signs.OpenBracket ts) (choose (after_sign signs.Dot ts) None (λ a. Some (field_at text e a))) (λ a. Some (bracket_at sub e a))
 
+-- an index, a slice or a field of e if one stands there, and whether one does
+unfoldable pub part_at : List ℕ → Sub → ℕ → Exp → List Token → Read (Exp × Bool)
+part_at text sub d e ts = choose (part_step text sub e ts) (Some ((e, false), ts)) (λ r. guard (nat_le (height e) d) (r >>= λ x. Some ((x.0, true), x.1)))
+
 -- what stands behind e, in so many turns at most
 unfoldable pub tail_at : List ℕ → Sub → ℕ → ℕ → Exp → List Token → Read Exp
 tail_at text sub d zero e ts = Some (e, ts)
