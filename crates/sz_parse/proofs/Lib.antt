@@ -13,3 +13,4 @@ mod Loops
 mod ExpressionTurns
 mod ExpressionRows
 mod TypeTurns
+mod StatementTurns

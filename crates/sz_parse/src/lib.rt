@@ -5,6 +5,8 @@ mod expr;
 mod failed;
 mod laws;
 mod limit;
+mod simple;
+mod table;
 mod token;
 mod types;
 
