@@ -1,0 +1,15 @@
+mod Holds
+mod Steps
+mod Items
+mod TokenLemmas
+mod ExpressionSound
+mod ExpressionComplete
+mod TypeSound
+mod TypeComplete
+mod StatementSound
+mod StatementComplete
+mod Whole
+mod Loops
+mod ExpressionTurns
+mod ExpressionRows
+mod TypeTurns

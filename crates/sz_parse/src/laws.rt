@@ -1,0 +1,13 @@
+//! What holds of all lists of tokens. The calls do nothing: each promises a law of `specs/Program.antt`.
+ghost use Rattle.sz_parse.specs.Program.{SpellsOneTree, IsNotStuck, IsStuckOnce};
+
+/// A list of tokens spells at most one tree.
+pub fn trees_are_unique()
+    ensures { SpellsOneTree }
+{}
+
+/// A list of tokens that spells a tree is refused nowhere, and any other at one place at most.
+pub fn refusal_is_unique()
+    ensures none { IsNotStuck }
+    ensures one { IsStuckOnce }
+{}
