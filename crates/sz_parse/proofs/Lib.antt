@@ -13,3 +13,5 @@ mod Loops
 mod ExpressionTurns
 mod ExpressionRows
 mod TypeTurns
+mod StatementTurns
+mod ProgramTurns

@@ -30,7 +30,7 @@ use Rattle.sz_parse.specs.Statements.{quantity_word, Perhaps, NotElse, ReadsBehi
 use Rattle.sz_parse.specs.Reading.{Read, sign_here, after_sign, word_here, after_word, ident_of, name_here, name_at, all_at}
 use Rattle.sz_parse.specs.ReadingExpressions.{Sub, condition_at, expr_at}
 use Rattle.sz_parse.specs.ReadingTypes.{SubType, elem_at, type_at}
-use Rattle.sz_parse.specs.ReadingStatements.{unless_at, init_at, weight_at, index_at, index_step, path_step, assign_at, simple_behind, simple_at, first_behind, first_at, argument_at, table_index_step, table_weight_at, table_at, name_step, names_at, quantity_at, quantifier_at, begins_quantifier, quantifier_step, quantifiers_at, Readers, stm_step, body_at, block_at, declare_at, declared_at, function_at, table_stm_at, colon_at, define_at, simple_stm_at, named_stm_at, static_at, typedef_at, if_at, while_at, do_at, for_at, break_at, continue_at, return_at, emit_at, when_at, step_at, stm_at}
+use Rattle.sz_parse.specs.ReadingStatements.{unless_at, init_at, weight_at, index_at, index_step, path_step, assign_at, simple_behind, simple_at, first_behind, first_at, argument_at, table_index_at, table_index_step, table_weight_at, table_at, name_step, names_behind, names_at, quantity_at, quantifier_at, begins_quantifier, quantifier_step, quantifiers_behind, quantifiers_at, Readers, begins_stm, stm_step, body_at, block_at, declare_at, declared_at, function_at, table_stm_at, colon_at, define_at, simple_stm_at, named_stm_at, static_at, typedef_at, if_at, while_at, do_at, for_at, break_at, continue_at, return_at, emit_at, when_at, step_at, stm_at}
 use Rattle.sz_parse.proofs.Steps.{bind_step, bind_none, choose_some, choose_none, guard_step}
 use Rattle.sz_parse.proofs.Items.{IsFound, Low, all_complete, many_join, follows}
 use Rattle.sz_parse.proofs.TokenLemmas.{after_sign_is, other_sign, after_word_is, other_word, name_is}
@@ -279,7 +279,7 @@ module _ (text : List ℕ) (ty : SubType) (d : ℕ) (s : IsSoundType text ty d) 
   whole_elem e ts rest re low none = elem_complete text ty d s h e.name e.of ts re.0 rest re.1 re.2 low none
 
   table_index_found : IsFound (table_index_step text ty) (Low (ReadsTableIndex text) elem_height d) (λ ts. Unit {0})
-  unfolding table_index_step
+  unfolding table_index_step table_index_at
   table_index_found = record {
     found = λ x ts rest i g. choose_some _ _ _ _ _ (after_sign_is signs.OpenBracket ts i.0.0 i.0.2) (ap (λ (r : Read ElemForm). Some r)
         (bind_step _ _ _ _ (whole_elem x i.0.0 i.0.1 i.0.3 i.1 (other_sign signs.Colon signs.CloseBracket i.0.1 rest i.0.4 refl)) (bind_step _ _ _ _ (after_sign_is signs.CloseBracket i.0.1 rest i.0.4) refl)));
@@ -287,7 +287,7 @@ module _ (text : List ℕ) (ty : SubType) (d : ℕ) (s : IsSoundType text ty d) 
   }
 
   no_table_index : (w : Word) (ts rest : List Token) → IsWord w ts rest → table_index_step text ty ts ≡ None
-  unfolding table_index_step
+  unfolding table_index_step table_index_at
   no_table_index w ts rest c = choose_none _ _ _ _ (sign_at_word signs.OpenBracket w ts rest c) refl
 
   table_weight_complete : (e : Option ElemForm) (ts rest after : List Token) → Perhaps (ReadsTableWeight text) e ts rest → part_height elem_height e ≤ d → IsSign signs.Semicolon rest after → (table_weight_at text ty ts ≡ Some (e, rest)) × (after_sign signs.Colon ts ≡ None)
@@ -323,7 +323,7 @@ module _ (text : List ℕ) (ty : SubType) (d : ℕ) (s : IsSoundType text ty d) 
   no_name_step ts rest c = choose_none _ _ _ _ (other_sign signs.Comma signs.Colon ts rest c refl) refl
 
   names_complete : (ns : List Ident) (ts rest after : List Token) → ReadsNames text ns ts rest → IsSign signs.Colon rest after → names_at text ts ≡ Some (ns, rest)
-  unfolding names_at
+  unfolding names_at names_behind
   names_complete [] ts rest after re c = absurd re
   names_complete (n ∷ ns) ts rest after re c =
       bind_step _ _ _ _ (name_is text n ts re.0 re.1) (bind_step _ _ _ _ (all_complete (name_item text ty d s) name_found ns re.0 rest re.2 tt (no_name_step rest after c)) refl)
@@ -354,7 +354,7 @@ module _ (text : List ℕ) (ty : SubType) (d : ℕ) (s : IsSoundType text ty d) 
   }
 
   quantifiers_complete : (qs : List QuantifierForm) (ts rest : List Token) → ReadsQuantifiers text qs ts rest → greatest quantifier_height qs ≤ d → begins_quantifier text rest ≡ None → quantifiers_at text ty ts ≡ Some (qs, rest)
-  unfolding quantifiers_at quantifier_step
+  unfolding quantifiers_at quantifiers_behind quantifier_step
   quantifiers_complete [] ts rest re low none = absurd re
   quantifiers_complete (q ∷ qs) ts rest re low none =
       let m = all_complete (quantifier_item text ty d s) quantifier_found qs re.0 rest (many_join (ReadsQuantifier text) quantifier_height d qs re.0 rest re.2 (omega arith)) tt (choose_none _ _ _ _ none refl) in
@@ -420,18 +420,18 @@ stms_list (forms.stm s ss) = ap (forms.stm s) (stms_list ss)
 
 module _ (text : List ℕ) (r : Readers) (d : ℕ) (s : AreSound text r d) (h : AreComplete text r d) where
   found_stm : (x : Stm) (ts rest : List Token) → Low (ReadsStm text) stm_height d x ts rest → stm_step r.stm ts ≡ Some (Some (x, rest))
-  unfolding stm_step after_sign
+  unfolding stm_step begins_stm after_sign
   found_stm x ts rest i =
       let b = stm_begins text x ts rest i.0 in
       let is : r.stm (b.0 ∷ b.1) ≡ Some (x, rest) = ap r.stm (sym b.2) ∙ h.stm x ts rest i.0 i.1 in
-      rw b.2 (choose_none _ _ _ _ b.3 (ap (λ (o : Read Stm). Some o) is))
+      rw b.2 (choose_some _ _ _ _ _ (choose_none _ _ _ _ b.3 refl) (ap (λ (o : Read Stm). Some o) is))
 
   stm_found : IsFound (stm_step r.stm) (Low (ReadsStm text) stm_height d) (λ ts. Unit {0})
   stm_found = record { found = λ x ts rest i g. found_stm x ts rest i; begins = λ x ts rest i. tt }
 
   no_stm : (ts rest : List Token) → IsSign signs.CloseBrace ts rest → stm_step r.stm ts ≡ None
-  unfolding stm_step
-  no_stm ts rest c = rw c.is (choose_some _ _ _ _ _ (after_sign_is signs.CloseBrace _ rest (record { place = c.place; start = c.start; len = c.len; is = refl })) refl)
+  unfolding stm_step begins_stm
+  no_stm ts rest c = rw c.is (choose_none _ _ _ _ (choose_some _ _ _ _ _ (after_sign_is signs.CloseBrace _ rest (record { place = c.place; start = c.start; len = c.len; is = refl })) refl) refl)
 
   stm_items : (ss : Stms) (ts rest : List Token) → ReadsStms text ss ts rest → stm_heights ss ≤ d → Many (Low (ReadsStm text) stm_height d) (stm_list ss) ts rest
   unfolding Many ReadsStm stm_height

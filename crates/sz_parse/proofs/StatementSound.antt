@@ -1,5 +1,5 @@
 -- What is read as a statement is spelled so.
-use Rattle.std.proofs.Common.{◌≡◌, ℕ, zero, suc, ℤ, ◌+◌, ◌≤◌, ◌<◌, List, [], ◌∷◌, length, Option, Some, None, max, refl, sym, ap, ◌∙◌, arith}
+use Rattle.std.proofs.Common.{◌≡◌, ℕ, zero, suc, ℤ, ◌+◌, ◌≤◌, ◌<◌, List, [], ◌∷◌, length, Option, Some, None, max, refl, sym, ap, subst, ◌∙◌, arith}
 use Rattle.std.proofs.lemmas.Bool.{leb-true}
 use Rattle.sz_types.specs.declared.place.Place.{Place}
 use Rattle.sz_lex.specs.declared.token.Token.{Token}
@@ -23,7 +23,7 @@ use Rattle.sz_parse.specs.Statements.{quantity_word, Perhaps, NotElse, ReadsBehi
 use Rattle.sz_parse.specs.Reading.{Read, ◌>>=◌, bind, after_sign, after_word, ident_of, name_at, all_at}
 use Rattle.sz_parse.specs.ReadingExpressions.{Sub, expr_at}
 use Rattle.sz_parse.specs.ReadingTypes.{SubType, type_at}
-use Rattle.sz_parse.specs.ReadingStatements.{unless_at, init_at, weight_at, index_at, index_step, path_step, assign_at, simple_behind, simple_at, first_behind, first_at, argument_at, table_index_step, table_weight_at, table_at, name_step, names_at, quantity_of, quantity_here, quantity_at, quantifier_at, begins_quantifier, quantifier_step, quantifiers_at, Readers, stm_step, body_at, block_at, declare_at, declared_at, function_at, table_stm_at, colon_at, define_at, simple_stm_at, named_stm_at, static_at, typedef_at, if_at, while_at, do_at, for_at, break_at, continue_at, return_at, emit_at, when_at, stm_bracketed, stm_worded, stm_here, step_at, stm_at}
+use Rattle.sz_parse.specs.ReadingStatements.{unless_at, init_at, weight_at, index_at, index_step, path_step, assign_at, simple_behind, simple_at, first_behind, first_at, argument_at, table_index_at, table_index_step, table_weight_at, table_at, name_step, names_behind, names_at, quantity_of, quantity_here, quantity_at, quantifier_at, begins_quantifier, quantifier_step, quantifiers_behind, quantifiers_at, Readers, begins_stm, stm_step, body_at, block_at, declare_at, declared_at, function_at, table_stm_at, colon_at, define_at, simple_stm_at, named_stm_at, static_at, typedef_at, if_at, while_at, do_at, for_at, break_at, continue_at, return_at, emit_at, when_at, stm_bracketed, stm_worded, stm_here, step_at, stm_at, readers_at}
 use Rattle.sz_parse.proofs.Holds.{Holds, some_holds, none_holds, bind_holds, choose_holds, chosen_holds, guard_holds, weaker}
 use Rattle.sz_parse.proofs.Items.{IsItem, Low, all_sound, many_split, many_fewer, known}
 use Rattle.sz_parse.proofs.TokenLemmas.{after_sign_sound, after_word_sound, after_word_is, name_sound, at_length, is_length, name_length}
@@ -261,7 +261,7 @@ argument_sound ts = choose_holds (after_sign_sound signs.OpenParen ts) (some_hol
 
 module _ (text : List ℕ) (ty : SubType) (d : ℕ) (h : IsSoundType text ty d) where
   table_index_sound : (ts : List Token) → Holds (table_index_step text ty ts) (λ r. Holds r (λ x. Low (ReadsTableIndex text) elem_height d x.0 ts x.1))
-  unfolding table_index_step ReadsElem
+  unfolding table_index_step table_index_at ReadsElem
   table_index_sound ts = choose_holds (after_sign_sound signs.OpenBracket ts) (none_holds _) (λ a o. some_holds _ _ (bind_holds (elem_sound text ty d h a) (λ e g. bind_holds (after_sign_sound signs.CloseBracket e.1) (λ r c.
       some_holds _ _ ((a, e.1, o, (g.behind, g.label, g.reads), c), g.low)))))
 
@@ -294,7 +294,7 @@ module _ (text : List ℕ) (ty : SubType) (d : ℕ) (h : IsSoundType text ty d) 
   name_item = record { sound = λ ts r e. (name_step_sound ts).holds r e; shorter = λ x ts rest i. omega (arith, is_length i.1, name_length i.2) }
 
   names_sound : (ts : List Token) → Holds (names_at text ts) (λ x. ReadsNames text x.0 ts x.1)
-  unfolding names_at
+  unfolding names_at names_behind
   names_sound ts = bind_holds (name_sound text ts) (λ n at. bind_holds (all_sound name_item n.1) (λ y m. some_holds _ _ (n.1, at, m)))
 
   quantity_of_sound : (w : Word) → Holds (quantity_of w) (λ q. w ≡ quantity_word q)
@@ -325,7 +325,7 @@ module _ (text : List ℕ) (ty : SubType) (d : ℕ) (h : IsSoundType text ty d) 
   quantifier_item = record { sound = λ ts r e. (quantifier_step_sound ts).holds r e; shorter = λ x ts rest i. one_quantifier_shorter text x ts rest i.0 }
 
   quantifiers_sound : (ts : List Token) → Holds (quantifiers_at text ty ts) (λ x. Low (ReadsQuantifiers text) (greatest quantifier_height) d x.0 ts x.1)
-  unfolding quantifiers_at
+  unfolding quantifiers_at quantifiers_behind
   quantifiers_sound ts = bind_holds (quantifier_sound ts) (λ q g. bind_holds (all_sound quantifier_item q.1) (λ y m.
       let l = many_split (ReadsQuantifier text) quantifier_height d y.0 q.1 y.1 m in
       some_holds _ _ ((q.1, g.0, l.0), omega (arith, g.1, l.1))))
@@ -361,10 +361,14 @@ pub record ParsedBody (text : List ℕ) (d : ℕ) (ts : List Token) (y : List St
   pub low : stm_heights (stms_of y.0) ≤ d
 
 module _ (text : List ℕ) (r : Readers) (d : ℕ) (h : AreSound text r d) where
+  begins_stm_sound : (ts : List Token) → Holds (begins_stm ts) (λ b. b ≡ ts)
+  unfolding begins_stm
+  begins_stm_sound [] = none_holds _
+  begins_stm_sound (t ∷ ts) = choose_holds (known (after_sign signs.CloseBrace (t ∷ ts))) (some_holds _ _ refl) (λ a c. none_holds _)
+
   stm_step_sound : (ts : List Token) → Holds (stm_step r.stm ts) (λ o. Holds o (λ x. ParsedStm text d ts x))
   unfolding stm_step
-  stm_step_sound [] = none_holds _
-  stm_step_sound (t ∷ ts) = choose_holds (after_sign_sound signs.CloseBrace (t ∷ ts)) (some_holds _ _ (h.stm (t ∷ ts))) (λ a c. none_holds _)
+  stm_step_sound ts = choose_holds (begins_stm_sound ts) (none_holds _) (λ b e. some_holds _ _ (subst (λ (u : List Token). Holds (r.stm b) (λ x. ParsedStm text d u x)) e (h.stm b)))
 
   pub stm_item : IsItem (stm_step r.stm) (Low (ReadsStm text) stm_height d)
   stm_item = record { sound = λ ts o e. (stm_step_sound ts).holds o e; shorter = λ x ts rest i. stm_shorter text x ts rest i.0 }
@@ -524,3 +528,10 @@ unfolding stm_at
 stm_sound text zero ts = none_holds _
 stm_sound text (suc d) ts =
     step_sound text _ d (record { expr = expr_sound text d; type = type_sound text d; simple = simple_at_sound text d; first = first_at_sound text d; stm = stm_sound text d }) ts
+
+-- what is known of the readers of the parts
+are_sound : (text : List ℕ) (d : ℕ) → AreSound text (readers_at text d) d
+are_sound text d = record { expr = expr_sound text d; type = type_sound text d; simple = simple_at_sound text d; first = first_at_sound text d; stm = stm_sound text d }
+
+pub stms_item : (text : List ℕ) (d : ℕ) → IsItem (stm_step (stm_at text d)) (Low (ReadsStm text) stm_height d)
+stms_item text d = stm_item text (readers_at text d) d (are_sound text d)

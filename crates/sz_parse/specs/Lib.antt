@@ -4,6 +4,7 @@ pub mod Expressions
 pub mod Types
 pub mod Statements
 pub mod Program
+pub mod Parsed
 -- what the functions inside the crate promise each other
 pub mod Reading
 pub mod ReadingExpressions

@@ -42,6 +42,16 @@ path_step text sub ts =
     choose (after_sign signs.OpenBracket ts) (choose (after_sign signs.Dot ts) None (λ a. Some (name_at text a >>= λ n. Some (at_field n.0, n.1))))
     (λ a. Some (index_at sub a >>= λ x. Some (at_index x.0, x.1)))
 
+-- what follows the bracket or dot with which a step of a path begins
+unfoldable pub begins_step : List Token → Option (List Token)
+begins_step ts = choose (after_sign signs.OpenBracket ts) (after_sign signs.Dot ts) (λ r. Some r)
+
+-- a step of a path, which must be there
+unfoldable pub step_item : List ℕ → Sub → List Token → Read StepForm
+step_item text sub ts =
+    choose (after_sign signs.OpenBracket ts) (after_sign signs.Dot ts >>= λ a. name_at text a >>= λ n. Some (at_field n.0, n.1))
+    (λ a. index_at sub a >>= λ x. Some (at_index x.0, x.1))
+
 -- an assignment, a step up or down, or a call, behind its name; d is how high its parts may be
 unfoldable pub assign_at : List ℕ → Sub → Ident → List Token → Read SimpleForm
 assign_at text sub n ts = all_at (path_step text sub) ts >>= λ y. after_sign signs.Assign y.1 >>= λ a. sub 5 a >>= λ x. Some (assign (record { name = n; steps = y.0 }) x.0, x.1)
@@ -75,8 +85,11 @@ first_at text (suc d) ts = name_at text ts >>= λ n. first_behind text (expr_at 
 unfoldable pub argument_at : List Token → Read (Option ℤ)
 argument_at ts = choose (after_sign signs.OpenParen ts) (Some (None, ts)) (λ a. number_at a >>= λ n. after_sign signs.CloseParen n.1 >>= λ r. Some (Some n.0, r))
 
+unfoldable pub table_index_at : List ℕ → SubType → List Token → Read ElemForm
+table_index_at text ty ts = elem_at text ty ts >>= λ e. after_sign signs.CloseBracket e.1 >>= λ r. Some (e.0, r)
+
 unfoldable pub table_index_step : List ℕ → SubType → List Token → Option (Read ElemForm)
-table_index_step text ty ts = choose (after_sign signs.OpenBracket ts) None (λ a. Some (elem_at text ty a >>= λ e. after_sign signs.CloseBracket e.1 >>= λ r. Some (e.0, r)))
+table_index_step text ty ts = choose (after_sign signs.OpenBracket ts) None (λ a. Some (table_index_at text ty a))
 
 unfoldable pub table_weight_at : List ℕ → SubType → List Token → Read (Option ElemForm)
 table_weight_at text ty ts = choose (after_word words.Weight ts) (Some (None, ts)) (λ a. elem_at text ty a >>= λ e. Some (Some e.0, e.1))
@@ -92,8 +105,11 @@ table_at text ty ts =
 unfoldable pub name_step : List ℕ → List Token → Option (Read Ident)
 name_step text ts = choose (after_sign signs.Comma ts) None (λ a. Some (name_at text a))
 
+unfoldable pub names_behind : List ℕ → Ident → List Token → Read (List Ident)
+names_behind text n ts = all_at (name_step text) ts >>= λ y. Some (n ∷ y.0, y.1)
+
 unfoldable pub names_at : List ℕ → List Token → Read (List Ident)
-names_at text ts = name_at text ts >>= λ n. all_at (name_step text) n.1 >>= λ y. Some (n.0 ∷ y.0, y.1)
+names_at text ts = name_at text ts >>= λ n. names_behind text n.0 n.1
 
 abbrev pub quantity_of : Word → Option Quantity
 quantity_of words.Some = Some quantities.Some
@@ -123,8 +139,11 @@ begins_quantifier text ts = name_at text ts >>= λ n. choose (after_sign signs.C
 unfoldable pub quantifier_step : List ℕ → SubType → List Token → Option (Read QuantifierForm)
 quantifier_step text ty ts = choose (begins_quantifier text ts) None (λ _. Some (quantifier_at text ty ts))
 
+unfoldable pub quantifiers_behind : List ℕ → SubType → QuantifierForm → List Token → Read (List QuantifierForm)
+quantifiers_behind text ty q ts = all_at (quantifier_step text ty) ts >>= λ y. Some (q ∷ y.0, y.1)
+
 unfoldable pub quantifiers_at : List ℕ → SubType → List Token → Read (List QuantifierForm)
-quantifiers_at text ty ts = quantifier_at text ty ts >>= λ q. all_at (quantifier_step text ty) q.1 >>= λ y. Some (q.0 ∷ y.0, y.1)
+quantifiers_at text ty ts = quantifier_at text ty ts >>= λ q. quantifiers_behind text ty q.0 q.1
 
 -- readers of the parts of a statement
 pub record Readers : Type 0 where
@@ -134,10 +153,14 @@ pub record Readers : Type 0 where
   pub first : List Token → Read FirstForm
   pub stm : List Token → Read Stm
 
--- a statement, where neither a closing brace nor the end stands
+-- the tokens, where neither a closing brace nor the end stands
+unfoldable pub begins_stm : List Token → Option (List Token)
+begins_stm [] = None
+begins_stm (t ∷ ts) = choose (after_sign signs.CloseBrace (t ∷ ts)) (Some (t ∷ ts)) (λ _. None)
+
+-- a statement there
 unfoldable pub stm_step : (List Token → Read Stm) → List Token → Option (Read Stm)
-stm_step st [] = None
-stm_step st (t ∷ ts) = choose (after_sign signs.CloseBrace (t ∷ ts)) (Some (st (t ∷ ts))) (λ _. None)
+stm_step st ts = choose (begins_stm ts) None (λ b. Some (st b))
 
 -- statements up to a closing brace, and the brace
 unfoldable pub body_at : (List Token → Read Stm) → List Token → Read (List Stm)
@@ -253,3 +276,7 @@ step_at text r d (t ∷ ts) = stm_here text r d t t.kind ts
 unfoldable pub stm_at : List ℕ → ℕ → List Token → Read Stm
 stm_at text zero ts = None
 stm_at text (suc d) ts = step_at text (record { expr = expr_at text d; type = type_at text d; simple = simple_at text d; first = first_at text d; stm = stm_at text d }) d ts
+
+-- the readers of the parts of a statement whose parts are at most this high
+abbrev pub readers_at : List ℕ → ℕ → Readers
+readers_at text d = record { expr = expr_at text d; type = type_at text d; simple = simple_at text d; first = first_at text d; stm = stm_at text d }

@@ -1,12 +1,22 @@
 //! From tokens to the syntax tree.
 #![tactic(auto)]
 
+mod error;
 mod expr;
 mod failed;
 mod laws;
 mod limit;
+mod program;
+mod simple;
+mod stmt;
+mod table;
 mod token;
 mod types;
 
+pub use error::ParseError;
 pub use laws::{refusal_is_unique, trees_are_unique};
 pub use limit::MAX_HEIGHT;
+pub use program::parse;
+
+#[cfg(test)]
+mod tests;

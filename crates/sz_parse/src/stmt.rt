@@ -1,0 +1,606 @@
+//! Statements.
+ghost use Rattle.std.specs.Prelude.{◌≡◌, ◌≤◌, ◌<◌, map as each};
+ghost use Rattle.std.specs.Option.{option_map};
+ghost use Rattle.sz_tree.specs.View.{tree_of, first_of, simple_of, param_of, stm_of};
+ghost use Rattle.sz_parse.specs.Reading.{all_at};
+ghost use Rattle.sz_parse.specs.ReadingExpressions.{expr_at};
+ghost use Rattle.sz_parse.specs.ReadingTypes.{type_at};
+ghost use Rattle.sz_parse.specs.ReadingStatements.{unless_at, init_at, weight_at, simple_at, first_at, begins_stm, stm_step, body_at, block_at, declare_at, declared_at, function_at, table_stm_at, colon_at, define_at, simple_stm_at, named_stm_at, static_at, typedef_at, if_at, while_at, do_at, for_at, break_at, continue_at, return_at, emit_at, when_at, stm_worded, step_at, stm_at, readers_at};
+ghost use Rattle.sz_lex.specs.declared.sign.Sign.TheVariants.{Semicolon, CloseParen};
+ghost use Rattle.sz_parse.specs.Outcome.{Gives, Sees};
+
+use crate::expr::{condition, expr};
+use crate::failed::Failed;
+use crate::limit::MAX_HEIGHT;
+use crate::simple::{first, indexes, simple, simple_behind};
+use crate::table::{quantifiers, table};
+use crate::token::{expect, expect_word, ident, name, skip, skip_word};
+use crate::types::{label, params, type_tree};
+use std::alloc::Global;
+use sz_lex::{Kind, Sign, Token, Word};
+use sz_tree::{Expr, First, Name, Param, Simple, Stmt};
+use sz_types::Place;
+
+// An expression, unless this sign stands there.
+#[tactic(auto, unfolding(crate::specs::ReadingStatements::unless_at, crate::specs::Reading::bind, crate::specs::Reading::choose))]
+fn maybe_expr<'t>(
+    alloc: Global,
+    text: &[u8],
+    inner: u32,
+    sign: Sign,
+    tokens: &'t [Token],
+) -> Result<(Option<Expr>, &'t [Token]), Failed>
+    requires depth { inner < MAX_HEIGHT }
+    ensures read { Gives (λ x. (option_map tree_of x.0, x.1.now)) result (unless_at sign (expr_at text.now inner 5) tokens.now) }
+{
+    if let Some(_) = skip(sign, tokens) {
+        return Ok((None, tokens));
+    }
+    let (tree, _, rest) = expr(alloc, text, inner, 5, tokens)?;
+    Ok((Some(tree), rest))
+}
+
+// The first part of a `for`, unless a semicolon stands there.
+#[tactic(auto, unfolding(crate::specs::ReadingStatements::unless_at, crate::specs::Reading::bind, crate::specs::Reading::choose))]
+fn maybe_first<'t>(
+    alloc: Global,
+    text: &[u8],
+    inner: u32,
+    tokens: &'t [Token],
+) -> Result<(Option<First>, &'t [Token]), Failed>
+    requires depth { inner < MAX_HEIGHT }
+    ensures read { Gives (λ x. (option_map first_of x.0, x.1.now)) result (unless_at Semicolon (first_at text.now inner) tokens.now) }
+{
+    if let Some(_) = skip(Sign::Semicolon, tokens) {
+        return Ok((None, tokens));
+    }
+    let (part, rest) = first(alloc, text, inner, tokens)?;
+    Ok((Some(part), rest))
+}
+
+// The step of a `for`, unless a closing parenthesis stands there.
+#[tactic(auto, unfolding(crate::specs::ReadingStatements::unless_at, crate::specs::Reading::bind, crate::specs::Reading::choose))]
+fn maybe_simple<'t>(
+    alloc: Global,
+    text: &[u8],
+    inner: u32,
+    tokens: &'t [Token],
+) -> Result<(Option<Simple>, &'t [Token]), Failed>
+    requires depth { inner < MAX_HEIGHT }
+    ensures read { Gives (λ x. (option_map simple_of x.0, x.1.now)) result (unless_at CloseParen (simple_at text.now inner) tokens.now) }
+{
+    if let Some(_) = skip(Sign::CloseParen, tokens) {
+        return Ok((None, tokens));
+    }
+    let (part, rest) = simple(alloc, text, inner, tokens)?;
+    Ok((Some(part), rest))
+}
+
+// The expression behind an equals sign, if one stands there.
+#[tactic(auto, unfolding(crate::specs::ReadingStatements::init_at, crate::specs::Reading::bind, crate::specs::Reading::choose))]
+fn init<'t>(
+    alloc: Global,
+    text: &[u8],
+    inner: u32,
+    tokens: &'t [Token],
+) -> Result<(Option<Expr>, &'t [Token]), Failed>
+    requires depth { inner < MAX_HEIGHT }
+    ensures read { Gives (λ x. (option_map tree_of x.0, x.1.now)) result (init_at (expr_at text.now inner) tokens.now) }
+{
+    match skip(Sign::Assign, tokens) {
+        None => Ok((None, tokens)),
+        Some(rest) => {
+            let (tree, _, rest) = expr(alloc, text, inner, 5, rest)?;
+            Ok((Some(tree), rest))
+        }
+    }
+}
+
+// The expression behind `weight`, if one stands there.
+#[tactic(auto, unfolding(crate::specs::ReadingStatements::weight_at, crate::specs::Reading::bind, crate::specs::Reading::choose))]
+fn weight<'t>(
+    alloc: Global,
+    text: &[u8],
+    inner: u32,
+    tokens: &'t [Token],
+) -> Result<(Option<Expr>, &'t [Token]), Failed>
+    requires depth { inner < MAX_HEIGHT }
+    ensures read { Gives (λ x. (option_map tree_of x.0, x.1.now)) result (weight_at (expr_at text.now inner) tokens.now) }
+{
+    match skip_word(Word::Weight, tokens) {
+        None => Ok((None, tokens)),
+        Some(rest) => {
+            let (tree, _, rest) = expr(alloc, text, inner, 5, rest)?;
+            Ok((Some(tree), rest))
+        }
+    }
+}
+
+// A declaration, behind its name and colon.
+#[tactic(auto, unfolding(crate::specs::ReadingStatements::declare_at, crate::specs::Reading::bind))]
+fn declare<'t>(
+    alloc: Global,
+    text: &[u8],
+    inner: u32,
+    name: Name,
+    tokens: &'t [Token],
+) -> Result<(Stmt, &'t [Token]), Failed>
+    requires depth { inner < MAX_HEIGHT }
+    ensures read { Gives (λ x. (stm_of x.0, x.1.now)) result (declare_at (readers_at text.now inner) name tokens.now) }
+{
+    let (of, rest) = type_tree(alloc, text, inner, tokens)?;
+    let (value, rest) = init(alloc, text, inner, rest)?;
+    let rest = expect(Sign::Semicolon, rest)?;
+    Ok((Stmt::Declare(name, of, value), rest))
+}
+
+// Parameters, up to the closing parenthesis.
+#[tactic(auto, unfolding(crate::specs::ReadingStatements::declared_at, crate::specs::Reading::choose))]
+fn declared<'t>(
+    alloc: Global,
+    text: &[u8],
+    inner: u32,
+    tokens: &'t [Token],
+) -> Result<(Vec<Param>, &'t [Token]), Failed>
+    requires depth { inner < MAX_HEIGHT }
+    ensures read { Gives (λ x. (each param_of x.0.items, x.1.now)) result (declared_at text.now (type_at text.now inner) tokens.now) }
+{
+    if let Some(_) = skip(Sign::CloseParen, tokens) {
+        return Ok((Vec::new(alloc), tokens));
+    }
+    params(alloc, text, inner, tokens)
+}
+
+#[tactic(auto, unfolding(crate::specs::ReadingStatements::define_at, crate::specs::Reading::bind))]
+fn define<'t>(
+    alloc: Global,
+    text: &[u8],
+    inner: u32,
+    name: Name,
+    tokens: &'t [Token],
+) -> Result<(Stmt, &'t [Token]), Failed>
+    requires depth { inner < MAX_HEIGHT }
+    ensures read { Gives (λ x. (stm_of x.0, x.1.now)) result (define_at (readers_at text.now inner) name tokens.now) }
+{
+    let (value, _, rest) = expr(alloc, text, inner, 5, tokens)?;
+    let rest = expect(Sign::Semicolon, rest)?;
+    Ok((Stmt::Define(name, value), rest))
+}
+
+#[tactic(auto, unfolding(crate::specs::ReadingStatements::simple_stm_at, crate::specs::Reading::bind))]
+fn simple_statement<'t>(
+    alloc: Global,
+    text: &[u8],
+    inner: u32,
+    name: Name,
+    tokens: &'t [Token],
+) -> Result<(Stmt, &'t [Token]), Failed>
+    requires depth { inner < MAX_HEIGHT }
+    ensures read { Gives (λ x. (stm_of x.0, x.1.now)) result (simple_stm_at text.now (readers_at text.now inner) inner name tokens.now) }
+{
+    let (part, rest) = simple_behind(alloc, text, inner, name, tokens)?;
+    let rest = expect(Sign::Semicolon, rest)?;
+    Ok((Stmt::Simple(part), rest))
+}
+
+#[tactic(auto, unfolding(crate::specs::ReadingStatements::table_stm_at, crate::specs::Reading::bind))]
+fn table_statement<'t>(
+    alloc: Global,
+    text: &[u8],
+    inner: u32,
+    name: Name,
+    tokens: &'t [Token],
+) -> Result<(Stmt, &'t [Token]), Failed>
+    requires depth { inner < MAX_HEIGHT }
+    ensures read { Gives (λ x. (stm_of x.0, x.1.now)) result (table_stm_at text.now (readers_at text.now inner) name tokens.now) }
+{
+    let (part, rest) = table(alloc, text, inner, tokens)?;
+    Ok((Stmt::Table(name, part), rest))
+}
+
+#[tactic(auto, unfolding(crate::specs::ReadingStatements::static_at, crate::specs::Reading::bind))]
+fn static_statement<'t>(
+    alloc: Global,
+    text: &[u8],
+    inner: u32,
+    place: Place,
+    tokens: &'t [Token],
+) -> Result<(Stmt, &'t [Token]), Failed>
+    requires depth { inner < MAX_HEIGHT }
+    ensures read { Gives (λ x. (stm_of x.0, x.1.now)) result (static_at text.now (readers_at text.now inner) place tokens.now) }
+{
+    let (name, rest) = label(alloc, text, tokens)?;
+    let (of, rest) = type_tree(alloc, text, inner, rest)?;
+    let rest = expect(Sign::Assign, rest)?;
+    let (value, _, rest) = expr(alloc, text, inner, 5, rest)?;
+    let rest = expect(Sign::Semicolon, rest)?;
+    Ok((Stmt::Static(place, name, of, value), rest))
+}
+
+#[tactic(auto, unfolding(crate::specs::ReadingStatements::typedef_at, crate::specs::Reading::bind))]
+fn type_statement<'t>(
+    alloc: Global,
+    text: &[u8],
+    inner: u32,
+    place: Place,
+    tokens: &'t [Token],
+) -> Result<(Stmt, &'t [Token]), Failed>
+    requires depth { inner < MAX_HEIGHT }
+    ensures read { Gives (λ x. (stm_of x.0, x.1.now)) result (typedef_at text.now (readers_at text.now inner) place tokens.now) }
+{
+    let (name, rest) = name(alloc, text, tokens)?;
+    let rest = expect(Sign::Assign, rest)?;
+    let (of, rest) = type_tree(alloc, text, inner, rest)?;
+    let rest = expect(Sign::Semicolon, rest)?;
+    Ok((Stmt::Type(place, name, of), rest))
+}
+
+#[tactic(auto, unfolding(crate::specs::ReadingStatements::return_at, crate::specs::Reading::bind))]
+fn return_statement<'t>(
+    alloc: Global,
+    text: &[u8],
+    inner: u32,
+    place: Place,
+    tokens: &'t [Token],
+) -> Result<(Stmt, &'t [Token]), Failed>
+    requires depth { inner < MAX_HEIGHT }
+    ensures read { Gives (λ x. (stm_of x.0, x.1.now)) result (return_at (readers_at text.now inner) place tokens.now) }
+{
+    let (value, rest) = maybe_expr(alloc, text, inner, Sign::Semicolon, tokens)?;
+    let rest = expect(Sign::Semicolon, rest)?;
+    Ok((Stmt::Return(place, value), rest))
+}
+
+#[tactic(auto, unfolding(crate::specs::ReadingStatements::emit_at, crate::specs::Reading::bind))]
+fn emit<'t>(
+    alloc: Global,
+    text: &[u8],
+    inner: u32,
+    place: Place,
+    tokens: &'t [Token],
+) -> Result<(Stmt, &'t [Token]), Failed>
+    requires depth { inner < MAX_HEIGHT }
+    ensures read { Gives (λ x. (stm_of x.0, x.1.now)) result (emit_at text.now (readers_at text.now inner) place tokens.now) }
+{
+    let (table, rest) = name(alloc, text, tokens)?;
+    let (indexes, rest) = indexes(alloc, text, inner, rest)?;
+    let rest = expect(Sign::Arrow, rest)?;
+    let (value, _, rest) = expr(alloc, text, inner, 5, rest)?;
+    let (weight, rest) = weight(alloc, text, inner, rest)?;
+    let rest = expect(Sign::Semicolon, rest)?;
+    Ok((Stmt::Emit(place, table, indexes, value, weight), rest))
+}
+
+#[tactic(auto, unfolding(crate::specs::ReadingStatements::break_at, crate::specs::Reading::bind))]
+fn break_statement(place: Place, tokens: &[Token]) -> Result<(Stmt, &[Token]), Failed>
+    ensures read { Gives (λ x. (stm_of x.0, x.1.now)) result (break_at place tokens.now) }
+{
+    let rest = expect(Sign::Semicolon, tokens)?;
+    Ok((Stmt::Break(place), rest))
+}
+
+#[tactic(auto, unfolding(crate::specs::ReadingStatements::continue_at, crate::specs::Reading::bind))]
+fn continue_statement(place: Place, tokens: &[Token]) -> Result<(Stmt, &[Token]), Failed>
+    ensures read { Gives (λ x. (stm_of x.0, x.1.now)) result (continue_at place tokens.now) }
+{
+    let rest = expect(Sign::Semicolon, tokens)?;
+    Ok((Stmt::Continue(place), rest))
+}
+
+// The tokens, where neither a closing brace nor the end stands.
+#[tactic(auto, unfolding(crate::specs::ReadingStatements::begins_stm, crate::specs::Reading::choose))]
+fn begins_statement(tokens: &[Token]) -> Option<&[Token]>
+    ensures value { Sees (λ r. r.now) result (begins_stm tokens.now) }
+{
+    let [_, ..] = tokens else {
+        return None;
+    };
+    match skip(Sign::CloseBrace, tokens) {
+        Some(_) => None,
+        None => Some(tokens),
+    }
+}
+
+// A statement of at most this height, and what follows it.
+#[cycle(statement)]
+#[tactic(auto, unfolding(crate::specs::ReadingStatements::stm_at))]
+pub fn statement<'t>(
+    alloc: Global,
+    text: &[u8],
+    depth: u32,
+    tokens: &'t [Token],
+) -> Result<(Stmt, &'t [Token]), Failed>
+    requires depth { depth ≤ MAX_HEIGHT }
+    ensures read { Gives (λ x. (stm_of x.0, x.1.now)) result (stm_at text.now depth tokens.now) }
+{
+    if depth == 0 {
+        return Err(Failed::Syntax);
+    }
+    step(alloc, text, depth - 1, tokens)
+}
+
+// In what follows, the parts of a statement have at most the height `inner`.
+#[cycle(statement)]
+#[tactic(auto, unfolding(crate::specs::ReadingStatements::step_at, crate::specs::Reading::bind))]
+fn step<'t>(
+    alloc: Global,
+    text: &[u8],
+    inner: u32,
+    tokens: &'t [Token],
+) -> Result<(Stmt, &'t [Token]), Failed>
+    requires depth { inner < MAX_HEIGHT }
+    ensures read { Gives (λ x. (stm_of x.0, x.1.now)) result (step_at text.now (readers_at text.now inner) inner tokens.now) }
+{
+    let [token, rest @ ..] = tokens else {
+        return Err(Failed::Syntax);
+    };
+    match token.kind {
+        Kind::Name => {
+            let name = ident(alloc, text, token)?;
+            named(alloc, text, inner, name, rest)
+        }
+        Kind::Sign(Sign::Semicolon) => Ok((Stmt::Empty(token.place), rest)),
+        Kind::Sign(Sign::OpenBrace) => block(alloc, text, inner, token.place, rest),
+        Kind::Word(word) => worded(alloc, text, inner, token.place, word, rest),
+        _ => Err(Failed::Syntax),
+    }
+}
+
+// What a name begins.
+#[cycle(statement)]
+#[tactic(auto, unfolding(crate::specs::ReadingStatements::named_stm_at, crate::specs::Reading::choose))]
+fn named<'t>(
+    alloc: Global,
+    text: &[u8],
+    inner: u32,
+    name: Name,
+    tokens: &'t [Token],
+) -> Result<(Stmt, &'t [Token]), Failed>
+    requires depth { inner < MAX_HEIGHT }
+    ensures read { Gives (λ x. (stm_of x.0, x.1.now)) result (named_stm_at text.now (readers_at text.now inner) inner name tokens.now) }
+{
+    if let Some(rest) = skip(Sign::Colon, tokens) {
+        return colon(alloc, text, inner, name, rest);
+    }
+    match skip(Sign::Define, tokens) {
+        Some(rest) => define(alloc, text, inner, name, rest),
+        None => simple_statement(alloc, text, inner, name, tokens),
+    }
+}
+
+// What a name and a colon begin.
+#[cycle(statement)]
+#[tactic(auto, unfolding(crate::specs::ReadingStatements::colon_at, crate::specs::Reading::choose))]
+fn colon<'t>(
+    alloc: Global,
+    text: &[u8],
+    inner: u32,
+    name: Name,
+    tokens: &'t [Token],
+) -> Result<(Stmt, &'t [Token]), Failed>
+    requires depth { inner < MAX_HEIGHT }
+    ensures read { Gives (λ x. (stm_of x.0, x.1.now)) result (colon_at text.now (readers_at text.now inner) name tokens.now) }
+{
+    if let Some(rest) = skip_word(Word::Table, tokens) {
+        return table_statement(alloc, text, inner, name, rest);
+    }
+    match skip_word(Word::Function, tokens) {
+        Some(rest) => function(alloc, text, inner, name, rest),
+        None => declare(alloc, text, inner, name, tokens),
+    }
+}
+
+// A function, behind its first word.
+#[cycle(statement)]
+#[tactic(auto, unfolding(crate::specs::ReadingStatements::function_at, crate::specs::Reading::bind))]
+fn function<'t>(
+    alloc: Global,
+    text: &[u8],
+    inner: u32,
+    name: Name,
+    tokens: &'t [Token],
+) -> Result<(Stmt, &'t [Token]), Failed>
+    requires depth { inner < MAX_HEIGHT }
+    ensures read { Gives (λ x. (stm_of x.0, x.1.now)) result (function_at text.now (readers_at text.now inner) name tokens.now) }
+{
+    let rest = expect(Sign::OpenParen, tokens)?;
+    let (params, rest) = declared(alloc, text, inner, rest)?;
+    let rest = expect(Sign::CloseParen, rest)?;
+    let rest = expect(Sign::Colon, rest)?;
+    let (of, rest) = type_tree(alloc, text, inner, rest)?;
+    let rest = expect(Sign::OpenBrace, rest)?;
+    let (statements, rest) = body(alloc, text, inner, rest)?;
+    Ok((Stmt::function(name, params, of, statements), rest))
+}
+
+#[cycle(statement)]
+#[tactic(auto, unfolding(crate::specs::ReadingStatements::block_at, crate::specs::Reading::bind))]
+fn block<'t>(
+    alloc: Global,
+    text: &[u8],
+    inner: u32,
+    place: Place,
+    tokens: &'t [Token],
+) -> Result<(Stmt, &'t [Token]), Failed>
+    requires depth { inner < MAX_HEIGHT }
+    ensures read { Gives (λ x. (stm_of x.0, x.1.now)) result (block_at (stm_at text.now inner) place tokens.now) }
+{
+    let (statements, rest) = body(alloc, text, inner, tokens)?;
+    Ok((Stmt::block(place, statements), rest))
+}
+
+// Statements, and the closing brace.
+#[cycle(statement)]
+#[tactic(auto, unfolding(crate::specs::ReadingStatements::body_at, crate::specs::Reading::bind))]
+fn body<'t>(
+    alloc: Global,
+    text: &[u8],
+    inner: u32,
+    tokens: &'t [Token],
+) -> Result<(Vec<Stmt>, &'t [Token]), Failed>
+    requires depth { inner < MAX_HEIGHT }
+    ensures read { Gives (λ x. (each stm_of x.0.items, x.1.now)) result (body_at (stm_at text.now inner) tokens.now) }
+{
+    let (statements, rest) = statements(alloc, text, inner, tokens)?;
+    let rest = expect(Sign::CloseBrace, rest)?;
+    Ok((statements, rest))
+}
+
+// Statements, up to a closing brace or the end.
+#[cycle(statement)]
+fn statements<'t>(
+    alloc: Global,
+    text: &[u8],
+    inner: u32,
+    tokens: &'t [Token],
+) -> Result<(Vec<Stmt>, &'t [Token]), Failed>
+    requires depth { inner < MAX_HEIGHT }
+    ensures read { Gives (λ x. (each stm_of x.0.items, x.1.now)) result (all_at (stm_step (stm_at text.now inner)) tokens.now) }
+{
+    let mut items = Vec::new(alloc);
+    let mut rest = tokens;
+    while let Some(_) = begins_statement(rest) {
+        let (item, after) = statement(alloc, text, inner, rest)?;
+        items.push(item)?;
+        rest = after;
+    }
+    Ok((items, rest))
+}
+
+// What a word begins.
+#[cycle(statement)]
+fn worded<'t>(
+    alloc: Global,
+    text: &[u8],
+    inner: u32,
+    place: Place,
+    word: Word,
+    tokens: &'t [Token],
+) -> Result<(Stmt, &'t [Token]), Failed>
+    requires depth { inner < MAX_HEIGHT }
+    ensures read { Gives (λ x. (stm_of x.0, x.1.now)) result (stm_worded text.now (readers_at text.now inner) place word tokens.now) }
+{
+    match word {
+        Word::Static => static_statement(alloc, text, inner, place, tokens),
+        Word::Type => type_statement(alloc, text, inner, place, tokens),
+        Word::If => choice(alloc, text, inner, place, tokens),
+        Word::While => repeat(alloc, text, inner, place, tokens),
+        Word::Do => repeat_until(alloc, text, inner, place, tokens),
+        Word::For => for_loop(alloc, text, inner, place, tokens),
+        Word::Break => break_statement(place, tokens),
+        Word::Continue => continue_statement(place, tokens),
+        Word::Return => return_statement(alloc, text, inner, place, tokens),
+        Word::Emit => emit(alloc, text, inner, place, tokens),
+        Word::When => when(alloc, text, inner, place, tokens),
+        _ => Err(Failed::Syntax),
+    }
+}
+
+#[cycle(statement)]
+#[tactic(auto, unfolding(crate::specs::ReadingStatements::if_at, crate::specs::Reading::bind, crate::specs::Reading::choose))]
+fn choice<'t>(
+    alloc: Global,
+    text: &[u8],
+    inner: u32,
+    place: Place,
+    tokens: &'t [Token],
+) -> Result<(Stmt, &'t [Token]), Failed>
+    requires depth { inner < MAX_HEIGHT }
+    ensures read { Gives (λ x. (stm_of x.0, x.1.now)) result (if_at (readers_at text.now inner) place tokens.now) }
+{
+    let (test, _, rest) = condition(alloc, text, inner, tokens)?;
+    let (part, rest) = statement(alloc, text, inner, rest)?;
+    match skip_word(Word::Else, rest) {
+        None => {
+            let part = Box::new(alloc, part)?;
+            Ok((Stmt::If(place, test, part, None), rest))
+        }
+        Some(rest) => {
+            let (other, rest) = statement(alloc, text, inner, rest)?;
+            let part = Box::new(alloc, part)?;
+            let other = Box::new(alloc, other)?;
+            Ok((Stmt::If(place, test, part, Some(other)), rest))
+        }
+    }
+}
+
+#[cycle(statement)]
+#[tactic(auto, unfolding(crate::specs::ReadingStatements::while_at, crate::specs::Reading::bind))]
+fn repeat<'t>(
+    alloc: Global,
+    text: &[u8],
+    inner: u32,
+    place: Place,
+    tokens: &'t [Token],
+) -> Result<(Stmt, &'t [Token]), Failed>
+    requires depth { inner < MAX_HEIGHT }
+    ensures read { Gives (λ x. (stm_of x.0, x.1.now)) result (while_at (readers_at text.now inner) place tokens.now) }
+{
+    let (test, _, rest) = condition(alloc, text, inner, tokens)?;
+    let (part, rest) = statement(alloc, text, inner, rest)?;
+    Ok((Stmt::While(place, test, Box::new(alloc, part)?), rest))
+}
+
+#[cycle(statement)]
+#[tactic(auto, unfolding(crate::specs::ReadingStatements::do_at, crate::specs::Reading::bind))]
+fn repeat_until<'t>(
+    alloc: Global,
+    text: &[u8],
+    inner: u32,
+    place: Place,
+    tokens: &'t [Token],
+) -> Result<(Stmt, &'t [Token]), Failed>
+    requires depth { inner < MAX_HEIGHT }
+    ensures read { Gives (λ x. (stm_of x.0, x.1.now)) result (do_at (readers_at text.now inner) place tokens.now) }
+{
+    let (part, rest) = statement(alloc, text, inner, tokens)?;
+    let rest = expect_word(Word::While, rest)?;
+    let (test, _, rest) = condition(alloc, text, inner, rest)?;
+    let rest = expect(Sign::Semicolon, rest)?;
+    Ok((Stmt::DoWhile(place, Box::new(alloc, part)?, test), rest))
+}
+
+#[cycle(statement)]
+#[tactic(auto, unfolding(crate::specs::ReadingStatements::for_at, crate::specs::Reading::bind))]
+fn for_loop<'t>(
+    alloc: Global,
+    text: &[u8],
+    inner: u32,
+    place: Place,
+    tokens: &'t [Token],
+) -> Result<(Stmt, &'t [Token]), Failed>
+    requires depth { inner < MAX_HEIGHT }
+    ensures read { Gives (λ x. (stm_of x.0, x.1.now)) result (for_at (readers_at text.now inner) place tokens.now) }
+{
+    let rest = expect(Sign::OpenParen, tokens)?;
+    let (first, rest) = maybe_first(alloc, text, inner, rest)?;
+    let rest = expect(Sign::Semicolon, rest)?;
+    let (test, rest) = maybe_expr(alloc, text, inner, Sign::Semicolon, rest)?;
+    let rest = expect(Sign::Semicolon, rest)?;
+    let (next, rest) = maybe_simple(alloc, text, inner, rest)?;
+    let rest = expect(Sign::CloseParen, rest)?;
+    let (part, rest) = statement(alloc, text, inner, rest)?;
+    let tree = Stmt::For(place, first, test, next, Box::new(alloc, part)?);
+    Ok((tree, rest))
+}
+
+#[cycle(statement)]
+#[tactic(auto, unfolding(crate::specs::ReadingStatements::when_at, crate::specs::Reading::bind))]
+fn when<'t>(
+    alloc: Global,
+    text: &[u8],
+    inner: u32,
+    place: Place,
+    tokens: &'t [Token],
+) -> Result<(Stmt, &'t [Token]), Failed>
+    requires depth { inner < MAX_HEIGHT }
+    ensures read { Gives (λ x. (stm_of x.0, x.1.now)) result (when_at text.now (readers_at text.now inner) place tokens.now) }
+{
+    let rest = expect(Sign::OpenParen, tokens)?;
+    let (quantifiers, rest) = quantifiers(alloc, text, inner, rest)?;
+    let (test, _, rest) = expr(alloc, text, inner, 5, rest)?;
+    let rest = expect(Sign::CloseParen, rest)?;
+    let (part, rest) = statement(alloc, text, inner, rest)?;
+    let tree = Stmt::When(place, quantifiers, test, Box::new(alloc, part)?);
+    Ok((tree, rest))
+}

@@ -1,0 +1,262 @@
+//! Tables and quantifiers.
+ghost use Rattle.std.specs.Prelude.{◌≡◌, ◌<◌, map as each};
+ghost use Rattle.sz_tree.specs.View.{elem_of, table_of, quantifier_of};
+ghost use Rattle.std.specs.Option.{option_map};
+ghost use Rattle.sz_parse.specs.Reading.{all_at};
+ghost use Rattle.sz_parse.specs.ReadingTypes.{type_at};
+ghost use Rattle.sz_parse.specs.ReadingStatements.{argument_at, table_index_at, table_index_step, table_weight_at, table_at, name_step, names_behind, names_at, quantity_of, quantity_at, quantifier_at, begins_quantifier, quantifier_step, quantifiers_behind, quantifiers_at};
+ghost use Rattle.sz_parse.specs.Outcome.{Gives, Sees};
+
+use crate::failed::Failed;
+use crate::limit::MAX_HEIGHT;
+use crate::token::{expect, expect_word, name, skip, skip_word};
+use crate::types::{elem, number, type_tree};
+use std::alloc::Global;
+use sz_lex::{Kind, Sign, Token, Word};
+use sz_tree::{Elem, Name, Quantifier, Quantity, Table};
+
+// A number in parentheses, if one stands there.
+#[tactic(auto, unfolding(crate::specs::ReadingStatements::argument_at, crate::specs::Reading::bind, crate::specs::Reading::choose))]
+fn argument(tokens: &[Token]) -> Result<(Option<i64>, &[Token]), Failed>
+    ensures read { Gives (λ x. (x.0, x.1.now)) result (argument_at tokens.now) }
+{
+    match skip(Sign::OpenParen, tokens) {
+        None => Ok((None, tokens)),
+        Some(rest) => {
+            let (number, rest) = number(rest)?;
+            let rest = expect(Sign::CloseParen, rest)?;
+            Ok((Some(number), rest))
+        }
+    }
+}
+
+// An index of a table, behind its opening bracket.
+#[tactic(auto, unfolding(crate::specs::ReadingStatements::table_index_at, crate::specs::Reading::bind))]
+fn table_index<'t>(
+    alloc: Global,
+    text: &[u8],
+    inner: u32,
+    tokens: &'t [Token],
+) -> Result<(Elem, &'t [Token]), Failed>
+    requires depth { inner < MAX_HEIGHT }
+    ensures read { Gives (λ x. (elem_of x.0, x.1.now)) result (table_index_at text.now (type_at text.now inner) tokens.now) }
+{
+    let (item, rest) = elem(alloc, text, inner, tokens)?;
+    let rest = expect(Sign::CloseBracket, rest)?;
+    Ok((item, rest))
+}
+
+// The indexes of a table.
+fn table_indexes<'t>(
+    alloc: Global,
+    text: &[u8],
+    inner: u32,
+    tokens: &'t [Token],
+) -> Result<(Vec<Elem>, &'t [Token]), Failed>
+    requires depth { inner < MAX_HEIGHT }
+    ensures read { Gives (λ x. (each elem_of x.0.items, x.1.now)) result (all_at (table_index_step text.now (type_at text.now inner)) tokens.now) }
+{
+    let mut items = Vec::new(alloc);
+    let mut rest = tokens;
+    while let Some(after) = skip(Sign::OpenBracket, rest) {
+        let (item, after) = table_index(alloc, text, inner, after)?;
+        items.push(item)?;
+        rest = after;
+    }
+    Ok((items, rest))
+}
+
+// What `weight` begins, if it stands there.
+#[tactic(auto, unfolding(crate::specs::ReadingStatements::table_weight_at, crate::specs::Reading::bind, crate::specs::Reading::choose))]
+fn table_weight<'t>(
+    alloc: Global,
+    text: &[u8],
+    inner: u32,
+    tokens: &'t [Token],
+) -> Result<(Option<Elem>, &'t [Token]), Failed>
+    requires depth { inner < MAX_HEIGHT }
+    ensures read { Gives (λ x. (option_map elem_of x.0, x.1.now)) result (table_weight_at text.now (type_at text.now inner) tokens.now) }
+{
+    match skip_word(Word::Weight, tokens) {
+        None => Ok((None, tokens)),
+        Some(rest) => {
+            let (item, rest) = elem(alloc, text, inner, rest)?;
+            Ok((Some(item), rest))
+        }
+    }
+}
+
+// What stands behind `table`, up to the semicolon.
+#[tactic(auto, unfolding(crate::specs::ReadingStatements::table_at, crate::specs::Reading::bind))]
+pub fn table<'t>(
+    alloc: Global,
+    text: &[u8],
+    inner: u32,
+    tokens: &'t [Token],
+) -> Result<(Table, &'t [Token]), Failed>
+    requires depth { inner < MAX_HEIGHT }
+    ensures read { Gives (λ x. (table_of x.0, x.1.now)) result (table_at text.now (type_at text.now inner) tokens.now) }
+{
+    let (kind, rest) = name(alloc, text, tokens)?;
+    let (argument, rest) = argument(rest)?;
+    let (indexes, rest) = table_indexes(alloc, text, inner, rest)?;
+    let rest = expect_word(Word::Of, rest)?;
+    let (of, rest) = elem(alloc, text, inner, rest)?;
+    let (weight, rest) = table_weight(alloc, text, inner, rest)?;
+    let rest = expect(Sign::Semicolon, rest)?;
+    let table = Table {
+        kind,
+        argument,
+        indexes,
+        of,
+        weight,
+    };
+    Ok((table, rest))
+}
+
+// A name, and those that follow it with a comma before each.
+#[tactic(auto, unfolding(crate::specs::ReadingStatements::names_at, crate::specs::Reading::bind))]
+fn names<'t>(
+    alloc: Global,
+    text: &[u8],
+    tokens: &'t [Token],
+) -> Result<(Vec<Name>, &'t [Token]), Failed>
+    ensures read { Gives (λ x. (x.0.items, x.1.now)) result (names_at text.now tokens.now) }
+{
+    let (first, rest) = name(alloc, text, tokens)?;
+    names_behind(alloc, text, first, rest)
+}
+
+fn names_behind<'t>(
+    alloc: Global,
+    text: &[u8],
+    first: Name,
+    tokens: &'t [Token],
+) -> Result<(Vec<Name>, &'t [Token]), Failed>
+    ensures read { Gives (λ x. (x.0.items, x.1.now)) result (names_behind text.now first tokens.now) }
+{
+    let mut items = Vec::new(alloc);
+    items.push(first)?;
+    let mut rest = tokens;
+    while let Some(after) = skip(Sign::Comma, rest) {
+        let (item, after) = name(alloc, text, after)?;
+        items.push(item)?;
+        rest = after;
+    }
+    Ok((items, rest))
+}
+
+// How many values a word speaks of.
+fn quantity_of(word: Word) -> Option<Quantity>
+    ensures value { result ≡ quantity_of word }
+{
+    match word {
+        Word::Some => Some(Quantity::Some),
+        Word::Each => Some(Quantity::Each),
+        Word::All => Some(Quantity::All),
+        _ => None,
+    }
+}
+
+// How many values a quantifier speaks of.
+#[tactic(auto, unfolding(crate::specs::ReadingStatements::quantity_at, crate::specs::Reading::bind))]
+fn quantity(tokens: &[Token]) -> Result<(Quantity, &[Token]), Failed>
+    ensures read { Gives (λ x. (x.0, x.1.now)) result (quantity_at tokens.now) }
+{
+    let [
+        Token {
+            kind: Kind::Word(word),
+            ..
+        },
+        rest @ ..,
+    ] = tokens
+    else {
+        return Err(Failed::Syntax);
+    };
+    match quantity_of(*word) {
+        Some(quantity) => Ok((quantity, rest)),
+        None => Err(Failed::Syntax),
+    }
+}
+
+// What follows a name and a comma or a colon.
+#[tactic(auto, unfolding(crate::specs::ReadingStatements::begins_quantifier, crate::specs::Reading::name_at, crate::specs::Reading::bind, crate::specs::Reading::choose))]
+fn begins_quantifier<'t>(text: &[u8], tokens: &'t [Token]) -> Option<&'t [Token]>
+    ensures value { Sees (λ r. r.now) result (begins_quantifier text.now tokens.now) }
+{
+    let _text = text;
+    let [
+        Token {
+            kind: Kind::Name,
+            ..
+        },
+        rest @ ..,
+    ] = tokens
+    else {
+        return None;
+    };
+    match skip(Sign::Comma, rest) {
+        Some(rest) => Some(rest),
+        None => skip(Sign::Colon, rest),
+    }
+}
+
+// A quantifier with its semicolon.
+#[tactic(auto, unfolding(crate::specs::ReadingStatements::quantifier_at, crate::specs::Reading::bind))]
+fn quantifier<'t>(
+    alloc: Global,
+    text: &[u8],
+    inner: u32,
+    tokens: &'t [Token],
+) -> Result<(Quantifier, &'t [Token]), Failed>
+    requires depth { inner < MAX_HEIGHT }
+    ensures read { Gives (λ x. (quantifier_of x.0, x.1.now)) result (quantifier_at text.now (type_at text.now inner) tokens.now) }
+{
+    let (names, rest) = names(alloc, text, tokens)?;
+    let rest = expect(Sign::Colon, rest)?;
+    let (quantity, rest) = quantity(rest)?;
+    let (of, rest) = type_tree(alloc, text, inner, rest)?;
+    let rest = expect(Sign::Semicolon, rest)?;
+    let quantifier = Quantifier {
+        names,
+        quantity,
+        of,
+    };
+    Ok((quantifier, rest))
+}
+
+// One or more quantifiers.
+#[tactic(auto, unfolding(crate::specs::ReadingStatements::quantifiers_at, crate::specs::Reading::bind))]
+pub fn quantifiers<'t>(
+    alloc: Global,
+    text: &[u8],
+    inner: u32,
+    tokens: &'t [Token],
+) -> Result<(Vec<Quantifier>, &'t [Token]), Failed>
+    requires depth { inner < MAX_HEIGHT }
+    ensures read { Gives (λ x. (each quantifier_of x.0.items, x.1.now)) result (quantifiers_at text.now (type_at text.now inner) tokens.now) }
+{
+    let (first, rest) = quantifier(alloc, text, inner, tokens)?;
+    quantifiers_behind(alloc, text, inner, first, rest)
+}
+
+fn quantifiers_behind<'t>(
+    alloc: Global,
+    text: &[u8],
+    inner: u32,
+    first: Quantifier,
+    tokens: &'t [Token],
+) -> Result<(Vec<Quantifier>, &'t [Token]), Failed>
+    requires depth { inner < MAX_HEIGHT }
+    ensures read { Gives (λ x. (each quantifier_of x.0.items, x.1.now)) result (quantifiers_behind text.now (type_at text.now inner) (quantifier_of first) tokens.now) }
+{
+    let mut items = Vec::new(alloc);
+    items.push(first)?;
+    let mut rest = tokens;
+    while let Some(_) = begins_quantifier(text, rest) {
+        let (item, after) = quantifier(alloc, text, inner, rest)?;
+        items.push(item)?;
+        rest = after;
+    }
+    Ok((items, rest))
+}
