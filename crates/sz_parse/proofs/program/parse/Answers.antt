@@ -13,21 +13,21 @@ pub loop-rest-init : goal.loop-rest-init
 unfolding ReadsStm stm_heights
 loop-rest-init c =
     let made : map stm_of c.new-statements.result.items ≡ [] = rw c.new-statements.ensures.items refl in
-    record { reads = rw made (sym c.as_slice.ensures.value); low = rw made (omega arith) }
+    record { reads = rw made (sym c.as_slice-rest.ensures.value); low = rw made (omega arith) }
 
 pub loop-rest-smaller : goal.loop-rest-smaller
 loop-rest-smaller c =
-    (goes c.args.tokens.now.text c.args.tokens.now.tokens c.loop-rest.rest.now c.in-Ok.after.now (map stm_of c.loop-rest.statements.items) (stm_of c.in-Ok.tree) c.loop-rest.invariant.reads c.loop-rest.invariant.low (rw (← c.text.ensures.value) c.in-Ok.ensures.read)).fewer
+    (goes c.args.tokens.now.text c.args.tokens.now.tokens c.loop-rest.rest.now c.in-Ok.after.now (map stm_of c.loop-rest.statements.items) (stm_of c.in-Ok.tree) c.loop-rest.invariant.reads c.loop-rest.invariant.low (rw (← c.text-text.ensures.value) c.in-Ok.ensures.read)).fewer
 
 pub loop-rest-preserved : goal.loop-rest-preserved
 loop-rest-preserved c =
     let made : map stm_of c.push.new.self.items ≡ map stm_of c.loop-rest.statements.items ++ stm_of c.in-Ok.tree ∷ [] = rw c.in_ok-push-in-Ok.ensures.items (map_push stm_of c.loop-rest.statements.items c.in-Ok.tree) in
-    let g = goes c.args.tokens.now.text c.args.tokens.now.tokens c.loop-rest.rest.now c.in-Ok.after.now (map stm_of c.loop-rest.statements.items) (stm_of c.in-Ok.tree) c.loop-rest.invariant.reads c.loop-rest.invariant.low (rw (← c.text.ensures.value) c.in-Ok.ensures.read) in
+    let g = goes c.args.tokens.now.text c.args.tokens.now.tokens c.loop-rest.rest.now c.in-Ok.after.now (map stm_of c.loop-rest.statements.items) (stm_of c.in-Ok.tree) c.loop-rest.invariant.reads c.loop-rest.invariant.low (rw (← c.text-text.ensures.value) c.in-Ok.ensures.read) in
     record { reads = rw made g.reads; low = rw made g.low }
 
 pub returns-in-Err-Syntax-clause-refused : goal.returns-in-Err-Syntax-clause-refused
 returns-in-Err-Syntax-clause-refused c =
-    stuck_at c.args.tokens.now (stms_of (map stm_of c.loop-rest.statements.items)) c.loop-rest.rest.now _ (omega arith) c.loop-rest.invariant.reads c.loop-rest.invariant.low (rw (← c.text.ensures.value) (rw c.in-Err-Syntax.field-0-is at c.in-Err-Syntax.ensures.read))
+    stuck_at c.args.tokens.now (stms_of (map stm_of c.loop-rest.statements.items)) c.loop-rest.rest.now _ (omega arith) c.loop-rest.invariant.reads c.loop-rest.invariant.low (rw (← c.text-text.ensures.value) (rw c.in-Err-Syntax.field-0-is at c.in-Err-Syntax.ensures.read))
 
 pub returns-in-Err-Syntax-clause-only_found : goal.returns-in-Err-Syntax-clause-only_found
 returns-in-Err-Syntax-clause-only_found c = λ ss h. not_both _ ss _ h (returns-in-Err-Syntax-clause-refused c)
