@@ -17,6 +17,3 @@ pub use error::ParseError;
 pub use laws::{refusal_is_unique, trees_are_unique};
 pub use limit::MAX_HEIGHT;
 pub use program::parse;
-
-#[cfg(test)]
-mod tests;
