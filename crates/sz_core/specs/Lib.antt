@@ -1,0 +1,7 @@
+-- what the public contracts rest on
+pub mod Nodes
+pub mod Statements
+pub mod Programs
+pub mod Emitting
+pub mod WellFormed
+pub mod Sound

@@ -1,0 +1,2 @@
+//! The checked tree of a program.
+#![tactic(auto)]
