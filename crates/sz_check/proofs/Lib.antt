@@ -1,0 +1,5 @@
+mod Holds
+mod Tests
+mod Meanings
+mod Sights
+mod TypeLemmas
