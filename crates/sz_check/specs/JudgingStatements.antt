@@ -1,6 +1,7 @@
 -- The checked statement that a statement's tree is, with what is declared behind it, or its first refusal.
-use Rattle.std.specs.Prelude.{ℕ, pos, List, [], ◌∷◌, ◌++◌, length, Bool, true, false, if◌then◌else◌, is_some, Option, Some, None, Ok}
-use Rattle.sz_types.specs.Data.{Shape}
+use Rattle.std.specs.Prelude.{ℕ, pos, negsuc, List, [], ◌∷◌, ◌++◌, length, Bool, true, false, ◌&&◌, if◌then◌else◌, nat_eq, is_some, Option, Some, None, Ok}
+use Rattle.sz_types.specs.Data.{Shape, FieldShapes}
+use Rattle.sz_types.specs.Same.{alike}
 use Rattle.sz_types.specs.Rows.{sum_row, difference_row}
 use Rattle.sz_types.specs.Tables.{Declaration}
 use Rattle.sz_types.specs.declared.place.Place.{Place}
@@ -21,7 +22,7 @@ use Rattle.sz_check.specs.Refusals.{Judged, ◌>>=◌, unless, wrong_kind, wrong
 use Rattle.sz_check.specs.Names.{Block, Meaning, look_up}
 use Rattle.sz_check.specs.Names as names
 use Rattle.sz_check.specs.JudgingTypes.{judge_type}
-use Rattle.sz_check.specs.Agreeing.{in_turn, agree, agrees, counted, converted}
+use Rattle.sz_check.specs.Agreeing.{in_turn, agree, agrees, counted, converted, Found}
 use Rattle.sz_check.specs.JudgingExpressions.{judge_exp, judge_exps, test, whole, field_in}
 
 -- what is known in front of a statement: the blocks, and the types of the routine's variables so far, by number
