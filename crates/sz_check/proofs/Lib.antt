@@ -3,3 +3,7 @@ mod Tests
 mod Meanings
 mod Sights
 mod TypeLemmas
+mod RowLemmas
+mod AgreeLemmas
+mod NodeLemmas
+mod ExpressionSound
