@@ -7,3 +7,7 @@ mod RowLemmas
 mod AgreeLemmas
 mod NodeLemmas
 mod ExpressionSound
+mod SceneLemmas
+mod PathLemmas
+mod StatementLemmas
+mod StatementSound

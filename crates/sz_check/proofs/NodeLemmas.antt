@@ -32,6 +32,13 @@ AskFormed nothing = Unit {0}
 AskFormed (each t) = IsFormed t
 AskFormed (in_turn ts) = AreFormed ts
 
+-- a field that is found in a value of a type, with its type
+pub record IsPart (t : Shape) (x : Found) : Type 0 where
+  pub fields : FieldShapes
+  pub has : HasFields t fields
+  pub here : slice_get (field_types fields) x.place ≡ Some x.type
+  pub formed : IsFormed x.type
+
 module _ (g : Sight) where
   pub literal_typed : (p : Place) (l : Lit) → IsTyped g (literal_node p l)
   unfolding IsNode IsForm is_well_formed
@@ -178,13 +185,6 @@ module _ (g : Sight) where
         typed = (h.typed, k.typed, l.typed, slice_same (type_of n) row, first, second);
         formed = h.formed;
       }))))
-
-  -- a field that is found in a value of a type, with its type
-  pub record IsPart (t : Shape) (x : Found) : Type 0 where
-    pub fields : FieldShapes
-    pub has : HasFields t fields
-    pub here : slice_get (field_types fields) x.place ≡ Some x.type
-    pub formed : IsFormed x.type
 
   pub part_found : (p : Place) (t : Shape) (f : Ident) → IsFormed t → Holds (field_in p t f) (IsPart t)
   part_found p t f formed = option_holds _ (λ none. err_holds _ _) (λ fs is. option_holds _ (λ none. err_holds _ _) (λ x found.

@@ -136,6 +136,10 @@ pub int_formed : IsFormed Shape.int
 unfolding is_well_formed
 int_formed = refl
 
+pub bytes_formed : IsFormed Shape.bytes
+unfolding is_well_formed
+bytes_formed = refl
+
 pub unary_formed : (o : UnOp) (t : Shape) → IfSome (unary_row o t) IsFormed
 unary_formed unary.Not Shape.truth = truth_formed
 unary_formed unary.Negate Shape.int = int_formed
