@@ -5,3 +5,4 @@ pub mod Programs
 pub mod Emitting
 pub mod WellFormed
 pub mod Sound
+pub mod View

@@ -1,2 +1,8 @@
-//! The checked tree of a program.
+//! The checked tree of a program: numbers stand for names, and each expression has its place and its type.
 #![tactic(auto)]
+
+mod expr;
+mod stmt;
+
+pub use expr::{CoreExpr, CorePair, Form};
+pub use stmt::{CoreStep, CoreStmt};
