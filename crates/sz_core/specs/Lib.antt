@@ -6,3 +6,8 @@ pub mod Emitting
 pub mod WellFormed
 pub mod Sound
 pub mod View
+-- what the functions inside the crate promise each other
+pub mod OperatorCode
+pub mod NodeCode
+pub mod StatementCode
+pub mod ProgramCode

@@ -2,6 +2,7 @@
 use Rattle.std.specs.Prelude.{Option, Some, None, map}
 use Rattle.std.specs.Option.{option_map}
 use Rattle.sz_types.specs.Seen.{seen as shape_of}
+use Rattle.sz_types.specs.SeenTables.{seen_table}
 use Rattle.sz_value.specs.Seen.{seen as datum_of}
 use Rattle.sz_core.specs.declared.expr.CoreExpr.{CoreExpr}
 use Rattle.sz_core.specs.declared.expr.CorePair.{CorePair}
@@ -11,8 +12,15 @@ use Rattle.sz_core.specs.declared.stmt.CoreStep.{CoreStep}
 use Rattle.sz_core.specs.declared.stmt.CoreStep.TheVariants as steps
 use Rattle.sz_core.specs.declared.stmt.CoreStmt.{CoreStmt, Row_of-CoreStmt, end_of-CoreStmt, more_of-CoreStmt}
 use Rattle.sz_core.specs.declared.stmt.CoreStmt.TheVariants as stmts
+use Rattle.sz_core.specs.declared.program.Signature.{Signature as CoreSignature}
+use Rattle.sz_core.specs.declared.program.Function.{Function as CoreFunction}
+use Rattle.sz_core.specs.declared.program.Static.{Static as CoreStatic}
+use Rattle.sz_core.specs.declared.program.Item.{Item as CoreItem}
+use Rattle.sz_core.specs.declared.program.Item.TheVariants as items
 use Rattle.sz_core.specs.Nodes.{nodes_of, Node, node, Form, constant, local, static, input, call, builtin, def, convert, array, tuple, mapping, index, slice, field, unary, binary, both, either, Nodes, no_nodes, with_node, Pairings, no_pairings, with_pairing}
-use Rattle.sz_core.specs.Statements.{Step, at_index, at_field, Stm, block, clear, keep, store, evaluate, branch, while, do_while, for_loop, break, continue, return_value, end_record, emit, Stms, no_stms, with_stm}
+use Rattle.sz_core.specs.Statements.{Step, at_index, at_field, Stm, block, clear, keep, store, evaluate, branch, while, do_while, for_loop, break, continue, return_value, end_record, emit, Stms, no_stms, with_stm, stms_of}
+use Rattle.sz_core.specs.Programs.{Signature, Function, Static, Item, table, function, statement}
+use Rattle.sz_core.specs.Programs as program
 
 abbrev mutual
   -- what an expression is
@@ -82,3 +90,20 @@ abbrev mutual
   pub stms_of_row : {m : _} → Row_of-CoreStmt m → Stms
   stms_of_row end_of-CoreStmt = no_stms
   stms_of_row (more_of-CoreStmt s ss) = with_stm (stm_of s) (stms_of_row ss)
+
+-- a signature, a function and a static
+abbrev pub signature_of : CoreSignature → Signature
+signature_of s = record { parameters = s.parameters; result = shape_of s.result; emits = s.emits }
+
+abbrev pub function_of : CoreFunction → Function
+function_of f = record { signature = signature_of f.signature; locals = f.locals; body = stms_of (map stm_of f.body.items) }
+
+abbrev pub static_of : CoreStatic → Static
+static_of s = record { place = s.place; type = shape_of s.ty; value = node_of s.value }
+
+-- what stands at the top level
+abbrev pub item_of : CoreItem → Item
+item_of (items.Table d) = table (seen_table d)
+item_of (items.Function f) = function (function_of f)
+item_of (items.Static s) = program.static (static_of s)
+item_of (items.Statement s) = statement (stm_of s)

@@ -2,7 +2,9 @@
 #![tactic(auto)]
 
 mod expr;
+mod program;
 mod stmt;
 
 pub use expr::{CoreExpr, CorePair, Form};
+pub use program::{Function, Item, Program, Signature, Static};
 pub use stmt::{CoreStep, CoreStmt};
