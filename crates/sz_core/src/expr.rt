@@ -1,4 +1,7 @@
 //! Checked expressions.
+ghost use Rattle.std.specs.Prelude.{◌≡◌, map};
+ghost use Rattle.sz_core.specs.Nodes.{call, builtin, array, tuple, mapping, nodes_of, pairings_of};
+ghost use Rattle.sz_core.specs.View.{node_of, form_of, pairing_of};
 
 use sz_types::{BinOp, Builtin, Place, Ty, UnOp};
 use sz_value::Value;
@@ -58,4 +61,44 @@ pub enum Form {
 pub struct CorePair {
     pub key: CoreExpr,
     pub value: CoreExpr,
+}
+
+impl Form {
+    /// A call of the function with this number.
+    pub fn call(function: u32, arguments: Vec<CoreExpr>) -> Form
+        ensures value { form_of result ≡ call function (nodes_of (map node_of arguments.items)) }
+    {
+        Form::Call(function, arguments)
+    }
+
+    /// A call of a function that each program has.
+    pub fn builtin(function: Builtin, arguments: Vec<CoreExpr>) -> Form
+        ensures value { form_of result ≡ builtin function (nodes_of (map node_of arguments.items)) }
+    {
+        Form::Builtin(function, arguments)
+    }
+
+    /// An array of these elements.
+    #[tactic(auto, using(crate::proofs::RowLemmas::form_of_array))]
+    pub fn array(elements: Vec<CoreExpr>) -> Form
+        ensures value { form_of result ≡ array (nodes_of (map node_of elements.items)) }
+    {
+        Form::Array(elements)
+    }
+
+    /// A tuple, or a message, of these parts.
+    #[tactic(auto, using(crate::proofs::RowLemmas::form_of_tuple))]
+    pub fn tuple(parts: Vec<CoreExpr>) -> Form
+        ensures value { form_of result ≡ tuple (nodes_of (map node_of parts.items)) }
+    {
+        Form::Tuple(parts)
+    }
+
+    /// A map of these keys and values.
+    #[tactic(auto, using(crate::proofs::RowLemmas::form_of_map))]
+    pub fn map(pairs: Vec<CorePair>) -> Form
+        ensures value { form_of result ≡ mapping (pairings_of (map pairing_of pairs.items)) }
+    {
+        Form::Map(pairs)
+    }
 }

@@ -2,9 +2,11 @@
 #![tactic(auto)]
 
 mod expr;
+mod laws;
 mod program;
 mod stmt;
 
 pub use expr::{CoreExpr, CorePair, Form};
+pub use laws::{statics_emit_nothing, the_empty_program_is_sound, there_are_at_most_64_tables};
 pub use program::{Function, Item, Program, Signature, Static};
 pub use stmt::{CoreStep, CoreStmt};

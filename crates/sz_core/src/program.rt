@@ -74,7 +74,7 @@ impl Model for Program {
 impl Program {
     /// The program of these parts, which takes no memory.
     pub fn new(items: Vec<Item>, locals: Tys) -> Program
-        requires sound { IsSound (core_of (map item_of items.items) locals) }
+        requires sound { ∥ IsSound (core_of (map item_of items.items) locals) ∥₁ }
         ensures value { result ≡ core_of (map item_of items.items) locals }
     {
         Program { items, locals }

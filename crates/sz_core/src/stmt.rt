@@ -1,4 +1,7 @@
 //! Checked statements.
+ghost use Rattle.std.specs.Prelude.{◌≡◌, map};
+ghost use Rattle.sz_core.specs.Statements.{block, stms_of};
+ghost use Rattle.sz_core.specs.View.{stm_of};
 
 use crate::expr::CoreExpr;
 use sz_types::Place;
@@ -37,4 +40,14 @@ pub enum CoreStmt {
     EndRecord(Place),
     /// The table, the indexes, the value, and the weight where the table has one.
     Emit(Place, u32, Vec<CoreExpr>, CoreExpr, Option<CoreExpr>),
+}
+
+impl CoreStmt {
+    /// A block of these statements.
+    #[tactic(auto, using(crate::proofs::RowLemmas::stm_of_block))]
+    pub fn block(statements: Vec<CoreStmt>) -> CoreStmt
+        ensures value { stm_of result ≡ block (stms_of (map stm_of statements.items)) }
+    {
+        CoreStmt::Block(statements)
+    }
 }

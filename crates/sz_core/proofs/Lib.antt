@@ -1,0 +1,3 @@
+pub mod ForCallers
+pub mod RowLemmas
+pub mod LawLemmas
