@@ -11,3 +11,4 @@ pub mod OperatorCode
 pub mod NodeCode
 pub mod StatementCode
 pub mod ProgramCode
+pub mod Example

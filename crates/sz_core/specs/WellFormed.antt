@@ -63,7 +63,7 @@ abbrev pub takes_encoding : Encoding → Shape → Bool
 takes_encoding code (Shape.array t) = is_plain code || encodes_number t
 takes_encoding code t = is_plain code || encodes_number t
 
-mutual
+unfoldable mutual
   -- whether the type is well formed: fields of one tuple or message have different names, a tuple's fields have no number
   -- and no encoding, and those of a message have different numbers within bounds, types that a message can hold, and
   -- encodings that their types take

@@ -2,11 +2,17 @@
 ghost use Rattle.std.specs.Prelude.{◌≡◌, ◌≤◌, [], length, false};
 ghost use Rattle.sz_core.specs.Programs.{Core, Static, core_of, tables_of};
 ghost use Rattle.sz_core.specs.Emitting.{node_emits};
+ghost use Rattle.sz_core.specs.Example.{small_items};
 ghost use Rattle.sz_core.specs.Sound.{IsSound, IsStatic, Declared};
 
 /// The program that has no items and no variables is sound.
 pub fn the_empty_program_is_sound()
     ensures value { IsSound (core_of [] []) }
+{}
+
+/// A program that emits what a function of its own gives is sound: `small_items` of `specs/Example.antt`.
+pub fn a_small_program_is_sound()
+    ensures value { IsSound (core_of small_items []) }
 {}
 
 /// A sound program has at most 64 tables.
