@@ -49,6 +49,7 @@ call_is_quiet s x is quiet = ap is_emitting is ∙ not_true x.emits quiet
 module _ (g : Sight) (quiet : g.may_emit ≡ false) where
   mutual
     unfolding IsNode IsForm AreNodes ArePairings node_emits form_emits nodes_emit pairings_emit
+
     node_is_quiet : (e : Node) → IsNode g e → node_emits g.functions e ≡ false
     node_is_quiet (node p t f) h = form_is_quiet t f h
 
