@@ -56,7 +56,8 @@ blocks_stay names name entries h zero = refl
 blocks_stay names name entries h (suc depth) = λ i. block_stays entries h i ∷ blocks_stay names name entries h depth i
   where
     block_stays : (entries : List Entry) → IsNamed names entries
-        → map (declaration_of (names ++ name ∷ [])) (filter (λ e. e.depth == depth) entries) ≡ map (declaration_of names) (filter (λ e. e.depth == depth) entries)
+        → map (declaration_of (names ++ name ∷ [])) (filter (λ e. e.depth == depth) entries)
+        ≡ map (declaration_of names) (filter (λ e. e.depth == depth) entries)
     block_stays [] h = refl
     block_stays (entry ∷ entries) h = by (entry.depth == depth) (block_stays entries h.1)
       where
@@ -64,7 +65,8 @@ blocks_stay names name entries h (suc depth) = λ i. block_stays entries h i ∷
         rest = filter (λ e. e.depth == depth) entries
 
         same : declaration_of (names ++ name ∷ []) entry ≡ declaration_of names entry
-        same = ap (λ n. record { name = n; what = entry.what }) (name_at_stays name names entry.name (at_place (name_at names entry.name) names entry.name h.0).0)
+        same = ap (λ n. record { name = n; what = entry.what })
+            (name_at_stays name names entry.name (at_place (name_at names entry.name) names entry.name h.0).0)
 
         by : (b : Bool) → map (declaration_of (names ++ name ∷ [])) rest ≡ map (declaration_of names) rest
             → map (declaration_of (names ++ name ∷ [])) (cond b (entry ∷ rest) rest) ≡ map (declaration_of names) (cond b (entry ∷ rest) rest)

@@ -28,7 +28,8 @@ module _ (names : List (List ℕ)) (name : List ℕ) (test : ℕ → Meaning →
   abbrev pub in_block : List Entry → ℕ → Option Meaning
   in_block entries depth = found_in name (filter (λ declaration. test depth declaration.what) (block_at names entries depth))
 
-  found_first : (entries : List Entry) (depth : ℕ) → found name (seen entries (suc depth)) ≡ option_or (in_block entries depth) (found name (seen entries depth))
+  found_first : (entries : List Entry) (depth : ℕ)
+      → found name (seen entries (suc depth)) ≡ option_or (in_block entries depth) (found name (seen entries depth))
   found_first entries depth =
       ap (λ n. option_or (found_in name (filter (λ declaration. test n declaration.what) (block_at names entries depth))) (found name (seen entries depth)))
       (length_blocks names entries depth)
@@ -85,7 +86,8 @@ module _ (names : List (List ℕ)) (name : List ℕ) (test : ℕ → Meaning →
   found_where (suc depth) entries h = found_first entries depth ∙ found_deeper depth (found_where depth) entries h
 
   -- an entry has the bytes of a name exactly where it has its place
-  same_name : (place : ℕ) → place_of name names ≡ Some place → (entry : Entry) → place_of (name_at names entry.name) names ≡ Some entry.name → bytes_eq name (name_at names entry.name) ≡ (entry.name == place)
+  same_name : (place : ℕ) → place_of name names ≡ Some place → (entry : Entry) → place_of (name_at names entry.name) names ≡ Some entry.name
+      → bytes_eq name (name_at names entry.name) ≡ (entry.name == place)
   same_name place p entry h = by (cases_eq entry.name place)
     where
       by : (entry.name ≡ place) ⊎ (entry.name ≡ place → ⊥) → bytes_eq name (name_at names entry.name) ≡ (entry.name == place)
@@ -93,12 +95,15 @@ module _ (names : List (List ℕ)) (name : List ℕ) (test : ℕ → Meaning →
           ∙ sym (eq-eqb entry.name place q)
       by (inr n) = other (cases_Bool (bytes_eq name (name_at names entry.name))) ∙ sym (ne_eqb entry.name place n)
         where
-          other : (bytes_eq name (name_at names entry.name) ≡ true) ⊎ (bytes_eq name (name_at names entry.name) ≡ false) → bytes_eq name (name_at names entry.name) ≡ false
-          other (inl e) = absurd (n (same_Some entry.name place (sym h ∙ ap (λ m. place_of m names) (sym ((bytes_eq-Decides name (name_at names entry.name)).0 e)) ∙ p)))
+          other : (bytes_eq name (name_at names entry.name) ≡ true) ⊎ (bytes_eq name (name_at names entry.name) ≡ false)
+              → bytes_eq name (name_at names entry.name) ≡ false
+          other (inl e) = absurd (n (same_Some entry.name place
+              (sym h ∙ ap (λ m. place_of m names) (sym ((bytes_eq-Decides name (name_at names entry.name)).0 e)) ∙ p)))
           other (inr e) = e
 
   -- so the place of the name serves to find it among the entries
-  pub answer_is : (place : ℕ) → place_of name names ≡ Some place → (entries : List Entry) → IsNamed names entries → answer entries ≡ first_where test place entries
+  pub answer_is : (place : ℕ) → place_of name names ≡ Some place → (entries : List Entry) → IsNamed names entries
+      → answer entries ≡ first_where test place entries
   answer_is place p [] h = refl
   answer_is place p (entry ∷ entries) h =
       by (test entry.depth entry.what) (bytes_eq name (name_at names entry.name)) refl (answer_is place p entries h.1)
@@ -125,7 +130,8 @@ module _ (names : List (List ℕ)) (name : List ℕ) (test : ℕ → Meaning →
 
   module _ (entries : List Entry) (depth : ℕ) (nested : IsNested depth entries) (named : IsNamed names entries) where
     -- what is found of a name that has a place
-    pub found_at : (place : ℕ) → place_of name names ≡ Some place → found name (blocks_where test (blocks_of names entries depth)) ≡ first_where test place entries
+    pub found_at : (place : ℕ) → place_of name names ≡ Some place
+        → found name (blocks_where test (blocks_of names entries depth)) ≡ first_where test place entries
     found_at place p = found_where depth entries nested ∙ answer_is place p entries named
 
     -- nothing is found of a name that has none
@@ -150,7 +156,8 @@ pub at_depth : (place depth at : ℕ) (found : Entry) (entries : List Entry) →
     → oldest (suc at) entries ≡ found ∷ oldest at entries → is_some (first_where (λ d w. d == depth) place entries) ≡ (found.depth == depth)
 at_depth place depth at found [] h p q = absurd (none-some at p)
 at_depth place depth at found (entry ∷ entries) h p q =
-    by (entry.name == place) p (λ p' q'. at_depth place depth at found entries (nested_weaker entries (suc entry.depth) (suc depth) (omega (arith, h.0)) h.1) p' q')
+    by (entry.name == place) p
+    (λ p' q'. at_depth place depth at found entries (nested_weaker entries (suc entry.depth) (suc depth) (omega (arith, h.0)) h.1) p' q')
   where
     first : Entry → List Entry → Entry
     first other [] = other

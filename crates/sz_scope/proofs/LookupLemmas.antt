@@ -14,7 +14,8 @@ use Rattle.sz_scope.proofs.BlocksLemmas.{block_declared, blocks_whole}
 use Rattle.sz_scope.proofs.SoundLemmas.{sound_declared}
 use Rattle.sz_scope.proofs.FoundLemmas.{answer_is, answer_none, at_depth, found_at, found_nowhere}
 
-module _ (names : List (List ℕ)) (newest : List (Option ℕ)) (all : List Entry) (depth : ℕ) (sound : IsSound names newest (reverse all) depth) (name : List ℕ) where
+module _ (names : List (List ℕ)) (newest : List (Option ℕ)) (all : List Entry) (depth : ℕ) (sound : IsSound names newest (reverse all) depth)
+    (name : List ℕ) where
   -- a name that has a place has a newest entry
   pub place_within : (place : ℕ) → place_of name names ≡ Some place → place < length newest
   place_within place p = omega (arith, (at_place name names place p).0, sound.room)
@@ -24,15 +25,18 @@ module _ (names : List (List ℕ)) (newest : List (Option ℕ)) (all : List Entr
   newest_is_latest place p at q = same_Some at (latest place (reverse all)) (sym q ∙ sound.indexed place (place_within place p))
 
   -- it is one of the entries
-  pub newest_within : (place : ℕ) → place_of name names ≡ Some place → (at : Option ℕ) → slice_get newest place ≡ Some at → (i : ℕ) → at ≡ Some i → i < length all
+  pub newest_within : (place : ℕ) → place_of name names ≡ Some place → (at : Option ℕ) → slice_get newest place ≡ Some at → (i : ℕ) → at ≡ Some i
+      → i < length all
   newest_within place p at q i is =
       omega (arith, latest_within place (reverse all) i (sym (newest_is_latest place p at q) ∙ is), length-reverse all)
 
-module _ (names : List (List ℕ)) (name : List ℕ) (newest : List (Option ℕ)) (all : List Entry) (depth : ℕ) (sound : IsSound names newest (reverse all) (suc depth))
+module _ (names : List (List ℕ)) (name : List ℕ) (newest : List (Option ℕ)) (all : List Entry) (depth : ℕ)
+    (sound : IsSound names newest (reverse all) (suc depth))
     (at : Option ℕ) (answer : Bool)
     (some : (i : ℕ) → at ≡ Some i → option_map (λ (e : Entry). e.depth == depth) (slice_get all i) ≡ Some answer) (none : at ≡ None → answer ≡ false) where
   -- a name that has a place is in the innermost block exactly where its newest entry is
-  twice_known : (place : ℕ) → place_of name names ≡ Some place → at ≡ latest place (reverse all) → answer ≡ is_declared name (blocks_of names (reverse all) (suc depth))
+  twice_known : (place : ℕ) → place_of name names ≡ Some place → at ≡ latest place (reverse all)
+      → answer ≡ is_declared name (blocks_of names (reverse all) (suc depth))
   twice_known place p q = by at refl ∙ ap is_some (sym (answer_is names name (λ d w. d == depth) place p (reverse all) sound.named))
     where
       by : (o : Option ℕ) → at ≡ o → answer ≡ is_some (first_where (λ d w. d == depth) place (reverse all))
@@ -51,7 +55,8 @@ module _ (names : List (List ℕ)) (name : List ℕ) (newest : List (Option ℕ)
       → (known ≡ None → at ≡ None) → answer ≡ is_declared name (blocks_of names (reverse all) (suc depth))
   twice_is None p there absent =
       none (absent refl) ∙ ap is_some (sym (answer_none names name (λ d w. d == depth) (sym p) (reverse all) sound.named))
-  twice_is (Some place) p there absent = twice_known place (sym p) (newest_is_latest names newest all (suc depth) sound name place (sym p) at (there place refl))
+  twice_is (Some place) p there absent =
+      twice_known place (sym p) (newest_is_latest names newest all (suc depth) sound name place (sym p) at (there place refl))
 
 -- a name that has a place is declared in the innermost block
 module _ (names : List (List ℕ)) (name : List ℕ) (newest : List (Option ℕ)) (all : List Entry) (whole : ℕ) (sound : IsSound names newest (reverse all) whole)
@@ -97,7 +102,8 @@ pub record IsLookup (newest : List (Option ℕ)) (entries all : List Entry) (pla
   pub same : all ≡ entries
 
 -- what is read there, and a slice of the entries
-pub lookup : (entries : List Entry) (name : List ℕ) {names : List (List ℕ)} {newest : List (Option ℕ)} {depth : ℕ} {place : ℕ} {at : Option ℕ} {all : List Entry}
+pub lookup : (entries : List Entry) (name : List ℕ) {names : List (List ℕ)} {newest : List (Option ℕ)} {depth : ℕ}
+    {place : ℕ} {at : Option ℕ} {all : List Entry}
     → IsSound names newest (reverse entries) depth → Some place ≡ place_of name names → at ≡ get_or newest place at → all ≡ entries
     → IsLookup newest entries all place at
 lookup entries name {names} {newest} {depth} {place} {at} {all} sound is read same =
@@ -111,7 +117,8 @@ lookup entries name {names} {newest} {depth} {place} {at} {all} sound is read sa
     }
 
 -- what the newest entry means that passes a test is what is found in the blocks
-pub looked_up : (entries : List Entry) (name : List ℕ) {names : List (List ℕ)} {newest : List (Option ℕ)} {depth : ℕ} {place : ℕ} {at : Option ℕ} {all : List Entry}
+pub looked_up : (entries : List Entry) (name : List ℕ) {names : List (List ℕ)} {newest : List (Option ℕ)} {depth : ℕ}
+    {place : ℕ} {at : Option ℕ} {all : List Entry}
     → (test : ℕ → Meaning → Bool) → IsSound names newest (reverse entries) depth → Some place ≡ place_of name names → IsLookup newest entries all place at
     → first_where test place (reverse all) ≡ found name (blocks_where test (blocks_of names (reverse entries) depth))
 looked_up entries name {names} {newest} {depth} {place} test sound is look =

@@ -21,7 +21,8 @@ position_step : (here : Bool) (before count : ℕ)
     → cond (nat_lt (cond (not here) (1 + before) 0) (suc count)) (Some (cond (not here) (1 + before) 0)) None
     ≡ (if here then Some 0 else option_map (λ place. suc place) (cond (nat_lt before count) (Some before) None))
 position_step true before count = cond-true (nat_lt 0 (suc count)) (Some 0) None (lt-ltb 0 (suc count) (omega arith))
-position_step false before count = ap (λ k. cond (nat_lt k (suc count)) (Some k) None) more ∙ ap (λ b. cond b (Some (suc before)) None) (less_suc before count) ∙ by (nat_lt before count)
+position_step false before count = ap (λ k. cond (nat_lt k (suc count)) (Some k) None) more
+    ∙ ap (λ b. cond b (Some (suc before)) None) (less_suc before count) ∙ by (nat_lt before count)
   where
     more : 1 + before ≡ suc before
     more = omega arith

@@ -47,7 +47,8 @@ latest_past count name (entry ∷ entries) h l =
     ∙ latest_past count name entries h.1 l
 
 -- one more name that has no entry
-pub indexed_more : (newest : List (Option ℕ)) (entries : List Entry) → IsWithin (length newest) entries → IsIndexed newest entries → IsIndexed (newest ++ None ∷ []) entries
+pub indexed_more : (newest : List (Option ℕ)) (entries : List Entry) → IsWithin (length newest) entries → IsIndexed newest entries
+    → IsIndexed (newest ++ None ∷ []) entries
 indexed_more newest entries within indexed name h = by (cases_lt name (length newest))
   where
     by : (name < length newest) ⊎ (length newest ≤ name) → slice_get (newest ++ None ∷ []) name ≡ Some (latest name entries)
@@ -68,7 +69,8 @@ indexed_push newest entry entries indexed name h = by (cases_eq entry.name name)
     by : (entry.name ≡ name) ⊎ (entry.name ≡ name → ⊥)
         → slice_get (set newest entry.name (Some (length entries))) name ≡ Some (if entry.name == name then Some (length entries) else latest name entries)
     by (inl p) =
-        subst (λ n. slice_get (set newest n (Some (length entries))) name ≡ Some (Some (length entries))) (sym p) (get_set_same newest name (Some (length entries)) within)
+        subst (λ n. slice_get (set newest n (Some (length entries))) name ≡ Some (Some (length entries))) (sym p)
+        (get_set_same newest name (Some (length entries)) within)
         ∙ ap (λ o. Some o) (sym (cond-true (entry.name == name) (Some (length entries)) (latest name entries) (eq-eqb entry.name name p)))
     by (inr n) =
         get_set_other newest entry.name name (Some (length entries)) n ∙ indexed name within
@@ -129,12 +131,14 @@ keeps_added names name newest others h room = record {
     named [] h = h
     named (entry ∷ entries) h =
         let at = at_place (name_at names entry.name) names entry.name h.0 in (
-          ap (λ n. place_of n (names ++ name ∷ [])) (name_at_stays name names entry.name at.0) ∙ place_stays (name_at names entry.name) name names entry.name h.0,
+          ap (λ n. place_of n (names ++ name ∷ [])) (name_at_stays name names entry.name at.0)
+              ∙ place_stays (name_at names entry.name) name names entry.name h.0,
           named entries h.1,
         )
 
 -- an entry that is added in the innermost block
-pub sound_declared : (names : List (List ℕ)) (newest : List (Option ℕ)) (entry : Entry) (entries : List Entry) (depth : ℕ) → IsSound names newest entries (suc depth)
+pub sound_declared : (names : List (List ℕ)) (newest : List (Option ℕ)) (entry : Entry) (entries : List Entry) (depth : ℕ)
+    → IsSound names newest entries (suc depth)
     → entry.depth ≡ depth → place_of (name_at names entry.name) names ≡ Some entry.name → entry.hidden ≡ latest entry.name entries
     → IsSound names (set newest entry.name (Some (length entries))) (entry ∷ entries) (suc depth)
 sound_declared names newest entry entries depth s deep named hidden = record {
@@ -156,16 +160,19 @@ module _ (names : List (List ℕ)) (depth : ℕ) where
   left : (entries : List Entry) → IsNamed names entries → IsLinked entries → IsNested (suc depth) entries → IsLeft entries (without_deeper depth entries)
   left [] named linked nested = record { named = tt; linked = tt; nested = tt; blocks = refl }
   left (entry ∷ entries) named linked nested =
-      by (cases_lt entry.depth depth) (λ l. left entries named.1 linked.1 (nested_weaker entries (suc entry.depth) (suc depth) (omega (arith, nested.0)) nested.1))
+      by (cases_lt entry.depth depth)
+      (λ l. left entries named.1 linked.1 (nested_weaker entries (suc entry.depth) (suc depth) (omega (arith, nested.0)) nested.1))
     where
       by : (entry.depth < depth) ⊎ (depth ≤ entry.depth) → (depth ≤ entry.depth → IsLeft entries (without_deeper depth entries))
           → IsLeft (entry ∷ entries) (without_deeper depth (entry ∷ entries))
       by (inl l) rest =
-          subst (IsLeft (entry ∷ entries)) (sym (cond-true (nat_lt entry.depth depth) (entry ∷ entries) (without_deeper depth entries) (lt-ltb entry.depth depth l)))
+          subst (IsLeft (entry ∷ entries))
+          (sym (cond-true (nat_lt entry.depth depth) (entry ∷ entries) (without_deeper depth entries) (lt-ltb entry.depth depth l)))
           (record { named = named; linked = linked; nested = (l, nested.1); blocks = refl })
       by (inr l) rest =
           let r = rest l in
-          subst (IsLeft (entry ∷ entries)) (sym (cond-false (nat_lt entry.depth depth) (entry ∷ entries) (without_deeper depth entries) (le-ltb entry.depth depth l)))
+          subst (IsLeft (entry ∷ entries))
+          (sym (cond-false (nat_lt entry.depth depth) (entry ∷ entries) (without_deeper depth entries) (le-ltb entry.depth depth l)))
           (record { named = r.named; linked = r.linked; nested = r.nested; blocks = r.blocks ∙ sym (blocks_without names entries entry depth l) })
 
   -- what is left is sound

@@ -34,7 +34,8 @@ newest_is name (entry ∷ entries) at p = by (entry.name == name) refl (newest_i
         let r = rest p in
         record {
           entry = r.entry;
-          here = oldest_less entry entries (suc at) (omega (arith, l)) ∙ r.here ∙ ap (λ l. r.entry ∷ l) (sym (oldest_less entry entries at (omega (arith, l))));
+          here = oldest_less entry entries (suc at) (omega (arith, l)) ∙ r.here
+              ∙ ap (λ l. r.entry ∷ l) (sym (oldest_less entry entries at (omega (arith, l))));
           named = r.named;
         }
 
@@ -148,13 +149,15 @@ pub search_fails : (test : ℕ → Meaning → Bool) (newest : Option ℕ) (all 
     → (name : ℕ) → newest ≡ latest name (reverse all) → None ≡ first_where test name (reverse all)
 search_fails test newest all at search none name p = sym ((search.way name p).none none)
 
-module _ (test : ℕ → Meaning → Bool) (newest : Option ℕ) (all : List Entry) (linked : IsLinked (reverse all)) (at : Option ℕ) (search : IsSearch test newest all at)
+module _ (test : ℕ → Meaning → Bool) (newest : Option ℕ) (all : List Entry) (linked : IsLinked (reverse all)) (at : Option ℕ)
+    (search : IsSearch test newest all at)
     (i : ℕ) (is : at ≡ Some i) (entry : Entry) (here : slice_get all i ≡ Some entry) where
   at_entry : slice_get (reverse (reverse all)) i ≡ Some entry
   at_entry = ap (λ l. slice_get l i) (reverse-reverse all) ∙ here
 
   -- a search that is at an entry that passes finds it
-  pub search_ends : test entry.depth entry.what ≡ true → (name : ℕ) → newest ≡ latest name (reverse all) → Some entry.what ≡ first_where test name (reverse all)
+  pub search_ends : test entry.depth entry.what ≡ true → (name : ℕ) → newest ≡ latest name (reverse all)
+      → Some entry.what ≡ first_where test name (reverse all)
   search_ends passes name p = sym (way_ends (reverse all) linked i entry at_entry test name at (search.way name p) is passes)
 
   -- a search goes on at what an entry hides that doesn't pass

@@ -3,7 +3,7 @@
 use Rattle.std.specs.Prelude.{◌≡◌, ℕ, zero, suc, ◌<◌, ◌≤◌, Bool, ◌&&◌, ◌==◌, List, [], ◌∷◌, length, filter, map, nat_lt, Option, None, Some, slice_get, if◌then◌else◌}
 use Rattle.sz_scope.specs.declared.meaning.Meaning.{Meaning}
 use Rattle.sz_scope.specs.declared.entry.Entry.{Entry}
-use Rattle.sz_scope.specs.Blocks.{Declaration, Block}
+use Rattle.sz_scope.specs.Blocks.{Declaration, Block, is_declared}
 use Rattle.sz_scope.specs.Names.{place_of, name_at}
 
 -- the place of the newest entry of the name, counted from the oldest
@@ -80,3 +80,12 @@ pub record HasRoomOf (newest others : List (Option ℕ)) : Type 0 where
 pub record KeepsSound (names more : List (List ℕ)) (newest others : List (Option ℕ)) : Type 0 where
   pub sound : (entries : List Entry) (depth : ℕ) → IsSound names newest entries depth → IsSound more others entries depth
   pub blocks : (entries : List Entry) (depth : ℕ) → IsSound names newest entries depth → blocks_of more entries depth ≡ blocks_of names entries depth
+
+-- the answer is whether the innermost block has the name that may have a place, whatever the names are
+abbrev pub TellsTwice : Option ℕ → List (Option ℕ) → List Entry → ℕ → Bool → Type 0
+TellsTwice known newest entries depth answer = (names : List (List ℕ)) (name : List ℕ)
+    → known ≡ place_of name names → IsSound names newest entries (suc depth) → answer ≡ is_declared name (blocks_of names entries (suc depth))
+
+-- what is found is what the newest entry means that passes the test, of the name that has this newest entry
+abbrev pub FindsNewest : (ℕ → Meaning → Bool) → Option ℕ → List Entry → Option Meaning → Type 0
+FindsNewest test newest entries found = (name : ℕ) → newest ≡ latest name entries → found ≡ first_where test name entries

@@ -2,7 +2,7 @@
 ghost use Rattle.std.specs.Prelude.{◌≡◌, ◌<◌, ◌≤◌, ◌++◌, ◌∷◌, [], ◌==◌, ℕ, suc, List, Bool, true, false, length, reverse, slice_get, set, Option, None, Some, IfOk, OnOk, OnErr, IfSome, IfNone};
 ghost use Rattle.std.specs.Option.{option_copied, option_map, ForSome};
 ghost use Rattle.sz_scope.specs.Blocks.{is_declared};
-ghost use Rattle.sz_scope.specs.Chain.{latest, first_where, without_deeper, blocks_of, HasRoomOf, IsIndexed, IsLinked, IsSound, IsWithin, KeepsSound};
+ghost use Rattle.sz_scope.specs.Chain.{latest, first_where, without_deeper, blocks_of, HasRoomOf, IsIndexed, IsLinked, IsSound, IsWithin, FindsNewest, KeepsSound, TellsTwice};
 ghost use Rattle.sz_scope.specs.Names.{place_of};
 ghost use Rattle.sz_scope.specs.Sight.{is_seen};
 
@@ -71,7 +71,7 @@ pub(crate) fn is_twice(
 ) -> bool
     requires within { ForSome known (λ name. name < length newest.now) }
     requires indexed { IsIndexed newest.now (reverse entries.now) }
-    ensures value { (names : List (List ℕ)) (name : List ℕ) → known ≡ place_of name names → IsSound names newest.now (reverse entries.now) (suc depth) → result ≡ is_declared name (blocks_of names (reverse entries.now) (suc depth)) }
+    ensures value { TellsTwice known newest.now (reverse entries.now) depth result }
 {
     is_at_depth(entries, newest_of(newest, known), depth)
 }
@@ -128,7 +128,7 @@ pub(crate) fn push_entry(
 pub(crate) fn newest_entry(entries: &[Entry], newest: Option<usize>) -> Option<&Meaning>
     requires linked { IsLinked (reverse entries.now) }
     requires within { ForSome newest (λ place. place < length entries.now) }
-    ensures value { (name : ℕ) → newest ≡ latest name (reverse entries.now) → option_copied result ≡ first_where (λ d w. true) name (reverse entries.now) }
+    ensures value { FindsNewest (λ d w. true) newest (reverse entries.now) (option_copied result) }
 {
     match newest {
         Some(place) => Some(&entries[place].what),
@@ -145,7 +145,7 @@ pub(crate) fn find_seen<'a>(
 ) -> Option<&'a Meaning>
     requires linked { IsLinked (reverse entries.now) }
     requires within { ForSome newest (λ place. place < length entries.now) }
-    ensures value { (name : ℕ) → newest ≡ latest name (reverse entries.now) → option_copied result ≡ first_where (is_seen sight unbound.now) name (reverse entries.now) }
+    ensures value { FindsNewest (is_seen sight unbound.now) newest (reverse entries.now) (option_copied result) }
 {
     let mut at = newest;
     while let Some(place) = at {

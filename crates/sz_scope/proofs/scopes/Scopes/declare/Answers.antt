@@ -34,7 +34,8 @@ invariant_of-self-2 c =
     let sound = c.place_for.ensures.kept.sound (reverse c.self.inside.entries.items) c.self.inside.depth c.self.invariant in
     let within = place_within c.place_for.new.names c.place_for.new.newest.items c.self.inside.entries.items c.self.inside.depth sound c.args.name.now
     c.in_ok-name.name (c.in_ok-name.ensures.place) in
-    let there = slice_get_read c.place_for.new.newest.items (length c.place_for.new.newest.items) c.in_ok-name.name c.index-hidden.result.now refl within c.index-hidden.ensures in
+    let there = slice_get_read c.place_for.new.newest.items (length c.place_for.new.newest.items) c.in_ok-name.name
+    c.index-hidden.result.now refl within c.index-hidden.ensures in
     let count = length_blocks c.self.inside.names (reverse c.self.inside.entries.items) c.self.inside.depth in
     let counted : c.self.inside.depth ≡ suc (c.self.inside.depth - 1) = omega (arith, count, ap (λ l. length l) c.self.view_is, c.requires.within) in
     sound_after c.place_for.new.names c.args.name.now c.place_for.new.newest.items c.self.inside.entries.items c.self.inside.depth sound
@@ -46,7 +47,8 @@ returns-clause-ok c =
     let sound = c.place_for.ensures.kept.sound (reverse c.self.inside.entries.items) c.self.inside.depth c.self.invariant in
     let within = place_within c.place_for.new.names c.place_for.new.newest.items c.self.inside.entries.items c.self.inside.depth sound c.args.name.now
     c.in_ok-name.name (c.in_ok-name.ensures.place) in
-    let there = slice_get_read c.place_for.new.newest.items (length c.place_for.new.newest.items) c.in_ok-name.name c.index-hidden.result.now refl within c.index-hidden.ensures in
+    let there = slice_get_read c.place_for.new.newest.items (length c.place_for.new.newest.items) c.in_ok-name.name
+    c.index-hidden.result.now refl within c.index-hidden.ensures in
     let count = length_blocks c.self.inside.names (reverse c.self.inside.entries.items) c.self.inside.depth in
     let counted : c.self.inside.depth ≡ suc (c.self.inside.depth - 1) = omega (arith, count, ap (λ l. length l) c.self.view_is, c.requires.within) in
     blocks_after c.place_for.new.names c.args.name.now c.place_for.new.newest.items c.self.inside.entries.items c.self.inside.depth sound

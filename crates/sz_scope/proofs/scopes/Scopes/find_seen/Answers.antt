@@ -1,4 +1,4 @@
-use Rattle.std.proofs.Common.{◌≡◌, ap, ◌∙◌, option_map, rules}
+use Rattle.std.proofs.Common.{ap, ◌∙◌, option_map, rules}
 use Rattle.sz_scope.specs.Blocks.{found}
 use Rattle.sz_scope.specs.Sight.{is_seen, seen_blocks}
 use Rattle.sz_scope.proofs.LookupLemmas.{lookup, looked_up, not_found, place_known}
@@ -9,7 +9,8 @@ pub returns-in_err-name : goal.returns-in_err-name
 returns-in_err-name c =
     let sees = is_seen c.args.sight c.args.unbound.now in
     record {
-      value = ap (option_map (λ x. x.now)) c.from_residual.ensures ∙ not_found c.self.inside.entries.items c.args.name.now sees c.self.invariant (c.in_err-name.ensures.value)
+      value = ap (option_map (λ x. x.now)) c.from_residual.ensures
+          ∙ not_found c.self.inside.entries.items c.args.name.now sees c.self.invariant (c.in_err-name.ensures.value)
           ∙ ap (λ blocks. found c.args.name.now (seen_blocks c.args.sight c.args.unbound.now blocks)) c.self.view_is;
     }
 
@@ -20,7 +21,8 @@ index-requires c =
     search (rules, known)
 
 pub find_seen-requires-clause-within : goal.find_seen-requires-clause-within
-find_seen-requires-clause-within c = (lookup c.self.inside.entries.items c.args.name.now c.self.invariant (c.in_ok-name.ensures.value) c.index.ensures c.as_slice.ensures.value).within
+find_seen-requires-clause-within c =
+    (lookup c.self.inside.entries.items c.args.name.now c.self.invariant (c.in_ok-name.ensures.value) c.index.ensures c.as_slice.ensures.value).within
 
 pub returns : goal.returns
 returns c =
