@@ -1,5 +1,5 @@
 //! Parts of strings, byte strings and arrays.
-ghost use Rattle.std.specs.Prelude.{◌≡◌, ◌∷◌, IsTrue, IfOk, Some, None, IfSome, IfNone, map, chars, encode_utf8_all, option_map};
+ghost use Rattle.std.specs.Prelude.{◌≡◌, ◌+◌, nat_le, ◌∷◌, IsTrue, IfOk, Some, None, IfSome, IfNone, map, chars, encode_utf8_all, option_map};
 ghost use Rattle.sz_value.specs.Data.{str, bytes, array, data_of};
 ghost use Rattle.sz_value.specs.Seen.{seen, seen_slot};
 ghost use Rattle.sz_value.specs.Texts.{is_ascii};
@@ -64,8 +64,7 @@ fn ascii_part(alloc: Global, text: &Text, skip: u64, count: u64) -> Result<Slot,
     requires ascii { IsTrue (is_ascii text.now) }
     ensures value { IfOk result (λ slot. seen_slot slot ≡ option_map str (cut text.now (skip, count))) }
 {
-    let len = text.as_str().as_bytes().len() as u64;
-    if skip > len || count > len - skip {
+    if !fits(skip, count, text.as_str().as_bytes().len()) {
         return Ok(Slot::Undefined);
     }
     let part = text.ascii_part(alloc, skip as usize, (skip + count) as usize)?;
@@ -107,12 +106,19 @@ fn cut<T>(items: &[T], skip: u64, count: u64) -> Option<&[T]>
     ensures some { IfSome result (λ part. cut items.now (skip, count) ≡ Some part.now) }
     ensures none { IfNone result (cut items.now (skip, count) ≡ None) }
 {
-    let len = items.len() as u64;
-    if skip > len || count > len - skip {
-        None
-    } else {
+    if fits(skip, count, items.len()) {
         Some(&items[skip as usize..][..count as usize])
+    } else {
+        None
     }
+}
+
+// Whether `count` items stand behind the first `skip` of `len` items.
+fn fits(skip: u64, count: u64, len: usize) -> bool
+    ensures value { result ≡ nat_le (skip + count) len }
+{
+    let len = len as u64;
+    skip <= len && count <= len - skip
 }
 
 /// A list of copies, with room for at least `room` values.
