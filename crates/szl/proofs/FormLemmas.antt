@@ -1,9 +1,12 @@
 -- What a statement adds to a program in the making, and that what runs is sound.
 use Rattle.std.proofs.Common.{◌≡◌, ℕ, suc, ◌+◌, ◌<◌, ◌≤◌, List, [], ◌∷◌, ◌++◌, length, Bool, true, false, Option, Some, None, refl, subst, arith}
-use Rattle.std.proofs.Common.{length-append}
+use Rattle.std.proofs.Common.{length-append, map}
 use Rattle.std.specs.Prelude.{IfSome, if◌then◌else◌, ◌&&◌, nat_lt, option_and_then, option_map, bytes_eq, Result, Ok, Err}
 use Rattle.std.specs.List.{position_from}
 use Rattle.sz_types.specs.declared.place.Place.{Place}
+use Rattle.sz_tree.specs.declared.expr.Expr.{Expr}
+use Rattle.sz_tree.specs.Names.{Ident}
+use Rattle.sz_tree.specs.View.{tree_of}
 use Rattle.sz_tree.specs.Expressions as trees
 use Rattle.sz_tree.specs.Statements.{Stms, no_stms, stm, stm_place}
 use Rattle.sz_tree.specs.Statements as statements
@@ -124,6 +127,16 @@ statement_grows d (statements.emit p name trees.end e None) =
     (if_some_weaker (IsValue (length d.variables)) (λ v. Grows d (with_emit d table v)) (value_of d.variables e)
     (emit_grows d table) (value_typed d.variables e)))
 statement_grows d _ = tt
+
+-- an emit with a weight, or with indexes, doesn't run
+pub emit_weighted : (d : Draft) (p : Place) (n : Ident) (es : trees.Exps) (e w : trees.Exp) → statement d (statements.emit p n es e (Some w)) ≡ None
+emit_weighted d p n trees.end e w = refl
+emit_weighted d p n (trees.more x es) e w = refl
+
+pub emit_indexed : (d : Draft) (p : Place) (n : Ident) (indexes : List Expr) (e : trees.Exp) → 0 < length indexes
+    → statement d (statements.emit p n (trees.exps_of (map tree_of indexes)) e None) ≡ None
+emit_indexed d p n [] e some = absurd (omega arith)
+emit_indexed d p n (x ∷ indexes) e some = refl
 
 -- the program's statements are sound, and at most so many
 pub record IsFit (most : ℕ) (p : Prog) : Type 0 where

@@ -12,12 +12,11 @@ use Rattle.sz_lex.proofs.TotalLemmas.{every_text_is_read}
 use Rattle.sz_lex.proofs.LawLemmas.{one_list, no_refusal, one_refusal}
 use Rattle.sz_tree.specs.Statements.{Stms}
 use Rattle.sz_parse.specs.Program.{Spells, IsStuck}
-use Rattle.sz_parse.proofs.Whole.{one_tree, one_place, not_both}
+use Rattle.sz_parse.proofs.ForCallers.{one_tree, one_place, not_both, every_list_is_read}
 use Rattle.sz_mean.specs.Tree.{Prog}
 use Rattle.szl.specs.declared.refusal.Cause.TheVariants.{TooLong, NotUtf8, BadChar, BadLiteral, Syntax, NotBuilt}
 use Rattle.szl.specs.Forms.{program_in}
 use Rattle.szl.specs.Judgement.{Judgement, refused, runs, IsJudged, IsShort, HasStuckTokens, HasStatements, HasJudgement, most_program_bytes}
-use Rattle.szl.proofs.ReadLemmas.{every_list_is_read}
 
 -- how a text is read: it is too long, it has no tokens, its tokens are stuck, or they spell statements
 data Reading : Type 0 where

@@ -74,6 +74,7 @@ impl<'t> Draft<'t> {
     }
 
     /// Adds the emit of a value to a table, which has no indexes.
+    #[tactic(auto, using(crate::proofs::FormLemmas::emit_indexed))]
     fn add_emit(
         &mut self,
         alloc: Global,
@@ -99,6 +100,7 @@ impl<'t> Draft<'t> {
     }
 
     /// Adds the statement, if it runs today.
+    #[tactic(auto, using(crate::proofs::FormLemmas::emit_weighted))]
     pub fn add(&mut self, alloc: Global, statement: &'t Statement) -> Result<(), Unfit>
         requires room { HasRoom (seen_draft self.old) }
         ensures value { Becomes result self.new (statement (seen_draft self.old) (stm_of statement.now)) }

@@ -16,6 +16,7 @@ use sz_parse::parse;
 use sz_tree::Tree;
 
 /// The tree that the text spells.
+#[tactic(auto, using(crate::proofs::JudgeLemmas::unread_failure, crate::proofs::JudgeLemmas::stuck_failure, crate::proofs::JudgeLemmas::has_statements, crate::proofs::ReadLemmas::few_statements))]
 pub fn tree_in(alloc: Global, text: &[u8]) -> Result<Tree, Failure>
     requires short { length text.now ≤ most_program_bytes }
     ensures found { IfOk result (λ tree. HasStatements text.now (program_of tree)) }
@@ -28,6 +29,7 @@ pub fn tree_in(alloc: Global, text: &[u8]) -> Result<Tree, Failure>
 }
 
 /// The program that the tree is.
+#[tactic(auto, using(crate::proofs::JudgeLemmas::draft_none, crate::proofs::JudgeLemmas::draft_room, crate::proofs::JudgeLemmas::draft_more, crate::proofs::JudgeLemmas::draft_fails, crate::proofs::JudgeLemmas::draft_all))]
 pub fn program_in<'t>(alloc: Global, tree: &'t Tree) -> Result<Program<'t>, Failure>
     requires few { length tree.now.statements.items ≤ most_program_bytes }
     ensures found { IfOk result (λ program. program_in (program_of tree.now) ≡ Ok (seen_program program)) }
