@@ -17,7 +17,7 @@ use Rattle.sz_value.specs.Maps.{value_at}
 use Rattle.sz_builtin.specs.Places.{at_place, code, index, span, cut, part, slice}
 use Rattle.sz_builtin.specs.Predeclared.{len, keys, haskey, strfind, first_place, place, builtin}
 use Rattle.sz_builtin.specs.Conversions.{number_in, as_truth, as_int, as_time, as_str, as_bytes, convert}
-use Rattle.sz_builtin.specs.TypeRows.{index_row, slice_row, len_row, keys_row, haskey_row, strfind_row, builtin_row, convert_row}
+use Rattle.sz_types.specs.Rows.{index_row, slice_row, len_row, keys_row, haskey_row, strfind_row, builtin_row, convert_row}
 use Rattle.sz_builtin.specs.Types.{has_type, all_have, pairs_have, have_types, KeepsIndex, KeepsSlice, KeepsBuiltin, KeepsConvert}
 use Rattle.sz_builtin.proofs.TypeLemmas.{some_same, if_some, of_int, of_str, of_bytes, of_array, both, both_in, truth_keeps}
 
@@ -102,14 +102,14 @@ array_has ds e p h = at (nat_le (p.0 + p.1) (length ds)) (front_has p.1 (drop p.
     at true k = k
     at false k = tt
 
-part_has : (d : Datum) (s u : Shape) (p : ℕ × ℕ) → has_type d s ≡ true → slice_row s Shape.int Shape.int ≡ Some u → Holds (part d p) u
+part_has : (d : Datum) (s u : Shape) (p : ℕ × ℕ) → has_type d s ≡ true → slice_row s ≡ Some u → Holds (part d p) u
 part_has (str cs) s u p h r =
-    subst (Holds (part (str cs) p)) (some_same _ _ (ap (λ v. slice_row v Shape.int Shape.int) (of_str cs s h) ∙ r)) (text_has (cut (chars cs) p))
+    subst (Holds (part (str cs) p)) (some_same _ _ (ap slice_row (of_str cs s h) ∙ r)) (text_has (cut (chars cs) p))
 part_has (bytes cs) s u p h r =
-    subst (Holds (part (bytes cs) p)) (some_same _ _ (ap (λ v. slice_row v Shape.int Shape.int) (of_bytes cs s h) ∙ r)) (bytes_has (cut cs p))
+    subst (Holds (part (bytes cs) p)) (some_same _ _ (ap slice_row (of_bytes cs s h) ∙ r)) (bytes_has (cut cs p))
 part_has (array ds) s u p h r =
     let q = of_array ds s h in
-    subst (Holds (part (array ds) p)) (some_same _ _ (ap (λ v. slice_row v Shape.int Shape.int) q.1 ∙ r)) (array_has (parts_of ds) q.0 p (list_has ds q.0 q.2))
+    subst (Holds (part (array ds) p)) (some_same _ _ (ap slice_row q.1 ∙ r)) (array_has (parts_of ds) q.0 p (list_has ds q.0 q.2))
 part_has d s u p h r = tt
 
 pub slice_keeps : KeepsSlice

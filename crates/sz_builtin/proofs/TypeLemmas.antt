@@ -10,7 +10,7 @@ use Rattle.sz_value.specs.Data.{Datum, truth, int, time, str, bytes, array, Data
 use Rattle.std.specs.Ordering.{is_eq, is_ne, is_lt, is_le, is_gt, is_ge}
 use Rattle.sz_value.specs.Order.{compare}
 use Rattle.sz_builtin.specs.Operators.{sum, difference, of_numbers, on_numbers}
-use Rattle.sz_builtin.specs.TypeRows.{sum_row, difference_row, unary_row, both_int, ordered}
+use Rattle.sz_types.specs.Rows.{sum_row, difference_row, unary_row, both_int, ordered}
 use Rattle.sz_builtin.specs.Types.{has_type, all_have, KeepsUnary, KeepsBinary}
 
 pub some_same : {X : Type 0} (x y : X) → Some x ≡ Some y → x ≡ y

@@ -3,7 +3,6 @@ pub mod Operators
 pub mod Conversions
 pub mod Places
 pub mod Predeclared
-pub mod TypeRows
 pub mod Types
 -- what the functions inside the crate promise each other
 pub mod Characters

@@ -9,7 +9,7 @@ use Rattle.sz_builtin.specs.Operators.{unary, binary}
 use Rattle.sz_builtin.specs.Places.{index, slice}
 use Rattle.sz_builtin.specs.Predeclared.{builtin}
 use Rattle.sz_builtin.specs.Conversions.{convert}
-use Rattle.sz_builtin.specs.TypeRows.{unary_row, binary_row, index_row, slice_row, builtin_row, convert_row}
+use Rattle.sz_types.specs.Rows.{unary_row, binary_row, index_row, slice_row, builtin_row, convert_row}
 
 abbrev mutual
   -- whether a value has a type: an empty array has every array type, an empty map every map type, and a tuple each tuple
@@ -67,7 +67,7 @@ KeepsIndex =
 -- a part has the type that the row of its base gives
 abbrev pub KeepsSlice : Type 0
 KeepsSlice =
-    (a : Datum) (from to : ℤ) (s u : Shape) → has_type a s ≡ true → slice_row s Shape.int Shape.int ≡ Some u
+    (a : Datum) (from to : ℤ) (s u : Shape) → has_type a s ≡ true → slice_row s ≡ Some u
     → IfSome (slice a from to) (λ d. has_type d u ≡ true)
 
 -- what a predeclared function gives has the type that the row of its arguments gives
