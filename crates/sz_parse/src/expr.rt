@@ -1,110 +1,18 @@
 //! Expressions.
-ghost use Rattle.std.specs.Prelude.{◌≡◌, ◌+◌, ◌<◌, ◌≤◌, [], ◌∷◌, IfOk, length, map as each, Some as Just};
-ghost use Rattle.sz_tree.specs.Expressions.{Exps, exps_of, pairs_of, height, heights, pair_heights, place_of, string as text_literal, bytes as bytes_literal, literal as literal_tree, binary as binary_tree};
+ghost use Rattle.std.specs.Prelude.{◌≡◌, ◌+◌, ◌<◌, ◌≤◌, [], ◌∷◌, IfOk, map as each};
+ghost use Rattle.sz_tree.specs.Expressions.{exps_of, pairs_of, height, heights, pair_heights};
 ghost use Rattle.sz_tree.specs.View.{tree_of, pair_of};
-ghost use Rattle.sz_lex.specs.Lexed.{lexeme_of};
-ghost use Rattle.sz_parse.specs.Reading.{decoded};
-ghost use Rattle.sz_parse.specs.ReadingExpressions.{unary_of, sign_binary, conversion_of, operator_at, pair_at, items_behind, pairs_behind, args_at, call_at, named_at, closed_at, condition_at, paren_at, def_at, convert_at, list_at, map_at, composite_at, worded, primary_here, bracket_at, field_at, part_at, tail_at, prefix_at, postfix_at, chain_at, level_at, expr_at};
-ghost use Rattle.sz_parse.specs.Outcome.{Gives, Sees};
+ghost use Rattle.sz_parse.specs.ReadingExpressions.{pair_at, items_behind, pairs_behind, args_at, call_at, named_at, closed_at, condition_at, paren_at, list_at, map_at, composite_at, worded, primary_here, bracket_at, part_at, tail_at, prefix_at, postfix_at, chain_at, level_at, expr_at};
+ghost use Rattle.sz_parse.specs.Outcome.{Gives};
 
 use crate::failed::Failed;
 use crate::limit::MAX_HEIGHT;
+use crate::operators::{conversion_of, joined, operator, quoted, unary_of};
 use crate::token::{expect, ident, lexeme, name, skip};
 use std::alloc::Global;
-use sz_lex::{Kind, Quoted, Sign, Token, Word, decode};
-use sz_tree::{BasicType, BinaryOp, Expr, Literal, Name, Pair, UnaryOp};
+use sz_lex::{Kind, Quoted, Sign, Token, Word};
+use sz_tree::{Expr, Literal, Name, Pair};
 use sz_types::Place;
-
-fn unary_of(kind: Kind) -> Option<UnaryOp>
-    ensures value { result ≡ unary_of kind }
-{
-    match kind {
-        Kind::Sign(Sign::Minus) => Some(UnaryOp::Negate),
-        Kind::Sign(Sign::Plus) => Some(UnaryOp::Plus),
-        Kind::Sign(Sign::Not) => Some(UnaryOp::Not),
-        Kind::Sign(Sign::Tilde) => Some(UnaryOp::Complement),
-        _ => None,
-    }
-}
-
-fn binary_of(sign: Sign) -> Option<BinaryOp>
-    ensures value { result ≡ sign_binary sign }
-{
-    match sign {
-        Sign::OrOr => Some(BinaryOp::Or),
-        Sign::AndAnd => Some(BinaryOp::And),
-        Sign::EqualEqual => Some(BinaryOp::Equal),
-        Sign::NotEqual => Some(BinaryOp::NotEqual),
-        Sign::Less => Some(BinaryOp::Less),
-        Sign::LessEqual => Some(BinaryOp::LessEqual),
-        Sign::Greater => Some(BinaryOp::Greater),
-        Sign::GreaterEqual => Some(BinaryOp::GreaterEqual),
-        Sign::Plus => Some(BinaryOp::Add),
-        Sign::Minus => Some(BinaryOp::Subtract),
-        Sign::Or => Some(BinaryOp::BitOr),
-        Sign::Caret => Some(BinaryOp::BitXor),
-        Sign::Star => Some(BinaryOp::Multiply),
-        Sign::Slash => Some(BinaryOp::Divide),
-        Sign::Percent => Some(BinaryOp::Remainder),
-        Sign::ShiftLeft => Some(BinaryOp::ShiftLeft),
-        Sign::ShiftRight => Some(BinaryOp::ShiftRight),
-        Sign::And => Some(BinaryOp::BitAnd),
-        _ => None,
-    }
-}
-
-// The type that the word of a conversion names.
-fn conversion_of(word: Word) -> Option<BasicType>
-    ensures value { result ≡ conversion_of word }
-{
-    match word {
-        Word::Int => Some(BasicType::Int),
-        Word::String => Some(BasicType::String),
-        Word::Bytes => Some(BasicType::Bytes),
-        Word::Time => Some(BasicType::Time),
-        _ => None,
-    }
-}
-
-// An operator that binds as loosely as this, and what follows it.
-#[tactic(auto, unfolding(crate::specs::ReadingExpressions::operator_at))]
-fn operator(level: u32, tokens: &[Token]) -> Option<(BinaryOp, &[Token])>
-    ensures value { Sees (λ x. (x.0, x.1.now)) result (operator_at level tokens.now) }
-{
-    let [
-        Token {
-            kind: Kind::Sign(sign),
-            ..
-        },
-        rest @ ..,
-    ] = tokens
-    else {
-        return None;
-    };
-    match binary_of(*sign) {
-        Some(op) if op.level() == level => Some((op, rest)),
-        _ => None,
-    }
-}
-
-// The bytes that a string or bytes literal stands for.
-#[tactic(auto, using(crate::proofs::TokenLemmas::decoded_is, crate::proofs::TokenLemmas::decoded_none))]
-fn quoted(alloc: Global, quoted: Quoted, literal: &[u8]) -> Result<Vec<u8>, Failed>
-    ensures value { Gives (λ v. v.items) result (decoded quoted literal.now) }
-{
-    match decode(alloc, quoted, literal)? {
-        Some(value) => Ok(value),
-        None => Err(Failed::Syntax),
-    }
-}
-
-// An operator with its operands.
-fn joined(alloc: Global, op: BinaryOp, left: Expr, right: Expr) -> Result<Expr, Failed>
-    ensures value { Gives tree_of result (Just (binary_tree (place_of (tree_of left)) op (tree_of left) (tree_of right))) }
-{
-    let place = left.place();
-    Ok(Expr::Binary(place, op, Box::new(alloc, left)?, Box::new(alloc, right)?))
-}
 
 // An expression of at most this height, no looser than this, with its height and what follows it.
 #[cycle(expr)]

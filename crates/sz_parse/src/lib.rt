@@ -5,7 +5,9 @@ mod error;
 mod expr;
 mod failed;
 mod laws;
+mod leaf;
 mod limit;
+mod operators;
 mod program;
 mod simple;
 mod stmt;
@@ -17,3 +19,6 @@ pub use error::ParseError;
 pub use laws::{every_list_is_read, refusal_is_unique, trees_are_unique};
 pub use limit::MAX_HEIGHT;
 pub use program::parse;
+
+#[cfg(test)]
+mod tests;

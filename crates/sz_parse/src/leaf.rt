@@ -1,0 +1,287 @@
+//! Statements that have no statements for parts, and parts of statements.
+ghost use Rattle.std.specs.Prelude.{◌≡◌, ◌<◌, map as each};
+ghost use Rattle.std.specs.Option.{option_map};
+ghost use Rattle.sz_lex.specs.declared.sign.Sign.TheVariants.{Semicolon, CloseParen};
+ghost use Rattle.sz_tree.specs.View.{tree_of, first_of, simple_of, param_of, stm_of};
+ghost use Rattle.sz_parse.specs.ReadingExpressions.{expr_at};
+ghost use Rattle.sz_parse.specs.ReadingTypes.{type_at};
+ghost use Rattle.sz_parse.specs.ReadingStatements.{unless_at, init_at, weight_at, simple_at, first_at, declare_at, declared_at, table_stm_at, define_at, simple_stm_at, static_at, typedef_at, break_at, continue_at, return_at, emit_at, readers_at};
+ghost use Rattle.sz_parse.specs.Outcome.{Gives};
+
+use crate::expr::expr;
+use crate::failed::Failed;
+use crate::limit::MAX_HEIGHT;
+use crate::simple::{first, indexes, simple, simple_behind};
+use crate::table::table;
+use crate::token::{expect, name, skip, skip_word};
+use crate::types::{label, params, type_tree};
+use std::alloc::Global;
+use sz_lex::{Sign, Token, Word};
+use sz_tree::{Expr, First, Name, Param, Simple, Stmt};
+use sz_types::Place;
+
+// An expression, unless this sign stands there.
+#[tactic(auto, unfolding(crate::specs::ReadingStatements::unless_at, crate::specs::Reading::bind, crate::specs::Reading::choose))]
+pub fn maybe_expr<'t>(
+    alloc: Global,
+    text: &[u8],
+    inner: u32,
+    sign: Sign,
+    tokens: &'t [Token],
+) -> Result<(Option<Expr>, &'t [Token]), Failed>
+    requires depth { inner < MAX_HEIGHT }
+    ensures read { Gives (λ x. (option_map tree_of x.0, x.1.now)) result (unless_at sign (expr_at text.now inner 5) tokens.now) }
+{
+    if let Some(_) = skip(sign, tokens) {
+        return Ok((None, tokens));
+    }
+    let (tree, _, rest) = expr(alloc, text, inner, 5, tokens)?;
+    Ok((Some(tree), rest))
+}
+
+// The first part of a `for`, unless a semicolon stands there.
+#[tactic(auto, unfolding(crate::specs::ReadingStatements::unless_at, crate::specs::Reading::bind, crate::specs::Reading::choose))]
+pub fn maybe_first<'t>(
+    alloc: Global,
+    text: &[u8],
+    inner: u32,
+    tokens: &'t [Token],
+) -> Result<(Option<First>, &'t [Token]), Failed>
+    requires depth { inner < MAX_HEIGHT }
+    ensures read { Gives (λ x. (option_map first_of x.0, x.1.now)) result (unless_at Semicolon (first_at text.now inner) tokens.now) }
+{
+    if let Some(_) = skip(Sign::Semicolon, tokens) {
+        return Ok((None, tokens));
+    }
+    let (part, rest) = first(alloc, text, inner, tokens)?;
+    Ok((Some(part), rest))
+}
+
+// The step of a `for`, unless a closing parenthesis stands there.
+#[tactic(auto, unfolding(crate::specs::ReadingStatements::unless_at, crate::specs::Reading::bind, crate::specs::Reading::choose))]
+pub fn maybe_simple<'t>(
+    alloc: Global,
+    text: &[u8],
+    inner: u32,
+    tokens: &'t [Token],
+) -> Result<(Option<Simple>, &'t [Token]), Failed>
+    requires depth { inner < MAX_HEIGHT }
+    ensures read { Gives (λ x. (option_map simple_of x.0, x.1.now)) result (unless_at CloseParen (simple_at text.now inner) tokens.now) }
+{
+    if let Some(_) = skip(Sign::CloseParen, tokens) {
+        return Ok((None, tokens));
+    }
+    let (part, rest) = simple(alloc, text, inner, tokens)?;
+    Ok((Some(part), rest))
+}
+
+// The expression behind an equals sign, if one stands there.
+#[tactic(auto, unfolding(crate::specs::ReadingStatements::init_at, crate::specs::Reading::bind, crate::specs::Reading::choose))]
+fn init<'t>(
+    alloc: Global,
+    text: &[u8],
+    inner: u32,
+    tokens: &'t [Token],
+) -> Result<(Option<Expr>, &'t [Token]), Failed>
+    requires depth { inner < MAX_HEIGHT }
+    ensures read { Gives (λ x. (option_map tree_of x.0, x.1.now)) result (init_at (expr_at text.now inner) tokens.now) }
+{
+    match skip(Sign::Assign, tokens) {
+        None => Ok((None, tokens)),
+        Some(rest) => {
+            let (tree, _, rest) = expr(alloc, text, inner, 5, rest)?;
+            Ok((Some(tree), rest))
+        }
+    }
+}
+
+// The expression behind `weight`, if one stands there.
+#[tactic(auto, unfolding(crate::specs::ReadingStatements::weight_at, crate::specs::Reading::bind, crate::specs::Reading::choose))]
+fn weight<'t>(
+    alloc: Global,
+    text: &[u8],
+    inner: u32,
+    tokens: &'t [Token],
+) -> Result<(Option<Expr>, &'t [Token]), Failed>
+    requires depth { inner < MAX_HEIGHT }
+    ensures read { Gives (λ x. (option_map tree_of x.0, x.1.now)) result (weight_at (expr_at text.now inner) tokens.now) }
+{
+    match skip_word(Word::Weight, tokens) {
+        None => Ok((None, tokens)),
+        Some(rest) => {
+            let (tree, _, rest) = expr(alloc, text, inner, 5, rest)?;
+            Ok((Some(tree), rest))
+        }
+    }
+}
+
+// A declaration, behind its name and colon.
+#[tactic(auto, unfolding(crate::specs::ReadingStatements::declare_at, crate::specs::Reading::bind))]
+pub fn declare<'t>(
+    alloc: Global,
+    text: &[u8],
+    inner: u32,
+    name: Name,
+    tokens: &'t [Token],
+) -> Result<(Stmt, &'t [Token]), Failed>
+    requires depth { inner < MAX_HEIGHT }
+    ensures read { Gives (λ x. (stm_of x.0, x.1.now)) result (declare_at (readers_at text.now inner) name tokens.now) }
+{
+    let (of, rest) = type_tree(alloc, text, inner, tokens)?;
+    let (value, rest) = init(alloc, text, inner, rest)?;
+    let rest = expect(Sign::Semicolon, rest)?;
+    Ok((Stmt::Declare(name, of, value), rest))
+}
+
+// Parameters, up to the closing parenthesis.
+#[tactic(auto, unfolding(crate::specs::ReadingStatements::declared_at, crate::specs::Reading::choose))]
+pub fn declared<'t>(
+    alloc: Global,
+    text: &[u8],
+    inner: u32,
+    tokens: &'t [Token],
+) -> Result<(Vec<Param>, &'t [Token]), Failed>
+    requires depth { inner < MAX_HEIGHT }
+    ensures read { Gives (λ x. (each param_of x.0.items, x.1.now)) result (declared_at text.now (type_at text.now inner) tokens.now) }
+{
+    if let Some(_) = skip(Sign::CloseParen, tokens) {
+        return Ok((Vec::new(alloc), tokens));
+    }
+    params(alloc, text, inner, tokens)
+}
+
+#[tactic(auto, unfolding(crate::specs::ReadingStatements::define_at, crate::specs::Reading::bind))]
+pub fn define<'t>(
+    alloc: Global,
+    text: &[u8],
+    inner: u32,
+    name: Name,
+    tokens: &'t [Token],
+) -> Result<(Stmt, &'t [Token]), Failed>
+    requires depth { inner < MAX_HEIGHT }
+    ensures read { Gives (λ x. (stm_of x.0, x.1.now)) result (define_at (readers_at text.now inner) name tokens.now) }
+{
+    let (value, _, rest) = expr(alloc, text, inner, 5, tokens)?;
+    let rest = expect(Sign::Semicolon, rest)?;
+    Ok((Stmt::Define(name, value), rest))
+}
+
+#[tactic(auto, unfolding(crate::specs::ReadingStatements::simple_stm_at, crate::specs::Reading::bind))]
+pub fn simple_statement<'t>(
+    alloc: Global,
+    text: &[u8],
+    inner: u32,
+    name: Name,
+    tokens: &'t [Token],
+) -> Result<(Stmt, &'t [Token]), Failed>
+    requires depth { inner < MAX_HEIGHT }
+    ensures read { Gives (λ x. (stm_of x.0, x.1.now)) result (simple_stm_at text.now (readers_at text.now inner) inner name tokens.now) }
+{
+    let (part, rest) = simple_behind(alloc, text, inner, name, tokens)?;
+    let rest = expect(Sign::Semicolon, rest)?;
+    Ok((Stmt::Simple(part), rest))
+}
+
+#[tactic(auto, unfolding(crate::specs::ReadingStatements::table_stm_at, crate::specs::Reading::bind))]
+pub fn table_statement<'t>(
+    alloc: Global,
+    text: &[u8],
+    inner: u32,
+    name: Name,
+    tokens: &'t [Token],
+) -> Result<(Stmt, &'t [Token]), Failed>
+    requires depth { inner < MAX_HEIGHT }
+    ensures read { Gives (λ x. (stm_of x.0, x.1.now)) result (table_stm_at text.now (readers_at text.now inner) name tokens.now) }
+{
+    let (part, rest) = table(alloc, text, inner, tokens)?;
+    Ok((Stmt::Table(name, part), rest))
+}
+
+#[tactic(auto, unfolding(crate::specs::ReadingStatements::static_at, crate::specs::Reading::bind))]
+pub fn static_statement<'t>(
+    alloc: Global,
+    text: &[u8],
+    inner: u32,
+    place: Place,
+    tokens: &'t [Token],
+) -> Result<(Stmt, &'t [Token]), Failed>
+    requires depth { inner < MAX_HEIGHT }
+    ensures read { Gives (λ x. (stm_of x.0, x.1.now)) result (static_at text.now (readers_at text.now inner) place tokens.now) }
+{
+    let (name, rest) = label(alloc, text, tokens)?;
+    let (of, rest) = type_tree(alloc, text, inner, rest)?;
+    let rest = expect(Sign::Assign, rest)?;
+    let (value, _, rest) = expr(alloc, text, inner, 5, rest)?;
+    let rest = expect(Sign::Semicolon, rest)?;
+    Ok((Stmt::Static(place, name, of, value), rest))
+}
+
+#[tactic(auto, unfolding(crate::specs::ReadingStatements::typedef_at, crate::specs::Reading::bind))]
+pub fn type_statement<'t>(
+    alloc: Global,
+    text: &[u8],
+    inner: u32,
+    place: Place,
+    tokens: &'t [Token],
+) -> Result<(Stmt, &'t [Token]), Failed>
+    requires depth { inner < MAX_HEIGHT }
+    ensures read { Gives (λ x. (stm_of x.0, x.1.now)) result (typedef_at text.now (readers_at text.now inner) place tokens.now) }
+{
+    let (name, rest) = name(alloc, text, tokens)?;
+    let rest = expect(Sign::Assign, rest)?;
+    let (of, rest) = type_tree(alloc, text, inner, rest)?;
+    let rest = expect(Sign::Semicolon, rest)?;
+    Ok((Stmt::Type(place, name, of), rest))
+}
+
+#[tactic(auto, unfolding(crate::specs::ReadingStatements::return_at, crate::specs::Reading::bind))]
+pub fn return_statement<'t>(
+    alloc: Global,
+    text: &[u8],
+    inner: u32,
+    place: Place,
+    tokens: &'t [Token],
+) -> Result<(Stmt, &'t [Token]), Failed>
+    requires depth { inner < MAX_HEIGHT }
+    ensures read { Gives (λ x. (stm_of x.0, x.1.now)) result (return_at (readers_at text.now inner) place tokens.now) }
+{
+    let (value, rest) = maybe_expr(alloc, text, inner, Sign::Semicolon, tokens)?;
+    let rest = expect(Sign::Semicolon, rest)?;
+    Ok((Stmt::Return(place, value), rest))
+}
+
+#[tactic(auto, unfolding(crate::specs::ReadingStatements::emit_at, crate::specs::Reading::bind))]
+pub fn emit<'t>(
+    alloc: Global,
+    text: &[u8],
+    inner: u32,
+    place: Place,
+    tokens: &'t [Token],
+) -> Result<(Stmt, &'t [Token]), Failed>
+    requires depth { inner < MAX_HEIGHT }
+    ensures read { Gives (λ x. (stm_of x.0, x.1.now)) result (emit_at text.now (readers_at text.now inner) place tokens.now) }
+{
+    let (table, rest) = name(alloc, text, tokens)?;
+    let (indexes, rest) = indexes(alloc, text, inner, rest)?;
+    let rest = expect(Sign::Arrow, rest)?;
+    let (value, _, rest) = expr(alloc, text, inner, 5, rest)?;
+    let (weight, rest) = weight(alloc, text, inner, rest)?;
+    let rest = expect(Sign::Semicolon, rest)?;
+    Ok((Stmt::Emit(place, table, indexes, value, weight), rest))
+}
+
+#[tactic(auto, unfolding(crate::specs::ReadingStatements::break_at, crate::specs::Reading::bind))]
+pub fn break_statement(place: Place, tokens: &[Token]) -> Result<(Stmt, &[Token]), Failed>
+    ensures read { Gives (λ x. (stm_of x.0, x.1.now)) result (break_at place tokens.now) }
+{
+    let rest = expect(Sign::Semicolon, tokens)?;
+    Ok((Stmt::Break(place), rest))
+}
+
+#[tactic(auto, unfolding(crate::specs::ReadingStatements::continue_at, crate::specs::Reading::bind))]
+pub fn continue_statement(place: Place, tokens: &[Token]) -> Result<(Stmt, &[Token]), Failed>
+    ensures read { Gives (λ x. (stm_of x.0, x.1.now)) result (continue_at place tokens.now) }
+{
+    let rest = expect(Sign::Semicolon, tokens)?;
+    Ok((Stmt::Continue(place), rest))
+}

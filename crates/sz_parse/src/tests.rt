@@ -1,0 +1,160 @@
+//! What no contract says: that calls succeed where there is memory, and that the definition is the one that was meant.
+mod heights;
+mod refusals;
+mod shown;
+
+use super::*;
+use std::alloc::Global;
+use std::process::Abort;
+use std::test::Fail;
+use sz_lex::lex;
+use sz_tree::Tree;
+
+// The tree of a text, or the place of its refusal.
+fn parsed(alloc: Global, text: &[u8]) -> Result<Result<Tree, String>, Fail> {
+    if text.len() > 1_048_576 {
+        return Ok(Err(format!(in alloc; "too long")?));
+    }
+    let Ok(tokens) = lex(alloc, text) else {
+        return Ok(Err(format!(in alloc; "no tokens")?));
+    };
+    match parse(alloc, &tokens) {
+        Ok(tree) => Ok(Ok(tree)),
+        Err(ParseError::Syntax(place)) => {
+            Ok(Err(format!(in alloc; " {}:{}", place.line, place.column)?))
+        }
+        Err(ParseError::NoMemory) => Ok(Err(format!(in alloc; "no memory")?)),
+    }
+}
+
+// The statements of a text, each in parentheses, or the place of its refusal.
+fn outcome(alloc: Global, text: &[u8]) -> Result<String, Fail> {
+    match parsed(alloc, text)? {
+        Ok(tree) => {
+            let mut out = String::new(alloc);
+            shown::stmts(&mut out, &tree.statements)?;
+            Ok(out)
+        }
+        Err(refusal) => Ok(refusal),
+    }
+}
+
+// In each line of the table a text stands before `=>`, and its outcome behind it.
+fn holds(rt: &impl Abort, alloc: Global, table: &str) -> Result<(), Fail> {
+    for line in table.lines() {
+        let (text, expected) = line.split_once(" =>").ok_or("no arrow")?;
+        let found = outcome(alloc, text.as_bytes())?;
+        assert_eq!(rt; found.as_str(), expected, "at {text}");
+    }
+    Ok(())
+}
+
+#[test]
+fn each_form_of_expression_is_read(rt: HostRuntime) -> Result<(), Fail> {
+    let table =
+        r#"x = 1; x = "a"; x = B"b"; x = 'c'; => (assign x 1) (assign x "a") (assign x B"b") (assign x 'c')
+x = true; x = false; x = y; => (assign x true) (assign x false) (assign x y)
+x = f(); x = f(1); x = f(1, y, g()); => (assign x (call f)) (assign x (call f 1)) (assign x (call f 1 y (call g)))
+x = def(y); x = (y); x = ((y)); => (assign x (def y)) (assign x (paren y)) (assign x (paren (paren y)))
+x = int(1); x = string(y); => (assign x (Int 1)) (assign x (String y))
+x = bytes(y); x = time("t"); => (assign x (Bytes y)) (assign x (Time "t"))
+x = {}; x = {1}; x = {1, y, {}}; => (assign x (list)) (assign x (list 1)) (assign x (list 1 y (list)))
+x = {:}; x = {1: 2}; x = {1: 2, y: {:}}; => (assign x (map)) (assign x (map 1 2)) (assign x (map 1 2 y (map)))
+x = a[1]; x = a[1:2]; x = a.b; => (assign x (index a 1)) (assign x (slice a 1 2)) (assign x (field b a))
+x = a[1][2:3].b; x = f(1)[0]; => (assign x (field b (slice (index a 1) 2 3))) (assign x (index (call f 1) 0))
+x = "ab"[0]; x = {1}[0]; x = {1: 2}.a; => (assign x (index "ab" 0)) (assign x (index (list 1) 0)) (assign x (field a (map 1 2)))
+x = (a)[i + 1]; x = int(a).b; => (assign x (index (paren a) (Add i 1))) (assign x (field b (Int a)))
+x = -1; x = +a; x = !a; x = ~a; => (assign x (Negate 1)) (assign x (Plus a)) (assign x (Not a)) (assign x (Complement a))
+x = -+!~a; x = - -a; => (assign x (Negate (Plus (Not (Complement a))))) (assign x (Negate (Negate a)))
+x = -a[1]; x = -a.b; => (assign x (Negate (index a 1))) (assign x (Negate (field b a)))
+x = -f(1); x = (-a)[1]; => (assign x (Negate (call f 1))) (assign x (index (paren (Negate a)) 1))"#;
+    holds(&rt, rt.alloc(), table)
+}
+
+#[test]
+fn operators_bind_by_their_level_and_group_to_the_left(rt: HostRuntime) -> Result<(), Fail> {
+    let table = "\
+x = a || b; x = a && b; => (assign x (Or a b)) (assign x (And a b))
+x = a == b; x = a != b; => (assign x (Equal a b)) (assign x (NotEqual a b))
+x = a < b; x = a <= b; => (assign x (Less a b)) (assign x (LessEqual a b))
+x = a > b; x = a >= b; => (assign x (Greater a b)) (assign x (GreaterEqual a b))
+x = a + b; x = a - b; => (assign x (Add a b)) (assign x (Subtract a b))
+x = a | b; x = a ^ b; => (assign x (BitOr a b)) (assign x (BitXor a b))
+x = a * b; x = a / b; x = a % b; => (assign x (Multiply a b)) (assign x (Divide a b)) (assign x (Remainder a b))
+x = a << b; x = a >> b; x = a & b; => (assign x (ShiftLeft a b)) (assign x (ShiftRight a b)) (assign x (BitAnd a b))
+x = a || b && c; x = a && b || c; => (assign x (Or a (And b c))) (assign x (Or (And a b) c))
+x = a && b == c; x = a == b && c; => (assign x (And a (Equal b c))) (assign x (And (Equal a b) c))
+x = a < b + c; x = a + b < c; => (assign x (Less a (Add b c))) (assign x (Less (Add a b) c))
+x = a + b * c; x = a * b + c; => (assign x (Add a (Multiply b c))) (assign x (Add (Multiply a b) c))
+x = a | b & c; x = a ^ b << c; => (assign x (BitOr a (BitAnd b c))) (assign x (BitXor a (ShiftLeft b c)))
+x = -a * b; x = a * -b; => (assign x (Multiply (Negate a) b)) (assign x (Multiply a (Negate b)))
+x = -a - -b; x = !a && b; => (assign x (Subtract (Negate a) (Negate b))) (assign x (And (Not a) b))
+x = a - b - c; x = a - b + c - d; => (assign x (Subtract (Subtract a b) c)) (assign x (Subtract (Add (Subtract a b) c) d))
+x = a / b * c % d; => (assign x (Remainder (Multiply (Divide a b) c) d))
+x = a || b || c; x = a && b && c; => (assign x (Or (Or a b) c)) (assign x (And (And a b) c))
+x = a - (b - c); x = (a + b) * c; => (assign x (Subtract a (paren (Subtract b c)))) (assign x (Multiply (paren (Add a b)) c))
+x = (a < b) == (c < d); => (assign x (Equal (paren (Less a b)) (paren (Less c d))))
+x = a < b && c < d || e == f; => (assign x (Or (And (Less a b) (Less c d)) (Equal e f)))";
+    holds(&rt, rt.alloc(), table)
+}
+
+#[test]
+fn each_form_of_type_is_read(rt: HostRuntime) -> Result<(), Fail> {
+    let table = "\
+a: bool; b: int; c: string; => (declare a Bool -) (declare b Int -) (declare c String -)
+d: bytes; e: time; f: t; => (declare d Bytes -) (declare e Time -) (declare f t -)
+a: array of int; a: array of array of t; => (declare a (array Int) -) (declare a (array (array t)) -)
+a: map [int] of string; a: map [k: int] of map [t] of u; => (declare a (map - Int String) -) (declare a (map k Int (map - t u)) -)
+a: {x: int}; a: {x: int, y: {z: t}}; => (declare a (tuple x Int) -) (declare a (tuple x Int y (tuple z t)) -)
+a: proto {x: int @ 1}; => (declare a (proto x Int 1 -) -)
+a: proto {x: int @ 1 fixed32, y: array of t @ 0x10}; => (declare a (proto x Int 1 fixed32 y (array t) 16 -) -)";
+    holds(&rt, rt.alloc(), table)
+}
+
+#[test]
+fn each_form_of_statement_is_read(rt: HostRuntime) -> Result<(), Fail> {
+    let table = "\
+# a comment =>
+; {} {;} {{} x = 1;} => (empty) (block) (block (empty)) (block (block) (assign x 1))
+x: int; x: int = 1; x := 1; => (declare x Int -) (declare x Int 1) (define x 1)
+static x: int = 1; type t = int; type t = {a: u}; => (static x Int 1) (type t Int) (type t (tuple a u))
+t: table sum of int; => (table t sum - (of - Int) -)
+t: table top(10) of string weight int; => (table t top 10 (of - String) - Int)
+t: table sum [string][k: int] of n: int; => (table t sum - (of n Int) - String k Int -)
+t: table maximum(0x3)[a: t] of b: u weight w: int; => (table t maximum 3 (of b u) a t w Int)
+f: function(): int {} => (function f : Int)
+f: function(a: int, b: {c: t}): bool { return a; ; } => (function f a Int b (tuple c t) : Bool (return a) (empty))
+f: function(a: t): u {}; => (function f a t : u) (empty)
+x = 1; x[1] = 2; x.a = 3; x[i].a[j] = 4; => (assign x 1) (assign x 1 2) (assign x .a 3) (assign x i .a j 4)
+x++; x--; f(); f(1, x); => (increment x) (decrement x) (do f) (do f 1 x)
+if (a) ; if (a) ; else x++; => (if a (empty) -) (if a (empty) (increment x))
+while (a) x++; do x++; while (a); => (while a (increment x)) (do (increment x) a)
+for (;;) ; for (i = 0; i < 3; i++) x++; => (for - - - (empty)) (for (assign i 0) (Less i 3) (increment i) (increment x))
+for (i: int = 0; ; f()) ; => (for (declare i Int 0) - (do f) (empty))
+for (i := 0; a; x[0] = 1) break; => (for (define i 0) a (assign x 0 1) (break))
+for (f();;) ; for (i--;; i--) continue; => (for (do f) - - (empty)) (for (decrement i) - (decrement i) (continue))
+break; continue; return; return x; => (break) (continue) (return -) (return x)
+emit t <- 1; emit t[1][a] <- x weight 2; => (emit t <- 1 -) (emit t 1 a <- x 2)
+when (i: some int; a[i]) ; => (when (Some i Int) (index a i) (empty))
+when (i, j: each t; k: all string; m: some int; i < j) x++; => (when (Each i j t) (All k String) (Some m Int) (Less i j) (increment x))
+when (i: some int; f(i, j)) ; => (when (Some i Int) (call f i j) (empty))";
+    holds(&rt, rt.alloc(), table)?;
+    assert_eq!(rt; outcome(rt.alloc(), b"")?.as_str(), "");
+    Ok(())
+}
+
+#[test]
+fn an_else_belongs_to_the_if_whose_part_it_follows(rt: HostRuntime) -> Result<(), Fail> {
+    let table = "\
+if (a) if (b) x++; else y++; => (if a (if b (increment x) (increment y)) -)
+if (a) {if (b) x++;} else y++; => (if a (block (if b (increment x) -)) (increment y))
+if (a) x++; else if (b) y++; else z++; => (if a (increment x) (if b (increment y) (increment z)))
+if (a) if (b) x++; else y++; else z++; => (if a (if b (increment x) (increment y)) (increment z))
+if (a) while (b) if (c) ; else ; => (if a (while b (if c (empty) (empty))) -)
+if (a) do if (b) ; while (c); else ; => (if a (do (if b (empty) -) c) (empty))
+if (a) ; else if (b) ; => (if a (empty) (if b (empty) -))
+if (a) ; ; else ; => 1:12
+if (a) ; else => 1:1
+if (a) ; else ; else ; => 1:17";
+    holds(&rt, rt.alloc(), table)
+}
