@@ -1,5 +1,5 @@
 -- Texts that are cut between characters.
-use Rattle.std.proofs.Common.{◌≡◌, ℕ, ◌+◌, ◌-◌, ◌<◌, ◌≤◌, nat_le, Bool, true, false, if◌then◌else◌, Option, Some, None, subst, List, [], ◌∷◌, ◌++◌, length, take, drop, refl, sym, ap, ◌∙◌, arith}
+use Rattle.std.proofs.Common.{◌≡◌, ℕ, ◌+◌, ◌-◌, ◌<◌, ◌≤◌, nat_le, Bool, true, false, if◌then◌else◌, Some, None, subst, List, [], ◌∷◌, ◌++◌, length, take, drop, refl, sym, ap, ◌∙◌, arith}
 use Rattle.std.specs.Prelude.{slice_get, chars, encode_utf8_all, IsUtf8}
 use Rattle.std.specs.Str.{IsCharBoundary}
 use Rattle.std.specs.Char.{encode_utf8}
@@ -8,7 +8,7 @@ use Rattle.std.proofs.lemmas.Str.{encodes-append, chars_past_char, IsUtf8-past_c
 use Rattle.std.specs.Option.{option_map}
 use Rattle.std.proofs.lemmas.List.{length-take-le}
 use Rattle.std.proofs.lemmas.Str.{chars-IsAscii, encodes-IsAscii}
-use Rattle.sz_value.specs.Data.{Datum, str}
+use Rattle.sz_value.specs.Data.{str}
 use Rattle.sz_value.specs.Texts.{is_ascii}
 use Rattle.sz_value.proofs.ForCallers.{passes_ascii, ascii_part}
 use Rattle.sz_builtin.specs.Characters.{IsRestAfter}

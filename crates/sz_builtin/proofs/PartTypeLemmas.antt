@@ -1,11 +1,10 @@
 -- Elements, parts, and what predeclared functions and conversions give have the types of their rows.
-use Rattle.std.proofs.Common.{◌≡◌, ◌∙◌, ℕ, zero, suc, ℤ, pos, negsuc, Bool, true, false, ◌&&◌, cond, Option, Some, None, IfSome, if◌then◌else◌, List, [], ◌∷◌, length, ◌+◌, take, drop, refl, sym, ap, subst}
+use Rattle.std.proofs.Common.{◌≡◌, ◌∙◌, ℕ, zero, suc, ℤ, pos, negsuc, Bool, true, false, ◌&&◌, cond, Option, Some, None, IfSome, if◌then◌else◌, List, [], ◌∷◌, length, ◌+◌, take, drop, refl, ap, subst}
 use Rattle.std.specs.Prelude.{slice_get, nat_le, is_some}
 use Rattle.std.specs.Option.{option_map, option_and_then}
 use Rattle.std.specs.Map.{keys_of}
 use Rattle.std.specs.BTreeMap.{is_at}
 use Rattle.std.specs.Str.{chars, encode_utf8_all, is_utf8}
-use Rattle.std.specs.Fmt.{signed_decimal}
 use Rattle.sz_types.specs.Data.{Shape, FieldShapes}
 use Rattle.sz_types.specs.Same.{alike}
 use Rattle.sz_types.specs.Conversions.{converts_to}
@@ -14,11 +13,11 @@ use Rattle.sz_types.specs.declared.operator.Builtin.TheVariants.{Len, Keys, HasK
 use Rattle.sz_value.specs.Data.{Datum, truth, int, time, str, bytes, array, tuple, mapping, Data, no_data, datum, Entries, no_entries, entry, data_of, parts_of, pairs_of}
 use Rattle.sz_value.specs.Order.{compare}
 use Rattle.sz_value.specs.Maps.{value_at}
-use Rattle.sz_builtin.specs.Places.{at_place, code, index, span, cut, part, slice}
-use Rattle.sz_builtin.specs.Predeclared.{len, keys, haskey, strfind, first_place, place, builtin}
+use Rattle.sz_builtin.specs.Places.{at_place, code, span, cut, part}
+use Rattle.sz_builtin.specs.Predeclared.{len, keys, haskey, strfind, first_place, place}
 use Rattle.sz_builtin.specs.Conversions.{number_in, as_truth, as_int, as_time, as_str, as_bytes, convert}
-use Rattle.sz_types.specs.Rows.{index_row, slice_row, len_row, keys_row, haskey_row, strfind_row, builtin_row, convert_row}
-use Rattle.sz_builtin.specs.Types.{has_type, all_have, pairs_have, have_types, KeepsIndex, KeepsSlice, KeepsBuiltin, KeepsConvert}
+use Rattle.sz_types.specs.Rows.{index_row, slice_row, len_row, keys_row, haskey_row, strfind_row, convert_row}
+use Rattle.sz_builtin.specs.Types.{has_type, all_have, pairs_have, KeepsIndex, KeepsSlice, KeepsBuiltin, KeepsConvert}
 use Rattle.sz_builtin.proofs.TypeLemmas.{some_same, if_some, of_int, of_str, of_bytes, of_array, both, both_in, truth_keeps}
 
 -- what a slot holds has the type
