@@ -1,9 +1,7 @@
 -- The program of the example is sound.
-use Rattle.std.proofs.Common.{◌≡◌, ◌<◌, [], ◌∷◌, refl, arith, inl}
-use Rattle.std.proofs.lemmas.Grind.{common_steps}
-use Rattle.sz_core.specs.Nodes.{Node}
+use Rattle.std.proofs.Common.{[], ◌∷◌, refl, arith}
 use Rattle.sz_core.specs.Programs.{core_of}
-use Rattle.sz_core.specs.Emitting.{body_emits, stm_emits, node_emits}
+use Rattle.sz_core.specs.Emitting.{stm_emits, node_emits}
 use Rattle.sz_core.specs.WellFormed.{is_well_formed}
 use Rattle.sz_core.specs.Example.{sum_table, identity, call_node, small_items}
 use Rattle.sz_core.specs.Sound.{IsSound, AreItems, IsTable, IsFunction, IsStm, IsNode, nothing_declared, record_sight}

@@ -1,8 +1,7 @@
 -- Laws of sound programs.
 use Rattle.std.proofs.Common.{◌≡◌, ◌≤◌, ◌+◌, ◌++◌, ℕ, List, [], ◌∷◌, length, Bool, true, false, ◌||◌, refl, arith, length-append, sym, ap, ◌∙◌}
-use Rattle.std.specs.Prelude.{Option, Some, None, slice_get}
+use Rattle.std.specs.Prelude.{Option, Some, slice_get}
 use Rattle.sz_types.specs.Data.{Shape}
-use Rattle.sz_types.specs.Tables.{Declaration}
 use Rattle.sz_core.specs.Nodes.{Node, node, Form, constant, local, static, input, call, builtin, def, convert, array, tuple, mapping, index, slice, field, unary, binary, both, either, Nodes, no_nodes, with_node, Pairings, no_pairings, with_pairing}
 use Rattle.sz_core.specs.Programs.{Signature, Function, Static, Item, Core, tables_of, core_of}
 use Rattle.sz_core.specs.Programs as items

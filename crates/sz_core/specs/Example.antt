@@ -1,5 +1,5 @@
 -- A small program as an example: t: table sum of int; f: function(n: int): int { return n; } emit t <- f(1);
-use Rattle.std.specs.Prelude.{ℕ, List, [], ◌∷◌, false, pos, Some, None}
+use Rattle.std.specs.Prelude.{ℕ, List, [], ◌∷◌, false, pos, None}
 use Rattle.sz_types.specs.Data.{Shape}
 use Rattle.sz_types.specs.Tables.{Declaration}
 use Rattle.sz_types.specs.declared.place.Place.{Place}

@@ -1,5 +1,5 @@
 -- Checked programs: declarations and statements at the top level, in the order of the text.
-use Rattle.std.specs.Prelude.{ℕ, List, [], ◌∷◌, Bool}
+use Rattle.std.specs.Prelude.{List, [], ◌∷◌, Bool}
 use Rattle.sz_types.specs.Data.{Shape}
 use Rattle.sz_types.specs.Tables.{Declaration}
 use Rattle.sz_types.specs.declared.place.Place.{Place}

@@ -1,6 +1,6 @@
 -- Which checked programs are sound: each name is seen where it stands, each expression has the type that the tables of
 -- types give it, and no rule of statements is broken.
-use Rattle.std.specs.Prelude.{◌≡◌, ℕ, zero, suc, ◌+◌, ◌<◌, ◌≤◌, List, [], ◌∷◌, ◌++◌, length, slice_get, Bool, true, false, Option, Some, None, IfSome}
+use Rattle.std.specs.Prelude.{◌≡◌, ℕ, zero, suc, ◌<◌, List, [], ◌∷◌, ◌++◌, length, slice_get, Bool, true, false, Option, Some, None, IfSome}
 use Rattle.std.specs.List.{Contains}
 use Rattle.sz_types.specs.Data.{Shape, FieldShapes, no_fields, with_field, field}
 use Rattle.sz_types.specs.Conversions.{converts_to}

@@ -1,5 +1,5 @@
 -- Checked statements. Each has the place of its first token where a run can end there.
-use Rattle.std.specs.Prelude.{ℕ, Option, List, [], ◌∷◌, ◌++◌}
+use Rattle.std.specs.Prelude.{ℕ, Option, List, [], ◌∷◌}
 use Rattle.sz_types.specs.declared.place.Place.{Place}
 use Rattle.sz_core.specs.Nodes.{Node, Nodes}
 

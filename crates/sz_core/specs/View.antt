@@ -1,5 +1,5 @@
 -- The trees of the code, as contracts see them.
-use Rattle.std.specs.Prelude.{Option, Some, None, map}
+use Rattle.std.specs.Prelude.{map}
 use Rattle.std.specs.Option.{option_map}
 use Rattle.sz_types.specs.Seen.{seen as shape_of}
 use Rattle.sz_types.specs.SeenTables.{seen_table}

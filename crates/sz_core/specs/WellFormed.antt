@@ -1,10 +1,10 @@
 -- Types and tables that a program may declare.
-use Rattle.std.specs.Prelude.{◌≡◌, ℕ, ◌^◌, ◌<◌, ◌≤◌, List, [], ◌∷◌, Bool, true, false, ◌&&◌, ◌||◌, not, nat_eq, nat_le, nat_lt, Option, Some, None, bytes_eq}
+use Rattle.std.specs.Prelude.{ℕ, List, [], ◌∷◌, Bool, true, false, ◌&&◌, ◌||◌, not, nat_eq, nat_le, Option, Some, None, bytes_eq}
 use Rattle.std.specs.List.{list_any}
-use Rattle.sz_types.specs.Data.{Shape, FieldShape, field, FieldShapes, no_fields, with_field}
+use Rattle.sz_types.specs.Data.{Shape, field, FieldShapes, no_fields, with_field}
 use Rattle.sz_types.specs.Tables.{Declaration}
 use Rattle.sz_types.specs.declared.encoding.Encoding.{Encoding}
-use Rattle.sz_types.specs.declared.encoding.Encoding.TheVariants.{Plain, Zigzag, Fixed32, Fixed64}
+use Rattle.sz_types.specs.declared.encoding.Encoding.TheVariants.{Plain}
 use Rattle.sz_types.specs.declared.table.TableKind.{TableKind}
 use Rattle.sz_types.specs.declared.table.TableKind.TheVariants.{Sum, Maximum, Minimum, Set, Collection}
 
