@@ -11,3 +11,8 @@ mod SceneLemmas
 mod PathLemmas
 mod StatementLemmas
 mod StatementSound
+mod ItemLemmas
+mod TopLemmas
+mod ItemSound
+mod FunctionSound
+mod ProgramSound

@@ -1,8 +1,8 @@
 -- What is seen of what is known in front of a statement, and what stays so behind it.
-use Rattle.std.proofs.Common.{◌≡◌, ℕ, true, List, [], ◌∷◌, ◌++◌, length, Option, Some, refl, sym, ap, ◌∙◌, subst, append_assoc, arith}
+use Rattle.std.proofs.Common.{◌≡◌, ℕ, zero, suc, ◌≤◌, true, List, [], ◌∷◌, ◌++◌, length, Option, Some, None, refl, sym, ap, ◌∙◌, subst, append_assoc, arith}
 use Rattle.std.specs.Prelude.{◌&&◌, slice_get, IfSome}
 use Rattle.std.specs.Cmp.{first_so, second_so}
-use Rattle.std.proofs.lemmas.List.{append-nil}
+use Rattle.std.proofs.lemmas.List.{append-nil, length-append}
 use Rattle.std.proofs.lemmas.List.Elements.{Contains-append_right}
 use Rattle.sz_types.specs.Data.{Shape}
 use Rattle.sz_tree.specs.Names.{Ident}
@@ -11,12 +11,12 @@ use Rattle.sz_core.specs.Statements.{Stm, clear, keep}
 use Rattle.sz_core.specs.WellFormed.{is_well_formed, are_well_formed}
 use Rattle.sz_core.specs.Sound.{Sight, seen_behind, BeginsWith, IsNode, IsStm, AreStms}
 use Rattle.sz_core.specs.Sound as sound
-use Rattle.sz_check.specs.Names.{Meaning, variable, static, type_name, table, function, predeclared, input, declare}
+use Rattle.sz_check.specs.Names.{variable, declare}
 use Rattle.sz_check.specs.JudgingExpressions.{judge_exp}
 use Rattle.sz_check.specs.JudgingStatements.{Scene, Around, Behind, AllBehind, opened, closed, with_variable, judge}
 use Rattle.sz_check.proofs.Holds.{Holds, good, ok_holds, bind_holds, known}
-use Rattle.sz_check.proofs.Meanings.{declared, all_follow}
-use Rattle.sz_check.proofs.Sights.{IsFormed, AreFormed, IsVariable, Fits, AllFit}
+use Rattle.sz_check.proofs.Meanings.{declared}
+use Rattle.sz_check.proofs.Sights.{IsFormed, AreFormed, IsVariable, Fits, AllFit, IsWider, all_fit_wider}
 use Rattle.sz_check.proofs.AgreeLemmas.{IsTyped}
 use Rattle.sz_check.proofs.ExpressionSound.{expression_typed}
 
@@ -31,13 +31,24 @@ begins_more ts t = (t ∷ [], refl)
 pub begins_on : (a b c : List Shape) → BeginsWith a b → BeginsWith b c → BeginsWith a c
 begins_on a b c h k = (h.0 ++ k.0, k.1 ∙ ap (λ x. x ++ k.0) h.1 ∙ append_assoc a h.0 k.0)
 
--- what a list has behind its front
-get_behind : (ts rest : List Shape) (t : Shape) → slice_get (ts ++ t ∷ rest) (length ts) ≡ Some t
+none_is_some : {A : Type 0} {x : A} → ◌≡◌ {A = Option A} None (Some x) → ⊥
+none_is_some e = cc
+
+-- what a list has behind its front, and in it
+pub get_behind : {A : Type 0} (ts rest : List A) (t : A) → slice_get (ts ++ t ∷ rest) (length ts) ≡ Some t
 get_behind [] rest t = refl
 get_behind (s ∷ ts) rest t = get_behind ts rest t
 
+pub get_before : {A : Type 0} (ts rest : List A) (n : ℕ) (t : A) → slice_get ts n ≡ Some t → slice_get (ts ++ rest) n ≡ Some t
+get_before [] rest n t h = absurd (none_is_some h)
+get_before (s ∷ ts) rest zero t h = h
+get_before (s ∷ ts) rest (suc n) t h = get_before ts rest n t h
+
 pub get_next : (ts whole : List Shape) (t : Shape) → BeginsWith (ts ++ t ∷ []) whole → slice_get whole (length ts) ≡ Some t
 get_next ts whole t h = ap (λ x. slice_get x (length ts)) (h.1 ∙ append_assoc ts (t ∷ []) h.0) ∙ get_behind ts h.0 t
+
+pub begins_length : (a b : List Shape) → BeginsWith a b → length a ≤ length b
+begins_length a b h = omega (arith, ap length h.1, length-append a h.0)
 
 pub formed_more : (ts : List Shape) (t : Shape) → AreFormed ts → IsFormed t → AreFormed (ts ++ t ∷ [])
 formed_more [] t h k = λ i. k i && h i
@@ -55,18 +66,19 @@ pub record Sees (g : Sight) (s : Scene) : Type 0 where
 abbrev pub with_seen : ℕ → Sight → Sight
 with_seen n g = record g { seen = n ∷ g.seen }
 
-pub fits_more : (g : Sight) (n : ℕ) (m : Meaning) → Fits g m → Fits (with_seen n g) m
-fits_more g n (variable k t) h = record { seen = Contains-append_right (n ∷ []) g.seen k h.seen; here = h.here; formed = h.formed }
-fits_more g n (static k t) h = record { here = h.here; formed = h.formed }
-fits_more g n (type_name t) h = h
-fits_more g n (table k d) h = record { here = h.here; indexes = h.indexes; element = h.element; weight = h.weight }
-fits_more g n (function k s) h =
-    record { seen = h.seen; here = h.here; parameters = h.parameters; result = h.result; emits = h.emits; takes = h.takes; gives = h.gives }
-fits_more g n (predeclared b) h = tt
-fits_more g n input h = h
-
 pub sees_more : (g : Sight) (n : ℕ) (s : Scene) → Sees g s → Sees (with_seen n g) s
-sees_more g n s h = record { fit = all_follow (Fits g) (Fits (with_seen n g)) (fits_more g n) s.blocks h.fit; formed = h.formed; emits = h.emits }
+sees_more g n s h = record { fit = all_fit_wider g (with_seen n g) s.blocks wider h.fit; formed = h.formed; emits = h.emits }
+  where
+    wider : IsWider g (with_seen n g)
+    wider = record {
+      seen = λ k c. Contains-append_right (n ∷ []) g.seen k c;
+      locals = λ k t e. e;
+      statics = λ k t e. e;
+      functions = λ k f e. e;
+      tables = λ k d e. e;
+      input = refl;
+      emits = refl;
+    }
 
 -- behind a statement no less is seen
 pub sees_behind : (g : Sight) (m : Stm) (s : Scene) → Sees g s → Sees (seen_behind g m) s
