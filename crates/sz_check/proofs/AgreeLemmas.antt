@@ -87,4 +87,5 @@ pub converted_holds : (g : Sight) (t : Shape) (e : Exp) (n : Node) → IsFormed 
 unfolding IsNode IsForm
 converted_holds g t e n formed h =
     if_holds _ (λ same. ok_holds _ n (record { typed = h.typed; is = alike_equal (type_of n) t same }))
-    (λ differ. if_holds _ (λ row. ok_holds (HasType g t) (node (place_of e) t (convert n)) (record { typed = (h.typed, formed, row); is = refl })) (λ none. err_holds _ _))
+    (λ differ. if_holds _
+    (λ row. ok_holds (HasType g t) (node (place_of e) t (convert n)) (record { typed = (h.typed, formed, row); is = refl })) (λ none. err_holds _ _))

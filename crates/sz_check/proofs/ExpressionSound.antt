@@ -48,10 +48,13 @@ module _ (g : Sight) (blocks : List Block) (fit : AllFit g blocks) where
         ok_holds (IsTyped g) (node p Shape.truth (forms.def n)) (record { typed = (h.typed, refl); formed = truth_formed }))
     expression_typed asked (paren p e) ask = expression_typed asked e ask
     expression_typed asked (convert p b e) ask = bind_holds (expression_typed None e tt) (λ n h. conversion_typed g p (shape_of b) e n (basic_formed b) h)
-    expression_typed asked (list p es) ask = bind_holds (expressions_typed (asks_of_list asked es) es (list_asks g asked es ask)) (λ ns h. list_typed g p asked es ns ask h)
-    expression_typed asked (mapping p ps) ask = bind_holds (pairs_typed (asked_of_keys asked) (asked_of_values asked) ps (keys_ask g asked ask) (values_ask g asked ask))
+    expression_typed asked (list p es) ask =
+        bind_holds (expressions_typed (asks_of_list asked es) es (list_asks g asked es ask)) (λ ns h. list_typed g p asked es ns ask h)
+    expression_typed asked (mapping p ps) ask =
+        bind_holds (pairs_typed (asked_of_keys asked) (asked_of_values asked) ps (keys_ask g asked ask) (values_ask g asked ask))
         (λ ns h. mapping_typed g p asked ps ns ask h)
-    expression_typed asked (index p e i) ask = bind_holds (expression_typed None e tt) (λ n h. bind_holds (expression_typed None i tt) (λ m k. index_typed g p e i n m h k))
+    expression_typed asked (index p e i) ask =
+        bind_holds (expression_typed None e tt) (λ n h. bind_holds (expression_typed None i tt) (λ m k. index_typed g p e i n m h k))
     expression_typed asked (slice p e i j) ask = bind_holds (expression_typed None e tt) (λ n h. bind_holds (expression_typed None i tt) (λ m k.
         bind_holds (expression_typed None j tt) (λ o l. slice_typed g p e i j n m o h k l)))
     expression_typed asked (field p e f) ask = bind_holds (expression_typed None e tt) (λ n h. field_typed g p e n f h)

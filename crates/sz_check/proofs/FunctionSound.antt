@@ -21,7 +21,7 @@ use Rattle.sz_check.proofs.TypeLemmas.{type_formed}
 use Rattle.sz_check.proofs.SceneLemmas.{Sees, begins_itself, get_before}
 use Rattle.sz_check.proofs.ItemLemmas.{IsKnown, AreParameters, parameters_hold, innermost_fit, first_are_seen}
 use Rattle.sz_check.proofs.StatementSound.{statements_sound}
-use Rattle.sz_check.proofs.TopLemmas.{Knows, IsFoundBehind, last_is, declares, sees_wider, wider_functions}
+use Rattle.sz_check.proofs.TopLemmas.{Knows, IsFoundBehind, with_function, more_functions, sees_on, last_is, declares}
 
 -- what is seen in a function with these variables, of which so many are parameters
 abbrev inside : Declared → Signature → List Shape → ℕ → Sight
@@ -35,12 +35,12 @@ inside d f locals count = record {
   may_emit = true;
 }
 
--- what a function sees of what is seen at the top level
+-- what a function sees is true of it
 abbrev InFunction : Sight → Meaning → Type 0
 InFunction h m = is_seen_by_functions m ≡ true → Fits h m
 
-seen_by_function : (locals : List Shape) (seen : List ℕ) (d : Declared) (s : Signature) (variables : List Shape) (count : ℕ) (m : Meaning) → Fits (record_sight locals seen d) m
-    → InFunction (inside d s variables count) m
+seen_by_function : (locals : List Shape) (seen : List ℕ) (d : Declared) (s : Signature) (variables : List Shape) (count : ℕ) (m : Meaning)
+    → Fits (record_sight locals seen d) m → InFunction (inside d s variables count) m
 seen_by_function locals seen d s variables count (names.variable n t) f is = absurd (true≢false (sym is))
 seen_by_function locals seen d s variables count (names.static n t) f is = record { here = f.here; formed = f.formed }
 seen_by_function locals seen d s variables count (names.type_name t) f is = f
@@ -57,6 +57,10 @@ seen_by_function locals seen d s variables count (names.function n r) f is = rec
 }
 seen_by_function locals seen d s variables count (names.predeclared b) f is = tt
 seen_by_function locals seen d s variables count names.input f is = absurd (true≢false (sym is))
+
+-- what is kept of the blocks is true of what the function sees
+kept_fits : (h : Sight) (blocks : List Block) → Mean (InFunction h) blocks → AllFit h (only is_seen_by_functions blocks)
+kept_fits h blocks fits = kept_only is_seen_by_functions (InFunction h) (Fits h) (λ m kept f. f kept) blocks fits
 
 -- where a function's parameters begin
 abbrev start : Known → Scene
@@ -85,8 +89,8 @@ record IsFormedFunction (front : Scene) (u : Shape) : Type 0 where
   takes : AreFormed front.locals
   gives : IsFormed u
 
-module _ (k : Known) (n : Ident) (t : Typ) (ss : Stms) (front : Scene) (u : Shape) (own : List Block) (body : AllBehind) (is : IsJudged k n t ss front u own body)
-    (locals : List Shape) (seen : List ℕ) (d : Declared) (knows : Knows locals seen d k) where
+module _ (k : Known) (n : Ident) (t : Typ) (ss : Stms) (front : Scene) (u : Shape) (own : List Block) (body : AllBehind)
+    (is : IsJudged k n t ss front u own body) (locals : List Shape) (seen : List ℕ) (d : Declared) (knows : Knows locals seen d k) where
   abbrev sight : List Shape → Sight
   sight variables = inside d (signature_of k front u body) variables (length front.locals)
 
@@ -98,10 +102,7 @@ module _ (k : Known) (n : Ident) (t : Typ) (ss : Stms) (front : Scene) (u : Shap
   front_known variables final = is.parameters.seen (sight variables) at_start final (first_are_seen (length front.locals))
     where
       at_start : IsKnown (sight variables) (start k)
-      at_start = record {
-        fit = (tt, kept_only is_seen_by_functions (InFunction (sight variables)) (Fits (sight variables)) (λ m kept f. f kept) (blocks_of k) (outside_fits variables));
-        formed = refl;
-      }
+      at_start = record { fit = (tt, kept_fits (sight variables) (blocks_of k) (outside_fits variables)); formed = refl }
 
   function_formed : IsFormedFunction front u
   function_formed =
@@ -109,8 +110,7 @@ module _ (k : Known) (n : Ident) (t : Typ) (ss : Stms) (front : Scene) (u : Shap
       record { takes = first.formed; gives = (type_formed (sight front.locals) front.blocks first.fit t).holds u is.result }
 
   own_fits : (variables : List Shape) → AllFit (sight variables) (only is_seen_by_functions own)
-  own_fits variables = kept_only is_seen_by_functions (InFunction (sight variables)) (Fits (sight variables)) (λ m kept f. f kept) own
-      ((declared (InFunction (sight variables)) n (names.function (length k.functions) (unknown front u)) (blocks_of k) (λ kept. itself) (outside_fits variables)).holds own is.named)
+  own_fits variables = kept_fits (sight variables) own (with_itself.holds own is.named)
     where
       itself : IsCalled (sight variables) (length k.functions) (unknown front u)
       itself = record {
@@ -123,6 +123,10 @@ module _ (k : Known) (n : Ident) (t : Typ) (ss : Stms) (front : Scene) (u : Shap
         takes = function_formed.takes;
         gives = function_formed.gives;
       }
+
+      with_itself : Holds (names.declare n (names.function (length k.functions) (unknown front u)) (blocks_of k)) (Mean (InFunction (sight variables)))
+      with_itself = declared (InFunction (sight variables)) n (names.function (length k.functions) (unknown front u)) (blocks_of k) (λ kept. itself)
+          (outside_fits variables)
 
   function_is_sound : IsFunction d (record { signature = signature_of k front u body; locals = body.scene.locals; body = body.stms })
   function_is_sound =
@@ -143,18 +147,19 @@ module _ (k : Known) (n : Ident) (t : Typ) (ss : Stms) (front : Scene) (u : Shap
 
 pub function_sound : (k : Known) (n : Ident) (ps : Params) (t : Typ) (ss : Stms) → Holds (judge_function k n ps t ss) (IsFoundBehind k)
 unfolding AreItems
-function_sound k n ps t ss = bind_holds (parameters_hold (start k) ps) (λ front parameters. bind_holds (known (judge_type front.blocks t)) (λ u is_type.
+function_sound k n ps t ss = bind_holds (parameters_hold (start k) ps) (λ front parameters.
+    bind_holds (known (judge_type front.blocks t)) (λ u is_type.
     bind_holds (known (names.declare n (names.function (length k.functions) (unknown front u)) (blocks_of k))) (λ own is_own.
     bind_holds (known (judge_stms (in_function u) (within front own) ss)) (λ body is_body.
     bind_holds (known (names.declare n (names.function (length k.functions) (signature_of k front u body)) (blocks_of k))) (λ blocks is_blocks.
     let signature = signature_of k front u body in
     let item : Function = record { signature = signature; locals = body.scene.locals; body = body.stms } in
-    ok_holds (IsFoundBehind k) (record { known = record (with_blocks k blocks) { functions = k.functions ++ signature ∷ [] }; items = items.function item ∷ [] }) (record {
+    let behind : Known = record (with_blocks k blocks) { functions = k.functions ++ signature ∷ [] } in
+    ok_holds (IsFoundBehind k) (record { known = behind; items = items.function item ∷ [] }) (record {
       grows = begins_itself k.scene.locals;
       carries = λ locals seen d knows final.
           let is : IsJudged k n t ss front u own body = record { parameters = parameters; result = is_type; named = is_own; statements = is_body } in
-          let there : Declared = record d { functions = d.functions ++ signature ∷ [] } in
-          let h = record_sight locals seen there in
+          let h = record_sight locals seen (with_function signature d) in
           let formed = function_formed k n t ss front u own body is locals seen d knows in
           let called : IsCalled h (length k.functions) signature = record {
             seen = signature;
@@ -168,10 +173,10 @@ function_sound k n ps t ss = bind_holds (parameters_hold (start k) ps) (λ front
           } in
           record {
             seen_there = seen;
-            there = there;
+            there = with_function signature d;
             knows = record {
               sees = declares h n (names.function (length k.functions) signature) k blocks is_blocks called
-                  (sees_wider (record_sight locals seen d) h k.scene (wider_functions locals seen d signature) knows.sees);
+                  (sees_on locals seen d (with_function signature d) k.scene (more_functions d signature) knows.sees);
               tables = knows.tables;
               statics = knows.statics;
               functions = ap (λ fs. fs ++ signature ∷ []) knows.functions;

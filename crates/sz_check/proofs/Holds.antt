@@ -3,7 +3,7 @@ use Rattle.std.proofs.Common.{◌≡◌, Bool, true, false, refl, subst}
 use Rattle.std.specs.Prelude.{Ok, Err, Option, Some, None, IfSome, if◌then◌else◌}
 use Rattle.sz_check.specs.Refusals.{Refusal, Judged, ◌>>=◌, unless}
 
--- P holds of what the judgement gives, if it refuses nothing
+-- P holds of what the judgement gives, if nothing is refused
 pub record Holds {A : Type 0} (m : Judged A) (P : A → Type 0) : Type 0 where
   pub holds : (x : A) → m ≡ Ok x → P x
 
@@ -22,7 +22,8 @@ ok_holds P x p = record { holds = λ y e. subst P (good_is e) p }
 pub err_holds : {A : Type 0} (P : A → Type 0) (r : Refusal) → Holds (bad r) P
 err_holds P r = record { holds = λ y e. absurd cc }
 
-pub bind_holds : {A B : Type 0} {m : Judged A} {P : A → Type 0} {f : A → Judged B} {Q : B → Type 0} → Holds m P → ((x : A) → P x → Holds (f x) Q) → Holds (m >>= f) Q
+pub bind_holds : {A B : Type 0} {m : Judged A} {P : A → Type 0} {f : A → Judged B} {Q : B → Type 0} → Holds m P → ((x : A) → P x → Holds (f x) Q)
+    → Holds (m >>= f) Q
 bind_holds {m = Ok x} h k = k x (h.holds x refl)
 bind_holds {m = Err r} h k = err_holds _ r
 
@@ -48,7 +49,8 @@ abbrev pub by_option : {X A : Type 0} → Judged A → (X → Judged A) → Opti
 by_option r k None = r
 by_option r k (Some x) = k x
 
-pub option_holds : {X A : Type 0} {r : Judged A} {k : X → Judged A} {P : A → Type 0} (o : Option X) → (o ≡ None → Holds r P) → ((x : X) → o ≡ Some x → Holds (k x) P) → Holds (by_option r k o) P
+pub option_holds : {X A : Type 0} {r : Judged A} {k : X → Judged A} {P : A → Type 0} (o : Option X)
+    → (o ≡ None → Holds r P) → ((x : X) → o ≡ Some x → Holds (k x) P) → Holds (by_option r k o) P
 option_holds None h g = h refl
 option_holds (Some x) h g = g x refl
 

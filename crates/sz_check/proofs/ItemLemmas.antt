@@ -49,7 +49,8 @@ pub declaration_holds : (n word : Ident) (kind : TableKind) (limit : Option ℕ)
 declaration_holds n word kind None indexes element weight = err_holds _ _
 declaration_holds n word kind (Some limit) indexes element weight =
     let d : Declaration = record { name = n.text; kind = kind; limit = limit; indexes = indexes; element = element; weight = weight } in
-    if_holds _ (λ allowed. ok_holds (IsDeclared indexes element weight) d (record { allowed = allowed; has_indexes = refl; has_element = refl; has_weight = refl }))
+    if_holds _ (λ allowed.
+    ok_holds (IsDeclared indexes element weight) d (record { allowed = allowed; has_indexes = refl; has_element = refl; has_weight = refl }))
     (λ bad. err_holds _ _)
 
 -- ---- parameters
@@ -69,7 +70,8 @@ pub record AreParameters (s after : Scene) : Type 0 where
   pub seen : (g : Sight) → IsKnown g s → BeginsWith after.locals g.locals → AreSeen g after.locals → IsKnown g after
 
 -- a parameter more in front
-more_parameters : (s next after : Scene) (n : Ident) (t : Typ) (u : Shape) → judge_type s.blocks t ≡ good u → HasVariable n u s next → AreParameters next after → AreParameters s after
+more_parameters : (s next after : Scene) (n : Ident) (t : Typ) (u : Shape) → judge_type s.blocks t ≡ good u → HasVariable n u s next
+    → AreParameters next after → AreParameters s after
 more_parameters s next after n t u is_type h rest =
     let growing : BeginsWith s.locals next.locals = subst (BeginsWith s.locals) (sym h.locals) (begins_more s.locals u) in
     let longer : length next.locals ≡ length s.locals + 1 = ap length h.locals ∙ length-append s.locals (u ∷ []) in

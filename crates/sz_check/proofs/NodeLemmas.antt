@@ -120,13 +120,15 @@ module _ (g : Sight) where
       → Holds (made_tuple p t fields es ns) (IsTyped g)
   unfolding IsNode IsForm
   tuple_typed p t fs end ns has formed h = err_holds _ _
-  tuple_typed p t fs (more e es) ns has formed h = bind_holds (agree_in_turn g _ (more e es) ns h) (λ u types. bind_holds (counted_holds _ (more e es) p) (λ v count.
+  tuple_typed p t fs (more e es) ns has formed h = bind_holds (agree_in_turn g _ (more e es) ns h) (λ u types.
+      bind_holds (counted_holds _ (more e es) p) (λ v count.
       ok_holds (IsTyped g) (node p t (forms.tuple ns)) (record {
         typed = (all_nodes g (more e es) ns h, (fs, has, types count ∙ same_field_types fs));
         formed = formed;
       })))
 
-  pub list_typed : (p : Place) (asked : Option Shape) (es : Exps) (ns : Nodes) → IfSome asked IsFormed → AreTyped g es ns → Holds (made_list p asked es ns) (IsTyped g)
+  pub list_typed : (p : Place) (asked : Option Shape) (es : Exps) (ns : Nodes) → IfSome asked IsFormed → AreTyped g es ns
+      → Holds (made_list p asked es ns) (IsTyped g)
   unfolding IsNode IsForm
   list_typed p None es ns formed h = err_holds _ _
   list_typed p (Some (Shape.array t)) es ns formed h = bind_holds (agree_each g t es ns h) (λ u types.
@@ -144,7 +146,8 @@ module _ (g : Sight) where
   list_asks (Some (Shape.proto fs)) (more e es) h = subst AreFormed (sym (same_field_types fs)) (fields_formed (Shape.proto fs) fs refl h)
   list_asks (Some _) es h = tt
 
-  pub mapping_typed : (p : Place) (asked : Option Shape) (ps : Pairs) (ns : Pairings) → IfSome asked IsFormed → PairsTyped g ps ns → Holds (made_mapping p asked ps ns) (IsTyped g)
+  pub mapping_typed : (p : Place) (asked : Option Shape) (ps : Pairs) (ns : Pairings) → IfSome asked IsFormed → PairsTyped g ps ns
+      → Holds (made_mapping p asked ps ns) (IsTyped g)
   unfolding IsNode IsForm
   mapping_typed p None ps ns formed h = err_holds _ _
   mapping_typed p (Some (Shape.mapping k v)) ps ns formed h = bind_holds (pairs_have g k v ps ns h) (λ u types.

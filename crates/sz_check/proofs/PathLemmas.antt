@@ -59,7 +59,8 @@ pub record IsTarget (g : Sight) (t : Target) : Type 0 where
   pub formed : IsFormed t.type
 
 -- a step on
-pub stepped_target : (g : Sight) (t : Target) (step : Step) (s u : Shape) → t.type ≡ s → IsTarget g t → LeadTo g s (step ∷ []) u → IsFormed u → IsTarget g (stepped t step u)
+pub stepped_target : (g : Sight) (t : Target) (step : Step) (s u : Shape) → t.type ≡ s → IsTarget g t → LeadTo g s (step ∷ []) u → IsFormed u
+    → IsTarget g (stepped t step u)
 stepped_target g t step s u is h k formed = record {
   assigned = λ may. let l = h.assigned may in record {
     seen = l.seen;
@@ -113,7 +114,8 @@ module _ (g : Sight) where
     steps_target p t (trees.at_index e ∷ steps) h = bind_holds (judged g s sees None e tt) (λ n k.
         bind_holds (indexed_target p t t.type e n refl h k) (λ next l. steps_target p next steps l))
     steps_target p t (trees.at_field f ∷ steps) h = bind_holds (part_found g p t.type f h.formed) (λ x part.
-        steps_target p (stepped t (at_field x.place) x.type) steps (stepped_target g t (at_field x.place) t.type x.type refl h (field_leads g t.type x part) part.formed))
+        steps_target p (stepped t (at_field x.place) x.type) steps
+        (stepped_target g t (at_field x.place) t.type x.type refl h (field_leads g t.type x part) part.formed))
 
     -- a whole path
     pub record IsPath (t : Target) : Type 0 where

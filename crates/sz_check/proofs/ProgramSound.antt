@@ -34,7 +34,8 @@ all_sound k (stm s ss) = bind_holds (top_sound k s) (λ first is. bind_holds (al
             seen_there = there.seen_there;
             there = there.there;
             knows = there.knows;
-            items = λ more all. subst (AreItems locals seen d) (sym (append_assoc first.items rest.items more)) (here.items (rest.items ++ more) (there.items more all));
+            items = λ more all.
+                subst (AreItems locals seen d) (sym (append_assoc first.items rest.items more)) (here.items (rest.items ++ more) (there.items more all));
           };
     })))
 

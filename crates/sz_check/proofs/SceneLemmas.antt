@@ -116,7 +116,8 @@ pub record IsAdded (g : Sight) (t : Shape) (s after : Scene) : Type 0 where
   pub here : slice_get g.locals (length s.locals) ≡ Some t
   pub sees : Sees (with_seen (length s.locals) g) after
 
-pub added : (g : Sight) (n : Ident) (t : Shape) (s after : Scene) → HasVariable n t s after → Sees g s → IsFormed t → BeginsWith after.locals g.locals → IsAdded g t s after
+pub added : (g : Sight) (n : Ident) (t : Shape) (s after : Scene) → HasVariable n t s after → Sees g s → IsFormed t → BeginsWith after.locals g.locals
+    → IsAdded g t s after
 added g n t s after h sees formed final =
     let more = with_seen (length s.locals) g in
     let here : slice_get g.locals (length s.locals) ≡ Some t = get_next s.locals g.locals t (subst (λ x. BeginsWith x g.locals) h.locals final) in

@@ -48,8 +48,8 @@ declaration_sound a s n t = bind_holds (known (judge_type s.blocks t)) (λ u jud
     })))
 
 -- a value that is kept in a variable of its type
-kept_sound : (a : Around) (g : Sight) (s after : Scene) (n : Ident) (t : Shape) (value : Node) → HasVariable n t s after → Sees g s → IsFormed t → HasType g t value
-    → BeginsWith after.locals g.locals → IsSoundHere g a (record { scene = after; stm = core.keep n.place (length s.locals) value })
+kept_sound : (a : Around) (g : Sight) (s after : Scene) (n : Ident) (t : Shape) (value : Node) → HasVariable n t s after → Sees g s → IsFormed t
+    → HasType g t value → BeginsWith after.locals g.locals → IsSoundHere g a (record { scene = after; stm = core.keep n.place (length s.locals) value })
 unfolding IsStm
 kept_sound a g s after n t value h sees formed k final =
     let is = added g n t s after h sees formed final in
@@ -77,7 +77,8 @@ definition_sound a s n e = bind_holds (known (judge s None e)) (λ value judged_
 
 -- ---- statements that declare nothing
 
-pub done_sound : (a : Around) (s : Scene) (judging : Judged core.Stm) → ((g : Sight) → Sees g s → Holds judging (IsStm g (around a))) → Holds (done s judging) (IsBehind a s)
+pub done_sound : (a : Around) (s : Scene) (judging : Judged core.Stm) → ((g : Sight) → Sees g s → Holds judging (IsStm g (around a)))
+    → Holds (done s judging) (IsBehind a s)
 done_sound a s judging h = bind_holds (known judging) (λ m is. ok_holds (IsBehind a s) (record { scene = s; stm = m }) (record {
   grows = begins_itself s.locals;
   is_sound = λ g sees final. record { stm = (h g sees).holds m is; sees = sees_behind g m s sees };
@@ -116,7 +117,8 @@ module _ (a : Around) (g : Sight) (s : Scene) (sees : Sees g s) where
   unfolding IsStm
   return_sound p e formed = by_result a.result refl e formed
     where
-      by_result : (result : Option Shape) → a.result ≡ result → (e : Option Exp) → IfSome result IsFormed → Holds (judge_return s p result e) (IsStm g (around a))
+      by_result : (result : Option Shape) → a.result ≡ result → (e : Option Exp) → IfSome result IsFormed
+          → Holds (judge_return s p result e) (IsStm g (around a))
       by_result None is None formed = ok_holds (IsStm g (around a)) (core.end_record p) is
       by_result None is (Some e) formed = err_holds _ _
       by_result (Some t) is None formed = err_holds _ _

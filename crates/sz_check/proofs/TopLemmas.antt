@@ -31,51 +31,57 @@ pub record Carries (locals : List Shape) (seen : List ℕ) (d : Declared) (found
 
 pub record IsFoundBehind (k : Known) (found : Found) : Type 0 where
   pub grows : BeginsWith k.scene.locals found.known.scene.locals
-  pub carries : (locals : List Shape) (seen : List ℕ) (d : Declared) → Knows locals seen d k → BeginsWith found.known.scene.locals locals → Carries locals seen d found
+  pub carries : (locals : List Shape) (seen : List ℕ) (d : Declared) → Knows locals seen d k → BeginsWith found.known.scene.locals locals
+      → Carries locals seen d found
 
 -- ---- more is declared
 
-pub wider_statics : (locals : List Shape) (seen : List ℕ) (d : Declared) (t : Shape) → IsWider (record_sight locals seen d) (record_sight locals seen (record d { statics = d.statics ++ t ∷ [] }))
-wider_statics locals seen d t = record {
-  seen = λ n h. h;
-  locals = λ n u h. h;
-  statics = λ n u h. get_before d.statics (t ∷ []) n u h;
-  functions = λ n s h. h;
-  tables = λ n e h. h;
-  input = refl;
-  emits = refl;
-}
+abbrev pub with_static : Shape → Declared → Declared
+with_static t d = record d { statics = d.statics ++ t ∷ [] }
 
-pub wider_tables : (locals : List Shape) (seen : List ℕ) (d : Declared) (t : Declaration) → IsWider (record_sight locals seen d) (record_sight locals seen (record d { tables = d.tables ++ t ∷ [] }))
-wider_tables locals seen d t = record {
-  seen = λ n h. h;
-  locals = λ n u h. h;
-  statics = λ n u h. h;
-  functions = λ n s h. h;
-  tables = λ n e h. get_before d.tables (t ∷ []) n e h;
-  input = refl;
-  emits = refl;
-}
+abbrev pub with_function : Signature → Declared → Declared
+with_function f d = record d { functions = d.functions ++ f ∷ [] }
 
-pub wider_functions : (locals : List Shape) (seen : List ℕ) (d : Declared) (f : Signature) → IsWider (record_sight locals seen d) (record_sight locals seen (record d { functions = d.functions ++ f ∷ [] }))
-wider_functions locals seen d f = record {
-  seen = λ n h. h;
-  locals = λ n u h. h;
-  statics = λ n u h. h;
-  functions = λ n s h. get_before d.functions (f ∷ []) n s h;
-  tables = λ n e h. h;
-  input = refl;
-  emits = refl;
-}
+abbrev pub with_table : Declaration → Declared → Declared
+with_table t d = record d { tables = d.tables ++ t ∷ [] }
+
+-- the second has what the first has
+pub record IsMore (d e : Declared) : Type 0 where
+  pub statics : (n : ℕ) (t : Shape) → slice_get d.statics n ≡ Some t → slice_get e.statics n ≡ Some t
+  pub functions : (n : ℕ) (f : Signature) → slice_get d.functions n ≡ Some f → slice_get e.functions n ≡ Some f
+  pub tables : (n : ℕ) (t : Declaration) → slice_get d.tables n ≡ Some t → slice_get e.tables n ≡ Some t
+
+pub more_statics : (d : Declared) (t : Shape) → IsMore d (with_static t d)
+more_statics d t = record { statics = λ n u h. get_before d.statics (t ∷ []) n u h; functions = λ n f h. h; tables = λ n u h. h }
+
+pub more_functions : (d : Declared) (f : Signature) → IsMore d (with_function f d)
+more_functions d f = record { statics = λ n t h. h; functions = λ n e h. get_before d.functions (f ∷ []) n e h; tables = λ n t h. h }
+
+pub more_tables : (d : Declared) (t : Declaration) → IsMore d (with_table t d)
+more_tables d t = record { statics = λ n u h. h; functions = λ n f h. h; tables = λ n u h. get_before d.tables (t ∷ []) n u h }
+
+-- what is true of what is seen in front of a declaration is so behind it
+pub sees_on : (locals : List Shape) (seen : List ℕ) (d e : Declared) (s : Scene) → IsMore d e → Sees (record_sight locals seen d) s
+    → Sees (record_sight locals seen e) s
+sees_on locals seen d e s more is =
+    record { fit = all_fit_wider (record_sight locals seen d) (record_sight locals seen e) s.blocks wider is.fit; formed = is.formed; emits = refl }
+  where
+    wider : IsWider (record_sight locals seen d) (record_sight locals seen e)
+    wider = record {
+      seen = λ n h. h;
+      locals = λ n t h. h;
+      statics = more.statics;
+      functions = more.functions;
+      tables = more.tables;
+      input = refl;
+      emits = refl;
+    }
 
 -- what is last in a list of so many
 pub last_is : {A : Type 0} (xs : List A) (x : A) (n : ℕ) → n ≡ length xs → slice_get (xs ++ x ∷ []) n ≡ Some x
 last_is xs x n is = ap (λ k. slice_get (xs ++ x ∷ []) k) is ∙ get_behind xs [] x
 
 -- a name more at the top level
-pub declares : (g : Sight) (n : Ident) (m : Meaning) (k : Known) (blocks : List Block) → names.declare n m (blocks_of k) ≡ good blocks → Fits g m → Sees g k.scene
-    → Sees g (with_blocks k blocks).scene
+pub declares : (g : Sight) (n : Ident) (m : Meaning) (k : Known) (blocks : List Block) → names.declare n m (blocks_of k) ≡ good blocks → Fits g m
+    → Sees g k.scene → Sees g (with_blocks k blocks).scene
 declares g n m k blocks is fits h = record { fit = (declared (Fits g) n m (blocks_of k) fits h.fit).holds blocks is; formed = h.formed; emits = h.emits }
-
-pub sees_wider : (g h : Sight) (s : Scene) → IsWider g h → Sees g s → Sees h s
-sees_wider g h s w is = record { fit = all_fit_wider g h s.blocks w is.fit; formed = is.formed; emits = sym w.emits ∙ is.emits }
