@@ -16,7 +16,7 @@ use Rattle.sz_check.specs.JudgingExpressions.{judge_exp, judge_exps, judge_pairs
 use Rattle.sz_check.proofs.Holds.{Holds, ok_holds, bind_holds}
 use Rattle.sz_check.proofs.Meanings.{looked_up}
 use Rattle.sz_check.proofs.Sights.{IsFormed, Fits, AllFit}
-use Rattle.sz_check.proofs.TypeLemmas.{basic_formed}
+use Rattle.sz_check.proofs.TypeSound.{basic_formed}
 use Rattle.sz_check.proofs.RowLemmas.{truth_formed}
 use Rattle.sz_check.proofs.AgreeLemmas.{IsTyped, AreTyped, PairsTyped}
 use Rattle.sz_check.proofs.NodeLemmas.{AskFormed, literal_typed, variable_typed, callee_fits, callee_asks, call_typed, conversion_typed, list_typed, list_asks, mapping_typed, keys_ask, values_ask, index_typed, slice_typed, field_typed, unary_typed, binary_typed, right_asks}

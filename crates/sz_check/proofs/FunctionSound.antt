@@ -17,7 +17,7 @@ use Rattle.sz_check.specs.JudgingPrograms.{Known, blocks_of, with_blocks, innerm
 use Rattle.sz_check.proofs.Holds.{Holds, good, ok_holds, bind_holds, known}
 use Rattle.sz_check.proofs.Meanings.{Mean, declared, kept_only, all_follow}
 use Rattle.sz_check.proofs.Sights.{IsFormed, AreFormed, IsCalled, Fits, AllFit}
-use Rattle.sz_check.proofs.TypeLemmas.{type_formed}
+use Rattle.sz_check.proofs.TypeSound.{type_formed}
 use Rattle.sz_check.proofs.SceneLemmas.{Sees, begins_itself, get_before}
 use Rattle.sz_check.proofs.ItemLemmas.{IsKnown, AreParameters, parameters_hold, innermost_fit, first_are_seen}
 use Rattle.sz_check.proofs.StatementSound.{statements_sound}

@@ -21,7 +21,7 @@ use Rattle.sz_check.specs.JudgingPrograms.{judge_elems, judge_weight, declaratio
 use Rattle.sz_check.proofs.Holds.{Holds, good, ok_holds, err_holds, bind_holds, known, weaker, if_holds}
 use Rattle.sz_check.proofs.Meanings.{declared}
 use Rattle.sz_check.proofs.Sights.{IsFormed, AreFormed, IsVariable, Fits, AllFit}
-use Rattle.sz_check.proofs.TypeLemmas.{type_formed}
+use Rattle.sz_check.proofs.TypeSound.{type_formed}
 use Rattle.sz_check.proofs.SceneLemmas.{begins_itself, begins_more, begins_on, begins_length, get_next, formed_more, HasVariable}
 
 -- ---- tables

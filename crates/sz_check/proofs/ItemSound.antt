@@ -23,7 +23,7 @@ use Rattle.sz_check.specs.JudgingPrograms.{Known, blocks_of, with_blocks, kind_o
 use Rattle.sz_check.proofs.Holds.{Holds, good, ok_holds, bind_holds, known, unless_holds}
 use Rattle.sz_check.proofs.Meanings.{kept_only}
 use Rattle.sz_check.proofs.Sights.{IsFormed, AreFormed, IsTableOf, Fits, AllFit}
-use Rattle.sz_check.proofs.TypeLemmas.{type_formed}
+use Rattle.sz_check.proofs.TypeSound.{type_formed}
 use Rattle.sz_check.proofs.AgreeLemmas.{converted_holds}
 use Rattle.sz_check.proofs.ExpressionSound.{expression_typed}
 use Rattle.sz_check.proofs.SceneLemmas.{Sees, begins_itself}

@@ -2,7 +2,7 @@ mod Holds
 mod Tests
 mod Meanings
 mod Sights
-mod TypeLemmas
+mod TypeSound
 mod RowLemmas
 mod AgreeLemmas
 mod NodeLemmas

@@ -24,7 +24,7 @@ use Rattle.sz_check.specs.JudgingStatements.{Scene, Around, judge, judge_if_some
 use Rattle.sz_check.proofs.Holds.{Holds, ok_holds, err_holds, bind_holds, known, weaker, unless_holds}
 use Rattle.sz_check.proofs.Meanings.{looked_up}
 use Rattle.sz_check.proofs.Sights.{IsFormed, IsTableOf, Fits}
-use Rattle.sz_check.proofs.TypeLemmas.{type_formed}
+use Rattle.sz_check.proofs.TypeSound.{type_formed}
 use Rattle.sz_check.proofs.RowLemmas.{sum_keeps, difference_keeps}
 use Rattle.sz_check.proofs.AgreeLemmas.{IsTyped, AreTyped, HasType, all_nodes, agrees_holds, counted_holds, agree_in_turn, converted_holds}
 use Rattle.sz_check.proofs.NodeLemmas.{test_holds}
