@@ -1,11 +1,18 @@
 -- Texts that are cut between characters.
-use Rattle.std.proofs.Common.{◌≡◌, ℕ, ◌+◌, ◌-◌, ◌<◌, ◌≤◌, subst, List, [], ◌∷◌, ◌++◌, length, take, drop, refl, sym, ap, ◌∙◌, arith}
+use Rattle.std.proofs.Common.{◌≡◌, ℕ, ◌+◌, ◌-◌, ◌<◌, ◌≤◌, nat_le, Bool, true, false, if◌then◌else◌, Option, Some, None, subst, List, [], ◌∷◌, ◌++◌, length, take, drop, refl, sym, ap, ◌∙◌, arith}
 use Rattle.std.specs.Prelude.{slice_get, chars, encode_utf8_all, IsUtf8}
 use Rattle.std.specs.Str.{IsCharBoundary}
 use Rattle.std.specs.Char.{encode_utf8}
 use Rattle.std.proofs.lemmas.List.{append-nil, append_assoc, length-append, take_at, drop_at, nil_from_length}
 use Rattle.std.proofs.lemmas.Str.{encodes-append, chars_past_char, IsUtf8-past_char, chars-nil, IsCharBoundary-at_seam}
+use Rattle.std.specs.Option.{option_map}
+use Rattle.std.proofs.lemmas.List.{length-take-le}
+use Rattle.std.proofs.lemmas.Str.{chars-IsAscii, encodes-IsAscii}
+use Rattle.sz_value.specs.Data.{Datum, str}
+use Rattle.sz_value.specs.Texts.{is_ascii}
+use Rattle.sz_value.proofs.ForCallers.{passes_ascii, ascii_part}
 use Rattle.sz_builtin.specs.Characters.{IsRestAfter}
+use Rattle.sz_builtin.specs.Places.{cut}
 
 -- at the front nothing is behind
 pub at_front : (text : List ℕ) → IsUtf8 text → IsRestAfter 0 text text
@@ -68,3 +75,33 @@ cut_between count tail rest k =
     let bytes = ap length k.whole ∙ length-append (encode_utf8_all k.front) rest in
     let size : length (encode_utf8_all k.front) ≡ length tail - length rest = omega (arith, bytes) in
     subst (λ n. IsCharBoundary tail n) size (IsCharBoundary-at_seam tail (encode_utf8_all k.front) rest k.whole k.utf8)
+
+-- ---- texts of ASCII
+
+-- the characters of an ASCII text are its bytes
+pub ascii_characters : (text : List ℕ) → is_ascii text ≡ true → chars text ≡ text
+ascii_characters text h = chars-IsAscii text (passes_ascii text h)
+
+-- so it has as many
+pub ascii_length : (text : List ℕ) → is_ascii text ≡ true → length text ≡ length (chars text)
+ascii_length text h = sym (ap length (ascii_characters text h))
+
+-- and as many stand before a place as the place says
+pub ascii_before : (text : List ℕ) (at : ℕ) → is_ascii text ≡ true → at ≤ length text → at ≡ length (chars (take at text))
+ascii_before text at h within = sym (ap length (ascii_characters (take at text) (ascii_part text 0 at h)) ∙ length-take-le at text within)
+
+-- a part of it by characters is one by bytes
+pub ascii_part_is : (text : List ℕ) (p : ℕ × ℕ) → is_ascii text ≡ true
+    → option_map str (cut text p) ≡ option_map (λ cs. str (encode_utf8_all cs)) (cut (chars text) p)
+ascii_part_is text p h =
+    at (nat_le (p.0 + p.1) (length text)) ∙ ap (λ cs. option_map (λ part. str (encode_utf8_all part)) (cut cs p)) (sym (ascii_characters text h))
+  where
+    part : List ℕ
+    part = take p.1 (drop p.0 text)
+
+    same : encode_utf8_all part ≡ part
+    same = encodes-IsAscii part (passes_ascii part (ascii_part text p.0 p.1 h))
+
+    at : (b : Bool) → option_map str (if b then Some part else None) ≡ option_map (λ cs. str (encode_utf8_all cs)) (if b then Some part else None)
+    at true = ap (λ cs. Some (str cs)) (sym same)
+    at false = refl

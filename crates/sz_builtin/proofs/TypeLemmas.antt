@@ -10,45 +10,46 @@ use Rattle.sz_value.specs.Data.{Datum, truth, int, time, str, bytes, array, Data
 use Rattle.std.specs.Ordering.{is_eq, is_ne, is_lt, is_le, is_gt, is_ge}
 use Rattle.sz_value.specs.Order.{compare}
 use Rattle.sz_builtin.specs.Operators.{sum, difference, of_numbers, on_numbers}
-use Rattle.sz_builtin.specs.Types.{has_type, all_have, sum_row, difference_row, unary_row, both_int, ordered, KeepsUnary, KeepsBinary}
+use Rattle.sz_types.specs.Rows.{sum_row, difference_row, unary_row, both_int, ordered}
+use Rattle.sz_builtin.specs.Types.{has_type, all_have, KeepsUnary, KeepsBinary}
 
-some_same : {X : Type 0} (x y : X) → Some x ≡ Some y → x ≡ y
+pub some_same : {X : Type 0} (x y : X) → Some x ≡ Some y → x ≡ y
 some_same x y e = cc
 
-if_some : (b : Bool) (s u : Shape) → (if b then Some s else None) ≡ Some u → s ≡ u
+pub if_some : (b : Bool) (s u : Shape) → (if b then Some s else None) ≡ Some u → s ≡ u
 if_some true s u e = some_same s u e
 if_some false s u e = absurd cc
 
 -- the types of a basic value
-of_int : (n : ℤ) (s : Shape) → has_type (int n) s ≡ true → Shape.int ≡ s
+pub of_int : (n : ℤ) (s : Shape) → has_type (int n) s ≡ true → Shape.int ≡ s
 of_int n Shape.int h = refl
 of_int n s h = absurd cc
 
-of_time : (n : ℤ) (s : Shape) → has_type (time n) s ≡ true → Shape.time ≡ s
+pub of_time : (n : ℤ) (s : Shape) → has_type (time n) s ≡ true → Shape.time ≡ s
 of_time n Shape.time h = refl
 of_time n s h = absurd cc
 
-of_str : (cs : List ℕ) (s : Shape) → has_type (str cs) s ≡ true → Shape.str ≡ s
+pub of_str : (cs : List ℕ) (s : Shape) → has_type (str cs) s ≡ true → Shape.str ≡ s
 of_str cs Shape.str h = refl
 of_str cs s h = absurd cc
 
-of_bytes : (cs : List ℕ) (s : Shape) → has_type (bytes cs) s ≡ true → Shape.bytes ≡ s
+pub of_bytes : (cs : List ℕ) (s : Shape) → has_type (bytes cs) s ≡ true → Shape.bytes ≡ s
 of_bytes cs Shape.bytes h = refl
 of_bytes cs s h = absurd cc
 
-of_truth : (b : Bool) (s : Shape) → has_type (truth b) s ≡ true → Shape.truth ≡ s
+pub of_truth : (b : Bool) (s : Shape) → has_type (truth b) s ≡ true → Shape.truth ≡ s
 of_truth b Shape.truth h = refl
 of_truth b s h = absurd cc
 
-of_array : (ds : Data) (s : Shape) → has_type (array ds) s ≡ true → (e : Shape) × (Shape.array e ≡ s) × (all_have ds e ≡ true)
+pub of_array : (ds : Data) (s : Shape) → has_type (array ds) s ≡ true → (e : Shape) × (Shape.array e ≡ s) × (all_have ds e ≡ true)
 of_array ds (Shape.array e) h = (e, refl, h)
 of_array ds s h = absurd cc
 
-both : (a b : Bool) → (a && b) ≡ true → (a ≡ true) × (b ≡ true)
+pub both : (a b : Bool) → (a && b) ≡ true → (a ≡ true) × (b ≡ true)
 both true b h = (refl, h)
 both false b h = absurd cc
 
-both_in : {a b : Bool} → a ≡ true → b ≡ true → (a && b) ≡ true
+pub both_in : {a b : Bool} → a ≡ true → b ≡ true → (a && b) ≡ true
 both_in {a} {b} h k = ap (λ c. c && b) h ∙ k
 
 -- the parts of two arrays have the type of both
@@ -102,7 +103,7 @@ numbers_keep f (int a) (int b) u e = at (f a b)
 numbers_keep f a b u e = tt
 
 -- a truth value has its type
-truth_keeps : (b : Bool) (u : Shape) → Shape.truth ≡ u → has_type (truth b) u ≡ true
+pub truth_keeps : (b : Bool) (u : Shape) → Shape.truth ≡ u → has_type (truth b) u ≡ true
 truth_keeps b u e = subst (λ v. has_type (truth b) v ≡ true) e refl
 
 pub binary_keeps : KeepsBinary

@@ -1,13 +1,15 @@
--- Which types a value has, and which types operators take and give.
-use Rattle.std.specs.Prelude.{Bool, true, false, ◌&&◌, ◌≡◌, IfSome, Option, Some, None, if◌then◌else◌}
+-- Which types a value has, and that what is made of values of some types has the type that the row of these types gives.
+use Rattle.std.specs.Prelude.{ℤ, Bool, true, false, ◌&&◌, ◌≡◌, IfSome, Some, List, [], ◌∷◌}
 use Rattle.sz_types.specs.Data.{Shape, FieldShapes, no_fields, with_field, field}
-use Rattle.sz_types.specs.Same.{alike}
 use Rattle.sz_types.specs.declared.operator.UnOp.{UnOp}
-use Rattle.sz_types.specs.declared.operator.UnOp.TheVariants.{Negate, Plus, Not, Flip}
 use Rattle.sz_types.specs.declared.operator.BinOp.{BinOp}
-use Rattle.sz_types.specs.declared.operator.BinOp.TheVariants.{Add, Sub, Equal, NotEqual, Less, LessEqual, Greater, GreaterEqual}
+use Rattle.sz_types.specs.declared.operator.Builtin.{Builtin}
 use Rattle.sz_value.specs.Data.{Datum, truth, int, time, str, bytes, array, tuple, mapping, Data, no_data, datum, Entries, no_entries, entry}
 use Rattle.sz_builtin.specs.Operators.{unary, binary}
+use Rattle.sz_builtin.specs.Places.{index, slice}
+use Rattle.sz_builtin.specs.Predeclared.{builtin}
+use Rattle.sz_builtin.specs.Conversions.{convert}
+use Rattle.sz_types.specs.Rows.{unary_row, binary_row, index_row, slice_row, builtin_row, convert_row}
 
 abbrev mutual
   -- whether a value has a type: an empty array has every array type, an empty map every map type, and a tuple each tuple
@@ -40,54 +42,11 @@ abbrev mutual
   pairs_have no_entries key value = true
   pairs_have (entry k v es) key value = has_type k key && has_type v value && pairs_have es key value
 
--- whether both are the type of whole numbers
-abbrev pub both_int : Shape → Shape → Bool
-both_int Shape.int Shape.int = true
-both_int _ _ = false
-
--- whether two types are the same, and have an order in programs
-abbrev pub ordered : Shape → Shape → Bool
-ordered Shape.int Shape.int = true
-ordered Shape.time Shape.time = true
-ordered Shape.str Shape.str = true
-ordered Shape.bytes Shape.bytes = true
-ordered _ _ = false
-
--- the type of `a + b` by those of its operands
-abbrev pub sum_row : Shape → Shape → Option Shape
-sum_row Shape.int Shape.int = Some Shape.int
-sum_row Shape.time Shape.int = Some Shape.time
-sum_row Shape.str Shape.str = Some Shape.str
-sum_row Shape.bytes Shape.bytes = Some Shape.bytes
-sum_row (Shape.array s) (Shape.array t) = if alike s t then Some (Shape.array s) else None
-sum_row _ _ = None
-
--- the type of `a - b` by those of its operands
-abbrev pub difference_row : Shape → Shape → Option Shape
-difference_row Shape.int Shape.int = Some Shape.int
-difference_row Shape.time Shape.int = Some Shape.time
-difference_row Shape.time Shape.time = Some Shape.int
-difference_row _ _ = None
-
--- the type that an operator of one operand gives, if it takes the operand's
-abbrev pub unary_row : UnOp → Shape → Option Shape
-unary_row Not Shape.truth = Some Shape.truth
-unary_row Negate Shape.int = Some Shape.int
-unary_row Plus Shape.int = Some Shape.int
-unary_row Flip Shape.int = Some Shape.int
-unary_row _ _ = None
-
--- the type that an operator of two operands gives, if it takes theirs
-abbrev pub binary_row : BinOp → Shape → Shape → Option Shape
-binary_row Add s t = sum_row s t
-binary_row Sub s t = difference_row s t
-binary_row Equal s t = if alike s t then Some Shape.truth else None
-binary_row NotEqual s t = if alike s t then Some Shape.truth else None
-binary_row Less s t = if ordered s t then Some Shape.truth else None
-binary_row LessEqual s t = if ordered s t then Some Shape.truth else None
-binary_row Greater s t = if ordered s t then Some Shape.truth else None
-binary_row GreaterEqual s t = if ordered s t then Some Shape.truth else None
-binary_row op s t = if both_int s t then Some Shape.int else None
+-- whether each value has the type beside it, and there are as many types as values
+abbrev pub have_types : List Datum → List Shape → Bool
+have_types [] [] = true
+have_types (d ∷ ds) (s ∷ ss) = has_type d s && have_types ds ss
+have_types _ _ = false
 
 -- where an operand has a type that the operator takes, a result has the type that it gives
 abbrev pub KeepsUnary : Type 0
@@ -98,3 +57,26 @@ abbrev pub KeepsBinary : Type 0
 KeepsBinary =
     (op : BinOp) (a b : Datum) (s t u : Shape) → has_type a s ≡ true → has_type b t ≡ true → binary_row op s t ≡ Some u
     → IfSome (binary op a b) (λ d. has_type d u ≡ true)
+
+-- an element has the type that the row of its base and its place or key gives
+abbrev pub KeepsIndex : Type 0
+KeepsIndex =
+    (a b : Datum) (s t u : Shape) → has_type a s ≡ true → has_type b t ≡ true → index_row s t ≡ Some u
+    → IfSome (index a b) (λ d. has_type d u ≡ true)
+
+-- a part has the type that the row of its base gives
+abbrev pub KeepsSlice : Type 0
+KeepsSlice =
+    (a : Datum) (from to : ℤ) (s u : Shape) → has_type a s ≡ true → slice_row s ≡ Some u
+    → IfSome (slice a from to) (λ d. has_type d u ≡ true)
+
+-- what a predeclared function gives has the type that the row of its arguments gives
+abbrev pub KeepsBuiltin : Type 0
+KeepsBuiltin =
+    (which : Builtin) (ds : List Datum) (ss : List Shape) (u : Shape) → have_types ds ss ≡ true → builtin_row which ss ≡ Some u
+    → IfSome (builtin which ds) (λ d. has_type d u ≡ true)
+
+-- what a value becomes by a conversion has the type that it was converted to
+abbrev pub KeepsConvert : Type 0
+KeepsConvert =
+    (a : Datum) (s t u : Shape) → has_type a s ≡ true → convert_row s t ≡ Some u → IfSome (convert a t) (λ d. has_type d u ≡ true)

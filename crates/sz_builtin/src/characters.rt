@@ -1,6 +1,9 @@
 //! Texts by characters.
 ghost use Rattle.std.specs.Prelude.{◌≡◌, ◌+◌, ◌≤◌, ◌<◌, ◌^◌, length, take, drop, slice_get, chars, encode_utf8_all, IfSome, IfNone};
+ghost use Rattle.std.specs.Str.{IsCharBoundary};
 ghost use Rattle.sz_builtin.specs.Characters.{IsRestAfter};
+
+use sz_value::Text;
 
 /// The text behind its first `count` characters, or none where it has fewer.
 #[tactic(auto, using(crate::proofs::CharacterLemmas::at_front, crate::proofs::CharacterLemmas::too_few))]
@@ -35,8 +38,36 @@ pub fn characters_from(text: &str, skip: u64, count: u64) -> Option<&str>
     Some(&tail[..tail.len() - rest.len()])
 }
 
-/// The number of characters.
-pub fn character_count(text: &str) -> usize
+/// The number of characters. Those of an ASCII text are its bytes, and aren't counted.
+#[tactic(auto, using(crate::proofs::CharacterLemmas::ascii_length))]
+pub fn character_count(text: &Text) -> usize
+    ensures value { result ≡ length (chars text.now) }
+    ensures small { result < 2 ^ 63 }
+{
+    if text.is_ascii() {
+        text.as_str().as_bytes().len()
+    } else {
+        counted(text.as_str())
+    }
+}
+
+/// The number of characters before a place of the text's bytes, which in an ASCII text is the place itself.
+#[tactic(auto, using(crate::proofs::CharacterLemmas::ascii_before))]
+pub fn characters_before(text: &Text, at: usize) -> usize
+    requires cut { IsCharBoundary text.now at }
+    ensures value { result ≡ length (chars (take at text.now)) }
+    ensures small { result < 2 ^ 63 }
+{
+    let held = text.as_str();
+    if text.is_ascii() && at <= held.as_bytes().len() {
+        at
+    } else {
+        counted(&held[..at])
+    }
+}
+
+// The number of characters, by a walk over them.
+fn counted(text: &str) -> usize
     ensures value { result ≡ length (chars text.now) }
     ensures small { result < 2 ^ 63 }
 {

@@ -96,7 +96,7 @@ fn as_str(alloc: Global, v: &Value) -> Result<Slot, NoMemory>
     match v {
         Value::Bool(truth) => truth_text(alloc, *truth),
         Value::Int(number) => decimal_text(alloc, *number),
-        Value::Str(text) => written(alloc, text.as_str()),
+        Value::Str(text) => Ok(Slot::Defined(Value::Str(text.copy(alloc)?))),
         Value::Bytes(bytes) => text_of(alloc, bytes.as_slice()),
         _ => Ok(Slot::Undefined),
     }

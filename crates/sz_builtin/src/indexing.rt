@@ -6,7 +6,7 @@ ghost use Rattle.sz_builtin.specs.Places.{index, at_place, code};
 
 use crate::characters::character_at;
 use std::alloc::Global;
-use sz_value::{NoMemory, Pairs, Slot, Value, copy};
+use sz_value::{NoMemory, Pairs, Slot, Text, Value, copy};
 
 /// The element of an array, the code of a character of a string, or the byte of a byte string at a place counted
 /// from 0, or the value of a map at a key.
@@ -19,7 +19,7 @@ pub fn index(alloc: Global, base: &Value, at: &Value) -> Result<Slot, NoMemory>
 {
     match (base, at) {
         (Value::Array(list), Value::Int(place)) => element(alloc, list.as_slice(), *place),
-        (Value::Str(text), Value::Int(place)) => Ok(character(text.as_str(), *place)),
+        (Value::Str(text), Value::Int(place)) => Ok(code_at(text, *place)),
         (Value::Bytes(bytes), Value::Int(place)) => Ok(byte(bytes.as_slice(), *place)),
         (Value::Map(pairs), key) => value_of(alloc, pairs, key),
         _ => Ok(Slot::Undefined),
@@ -49,7 +49,19 @@ fn value_of(alloc: Global, pairs: &Pairs, key: &Value) -> Result<Slot, NoMemory>
     }
 }
 
-// The code of the character at a place.
+// The code of the character at a place, which in an ASCII text is the byte there.
+#[tactic(auto, using(crate::proofs::CharacterLemmas::ascii_characters))]
+fn code_at(text: &Text, place: i64) -> Slot
+    ensures value { seen_slot result ≡ option_map code (at_place (chars text.now) place) }
+{
+    if text.is_ascii() {
+        byte(text.as_str().as_bytes(), place)
+    } else {
+        character(text.as_str(), place)
+    }
+}
+
+// The code of the character at a place, by a walk to it.
 fn character(text: &str, place: i64) -> Slot
     ensures value { seen_slot result ≡ option_map code (at_place (chars text.now) place) }
 {

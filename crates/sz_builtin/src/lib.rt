@@ -20,7 +20,7 @@ mod two_operands;
 pub use calling::builtin;
 pub use conversions::convert;
 pub use indexing::index;
-pub use laws::operators_keep_types;
+pub use laws::{operators_keep_types, parts_and_calls_keep_types};
 pub use one_operand::unary;
 pub use slicing::slice;
 pub use sz_value::NoMemory;

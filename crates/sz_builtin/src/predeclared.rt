@@ -16,7 +16,7 @@ pub fn len(value: &Value) -> Slot
     ensures value { seen_slot result ≡ len (seen value.now) }
 {
     match value {
-        Value::Str(text) => count(character_count(text.as_str())),
+        Value::Str(text) => count(character_count(text)),
         Value::Bytes(bytes) => count(bytes.as_slice().len()),
         Value::Array(list) => count(list_len(list)),
         Value::Map(pairs) => count(pairs_len(pairs)),

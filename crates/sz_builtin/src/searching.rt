@@ -3,16 +3,16 @@ ghost use Rattle.std.specs.Prelude.{◌≡◌, ◌<◌, ◌^◌, IfSome, Some, c
 ghost use Rattle.sz_value.specs.Seen.{seen, seen_slot};
 ghost use Rattle.sz_builtin.specs.Predeclared.{strfind, first_place, place};
 
-use crate::characters::character_count;
+use crate::characters::characters_before;
 use memchr::memmem;
-use sz_value::{Slot, Value};
+use sz_value::{Slot, Text, Value};
 
 /// The first place of a string or a byte string in another, counted from 0, in characters or in bytes, or -1.
 pub fn strfind(needle: &Value, hay: &Value) -> Slot
     ensures value { seen_slot result ≡ strfind (seen needle.now) (seen hay.now) }
 {
     match (needle, hay) {
-        (Value::Str(needle), Value::Str(hay)) => place(text_place(needle.as_str(), hay.as_str())),
+        (Value::Str(needle), Value::Str(hay)) => place(text_place(needle, hay)),
         (Value::Bytes(needle), Value::Bytes(hay)) => place(byte_place(
             needle.as_slice(),
             hay.as_slice(),
@@ -41,12 +41,12 @@ fn byte_place(needle: &[u8], hay: &[u8]) -> Option<usize>
 }
 
 // The first place of a text in another, counted in characters.
-fn text_place(needle: &str, hay: &str) -> Option<usize>
+fn text_place(needle: &Text, hay: &Text) -> Option<usize>
     ensures value { result ≡ first_place (chars needle.now) (chars hay.now) }
     ensures small { IfSome result (λ at. at < 2 ^ 63) }
 {
-    match memmem::find(hay.as_bytes(), needle.as_bytes()) {
-        Some(at) => Some(character_count(&hay[..at])),
+    match memmem::find(hay.as_str().as_bytes(), needle.as_str().as_bytes()) {
+        Some(at) => Some(characters_before(hay, at)),
         None => None,
     }
 }

@@ -1,7 +1,8 @@
 //! Parts of strings, byte strings and arrays.
-ghost use Rattle.std.specs.Prelude.{◌≡◌, ◌∷◌, IfOk, Some, None, IfSome, IfNone, map, chars, encode_utf8_all, option_map};
+ghost use Rattle.std.specs.Prelude.{◌≡◌, ◌+◌, nat_le, ◌∷◌, IsTrue, IfOk, Some, None, IfSome, IfNone, map, chars, encode_utf8_all, option_map};
 ghost use Rattle.sz_value.specs.Data.{str, bytes, array, data_of};
 ghost use Rattle.sz_value.specs.Seen.{seen, seen_slot};
+ghost use Rattle.sz_value.specs.Texts.{is_ascii};
 ghost use Rattle.sz_builtin.specs.Places.{slice, part, span, cut};
 
 use crate::characters::characters_from;
@@ -39,15 +40,39 @@ fn part(alloc: Global, base: &Value, skip: u64, count: u64) -> Result<Slot, NoMe
     ensures value { IfOk result (λ slot. seen_slot slot ≡ part (seen base.now) (skip, count)) }
 {
     match base {
-        Value::Str(text) => part_of_text(alloc, text.as_str(), skip, count),
+        Value::Str(text) => part_of_text(alloc, text, skip, count),
         Value::Bytes(bytes) => part_of_bytes(alloc, bytes.as_slice(), skip, count),
         Value::Array(list) => part_of_list(alloc, list.as_slice(), skip, count),
         _ => Ok(Slot::Undefined),
     }
 }
 
-// Characters of a text.
-fn part_of_text(alloc: Global, text: &str, skip: u64, count: u64) -> Result<Slot, NoMemory>
+// Characters of a text, which in an ASCII text are bytes.
+#[tactic(auto, using(crate::proofs::CharacterLemmas::ascii_part_is))]
+fn part_of_text(alloc: Global, text: &Text, skip: u64, count: u64) -> Result<Slot, NoMemory>
+    ensures value { IfOk result (λ slot. seen_slot slot ≡ option_map (λ cs. str (encode_utf8_all cs)) (cut (chars text.now) (skip, count))) }
+{
+    if text.is_ascii() {
+        ascii_part(alloc, text, skip, count)
+    } else {
+        characters_part(alloc, text.as_str(), skip, count)
+    }
+}
+
+// Bytes of an ASCII text.
+fn ascii_part(alloc: Global, text: &Text, skip: u64, count: u64) -> Result<Slot, NoMemory>
+    requires ascii { IsTrue (is_ascii text.now) }
+    ensures value { IfOk result (λ slot. seen_slot slot ≡ option_map str (cut text.now (skip, count))) }
+{
+    if !fits(skip, count, text.as_str().as_bytes().len()) {
+        return Ok(Slot::Undefined);
+    }
+    let part = text.ascii_part(alloc, skip as usize, (skip + count) as usize)?;
+    Ok(Slot::Defined(Value::Str(part)))
+}
+
+// Characters of a text, by a walk to them.
+fn characters_part(alloc: Global, text: &str, skip: u64, count: u64) -> Result<Slot, NoMemory>
     ensures value { IfOk result (λ slot. seen_slot slot ≡ option_map (λ cs. str (encode_utf8_all cs)) (cut (chars text.now) (skip, count))) }
 {
     match characters_from(text, skip, count) {
@@ -71,7 +96,7 @@ fn part_of_list(alloc: Global, values: &[Value], skip: u64, count: u64) -> Resul
     ensures value { IfOk result (λ slot. seen_slot slot ≡ option_map (λ es. array (data_of es)) (cut (map seen values.now) (skip, count))) }
 {
     match cut(values, skip, count) {
-        Some(part) => Ok(Slot::Defined(Value::Array(copies(alloc, part)?))),
+        Some(part) => Ok(Slot::Defined(Value::Array(copies(alloc, part, part.len())?))),
         None => Ok(Slot::Undefined),
     }
 }
@@ -81,19 +106,26 @@ fn cut<T>(items: &[T], skip: u64, count: u64) -> Option<&[T]>
     ensures some { IfSome result (λ part. cut items.now (skip, count) ≡ Some part.now) }
     ensures none { IfNone result (cut items.now (skip, count) ≡ None) }
 {
-    let len = items.len() as u64;
-    if skip > len || count > len - skip {
-        None
-    } else {
+    if fits(skip, count, items.len()) {
         Some(&items[skip as usize..][..count as usize])
+    } else {
+        None
     }
 }
 
-// A list of copies.
-fn copies(alloc: Global, values: &[Value]) -> Result<List, NoMemory>
+// Whether `count` items stand behind the first `skip` of `len` items.
+fn fits(skip: u64, count: u64, len: usize) -> bool
+    ensures value { result ≡ nat_le (skip + count) len }
+{
+    let len = len as u64;
+    skip <= len && count <= len - skip
+}
+
+/// A list of copies, with room for at least `room` values.
+pub fn copies(alloc: Global, values: &[Value], room: usize) -> Result<List, NoMemory>
     ensures value { IfOk result (λ list. list ≡ map seen values.now) }
 {
-    let mut list = List::with_capacity(alloc, values.len())?;
+    let mut list = List::with_capacity(alloc, room)?;
     for value in values {
         list.push(copy(alloc, value)?)?;
     }

@@ -5,3 +5,10 @@ pub mod Programs
 pub mod Emitting
 pub mod WellFormed
 pub mod Sound
+pub mod View
+-- what the functions inside the crate promise each other
+pub mod OperatorCode
+pub mod NodeCode
+pub mod StatementCode
+pub mod ProgramCode
+pub mod Example

@@ -48,6 +48,10 @@ abbrev pub nodes_of : List Node → Nodes
 nodes_of [] = no_nodes
 nodes_of (e ∷ es) = with_node e (nodes_of es)
 
+abbrev pub pairings_of : List (Node × Node) → Pairings
+pairings_of [] = no_pairings
+pairings_of (p ∷ ps) = with_pairing p.0 p.1 (pairings_of ps)
+
 abbrev pub list_of : Nodes → List Node
 list_of no_nodes = []
 list_of (with_node e es) = e ∷ list_of es

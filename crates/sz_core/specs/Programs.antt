@@ -37,6 +37,10 @@ pub record Core : Type 0 where
   pub items : List Item
   pub locals : List Shape
 
+-- the program of these items, with these types of the record's variables
+abbrev pub core_of : List Item → List Shape → Core
+core_of items locals = record { items = items; locals = locals }
+
 -- the tables of a program, in order
 abbrev pub tables_of : List Item → List Declaration
 tables_of [] = []

@@ -158,14 +158,25 @@ pub record Declared : Type 0 where
 -- what a static's value sees: statics and functions, and no function that emits may be called
 abbrev pub static_sight : Declared → Sight
 static_sight d = record {
-  locals = []; seen = []; statics = d.statics; functions = d.functions; tables = []; input = false; may_emit = false;
+  locals = [];
+  seen = [];
+  statics = d.statics;
+  functions = d.functions;
+  tables = [];
+  input = false;
+  may_emit = false;
 }
 
 -- what a function's statements see: its parameters, itself, and what is declared before it
 abbrev pub function_sight : Declared → Function → Sight
 function_sight d f = record {
-  locals = f.locals; seen = first_numbers (length f.signature.parameters); statics = d.statics;
-  functions = d.functions ++ f.signature ∷ []; tables = d.tables; input = false; may_emit = true;
+  locals = f.locals;
+  seen = first_numbers (length f.signature.parameters);
+  statics = d.statics;
+  functions = d.functions ++ f.signature ∷ [];
+  tables = d.tables;
+  input = false;
+  may_emit = true;
 }
 
 -- the parameters are the first variables
@@ -195,7 +206,13 @@ pub record IsTable (d : Declared) (t : Declaration) : Type 0 where
 -- what a record's statements see
 abbrev pub record_sight : List Shape → List ℕ → Declared → Sight
 record_sight locals seen d = record {
-  locals = locals; seen = seen; statics = d.statics; functions = d.functions; tables = d.tables; input = true; may_emit = true;
+  locals = locals;
+  seen = seen;
+  statics = d.statics;
+  functions = d.functions;
+  tables = d.tables;
+  input = true;
+  may_emit = true;
 }
 
 -- each item is sound, behind what the items before it declare

@@ -1,2 +1,17 @@
-//! The checked tree of a program.
+//! The checked tree of a program: numbers stand for names, and each expression has its place and its type.
 #![tactic(auto)]
+
+mod expr;
+mod laws;
+mod program;
+mod stmt;
+#[cfg(test)]
+mod tests;
+
+pub use expr::{CoreExpr, CorePair, Form};
+pub use laws::{
+    a_small_program_is_sound, statics_emit_nothing, the_empty_program_is_sound,
+    there_are_at_most_64_tables,
+};
+pub use program::{Function, Item, Program, Signature, Static};
+pub use stmt::{CoreStep, CoreStmt};

@@ -15,3 +15,5 @@ mod ExpressionRows
 mod TypeTurns
 mod StatementTurns
 mod ProgramTurns
+mod Total
+pub mod ForCallers

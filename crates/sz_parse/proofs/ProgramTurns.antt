@@ -34,7 +34,8 @@ goes text ts stop after front s reads low h =
     let g = (stm_sound text MAX_HEIGHT stop).holds (s, after) h in
     record { reads = reads_push text front s ts stop after reads g.0; low = omega (arith, heights_push front s, g.1); fewer = stm_shorter text s stop after g.0 }
 
-stuck_here : (tokens : Lexed) (front : Stms) (here : Token) (rest : List Token) → ReadsStms tokens.text front tokens.tokens (here ∷ rest) → stm_heights front ≤ MAX_HEIGHT → stm_at tokens.text MAX_HEIGHT (here ∷ rest) ≡ None → IsStuck tokens here.place
+-- where reading gives nothing, the tokens are stuck
+pub stuck_here : (tokens : Lexed) (front : Stms) (here : Token) (rest : List Token) → ReadsStms tokens.text front tokens.tokens (here ∷ rest) → stm_heights front ≤ MAX_HEIGHT → stm_at tokens.text MAX_HEIGHT (here ∷ rest) ≡ None → IsStuck tokens here.place
 stuck_here tokens front here rest reads low none = record {
   front = front;
   here = here;

@@ -1,5 +1,5 @@
 -- What a list of tokens spells, and where it stops to spell anything.
-use Rattle.std.specs.Prelude.{◌≡◌, ℕ, ◌+◌, ◌≤◌, List, [], ◌∷◌}
+use Rattle.std.specs.Prelude.{◌≡◌, ℕ, ◌+◌, ◌≤◌, ◌⊎◌, List, [], ◌∷◌}
 use Rattle.sz_types.specs.declared.place.Place.{Place}
 use Rattle.sz_lex.specs.declared.token.Token.{Token}
 use Rattle.sz_lex.specs.Lexed.{Lexed}
@@ -39,3 +39,7 @@ IsNotStuck = (tokens : Lexed) (ss : Stms) (p : Place) → Spells tokens ss → I
 -- tokens are stuck at one place at most
 abbrev pub IsStuckOnce : Type 0
 IsStuckOnce = (tokens : Lexed) (p q : Place) → IsStuck tokens p → IsStuck tokens q → p ≡ q
+
+-- each list of tokens spells a tree, or is stuck somewhere
+abbrev pub EveryListIsRead : Type 0
+EveryListIsRead = (tokens : Lexed) → ((ss : Stms) × Spells tokens ss) ⊎ ((p : Place) × IsStuck tokens p)

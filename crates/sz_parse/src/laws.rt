@@ -1,5 +1,5 @@
 //! What holds of all lists of tokens. The calls do nothing: each promises a law of `specs/Program.antt`.
-ghost use Rattle.sz_parse.specs.Program.{SpellsOneTree, IsNotStuck, IsStuckOnce};
+ghost use Rattle.sz_parse.specs.Program.{SpellsOneTree, IsNotStuck, IsStuckOnce, EveryListIsRead};
 
 /// A list of tokens spells at most one tree.
 pub fn trees_are_unique()
@@ -10,4 +10,9 @@ pub fn trees_are_unique()
 pub fn refusal_is_unique()
     ensures none { IsNotStuck }
     ensures one { IsStuckOnce }
+{}
+
+/// A list of tokens spells a tree, or it is refused.
+pub fn every_list_is_read()
+    ensures { EveryListIsRead }
 {}

@@ -14,6 +14,6 @@ mod token;
 mod types;
 
 pub use error::ParseError;
-pub use laws::{refusal_is_unique, trees_are_unique};
+pub use laws::{every_list_is_read, refusal_is_unique, trees_are_unique};
 pub use limit::MAX_HEIGHT;
 pub use program::parse;

@@ -1,7 +1,8 @@
--- Which types operators, indexes, slices and predeclared functions take, and which they give: a row for each.
+-- Which types operators, places, predeclared functions and conversions take, and which type each gives: a row for each.
 use Rattle.std.specs.Prelude.{Bool, true, false, Option, Some, None, if◌then◌else◌, List, [], ◌∷◌}
-use Rattle.sz_types.specs.Data.{Shape, truth, int, time, str, bytes, array, mapping}
+use Rattle.sz_types.specs.Data.{Shape, truth, int, time, str, bytes, array, mapping, proto}
 use Rattle.sz_types.specs.Same.{alike}
+use Rattle.sz_types.specs.Conversions.{converts_to}
 use Rattle.sz_types.specs.declared.operator.UnOp.{UnOp}
 use Rattle.sz_types.specs.declared.operator.UnOp.TheVariants.{Negate, Plus, Not, Flip}
 use Rattle.sz_types.specs.declared.operator.BinOp.{BinOp}
@@ -104,3 +105,8 @@ builtin_row Keys (s ∷ []) = keys_row s
 builtin_row HasKey (s ∷ t ∷ []) = haskey_row s t
 builtin_row StrFind (s ∷ t ∷ []) = strfind_row s t
 builtin_row _ _ = None
+
+-- the type that a conversion to a type gives, if it takes the value's; bytes become a message by decoding, and not here
+abbrev pub convert_row : Shape → Shape → Option Shape
+convert_row bytes (proto _) = None
+convert_row from to = if converts_to from to then Some to else None

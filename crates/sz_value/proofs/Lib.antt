@@ -3,3 +3,5 @@ pub mod WeightLemmas
 pub mod MapLemmas
 pub mod PartLemmas
 pub mod HashLemmas
+pub mod TextLemmas
+pub mod ForCallers

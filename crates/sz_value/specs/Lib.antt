@@ -5,6 +5,7 @@ pub mod Order
 pub mod Weight
 pub mod Maps
 pub mod Laws
+pub mod Texts
 -- what the functions inside the crate promise each other
 pub mod Code
 pub mod Falls

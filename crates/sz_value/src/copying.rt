@@ -5,7 +5,6 @@ ghost use Rattle.sz_value.specs.Seen.{seen, seen_pair, seen_slot};
 use crate::NoMemory;
 use crate::octets::Octets;
 use crate::slots::Slot;
-use crate::text::Text;
 use crate::value::{List, Pair, Pairs, Value};
 use std::alloc::Global;
 
@@ -18,7 +17,7 @@ pub fn copy(alloc: Global, value: &Value) -> Result<Value, NoMemory>
         Value::Bool(truth) => Ok(Value::Bool(*truth)),
         Value::Int(number) => Ok(Value::Int(*number)),
         Value::Time(number) => Ok(Value::Time(*number)),
-        Value::Str(text) => Ok(Value::Str(Text::new(alloc, text.as_str())?)),
+        Value::Str(text) => Ok(Value::Str(text.copy(alloc)?)),
         Value::Bytes(bytes) => Ok(Value::Bytes(Octets::from_slice(alloc, bytes.as_slice())?)),
         Value::Array(list) => Ok(Value::Array(copy_list(alloc, list)?)),
         Value::Tuple(list) => Ok(Value::Tuple(copy_list(alloc, list)?)),

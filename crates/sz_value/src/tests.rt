@@ -142,6 +142,44 @@ fn weights_count_bytes_and_parts(rt: HostRuntime) -> Result<(), Fail> {
     Ok(())
 }
 
+// Whether a text, and its copy, remember that they are ASCII.
+fn is_ascii(alloc: Global, held: &str) -> Result<bool, NoMemory> {
+    let text = Text::new(alloc, held)?;
+    let made = text.copy(alloc)?;
+    Ok(text.is_ascii() && made.is_ascii())
+}
+
+// Whether two texts are ASCII as one, where they give these bytes.
+fn is_ascii_joined(alloc: Global, first: &str, second: &str, both: &str) -> Result<bool, NoMemory> {
+    let first = Text::new(alloc, first)?;
+    let second = Text::from_string(String::from_str(alloc, second)?);
+    let joined = Text::joined(alloc, &first, &second)?;
+    Ok(joined.as_str() == both && joined.is_ascii())
+}
+
+#[test]
+fn a_text_remembers_whether_it_is_ascii(rt: HostRuntime) -> Result<(), Fail> {
+    let alloc = rt.alloc();
+    assert!(rt; is_ascii(alloc, "")? && is_ascii(alloc, "a z\u{7f}")?);
+    assert!(rt; !is_ascii(alloc, "\u{80}")? && !is_ascii(alloc, "aaaaaaaaa\u{e9}")?);
+    assert!(rt; is_ascii_joined(alloc, "ab", "c", "abc")?);
+    assert!(rt; !is_ascii_joined(alloc, "ab", "\u{e9}", "ab\u{e9}")?);
+    assert!(rt; !is_ascii_joined(alloc, "\u{e9}", "", "\u{e9}")?);
+    Ok(())
+}
+
+#[test]
+fn a_part_of_an_ascii_text_is_cut_by_bytes(rt: HostRuntime) -> Result<(), Fail> {
+    let alloc = rt.alloc();
+    let text = Text::new(alloc, "abcd")?;
+    if text.is_ascii() && text.len() == 4 {
+        let part = text.ascii_part(alloc, 1, 3)?;
+        assert!(rt; part.as_str() == "bc" && part.is_ascii());
+        assert!(rt; text.ascii_part(alloc, 4, 4)?.is_empty());
+    }
+    Ok(())
+}
+
 // The number at a key.
 fn number_at(pairs: &Pairs, key: i64) -> Option<i64> {
     pairs.get(&Value::Int(key)).map(number_in)
@@ -211,14 +249,28 @@ fn equal_values_have_one_hash(rt: HostRuntime) -> Result<(), Fail> {
     Ok(())
 }
 
-// An array in an array in an array, and so on: its weight, whether its copy is equal, and its drop.
-fn handle_chain(alloc: Global, height: u64) -> Result<(u64, bool), NoMemory> {
-    let mut value = Value::Int(0);
+// An array in an array in an array, and so on, with a number in the last.
+fn chain(alloc: Global, height: u64, number: i64) -> Result<Value, NoMemory> {
+    let mut value = Value::Int(number);
     for _ in 0..height {
         value = Value::Array(List::from_vec(vec![in alloc; value]?));
     }
+    Ok(value)
+}
+
+// What a chain weighs, how it stands to its copy and to a chain with a greater number, and whether it is equal to each
+// and hashes as its copy does. All are dropped at the end.
+fn handle_chain(alloc: Global, height: u64) -> Result<(u64, [Ordering; 2], [bool; 3]), NoMemory> {
+    let value = chain(alloc, height, 0)?;
     let made = copy(alloc, &value)?;
-    Ok((weight(&value), order(&made, &value) == Ordering::Equal))
+    let greater = chain(alloc, height, 1)?;
+    let orders = [order(&made, &value), order(&value, &greater)];
+    let same = [
+        equal(&made, &value),
+        equal(&value, &greater),
+        hash_of(&made) == hash_of(&value),
+    ];
+    Ok((weight(&value), orders, same))
 }
 
 #[test]
@@ -229,6 +281,9 @@ fn a_value_of_thirty_thousand_levels_fits_a_stack_of_64_mebibytes(
     let thread = Builder::new()
         .stack_size(64 << 20)
         .spawn(&rt, move || handle_chain(alloc, 30_000))?;
-    assert_eq!(rt; thread.join(&rt), Ok((30_001, true)));
+    let found = thread.join(&rt)?;
+    assert_eq!(rt; found.0, 30_001);
+    assert_eq!(rt; found.1, [Ordering::Equal, Ordering::Less]);
+    assert_eq!(rt; found.2, [true, false, true]);
     Ok(())
 }

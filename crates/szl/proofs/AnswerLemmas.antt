@@ -4,17 +4,22 @@ use Rattle.std.specs.Prelude.{unwrap_or, Result, Ok, Err, codes, nat_lt, nat_le,
 use Rattle.std.proofs.lemmas.Bool.Decides.{nat_tests}
 use Rattle.sz_io.specs.Rose.{Rose}
 use Rattle.sz_io.specs.declared.files.Files as files
+use Rattle.sz_tree.specs.Statements.{Stms}
 use Rattle.sz_mean.specs.Tree.{Prog}
-use Rattle.sz_mean.specs.Programs.{program_in}
 use Rattle.szl.specs.declared.status.Status.{Status}
 use Rattle.szl.specs.declared.status.Status.TheVariants as status
 use Rattle.szl.specs.declared.failure.Failure.{Failure}
-use Rattle.szl.specs.declared.failure.Failure.TheVariants.{Usage, TooLong, NotBuilt, Limit, ReadFailed, WriteFailed, NoMemory}
-use Rattle.szl.specs.Opening.{ReadsText, GainsName, Decides, AnswersOn}
-use Rattle.szl.specs.Outcome.{Answer, outcome_of_program, outcome_of_reading, outcome_of_text, success, refusal, most_program_bytes}
+use Rattle.szl.specs.declared.failure.Failure.TheVariants.{Usage, Refused, Limit, ReadFailed, WriteFailed, NoMemory}
+use Rattle.szl.specs.Opening.{ReadsText, GainsName, Decides, AnswersOn, AnswersText}
+use Rattle.szl.specs.Outcome.{Answer, outcome_of_program, outcome_of_judgement, success, refusal}
+use Rattle.szl.specs.Forms.{program_in}
+use Rattle.szl.specs.Judgement.{IsShort, HasStatements, refused, runs}
+use Rattle.szl.specs.Judging.{IsFailureOf, IsFailureOn}
 use Rattle.szl.specs.Promise.{OpensFirst, most_opened}
 use Rattle.szl.specs.Records.{is_within_limits, most_input_bytes}
 use Rattle.szl.specs.Running.{GivesTables}
+use Rattle.szl.proofs.JudgeLemmas.{failure_on}
+use Rattle.szl.proofs.JudgementLemmas.{every_text_is_judged}
 use Rattle.szl.proofs.OpeningLemmas.{holds_or}
 use Rattle.szl.proofs.ProgramLemmas.{outcome_past}
 
@@ -26,7 +31,8 @@ data IsRun : Status → Type 0 where
 run_status : (p : Prog) (input : List ℕ) → IsRun (outcome_of_program p input).status
 run_status p input = by_test (is_within_limits input) _ _
   where
-    by_test : (b : Bool) (output line : List ℕ) → IsRun (if b then success output else record { status = status.Limit; output = []; line = line }).status
+    by_test : (b : Bool) (output line : List ℕ)
+        → IsRun (if b then success output else record { status = status.Limit; output = []; line = line }).status
     by_test true output line = done
     by_test false output line = limit
 
@@ -48,12 +54,14 @@ opened_one name old new most le is = record { count = 1; within = le; opened = i
 opened_none : (asked old : List (List ℕ)) (most : ℕ) → OpensFirst asked old old most
 opened_none asked old most = record { count = 0; within = omega arith; opened = sym (append-nil old) }
 
-gained : (name : List ℕ) (old new : List (List ℕ)) (most : ℕ) → 1 ≤ most → (new ≡ old) ⊎ (new ≡ old ++ name ∷ []) → OpensFirst (name ∷ []) old new most
+gained : (name : List ℕ) (old new : List (List ℕ)) (most : ℕ) → 1 ≤ most → (new ≡ old) ⊎ (new ≡ old ++ name ∷ [])
+    → OpensFirst (name ∷ []) old new most
 gained name old new most le (inl is) = record { count = 0; within = omega arith; opened = is ∙ sym (append-nil old) }
 gained name old new most le (inr is) = opened_one name old new most le is
 
 -- an input past its limit
-past_limit : (p : Prog) (input : List ℕ) → most_input_bytes < length input → outcome_of_program p input ≡ refusal status.Limit (codes "input limit at byte 0")
+past_limit : (p : Prog) (input : List ℕ) → most_input_bytes < length input
+    → outcome_of_program p input ≡ refusal status.Limit (codes "input limit at byte 0")
 past_limit p input past = outcome_past p input (first_fails _ _ _ (too_many (length input) most_input_bytes past))
   where
     too_many : (a b : ℕ) → b < a → nat_le a b ≡ false
@@ -65,7 +73,8 @@ past_limit p input past = outcome_past p input (first_fails _ _ _ (too_many (len
 
 module _ {F : Type 0} (the_files : files.Ghosts F) (name : List ℕ) (old new : F) where
   -- the input couldn't be read
-  pub input_fails : (p : Prog) (f : Failure) → ReadsText (the_files.held old name) most_input_bytes Limit (Rose (the_files.faults old) (the_files.faults new)) (Err f)
+  pub input_fails : (p : Prog) (f : Failure)
+      → ReadsText (the_files.held old name) most_input_bytes Limit (Rose (the_files.faults old) (the_files.faults new)) (Err f)
       → GainsName (the_files.names old) (the_files.names new) name (Err f) → AnswersOn the_files (outcome_of_program p) name old new (Err f)
   input_fails p Limit reads gains = record {
     input = reads.text;
@@ -79,25 +88,31 @@ module _ {F : Type 0} (the_files : files.Ghosts F) (name : List ℕ) (old new : 
     decides = (reads.tells, not_usage _ (run_status p reads.text));
     opened = opened_one name _ _ _ (one_left p reads.text) gains;
   }
-  input_fails p NoMemory reads gains = record { input = reads.text; holds = reads.holds; decides = tt; opened = gained name _ _ _ (one_left p reads.text) gains }
+  input_fails p NoMemory reads gains = record {
+    input = reads.text;
+    holds = reads.holds;
+    decides = tt;
+    opened = gained name _ _ _ (one_left p reads.text) gains;
+  }
   input_fails p Usage reads gains = let e = reads.tells.0 in absurd (cc)
-  input_fails p TooLong reads gains = let e = reads.tells.0 in absurd (cc)
-  input_fails p NotBuilt reads gains = let e = reads.tells.0 in absurd (cc)
+  input_fails p (Refused cause place) reads gains = let e = reads.tells.0 in absurd (cc)
   input_fails p WriteFailed reads gains = let e = reads.tells.0 in absurd (cc)
 
-  decides_run : (p : Prog) (bytes text : List ℕ) (answer : Result (List ℕ) Failure) (rose : Type 0) → bytes ≡ text → GivesTables p bytes answer → Decides answer (outcome_of_program p text) rose
+  decides_run : (p : Prog) (bytes text : List ℕ) (answer : Result (List ℕ) Failure) (rose : Type 0) → bytes ≡ text → GivesTables p bytes answer
+      → Decides answer (outcome_of_program p text) rose
   decides_run p bytes text (Ok output) rose is gives = subst (λ b. outcome_of_program p b ≡ success output) is gives
   decides_run p bytes text (Err Limit) rose is gives = subst (λ b. outcome_of_program p b ≡ refusal status.Limit (codes "input limit at byte 0")) is gives
   decides_run p bytes text (Err NoMemory) rose is gives = tt
   decides_run p bytes text (Err Usage) rose is gives = absurd gives
-  decides_run p bytes text (Err TooLong) rose is gives = absurd gives
-  decides_run p bytes text (Err NotBuilt) rose is gives = absurd gives
+  decides_run p bytes text (Err (Refused cause place)) rose is gives = absurd gives
   decides_run p bytes text (Err ReadFailed) rose is gives = absurd gives
   decides_run p bytes text (Err WriteFailed) rose is gives = absurd gives
 
   -- the input was read, and the program run over it
-  pub input_read : (p : Prog) (bytes : List ℕ) (answer : Result (List ℕ) Failure) → ReadsText (the_files.held old name) most_input_bytes Limit (Rose (the_files.faults old) (the_files.faults new)) (Ok bytes)
-      → the_files.names new ≡ the_files.names old ++ name ∷ [] → GivesTables p bytes answer → AnswersOn the_files (outcome_of_program p) name old new answer
+  pub input_read : (p : Prog) (bytes : List ℕ) (answer : Result (List ℕ) Failure)
+      → ReadsText (the_files.held old name) most_input_bytes Limit (Rose (the_files.faults old) (the_files.faults new)) (Ok bytes)
+      → the_files.names new ≡ the_files.names old ++ name ∷ [] → GivesTables p bytes answer
+      → AnswersOn the_files (outcome_of_program p) name old new answer
   input_read p bytes answer reads gains gives = record {
     input = reads.text;
     holds = reads.holds;
@@ -106,39 +121,58 @@ module _ {F : Type 0} (the_files : files.Ghosts F) (name : List ℕ) (old new : 
   }
 
   -- the outcome is the same where the text is the program's
-  pub same_outcome : (f g : List ℕ → Answer) (answer : Result (List ℕ) Failure) → ((input : List ℕ) → f input ≡ g input) → AnswersOn the_files f name old new answer → AnswersOn the_files g name old new answer
+  pub same_outcome : (f g : List ℕ → Answer) (answer : Result (List ℕ) Failure) → ((input : List ℕ) → f input ≡ g input)
+      → AnswersOn the_files f name old new answer → AnswersOn the_files g name old new answer
   same_outcome f g answer same a = record {
     input = a.input;
     holds = a.holds;
     decides = subst (λ o. Decides answer o (Rose (the_files.faults old) (the_files.faults new))) (same a.input) a.decides;
-    opened = subst (λ (o : Answer). OpensFirst (name ∷ []) (the_files.names old) (the_files.names new) (most_opened o.status - 1)) (same a.input) a.opened;
+    opened = subst (λ (o : Answer). OpensFirst (name ∷ []) (the_files.names old) (the_files.names new) (most_opened o.status - 1))
+        (same a.input) a.opened;
   }
 
--- the outcome of a text within the limit, as it is read
-reading_outcome : (text input : List ℕ) (read : Option Prog) → length text ≤ most_program_bytes → program_in text ≡ read → outcome_of_text text input ≡ outcome_of_reading read input
-reading_outcome text input read short is =
-    ap (λ b. if b then refusal status.Program (codes "program: too long at 1:1") else outcome_of_reading (program_in text) input) (not_long (length text) short)
-    ∙ ap (λ r. outcome_of_reading r input) is
-  where
-    not_long : (n : ℕ) → n ≤ most_program_bytes → nat_lt most_program_bytes n ≡ false
-    not_long n le = grind (arith, nat_tests)
+-- the outcome of the text that is judged to be a program is the program's
+pub program_answers : {F : Type 0} (the_files : files.Ghosts F) (text name : List ℕ) (old new : F) (ss : Stms) (p : Prog) (answer : Result (List ℕ) Failure)
+    → IsShort text → HasStatements text ss → program_in ss ≡ Ok p → AnswersOn the_files (outcome_of_program p) name old new answer
+    → AnswersText the_files text name old new answer
+program_answers the_files text name old new ss p answer short has is a = record {
+  judgement = runs p;
+  judged = (short, record { statements = ss; has = has; is = is });
+  answers = same_outcome the_files name old new (outcome_of_program p) (outcome_of_judgement (runs p)) answer (λ input. refl) a;
+}
 
-module _ {F : Type 0} (the_files : files.Ghosts F) (name : List ℕ) (old : F) where
-  pub not_built : (text : List ℕ) → length text ≤ most_program_bytes → program_in text ≡ None → AnswersOn the_files (outcome_of_text text) name old old (Err NotBuilt)
-  not_built text short is = record {
-    input = unwrap_or (the_files.held old name) [];
-    holds = holds_or (the_files.held old name) [];
-    decides = reading_outcome text _ None short is;
-    opened = opened_none (name ∷ []) _ _;
+module _ {F : Type 0} (the_files : files.Ghosts F) (text name : List ℕ) (old : F) where
+  no_memory : AnswersText the_files text name old old (Err NoMemory)
+  no_memory = let j = every_text_is_judged text in record {
+    judgement = j.judgement;
+    judged = j.judged;
+    answers = record {
+      input = unwrap_or (the_files.held old name) [];
+      holds = holds_or (the_files.held old name) [];
+      decides = tt;
+      opened = opened_none (name ∷ []) _ _;
+    };
   }
 
-  pub no_memory : (f : List ℕ → Answer) → AnswersOn the_files f name old old (Err NoMemory)
-  no_memory f = record {
-    input = unwrap_or (the_files.held old name) [];
-    holds = holds_or (the_files.held old name) [];
-    decides = tt;
-    opened = opened_none (name ∷ []) _ _;
+  -- the text is refused, and no file is opened
+  pub text_refused : (f : Failure) → IsFailureOf text f → AnswersText the_files text name old old (Err f)
+  text_refused (Refused cause place) judged = record {
+    judgement = refused cause place;
+    judged = judged;
+    answers = record {
+      input = unwrap_or (the_files.held old name) [];
+      holds = holds_or (the_files.held old name) [];
+      decides = refl;
+      opened = opened_none (name ∷ []) _ _;
+    };
   }
+  text_refused NoMemory h = no_memory
+  text_refused Usage h = absurd h
+  text_refused Limit h = absurd h
+  text_refused ReadFailed h = absurd h
+  text_refused WriteFailed h = absurd h
 
-pub program_outcome : (text : List ℕ) (p : Prog) → length text ≤ most_program_bytes → program_in text ≡ Some p → (input : List ℕ) → outcome_of_program p input ≡ outcome_of_text text input
-program_outcome text p short is input = sym (reading_outcome text input (Some p) short is)
+  -- the text's statements don't run
+  pub statements_refused : (ss : Stms) (f : Failure) → IsShort text → HasStatements text ss → IsFailureOn (program_in ss) f
+      → AnswersText the_files text name old old (Err f)
+  statements_refused ss f short has h = text_refused f (failure_on text ss f short has h)

@@ -1,12 +1,13 @@
 mod AnswerLemmas
 mod CutLemmas
-mod Growth
-mod LexemesLemmas
+mod FormLemmas
+mod JudgeLemmas
+mod JudgementLemmas
 mod MainLemmas
 mod OpeningLemmas
 mod PrintLemmas
 mod ProgramLemmas
-mod ReadingLemmas
+mod ReadLemmas
 mod RecordLemmas
 mod RecordsLemmas
 mod RunningLemmas

@@ -1,5 +1,5 @@
 -- The promise of the top call, from the answer, what was printed of it, and the line.
-use Rattle.std.proofs.Common.{◌≡◌, ℕ, List, [], length, take, Option, refl, sym, ap, subst, arith, inl, inr}
+use Rattle.std.proofs.Common.{◌≡◌, ℕ, List, [], length, take, Option, refl, sym, ap, ◌∙◌, subst, arith, inl, inr, ◌⊎◌}
 use Rattle.std.specs.Prelude.{Result, Ok, Err, OnOk, IfErr}
 use Rattle.std.specs.Io.KnownBytes.{Appends}
 use Rattle.std.proofs.KnownBytes.{Appends-nil}
@@ -13,11 +13,11 @@ use Rattle.sz_io.specs.declared.sink.Sink as sink
 use Rattle.szl.specs.declared.status.Status.{Status}
 use Rattle.szl.specs.declared.status.Status.TheVariants as status
 use Rattle.szl.specs.declared.failure.Failure.{Failure}
-use Rattle.szl.specs.declared.failure.Failure.TheVariants.{Usage, TooLong, NotBuilt, Limit, ReadFailed, WriteFailed, NoMemory}
+use Rattle.szl.specs.declared.failure.Failure.TheVariants.{Usage, Refused, Limit, ReadFailed, WriteFailed, NoMemory}
 use Rattle.szl.specs.Failing.{status_of, line_of_failure}
 use Rattle.szl.specs.Opening.{Decides, Answers}
 use Rattle.szl.specs.Outcome.{Answer, outcome, success}
-use Rattle.szl.specs.Printing.{Prints}
+use Rattle.szl.specs.Printing.{Prints, line_with}
 use Rattle.szl.specs.Promise.{IsStatusOf, AppendsPrefix, GainsOutput, GainsLine, MeansSource, line_of}
 use Rattle.szl.specs.Settings.{settings_in}
 
@@ -35,17 +35,18 @@ fits_done answer output old new is h =
     subst (λ a. Fits a status.Done old new) (sym is) (record { status_is = refl; output = h })
 
 -- a failure before anything was printed
-fits_error : (answer : Answer) (f : Failure) (rose : Type 0) (old new : Option (List ℕ)) → Decides (Err f) answer rose → Appends old new [] → Fits answer (status_of f) old new
+fits_error : (answer : Answer) (f : Failure) (rose : Type 0) (old new : Option (List ℕ)) → Decides (Err f) answer rose
+    → Appends old new [] → Fits answer (status_of f) old new
 fits_error answer Usage rose old new decides h = record { status_is = sym (ap (λ (a : Answer). a.status) decides); output = h }
-fits_error answer TooLong rose old new decides h = record { status_is = sym (ap (λ (a : Answer). a.status) decides); output = h }
-fits_error answer NotBuilt rose old new decides h = record { status_is = sym (ap (λ (a : Answer). a.status) decides); output = h }
+fits_error answer (Refused cause place) rose old new decides h = record { status_is = sym (ap (λ (a : Answer). a.status) decides); output = h }
 fits_error answer Limit rose old new decides h = record { status_is = sym (ap (λ (a : Answer). a.status) decides); output = h }
 fits_error answer ReadFailed rose old new decides h = record { status_is = decides.1; output = h }
 fits_error answer WriteFailed rose old new decides h = absurd decides
 fits_error answer NoMemory rose old new decides h = record { status_is = tt; output = prefix_none old answer.output new h }
 
 -- a failure, before or while something was printed
-fits_failure : (answer : Answer) (f : Failure) (made : Result (List ℕ) Failure) (rose : Type 0) (old new : Option (List ℕ)) → Decides made answer rose
+fits_failure : (answer : Answer) (f : Failure) (made : Result (List ℕ) Failure) (rose : Type 0) (old new : Option (List ℕ))
+    → Decides made answer rose
     → Prints {T = Unit {0}} old new made (Err f) → Fits answer (status_of f) old new
 fits_failure answer f (Err g) rose old new decides printed =
     subst (λ x. Fits answer (status_of x) old new) (sym printed.0) (fits_error answer g rose old new decides printed.1)
@@ -54,45 +55,69 @@ fits_failure answer WriteFailed (Ok output) rose old new decides printed =
 fits_failure answer NoMemory (Ok output) rose old new decides printed =
     subst (λ a. Fits a status.NoMemory old new) (sym decides) (record { status_is = tt; output = printed })
 fits_failure answer Usage (Ok output) rose old new decides printed = absurd printed
-fits_failure answer TooLong (Ok output) rose old new decides printed = absurd printed
-fits_failure answer NotBuilt (Ok output) rose old new decides printed = absurd printed
+fits_failure answer (Refused cause place) (Ok output) rose old new decides printed = absurd printed
 fits_failure answer Limit (Ok output) rose old new decides printed = absurd printed
 fits_failure answer ReadFailed (Ok output) rose old new decides printed = absurd printed
 
 line_error : (answer : Answer) (f : Failure) (rose : Type 0) → Decides (Err f) answer rose → line_of_failure f ≡ line_of answer (status_of f)
 line_error answer Usage rose decides = sym (ap (λ (a : Answer). a.line) decides)
-line_error answer TooLong rose decides = sym (ap (λ (a : Answer). a.line) decides)
-line_error answer NotBuilt rose decides = sym (ap (λ (a : Answer). a.line) decides)
+line_error answer (Refused cause place) rose decides = sym (ap (λ (a : Answer). a.line) decides)
 line_error answer Limit rose decides = sym (ap (λ (a : Answer). a.line) decides)
 line_error answer ReadFailed rose decides = refl
 line_error answer WriteFailed rose decides = refl
 line_error answer NoMemory rose decides = refl
 
 -- the line of a failure is that of its status
-line_is : (answer : Answer) (f : Failure) (made : Result (List ℕ) Failure) (rose : Type 0) (old new : Option (List ℕ)) → Decides made answer rose
+line_is : (answer : Answer) (f : Failure) (made : Result (List ℕ) Failure) (rose : Type 0) (old new : Option (List ℕ))
+    → Decides made answer rose
     → Prints {T = Unit {0}} old new made (Err f) → line_of_failure f ≡ line_of answer (status_of f)
 line_is answer f (Err g) rose old new decides printed =
     subst (λ x. line_of_failure x ≡ line_of answer (status_of x)) (sym printed.0) (line_error answer g rose decides)
 line_is answer WriteFailed (Ok output) rose old new decides printed = refl
 line_is answer NoMemory (Ok output) rose old new decides printed = refl
 line_is answer Usage (Ok output) rose old new decides printed = absurd printed
-line_is answer TooLong (Ok output) rose old new decides printed = absurd printed
-line_is answer NotBuilt (Ok output) rose old new decides printed = absurd printed
+line_is answer (Refused cause place) (Ok output) rose old new decides printed = absurd printed
 line_is answer Limit (Ok output) rose old new decides printed = absurd printed
 line_is answer ReadFailed (Ok output) rose old new decides printed = absurd printed
+
+-- the line with a failure's own status is its own
+own_line : (f : Failure) → line_with f (status_of f) ≡ line_of_failure f
+own_line Usage = refl
+own_line (Refused cause place) = refl
+own_line Limit = refl
+own_line ReadFailed = refl
+own_line WriteFailed = refl
+own_line NoMemory = refl
+
+-- where printing failed, a prefix of the output is written at the most, so want of memory fits
+fits_no_memory : (answer : Answer) (f : Failure) (made : Result (List ℕ) Failure) (rose : Type 0) (old new : Option (List ℕ))
+    → Decides made answer rose
+    → Prints {T = Unit {0}} old new made (Err f) → Fits answer status.NoMemory old new
+fits_no_memory answer f (Err g) rose old new decides printed = record { status_is = tt; output = prefix_none old answer.output new printed.1 }
+fits_no_memory answer WriteFailed (Ok output) rose old new decides printed =
+    subst (λ a. Fits a status.NoMemory old new) (sym decides) (record { status_is = tt; output = printed })
+fits_no_memory answer NoMemory (Ok output) rose old new decides printed =
+    subst (λ a. Fits a status.NoMemory old new) (sym decides) (record { status_is = tt; output = printed })
+fits_no_memory answer Usage (Ok output) rose old new decides printed = absurd printed
+fits_no_memory answer (Refused cause place) (Ok output) rose old new decides printed = absurd printed
+fits_no_memory answer Limit (Ok output) rose old new decides printed = absurd printed
+fits_no_memory answer ReadFailed (Ok output) rose old new decides printed = absurd printed
 
 module _ {F O E : Type 0} (the_files : files.Ghosts F) (the_out : sink.Ghosts O) (the_err : sink.Ghosts E) (words : List (List ℕ))
     (old new : F) (out new_out : O) (err : E) where
   -- all was printed, and nothing is told
-  pub means_done : (made : Result (List ℕ) Failure) → Answers the_files (settings_in words) old new made → Prints {T = Unit {0}} (the_out.taken out) (the_out.taken new_out) made (Ok tt)
+  pub means_done : (made : Result (List ℕ) Failure) → Answers the_files (settings_in words) old new made
+      → Prints {T = Unit {0}} (the_out.taken out) (the_out.taken new_out) made (Ok tt)
       → MeansSource the_files the_out the_err words status.Done old new out new_out err err
   means_done (Err f) a printed = absurd printed
   means_done (Ok output) a printed =
-      let o = outcome words a.text a.input in
+      let o = outcome words a.judgement a.input in
       let fit = fits_done o output (the_out.taken out) (the_out.taken new_out) a.decides printed in
       let no_line : [] ≡ o.line = sym (ap (λ (x : Answer). x.line) a.decides) in
       record {
         text = a.text;
+        judgement = a.judgement;
+        judged = a.judged;
         input = a.input;
         held = a.held;
         answers = fit.status_is;
@@ -101,26 +126,43 @@ module _ {F O E : Type 0} (the_files : files.Ghosts F) (the_out : sink.Ghosts O)
         opened = a.opened;
       }
 
-  -- a failure, and its line is told
-  pub means_failure : (new_err : E) (f : Failure) (made : Result (List ℕ) Failure) → Answers the_files (settings_in words) old new made
-      → Prints {T = Unit {0}} (the_out.taken out) (the_out.taken new_out) made (Err f) → GainsLine the_err err new_err (line_of_failure f)
-      → MeansSource the_files the_out the_err words (status_of f) old new out new_out err new_err
-  means_failure new_err f made a printed told =
-      let o = outcome words a.text a.input in
-      let fit = fits_failure o f made _ (the_out.taken out) (the_out.taken new_out) a.decides printed in
-      record {
-        text = a.text;
-        input = a.input;
-        held = a.held;
-        answers = fit.status_is;
-        output = fit.output;
-        line = subst (GainsLine the_err err new_err) (line_is o f made _ (the_out.taken out) (the_out.taken new_out) a.decides printed) told;
-        opened = a.opened;
-      }
+  -- a status that fits what was printed, and its line is told
+  means : (new_err : E) (made : Result (List ℕ) Failure) (a : Answers the_files (settings_in words) old new made) (s : Status)
+      → Fits (outcome words a.judgement a.input) s (the_out.taken out) (the_out.taken new_out)
+      → GainsLine the_err err new_err (line_of (outcome words a.judgement a.input) s)
+      → MeansSource the_files the_out the_err words s old new out new_out err new_err
+  means new_err made a s fit told = record {
+    text = a.text;
+    judgement = a.judgement;
+    judged = a.judged;
+    input = a.input;
+    held = a.held;
+    answers = fit.status_is;
+    output = fit.output;
+    line = told;
+    opened = a.opened;
+  }
+
+  -- a failure, and its line is told, or that of want of memory
+  pub means_failure : (new_err : E) (f : Failure) (made : Result (List ℕ) Failure) (s : Status) → Answers the_files (settings_in words) old new made
+      → Prints {T = Unit {0}} (the_out.taken out) (the_out.taken new_out) made (Err f) → (s ≡ status_of f) ⊎ (s ≡ status.NoMemory)
+      → GainsLine the_err err new_err (line_with f s) → MeansSource the_files the_out the_err words s old new out new_out err new_err
+  means_failure new_err f made s a printed (inl is) told =
+      let o = outcome words a.judgement a.input in
+      let line = ap (line_with f) is ∙ own_line f ∙ line_is o f made _ (the_out.taken out) (the_out.taken new_out) a.decides printed in
+      subst (λ t. MeansSource the_files the_out the_err words t old new out new_out err new_err) (sym is)
+      (means new_err made a (status_of f) (fits_failure o f made _ (the_out.taken out) (the_out.taken new_out) a.decides printed)
+      (subst (GainsLine the_err err new_err) line told))
+  means_failure new_err f made s a printed (inr is) told =
+      let o = outcome words a.judgement a.input in
+      subst (λ t. MeansSource the_files the_out the_err words t old new out new_out err new_err) (sym is)
+      (means new_err made a status.NoMemory (fits_no_memory o f made _ (the_out.taken out) (the_out.taken new_out) a.decides printed)
+      (subst (GainsLine the_err err new_err) (ap (line_with f) is) told))
 
 -- what a write of a line says of it, whatever it answers
 pub line_told : {E : Type 0} (the_err : sink.Ghosts E) (old new : E) (line : List ℕ) (r : Result (Unit {0}) WriteError)
-    → OnOk r (Appends (the_err.taken old) (the_err.taken new) line) → IfErr r (λ e. Appends (the_err.taken old) (the_err.taken new) (take (bytes_taken e) line))
+    → OnOk r (Appends (the_err.taken old) (the_err.taken new) line)
+    → IfErr r (λ e. Appends (the_err.taken old) (the_err.taken new) (take (bytes_taken e) line))
     → ((n : ℕ) → r ≡ Err (write.Failed n) → Rose (the_err.faults old) (the_err.faults new))
     → ((n : ℕ) → r ≡ Err (write.NoMemory n) → Rose (the_err.refusals old) (the_err.refusals new)) → GainsLine the_err old new line
 line_told the_err old new line (Ok _) whole part failed refused = record {

@@ -7,6 +7,7 @@ use Rattle.sz_mean.specs.Rows.{emitted_to, row_of}
 use Rattle.szl.specs.Text.{row_text, tables_text}
 use Rattle.szl.specs.Totals.{Totals, StandFor}
 use Rattle.szl.specs.View.{texts}
+use Rattle.szl.proofs.TakenLemmas.{from_place}
 
 -- the text so far and that of the tables from this one on are the text of all tables
 pub record IsPrintedUpTo (names : List (Bor (List ℕ))) (totals : Totals) (table : ℕ) (text : List ℕ) : Type 0 where
@@ -14,12 +15,6 @@ pub record IsPrintedUpTo (names : List (Bor (List ℕ))) (totals : Totals) (tabl
 
 pub print_none : (names : List (Bor (List ℕ))) (totals : Totals) → IsPrintedUpTo names totals 0 []
 print_none names totals = record { printed = λ emits stands. refl }
-
--- the names from one on
-names_from : (names : List (Bor (List ℕ))) (i : ℕ) (name : Bor (List ℕ)) → i < length names → name ≡ get_or names i name → drop i names ≡ name ∷ drop (suc i) names
-names_from [] i name there is = absurd (omega arith)
-names_from (n ∷ names) zero name there is = ap (λ x. x ∷ names) (sym is)
-names_from (n ∷ names) (suc i) name there is = names_from names i name (omega arith) is
 
 some_same : (a b : Option ℤ) → Some a ≡ Some b → a ≡ b
 some_same a b e = cc
@@ -35,7 +30,7 @@ print_more names totals table text next name row there same is got grown h = rec
       ap (λ t. t ++ rest) (grown ∙ ap (λ r. text ++ row_text name.now r) the_row)
       ∙ append_assoc text (row_text name.now (row_of (emitted_to table emits))) rest
       ∙ ap (λ n. text ++ (row_text name.now (row_of (emitted_to table emits)) ++ tables_text (table + 1) (texts (drop n names)) emits)) (sym more)
-      ∙ ap (λ ns. text ++ tables_text table (texts ns) emits) (sym (names_from names table name there is))
+      ∙ ap (λ ns. text ++ tables_text table (texts ns) emits) (sym (from_place names table name there is))
       ∙ h.printed emits stands;
 }
 

@@ -1,9 +1,20 @@
 -- The records of an input, one after the other.
-use Rattle.std.proofs.Common.{◌≡◌, ℕ, ◌<◌, List, [], ◌∷◌, length, refl, sym, ap, ◌∙◌, subst, arith}
+use Rattle.std.proofs.Common.{◌≡◌, ℕ, ◌<◌, List, [], ◌∷◌, length, Bool, true, false, refl, sym, ap, ◌∙◌, subst, arith}
 use Rattle.szl.specs.Cuts.{pieces}
 use Rattle.szl.specs.Records.{without_empty_last, records_in}
-use Rattle.szl.proofs.ReadingLemmas.{split_some}
 use Rattle.std.specs.Prelude.{nat_eq}
+use Rattle.std.specs.List.{slice_split, onto_first}
+use Rattle.std.proofs.lemmas.List.Splits.{slice_split-cons_yes, slice_split-cons_no}
+
+-- the first piece of a text, and those behind it
+split_some : (p : ℕ → Bool) (text : List ℕ) → (piece : List ℕ) × ((more : List (List ℕ)) × (slice_split p text ≡ piece ∷ more))
+split_some p [] = ([], ([], refl))
+split_some p (b ∷ bs) = by_test (p b) refl (split_some p bs)
+  where
+    by_test : (t : Bool) → p b ≡ t → (piece : List ℕ) × ((more : List (List ℕ)) × (slice_split p bs ≡ piece ∷ more))
+        → (piece : List ℕ) × ((more : List (List ℕ)) × (slice_split p (b ∷ bs) ≡ piece ∷ more))
+    by_test true is later = ([], (slice_split p bs, slice_split-cons_yes p b bs is))
+    by_test false is later = (b ∷ later.0, (later.1.0, slice_split-cons_no p b bs is ∙ ap (onto_first b) later.1.1))
 
 -- a line that others follow stays
 line_stays : (line : List ℕ) (others : List (List ℕ)) (t : List ℕ) (ts : List (List ℕ)) → others ≡ t ∷ ts

@@ -1,9 +1,10 @@
 -- The status and the line of each cause for which a call ends early.
-use Rattle.std.specs.Prelude.{ℕ, List, codes}
+use Rattle.std.specs.Prelude.{ℕ, List, [], ◌∷◌, ◌++◌, codes}
 use Rattle.szl.specs.declared.status.Status.{Status}
 use Rattle.szl.specs.declared.status.Status.TheVariants as status
 use Rattle.szl.specs.declared.failure.Failure.{Failure}
-use Rattle.szl.specs.declared.failure.Failure.TheVariants.{Usage, TooLong, NotBuilt, Limit, ReadFailed, WriteFailed, NoMemory}
+use Rattle.szl.specs.declared.failure.Failure.TheVariants.{Usage, Refused, Limit, ReadFailed, WriteFailed, NoMemory}
+use Rattle.szl.specs.Outcome.{refusal_line}
 
 -- the number that a status has as the exit status of the process
 abbrev pub code_of : Status → ℕ
@@ -21,8 +22,7 @@ code_of status.Limit = 9
 -- the exit status of a failure
 abbrev pub status_of : Failure → Status
 status_of Usage = status.Usage
-status_of TooLong = status.Program
-status_of NotBuilt = status.Program
+status_of (Refused cause place) = status.Program
 status_of Limit = status.Limit
 status_of ReadFailed = status.ReadFailed
 status_of WriteFailed = status.WriteFailed
@@ -31,8 +31,7 @@ status_of NoMemory = status.NoMemory
 -- the line of a failure
 abbrev pub line_of_failure : Failure → List ℕ
 line_of_failure Usage = codes "bad command line\n"
-line_of_failure TooLong = codes "program: too long at 1:1\n"
-line_of_failure NotBuilt = codes "program: not built yet at 1:1\n"
+line_of_failure (Refused cause place) = refusal_line cause place ++ 10 ∷ []
 line_of_failure Limit = codes "input limit at byte 0\n"
 line_of_failure ReadFailed = codes "read failed\n"
 line_of_failure WriteFailed = codes "write failed\n"

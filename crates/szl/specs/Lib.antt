@@ -2,6 +2,8 @@
 pub mod Settings
 pub mod Records
 pub mod Text
+pub mod Forms
+pub mod Judgement
 pub mod Outcome
 pub mod Promise
 -- what the functions inside the crate promise each other
@@ -9,6 +11,7 @@ pub mod View
 pub mod Cuts
 pub mod Failing
 pub mod Opening
+pub mod Judging
 pub mod Printing
 pub mod Totals
 pub mod Running

@@ -4,11 +4,18 @@ use Rattle.sz_io.specs.Rose.{Rose}
 use Rattle.sz_io.specs.declared.files.Files as files
 use Rattle.szl.specs.declared.status.Status.TheVariants as status
 use Rattle.szl.specs.declared.failure.Failure.{Failure}
-use Rattle.szl.specs.declared.failure.Failure.TheVariants.{ReadFailed, WriteFailed, NoMemory}
+use Rattle.szl.specs.declared.failure.Failure.TheVariants.{Refused, Limit, ReadFailed, WriteFailed, NoMemory}
 use Rattle.szl.specs.Failing.{status_of, line_of_failure}
-use Rattle.szl.specs.Outcome.{Answer, outcome_of_settings, success}
+use Rattle.szl.specs.Outcome.{Answer, outcome_of_judgement, outcome_of_settings, success}
+use Rattle.szl.specs.Judgement.{Judgement, IsJudged}
 use Rattle.szl.specs.Promise.{AreHeld, OpensFirst, names_asked, most_opened}
 use Rattle.szl.specs.Settings.{Settings}
+
+-- the failure may be that of a text past its limit
+abbrev pub IsPast : Failure → Type 0
+IsPast (Refused cause place) = ⊤
+IsPast Limit = ⊤
+IsPast failure = ⊥
 
 -- what reading a whole file says of its text: the text, that it is past the limit, that a read failed, or want of memory
 abbrev pub TellsText : List ℕ → ℕ → Failure → Type 0 → Result (List ℕ) Failure → Type 0
@@ -43,10 +50,13 @@ Decides (Err failure) answer rose = IsCause failure answer rose
 -- the answer is that of the outcome, for what the files hold under the names that settings ask for
 pub record Answers {F : Type 0} (the_files : files.Ghosts F) (asked : Option Settings) (old new : F) (answer : Result (List ℕ) Failure) : Type 0 where
   pub text : List ℕ
+  pub judgement : Judgement
+  pub judged : IsJudged text judgement
   pub input : List ℕ
   pub held : AreHeld asked (the_files.held old) text input
-  pub decides : Decides answer (outcome_of_settings asked text input) (Rose (the_files.faults old) (the_files.faults new))
-  pub opened : OpensFirst (names_asked asked) (the_files.names old) (the_files.names new) (most_opened (outcome_of_settings asked text input).status)
+  pub decides : Decides answer (outcome_of_settings asked judgement input) (Rose (the_files.faults old) (the_files.faults new))
+  pub opened : OpensFirst (names_asked asked) (the_files.names old) (the_files.names new)
+      (most_opened (outcome_of_settings asked judgement input).status)
 
 -- the answer is that of an outcome on what the file under the name holds; no file is opened for a refused program
 pub record AnswersOn {F : Type 0} (the_files : files.Ghosts F) (outcome_on : List ℕ → Answer) (name : List ℕ) (old new : F) (answer : Result (List ℕ) Failure) : Type 0 where
@@ -54,3 +64,9 @@ pub record AnswersOn {F : Type 0} (the_files : files.Ghosts F) (outcome_on : Lis
   pub holds : IfSome (the_files.held old name) (λ bytes. bytes ≡ input)
   pub decides : Decides answer (outcome_on input) (Rose (the_files.faults old) (the_files.faults new))
   pub opened : OpensFirst (name ∷ []) (the_files.names old) (the_files.names new) (most_opened (outcome_on input).status - 1)
+
+-- the answer is that of a judgement of the text, on what the file under the name holds
+pub record AnswersText {F : Type 0} (the_files : files.Ghosts F) (text name : List ℕ) (old new : F) (answer : Result (List ℕ) Failure) : Type 0 where
+  pub judgement : Judgement
+  pub judged : IsJudged text judgement
+  pub answers : AnswersOn the_files (outcome_of_judgement judgement) name old new answer

@@ -6,6 +6,7 @@ use Rattle.sz_io.specs.declared.files.Files as files
 use Rattle.sz_io.specs.declared.sink.Sink as sink
 use Rattle.szl.specs.declared.status.Status.{Status}
 use Rattle.szl.specs.declared.status.Status.TheVariants.{Done, Usage, Program, ReadFailed, WriteFailed, NoMemory}
+use Rattle.szl.specs.Judgement.{Judgement, IsJudged}
 use Rattle.szl.specs.Settings.{Settings, settings_in}
 use Rattle.szl.specs.Outcome.{Answer, outcome}
 
@@ -64,16 +65,19 @@ AreHeld None held text input = ⊤
 AreHeld (Some settings) held text input = IfSome (held settings.program) (λ bytes. bytes ≡ text) × IfSome (held settings.input) (λ bytes. bytes ≡ input)
 
 -- The call's status, its output, its line and the files that it opens are those of the outcome, for the bytes that the
--- files hold. Where a file doesn't tell its bytes, it is as if it held some.
+-- files hold and the judgement of the program's text. Where a file doesn't tell its bytes, it is as if it held some. Since
+-- a text has just one judgement, the outcome is determined by the words and the bytes.
 pub record MeansSource {F O E : Type 0} (the_files : files.Ghosts F) (the_out : sink.Ghosts O) (the_err : sink.Ghosts E)
     (words : List (List ℕ)) (status : Status) (files new_files : F) (out new_out : O) (err new_err : E) : Type 0 where
   pub text : List ℕ
+  pub judgement : Judgement
+  pub judged : IsJudged text judgement
   pub input : List ℕ
   pub held : AreHeld (settings_in words) (the_files.held files) text input
-  pub answers : IsStatusOf (outcome words text input) status
-  pub output : GainsOutput status (the_out.taken out) (the_out.taken new_out) (outcome words text input).output
-  pub line : GainsLine the_err err new_err (line_of (outcome words text input) status)
-  pub opened : OpensFirst (names_asked (settings_in words)) (the_files.names files) (the_files.names new_files) (most_opened (outcome words text input).status)
+  pub answers : IsStatusOf (outcome words judgement input) status
+  pub output : GainsOutput status (the_out.taken out) (the_out.taken new_out) (outcome words judgement input).output
+  pub line : GainsLine the_err err new_err (line_of (outcome words judgement input) status)
+  pub opened : OpensFirst (names_asked (settings_in words)) (the_files.names files) (the_files.names new_files) (most_opened (outcome words judgement input).status)
 
 -- each file opened since is at its end, and what is left of it is told where the bytes under both names are
 pub record AreReadToEnd {F : Type 0} (the_files : files.Ghosts F) (old new : F) (settings : Settings) : Type 0 where

@@ -6,9 +6,9 @@ use Rattle.sz_machine.specs.Machine.{RunsTo}
 use Rattle.szl.specs.declared.failure.Failure.{Failure}
 use Rattle.szl.specs.declared.failure.Failure.TheVariants.{Limit, NoMemory}
 use Rattle.sz_mean.specs.Tree.{Prog}
-use Rattle.sz_mean.specs.Programs.{program_in}
 use Rattle.szl.specs.declared.status.Status.TheVariants as status
-use Rattle.szl.specs.Outcome.{outcome_of_program, success, refusal, most_program_bytes}
+use Rattle.szl.specs.Outcome.{outcome_of_program, success, refusal}
+use Rattle.szl.specs.Judgement.{IsJudged, runs}
 use Rattle.szl.specs.Records.{records_in}
 use Rattle.szl.specs.Totals.{Totals, StandFor}
 
@@ -32,11 +32,10 @@ IsLimitOrMemory Limit = ⊤
 IsLimitOrMemory NoMemory = ⊤
 IsLimitOrMemory failure = ⊥
 
--- the program was read from a text within the limit
+-- some text is judged to be the program
 pub record IsRead (program : Prog) : Type 0 where
   pub text : List ℕ
-  pub short : length text ≤ most_program_bytes
-  pub reads : program_in text ≡ Some program
+  pub judged : IsJudged text (runs program)
 
 -- the bytes of a vector that a result holds, or its failure
 abbrev pub vec_items_of : {A : Type 0} → Result (Vec ℕ A) Failure → Result (List ℕ) Failure

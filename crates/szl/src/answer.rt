@@ -2,24 +2,30 @@
 ghost use Rattle.std.specs.Prelude.{◌≡◌, ◌<◌, ◌≤◌, ◌++◌, ◌∷◌, [], length, map, string_bytes, Some, OnOk, IfSome};
 ghost use Rattle.sz_io.specs.Opened.{KeepsFiles};
 ghost use Rattle.sz_io.specs.Calls.{ReadToEnd};
-ghost use Rattle.szl.specs.Opening.{Answers, AnswersOn};
-ghost use Rattle.szl.specs.Outcome.{outcome_of_text, outcome_of_program, most_program_bytes};
+ghost use Rattle.szl.specs.Opening.{Answers, AnswersOn, AnswersText};
+ghost use Rattle.szl.specs.Outcome.{outcome_of_program};
+ghost use Rattle.szl.specs.Judgement.{most_program_bytes};
 ghost use Rattle.szl.specs.Promise.{AreReadToEnd};
 ghost use Rattle.szl.specs.Running.{IsRead, vec_items_of};
 ghost use Rattle.szl.specs.Settings.{settings_in};
 ghost use Rattle.szl.specs.View.{seen_program, seen_settings};
 
 use crate::failure::Failure;
+use crate::judge::{program_in, tree_in};
 use crate::opening::read_text;
-use crate::reading::read_program;
+use crate::refusal::Cause;
 use crate::running::tables_of;
 use crate::tree::Program;
 use crate::words::{Settings, read_words};
 use std::alloc::Global;
 use sz_io::Files;
+use sz_types::Place;
 
 /// The most bytes of a program's text.
 const MOST_PROGRAM_BYTES: usize = 1_048_576;
+
+/// The place of a text's first byte.
+const FIRST_PLACE: Place = Place { line: 1, column: 1 };
 
 /// The most bytes of an input.
 const MOST_INPUT_BYTES: usize = 1 << 40;
@@ -53,7 +59,7 @@ fn answer_settings<F: Files>(
         files,
         settings.program,
         MOST_PROGRAM_BYTES,
-        Failure::TooLong,
+        Failure::Refused(Cause::TooLong, FIRST_PLACE),
     )?;
     answer_text(alloc, &text, settings.input, files)
 }
@@ -67,15 +73,14 @@ fn answer_text<F: Files>(
 ) -> Result<Vec<u8>, Failure>
     requires few { length (F.names files.old) < 128 }
     requires short { length text.now ≤ most_program_bytes }
-    ensures value { AnswersOn F.Files (outcome_of_text text.now) input.now files.old files.new (vec_items_of result) }
+    ensures value { AnswersText F.Files text.now input.now files.old files.new (vec_items_of result) }
     ensures end { OnOk result (ReadToEnd F.Files files.old files.new input.now) }
     ensures names { OnOk result (F.names files.new ≡ F.names files.old ++ input.now ∷ []) }
     ensures kept { KeepsFiles F.held F.left F.given F.faults files.old files.new }
 {
-    match read_program(alloc, text)? {
-        Some(program) => answer_program(alloc, &program, input, files),
-        None => Err(Failure::NotBuilt),
-    }
+    let tree = tree_in(alloc, text)?;
+    let program = program_in(alloc, &tree)?;
+    answer_program(alloc, &program, input, files)
 }
 
 /// The text of the program's tables for the input under a name.

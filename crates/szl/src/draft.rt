@@ -1,14 +1,20 @@
 //! A program in the making, statement by statement.
-ghost use Rattle.std.specs.Prelude.{◌≡◌, ◌≤◌, ◌+◌, ◌<◌, ◌∷◌, ℕ, [], ◌&&◌, ◌||◌, not, IsTrue, is_some, length, map, option_map, bytes_eq, IfOk, OnOk, Some, None, vec_len};
-ghost use Rattle.sz_mean.specs.Programs.{empty_draft, program_of, is_free, operand, value_in, declared_in, lexemes, sentence, statement, emission, declaration, variable_declared, with_table};
-ghost use Rattle.szl.specs.View.{seen_operand, seen_expr, texts, seen_draft, seen_program, drafted, HasRoom};
+ghost use Rattle.std.specs.Prelude.{◌≡◌, ◌<◌, not, ◌||◌, None, Some, map};
+ghost use Rattle.sz_types.specs.declared.place.Place.{Place as Where};
+ghost use Rattle.sz_tree.specs.Expressions.{exps_of};
+ghost use Rattle.sz_tree.specs.Statements.{table, declare, emit};
+ghost use Rattle.sz_tree.specs.View.{tree_of, type_of, table_of, stm_of};
+ghost use Rattle.szl.specs.Forms.{empty_draft, program_of, is_free, statement};
+ghost use Rattle.szl.specs.Judging.{Becomes};
+ghost use Rattle.szl.specs.View.{seen_draft, seen_program, HasRoom};
 
-use crate::lexemes::lexemes;
-use crate::names::{are, is_among, is_name, place_of};
-use crate::tree::{Draft, Expr, Operand, Program, Stmt};
-use crate::values::{is_decimal, operator_in};
-use std::alloc::{AllocError, Global};
-use sz_machine::number_in;
+use crate::forms::{is_int, is_sum};
+use crate::names::{is_among, is_predeclared, place_of};
+use crate::tree::{Draft, Program, Stmt};
+use crate::unfit::Unfit;
+use crate::values::{declared_value, value_of};
+use std::alloc::Global;
+use sz_tree::{Expr, Name, Stmt as Statement, Table, TypeTree};
 
 /// The most tables of a program.
 const MOST_TABLES: usize = 64;
@@ -29,163 +35,103 @@ impl<'t> Draft<'t> {
     fn is_free(&self, name: &[u8]) -> bool
         ensures value { result ≡ is_free name.now (seen_draft self.now) }
     {
-        is_name(name) && !(is_among(name, &self.tables) || is_among(name, &self.variables))
+        !(is_predeclared(name) || is_among(name, &self.tables) || is_among(name, &self.variables))
     }
 
-    /// The operand that the lexeme is.
-    fn operand(&self, lexeme: &[u8]) -> Option<Operand>
-        requires { HasRoom (seen_draft self.now) }
-        ensures value { option_map seen_operand result ≡ operand (seen_draft self.now) lexeme.now }
+    /// Adds the table that is declared so.
+    fn add_table(&mut self, name: &'t Name, of: &Table) -> Result<(), Unfit>
+        ensures value { Becomes result self.new (statement (seen_draft self.old) (table name.now (table_of of.now))) }
     {
-        if is_decimal(lexeme) {
-            Some(Operand::Number(number_in(lexeme)?))
+        if is_sum(of) && self.is_free(name.text()) && self.tables.len() < MOST_TABLES {
+            self.tables.push(name.text())?;
+            Ok(())
         } else {
-            Some(Operand::Variable(place_of(lexeme, &self.variables)? as u32))
+            Err(Unfit::Form)
         }
     }
 
-    /// The value that the lexemes are.
-    #[tactic(auto, using(crate::proofs::ReadingLemmas::value_in_none))]
-    fn value(&self, lexemes: &[&[u8]]) -> Option<Expr>
-        requires { HasRoom (seen_draft self.now) }
-        ensures value { option_map seen_expr result ≡ value_in (seen_draft self.now) (texts lexemes.now) }
+    /// Adds the variable that is declared so.
+    fn add_variable(
+        &mut self,
+        alloc: Global,
+        name: &'t Name,
+        of: &TypeTree,
+        value: &Expr,
+    ) -> Result<(), Unfit>
+        requires room { HasRoom (seen_draft self.old) }
+        ensures value { Becomes result self.new
+            (statement (seen_draft self.old) (declare name.now (type_of of.now) (Some (tree_of value.now)))) }
     {
-        match lexemes {
-            [one] => Some(Expr::Operand(self.operand(one)?)),
-            [left, operator, right] => {
-                let left = self.operand(left)?;
-                let operator = operator_in(operator)?;
-                Some(Expr::Binary(operator, left, self.operand(right)?))
-            }
-            _ => None,
-        }
-    }
-
-    /// The value of a declaration: the record as a number, or a value.
-    fn declared(&self, lexemes: &[&[u8]]) -> Option<Expr>
-        requires { HasRoom (seen_draft self.now) }
-        ensures value { option_map seen_expr result ≡ declared_in (seen_draft self.now) (texts lexemes.now) }
-    {
-        if are(lexemes, &["input"]) {
-            Some(Expr::Input)
+        if is_int(of) && self.is_free(name.text()) {
+            let value = declared_value(alloc, &self.variables, value)?;
+            self.body
+                .push(Stmt::Declare(self.variables.len() as u32, value))?;
+            self.variables.push(name.text())?;
+            Ok(())
         } else {
-            self.value(lexemes)
+            Err(Unfit::Form)
         }
     }
 
-    /// Adds a table, if there may be one more.
-    fn add_table(&mut self, name: &'t [u8]) -> Result<bool, AllocError>
-        ensures value { IfOk result (λ found. drafted found self.new ≡ with_table name.now (seen_draft self.old)) }
+    /// Adds the emit of a value to a table, which has no indexes.
+    #[tactic(auto, using(crate::proofs::FormLemmas::emit_indexed))]
+    fn add_emit(
+        &mut self,
+        alloc: Global,
+        name: &Name,
+        indexes: &[Expr],
+        value: &Expr,
+    ) -> Result<(), Unfit>
+        requires room { HasRoom (seen_draft self.old) }
+        ensures value { (place : Where) → Becomes result self.new
+            (statement (seen_draft self.old) (emit place name.now (exps_of (map tree_of indexes.now)) (tree_of value.now) None)) }
     {
-        if self.tables.len() < MOST_TABLES {
-            self.tables.push(name)?;
-            Ok(true)
-        } else {
-            Ok(false)
-        }
-    }
-
-    /// Adds the variable that `NAME: int` and what follows declare.
-    fn add_variable(&mut self, name: &'t [u8], rest: &[&[u8]]) -> Result<bool, AllocError>
-        requires { HasRoom (seen_draft self.old) }
-        ensures value { IfOk result (λ found. drafted found self.new ≡ variable_declared (seen_draft self.old) name.now (texts rest.now)) }
-    {
-        match rest {
-            [sign, value @ ..] if *sign == b"=".as_slice() => {
-                let Some(value) = self.declared(value) else {
-                    return Ok(false);
+        match indexes {
+            [] => {
+                let Some(table) = place_of(name.text(), &self.tables) else {
+                    return Err(Unfit::Form);
                 };
-                self.body
-                    .push(Stmt::Declare(self.variables.len() as u32, value))?;
-                self.variables.push(name)?;
-                Ok(true)
+                let value = value_of(alloc, &self.variables, value)?;
+                self.body.push(Stmt::Emit(table as u32, value))?;
+                Ok(())
             }
-            _ => Ok(false),
+            [_, ..] => Err(Unfit::Form),
         }
     }
 
-    /// Adds the declaration `NAME: KIND` and what follows.
-    fn declaration(
-        &mut self,
-        name: &'t [u8],
-        kind: &[u8],
-        rest: &[&[u8]],
-    ) -> Result<bool, AllocError>
-        requires { HasRoom (seen_draft self.old) }
-        ensures value { IfOk result (λ found. drafted found self.new ≡ declaration (seen_draft self.old) name.now kind.now (texts rest.now)) }
+    /// Adds the statement, if it runs today.
+    #[tactic(auto, using(crate::proofs::FormLemmas::emit_weighted))]
+    pub fn add(&mut self, alloc: Global, statement: &'t Statement) -> Result<(), Unfit>
+        requires room { HasRoom (seen_draft self.old) }
+        ensures value { Becomes result self.new (statement (seen_draft self.old) (stm_of statement.now)) }
     {
-        if kind == b"table".as_slice() {
-            if are(rest, &["sum", "of", "int"]) {
-                self.add_table(name)
-            } else {
-                Ok(false)
+        match statement {
+            Statement::Table(name, of) => self.add_table(name, of),
+            Statement::Declare(name, of, Some(value)) => self.add_variable(alloc, name, of, value),
+            Statement::Emit(_, name, indexes, value, None) => {
+                self.add_emit(alloc, name, indexes, value)
             }
-        } else if kind == b"int".as_slice() {
-            self.add_variable(name, rest)
-        } else {
-            Ok(false)
+            Statement::Declare(_, _, None)
+            | Statement::Emit(_, _, _, _, Some(_))
+            | Statement::Empty(_)
+            | Statement::Block(_, _)
+            | Statement::Define(_, _)
+            | Statement::Static(_, _, _, _)
+            | Statement::Type(_, _, _)
+            | Statement::Function(_, _, _, _)
+            | Statement::Simple(_)
+            | Statement::If(_, _, _, _)
+            | Statement::While(_, _, _)
+            | Statement::DoWhile(_, _, _)
+            | Statement::For(_, _, _, _, _)
+            | Statement::Break(_)
+            | Statement::Continue(_)
+            | Statement::Return(_, _)
+            | Statement::When(_, _, _, _) => Err(Unfit::Form),
         }
     }
 
-    /// Adds the emit of a value to a table.
-    fn emission(&mut self, table: &[u8], value: &[&[u8]]) -> Result<bool, AllocError>
-        requires { HasRoom (seen_draft self.old) }
-        ensures value { IfOk result (λ found. drafted found self.new ≡ emission (seen_draft self.old) table.now (texts value.now)) }
-    {
-        let Some(table) = place_of(table, &self.tables) else {
-            return Ok(false);
-        };
-        let Some(value) = self.value(value) else {
-            return Ok(false);
-        };
-        self.body.push(Stmt::Emit(table as u32, value))?;
-        Ok(true)
-    }
-
-    /// Adds the statement that the text is, without its semicolon, and tells whether it is one.
-    pub fn statement(&mut self, alloc: Global, text: &'t [u8]) -> Result<bool, AllocError>
-        requires { HasRoom (seen_draft self.old) }
-        ensures value { IfOk result (λ found. drafted found self.new ≡ statement (seen_draft self.old) (lexemes text.now)) }
-    {
-        let lexemes = lexemes(alloc, text)?;
-        self.statement_of(&lexemes)
-    }
-
-    /// Adds the statement that the lexemes are.
-    #[tactic(auto, using(crate::proofs::ReadingLemmas::statement_none))]
-    fn statement_of(&mut self, lexemes: &[&'t [u8]]) -> Result<bool, AllocError>
-        requires { HasRoom (seen_draft self.old) }
-        ensures value { IfOk result (λ found. drafted found self.new ≡ statement (seen_draft self.old) (texts lexemes.now)) }
-    {
-        match lexemes {
-            [first, second, third, rest @ ..] => self.sentence(first, second, third, rest),
-            _ => Ok(false),
-        }
-    }
-
-    /// Adds the statement that begins with these three lexemes.
-    #[tactic(auto, unfolding(sz_mean::specs::Programs::sentence))]
-    fn sentence(
-        &mut self,
-        first: &'t [u8],
-        second: &'t [u8],
-        third: &'t [u8],
-        rest: &[&'t [u8]],
-    ) -> Result<bool, AllocError>
-        requires { HasRoom (seen_draft self.old) }
-        ensures value { IfOk result (λ found. drafted found self.new
-            ≡ sentence (seen_draft self.old) first.now second.now third.now (texts rest.now)) }
-    {
-        if first == b"emit".as_slice() && third == b"<-".as_slice() {
-            self.emission(second, rest)
-        } else if second == b":".as_slice() && self.is_free(first) {
-            self.declaration(first, third, rest)
-        } else {
-            Ok(false)
-        }
-    }
-
-    /// The program at the end of its text.
+    /// The program at the end of its statements.
     pub fn finish(self) -> Program<'t>
         requires { HasRoom (seen_draft self) }
         ensures value { seen_program result ≡ program_of (seen_draft self.entry) }

@@ -2,19 +2,20 @@
 ghost use Rattle.std.specs.Prelude.{◌≡◌};
 ghost use Rattle.szl.specs.Failing.{status_of, line_of_failure};
 
+use crate::refusal::Cause;
 use crate::status::Status;
 use std::alloc::AllocError;
-use sz_io::{ReadError, WriteError};
+use sz_lex::LexError;
+use sz_parse::ParseError;
+use sz_types::Place;
 
 /// The causes, each with a status and a line of its own.
 #[derive(Clone, Copy, Debug)]
 pub enum Failure {
     /// The words are no command line.
     Usage,
-    /// The program's text has more than 1,048,576 bytes.
-    TooLong,
-    /// The text has a form that isn't built yet.
-    NotBuilt,
+    /// The program's text is refused, for this cause at this place.
+    Refused(Cause, Place),
     /// The input passes a limit.
     Limit,
     /// A file couldn't be opened or read.
@@ -32,26 +33,11 @@ impl Failure {
     {
         match self {
             Failure::Usage => Status::Usage,
-            Failure::TooLong | Failure::NotBuilt => Status::Program,
+            Failure::Refused(_, _) => Status::Program,
             Failure::Limit => Status::Limit,
             Failure::ReadFailed => Status::ReadFailed,
             Failure::WriteFailed => Status::WriteFailed,
             Failure::NoMemory => Status::NoMemory,
-        }
-    }
-
-    /// The line on the error stream, with its newline.
-    pub fn line(self) -> &'static str
-        ensures value { result.now ≡ line_of_failure self }
-    {
-        match self {
-            Failure::Usage => "bad command line\n",
-            Failure::TooLong => "program: too long at 1:1\n",
-            Failure::NotBuilt => "program: not built yet at 1:1\n",
-            Failure::Limit => "input limit at byte 0\n",
-            Failure::ReadFailed => "read failed\n",
-            Failure::WriteFailed => "write failed\n",
-            Failure::NoMemory => "out of memory\n",
         }
     }
 }
@@ -63,5 +49,33 @@ impl From<AllocError> for Failure {
 
     fn from(_: AllocError) -> Failure {
         Failure::NoMemory
+    }
+}
+
+impl From<LexError> for Failure {
+    ghost use Rattle.szl.specs.Judging.{failure_of_lexing};
+
+    ghost from_gives = { λ error failure. failure ≡ failure_of_lexing error };
+
+    fn from(error: LexError) -> Failure {
+        match error {
+            LexError::BadChar(place) => Failure::Refused(Cause::BadChar, place),
+            LexError::BadLiteral(place) => Failure::Refused(Cause::BadLiteral, place),
+            LexError::NotUtf8(place) => Failure::Refused(Cause::NotUtf8, place),
+            LexError::NoMemory => Failure::NoMemory,
+        }
+    }
+}
+
+impl From<ParseError> for Failure {
+    ghost use Rattle.szl.specs.Judging.{failure_of_parsing};
+
+    ghost from_gives = { λ error failure. failure ≡ failure_of_parsing error };
+
+    fn from(error: ParseError) -> Failure {
+        match error {
+            ParseError::Syntax(place) => Failure::Refused(Cause::Syntax, place),
+            ParseError::NoMemory => Failure::NoMemory,
+        }
     }
 }

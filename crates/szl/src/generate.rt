@@ -1,9 +1,9 @@
 //! The code of a program.
 ghost use Rattle.std.specs.Prelude.{◌≡◌, ◌++◌, ◌∷◌, [], map, IfOk, OnOk};
 ghost use Rattle.szl.specs.Code.{IsCodeOf, expr_code, stmt_code, body_code};
-ghost use Rattle.szl.specs.View.{seen_operand, seen_expr, seen_stmt, seen_program};
+ghost use Rattle.szl.specs.View.{seen_expr, seen_stmt, seen_program};
 
-use crate::tree::{Expr, Operand, Program, Stmt};
+use crate::tree::{Expr, Program, Stmt};
 use std::alloc::{AllocError, Global};
 use sz_machine::{Code, Instr};
 
@@ -13,7 +13,7 @@ pub fn compile(alloc: Global, program: &Program) -> Result<Code, AllocError>
 {
     let mut instructions = Vec::new(alloc);
     for statement in &program.body {
-        push_statement(&mut instructions, *statement)?;
+        push_statement(&mut instructions, statement)?;
     }
     instructions.push(Instr::EndRecord)?;
     Ok(Code {
@@ -23,48 +23,39 @@ pub fn compile(alloc: Global, program: &Program) -> Result<Code, AllocError>
 }
 
 /// Appends the code of a statement.
-fn push_statement(code: &mut Vec<Instr>, statement: Stmt) -> Result<(), AllocError>
-    ensures value { OnOk result (code.new.items ≡ code.old.items ++ stmt_code (seen_stmt statement)) }
+fn push_statement(code: &mut Vec<Instr>, statement: &Stmt) -> Result<(), AllocError>
+    ensures value { OnOk result (code.new.items ≡ code.old.items ++ stmt_code (seen_stmt statement.now)) }
 {
     match statement {
         Stmt::Declare(local, value) => {
             push_expression(code, value)?;
-            code.push(Instr::Keep(local))?;
+            code.push(Instr::Keep(*local))?;
         }
         Stmt::Emit(table, value) => {
             push_expression(code, value)?;
-            code.push(Instr::Emit(table))?;
+            code.push(Instr::Emit(*table))?;
         }
     }
     Ok(())
 }
 
 /// Appends the code of an expression.
-fn push_expression(code: &mut Vec<Instr>, expression: Expr) -> Result<(), AllocError>
-    ensures value { OnOk result (code.new.items ≡ code.old.items ++ expr_code (seen_expr expression)) }
+#[cycle(expression)]
+fn push_expression(code: &mut Vec<Instr>, expression: &Expr) -> Result<(), AllocError>
+    ensures value { OnOk result (code.new.items ≡ code.old.items ++ expr_code (seen_expr expression.now)) }
 {
     match expression {
         Expr::Input => {
             code.push(Instr::Input)?;
             code.push(Instr::Convert)?;
         }
-        Expr::Operand(operand) => push_operand(code, operand)?,
+        Expr::Number(number) => code.push(Instr::Push(*number))?,
+        Expr::Variable(local) => code.push(Instr::Local(*local))?,
         Expr::Binary(operator, left, right) => {
-            push_operand(code, left)?;
-            push_operand(code, right)?;
-            code.push(Instr::Binary(operator))?;
+            push_expression(code, left)?;
+            push_expression(code, right)?;
+            code.push(Instr::Binary(*operator))?;
         }
-    }
-    Ok(())
-}
-
-/// Appends the code of an operand.
-fn push_operand(code: &mut Vec<Instr>, operand: Operand) -> Result<(), AllocError>
-    ensures value { OnOk result (code.new.items ≡ code.old.items ++ expr_code (seen_operand operand)) }
-{
-    match operand {
-        Operand::Number(number) => code.push(Instr::Push(number))?,
-        Operand::Variable(local) => code.push(Instr::Local(local))?,
     }
     Ok(())
 }

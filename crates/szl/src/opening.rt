@@ -1,10 +1,9 @@
 //! The files of a command line.
-ghost use Rattle.std.specs.Prelude.{◌≡◌, ◌<◌, ℕ, length, OnOk, ◌⊎◌, Ok};
+ghost use Rattle.std.specs.Prelude.{◌≡◌, ◌<◌, ℕ, length, OnOk, Ok};
 ghost use Rattle.sz_io.specs.Rose.{Rose};
 ghost use Rattle.sz_io.specs.Opened.{KeepsFiles};
 ghost use Rattle.sz_io.specs.Calls.{ReadToEnd};
-ghost use Rattle.szl.specs.declared.failure.Failure.TheVariants.{TooLong, Limit};
-ghost use Rattle.szl.specs.Opening.{ReadsText, GainsName};
+ghost use Rattle.szl.specs.Opening.{IsPast, ReadsText, GainsName};
 ghost use Rattle.szl.specs.Running.{vec_items_of};
 
 use crate::failure::Failure;
@@ -20,7 +19,7 @@ pub fn read_text<F: Files>(
     past: Failure,
 ) -> Result<Vec<u8>, Failure>
     requires few { length (F.names files.old) < 128 }
-    requires past { (past ≡ TooLong) ⊎ (past ≡ Limit) }
+    requires past { IsPast past }
     ensures text { ReadsText (F.held files.old name.now) limit past (Rose (F.faults files.old) (F.faults files.new)) (vec_items_of result) }
     ensures names { GainsName (F.names files.old) (F.names files.new) name.now (vec_items_of result) }
     ensures end { OnOk result (ReadToEnd F.Files files.old files.new name.now) }

@@ -5,6 +5,8 @@ ghost use Rattle.sz_io.specs.MemFiles.{names_opened};
 use crate::status::Status;
 use crate::top::szl_main;
 use std::alloc::Global;
+use std::fmt::Write;
+use std::process::Abort;
 use std::test::Fail;
 use std::thread::Threads;
 use sz_io::{MemFiles, MemSink, NoGate, NoMemory};
@@ -116,24 +118,183 @@ fn tables_hold_the_sums_of_all_lines(rt: HostRuntime) -> Result<(), Fail> {
     Ok(())
 }
 
-#[test]
-fn other_forms_are_not_built(rt: HostRuntime) -> Result<(), Fail> {
-    for program in [
-        "c: table sum of int;\nx: int = input;\nif (x > 0) emit c <- 1;\n",
-        "x: int = input",
-        "x: int = 07;",
-        "x: int = 1; x: int = 2;",
-        "input: int = 1;",
-        "emit c <- 1;",
-        "x: int = 1; ;",
-        "# nothing\n",
-    ] {
-        let ran = run(&rt, rt.alloc(), "run p f", &sound_case(program, "1\n"))?;
-        assert!(&rt;
-            has_left(&ran, Status::Program, "", "program: not built yet at 1:1\n"),
-            "at {program}"
-        );
+/// The program that a line of a table of cases stands for: `|` stands for the end of a line.
+fn program_of(alloc: Global, line: &str) -> Result<Vec<u8>, Fail> {
+    let mut program = Vec::with_capacity(alloc, line.len())?;
+    for byte in line.bytes() {
+        program.push(if byte == b'|' { b'\n' } else { byte })?;
     }
+    Ok(program)
+}
+
+/// In each line of the table a program stands before `=>`, and what a run over the input `3` leaves behind it: a number,
+/// which is the sum of the table `c`, or why the program is refused.
+fn holds<R: Threads + Sync + Abort>(rt: &R, alloc: Global, table: &str) -> Result<(), Fail> {
+    for line in table.lines() {
+        let (program, expected) = line.split_once(" => ").ok_or("no arrow")?;
+        let program = program_of(alloc, program)?;
+        let case = Case {
+            program: &program,
+            ..sound_case("", "3\n")
+        };
+        let left = run(rt, alloc, "run p f", &case)?;
+        let found = if left.status == Status::Program {
+            left.err.bytes()
+        } else {
+            left.out.bytes()
+        };
+        let found = std::str::from_utf8(found).or(Err("not UTF-8"))?;
+        assert_eq!(rt; found.trim_end(), expected, "at {line}");
+    }
+    Ok(())
+}
+
+#[test]
+fn a_refusal_has_its_cause_and_its_place(rt: HostRuntime) -> Result<(), Fail> {
+    let table = "\
+x: int = 07; => program: bad literal at 1:10
+a ? b => program: bad character at 1:3
+c: table sum of int;|emit c <- ; => program: syntax at 2:1
+c: table sum of int;|x: int = input;|if (x > 0) emit c <- 1; => program: not built yet at 3:1
+x: int = input => program: syntax at 1:1
+x: bool = true;|y: int = 07; => program: bad literal at 2:10
+x: bool = true;|emit ; => program: syntax at 2:1
+x: bool = true;|y: int = 1; => program: not built yet at 1:1
+y: int = 1;|x: bool = true;|y: int = 2; => program: not built yet at 2:1
+# nothing|  ; => program: not built yet at 2:3";
+    holds(&rt, rt.alloc(), table)?;
+    let bad = Case {
+        program: &[255],
+        ..sound_case("", "3\n")
+    };
+    let left = run(&rt, rt.alloc(), "run p f", &bad)?;
+    assert!(&rt; has_left(&left, Status::Program, "", "program: not UTF-8 at 1:1\n"));
+    Ok(())
+}
+
+#[test]
+fn a_broken_rule_is_refused_at_its_statement(rt: HostRuntime) -> Result<(), Fail> {
+    let table = "\
+c: table sum of int; emit c <- y; => program: not built yet at 1:22
+c: table sum of int; emit c <- 1 + (2 * y); => program: not built yet at 1:22
+emit c <- 1; => program: not built yet at 1:1
+x: int = x; => program: not built yet at 1:1
+x: int = 1; emit x <- 1; => program: not built yet at 1:13
+c: table sum of int; x: int = c; => program: not built yet at 1:22
+x: int = 1; x: int = 2; => program: not built yet at 1:13
+c: table sum of int; c: int = 1; => program: not built yet at 1:22
+c: int = 1; c: table sum of int; => program: not built yet at 1:13
+input: int = 1; => program: not built yet at 1:1
+len: int = 1; => program: not built yet at 1:1
+keys: int = 1; => program: not built yet at 1:1
+haskey: int = 1; => program: not built yet at 1:1
+strfind: table sum of int; => program: not built yet at 1:1";
+    holds(&rt, rt.alloc(), table)
+}
+
+#[test]
+fn another_form_is_refused_at_its_statement(rt: HostRuntime) -> Result<(), Fail> {
+    let table = "\
+x: int = 1; ; => program: not built yet at 1:13
+x: int = (input); => program: not built yet at 1:1
+x: int = input + 1; => program: not built yet at 1:1
+x: int = 'a'; => program: not built yet at 1:1
+x: int = -1; => program: not built yet at 1:1
+x: int = 1 / 1; => program: not built yet at 1:1
+x: int = len(1); => program: not built yet at 1:1
+x: int; => program: not built yet at 1:1
+x: bool = 1; => program: not built yet at 1:1
+x := 1; => program: not built yet at 1:1
+x: int = 1; x = 2; => program: not built yet at 1:13
+{ x: int = 1; } => program: not built yet at 1:1
+c: table sum of bool; => program: not built yet at 1:1
+c: table sum of n: int; => program: not built yet at 1:1
+c: table sum(1) of int; => program: not built yet at 1:1
+c: table sum[int] of int; => program: not built yet at 1:1
+c: table sum of int weight int; => program: not built yet at 1:1
+c: table set(2) of int; => program: not built yet at 1:1
+c: table sum of int; emit c[1] <- 1; => program: not built yet at 1:22
+c: table sum of int; emit c <- 1 weight 1; => program: not built yet at 1:22
+c: table sum of int; emit c <- input; => program: not built yet at 1:22";
+    holds(&rt, rt.alloc(), table)
+}
+
+#[test]
+fn values_are_computed_as_they_are_grouped(rt: HostRuntime) -> Result<(), Fail> {
+    let table = "\
+c: table sum of int; x: int = input; emit c <- (x + 1) * 2; => c[] = 8
+c: table sum of int; x: int = input; emit c <- x + 1 * 2; => c[] = 5
+c: table sum of int; x: int = input; emit c <- 10 - x - 2; => c[] = 5
+c: table sum of int; x: int = input; emit c <- 10 - (x - 2); => c[] = 9
+c: table sum of int; x: int = input; emit c <- ((x)) * (x * x); => c[] = 27
+c: table sum of int; x: int = input; y: int = x * 2; emit c <- y - x * y; => c[] = -12
+sum: int = 4; c: table sum of int; emit c <- sum; => c[] = 4
+c: table sum of int; emit c <- 0x10 - 0xffffffffffffffff; => c[] = 17
+# what is counted|c: table sum of int; # a table|\temit c <- # one|1;# the end => c[] = 1";
+    holds(&rt, rt.alloc(), table)
+}
+
+/// The text `before`, then one piece `count` times, then `middle`, then another piece as often, then `after`.
+fn nested(
+    alloc: Global,
+    count: usize,
+    [before, open, middle, close, after]: [&str; 5],
+) -> Result<Vec<u8>, Fail> {
+    let mut text = Vec::new(alloc);
+    text.extend_from_slice(before.as_bytes())?;
+    for _ in 0..count {
+        text.extend_from_slice(open.as_bytes())?;
+    }
+    text.extend_from_slice(middle.as_bytes())?;
+    for _ in 0..count {
+        text.extend_from_slice(close.as_bytes())?;
+    }
+    text.extend_from_slice(after.as_bytes())?;
+    Ok(text)
+}
+
+#[test]
+fn a_statement_may_be_256_high(rt: HostRuntime) -> Result<(), Fail> {
+    let alloc = rt.alloc();
+    let pairs = ["c: table sum of int;\nx: int = ", "(", "1", ")", ";\nemit c <- x;"];
+    let alone = ["x: int = ", "(", "1", ")", ";"];
+    let sums = ["c: table sum of int;\nx: int = 1", " + 1", "", "", ";\nemit c <- x;"];
+    for (count, parts, status, out, err) in [
+        (254, pairs, Status::Done, "c[] = 1\n", ""),
+        (255, pairs, Status::Program, "", "program: syntax at 2:1\n"),
+        (300, alone, Status::Program, "", "program: syntax at 1:1\n"),
+        (254, sums, Status::Done, "c[] = 255\n", ""),
+        (255, sums, Status::Program, "", "program: syntax at 2:1\n"),
+    ] {
+        let program = nested(alloc, count, parts)?;
+        let case = Case {
+            program: &program,
+            ..sound_case("", "3\n")
+        };
+        let left = run(&rt, alloc, "run p f", &case)?;
+        assert!(&rt; has_left(&left, status, out, err), "at {count}");
+    }
+    Ok(())
+}
+
+/// So many tables, each declared in a line of its own.
+fn tables(alloc: Global, count: u32) -> Result<String, Fail> {
+    let mut text = String::new(alloc);
+    for number in 0..count {
+        writeln!(text, "t{number}: table sum of int;")?;
+    }
+    Ok(text)
+}
+
+#[test]
+fn a_program_has_64_tables_at_most(rt: HostRuntime) -> Result<(), Fail> {
+    let alloc = rt.alloc();
+    let most = tables(alloc, 64)?;
+    let left = run(&rt, alloc, "run p f", &sound_case(&most, "3\n"))?;
+    assert!(&rt; has_left(&left, Status::Done, "", ""));
+    let more = tables(alloc, 65)?;
+    let left = run(&rt, alloc, "run p f", &sound_case(&more, "3\n"))?;
+    assert!(&rt; has_left(&left, Status::Program, "", "program: not built yet at 65:1\n"));
     Ok(())
 }
 

@@ -1,24 +1,18 @@
-//! A program as a tree, with numbers for its names.
+//! A program that runs, with numbers for its names.
 use sz_mean::BinOp;
 
-/// A number, or a variable by its number.
-#[derive(Clone, Copy, Debug)]
-pub enum Operand {
-    Number(i64),
-    Variable(u32),
-}
-
-/// What gives a slot.
-#[derive(Clone, Copy, Debug)]
+/// What gives a slot. Variables are numbered from 0.
+#[derive(Debug, Drop)]
 pub enum Expr {
     /// The record, converted to a whole number.
     Input,
-    Operand(Operand),
-    Binary(BinOp, Operand, Operand),
+    Number(i64),
+    Variable(u32),
+    Binary(BinOp, Box<Expr>, Box<Expr>),
 }
 
 /// A statement that does something when a record runs. Variables and tables are numbered from 0.
-#[derive(Clone, Copy, Debug)]
+#[derive(Debug, Drop)]
 pub enum Stmt {
     /// Declares the variable with its value.
     Declare(u32, Expr),

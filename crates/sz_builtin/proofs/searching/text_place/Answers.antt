@@ -1,36 +1,37 @@
 -- A text stands in another between characters.
-use Rattle.std.proofs.Common.{◌≡◌, ◌-◌, ◌∙◌, Some, None, length, take, ap, subst, arith}
-use Rattle.std.specs.Str.{chars}
+use Rattle.std.proofs.Common.{◌≡◌, ◌∙◌, Option, Some, None, List, ℕ, ap, subst}
 use Rattle.memchr.specs.Find.{FindsNeedle}
 use Rattle.sz_builtin.proofs.PlaceLemmas.{text_place_is, cut_at_place, bytes_first}
 use Rattle.sz_builtin.proofs.searching.text_place.Goals as goal
 
-pub range-requires-clause-end_boundary : goal.range-requires-clause-end_boundary
-range-requires-clause-end_boundary c =
+-- what is found in the bytes of two texts is found in the texts
+in_texts : {hay needle hay_bytes needle_bytes : List ℕ} (found : Option ℕ) → hay_bytes ≡ hay → needle_bytes ≡ needle
+    → FindsNeedle hay_bytes needle_bytes 0 found → FindsNeedle hay needle 0 found
+in_texts {hay} {needle} {hay_bytes} {needle_bytes} found same same_needle finds =
+    subst (λ h. FindsNeedle h needle 0 found) same (subst (λ n. FindsNeedle hay_bytes n 0 found) same_needle finds)
+
+pub characters_before-requires : goal.characters_before-requires
+characters_before-requires c =
     let hay = c.args.hay.now in
     let needle = c.args.needle.now in
-    let found : FindsNeedle hay needle 0 (Some c.in-Some.at) =
-    subst (λ h. FindsNeedle h needle 0 (Some c.in-Some.at)) c.as_bytes.ensures.value
-    (subst (λ n. FindsNeedle c.as_bytes.result.now n 0 (Some c.in-Some.at)) c.as_bytes-2.ensures.value c.in-Some.ensures) in
-    cut_at_place hay needle c.in-Some.at c.utf8.hay c.utf8.needle (bytes_first hay needle (Some c.in-Some.at) found)
+    let at = c.in-Some.at in
+    let found : FindsNeedle hay needle 0 (Some at) =
+    in_texts (Some at) (c.as_bytes.ensures.value ∙ c.as_str.ensures.value) (c.as_bytes-2.ensures.value ∙ c.as_str-2.ensures.value) c.in-Some.ensures in
+    record { cut = cut_at_place hay needle at c.as_str.ensures.utf8 c.as_str-2.ensures.utf8 (bytes_first hay needle (Some at) found) }
 
 pub returns-in-Some-clause-value : goal.returns-in-Some-clause-value
 returns-in-Some-clause-value c =
     let hay = c.args.hay.now in
     let needle = c.args.needle.now in
-    let found : FindsNeedle hay needle 0 (Some c.in-Some.at) =
-    subst (λ h. FindsNeedle h needle 0 (Some c.in-Some.at)) c.as_bytes.ensures.value
-    (subst (λ n. FindsNeedle c.as_bytes.result.now n 0 (Some c.in-Some.at)) c.as_bytes-2.ensures.value c.in-Some.ensures) in
-    let same : c.in-Some.at - 0 ≡ c.in-Some.at = omega arith in
-    let front = c.range.ensures.value ∙ ap (λ n. take n hay) same in
-    ap Some (c.character_count.ensures.value ∙ ap (λ t. length (chars t)) front)
-    ∙ text_place_is hay needle (Some c.in-Some.at) c.utf8.hay c.utf8.needle found
+    let at = c.in-Some.at in
+    let found : FindsNeedle hay needle 0 (Some at) =
+    in_texts (Some at) (c.as_bytes.ensures.value ∙ c.as_str.ensures.value) (c.as_bytes-2.ensures.value ∙ c.as_str-2.ensures.value) c.in-Some.ensures in
+    ap Some c.characters_before.ensures.value ∙ text_place_is hay needle (Some at) c.as_str.ensures.utf8 c.as_str-2.ensures.utf8 found
 
 pub returns-in-None-clause-value : goal.returns-in-None-clause-value
 returns-in-None-clause-value c =
     let hay = c.args.hay.now in
     let needle = c.args.needle.now in
     let found : FindsNeedle hay needle 0 None =
-    subst (λ h. FindsNeedle h needle 0 None) c.as_bytes.ensures.value
-    (subst (λ n. FindsNeedle c.as_bytes.result.now n 0 None) c.as_bytes-2.ensures.value c.in-None.ensures) in
-    text_place_is hay needle None c.utf8.hay c.utf8.needle found
+    in_texts None (c.as_bytes.ensures.value ∙ c.as_str.ensures.value) (c.as_bytes-2.ensures.value ∙ c.as_str-2.ensures.value) c.in-None.ensures in
+    text_place_is hay needle None c.as_str.ensures.utf8 c.as_str-2.ensures.utf8 found

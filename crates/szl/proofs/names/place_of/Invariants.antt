@@ -1,7 +1,7 @@
 use Rattle.std.proofs.Common.{◌≡◌, drop}
 use Rattle.std.specs.Prelude.{bytes_eq}
 use Rattle.std.specs.List.{position_from}
-use Rattle.sz_mean.specs.Programs.{place_of}
+use Rattle.szl.specs.Forms.{place_of}
 use Rattle.szl.specs.View.{texts}
 use Rattle.szl.proofs.names.place_of.Given as goal
 

@@ -1,0 +1,4 @@
+pub mod ForCallers
+pub mod RowLemmas
+pub mod LawLemmas
+mod ExampleLemmas

@@ -1,0 +1,53 @@
+//! Checked statements.
+ghost use Rattle.std.specs.Prelude.{◌≡◌, map};
+ghost use Rattle.sz_core.specs.Statements.{block, stms_of};
+ghost use Rattle.sz_core.specs.View.{stm_of};
+
+use crate::expr::CoreExpr;
+use sz_types::Place;
+
+/// A step from a value into it.
+#[derive(Drop)]
+pub enum CoreStep {
+    /// To the element under an index or a key.
+    Index(CoreExpr),
+    /// To the part at a place, counted from 0.
+    Field(u32),
+}
+
+/// A statement. Variables and tables go by their numbers, each kind from 0. Contracts see it by `stm_of` of
+/// `specs/View.antt`.
+#[derive(Drop)]
+pub enum CoreStmt {
+    Block(Vec<CoreStmt>),
+    /// The variable is undefined from here on.
+    Clear(u32),
+    /// The variable has this value from here on.
+    Keep(Place, u32, CoreExpr),
+    /// The value goes into the variable, or where the steps lead in it.
+    Store(Place, u32, Vec<CoreStep>, CoreExpr),
+    Evaluate(Place, CoreExpr),
+    /// The test, what is done where it is true, and what is done where it isn't.
+    Branch(Place, CoreExpr, Box<CoreStmt>, Box<CoreStmt>),
+    While(Place, CoreExpr, Box<CoreStmt>),
+    DoWhile(Place, Box<CoreStmt>, CoreExpr),
+    /// The test, which is true where it is missing; what is done between turns; what is done in each turn.
+    For(Place, Option<CoreExpr>, Box<CoreStmt>, Box<CoreStmt>),
+    Break,
+    Continue,
+    Return(Place, CoreExpr),
+    /// The end of the record, before its statements are.
+    EndRecord(Place),
+    /// The table, the indexes, the value, and the weight where the table has one.
+    Emit(Place, u32, Vec<CoreExpr>, CoreExpr, Option<CoreExpr>),
+}
+
+impl CoreStmt {
+    /// A block of these statements.
+    #[tactic(auto, using(crate::proofs::RowLemmas::stm_of_block))]
+    pub fn block(statements: Vec<CoreStmt>) -> CoreStmt
+        ensures value { stm_of result ≡ block (stms_of (map stm_of statements.items)) }
+    {
+        CoreStmt::Block(statements)
+    }
+}

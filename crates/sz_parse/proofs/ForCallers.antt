@@ -1,0 +1,3 @@
+-- What the crates above may cite: a list of tokens spells a tree or is stuck somewhere, never both, and either once.
+pub use Rattle.sz_parse.proofs.Whole.{one_tree, one_place, not_both}
+pub use Rattle.sz_parse.proofs.Total.{every_list_is_read}

@@ -1,0 +1,7 @@
+mod NamesLemmas
+mod ChainLemmas
+mod WayLemmas
+mod BlocksLemmas
+mod FoundLemmas
+mod SoundLemmas
+mod LookupLemmas

@@ -1,0 +1,6 @@
+-- what the public contracts rest on
+pub mod Blocks
+pub mod Sight
+-- what the functions inside the crate promise each other
+pub mod Names
+pub mod Chain
