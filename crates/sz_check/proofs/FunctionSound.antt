@@ -145,6 +145,7 @@ module _ (k : Known) (n : Ident) (t : Typ) (ss : Stms) (front : Scene) (u : Shap
         body = here.stms;
       }
 
+-- a function that is judged is sound
 pub function_sound : (k : Known) (n : Ident) (ps : Params) (t : Typ) (ss : Stms) → Holds (judge_function k n ps t ss) (IsFoundBehind k)
 unfolding AreItems
 function_sound k n ps t ss = bind_holds (parameters_hold (start k) ps) (λ front parameters.

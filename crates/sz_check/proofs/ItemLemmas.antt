@@ -27,6 +27,7 @@ use Rattle.sz_check.proofs.SceneLemmas.{begins_itself, begins_more, begins_on, b
 -- ---- tables
 
 module _ (g : Sight) (blocks : List Block) (fit : AllFit g blocks) where
+  -- the types of indexes and of weights are well formed
   pub elems_formed : (es : List ElemForm) → Holds (judge_elems blocks es) AreFormed
   unfolding judge_elems
   elems_formed [] = ok_holds AreFormed [] refl
@@ -44,6 +45,7 @@ pub record IsDeclared (indexes : List Shape) (element : Shape) (weight : Option 
   pub has_element : d.element ≡ element
   pub has_weight : d.weight ≡ weight
 
+-- a declaration that is judged is of its parts, and allowed
 pub declaration_holds : (n word : Ident) (kind : TableKind) (limit : Option ℕ) (indexes : List Shape) (element : Shape) (weight : Option Shape)
     → Holds (declaration_of n word kind limit indexes element weight) (IsDeclared indexes element weight)
 declaration_holds n word kind None indexes element weight = err_holds _ _
@@ -92,6 +94,7 @@ more_parameters s next after n t u is_type h rest =
           rest.seen g known_next final numbers;
     }
 
+-- parameters that are judged are the first variables
 pub parameters_hold : (s : Scene) (ps : Params) → Holds (judge_parameters s ps) (AreParameters s)
 unfolding judge_parameters
 parameters_hold s no_params = ok_holds (AreParameters s) s (record { grows = begins_itself s.locals; seen = λ g is final numbers. is })

@@ -54,6 +54,7 @@ table_formed g blocks f indexes element weight d fit is = record {
   weight = subst (λ w. IfSome w IsFormed) (sym is.declared.has_weight) ((weight_formed g blocks fit f.weight).holds weight is.has_weight);
 }
 
+-- a table that is judged is sound
 pub table_sound : (k : Known) (n : Ident) (f : TableForm) → Holds (judge_table k n f) (IsFoundBehind k)
 unfolding AreItems
 table_sound k n f = bind_holds (known (kind_of f.kind)) (λ kind is_kind.
@@ -118,6 +119,7 @@ seen_by_static locals seen d (names.function n s) is f = record {
 seen_by_static locals seen d (names.predeclared b) is f = tt
 seen_by_static locals seen d names.input is f = absurd (true≢false (sym is))
 
+-- a static that is judged is sound
 pub static_sound : (k : Known) (p : Place) (n : Ident) (t : Typ) (e : Exp) → Holds (judge_static k p n t e) (IsFoundBehind k)
 unfolding AreItems
 static_sound k p n t e = bind_holds (known (judge_type (blocks_of k) t)) (λ u is_type.
@@ -151,6 +153,7 @@ static_sound k p n t e = bind_holds (known (judge_type (blocks_of k) t)) (λ u i
 
 -- ---- names of types
 
+-- a name of a type adds no item
 pub typedef_sound : (k : Known) (n : Ident) (t : Typ) → Holds (judge_typedef k n t) (IsFoundBehind k)
 typedef_sound k n t = bind_holds (known (judge_type (blocks_of k) t)) (λ u is_type.
     bind_holds (known (names.declare n (names.type_name u) (blocks_of k))) (λ blocks is_blocks.
@@ -181,6 +184,7 @@ only_seen locals seen d (core.clear n) = refl
 only_seen locals seen d (core.keep p n e) = refl
 only_seen locals seen d _ = refl
 
+-- a statement at the top level that is judged is sound
 pub for_record_sound : (k : Known) (s : Stm) → Holds (judge_statement k s) (IsFoundBehind k)
 unfolding AreItems
 for_record_sound k s = bind_holds (statement_sound (record { result = None; loop = false }) k.scene s tt) (λ m is.

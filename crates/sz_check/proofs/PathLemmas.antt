@@ -122,6 +122,7 @@ module _ (g : Sight) where
       pub leads : Leads g t
       pub formed : IsFormed t.type
 
+    -- a path that is judged leads to a value of its type
     pub path_leads : (path : PathForm) → Holds (judge_path s path) IsPath
     path_leads path = bind_holds (looked_up (Fits g) path.name s.blocks sees.fit) (λ m fits. bind_holds (begins path.name m fits) (λ begin h.
         bind_holds (steps_target path.name.place begin path.steps h.0) (λ t k. bind_holds (unless_holds _ _) (λ u may.
@@ -133,12 +134,14 @@ module _ (g : Sight) where
     root_path n = bind_holds (looked_up (Fits g) n s.blocks sees.fit) (λ m fits. bind_holds (begins n m fits) (λ begin h.
         bind_holds (unless_holds _ _) (λ u may. ok_holds (λ t. IsVariable g t.local t.type) begin (h.1 may))))
 
+    -- an assignment that is judged is sound
     pub assignment_sound : (a : Around) (path : PathForm) (e : Exp) → Holds (judge_assignment s path e) (IsStm g a)
     unfolding IsStm
     assignment_sound a path e = bind_holds (path_leads path) (λ t h. bind_holds (judged g s sees (Some t.type) e h.formed) (λ value k.
         bind_holds (agrees_holds t.type e value) (λ u same. ok_holds (IsStm g a) (core.store path.name.place t.local t.steps value)
         (h.leads.seen, k.typed, (h.leads.root, h.leads.here, subst (λ x. LeadTo g h.leads.root t.steps x) (sym same) h.leads.leads)))))
 
+    -- so is a change by one
     pub change_sound : (a : Around) (n : Ident) (o : BinOp) (row : Shape → Shape → Option Shape) → ((t : Shape) → binary_row o t Shape.int ≡ row t Shape.int)
         → ((t : Shape) → IfSome (row t Shape.int) (λ u. u ≡ t)) → Holds (judge_change s n o row) (IsStm g a)
     unfolding IsStm IsNode IsForm LeadTo

@@ -22,6 +22,7 @@ use Rattle.sz_check.proofs.ExpressionSound.{expression_typed}
 
 -- ---- lists that go on
 
+-- a list begins itself, a longer one, and what that begins
 pub begins_itself : (ts : List Shape) → BeginsWith ts ts
 begins_itself ts = ([], sym (append-nil ts))
 
@@ -50,6 +51,7 @@ get_next ts whole t h = ap (λ x. slice_get x (length ts)) (h.1 ∙ append_assoc
 pub begins_length : (a b : List Shape) → BeginsWith a b → length a ≤ length b
 begins_length a b h = omega (arith, ap length h.1, length-append a h.0)
 
+-- a list of well-formed types with one more
 pub formed_more : (ts : List Shape) (t : Shape) → AreFormed ts → IsFormed t → AreFormed (ts ++ t ∷ [])
 formed_more [] t h k = λ i. k i && h i
 formed_more (s ∷ ts) t h k = λ i. first_so _ (are_well_formed ts) h i && formed_more ts t (second_so (is_well_formed s) _ h) k i
@@ -86,11 +88,13 @@ sees_behind g (clear n) s h = sees_more g n s h
 sees_behind g (keep p n e) s h = sees_more g n s h
 sees_behind g _ s h = h
 
+-- the variables are the same behind a statement
 pub locals_behind : (g : Sight) (m : Stm) → (seen_behind g m).locals ≡ g.locals
 locals_behind g (clear n) = refl
 locals_behind g (keep p n e) = refl
 locals_behind g _ = refl
 
+-- the same in a block, and behind it
 pub sees_opened : (g : Sight) (s : Scene) → Sees g s → Sees g (opened s)
 sees_opened g s h = record { fit = (tt, h.fit); formed = h.formed; emits = h.emits }
 
@@ -103,6 +107,7 @@ judged g s h asked e ask = subst (λ b. Holds (judge_exp s.blocks b asked e) (Is
 
 -- ---- a variable more
 
+-- what is known with a variable of this type more
 pub record HasVariable (n : Ident) (t : Shape) (s after : Scene) : Type 0 where
   pub locals : after.locals ≡ s.locals ++ t ∷ []
   pub blocks : declare n (variable (length s.locals) t) s.blocks ≡ good after.blocks
@@ -116,6 +121,7 @@ pub record IsAdded (g : Sight) (t : Shape) (s after : Scene) : Type 0 where
   pub here : slice_get g.locals (length s.locals) ≡ Some t
   pub sees : Sees (with_seen (length s.locals) g) after
 
+-- what is known with a variable more is seen behind its statement
 pub added : (g : Sight) (n : Ident) (t : Shape) (s after : Scene) → HasVariable n t s after → Sees g s → IsFormed t → BeginsWith after.locals g.locals
     → IsAdded g t s after
 added g n t s after h sees formed final =
@@ -142,6 +148,7 @@ pub record IsSoundHere (g : Sight) (a : Around) (b : Behind) : Type 0 where
   pub stm : IsStm g (around a) b.stm
   pub sees : Sees (seen_behind g b.stm) b.scene
 
+-- what is known in front goes on behind the statement, which is sound
 pub record IsBehind (a : Around) (s : Scene) (b : Behind) : Type 0 where
   pub grows : BeginsWith s.locals b.scene.locals
   pub is_sound : (g : Sight) → Sees g s → BeginsWith b.scene.locals g.locals → IsSoundHere g a b
@@ -151,6 +158,7 @@ pub record IsSoundPart (g : Sight) (a : Around) (b : Behind) : Type 0 where
   pub stm : IsStm g (around a) b.stm
   pub sees : Sees g b.scene
 
+-- the same of a part
 pub record IsInside (a : Around) (s : Scene) (b : Behind) : Type 0 where
   pub grows : BeginsWith s.locals b.scene.locals
   pub is_sound : (g : Sight) → Sees g s → BeginsWith b.scene.locals g.locals → IsSoundPart g a b
@@ -160,6 +168,7 @@ pub record AreSoundHere (g : Sight) (a : Around) (b : AllBehind) : Type 0 where
   pub stms : AreStms g (around a) b.stms
   pub formed : AreFormed b.scene.locals
 
+-- the same of all
 pub record AreBehind (a : Around) (s : Scene) (b : AllBehind) : Type 0 where
   pub grows : BeginsWith s.locals b.scene.locals
   pub are_sound : (g : Sight) → Sees g s → BeginsWith b.scene.locals g.locals → AreSoundHere g a b

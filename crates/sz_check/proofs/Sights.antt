@@ -71,6 +71,7 @@ pub record IsWider (g h : Sight) : Type 0 where
   pub input : g.input ≡ h.input
   pub emits : g.may_emit ≡ h.may_emit
 
+-- what is true of what is seen is true where more is seen
 pub fits_wider : (g h : Sight) → IsWider g h → (m : Meaning) → Fits g m → Fits h m
 fits_wider g h w (variable k t) f = record { seen = w.seen k f.seen; here = w.locals k t f.here; formed = f.formed }
 fits_wider g h w (static k t) f = record { here = w.statics k t f.here; formed = f.formed }

@@ -32,6 +32,7 @@ tested g s c n u sees is_n is_test = (((judged g s sees None c tt).holds n is_n)
 mutual
   unfolding judge_stm judge_stms IsStm AreStms
 
+  -- a statement that is judged is sound, whose result, if it is in a function, is well formed
   pub statement_sound : (a : Around) (s : Scene) (t : Stm) → IfSome a.result IsFormed → Holds (judge_stm a s t) (IsBehind a s)
   statement_sound a s (empty p) r = ok_holds (IsBehind a s) (record { scene = s; stm = core.nothing }) (record {
     grows = begins_itself s.locals;
@@ -110,6 +111,7 @@ mutual
   statement_sound a s (trees.emit p n es e w) r = done_sound a s (judge_emit s p n es e w) (λ g sees. emit_sound a g s sees p n es e w)
   statement_sound a s (when p qs c t) r = err_holds _ _
 
+  -- so is each of several
   pub statements_sound : (a : Around) (s : Scene) (ts : Stms) → IfSome a.result IsFormed → Holds (judge_stms a s ts) (AreBehind a s)
   statements_sound a s trees.no_stms r = ok_holds (AreBehind a s) (record { scene = s; stms = core.no_stms }) (record {
     grows = begins_itself s.locals;

@@ -29,6 +29,7 @@ pub record Carries (locals : List Shape) (seen : List ℕ) (d : Declared) (found
   pub knows : Knows locals seen_there there found.known
   pub items : (rest : List Item) → AreItems locals seen_there there rest → AreItems locals seen d (found.items ++ rest)
 
+-- what is known in front goes on behind the statement, and its items are sound
 pub record IsFoundBehind (k : Known) (found : Found) : Type 0 where
   pub grows : BeginsWith k.scene.locals found.known.scene.locals
   pub carries : (locals : List Shape) (seen : List ℕ) (d : Declared) → Knows locals seen d k → BeginsWith found.known.scene.locals locals
@@ -36,6 +37,7 @@ pub record IsFoundBehind (k : Known) (found : Found) : Type 0 where
 
 -- ---- more is declared
 
+-- what is declared, with one thing more
 abbrev pub with_static : Shape → Declared → Declared
 with_static t d = record d { statics = d.statics ++ t ∷ [] }
 
@@ -51,6 +53,7 @@ pub record IsMore (d e : Declared) : Type 0 where
   pub functions : (n : ℕ) (f : Signature) → slice_get d.functions n ≡ Some f → slice_get e.functions n ≡ Some f
   pub tables : (n : ℕ) (t : Declaration) → slice_get d.tables n ≡ Some t → slice_get e.tables n ≡ Some t
 
+-- that is more
 pub more_statics : (d : Declared) (t : Shape) → IsMore d (with_static t d)
 more_statics d t = record { statics = λ n u h. get_before d.statics (t ∷ []) n u h; functions = λ n f h. h; tables = λ n u h. h }
 
