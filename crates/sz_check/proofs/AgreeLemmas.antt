@@ -23,11 +23,13 @@ AreTyped g end no_nodes = Unit {0}
 AreTyped g (more e es) (with_node n ns) = IsTyped g n × AreTyped g es ns
 AreTyped g _ _ = ⊥
 
+-- so has each key and value
 abbrev pub PairsTyped : Sight → Pairs → Pairings → Type 0
 PairsTyped g no_pairs no_pairings = Unit {0}
 PairsTyped g (pair a b ps) (with_pairing m n ns) = IsTyped g m × IsTyped g n × PairsTyped g ps ns
 PairsTyped g _ _ = ⊥
 
+-- expressions that have their types are nodes of them, and their types are well formed
 pub all_nodes : (g : Sight) (es : Exps) (ns : Nodes) → AreTyped g es ns → AreNodes g ns
 unfolding AreNodes
 all_nodes g end no_nodes h = tt
@@ -83,8 +85,10 @@ pub record HasType (g : Sight) (t : Shape) (n : Node) : Type 0 where
   pub typed : IsNode g n
   pub is : type_of n ≡ t
 
+-- a value that is as it has to be, or converted, has the type
 pub converted_holds : (g : Sight) (t : Shape) (e : Exp) (n : Node) → IsFormed t → IsTyped g n → Holds (converted t e n) (HasType g t)
 unfolding IsNode IsForm
 converted_holds g t e n formed h =
     if_holds _ (λ same. ok_holds _ n (record { typed = h.typed; is = alike_equal (type_of n) t same }))
-    (λ differ. if_holds _ (λ row. ok_holds (HasType g t) (node (place_of e) t (convert n)) (record { typed = (h.typed, formed, row); is = refl })) (λ none. err_holds _ _))
+    (λ differ. if_holds _
+    (λ row. ok_holds (HasType g t) (node (place_of e) t (convert n)) (record { typed = (h.typed, formed, row); is = refl })) (λ none. err_holds _ _))

@@ -16,7 +16,7 @@ use Rattle.sz_check.specs.JudgingExpressions.{judge_exp, judge_exps, judge_pairs
 use Rattle.sz_check.proofs.Holds.{Holds, ok_holds, bind_holds}
 use Rattle.sz_check.proofs.Meanings.{looked_up}
 use Rattle.sz_check.proofs.Sights.{IsFormed, Fits, AllFit}
-use Rattle.sz_check.proofs.TypeLemmas.{basic_formed}
+use Rattle.sz_check.proofs.TypeSound.{basic_formed}
 use Rattle.sz_check.proofs.RowLemmas.{truth_formed}
 use Rattle.sz_check.proofs.AgreeLemmas.{IsTyped, AreTyped, PairsTyped}
 use Rattle.sz_check.proofs.NodeLemmas.{AskFormed, literal_typed, variable_typed, callee_fits, callee_asks, call_typed, conversion_typed, list_typed, list_asks, mapping_typed, keys_ask, values_ask, index_typed, slice_typed, field_typed, unary_typed, binary_typed, right_asks}
@@ -48,10 +48,13 @@ module _ (g : Sight) (blocks : List Block) (fit : AllFit g blocks) where
         ok_holds (IsTyped g) (node p Shape.truth (forms.def n)) (record { typed = (h.typed, refl); formed = truth_formed }))
     expression_typed asked (paren p e) ask = expression_typed asked e ask
     expression_typed asked (convert p b e) ask = bind_holds (expression_typed None e tt) (λ n h. conversion_typed g p (shape_of b) e n (basic_formed b) h)
-    expression_typed asked (list p es) ask = bind_holds (expressions_typed (asks_of_list asked es) es (list_asks g asked es ask)) (λ ns h. list_typed g p asked es ns ask h)
-    expression_typed asked (mapping p ps) ask = bind_holds (pairs_typed (asked_of_keys asked) (asked_of_values asked) ps (keys_ask g asked ask) (values_ask g asked ask))
+    expression_typed asked (list p es) ask =
+        bind_holds (expressions_typed (asks_of_list asked es) es (list_asks g asked es ask)) (λ ns h. list_typed g p asked es ns ask h)
+    expression_typed asked (mapping p ps) ask =
+        bind_holds (pairs_typed (asked_of_keys asked) (asked_of_values asked) ps (keys_ask g asked ask) (values_ask g asked ask))
         (λ ns h. mapping_typed g p asked ps ns ask h)
-    expression_typed asked (index p e i) ask = bind_holds (expression_typed None e tt) (λ n h. bind_holds (expression_typed None i tt) (λ m k. index_typed g p e i n m h k))
+    expression_typed asked (index p e i) ask =
+        bind_holds (expression_typed None e tt) (λ n h. bind_holds (expression_typed None i tt) (λ m k. index_typed g p e i n m h k))
     expression_typed asked (slice p e i j) ask = bind_holds (expression_typed None e tt) (λ n h. bind_holds (expression_typed None i tt) (λ m k.
         bind_holds (expression_typed None j tt) (λ o l. slice_typed g p e i j n m o h k l)))
     expression_typed asked (field p e f) ask = bind_holds (expression_typed None e tt) (λ n h. field_typed g p e n f h)

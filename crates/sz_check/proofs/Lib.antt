@@ -2,7 +2,7 @@ mod Holds
 mod Tests
 mod Meanings
 mod Sights
-mod TypeLemmas
+mod TypeSound
 mod RowLemmas
 mod AgreeLemmas
 mod NodeLemmas
@@ -11,3 +11,8 @@ mod SceneLemmas
 mod PathLemmas
 mod StatementLemmas
 mod StatementSound
+mod ItemLemmas
+mod TopLemmas
+mod ItemSound
+mod FunctionSound
+mod ProgramSound

@@ -40,6 +40,7 @@ pub record IsPart (t : Shape) (x : Found) : Type 0 where
   pub formed : IsFormed x.type
 
 module _ (g : Sight) where
+  -- a literal has its type
   pub literal_typed : (p : Place) (l : Lit) → IsTyped g (literal_node p l)
   unfolding IsNode IsForm is_well_formed
   literal_typed p (trees.number n) = record { typed = refl; formed = refl }
@@ -48,6 +49,7 @@ module _ (g : Sight) where
   literal_typed p (trees.character c) = record { typed = refl; formed = refl }
   literal_typed p (trees.boolean b) = record { typed = refl; formed = refl }
 
+  -- so has a name that stands for a value
   pub variable_typed : (n : Ident) (m : Meaning) → Fits g m → Holds (variable_node n m) (IsTyped g)
   unfolding IsNode IsForm is_well_formed
   variable_typed n (names.variable k t) h = ok_holds (IsTyped g) (node n.place t (forms.local k)) (record { typed = (h.seen, h.here); formed = h.formed })
@@ -64,6 +66,7 @@ module _ (g : Sight) where
   CalleeFits (predeclared b) = Unit {0}
   CalleeFits (conversion t) = IsFormed t
 
+  -- what is called is known
   pub callee_fits : (n : Ident) (m : Meaning) → Fits g m → Holds (callee_of n m) CalleeFits
   callee_fits n (names.variable k t) h = err_holds _ _
   callee_fits n (names.static k t) h = err_holds _ _
@@ -98,6 +101,7 @@ module _ (g : Sight) where
         formed = some_has IsFormed (builtin_formed b (types_of ns) (all_formed g es ns h)) row;
       }))))
 
+  -- what is converted has the type
   pub conversion_typed : (p : Place) (t : Shape) (e : Exp) (n : Node) → IsFormed t → IsTyped g n → Holds (conversion_node p t e n) (IsTyped g)
   unfolding IsNode IsForm
   conversion_typed p t e n formed h = if_holds _
@@ -111,6 +115,7 @@ module _ (g : Sight) where
   conversion_call_typed n t (more e end) (with_node m (with_node k ms)) formed h = absurd h.1
   conversion_call_typed n t (more e (more d es)) (with_node m ms) formed h = bind_holds (known _) (λ x is. err_holds _ _)
 
+  -- a call has the type that it gives
   pub call_typed : (n : Ident) (c : Callee) (es : Exps) (ns : Nodes) → CalleeFits c → AreTyped g es ns → Holds (made_call g.may_emit n c es ns) (IsTyped g)
   call_typed n (declared k s) es ns c h = declared_typed n k s es ns c h
   call_typed n (predeclared b) es ns c h = predeclared_typed n b es ns h
@@ -120,13 +125,15 @@ module _ (g : Sight) where
       → Holds (made_tuple p t fields es ns) (IsTyped g)
   unfolding IsNode IsForm
   tuple_typed p t fs end ns has formed h = err_holds _ _
-  tuple_typed p t fs (more e es) ns has formed h = bind_holds (agree_in_turn g _ (more e es) ns h) (λ u types. bind_holds (counted_holds _ (more e es) p) (λ v count.
+  tuple_typed p t fs (more e es) ns has formed h = bind_holds (agree_in_turn g _ (more e es) ns h) (λ u types.
+      bind_holds (counted_holds _ (more e es) p) (λ v count.
       ok_holds (IsTyped g) (node p t (forms.tuple ns)) (record {
         typed = (all_nodes g (more e es) ns h, (fs, has, types count ∙ same_field_types fs));
         formed = formed;
       })))
 
-  pub list_typed : (p : Place) (asked : Option Shape) (es : Exps) (ns : Nodes) → IfSome asked IsFormed → AreTyped g es ns → Holds (made_list p asked es ns) (IsTyped g)
+  pub list_typed : (p : Place) (asked : Option Shape) (es : Exps) (ns : Nodes) → IfSome asked IsFormed → AreTyped g es ns
+      → Holds (made_list p asked es ns) (IsTyped g)
   unfolding IsNode IsForm
   list_typed p None es ns formed h = err_holds _ _
   list_typed p (Some (Shape.array t)) es ns formed h = bind_holds (agree_each g t es ns h) (λ u types.
@@ -144,7 +151,8 @@ module _ (g : Sight) where
   list_asks (Some (Shape.proto fs)) (more e es) h = subst AreFormed (sym (same_field_types fs)) (fields_formed (Shape.proto fs) fs refl h)
   list_asks (Some _) es h = tt
 
-  pub mapping_typed : (p : Place) (asked : Option Shape) (ps : Pairs) (ns : Pairings) → IfSome asked IsFormed → PairsTyped g ps ns → Holds (made_mapping p asked ps ns) (IsTyped g)
+  pub mapping_typed : (p : Place) (asked : Option Shape) (ps : Pairs) (ns : Pairings) → IfSome asked IsFormed → PairsTyped g ps ns
+      → Holds (made_mapping p asked ps ns) (IsTyped g)
   unfolding IsNode IsForm
   mapping_typed p None ps ns formed h = err_holds _ _
   mapping_typed p (Some (Shape.mapping k v)) ps ns formed h = bind_holds (pairs_have g k v ps ns h) (λ u types.
@@ -161,6 +169,7 @@ module _ (g : Sight) where
   values_ask (Some (Shape.mapping k v)) h = value_formed k v h
   values_ask (Some _) h = tt
 
+  -- an element has its type
   pub index_typed : (p : Place) (e i : Exp) (n m : Node) → IsTyped g n → IsTyped g m → Holds (made_index p e i n m) (IsTyped g)
   unfolding IsNode IsForm
   index_typed p e i n m h k =
@@ -178,6 +187,7 @@ module _ (g : Sight) where
   pub test_holds : (e : Exp) (n : Node) → Holds (test e n) (λ u. type_of n ≡ Shape.truth)
   test_holds e n = weaker (unless_holds _ _) (λ u same. alike_equal (type_of n) Shape.truth same)
 
+  -- a slice has the type of what it is cut from
   pub slice_typed : (p : Place) (e i j : Exp) (n m o : Node) → IsTyped g n → IsTyped g m → IsTyped g o → Holds (made_slice p e i j n m o) (IsTyped g)
   unfolding IsNode IsForm
   slice_typed p e i j n m o h k l = bind_holds (unless_holds _ _) (λ u row. bind_holds (whole_holds i m) (λ v first. bind_holds (whole_holds j o) (λ w second.
@@ -186,6 +196,7 @@ module _ (g : Sight) where
         formed = h.formed;
       }))))
 
+  -- a field that is found is a field of the type
   pub part_found : (p : Place) (t : Shape) (f : Ident) → IsFormed t → Holds (field_in p t f) (IsPart t)
   part_found p t f formed = option_holds _ (λ none. err_holds _ _) (λ fs is. option_holds _ (λ none. err_holds _ _) (λ x found.
       let has = some_has (HasFields t) (has_fields t) is in
@@ -197,11 +208,13 @@ module _ (g : Sight) where
         formed = some_has IsFormed (formed_at (field_types fs) x.place (fields_formed t fs has formed)) here.here;
       })))
 
+  -- a field has its type
   pub field_typed : (p : Place) (e : Exp) (n : Node) (f : Ident) → IsTyped g n → Holds (made_field p e n f) (IsTyped g)
   unfolding IsNode IsForm
   field_typed p e n f h = bind_holds (part_found (place_of e) (type_of n) f h.formed) (λ x part.
       ok_holds (IsTyped g) (node p x.type (forms.field n x.place)) (record { typed = (h.typed, (part.fields, part.has, part.here)); formed = part.formed }))
 
+  -- what an operator gives has the type of its row
   pub unary_typed : (p : Place) (o : UnaryOp) (e : Exp) (n : Node) → IsTyped g n → Holds (made_unary p o e n) (IsTyped g)
   unfolding IsNode IsForm
   unary_typed p o e n h = option_holds _ (λ none. err_holds _ _) (λ t row. ok_holds (IsTyped g) (node p t (forms.unary (unary_of o) n)) (record {
@@ -219,6 +232,7 @@ module _ (g : Sight) where
         formed = some_has IsFormed (binary_formed o (type_of n) (type_of m) h.formed) row;
       })))
 
+  -- the same of two operands
   pub binary_typed : (p : Place) (o : Operation) (l r : Exp) (n m : Node) → IsTyped g n → IsTyped g m → Holds (made_binary p o l r n m) (IsTyped g)
   unfolding IsNode IsForm is_well_formed
   binary_typed p both l r n m h k = bind_holds (test_holds l n) (λ u first. bind_holds (test_holds r m) (λ v second.

@@ -59,7 +59,8 @@ pub record IsTarget (g : Sight) (t : Target) : Type 0 where
   pub formed : IsFormed t.type
 
 -- a step on
-pub stepped_target : (g : Sight) (t : Target) (step : Step) (s u : Shape) → t.type ≡ s → IsTarget g t → LeadTo g s (step ∷ []) u → IsFormed u → IsTarget g (stepped t step u)
+pub stepped_target : (g : Sight) (t : Target) (step : Step) (s u : Shape) → t.type ≡ s → IsTarget g t → LeadTo g s (step ∷ []) u → IsFormed u
+    → IsTarget g (stepped t step u)
 stepped_target g t step s u is h k formed = record {
   assigned = λ may. let l = h.assigned may in record {
     seen = l.seen;
@@ -113,13 +114,15 @@ module _ (g : Sight) where
     steps_target p t (trees.at_index e ∷ steps) h = bind_holds (judged g s sees None e tt) (λ n k.
         bind_holds (indexed_target p t t.type e n refl h k) (λ next l. steps_target p next steps l))
     steps_target p t (trees.at_field f ∷ steps) h = bind_holds (part_found g p t.type f h.formed) (λ x part.
-        steps_target p (stepped t (at_field x.place) x.type) steps (stepped_target g t (at_field x.place) t.type x.type refl h (field_leads g t.type x part) part.formed))
+        steps_target p (stepped t (at_field x.place) x.type) steps
+        (stepped_target g t (at_field x.place) t.type x.type refl h (field_leads g t.type x part) part.formed))
 
     -- a whole path
     pub record IsPath (t : Target) : Type 0 where
       pub leads : Leads g t
       pub formed : IsFormed t.type
 
+    -- a path that is judged leads to a value of its type
     pub path_leads : (path : PathForm) → Holds (judge_path s path) IsPath
     path_leads path = bind_holds (looked_up (Fits g) path.name s.blocks sees.fit) (λ m fits. bind_holds (begins path.name m fits) (λ begin h.
         bind_holds (steps_target path.name.place begin path.steps h.0) (λ t k. bind_holds (unless_holds _ _) (λ u may.
@@ -131,12 +134,14 @@ module _ (g : Sight) where
     root_path n = bind_holds (looked_up (Fits g) n s.blocks sees.fit) (λ m fits. bind_holds (begins n m fits) (λ begin h.
         bind_holds (unless_holds _ _) (λ u may. ok_holds (λ t. IsVariable g t.local t.type) begin (h.1 may))))
 
+    -- an assignment that is judged is sound
     pub assignment_sound : (a : Around) (path : PathForm) (e : Exp) → Holds (judge_assignment s path e) (IsStm g a)
     unfolding IsStm
     assignment_sound a path e = bind_holds (path_leads path) (λ t h. bind_holds (judged g s sees (Some t.type) e h.formed) (λ value k.
         bind_holds (agrees_holds t.type e value) (λ u same. ok_holds (IsStm g a) (core.store path.name.place t.local t.steps value)
         (h.leads.seen, k.typed, (h.leads.root, h.leads.here, subst (λ x. LeadTo g h.leads.root t.steps x) (sym same) h.leads.leads)))))
 
+    -- so is a change by one
     pub change_sound : (a : Around) (n : Ident) (o : BinOp) (row : Shape → Shape → Option Shape) → ((t : Shape) → binary_row o t Shape.int ≡ row t Shape.int)
         → ((t : Shape) → IfSome (row t Shape.int) (λ u. u ≡ t)) → Holds (judge_change s n o row) (IsStm g a)
     unfolding IsStm IsNode IsForm LeadTo

@@ -57,6 +57,7 @@ message_types no_fields h = refl
 message_types (with_field (field name t number code) fs) h =
     λ i. second_so _ (is_well_formed t) (first_so _ (are_message_fields fs) h) i && message_types fs (second_so _ (are_message_fields fs) h) i
 
+-- the types of fields of a well-formed type
 pub fields_formed : (t : Shape) (fs : FieldShapes) → HasFields t fs → IsFormed t → AreFormed (field_types fs)
 unfolding is_well_formed
 fields_formed (Shape.tuple gs) fs same h =
@@ -97,6 +98,7 @@ named_at name at (with_field (field other t number code) fs) = next (bytes_eq na
 pub record IsFieldOf (fs : FieldShapes) (x : Found) : Type 0 where
   pub here : slice_get (field_types fs) x.place ≡ Some x.type
 
+-- a field that is found by its name
 pub named_field : (name : List ℕ) (fs : FieldShapes) → IfSome (field_named name 0 fs) (IsFieldOf fs)
 named_field name fs = from (field_named name 0 fs) (named_at name 0 fs)
   where
@@ -106,6 +108,7 @@ named_field name fs = from (field_named name 0 fs) (named_at name 0 fs)
         let same : x.place ≡ h.behind = omega (arith, h.place) in
         record { here = ap (λ k. slice_get (field_types fs) k) same ∙ h.here }
 
+-- the fields that are found are those of the type
 pub has_fields : (t : Shape) → IfSome (fields_in t) (HasFields t)
 has_fields (Shape.tuple fs) = refl
 has_fields (Shape.proto fs) = refl
@@ -128,6 +131,7 @@ difference_formed Shape.time Shape.int = refl
 difference_formed Shape.time Shape.time = refl
 difference_formed _ _ = tt
 
+-- basic types
 pub truth_formed : IsFormed Shape.truth
 unfolding is_well_formed
 truth_formed = refl
@@ -192,6 +196,7 @@ strfind_formed Shape.str Shape.str = int_formed
 strfind_formed Shape.bytes Shape.bytes = int_formed
 strfind_formed _ _ = tt
 
+-- what a predeclared function gives
 pub builtin_formed : (b : Builtin) (ts : List Shape) → AreFormed ts → IfSome (builtin_row b ts) IsFormed
 builtin_formed Len (s ∷ []) h = len_formed s
 builtin_formed Keys (s ∷ []) h = keys_formed s (first_so _ true h)

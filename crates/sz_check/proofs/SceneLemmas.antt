@@ -1,8 +1,8 @@
 -- What is seen of what is known in front of a statement, and what stays so behind it.
-use Rattle.std.proofs.Common.{◌≡◌, ℕ, true, List, [], ◌∷◌, ◌++◌, length, Option, Some, refl, sym, ap, ◌∙◌, subst, append_assoc, arith}
+use Rattle.std.proofs.Common.{◌≡◌, ℕ, zero, suc, ◌≤◌, true, List, [], ◌∷◌, ◌++◌, length, Option, Some, None, refl, sym, ap, ◌∙◌, subst, append_assoc, arith}
 use Rattle.std.specs.Prelude.{◌&&◌, slice_get, IfSome}
 use Rattle.std.specs.Cmp.{first_so, second_so}
-use Rattle.std.proofs.lemmas.List.{append-nil}
+use Rattle.std.proofs.lemmas.List.{append-nil, length-append}
 use Rattle.std.proofs.lemmas.List.Elements.{Contains-append_right}
 use Rattle.sz_types.specs.Data.{Shape}
 use Rattle.sz_tree.specs.Names.{Ident}
@@ -11,17 +11,18 @@ use Rattle.sz_core.specs.Statements.{Stm, clear, keep}
 use Rattle.sz_core.specs.WellFormed.{is_well_formed, are_well_formed}
 use Rattle.sz_core.specs.Sound.{Sight, seen_behind, BeginsWith, IsNode, IsStm, AreStms}
 use Rattle.sz_core.specs.Sound as sound
-use Rattle.sz_check.specs.Names.{Meaning, variable, static, type_name, table, function, predeclared, input, declare}
+use Rattle.sz_check.specs.Names.{variable, declare}
 use Rattle.sz_check.specs.JudgingExpressions.{judge_exp}
 use Rattle.sz_check.specs.JudgingStatements.{Scene, Around, Behind, AllBehind, opened, closed, with_variable, judge}
 use Rattle.sz_check.proofs.Holds.{Holds, good, ok_holds, bind_holds, known}
-use Rattle.sz_check.proofs.Meanings.{declared, all_follow}
-use Rattle.sz_check.proofs.Sights.{IsFormed, AreFormed, IsVariable, Fits, AllFit}
+use Rattle.sz_check.proofs.Meanings.{declared}
+use Rattle.sz_check.proofs.Sights.{IsFormed, AreFormed, IsVariable, Fits, AllFit, IsWider, all_fit_wider}
 use Rattle.sz_check.proofs.AgreeLemmas.{IsTyped}
 use Rattle.sz_check.proofs.ExpressionSound.{expression_typed}
 
 -- ---- lists that go on
 
+-- a list begins itself, a longer one, and what that begins
 pub begins_itself : (ts : List Shape) → BeginsWith ts ts
 begins_itself ts = ([], sym (append-nil ts))
 
@@ -31,14 +32,26 @@ begins_more ts t = (t ∷ [], refl)
 pub begins_on : (a b c : List Shape) → BeginsWith a b → BeginsWith b c → BeginsWith a c
 begins_on a b c h k = (h.0 ++ k.0, k.1 ∙ ap (λ x. x ++ k.0) h.1 ∙ append_assoc a h.0 k.0)
 
--- what a list has behind its front
-get_behind : (ts rest : List Shape) (t : Shape) → slice_get (ts ++ t ∷ rest) (length ts) ≡ Some t
+none_is_some : {A : Type 0} {x : A} → ◌≡◌ {A = Option A} None (Some x) → ⊥
+none_is_some e = cc
+
+-- what a list has behind its front, and in it
+pub get_behind : {A : Type 0} (ts rest : List A) (t : A) → slice_get (ts ++ t ∷ rest) (length ts) ≡ Some t
 get_behind [] rest t = refl
 get_behind (s ∷ ts) rest t = get_behind ts rest t
+
+pub get_before : {A : Type 0} (ts rest : List A) (n : ℕ) (t : A) → slice_get ts n ≡ Some t → slice_get (ts ++ rest) n ≡ Some t
+get_before [] rest n t h = absurd (none_is_some h)
+get_before (s ∷ ts) rest zero t h = h
+get_before (s ∷ ts) rest (suc n) t h = get_before ts rest n t h
 
 pub get_next : (ts whole : List Shape) (t : Shape) → BeginsWith (ts ++ t ∷ []) whole → slice_get whole (length ts) ≡ Some t
 get_next ts whole t h = ap (λ x. slice_get x (length ts)) (h.1 ∙ append_assoc ts (t ∷ []) h.0) ∙ get_behind ts h.0 t
 
+pub begins_length : (a b : List Shape) → BeginsWith a b → length a ≤ length b
+begins_length a b h = omega (arith, ap length h.1, length-append a h.0)
+
+-- a list of well-formed types with one more
 pub formed_more : (ts : List Shape) (t : Shape) → AreFormed ts → IsFormed t → AreFormed (ts ++ t ∷ [])
 formed_more [] t h k = λ i. k i && h i
 formed_more (s ∷ ts) t h k = λ i. first_so _ (are_well_formed ts) h i && formed_more ts t (second_so (is_well_formed s) _ h) k i
@@ -55,18 +68,19 @@ pub record Sees (g : Sight) (s : Scene) : Type 0 where
 abbrev pub with_seen : ℕ → Sight → Sight
 with_seen n g = record g { seen = n ∷ g.seen }
 
-pub fits_more : (g : Sight) (n : ℕ) (m : Meaning) → Fits g m → Fits (with_seen n g) m
-fits_more g n (variable k t) h = record { seen = Contains-append_right (n ∷ []) g.seen k h.seen; here = h.here; formed = h.formed }
-fits_more g n (static k t) h = record { here = h.here; formed = h.formed }
-fits_more g n (type_name t) h = h
-fits_more g n (table k d) h = record { here = h.here; indexes = h.indexes; element = h.element; weight = h.weight }
-fits_more g n (function k s) h =
-    record { seen = h.seen; here = h.here; parameters = h.parameters; result = h.result; emits = h.emits; takes = h.takes; gives = h.gives }
-fits_more g n (predeclared b) h = tt
-fits_more g n input h = h
-
 pub sees_more : (g : Sight) (n : ℕ) (s : Scene) → Sees g s → Sees (with_seen n g) s
-sees_more g n s h = record { fit = all_follow (Fits g) (Fits (with_seen n g)) (fits_more g n) s.blocks h.fit; formed = h.formed; emits = h.emits }
+sees_more g n s h = record { fit = all_fit_wider g (with_seen n g) s.blocks wider h.fit; formed = h.formed; emits = h.emits }
+  where
+    wider : IsWider g (with_seen n g)
+    wider = record {
+      seen = λ k c. Contains-append_right (n ∷ []) g.seen k c;
+      locals = λ k t e. e;
+      statics = λ k t e. e;
+      functions = λ k f e. e;
+      tables = λ k d e. e;
+      input = refl;
+      emits = refl;
+    }
 
 -- behind a statement no less is seen
 pub sees_behind : (g : Sight) (m : Stm) (s : Scene) → Sees g s → Sees (seen_behind g m) s
@@ -74,11 +88,13 @@ sees_behind g (clear n) s h = sees_more g n s h
 sees_behind g (keep p n e) s h = sees_more g n s h
 sees_behind g _ s h = h
 
+-- the variables are the same behind a statement
 pub locals_behind : (g : Sight) (m : Stm) → (seen_behind g m).locals ≡ g.locals
 locals_behind g (clear n) = refl
 locals_behind g (keep p n e) = refl
 locals_behind g _ = refl
 
+-- the same in a block, and behind it
 pub sees_opened : (g : Sight) (s : Scene) → Sees g s → Sees g (opened s)
 sees_opened g s h = record { fit = (tt, h.fit); formed = h.formed; emits = h.emits }
 
@@ -91,6 +107,7 @@ judged g s h asked e ask = subst (λ b. Holds (judge_exp s.blocks b asked e) (Is
 
 -- ---- a variable more
 
+-- what is known with a variable of this type more
 pub record HasVariable (n : Ident) (t : Shape) (s after : Scene) : Type 0 where
   pub locals : after.locals ≡ s.locals ++ t ∷ []
   pub blocks : declare n (variable (length s.locals) t) s.blocks ≡ good after.blocks
@@ -104,7 +121,9 @@ pub record IsAdded (g : Sight) (t : Shape) (s after : Scene) : Type 0 where
   pub here : slice_get g.locals (length s.locals) ≡ Some t
   pub sees : Sees (with_seen (length s.locals) g) after
 
-pub added : (g : Sight) (n : Ident) (t : Shape) (s after : Scene) → HasVariable n t s after → Sees g s → IsFormed t → BeginsWith after.locals g.locals → IsAdded g t s after
+-- what is known with a variable more is seen behind its statement
+pub added : (g : Sight) (n : Ident) (t : Shape) (s after : Scene) → HasVariable n t s after → Sees g s → IsFormed t → BeginsWith after.locals g.locals
+    → IsAdded g t s after
 added g n t s after h sees formed final =
     let more = with_seen (length s.locals) g in
     let here : slice_get g.locals (length s.locals) ≡ Some t = get_next s.locals g.locals t (subst (λ x. BeginsWith x g.locals) h.locals final) in
@@ -129,6 +148,7 @@ pub record IsSoundHere (g : Sight) (a : Around) (b : Behind) : Type 0 where
   pub stm : IsStm g (around a) b.stm
   pub sees : Sees (seen_behind g b.stm) b.scene
 
+-- what is known in front goes on behind the statement, which is sound
 pub record IsBehind (a : Around) (s : Scene) (b : Behind) : Type 0 where
   pub grows : BeginsWith s.locals b.scene.locals
   pub is_sound : (g : Sight) → Sees g s → BeginsWith b.scene.locals g.locals → IsSoundHere g a b
@@ -138,6 +158,7 @@ pub record IsSoundPart (g : Sight) (a : Around) (b : Behind) : Type 0 where
   pub stm : IsStm g (around a) b.stm
   pub sees : Sees g b.scene
 
+-- the same of a part
 pub record IsInside (a : Around) (s : Scene) (b : Behind) : Type 0 where
   pub grows : BeginsWith s.locals b.scene.locals
   pub is_sound : (g : Sight) → Sees g s → BeginsWith b.scene.locals g.locals → IsSoundPart g a b
@@ -147,6 +168,7 @@ pub record AreSoundHere (g : Sight) (a : Around) (b : AllBehind) : Type 0 where
   pub stms : AreStms g (around a) b.stms
   pub formed : AreFormed b.scene.locals
 
+-- the same of all
 pub record AreBehind (a : Around) (s : Scene) (b : AllBehind) : Type 0 where
   pub grows : BeginsWith s.locals b.scene.locals
   pub are_sound : (g : Sight) → Sees g s → BeginsWith b.scene.locals g.locals → AreSoundHere g a b

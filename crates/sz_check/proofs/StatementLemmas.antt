@@ -24,7 +24,7 @@ use Rattle.sz_check.specs.JudgingStatements.{Scene, Around, judge, judge_if_some
 use Rattle.sz_check.proofs.Holds.{Holds, ok_holds, err_holds, bind_holds, known, weaker, unless_holds}
 use Rattle.sz_check.proofs.Meanings.{looked_up}
 use Rattle.sz_check.proofs.Sights.{IsFormed, IsTableOf, Fits}
-use Rattle.sz_check.proofs.TypeLemmas.{type_formed}
+use Rattle.sz_check.proofs.TypeSound.{type_formed}
 use Rattle.sz_check.proofs.RowLemmas.{sum_keeps, difference_keeps}
 use Rattle.sz_check.proofs.AgreeLemmas.{IsTyped, AreTyped, HasType, all_nodes, agrees_holds, counted_holds, agree_in_turn, converted_holds}
 use Rattle.sz_check.proofs.NodeLemmas.{test_holds}
@@ -37,6 +37,7 @@ use Rattle.sz_check.proofs.PathLemmas.{assignment_sound, change_sound}
 grown : (n : Ident) (t : Shape) (s after : Scene) → HasVariable n t s after → BeginsWith s.locals after.locals
 grown n t s after h = subst (BeginsWith s.locals) (sym h.locals) (begins_more s.locals t)
 
+-- a declaration without a value
 pub declaration_sound : (a : Around) (s : Scene) (n : Ident) (t : Typ) → Holds (judge_declaration s n t) (IsBehind a s)
 unfolding IsStm
 declaration_sound a s n t = bind_holds (known (judge_type s.blocks t)) (λ u judged_type. bind_holds (variable_added n u s) (λ after h.
@@ -48,13 +49,14 @@ declaration_sound a s n t = bind_holds (known (judge_type s.blocks t)) (λ u jud
     })))
 
 -- a value that is kept in a variable of its type
-kept_sound : (a : Around) (g : Sight) (s after : Scene) (n : Ident) (t : Shape) (value : Node) → HasVariable n t s after → Sees g s → IsFormed t → HasType g t value
-    → BeginsWith after.locals g.locals → IsSoundHere g a (record { scene = after; stm = core.keep n.place (length s.locals) value })
+kept_sound : (a : Around) (g : Sight) (s after : Scene) (n : Ident) (t : Shape) (value : Node) → HasVariable n t s after → Sees g s → IsFormed t
+    → HasType g t value → BeginsWith after.locals g.locals → IsSoundHere g a (record { scene = after; stm = core.keep n.place (length s.locals) value })
 unfolding IsStm
 kept_sound a g s after n t value h sees formed k final =
     let is = added g n t s after h sees formed final in
     record { stm = (k.typed, is.here ∙ ap Some (sym k.is)); sees = is.sees }
 
+-- a declaration with a value
 pub initialised_sound : (a : Around) (s : Scene) (n : Ident) (t : Typ) (e : Exp) → Holds (judge_initialised s n t e) (IsBehind a s)
 initialised_sound a s n t e = bind_holds (known (judge_type s.blocks t)) (λ u judged_type. bind_holds (known (judge s (Some u) e)) (λ m judged_value.
     bind_holds (known (converted u e m)) (λ value judged_as. bind_holds (variable_added n u s) (λ after h.
@@ -66,6 +68,7 @@ initialised_sound a s n t e = bind_holds (known (judge_type s.blocks t)) (λ u j
           kept_sound a g s after n u value h sees formed ((converted_holds g u e m formed typed).holds value judged_as) final;
     })))))
 
+-- a definition
 pub definition_sound : (a : Around) (s : Scene) (n : Ident) (e : Exp) → Holds (judge_definition s n e) (IsBehind a s)
 definition_sound a s n e = bind_holds (known (judge s None e)) (λ value judged_value. bind_holds (variable_added n (type_of value) s) (λ after h.
     ok_holds (IsBehind a s) (record { scene = after; stm = core.keep n.place (length s.locals) value }) (record {
@@ -77,13 +80,16 @@ definition_sound a s n e = bind_holds (known (judge s None e)) (λ value judged_
 
 -- ---- statements that declare nothing
 
-pub done_sound : (a : Around) (s : Scene) (judging : Judged core.Stm) → ((g : Sight) → Sees g s → Holds judging (IsStm g (around a))) → Holds (done s judging) (IsBehind a s)
+-- a statement that is sound where its scene is seen
+pub done_sound : (a : Around) (s : Scene) (judging : Judged core.Stm) → ((g : Sight) → Sees g s → Holds judging (IsStm g (around a)))
+    → Holds (done s judging) (IsBehind a s)
 done_sound a s judging h = bind_holds (known judging) (λ m is. ok_holds (IsBehind a s) (record { scene = s; stm = m }) (record {
   grows = begins_itself s.locals;
   is_sound = λ g sees final. record { stm = (h g sees).holds m is; sees = sees_behind g m s sees };
 }))
 
 module _ (a : Around) (g : Sight) (s : Scene) (sees : Sees g s) where
+  -- an assignment, a change or a call
   pub simple_sound : (t : SimpleForm) → Holds (judge_simple s t) (IsStm g (around a))
   unfolding IsStm
   simple_sound (assign path e) = assignment_sound g s sees (around a) path e
@@ -91,6 +97,7 @@ module _ (a : Around) (g : Sight) (s : Scene) (sees : Sees g s) where
   simple_sound (decrement n) = change_sound g s sees (around a) n Sub difference_row (λ t. refl) difference_keeps
   simple_sound (call_of n es) = bind_holds (judged g s sees None (exps.call n es) tt) (λ m h. ok_holds (IsStm g (around a)) (core.evaluate n.place m) h.typed)
 
+  -- what is done between the turns of a `for`
   pub between_sound : (t : Option SimpleForm) → Holds (judge_between s t) (IsStm g (around a))
   unfolding IsStm AreStms
   between_sound None = ok_holds _ core.nothing tt
@@ -102,21 +109,25 @@ module _ (a : Around) (g : Sight) (s : Scene) (sees : Sees g s) where
   MayBeTyped (Some e) (Some n) = IsTyped g n
   MayBeTyped _ _ = ⊥
 
+  -- an expression that may be missing has its type
   pub maybe_judged : (asked : Option Shape) (e : Option Exp) → IfSome asked IsFormed → Holds (judge_if_some s asked e) (MayBeTyped e)
   maybe_judged asked None ask = ok_holds (MayBeTyped None) None tt
   maybe_judged asked (Some e) ask = bind_holds (judged g s sees asked e ask) (λ n h. ok_holds (MayBeTyped (Some e)) (Some n) h)
 
+  -- a test that may be missing is one
   pub maybe_test : (e : Option Exp) (n : Option Node) → MayBeTyped e n → Holds (test_if_some e n) (λ u. IfSome n (IsTest g))
   maybe_test None None h = ok_holds _ _ tt
   maybe_test None (Some n) h = absurd h
   maybe_test (Some e) None h = absurd h
   maybe_test (Some e) (Some n) h = weaker (test_holds g e n) (λ u is. (h.typed, is))
 
+  -- a `return`
   pub return_sound : (p : Place) (e : Option Exp) → IfSome a.result IsFormed → Holds (judge_return s p a.result e) (IsStm g (around a))
   unfolding IsStm
   return_sound p e formed = by_result a.result refl e formed
     where
-      by_result : (result : Option Shape) → a.result ≡ result → (e : Option Exp) → IfSome result IsFormed → Holds (judge_return s p result e) (IsStm g (around a))
+      by_result : (result : Option Shape) → a.result ≡ result → (e : Option Exp) → IfSome result IsFormed
+          → Holds (judge_return s p result e) (IsStm g (around a))
       by_result None is None formed = ok_holds (IsStm g (around a)) (core.end_record p) is
       by_result None is (Some e) formed = err_holds _ _
       by_result (Some t) is None formed = err_holds _ _
@@ -148,6 +159,7 @@ module _ (a : Around) (g : Sight) (s : Scene) (sees : Sees g s) where
   weight_sound (Some t) (Some e) None h = absurd h
   weight_sound (Some t) (Some e) (Some n) h = weaker (agrees_holds t e n) (λ u is same. (h.typed, is))
 
+  -- an `emit`
   pub emit_sound : (p : Place) (n : Ident) (es : Exps) (e : Exp) (w : Option Exp) → Holds (judge_emit s p n es e w) (IsStm g (around a))
   unfolding IsStm
   emit_sound p n es e w = bind_holds (looked_up (Fits g) n s.blocks sees.fit) (λ m fits. bind_holds (table_found n m fits) (λ t table.

@@ -106,10 +106,10 @@ asks_of_list _ es = nothing
 
 -- a tuple or a message of this type with these fields
 abbrev pub made_tuple : Place → Shape → FieldShapes → Exps → Nodes → Judged Node
-made_tuple p t fields end ns = wrong_type p
-made_tuple p t fields es ns = do
-  _ ← agree (in_turn (field_types fields)) es ns
-  _ ← counted (fields_count fields) es p
+made_tuple p t parts end ns = wrong_type p
+made_tuple p t parts es ns = do
+  _ ← agree (in_turn (field_types parts)) es ns
+  _ ← counted (fields_count parts) es p
   Ok (node p t (forms.tuple ns))
 
 -- a composite without a colon

@@ -136,7 +136,8 @@ module _ (g : Sight) (blocks : List Block) (fit : AllFit g blocks) where
         (λ free. bind_holds (parts_formed (n.text ∷ taken) ps) (λ fs rest. ok_holds _ _ (more_parts taken n.text u fs free formed rest))))
 
     fields_formed : (taken : List (List ℕ)) (used : List ℕ) (fs : Fields) → Holds (judge_fields blocks taken used fs) (AreFields taken used)
-    fields_formed taken used trees.no_fields = ok_holds (AreFields taken used) no_fields (record { fresh = tt; distinct = refl; unused = tt; apart = refl; fields = refl })
+    fields_formed taken used trees.no_fields = ok_holds (AreFields taken used) no_fields
+        (record { fresh = tt; distinct = refl; unused = tt; apart = refl; fields = refl })
     fields_formed taken used (proto_field n t k word fs) = bind_holds (type_formed t) (λ u formed.
         bind_holds (coding_holds taken used n u (field_number k) (encoding_of word) (numbered k)) (λ c h.
         bind_holds (fields_formed (n.text ∷ taken) (c.number ∷ used) fs) (λ gs rest. ok_holds _ _ (more_fields taken used n u c gs formed h rest))))
