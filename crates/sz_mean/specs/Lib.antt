@@ -4,3 +4,4 @@ pub mod Tree
 pub mod Outcomes
 pub mod Meaning
 pub mod Rows
+pub mod Programs

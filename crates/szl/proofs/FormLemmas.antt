@@ -143,7 +143,11 @@ pub record IsFit (most : ℕ) (p : Prog) : Type 0 where
   pub sound : AreSound p.locals p.body
   pub few : length p.body ≤ most
 
-program_same : (p q : Prog) → Ok {E = Place} p ≡ Ok q → p ≡ q
+-- the statements are this program
+abbrev pub ran : Prog → Result Prog Place
+ran p = Ok p
+
+program_same : (p q : Prog) → ran p ≡ ran q → p ≡ q
 program_same p q e = cc
 
 -- a statement, and what follows it

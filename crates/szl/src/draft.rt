@@ -101,11 +101,11 @@ impl<'t> Draft<'t> {
 
     /// Adds the statement, if it runs today.
     #[tactic(auto, using(crate::proofs::FormLemmas::emit_weighted))]
-    pub fn add(&mut self, alloc: Global, statement: &'t Statement) -> Result<(), Unfit>
+    pub fn add(&mut self, alloc: Global, next: &'t Statement) -> Result<(), Unfit>
         requires room { HasRoom (seen_draft self.old) }
-        ensures value { Becomes result self.new (statement (seen_draft self.old) (stm_of statement.now)) }
+        ensures value { Becomes result self.new (statement (seen_draft self.old) (stm_of next.now)) }
     {
-        match statement {
+        match next {
             Statement::Table(name, of) => self.add_table(name, of),
             Statement::Declare(name, of, Some(value)) => self.add_variable(alloc, name, of, value),
             Statement::Emit(_, name, indexes, value, None) => {
