@@ -128,15 +128,11 @@ statement_grows d (statements.emit p name trees.end e None) =
     (emit_grows d table) (value_typed d.variables e)))
 statement_grows d _ = tt
 
--- an emit with a weight, or with indexes, doesn't run
-pub emit_weighted : (d : Draft) (p : Place) (n : Ident) (es : trees.Exps) (e w : trees.Exp) → statement d (statements.emit p n es e (Some w)) ≡ None
-emit_weighted d p n trees.end e w = refl
-emit_weighted d p n (trees.more x es) e w = refl
-
-pub emit_indexed : (d : Draft) (p : Place) (n : Ident) (indexes : List Expr) (e : trees.Exp) → 0 < length indexes
-    → statement d (statements.emit p n (trees.exps_of (map tree_of indexes)) e None) ≡ None
-emit_indexed d p n [] e some = absurd (omega arith)
-emit_indexed d p n (x ∷ indexes) e some = refl
+-- an emit with indexes doesn't run
+pub emit_indexed : (d : Draft) (p : Place) (n : Ident) (indexes : List Expr) (e : trees.Exp) (weight : Option trees.Exp) → 0 < length indexes
+    → statement d (statements.emit p n (trees.exps_of (map tree_of indexes)) e weight) ≡ None
+emit_indexed d p n [] e weight some = absurd (omega arith)
+emit_indexed d p n (x ∷ indexes) e weight some = refl
 
 -- the program's statements are sound, and at most so many
 pub record IsFit (most : ℕ) (p : Prog) : Type 0 where

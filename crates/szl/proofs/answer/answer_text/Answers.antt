@@ -14,7 +14,7 @@ returns-in_err-tree-clause-value g c =
 -- the tree is no program that runs
 pub returns-in_err-program-clause-value : goal.returns-in_err-program-clause-value
 returns-in_err-program-clause-value g c =
-    let p = err_from_is_err_and c.from_residual.result c.from_residual.ensures.1 in
+    let p = err_from_is_err_and c.from_residual-in_err-program.result c.from_residual-in_err-program.ensures.1 in
     rw (p.1, p.2) (statements_refused g.F.Files c.args.text.now c.args.input.now c.args.files.now (program_of c.in_ok-tree.tree) c.in_err-program.field-0.0
     c.requires.short c.in_ok-tree.ensures.found c.in_err-program.ensures.refused)
 

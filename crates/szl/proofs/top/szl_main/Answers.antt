@@ -9,7 +9,8 @@ use Rattle.szl.proofs.top.szl_main.Goals as goal
 pub returns-in-Err-clause-outcome : goal.returns-in-Err-clause-outcome
 returns-in-Err-clause-outcome g c =
     let words = map string_bytes c.args.words.now in
-    subst (λ s. MeansSource g.F.Files g.O.Sink g.E.Sink words s c.args.files.now c.answer-answer.new.files c.args.out.now c.print.new.out c.args.err.now c.tell.new.err)
+    subst (λ s. MeansSource g.F.Files g.O.Sink g.E.Sink words s c.args.files.now c.answer-answer.new.files c.args.out.now
+    c.print.new.out c.args.err.now c.tell.new.err)
     (sym c.status.ensures.value)
     (means_failure g.F.Files g.O.Sink g.E.Sink words c.args.files.now c.answer-answer.new.files c.args.out.now c.print.new.out c.args.err.now
     c.tell.new.err c.in-Err.failure c.tell.result (vec_items_of c.answer-answer.result) c.answer-answer.ensures.value c.in-Err.ensures.value
