@@ -4,4 +4,3 @@ pub mod Tree
 pub mod Outcomes
 pub mod Meaning
 pub mod Rows
-pub mod Programs

@@ -1,7 +1,7 @@
 -- What a statement adds to a program in the making, and that what runs is sound.
-use Rattle.std.proofs.Common.{◌≡◌, ℕ, suc, ◌+◌, ◌<◌, ◌≤◌, List, [], ◌∷◌, ◌++◌, length, Bool, true, false, Option, Some, None, refl, subst, arith}
+use Rattle.std.proofs.Common.{◌≡◌, ℕ, suc, ◌+◌, ◌<◌, ◌≤◌, List, [], ◌∷◌, length, Bool, true, false, Option, Some, None, refl, subst, arith}
 use Rattle.std.proofs.Common.{length-append, map}
-use Rattle.std.specs.Prelude.{IfSome, if◌then◌else◌, ◌&&◌, nat_lt, option_and_then, option_map, bytes_eq, Result, Ok, Err}
+use Rattle.std.specs.Prelude.{IfSome, if◌then◌else◌, ◌&&◌, nat_lt, option_and_then, option_map, bytes_eq, Result, Ok}
 use Rattle.std.specs.List.{position_from}
 use Rattle.sz_types.specs.declared.place.Place.{Place}
 use Rattle.sz_tree.specs.declared.expr.Expr.{Expr}
@@ -11,7 +11,7 @@ use Rattle.sz_tree.specs.Expressions as trees
 use Rattle.sz_tree.specs.Statements.{Stms, no_stms, stm, stm_place}
 use Rattle.sz_tree.specs.Statements as statements
 use Rattle.sz_parse.specs.Program.{count_of}
-use Rattle.sz_mean.specs.Tree.{Exp, number, variable, input, convert, declare, emit, Prog}
+use Rattle.sz_mean.specs.Tree.{Exp, variable, input, convert, declare, emit, Prog}
 use Rattle.sz_mean.specs.declared.operator.BinOp.{BinOp}
 use Rattle.szl.specs.Forms.{Draft, empty_draft, operator_of, operation, value_of, is_input, declared_value, is_int, is_sum, is_free, place_of}
 use Rattle.szl.specs.Forms.{with_table, with_variable, with_emit, statement, go_on, program_of, program_from, program_in, most_tables}

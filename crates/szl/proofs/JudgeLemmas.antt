@@ -1,8 +1,7 @@
 -- How a text is judged step by step: its tokens, its tree, and the program that its statements are.
-use Rattle.std.proofs.Common.{◌≡◌, ◌⊎◌, inl, inr, ℕ, zero, suc, ◌+◌, ◌<◌, ◌≤◌, ◌^◌, List, []}
-use Rattle.std.proofs.Common.{◌∷◌, length, get_or, drop, map, Option, Some, None, refl, sym, ap, ◌∙◌, subst, arith}
-use Rattle.std.specs.Prelude.{Result, Ok, Err}
-use Rattle.sz_types.specs.declared.place.Place.{Place}
+use Rattle.std.proofs.Common.{◌≡◌, ◌⊎◌, inl, inr, ℕ, zero, suc, ◌+◌, ◌<◌, ◌≤◌, List, []}
+use Rattle.std.proofs.Common.{◌∷◌, length, get_or, drop, map, Some, None, refl, sym, ap, ◌∙◌, subst, arith}
+use Rattle.std.specs.Prelude.{Ok, Err}
 use Rattle.sz_lex.specs.declared.error.LexError.{LexError}
 use Rattle.sz_lex.specs.declared.error.LexError.TheVariants as lexing
 use Rattle.sz_lex.specs.Tokens.{HasTokens, IsRefused}
@@ -40,11 +39,14 @@ unread_failure text e short (inr h) = refused_failure text e short h
 -- tokens that are stuck are refused
 pub stuck_failure : (text : List ℕ) (tokens : Lexed) (e : ParseError) → IsShort text → HasTokens text tokens.tokens → tokens.text ≡ text
     → OrNoMemory e (λ p. IsStuck tokens p) → IsFailureOf text (failure_of_parsing e)
-stuck_failure text tokens (parsing.Syntax q) short has is h = (short, record {
-  tokens = tokens.tokens;
-  has = has;
-  stuck = subst (λ t. IsStuck (record { text = t; tokens = tokens.tokens }) q) is h;
-})
+stuck_failure text tokens (parsing.Syntax q) short has is h = (
+  short,
+  record {
+    tokens = tokens.tokens;
+    has = has;
+    stuck = subst (λ t. IsStuck (record { text = t; tokens = tokens.tokens }) q) is h;
+  },
+)
 stuck_failure text tokens parsing.NoMemory short has is h = tt
 
 -- tokens that spell statements are those of the text

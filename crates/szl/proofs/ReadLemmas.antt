@@ -3,7 +3,7 @@ use Rattle.std.proofs.Common.{◌≡◌, ℕ, ◌+◌, ◌<◌, ◌≤◌, List,
 use Rattle.sz_types.specs.declared.place.Place.{Place}
 use Rattle.sz_lex.specs.declared.token.Token.{Token}
 use Rattle.sz_lex.specs.declared.token.Kind.{Kind}
-use Rattle.sz_lex.specs.Tokens.{IsLexeme, Tail, TokensThen, HasTokens}
+use Rattle.sz_lex.specs.Tokens.{IsLexeme, Tail, TokensThen}
 use Rattle.sz_lex.proofs.ItemLemmas.{no_empty}
 use Rattle.sz_tree.specs.Statements.{Stms, no_stms, stm, stms_of}
 use Rattle.sz_tree.specs.declared.stmt.Stmt.{Stmt}

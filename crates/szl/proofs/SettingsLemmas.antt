@@ -1,9 +1,8 @@
 -- The answer for the settings of a command line, from that for the program's text.
 use Rattle.std.proofs.Common.{◌≡◌, ◌≢◌, ℕ, suc, ◌<◌, ◌≤◌, ◌⊎◌, List, [], ◌∷◌, ◌++◌, length, take, Bool}
 use Rattle.std.proofs.Common.{true, false, Option, Some, None, refl, sym, ap, ◌∙◌, subst, arith, inl, inr, append-nil, append_assoc}
-use Rattle.std.specs.Prelude.{IfSome, IsSome, IsTrue, unwrap_or, Result, Ok, Err, codes, nat_lt, if◌then◌else◌}
+use Rattle.std.specs.Prelude.{IfSome, IsSome, IsTrue, unwrap_or, Result, Ok, Err, if◌then◌else◌}
 use Rattle.std.specs.Io.KnownBytes.{IsAtEnd}
-use Rattle.std.proofs.lemmas.Bool.Decides.{nat_tests}
 use Rattle.sz_io.specs.Rose.{Rose}
 use Rattle.sz_io.specs.Opened.{KeepsFiles}
 use Rattle.sz_io.specs.Calls.{ReadToEnd}
@@ -15,7 +14,7 @@ use Rattle.szl.specs.declared.failure.Failure.{Failure}
 use Rattle.szl.specs.declared.failure.Failure.TheVariants.{Usage, Refused, Limit, ReadFailed, WriteFailed, NoMemory}
 use Rattle.szl.specs.declared.refusal.Cause.TheVariants.{TooLong}
 use Rattle.szl.specs.Opening.{ReadsText, GainsName, Decides, Answers, AnswersText}
-use Rattle.szl.specs.Outcome.{Answer, outcome_of_judgement, success, refusal}
+use Rattle.szl.specs.Outcome.{Answer, outcome_of_judgement, success}
 use Rattle.szl.specs.Judgement.{Judgement, most_program_bytes}
 use Rattle.szl.specs.Judgement as judgement
 use Rattle.szl.specs.Judging.{IsFailureOf}

@@ -1,5 +1,5 @@
 -- What running code on the records of an input does.
-use Rattle.std.specs.Prelude.{◌≡◌, ℕ, ◌≤◌, ◌^◌, List, length, flat_map, ⊤, Some, codes, Result, Ok, Err, Vec}
+use Rattle.std.specs.Prelude.{◌≡◌, ℕ, ◌≤◌, ◌^◌, List, length, flat_map, ⊤, codes, Result, Ok, Err, Vec}
 use Rattle.sz_mean.specs.Outcomes.{EmitDatum}
 use Rattle.sz_machine.specs.declared.code.Code.{Code}
 use Rattle.sz_machine.specs.Machine.{RunsTo}

@@ -231,7 +231,12 @@ c: table sum of int; emit c <- 0x10 - 0xffffffffffffffff; => c[] = 17
 }
 
 /// A value in so many pairs of parentheses, between two texts.
-fn in_parentheses(alloc: Global, count: usize, before: &str, behind: &str) -> Result<Vec<u8>, Fail> {
+fn in_parentheses(
+    alloc: Global,
+    count: usize,
+    before: &str,
+    behind: &str,
+) -> Result<Vec<u8>, Fail> {
     let mut text = Vec::new(alloc);
     text.extend_from_slice(before.as_bytes())?;
     for _ in 0..count {
@@ -281,9 +286,27 @@ fn a_statement_may_be_256_high(rt: HostRuntime) -> Result<(), Fail> {
     let most = in_parentheses(alloc, 254, before, behind)?;
     assert!(&rt; leaves(&rt, alloc, &most, Status::Done, "c[] = 1\n", "")?);
     let more = in_parentheses(alloc, 255, before, behind)?;
-    assert!(&rt; leaves(&rt, alloc, &more, Status::Program, "", "program: syntax at 2:1\n")?);
+    assert!(&rt;
+        leaves(
+            &rt,
+            alloc,
+            &more,
+            Status::Program,
+            "",
+            "program: syntax at 2:1\n"
+        )?
+    );
     let alone = in_parentheses(alloc, 300, "x: int = ", ";")?;
-    assert!(&rt; leaves(&rt, alloc, &alone, Status::Program, "", "program: syntax at 1:1\n")?);
+    assert!(&rt;
+        leaves(
+            &rt,
+            alloc,
+            &alone,
+            Status::Program,
+            "",
+            "program: syntax at 1:1\n"
+        )?
+    );
     Ok(())
 }
 
@@ -293,7 +316,16 @@ fn operators_from_the_left_add_to_the_height(rt: HostRuntime) -> Result<(), Fail
     let most = long_sum(alloc, 254)?;
     assert!(&rt; leaves(&rt, alloc, &most, Status::Done, "c[] = 255\n", "")?);
     let more = long_sum(alloc, 255)?;
-    assert!(&rt; leaves(&rt, alloc, &more, Status::Program, "", "program: syntax at 2:1\n")?);
+    assert!(&rt;
+        leaves(
+            &rt,
+            alloc,
+            &more,
+            Status::Program,
+            "",
+            "program: syntax at 2:1\n"
+        )?
+    );
     Ok(())
 }
 
