@@ -1,7 +1,7 @@
 -- What a statement adds to a program in the making, and that what runs is sound.
-use Rattle.std.proofs.Common.{◌≡◌, ℕ, suc, ◌+◌, ◌<◌, ◌≤◌, List, [], ◌∷◌, ◌++◌, length, Bool, true, false, Option, Some, None, refl, subst, arith}
+use Rattle.std.proofs.Common.{◌≡◌, ℕ, suc, ◌+◌, ◌<◌, ◌≤◌, List, [], ◌∷◌, length, Bool, true, false, Option, Some, None, refl, subst, arith}
 use Rattle.std.proofs.Common.{length-append, map}
-use Rattle.std.specs.Prelude.{IfSome, if◌then◌else◌, ◌&&◌, nat_lt, option_and_then, option_map, bytes_eq, Result, Ok, Err}
+use Rattle.std.specs.Prelude.{IfSome, if◌then◌else◌, ◌&&◌, nat_lt, option_and_then, option_map, bytes_eq, Result, Ok}
 use Rattle.std.specs.List.{position_from}
 use Rattle.sz_types.specs.declared.place.Place.{Place}
 use Rattle.sz_tree.specs.declared.expr.Expr.{Expr}
@@ -11,7 +11,7 @@ use Rattle.sz_tree.specs.Expressions as trees
 use Rattle.sz_tree.specs.Statements.{Stms, no_stms, stm, stm_place}
 use Rattle.sz_tree.specs.Statements as statements
 use Rattle.sz_parse.specs.Program.{count_of}
-use Rattle.sz_mean.specs.Tree.{Exp, number, variable, input, convert, declare, emit, Prog}
+use Rattle.sz_mean.specs.Tree.{Exp, variable, input, convert, declare, emit, Prog}
 use Rattle.sz_mean.specs.declared.operator.BinOp.{BinOp}
 use Rattle.szl.specs.Forms.{Draft, empty_draft, operator_of, operation, value_of, is_input, declared_value, is_int, is_sum, is_free, place_of}
 use Rattle.szl.specs.Forms.{with_table, with_variable, with_emit, statement, go_on, program_of, program_from, program_in, most_tables}
@@ -128,22 +128,22 @@ statement_grows d (statements.emit p name trees.end e None) =
     (emit_grows d table) (value_typed d.variables e)))
 statement_grows d _ = tt
 
--- an emit with a weight, or with indexes, doesn't run
-pub emit_weighted : (d : Draft) (p : Place) (n : Ident) (es : trees.Exps) (e w : trees.Exp) → statement d (statements.emit p n es e (Some w)) ≡ None
-emit_weighted d p n trees.end e w = refl
-emit_weighted d p n (trees.more x es) e w = refl
-
-pub emit_indexed : (d : Draft) (p : Place) (n : Ident) (indexes : List Expr) (e : trees.Exp) → 0 < length indexes
-    → statement d (statements.emit p n (trees.exps_of (map tree_of indexes)) e None) ≡ None
-emit_indexed d p n [] e some = absurd (omega arith)
-emit_indexed d p n (x ∷ indexes) e some = refl
+-- an emit with indexes doesn't run
+pub emit_indexed : (d : Draft) (p : Place) (n : Ident) (indexes : List Expr) (e : trees.Exp) (weight : Option trees.Exp) → 0 < length indexes
+    → statement d (statements.emit p n (trees.exps_of (map tree_of indexes)) e weight) ≡ None
+emit_indexed d p n [] e weight some = absurd (omega arith)
+emit_indexed d p n (x ∷ indexes) e weight some = refl
 
 -- the program's statements are sound, and at most so many
 pub record IsFit (most : ℕ) (p : Prog) : Type 0 where
   pub sound : AreSound p.locals p.body
   pub few : length p.body ≤ most
 
-program_same : (p q : Prog) → Ok {E = Place} p ≡ Ok q → p ≡ q
+-- the statements are this program
+abbrev pub ran : Prog → Result Prog Place
+ran p = Ok p
+
+program_same : (p q : Prog) → ran p ≡ ran q → p ≡ q
 program_same p q e = cc
 
 -- a statement, and what follows it

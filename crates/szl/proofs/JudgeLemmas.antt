@@ -1,7 +1,7 @@
 -- How a text is judged step by step: its tokens, its tree, and the program that its statements are.
-use Rattle.std.proofs.Common.{◌≡◌, ◌⊎◌, inl, inr, ℕ, zero, suc, ◌+◌, ◌<◌, ◌≤◌, ◌^◌, List, [], ◌∷◌, length, get_or, drop, map, Option, Some, None, refl, sym, ap, ◌∙◌, subst, arith}
-use Rattle.std.specs.Prelude.{Result, Ok, Err}
-use Rattle.sz_types.specs.declared.place.Place.{Place}
+use Rattle.std.proofs.Common.{◌≡◌, ◌⊎◌, inl, inr, ℕ, zero, suc, ◌+◌, ◌<◌, ◌≤◌, List, []}
+use Rattle.std.proofs.Common.{◌∷◌, length, get_or, drop, map, Some, None, refl, sym, ap, ◌∙◌, subst, arith}
+use Rattle.std.specs.Prelude.{Ok, Err}
 use Rattle.sz_lex.specs.declared.error.LexError.{LexError}
 use Rattle.sz_lex.specs.declared.error.LexError.TheVariants as lexing
 use Rattle.sz_lex.specs.Tokens.{HasTokens, IsRefused}
@@ -21,26 +21,32 @@ use Rattle.szl.specs.Forms.{Draft, empty_draft, statement, go_on, program_of, pr
 use Rattle.szl.specs.Judgement.{IsShort, HasStatements, most_program_bytes}
 use Rattle.szl.specs.Judging.{failure_of_lexing, failure_of_parsing, IsFailureOf, IsFailureOn}
 use Rattle.szl.specs.View.{HasRoom}
-use Rattle.szl.proofs.FormLemmas.{Grows, statement_grows, if_some_is}
+use Rattle.szl.proofs.FormLemmas.{Grows, statement_grows, if_some_is, ran}
 use Rattle.szl.proofs.TakenLemmas.{from_place}
 
 -- a text without tokens is refused
+refused_failure : (text : List ℕ) (e : LexError) → IsShort text → IsRefused text e → IsFailureOf text (failure_of_lexing e)
+refused_failure text (lexing.BadChar q) short h = (short, h)
+refused_failure text (lexing.BadLiteral q) short h = (short, h)
+refused_failure text (lexing.NotUtf8 q) short h = (short, h)
+refused_failure text lexing.NoMemory short h = tt
+
 pub unread_failure : (text : List ℕ) (e : LexError) → IsShort text → (e ≡ lexing.NoMemory) ⊎ IsRefused text e
     → IsFailureOf text (failure_of_lexing e)
 unread_failure text e short (inl is) = subst (λ x. IsFailureOf text (failure_of_lexing x)) (sym is) tt
-unread_failure text (lexing.BadChar q) short (inr h) = (short, h)
-unread_failure text (lexing.BadLiteral q) short (inr h) = (short, h)
-unread_failure text (lexing.NotUtf8 q) short (inr h) = (short, h)
-unread_failure text lexing.NoMemory short (inr h) = tt
+unread_failure text e short (inr h) = refused_failure text e short h
 
 -- tokens that are stuck are refused
 pub stuck_failure : (text : List ℕ) (tokens : Lexed) (e : ParseError) → IsShort text → HasTokens text tokens.tokens → tokens.text ≡ text
     → OrNoMemory e (λ p. IsStuck tokens p) → IsFailureOf text (failure_of_parsing e)
-stuck_failure text tokens (parsing.Syntax q) short has is h = (short, record {
-  tokens = tokens.tokens;
-  has = has;
-  stuck = subst (λ t. IsStuck (record { text = t; tokens = tokens.tokens }) q) is h;
-})
+stuck_failure text tokens (parsing.Syntax q) short has is h = (
+  short,
+  record {
+    tokens = tokens.tokens;
+    has = has;
+    stuck = subst (λ t. IsStuck (record { text = t; tokens = tokens.tokens }) q) is h;
+  },
+)
 stuck_failure text tokens parsing.NoMemory short has is h = tt
 
 -- tokens that spell statements are those of the text
@@ -118,4 +124,4 @@ none_left (s ∷ items) (suc i) le = none_left items i (omega arith)
 pub draft_all : (items : List Stmt) (i : ℕ) (d : Draft) (p : Prog) → length items ≤ i → IsDraftUpTo items i d → p ≡ program_of d
     → program_in (stms_of (map stm_of items)) ≡ Ok p
 draft_all items i d p end h is =
-    sym h.same ∙ ap (λ l. program_from d (stms_of (map stm_of l))) (none_left items i end) ∙ ap (Ok {E = Place}) (sym is)
+    sym h.same ∙ ap (λ l. program_from d (stms_of (map stm_of l))) (none_left items i end) ∙ ap ran (sym is)

@@ -17,7 +17,7 @@ use Rattle.szl.specs.declared.failure.Failure.TheVariants.{Usage, Refused, Limit
 use Rattle.szl.specs.Failing.{status_of, line_of_failure}
 use Rattle.szl.specs.Opening.{Decides, Answers}
 use Rattle.szl.specs.Outcome.{Answer, outcome, success}
-use Rattle.szl.specs.Printing.{Prints, line_with}
+use Rattle.szl.specs.Printing.{Prints}
 use Rattle.szl.specs.Promise.{IsStatusOf, AppendsPrefix, GainsOutput, GainsLine, MeansSource, line_of}
 use Rattle.szl.specs.Settings.{settings_in}
 
@@ -80,15 +80,6 @@ line_is answer (Refused cause place) (Ok output) rose old new decides printed = 
 line_is answer Limit (Ok output) rose old new decides printed = absurd printed
 line_is answer ReadFailed (Ok output) rose old new decides printed = absurd printed
 
--- the line with a failure's own status is its own
-own_line : (f : Failure) → line_with f (status_of f) ≡ line_of_failure f
-own_line Usage = refl
-own_line (Refused cause place) = refl
-own_line Limit = refl
-own_line ReadFailed = refl
-own_line WriteFailed = refl
-own_line NoMemory = refl
-
 -- where printing failed, a prefix of the output is written at the most, so want of memory fits
 fits_no_memory : (answer : Answer) (f : Failure) (made : Result (List ℕ) Failure) (rose : Type 0) (old new : Option (List ℕ))
     → Decides made answer rose
@@ -144,20 +135,20 @@ module _ {F O E : Type 0} (the_files : files.Ghosts F) (the_out : sink.Ghosts O)
   }
 
   -- a failure, and its line is told, or that of want of memory
-  pub means_failure : (new_err : E) (f : Failure) (made : Result (List ℕ) Failure) (s : Status) → Answers the_files (settings_in words) old new made
-      → Prints {T = Unit {0}} (the_out.taken out) (the_out.taken new_out) made (Err f) → (s ≡ status_of f) ⊎ (s ≡ status.NoMemory)
-      → GainsLine the_err err new_err (line_with f s) → MeansSource the_files the_out the_err words s old new out new_out err new_err
-  means_failure new_err f made s a printed (inl is) told =
+  pub means_failure : (new_err : E) (f told : Failure) (made : Result (List ℕ) Failure) → Answers the_files (settings_in words) old new made
+      → Prints {T = Unit {0}} (the_out.taken out) (the_out.taken new_out) made (Err f) → (told ≡ f) ⊎ (told ≡ NoMemory)
+      → GainsLine the_err err new_err (line_of_failure told) → MeansSource the_files the_out the_err words (status_of told) old new out new_out err new_err
+  means_failure new_err f told made a printed (inl is) gained =
       let o = outcome words a.judgement a.input in
-      let line = ap (line_with f) is ∙ own_line f ∙ line_is o f made _ (the_out.taken out) (the_out.taken new_out) a.decides printed in
-      subst (λ t. MeansSource the_files the_out the_err words t old new out new_out err new_err) (sym is)
+      let line = ap line_of_failure is ∙ line_is o f made _ (the_out.taken out) (the_out.taken new_out) a.decides printed in
+      subst (λ t. MeansSource the_files the_out the_err words (status_of t) old new out new_out err new_err) (sym is)
       (means new_err made a (status_of f) (fits_failure o f made _ (the_out.taken out) (the_out.taken new_out) a.decides printed)
-      (subst (GainsLine the_err err new_err) line told))
-  means_failure new_err f made s a printed (inr is) told =
+      (subst (GainsLine the_err err new_err) line gained))
+  means_failure new_err f told made a printed (inr is) gained =
       let o = outcome words a.judgement a.input in
-      subst (λ t. MeansSource the_files the_out the_err words t old new out new_out err new_err) (sym is)
+      subst (λ t. MeansSource the_files the_out the_err words (status_of t) old new out new_out err new_err) (sym is)
       (means new_err made a status.NoMemory (fits_no_memory o f made _ (the_out.taken out) (the_out.taken new_out) a.decides printed)
-      (subst (GainsLine the_err err new_err) (ap (line_with f) is) told))
+      (subst (GainsLine the_err err new_err) (ap line_of_failure is) gained))
 
 -- what a write of a line says of it, whatever it answers
 pub line_told : {E : Type 0} (the_err : sink.Ghosts E) (old new : E) (line : List ℕ) (r : Result (Unit {0}) WriteError)

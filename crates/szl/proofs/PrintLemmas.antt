@@ -1,5 +1,6 @@
 -- How the text of the tables is printed one after the other.
-use Rattle.std.proofs.Common.{◌≡◌, ℕ, zero, suc, ◌+◌, ◌<◌, ℤ, List, [], ◌∷◌, ◌++◌, length, get_or, drop, Option, Some, refl, sym, ap, ◌∙◌, arith, append_assoc, append-nil}
+use Rattle.std.proofs.Common.{◌≡◌, ℕ, suc, ◌+◌, ◌<◌, ℤ, List, [], ◌∷◌, ◌++◌}
+use Rattle.std.proofs.Common.{length, get_or, drop, Option, Some, refl, sym, ap, ◌∙◌, arith, append_assoc, append-nil}
 use Rattle.std.specs.Prelude.{slice_get}
 use Rattle.std.specs.Borrow.{Bor}
 use Rattle.sz_mean.specs.Outcomes.{EmitDatum}
@@ -11,7 +12,8 @@ use Rattle.szl.proofs.TakenLemmas.{from_place}
 
 -- the text so far and that of the tables from this one on are the text of all tables
 pub record IsPrintedUpTo (names : List (Bor (List ℕ))) (totals : Totals) (table : ℕ) (text : List ℕ) : Type 0 where
-  pub printed : (emits : List EmitDatum) → StandFor totals emits → text ++ tables_text table (texts (drop table names)) emits ≡ tables_text 0 (texts names) emits
+  pub printed : (emits : List EmitDatum) → StandFor totals emits
+      → text ++ tables_text table (texts (drop table names)) emits ≡ tables_text 0 (texts names) emits
 
 pub print_none : (names : List (Bor (List ℕ))) (totals : Totals) → IsPrintedUpTo names totals 0 []
 print_none names totals = record { printed = λ emits stands. refl }

@@ -1,5 +1,5 @@
 -- A program that was read may run, and what its run gives is its outcome.
-use Rattle.std.proofs.Common.{◌≡◌, ℕ, ◌≤◌, List, length, true, false, sym, ap, ◌∙◌, subst, arith}
+use Rattle.std.proofs.Common.{◌≡◌, ℕ, List, true, false, sym, ap, ◌∙◌, arith}
 use Rattle.std.specs.Prelude.{if◌then◌else◌, codes}
 use Rattle.sz_parse.specs.Program.{count_of}
 use Rattle.sz_mean.specs.Tree.{Prog}

@@ -1,16 +1,16 @@
 -- A text has at least as many bytes as tokens, and as many tokens as statements.
-use Rattle.std.proofs.Common.{◌≡◌, ℕ, ◌+◌, ◌<◌, ◌≤◌, List, [], ◌∷◌, ◌++◌, length, refl, ap, arith, length-append, map}
+use Rattle.std.proofs.Common.{◌≡◌, ℕ, ◌+◌, ◌<◌, ◌≤◌, List, [], ◌∷◌, ◌++◌, length, Bool, refl, ap, arith, length-append, map}
 use Rattle.sz_types.specs.declared.place.Place.{Place}
 use Rattle.sz_lex.specs.declared.token.Token.{Token}
 use Rattle.sz_lex.specs.declared.token.Kind.{Kind}
-use Rattle.sz_lex.specs.Tokens.{IsLexeme, Tail, TokensThen, HasTokens}
+use Rattle.sz_lex.specs.Tokens.{IsLexeme, Tail, TokensThen}
 use Rattle.sz_lex.proofs.ItemLemmas.{no_empty}
 use Rattle.sz_tree.specs.Statements.{Stms, no_stms, stm, stms_of}
 use Rattle.sz_tree.specs.declared.stmt.Stmt.{Stmt}
 use Rattle.sz_tree.specs.View.{stm_of}
 use Rattle.sz_parse.specs.Statements.{ReadsStm, ReadsStms}
 use Rattle.sz_parse.specs.Program.{count_of}
-use Rattle.sz_parse.proofs.StatementSound.{stm_shorter}
+use Rattle.sz_parse.proofs.ForCallers.{stm_shorter}
 use Rattle.szl.specs.Judgement.{HasStatements, IsShort, most_program_bytes}
 
 -- each statement takes a token
@@ -24,7 +24,7 @@ some_byte : (k : Kind) (lexeme : List ℕ) → IsLexeme k lexeme → 0 < length 
 some_byte k [] is = absurd (no_empty k is)
 some_byte k (b ∷ bs) is = omega arith
 
-tokens_count : (P : Tail) (ts : List Token) (comment : _) (at : ℕ) (p : Place) (text : List ℕ) → TokensThen P ts comment at p text
+tokens_count : (P : Tail) (ts : List Token) (comment : Bool) (at : ℕ) (p : Place) (text : List ℕ) → TokensThen P ts comment at p text
     → length ts ≤ length text
 unfolding TokensThen
 tokens_count P [] comment at p text h = omega arith

@@ -1,8 +1,8 @@
 -- The answer for the settings of a command line, from that for the program's text.
-use Rattle.std.proofs.Common.{◌≡◌, ◌≢◌, ℕ, suc, ◌<◌, ◌≤◌, ◌⊎◌, List, [], ◌∷◌, ◌++◌, length, take, Bool, true, false, Option, Some, None, refl, sym, ap, ◌∙◌, subst, arith, inl, inr, append-nil, append_assoc}
-use Rattle.std.specs.Prelude.{IfSome, IsSome, IsTrue, unwrap_or, Result, Ok, Err, codes, nat_lt, if◌then◌else◌}
+use Rattle.std.proofs.Common.{◌≡◌, ◌≢◌, ℕ, suc, ◌<◌, ◌≤◌, ◌⊎◌, List, [], ◌∷◌, ◌++◌, length, take, Bool}
+use Rattle.std.proofs.Common.{true, false, Option, Some, None, refl, sym, ap, ◌∙◌, subst, arith, inl, inr, append-nil, append_assoc}
+use Rattle.std.specs.Prelude.{IfSome, IsSome, IsTrue, unwrap_or, Result, Ok, Err, if◌then◌else◌}
 use Rattle.std.specs.Io.KnownBytes.{IsAtEnd}
-use Rattle.std.proofs.lemmas.Bool.Decides.{nat_tests}
 use Rattle.sz_io.specs.Rose.{Rose}
 use Rattle.sz_io.specs.Opened.{KeepsFiles}
 use Rattle.sz_io.specs.Calls.{ReadToEnd}
@@ -14,7 +14,7 @@ use Rattle.szl.specs.declared.failure.Failure.{Failure}
 use Rattle.szl.specs.declared.failure.Failure.TheVariants.{Usage, Refused, Limit, ReadFailed, WriteFailed, NoMemory}
 use Rattle.szl.specs.declared.refusal.Cause.TheVariants.{TooLong}
 use Rattle.szl.specs.Opening.{ReadsText, GainsName, Decides, Answers, AnswersText}
-use Rattle.szl.specs.Outcome.{Answer, outcome_of_judgement, success, refusal}
+use Rattle.szl.specs.Outcome.{Answer, outcome_of_judgement, success}
 use Rattle.szl.specs.Judgement.{Judgement, most_program_bytes}
 use Rattle.szl.specs.Judgement as judgement
 use Rattle.szl.specs.Judging.{IsFailureOf}
@@ -58,7 +58,8 @@ long_failure : (text : List ℕ) (f : Failure) → f ≡ past → most_program_b
 long_failure text f is long = subst (IsFailureOf text) (sym is) (long, refl)
 
 -- a count that rose later rose
-decides_since : (answer : Result (List ℕ) Failure) (outcome : Answer) (later since : Type 0) → (later → since) → Decides answer outcome later → Decides answer outcome since
+decides_since : (answer : Result (List ℕ) Failure) (outcome : Answer) (later since : Type 0) → (later → since)
+    → Decides answer outcome later → Decides answer outcome since
 decides_since (Ok output) outcome later since rose h = h
 decides_since (Err ReadFailed) outcome later since rose h = (rose h.0, h.1)
 decides_since (Err WriteFailed) outcome later since rose h = h
@@ -76,6 +77,18 @@ over : (P : Type 0) (h k : Option (List ℕ)) → IfSome h (λ _. P) → IfSome 
 over P None k p = tt
 over P (Some bytes) None p = tt
 over P (Some bytes) (Some more) p = p
+
+-- words that are no command line ask for no file
+pub no_settings : {F : Type 0} (the_files : files.Ghosts F) (old : F) → Answers the_files None old old (Err Usage)
+no_settings the_files old = let j = every_text_is_judged [] in record {
+  text = [];
+  judgement = j.judgement;
+  judged = j.judged;
+  input = [];
+  held = tt;
+  decides = refl;
+  opened = record { count = 0; within = omega arith; opened = sym (append-nil (the_files.names old)) };
+}
 
 module _ {F : Type 0} (the_files : files.Ghosts F) (s : Settings) (old : F) where
   opened_first : (new : F) (most : ℕ) → 1 ≤ most → the_files.names new ≡ the_files.names old ++ s.program ∷ []

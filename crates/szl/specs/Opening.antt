@@ -59,7 +59,8 @@ pub record Answers {F : Type 0} (the_files : files.Ghosts F) (asked : Option Set
       (most_opened (outcome_of_settings asked judgement input).status)
 
 -- the answer is that of an outcome on what the file under the name holds; no file is opened for a refused program
-pub record AnswersOn {F : Type 0} (the_files : files.Ghosts F) (outcome_on : List ℕ → Answer) (name : List ℕ) (old new : F) (answer : Result (List ℕ) Failure) : Type 0 where
+pub record AnswersOn {F : Type 0} (the_files : files.Ghosts F) (outcome_on : List ℕ → Answer) (name : List ℕ) (old new : F)
+    (answer : Result (List ℕ) Failure) : Type 0 where
   pub input : List ℕ
   pub holds : IfSome (the_files.held old name) (λ bytes. bytes ≡ input)
   pub decides : Decides answer (outcome_on input) (Rose (the_files.faults old) (the_files.faults new))

@@ -77,7 +77,8 @@ pub record MeansSource {F O E : Type 0} (the_files : files.Ghosts F) (the_out : 
   pub answers : IsStatusOf (outcome words judgement input) status
   pub output : GainsOutput status (the_out.taken out) (the_out.taken new_out) (outcome words judgement input).output
   pub line : GainsLine the_err err new_err (line_of (outcome words judgement input) status)
-  pub opened : OpensFirst (names_asked (settings_in words)) (the_files.names files) (the_files.names new_files) (most_opened (outcome words judgement input).status)
+  pub opened : OpensFirst (names_asked (settings_in words)) (the_files.names files) (the_files.names new_files)
+      (most_opened (outcome words judgement input).status)
 
 -- each file opened since is at its end, and what is left of it is told where the bytes under both names are
 pub record AreReadToEnd {F : Type 0} (the_files : files.Ghosts F) (old new : F) (settings : Settings) : Type 0 where

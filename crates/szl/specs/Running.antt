@@ -1,5 +1,5 @@
 -- What running code on the records of an input does.
-use Rattle.std.specs.Prelude.{◌≡◌, ℕ, ◌≤◌, ◌^◌, List, length, flat_map, ⊤, Some, codes, Result, Ok, Err, Vec}
+use Rattle.std.specs.Prelude.{◌≡◌, ℕ, ◌≤◌, ◌^◌, List, length, flat_map, ⊤, codes, Result, Ok, Err, Vec}
 use Rattle.sz_mean.specs.Outcomes.{EmitDatum}
 use Rattle.sz_machine.specs.declared.code.Code.{Code}
 use Rattle.sz_machine.specs.Machine.{RunsTo}
@@ -24,7 +24,8 @@ pub record MayRun (code : Code) : Type 0 where
 
 -- the sums are those of all emits of all records, where each record has these emits
 pub record SumsAll (code : Code) (input : List ℕ) (totals : Totals) : Type 0 where
-  pub sums : (emits_of : List ℕ → List EmitDatum) → ((text : List ℕ) → RunsTo code text (emits_of text)) → StandFor totals (flat_map emits_of (records_in input))
+  pub sums : (emits_of : List ℕ → List EmitDatum) → ((text : List ℕ) → RunsTo code text (emits_of text))
+      → StandFor totals (flat_map emits_of (records_in input))
 
 -- the failure is a limit or want of memory
 abbrev pub IsLimitOrMemory : Failure → Type 0

@@ -1,5 +1,5 @@
 //! A program in the making, statement by statement.
-ghost use Rattle.std.specs.Prelude.{◌≡◌, ◌<◌, not, ◌||◌, None, Some, map};
+ghost use Rattle.std.specs.Prelude.{◌≡◌, Some, map, option_map};
 ghost use Rattle.sz_types.specs.declared.place.Place.{Place as Where};
 ghost use Rattle.sz_tree.specs.Expressions.{exps_of};
 ghost use Rattle.sz_tree.specs.Statements.{table, declare, emit};
@@ -73,46 +73,47 @@ impl<'t> Draft<'t> {
         }
     }
 
-    /// Adds the emit of a value to a table, which has no indexes.
-    #[tactic(auto, using(crate::proofs::FormLemmas::emit_indexed))]
+    /// Adds the emit of a value to a table, if there are no indexes and no weight.
     fn add_emit(
         &mut self,
         alloc: Global,
         name: &Name,
         indexes: &[Expr],
         value: &Expr,
+        weight: &Option<Expr>,
     ) -> Result<(), Unfit>
         requires room { HasRoom (seen_draft self.old) }
-        ensures value { (place : Where) → Becomes result self.new
-            (statement (seen_draft self.old) (emit place name.now (exps_of (map tree_of indexes.now)) (tree_of value.now) None)) }
+        ensures value { (place : Where) → Becomes result self.new (statement (seen_draft self.old)
+            (emit place name.now (exps_of (map tree_of indexes.now)) (tree_of value.now) (option_map tree_of weight.now))) }
     {
         match indexes {
-            [] => {
-                let Some(table) = place_of(name.text(), &self.tables) else {
-                    return Err(Unfit::Form);
-                };
-                let value = value_of(alloc, &self.variables, value)?;
-                self.body.push(Stmt::Emit(table as u32, value))?;
-                Ok(())
-            }
+            [] => match weight {
+                None => {
+                    let Some(table) = place_of(name.text(), &self.tables) else {
+                        return Err(Unfit::Form);
+                    };
+                    let value = value_of(alloc, &self.variables, value)?;
+                    self.body.push(Stmt::Emit(table as u32, value))?;
+                    Ok(())
+                }
+                Some(_) => Err(Unfit::Form),
+            },
             [_, ..] => Err(Unfit::Form),
         }
     }
 
     /// Adds the statement, if it runs today.
-    #[tactic(auto, using(crate::proofs::FormLemmas::emit_weighted))]
-    pub fn add(&mut self, alloc: Global, statement: &'t Statement) -> Result<(), Unfit>
+    pub fn add(&mut self, alloc: Global, next: &'t Statement) -> Result<(), Unfit>
         requires room { HasRoom (seen_draft self.old) }
-        ensures value { Becomes result self.new (statement (seen_draft self.old) (stm_of statement.now)) }
+        ensures value { Becomes result self.new (statement (seen_draft self.old) (stm_of next.now)) }
     {
-        match statement {
+        match next {
             Statement::Table(name, of) => self.add_table(name, of),
             Statement::Declare(name, of, Some(value)) => self.add_variable(alloc, name, of, value),
-            Statement::Emit(_, name, indexes, value, None) => {
-                self.add_emit(alloc, name, indexes, value)
+            Statement::Emit(_, name, indexes, value, weight) => {
+                self.add_emit(alloc, name, indexes, value, weight)
             }
             Statement::Declare(_, _, None)
-            | Statement::Emit(_, _, _, _, Some(_))
             | Statement::Empty(_)
             | Statement::Block(_, _)
             | Statement::Define(_, _)

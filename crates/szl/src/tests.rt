@@ -163,12 +163,8 @@ x: bool = true;|y: int = 1; => program: not built yet at 1:1
 y: int = 1;|x: bool = true;|y: int = 2; => program: not built yet at 2:1
 # nothing|  ; => program: not built yet at 2:3";
     holds(&rt, rt.alloc(), table)?;
-    let bad = Case {
-        program: &[255],
-        ..sound_case("", "3\n")
-    };
-    let left = run(&rt, rt.alloc(), "run p f", &bad)?;
-    assert!(&rt; has_left(&left, Status::Program, "", "program: not UTF-8 at 1:1\n"));
+    let line = "program: not UTF-8 at 1:1\n";
+    assert!(&rt; leaves(&rt, rt.alloc(), &[255], Status::Program, "", line)?);
     Ok(())
 }
 
@@ -234,46 +230,102 @@ c: table sum of int; emit c <- 0x10 - 0xffffffffffffffff; => c[] = 17
     holds(&rt, rt.alloc(), table)
 }
 
-/// The text `before`, then one piece `count` times, then `middle`, then another piece as often, then `after`.
-fn nested(
+/// A value in so many pairs of parentheses, between two texts.
+fn in_parentheses(
     alloc: Global,
     count: usize,
-    [before, open, middle, close, after]: [&str; 5],
+    before: &str,
+    behind: &str,
 ) -> Result<Vec<u8>, Fail> {
     let mut text = Vec::new(alloc);
     text.extend_from_slice(before.as_bytes())?;
     for _ in 0..count {
-        text.extend_from_slice(open.as_bytes())?;
+        text.push(b'(')?;
     }
-    text.extend_from_slice(middle.as_bytes())?;
+    text.push(b'1')?;
     for _ in 0..count {
-        text.extend_from_slice(close.as_bytes())?;
+        text.push(b')')?;
     }
-    text.extend_from_slice(after.as_bytes())?;
+    text.extend_from_slice(behind.as_bytes())?;
     Ok(text)
+}
+
+/// A program that emits 1 and then so many more times 1, added from the left.
+fn long_sum(alloc: Global, count: usize) -> Result<Vec<u8>, Fail> {
+    let mut text = Vec::new(alloc);
+    text.extend_from_slice(b"c: table sum of int;\nx: int = 1")?;
+    for _ in 0..count {
+        text.extend_from_slice(b" + 1")?;
+    }
+    text.extend_from_slice(b";\nemit c <- x;")?;
+    Ok(text)
+}
+
+/// Whether the run of a program over the input `3` leaves this.
+fn leaves<R: Threads + Sync>(
+    rt: &R,
+    alloc: Global,
+    program: &[u8],
+    status: Status,
+    out: &str,
+    err: &str,
+) -> Result<bool, Fail> {
+    let case = Case {
+        program,
+        ..sound_case("", "3\n")
+    };
+    let left = run(rt, alloc, "run p f", &case)?;
+    Ok(has_left(&left, status, out, err))
 }
 
 #[test]
 fn a_statement_may_be_256_high(rt: HostRuntime) -> Result<(), Fail> {
     let alloc = rt.alloc();
-    let pairs = ["c: table sum of int;\nx: int = ", "(", "1", ")", ";\nemit c <- x;"];
-    let alone = ["x: int = ", "(", "1", ")", ";"];
-    let sums = ["c: table sum of int;\nx: int = 1", " + 1", "", "", ";\nemit c <- x;"];
-    for (count, parts, status, out, err) in [
-        (254, pairs, Status::Done, "c[] = 1\n", ""),
-        (255, pairs, Status::Program, "", "program: syntax at 2:1\n"),
-        (300, alone, Status::Program, "", "program: syntax at 1:1\n"),
-        (254, sums, Status::Done, "c[] = 255\n", ""),
-        (255, sums, Status::Program, "", "program: syntax at 2:1\n"),
-    ] {
-        let program = nested(alloc, count, parts)?;
-        let case = Case {
-            program: &program,
-            ..sound_case("", "3\n")
-        };
-        let left = run(&rt, alloc, "run p f", &case)?;
-        assert!(&rt; has_left(&left, status, out, err), "at {count}");
-    }
+    let before = "c: table sum of int;\nx: int = ";
+    let behind = ";\nemit c <- x;";
+    let most = in_parentheses(alloc, 254, before, behind)?;
+    assert!(&rt; leaves(&rt, alloc, &most, Status::Done, "c[] = 1\n", "")?);
+    let more = in_parentheses(alloc, 255, before, behind)?;
+    assert!(&rt;
+        leaves(
+            &rt,
+            alloc,
+            &more,
+            Status::Program,
+            "",
+            "program: syntax at 2:1\n"
+        )?
+    );
+    let alone = in_parentheses(alloc, 300, "x: int = ", ";")?;
+    assert!(&rt;
+        leaves(
+            &rt,
+            alloc,
+            &alone,
+            Status::Program,
+            "",
+            "program: syntax at 1:1\n"
+        )?
+    );
+    Ok(())
+}
+
+#[test]
+fn operators_from_the_left_add_to_the_height(rt: HostRuntime) -> Result<(), Fail> {
+    let alloc = rt.alloc();
+    let most = long_sum(alloc, 254)?;
+    assert!(&rt; leaves(&rt, alloc, &most, Status::Done, "c[] = 255\n", "")?);
+    let more = long_sum(alloc, 255)?;
+    assert!(&rt;
+        leaves(
+            &rt,
+            alloc,
+            &more,
+            Status::Program,
+            "",
+            "program: syntax at 2:1\n"
+        )?
+    );
     Ok(())
 }
 
@@ -290,11 +342,10 @@ fn tables(alloc: Global, count: u32) -> Result<String, Fail> {
 fn a_program_has_64_tables_at_most(rt: HostRuntime) -> Result<(), Fail> {
     let alloc = rt.alloc();
     let most = tables(alloc, 64)?;
-    let left = run(&rt, alloc, "run p f", &sound_case(&most, "3\n"))?;
-    assert!(&rt; has_left(&left, Status::Done, "", ""));
+    assert!(&rt; leaves(&rt, alloc, most.as_bytes(), Status::Done, "", "")?);
     let more = tables(alloc, 65)?;
-    let left = run(&rt, alloc, "run p f", &sound_case(&more, "3\n"))?;
-    assert!(&rt; has_left(&left, Status::Program, "", "program: not built yet at 65:1\n"));
+    let line = "program: not built yet at 65:1\n";
+    assert!(&rt; leaves(&rt, alloc, more.as_bytes(), Status::Program, "", line)?);
     Ok(())
 }
 

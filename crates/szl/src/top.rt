@@ -2,8 +2,8 @@
 ghost use Rattle.std.specs.Prelude.{◌≡◌, ◌<◌, ◌⊎◌, Err, Ok, length, map, string_bytes, IfSome};
 ghost use Rattle.sz_io.specs.Opened.{KeepsFiles};
 ghost use Rattle.sz_io.specs.Rose.{Rose, DoNotFall};
-ghost use Rattle.szl.specs.Failing.{status_of};
-ghost use Rattle.szl.specs.Printing.{Prints, line_with};
+ghost use Rattle.szl.specs.Failing.{line_of_failure};
+ghost use Rattle.szl.specs.Printing.{Prints};
 ghost use Rattle.szl.specs.Promise.{MeansSource, GainsLine, AreReadToEnd};
 ghost use Rattle.szl.specs.Running.{vec_items_of};
 ghost use Rattle.szl.specs.Settings.{settings_in};
@@ -44,7 +44,7 @@ pub fn szl_main<R: Threads + Sync, F: Files, O: Sink, E: Sink, G: Gate + Sync>(
     let answer = answer(alloc, words, files);
     match print(out, answer) {
         Ok(()) => Status::Done,
-        Err(failure) => tell(alloc, err, failure),
+        Err(failure) => tell(alloc, err, failure).status(),
     }
 }
 
@@ -73,33 +73,32 @@ fn print_text<O: Sink>(out: &mut O, text: &[u8]) -> Result<(), Failure>
     }
 }
 
-/// Writes the line of a failure and gives its status. Where there is no memory for the line, that is told.
-fn tell<E: Sink>(alloc: Global, err: &mut E, failure: Failure) -> Status
-    ensures status { (result ≡ status_of failure) ⊎ (result ≡ Status.NoMemory) }
-    ensures line { GainsLine E.Sink err.old err.new (line_with failure result) }
+/// Writes the line of a failure, and gives what was told: the failure, or want of memory where there was none for its line.
+fn tell<E: Sink>(alloc: Global, err: &mut E, failure: Failure) -> Failure
+    ensures told { (result ≡ failure) ⊎ (result ≡ Failure.NoMemory) }
+    ensures line { GainsLine E.Sink err.old err.new (line_of_failure result) }
     ensures kept { DoNotFall E.faults E.refusals err.old err.new }
 {
     match failure {
+        Failure::Usage => tell_line(err, b"bad command line\n", failure),
         Failure::Refused(cause, place) => match refusal_line(alloc, cause, place) {
-            Ok(line) => write_line(err, &line),
-            Err(_) => {
-                write_line(err, b"out of memory\n");
-                return Status::NoMemory;
-            }
+            Ok(line) => tell_line(err, &line, failure),
+            Err(_) => tell_line(err, b"out of memory\n", Failure::NoMemory),
         },
-        Failure::Usage => write_line(err, b"bad command line\n"),
-        Failure::Limit => write_line(err, b"input limit at byte 0\n"),
-        Failure::ReadFailed => write_line(err, b"read failed\n"),
-        Failure::WriteFailed => write_line(err, b"write failed\n"),
-        Failure::NoMemory => write_line(err, b"out of memory\n"),
+        Failure::Limit => tell_line(err, b"input limit at byte 0\n", failure),
+        Failure::ReadFailed => tell_line(err, b"read failed\n", failure),
+        Failure::WriteFailed => tell_line(err, b"write failed\n", failure),
+        Failure::NoMemory => tell_line(err, b"out of memory\n", failure),
     }
-    failure.status()
 }
 
-/// Writes a line. One that can't be written changes nothing more.
-fn write_line<E: Sink>(err: &mut E, line: &[u8])
-    ensures line { GainsLine E.Sink err.old err.new line.now }
+/// Writes the line of a failure, which is told. A line that can't be written changes nothing more.
+fn tell_line<E: Sink>(err: &mut E, line: &[u8], failure: Failure) -> Failure
+    requires { line.now ≡ line_of_failure failure }
+    ensures told { result ≡ failure }
+    ensures line { GainsLine E.Sink err.old err.new (line_of_failure failure) }
     ensures kept { DoNotFall E.faults E.refusals err.old err.new }
 {
     let _ = write_whole(err, line);
+    failure
 }

@@ -76,11 +76,7 @@ pub fn value_of(alloc: Global, variables: &[&[u8]], tree: &Tree) -> Result<Expr,
 }
 
 /// What a variable is declared with: the record as a number, or a value.
-pub fn declared_value(
-    alloc: Global,
-    variables: &[&[u8]],
-    tree: &Tree,
-) -> Result<Expr, Unfit>
+pub fn declared_value(alloc: Global, variables: &[&[u8]], tree: &Tree) -> Result<Expr, Unfit>
     requires room { length variables.now < 2 ^ 32 }
     ensures value { Gives seen_expr result (declared_value (texts variables.now) (tree_of tree.now)) }
 {

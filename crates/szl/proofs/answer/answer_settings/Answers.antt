@@ -1,6 +1,5 @@
 use Rattle.std.proofs.Common.{subst}
-use Rattle.szl.specs.Opening.{AnswersOn}
-use Rattle.szl.specs.Outcome.{outcome_of_text}
+use Rattle.szl.specs.Opening.{AnswersText}
 use Rattle.szl.specs.Running.{vec_items_of}
 use Rattle.std.proofs.lemmas.Result.{err_from_is_err_and}
 use Rattle.szl.specs.View.{seen_settings}
@@ -18,7 +17,7 @@ returns-in_err-text-clause-value g c =
 pub returns-clause-value : goal.returns-clause-value
 returns-clause-value g c =
     let s = seen_settings c.args.settings in
-    let a = subst (λ text. AnswersOn g.F.Files (outcome_of_text text) s.input c.read_text.new.files c.answer_text.new.files (vec_items_of c.answer_text.result))
+    let a = subst (λ text. AnswersText g.F.Files text s.input c.read_text.new.files c.answer_text.new.files (vec_items_of c.answer_text.result))
     c.deref.ensures.value c.answer_text.ensures.value in
     text_read g.F.Files s c.args.files.now c.read_text.new.files c.answer_text.new.files c.in_ok-text.text.items (vec_items_of c.answer_text.result) _
     c.in_ok-text.ensures.text c.in_ok-text.ensures.names c.in_ok-text.ensures.kept a

@@ -1,8 +1,0 @@
-use Rattle.szl.proofs.MainLemmas.{line_told}
-use Rattle.szl.proofs.top.write_line.Goals as goal
-
--- the line was written, or a prefix of it where a count rose
-pub returns-clause-line : goal.returns-clause-line
-returns-clause-line g c =
-    line_told g.E.Sink c.args.err.now c.write_whole.new.sink c.args.line.now c.write_whole.result c.write_whole.ensures.whole
-    c.write_whole.ensures.prefix c.write_whole.ensures.failed c.write_whole.ensures.refused
