@@ -22,16 +22,16 @@ abbrev pub identity : Function
 identity = record {
   signature = record { parameters = Shape.int ∷ []; result = Shape.int; emits = false };
   locals = Shape.int ∷ [];
-  body = with_stm (return_value (column 45) (node (column 52) Shape.int (local 0))) no_stms;
+  body = with_stm (return_value (column 49) (node (column 56) Shape.int (local 0))) no_stms;
 }
 
 -- f(1)
 abbrev pub call_node : Node
-call_node = node (column 68) Shape.int (call 0 (with_node (node (column 70) Shape.int (constant (Datum.int (pos 1)))) no_nodes))
+call_node = node (column 71) Shape.int (call 0 (with_node (node (column 73) Shape.int (constant (Datum.int (pos 1)))) no_nodes))
 
 -- emit t <- f(1);
 abbrev pub emit_call : Stm
-emit_call = emit (column 58) 0 no_nodes call_node None
+emit_call = emit (column 61) 0 no_nodes call_node None
 
 -- the items of the program
 abbrev pub small_items : List Item

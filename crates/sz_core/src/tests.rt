@@ -144,11 +144,11 @@ fn same(alloc: Global) -> Result<Function, NoMemory>
     let locals = whole_number(alloc)?;
     let mut body = Vec::new(alloc);
     let number = CoreExpr {
-        place: at(52),
+        place: at(56),
         ty: Ty::Int,
         form: Form::Local(0),
     };
-    body.push(CoreStmt::Return(at(45), number))?;
+    body.push(CoreStmt::Return(at(49), number))?;
     Ok(Function {
         signature,
         locals,
@@ -161,12 +161,12 @@ fn call(alloc: Global) -> Result<CoreExpr, NoMemory>
 {
     let mut arguments = Vec::new(alloc);
     arguments.push(CoreExpr {
-        place: at(70),
+        place: at(73),
         ty: Ty::Int,
         form: Form::Constant(Value::Int(1)),
     })?;
     Ok(CoreExpr {
-        place: at(68),
+        place: at(71),
         ty: Ty::Int,
         form: Form::call(0, arguments),
     })
@@ -176,7 +176,7 @@ fn emits(alloc: Global) -> Result<CoreStmt, NoMemory>
     ensures value { IfOk result (λ s. stm_of s ≡ emit_call) }
 {
     let value = call(alloc)?;
-    Ok(CoreStmt::Emit(at(58), 0, Vec::new(alloc), value, None))
+    Ok(CoreStmt::Emit(at(61), 0, Vec::new(alloc), value, None))
 }
 
 fn items(alloc: Global) -> Result<Vec<Item>, NoMemory>
