@@ -16,3 +16,4 @@ mod TopLemmas
 mod ItemSound
 mod FunctionSound
 mod ProgramSound
+mod StandardFacts

@@ -6,3 +6,4 @@ pub mod Agreeing
 pub mod JudgingExpressions
 pub mod JudgingStatements
 pub mod JudgingPrograms
+pub mod Example

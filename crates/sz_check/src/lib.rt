@@ -3,4 +3,4 @@
 
 mod laws;
 
-pub use laws::judged_programs_are_sound;
+pub use laws::{a_small_program_is_judged, judged_programs_are_sound};
