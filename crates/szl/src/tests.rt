@@ -138,12 +138,10 @@ fn holds<R: Threads + Sync + Abort>(rt: &R, alloc: Global, table: &str) -> Resul
             ..sound_case("", "3\n")
         };
         let left = run(rt, alloc, "run p f", &case)?;
-        let found = if left.status == Status::Program {
-            left.err.bytes()
-        } else {
-            left.out.bytes()
-        };
-        let found = std::str::from_utf8(found).or(Err("not UTF-8"))?;
+        let mut text = Vec::new(alloc);
+        text.extend_from_slice(left.out.bytes())?;
+        text.extend_from_slice(left.err.bytes())?;
+        let found = std::str::from_utf8(&text).or(Err("not UTF-8"))?;
         assert_eq!(rt; found.trim_end(), expected, "at {line}");
     }
     Ok(())
