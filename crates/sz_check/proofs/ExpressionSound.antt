@@ -5,21 +5,22 @@ use Rattle.std.specs.Cmp.{first_so, second_so}
 use Rattle.sz_types.specs.Data.{Shape}
 use Rattle.sz_tree.specs.Expressions.{Exp, literal, named, call, def, paren, convert, list, mapping, index, slice, field, Exps, end, more, Pairs, no_pairs, pair}
 use Rattle.sz_tree.specs.Expressions as trees
+use Rattle.sz_tree.specs.Names.{Ident}
 use Rattle.sz_core.specs.Nodes.{Node, node, no_nodes, with_node, no_pairings, with_pairing, type_of}
 use Rattle.sz_core.specs.Nodes as forms
 use Rattle.sz_core.specs.WellFormed.{is_well_formed, are_well_formed}
-use Rattle.sz_core.specs.Sound.{Sight, IsNode, IsForm}
-use Rattle.sz_check.specs.Names.{Block}
+use Rattle.sz_core.specs.Sound.{Sight, IsNode, IsForm, IsCall}
+use Rattle.sz_check.specs.Names.{Block, look_up}
 use Rattle.sz_check.specs.Agreeing.{Asks, nothing, each, in_turn, asked_first, asked_behind}
 use Rattle.sz_check.specs.JudgingTypes.{shape_of}
-use Rattle.sz_check.specs.JudgingExpressions.{judge_exp, judge_exps, judge_pairs, literal_node, asks_of_callee, asks_of_list, asked_of_keys, asked_of_values, asked_of_right, operation_of}
-use Rattle.sz_check.proofs.Holds.{Holds, ok_holds, bind_holds}
+use Rattle.sz_check.specs.JudgingExpressions.{judge_exp, judge_exps, judge_pairs, literal_node, callee_of, asks_of_callee, asks_of_list, asked_of_keys, asked_of_values, asked_of_right, operation_of}
+use Rattle.sz_check.proofs.Holds.{Holds, ok_holds, bind_holds, known}
 use Rattle.sz_check.proofs.Meanings.{looked_up}
 use Rattle.sz_check.proofs.Sights.{IsFormed, Fits, AllFit}
 use Rattle.sz_check.proofs.TypeSound.{basic_formed}
 use Rattle.sz_check.proofs.RowLemmas.{truth_formed}
 use Rattle.sz_check.proofs.AgreeLemmas.{IsTyped, AreTyped, PairsTyped}
-use Rattle.sz_check.proofs.NodeLemmas.{AskFormed, literal_typed, variable_typed, callee_fits, callee_asks, call_typed, conversion_typed, list_typed, list_asks, mapping_typed, keys_ask, values_ask, index_typed, slice_typed, field_typed, unary_typed, binary_typed, right_asks}
+use Rattle.sz_check.proofs.NodeLemmas.{AskFormed, literal_typed, variable_typed, callee_fits, callee_asks, call_typed, call_made, conversion_typed, list_typed, list_asks, mapping_typed, keys_ask, values_ask, index_typed, slice_typed, field_typed, unary_typed, binary_typed, right_asks}
 
 -- what is asked of the first is well formed, and of those behind it
 first_asked : (asks : Asks) → AskFormed asks → IfSome (asked_first asks) IsFormed
@@ -73,3 +74,9 @@ module _ (g : Sight) (blocks : List Block) (fit : AllFit g blocks) where
     pairs_typed k v no_pairs key value = ok_holds (PairsTyped g no_pairs) no_pairings tt
     pairs_typed k v (pair a b ps) key value = bind_holds (expression_typed k a key) (λ m h. bind_holds (expression_typed v b value) (λ n i.
         bind_holds (pairs_typed k v ps key value) (λ ns j. ok_holds (PairsTyped g (pair a b ps)) (with_pairing m n ns) (h, i, j))))
+
+  -- what a call is judged to be is a call
+  pub call_is_made : (asked : Option Shape) (n : Ident) (es : Exps) → Holds (judge_exp blocks g.may_emit asked (call n es)) IsCall
+  unfolding judge_exp
+  call_is_made asked n es = bind_holds (known (look_up n blocks)) (λ m found. bind_holds (known (callee_of n m)) (λ c callee.
+      bind_holds (known (judge_exps blocks g.may_emit (asks_of_callee c) es)) (λ ns judged. call_made g n c es ns)))

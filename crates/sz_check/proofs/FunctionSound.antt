@@ -19,7 +19,7 @@ use Rattle.sz_check.proofs.Meanings.{Mean, declared, kept_only, all_follow}
 use Rattle.sz_check.proofs.Sights.{IsFormed, AreFormed, IsCalled, Fits, AllFit}
 use Rattle.sz_check.proofs.TypeSound.{type_formed}
 use Rattle.sz_check.proofs.SceneLemmas.{Sees, begins_itself, get_before}
-use Rattle.sz_check.proofs.ItemLemmas.{IsKnown, AreParameters, parameters_hold, innermost_fit, first_are_seen}
+use Rattle.sz_check.proofs.ItemLemmas.{IsKnown, AreParameters, parameters_hold, innermost_fit, first_are_seen, first_are_below}
 use Rattle.sz_check.proofs.StatementSound.{statements_sound}
 use Rattle.sz_check.proofs.TopLemmas.{Knows, IsFoundBehind, with_function, more_functions, sees_on, last_is, declares}
 
@@ -136,6 +136,7 @@ module _ (k : Known) (n : Ident) (t : Typ) (ss : Stms) (front : Scene) (u : Shap
         fit = innermost_fit (sight body.scene.locals) front.blocks (only is_seen_by_functions own) known_front.fit (own_fits body.scene.locals);
         formed = known_front.formed;
         emits = refl;
+        numbers = first_are_below (length front.locals);
       } in
       let here = behind.are_sound (sight body.scene.locals) sees (begins_itself body.scene.locals) in
       record {

@@ -40,6 +40,10 @@ known m = record { holds = λ x e. e }
 pub weaker : {A : Type 0} {m : Judged A} {P Q : A → Type 0} → Holds m P → ((x : A) → P x → Q x) → Holds m Q
 weaker h k = record { holds = λ x e. k x (h.holds x e) }
 
+-- two things that hold, together
+pub both_hold : {A : Type 0} {m : Judged A} {P Q : A → Type 0} → Holds m P → Holds m Q → Holds m (λ x. P x × Q x)
+both_hold h k = record { holds = λ x e. (h.holds x e, k.holds x e) }
+
 -- what is refused unless the test holds gives that it holds
 pub unless_holds : (b : Bool) (r : Refusal) → Holds (unless b (bad r)) (λ u. b ≡ true)
 unless_holds true r = ok_holds _ _ refl

@@ -22,7 +22,7 @@ use Rattle.sz_check.proofs.Holds.{Holds, good, ok_holds, err_holds, bind_holds, 
 use Rattle.sz_check.proofs.Meanings.{declared}
 use Rattle.sz_check.proofs.Sights.{IsFormed, AreFormed, IsVariable, Fits, AllFit}
 use Rattle.sz_check.proofs.TypeSound.{type_formed}
-use Rattle.sz_check.proofs.SceneLemmas.{begins_itself, begins_more, begins_on, begins_length, get_next, formed_more, HasVariable}
+use Rattle.sz_check.proofs.SceneLemmas.{begins_itself, begins_more, begins_on, begins_length, get_next, formed_more, AreBelow, below_more, HasVariable}
 
 -- ---- tables
 
@@ -118,3 +118,8 @@ first_are_seen (suc most) n h = by_test (nat_eq n most) refl (first_are_seen mos
     by_test false e rest =
         let differ : n ≢ most = eqb-false n most e in
         Contains-append_right (most ∷ []) (first_numbers most) n (rest (omega (arith, h, differ)))
+
+-- and no other is among them
+pub first_are_below : (most : ℕ) → AreBelow most (first_numbers most)
+first_are_below zero = tt
+first_are_below (suc most) = (omega arith, below_more most (suc most) (first_numbers most) (omega arith) (first_are_below most))

@@ -1,6 +1,6 @@
 -- What is made of parts that have their types has its type.
-use Rattle.std.proofs.Common.{◌≡◌, ℕ, Bool, true, false, Option, Some, None, refl, sym, ◌∙◌, subst}
-use Rattle.std.specs.Prelude.{if◌then◌else◌, slice_get, IfSome}
+use Rattle.std.proofs.Common.{◌≡◌, ℕ, Bool, true, false, Option, Some, None, refl, sym, ◌∙◌}
+use Rattle.std.specs.Prelude.{◌||◌, not, if◌then◌else◌, slice_get, IfSome}
 use Rattle.sz_types.specs.Data.{Shape, FieldShapes}
 use Rattle.sz_types.specs.Rows.{binary_row, index_row, builtin_row}
 use Rattle.sz_types.specs.declared.place.Place.{Place}
@@ -15,15 +15,15 @@ use Rattle.sz_core.specs.Nodes.{Node, node, Nodes, no_nodes, with_node, Pairings
 use Rattle.sz_core.specs.Nodes as forms
 use Rattle.sz_core.specs.Programs.{Signature}
 use Rattle.sz_core.specs.WellFormed.{is_well_formed}
-use Rattle.sz_core.specs.Sound.{Sight, HasFields, field_types, IsNode, IsForm}
+use Rattle.sz_core.specs.Sound.{Sight, HasFields, field_types, IsNode, IsForm, IsCall}
 use Rattle.sz_check.specs.Refusals.{Judged, ◌>>=◌, wrong_type, wrong_count}
 use Rattle.sz_check.specs.Names.{Block, Meaning}
 use Rattle.sz_check.specs.Names as names
-use Rattle.sz_check.specs.Agreeing.{Asks, nothing, each, in_turn, Found, counted, arguments_fit, arity}
+use Rattle.sz_check.specs.Agreeing.{Asks, nothing, each, in_turn, Found, agree, counted, arguments_fit, arity}
 use Rattle.sz_check.specs.JudgingExpressions.{literal_node, variable_node, Callee, declared, predeclared, conversion, callee_of, asks_of_callee, declared_call, predeclared_call, conversion_node, conversion_call, made_call, asks_of_list, made_tuple, made_list, asked_of_keys, asked_of_values, made_mapping, made_index, whole, made_slice, field_in, made_field, unary_of, made_unary, Operation, both, either, of, hands_type_on, asked_of_right, made_operator, test, made_binary}
 use Rattle.sz_check.proofs.Holds.{Holds, good, by_option, ok_holds, err_holds, bind_holds, known, weaker, unless_holds, if_holds, option_holds, some_has}
 use Rattle.sz_check.proofs.Sights.{IsFormed, AreFormed, Fits, IsCalled}
-use Rattle.sz_check.proofs.RowLemmas.{same_field_types, element_formed, key_formed, value_formed, fields_formed, formed_at, IsFieldOf, named_field, has_fields, unary_formed, binary_formed, index_formed, slice_same, builtin_formed}
+use Rattle.sz_check.proofs.RowLemmas.{element_formed, key_formed, value_formed, fields_formed, formed_at, IsFieldOf, named_field, has_fields, unary_formed, binary_formed, index_formed, slice_same, builtin_formed}
 use Rattle.sz_check.proofs.AgreeLemmas.{IsTyped, AreTyped, PairsTyped, all_nodes, all_formed, counted_holds, agree_in_turn, agree_each, pairs_have}
 
 -- the types that a place asks are well formed
@@ -121,6 +121,26 @@ module _ (g : Sight) where
   call_typed n (predeclared b) es ns c h = predeclared_typed n b es ns h
   call_typed n (conversion t) es ns c h = conversion_call_typed n t es ns c h
 
+  -- a call is one, whatever is called
+  pub call_made : (n : Ident) (c : Callee) (es : Exps) (ns : Nodes) → Holds (made_call g.may_emit n c es ns) IsCall
+  call_made n (declared k s) es ns = bind_holds (known (agree (in_turn s.parameters) es ns)) (λ u same.
+      bind_holds (counted_holds _ es n.place) (λ v count. bind_holds (unless_holds (not s.emits || g.may_emit) _) (λ w may.
+      ok_holds IsCall (node n.place s.result (forms.call k ns)) tt)))
+  call_made n (predeclared b) es ns =
+      let given : Judged Node = by_option (wrong_count n.place) (λ t. good (node n.place t (forms.builtin b ns))) (builtin_row b (types_of ns)) in
+      bind_holds {f = λ u. counted (arity b) es n.place >>= (λ v. given)} (known (arguments_fit b es ns)) (λ u fit.
+      bind_holds {f = λ v. given} (known (counted (arity b) es n.place)) (λ v count.
+      option_holds _ (λ none. err_holds _ _) (λ t row. ok_holds IsCall (node n.place t (forms.builtin b ns)) tt)))
+  call_made n (conversion t) es ns = conversion_made es ns
+    where
+      conversion_made : (es : Exps) (ns : Nodes) → Holds (conversion_call n t es ns) IsCall
+      conversion_made end ns = err_holds _ _
+      conversion_made (more e end) no_nodes = err_holds _ _
+      conversion_made (more e end) (with_node m no_nodes) = if_holds _ (λ row. ok_holds IsCall (node n.place t (forms.convert m)) tt) (λ none. err_holds _ _)
+      conversion_made (more e end) (with_node m (with_node k ms)) = bind_holds (known _) (λ x is. err_holds _ _)
+      conversion_made (more e (more d es)) no_nodes = err_holds _ _
+      conversion_made (more e (more d es)) (with_node m ms) = bind_holds (known _) (λ x is. err_holds _ _)
+
   tuple_typed : (p : Place) (t : Shape) (fields : FieldShapes) (es : Exps) (ns : Nodes) → HasFields t fields → IsFormed t → AreTyped g es ns
       → Holds (made_tuple p t fields es ns) (IsTyped g)
   unfolding IsNode IsForm
@@ -128,7 +148,7 @@ module _ (g : Sight) where
   tuple_typed p t fs (more e es) ns has formed h = bind_holds (agree_in_turn g _ (more e es) ns h) (λ u types.
       bind_holds (counted_holds _ (more e es) p) (λ v count.
       ok_holds (IsTyped g) (node p t (forms.tuple ns)) (record {
-        typed = (all_nodes g (more e es) ns h, (fs, has, types count ∙ same_field_types fs));
+        typed = (all_nodes g (more e es) ns h, formed, (fs, has, types count));
         formed = formed;
       })))
 
@@ -137,7 +157,7 @@ module _ (g : Sight) where
   unfolding IsNode IsForm
   list_typed p None es ns formed h = err_holds _ _
   list_typed p (Some (Shape.array t)) es ns formed h = bind_holds (agree_each g t es ns h) (λ u types.
-      ok_holds (IsTyped g) (node p (Shape.array t) (forms.array ns)) (record { typed = (all_nodes g es ns h, (t, refl, types)); formed = formed }))
+      ok_holds (IsTyped g) (node p (Shape.array t) (forms.array ns)) (record { typed = (all_nodes g es ns h, formed, (t, refl, types)); formed = formed }))
   list_typed p (Some (Shape.tuple fs)) es ns formed h = tuple_typed p (Shape.tuple fs) fs es ns refl formed h
   list_typed p (Some (Shape.proto fs)) es ns formed h = tuple_typed p (Shape.proto fs) fs es ns refl formed h
   list_typed p (Some _) es ns formed h = err_holds _ _
@@ -146,9 +166,9 @@ module _ (g : Sight) where
   list_asks None es h = tt
   list_asks (Some (Shape.array t)) es h = element_formed t h
   list_asks (Some (Shape.tuple fs)) end h = tt
-  list_asks (Some (Shape.tuple fs)) (more e es) h = subst AreFormed (sym (same_field_types fs)) (fields_formed (Shape.tuple fs) fs refl h)
+  list_asks (Some (Shape.tuple fs)) (more e es) h = fields_formed (Shape.tuple fs) fs refl h
   list_asks (Some (Shape.proto fs)) end h = tt
-  list_asks (Some (Shape.proto fs)) (more e es) h = subst AreFormed (sym (same_field_types fs)) (fields_formed (Shape.proto fs) fs refl h)
+  list_asks (Some (Shape.proto fs)) (more e es) h = fields_formed (Shape.proto fs) fs refl h
   list_asks (Some _) es h = tt
 
   pub mapping_typed : (p : Place) (asked : Option Shape) (ps : Pairs) (ns : Pairings) → IfSome asked IsFormed → PairsTyped g ps ns
@@ -156,7 +176,7 @@ module _ (g : Sight) where
   unfolding IsNode IsForm
   mapping_typed p None ps ns formed h = err_holds _ _
   mapping_typed p (Some (Shape.mapping k v)) ps ns formed h = bind_holds (pairs_have g k v ps ns h) (λ u types.
-      ok_holds (IsTyped g) (node p (Shape.mapping k v) (forms.mapping ns)) (record { typed = (k, v, refl, types); formed = formed }))
+      ok_holds (IsTyped g) (node p (Shape.mapping k v) (forms.mapping ns)) (record { typed = (formed, (k, v, refl, types)); formed = formed }))
   mapping_typed p (Some _) ps ns formed h = err_holds _ _
 
   pub keys_ask : (asked : Option Shape) → IfSome asked IsFormed → IfSome (asked_of_keys asked) IsFormed

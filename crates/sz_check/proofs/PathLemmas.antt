@@ -27,7 +27,7 @@ use Rattle.sz_check.proofs.Sights.{IsFormed, IsVariable, Fits}
 use Rattle.sz_check.proofs.RowLemmas.{element_formed, value_formed, int_formed, bytes_formed}
 use Rattle.sz_check.proofs.AgreeLemmas.{IsTyped, agrees_holds}
 use Rattle.sz_check.proofs.NodeLemmas.{IsPart, part_found, whole_holds}
-use Rattle.sz_check.proofs.SceneLemmas.{Sees, judged}
+use Rattle.sz_check.proofs.SceneLemmas.{Sees, judged, IsSimple}
 
 -- a step more
 lead_on : (g : Sight) (steps : List Step) (r s u : Shape) (step : Step) → LeadTo g r steps s → LeadTo g s (step ∷ []) u → LeadTo g r (steps ++ step ∷ []) u
@@ -135,20 +135,24 @@ module _ (g : Sight) where
         bind_holds (unless_holds _ _) (λ u may. ok_holds (λ t. IsVariable g t.local t.type) begin (h.1 may))))
 
     -- an assignment that is judged is sound
-    pub assignment_sound : (a : Around) (path : PathForm) (e : Exp) → Holds (judge_assignment s path e) (IsStm g a)
+    pub assignment_sound : (a : Around) (path : PathForm) (e : Exp) → Holds (judge_assignment s path e) (IsSimple g a)
     unfolding IsStm
     assignment_sound a path e = bind_holds (path_leads path) (λ t h. bind_holds (judged g s sees (Some t.type) e h.formed) (λ value k.
-        bind_holds (agrees_holds t.type e value) (λ u same. ok_holds (IsStm g a) (core.store path.name.place t.local t.steps value)
-        (h.leads.seen, k.typed, (h.leads.root, h.leads.here, subst (λ x. LeadTo g h.leads.root t.steps x) (sym same) h.leads.leads)))))
+        bind_holds (agrees_holds t.type e value) (λ u same. ok_holds (IsSimple g a) (core.store path.name.place t.local t.steps value) (record {
+          stm = (h.leads.seen, k.typed, (h.leads.root, h.leads.here, subst (λ x. LeadTo g h.leads.root t.steps x) (sym same) h.leads.leads));
+          between = tt;
+        }))))
 
     -- so is a change by one
     pub change_sound : (a : Around) (n : Ident) (o : BinOp) (row : Shape → Shape → Option Shape) → ((t : Shape) → binary_row o t Shape.int ≡ row t Shape.int)
-        → ((t : Shape) → IfSome (row t Shape.int) (λ u. u ≡ t)) → Holds (judge_change s n o row) (IsStm g a)
+        → ((t : Shape) → IfSome (row t Shape.int) (λ u. u ≡ t)) → Holds (judge_change s n o row) (IsSimple g a)
     unfolding IsStm IsNode IsForm LeadTo
     change_sound a n o row same keeps =
         let one = node n.place Shape.int (forms.constant (Datum.int (pos 1))) in
         let changed : Target → Shape → core.Stm =
         λ t u. core.store n.place t.local [] (node n.place u (forms.binary o (node n.place t.type (forms.local t.local)) one)) in
         bind_holds {f = λ t. by_option (wrong_type n.place) (λ u. good (changed t u)) (row t.type Shape.int)} (root_path n) (λ t h.
-        option_holds _ (λ none. err_holds _ _) (λ u is. ok_holds (IsStm g a) (changed t u)
-        (h.seen, ((h.seen, h.here), refl, same t.type ∙ is), (t.type, h.here, some_has (λ v. v ≡ t.type) (keeps t.type) is))))
+        option_holds _ (λ none. err_holds _ _) (λ u is. ok_holds (IsSimple g a) (changed t u) (record {
+          stm = (h.seen, ((h.seen, h.here), refl, same t.type ∙ is), (t.type, h.here, some_has (λ v. v ≡ t.type) (keeps t.type) is));
+          between = tt;
+        })))

@@ -13,15 +13,9 @@ use Rattle.sz_types.specs.declared.operator.Builtin.{Builtin}
 use Rattle.sz_types.specs.declared.operator.Builtin.TheVariants.{Len, Keys, HasKey, StrFind}
 use Rattle.sz_core.specs.WellFormed.{is_well_formed, are_well_formed, are_parts, are_message_fields, are_distinct_texts, are_distinct_numbers, names_of, numbers_of}
 use Rattle.sz_core.specs.Sound.{HasFields, field_types}
-use Rattle.sz_check.specs.Agreeing as agreeing
 use Rattle.sz_check.specs.Agreeing.{Found, field_named}
 use Rattle.sz_check.specs.JudgingExpressions.{fields_in}
 use Rattle.sz_check.proofs.Sights.{IsFormed, AreFormed}
-
--- the two lists of the types of fields are one
-pub same_field_types : (fs : FieldShapes) → agreeing.field_types fs ≡ field_types fs
-same_field_types no_fields = refl
-same_field_types (with_field (field name t number code) fs) = ap (λ ts. t ∷ ts) (same_field_types fs)
 
 -- a type that is there by a test
 if_formed : (b : Bool) (t : Shape) → IsFormed t → IfSome (if b then Some t else None) IsFormed

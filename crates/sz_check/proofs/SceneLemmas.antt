@@ -1,24 +1,24 @@
 -- What is seen of what is known in front of a statement, and what stays so behind it.
-use Rattle.std.proofs.Common.{◌≡◌, ℕ, zero, suc, ◌≤◌, true, List, [], ◌∷◌, ◌++◌, length, Option, Some, None, refl, sym, ap, ◌∙◌, subst, append_assoc, arith}
-use Rattle.std.specs.Prelude.{◌&&◌, slice_get, IfSome}
+use Rattle.std.proofs.Common.{◌≡◌, ℕ, zero, suc, ◌+◌, ◌≤◌, ◌<◌, true, List, [], ◌∷◌, ◌++◌, length, Option, Some, None, refl, sym, ap, ◌∙◌, subst, append_assoc, arith}
+use Rattle.std.specs.Prelude.{◌&&◌, slice_get, slice_index_or, IfSome}
+use Rattle.std.specs.List.{Contains}
 use Rattle.std.specs.Cmp.{first_so, second_so}
 use Rattle.std.proofs.lemmas.List.{append-nil, length-append}
 use Rattle.std.proofs.lemmas.List.Elements.{Contains-append_right}
 use Rattle.sz_types.specs.Data.{Shape}
 use Rattle.sz_tree.specs.Names.{Ident}
-use Rattle.sz_tree.specs.Expressions.{Exp}
-use Rattle.sz_core.specs.Statements.{Stm, clear, keep}
+use Rattle.sz_tree.specs.Expressions.{Exp, Exps, call}
+use Rattle.sz_core.specs.Statements.{Stm, clear, keep, block, store, evaluate, no_stms}
 use Rattle.sz_core.specs.WellFormed.{is_well_formed, are_well_formed}
-use Rattle.sz_core.specs.Sound.{Sight, seen_behind, BeginsWith, IsNode, IsStm, AreStms}
-use Rattle.sz_core.specs.Sound as sound
+use Rattle.sz_core.specs.Sound.{Sight, seen_behind, BeginsWith, Around, IsStm, AreStms, IsFree, IsCall, IsBetweenTurns}
 use Rattle.sz_check.specs.Names.{variable, declare}
 use Rattle.sz_check.specs.JudgingExpressions.{judge_exp}
-use Rattle.sz_check.specs.JudgingStatements.{Scene, Around, Behind, AllBehind, opened, closed, with_variable, judge}
+use Rattle.sz_check.specs.JudgingStatements.{Scene, Behind, AllBehind, opened, closed, with_variable, judge}
 use Rattle.sz_check.proofs.Holds.{Holds, good, ok_holds, bind_holds, known}
 use Rattle.sz_check.proofs.Meanings.{declared}
 use Rattle.sz_check.proofs.Sights.{IsFormed, AreFormed, IsVariable, Fits, AllFit, IsWider, all_fit_wider}
 use Rattle.sz_check.proofs.AgreeLemmas.{IsTyped}
-use Rattle.sz_check.proofs.ExpressionSound.{expression_typed}
+use Rattle.sz_check.proofs.ExpressionSound.{expression_typed, call_is_made}
 
 -- ---- lists that go on
 
@@ -56,6 +56,26 @@ pub formed_more : (ts : List Shape) (t : Shape) → AreFormed ts → IsFormed t 
 formed_more [] t h k = λ i. k i && h i
 formed_more (s ∷ ts) t h k = λ i. first_so _ (are_well_formed ts) h i && formed_more ts t (second_so (is_well_formed s) _ h) k i
 
+-- ---- numbers that are seen
+
+-- each number is below the first
+abbrev pub AreBelow : ℕ → List ℕ → Type 0
+AreBelow most [] = Unit {0}
+AreBelow most (n ∷ ns) = (n < most) × AreBelow most ns
+
+pub below_more : (most more : ℕ) (ns : List ℕ) → most ≤ more → AreBelow most ns → AreBelow more ns
+below_more most more [] h k = tt
+below_more most more (n ∷ ns) h k = (omega (arith, h, k.0), below_more most more ns h k.1)
+
+-- so it is none of them
+pub is_none : (most : ℕ) (ns : List ℕ) → AreBelow most ns → Contains ns most → ⊥
+is_none most ns below c = at ns below c.0 c.1 c.2
+  where
+    at : (ns : List ℕ) → AreBelow most ns → (k : ℕ) → k < length ns → slice_index_or ns k most ≡ most → ⊥
+    at [] below k within is = omega (arith, within)
+    at (n ∷ ns) below zero within is = omega (arith, below.0, is)
+    at (n ∷ ns) below (suc k) within is = at ns below.1 k (omega (arith, within)) is
+
 -- ---- what is seen
 
 -- what is known in front of a statement is true of what is seen, where a function that emits may be called
@@ -63,13 +83,14 @@ pub record Sees (g : Sight) (s : Scene) : Type 0 where
   pub fit : AllFit g s.blocks
   pub formed : AreFormed s.locals
   pub emits : g.may_emit ≡ true
+  pub numbers : AreBelow (length s.locals) g.seen
 
 -- what is seen, with a variable more
 abbrev pub with_seen : ℕ → Sight → Sight
 with_seen n g = record g { seen = n ∷ g.seen }
 
-pub sees_more : (g : Sight) (n : ℕ) (s : Scene) → Sees g s → Sees (with_seen n g) s
-sees_more g n s h = record { fit = all_fit_wider g (with_seen n g) s.blocks wider h.fit; formed = h.formed; emits = h.emits }
+fits_more : (g : Sight) (n : ℕ) (s : Scene) → AllFit g s.blocks → AllFit (with_seen n g) s.blocks
+fits_more g n s h = all_fit_wider g (with_seen n g) s.blocks wider h
   where
     wider : IsWider g (with_seen n g)
     wider = record {
@@ -82,12 +103,6 @@ sees_more g n s h = record { fit = all_fit_wider g (with_seen n g) s.blocks wide
       emits = refl;
     }
 
--- behind a statement no less is seen
-pub sees_behind : (g : Sight) (m : Stm) (s : Scene) → Sees g s → Sees (seen_behind g m) s
-sees_behind g (clear n) s h = sees_more g n s h
-sees_behind g (keep p n e) s h = sees_more g n s h
-sees_behind g _ s h = h
-
 -- the variables are the same behind a statement
 pub locals_behind : (g : Sight) (m : Stm) → (seen_behind g m).locals ≡ g.locals
 locals_behind g (clear n) = refl
@@ -96,14 +111,23 @@ locals_behind g _ = refl
 
 -- the same in a block, and behind it
 pub sees_opened : (g : Sight) (s : Scene) → Sees g s → Sees g (opened s)
-sees_opened g s h = record { fit = (tt, h.fit); formed = h.formed; emits = h.emits }
+sees_opened g s h = record { fit = (tt, h.fit); formed = h.formed; emits = h.emits; numbers = h.numbers }
 
-pub sees_closed : (g : Sight) (s inside : Scene) → Sees g s → AreFormed inside.locals → Sees g (closed s inside)
-sees_closed g s inside h formed = record { fit = h.fit; formed = formed; emits = h.emits }
+pub sees_closed : (g : Sight) (s inside : Scene) → Sees g s → BeginsWith s.locals inside.locals → AreFormed inside.locals → Sees g (closed s inside)
+sees_closed g s inside h grows formed = record {
+  fit = h.fit;
+  formed = formed;
+  emits = h.emits;
+  numbers = below_more (length s.locals) (length inside.locals) g.seen (begins_length s.locals inside.locals grows) h.numbers;
+}
 
 -- an expression in a statement has its type
 pub judged : (g : Sight) (s : Scene) → Sees g s → (asked : Option Shape) (e : Exp) → IfSome asked IsFormed → Holds (judge s asked e) (IsTyped g)
 judged g s h asked e ask = subst (λ b. Holds (judge_exp s.blocks b asked e) (IsTyped g)) h.emits (expression_typed g s.blocks h.fit asked e ask)
+
+-- a call in a statement is one
+pub call_judged : (g : Sight) (s : Scene) → Sees g s → (asked : Option Shape) (n : Ident) (es : Exps) → Holds (judge s asked (call n es)) IsCall
+call_judged g s h asked n es = subst (λ b. Holds (judge_exp s.blocks b asked (call n es)) IsCall) h.emits (call_is_made g s.blocks h.fit asked n es)
 
 -- ---- a variable more
 
@@ -119,6 +143,7 @@ variable_added n t s = bind_holds (known (declare n (variable (length s.locals) 
 -- the variable has its type, and is seen behind the statement that declares it
 pub record IsAdded (g : Sight) (t : Shape) (s after : Scene) : Type 0 where
   pub here : slice_get g.locals (length s.locals) ≡ Some t
+  pub free : IsFree g (length s.locals)
   pub sees : Sees (with_seen (length s.locals) g) after
 
 -- what is known with a variable more is seen behind its statement
@@ -128,24 +153,43 @@ added g n t s after h sees formed final =
     let more = with_seen (length s.locals) g in
     let here : slice_get g.locals (length s.locals) ≡ Some t = get_next s.locals g.locals t (subst (λ x. BeginsWith x g.locals) h.locals final) in
     let is : IsVariable more (length s.locals) t = record { seen = (0, omega arith, refl); here = here; formed = formed } in
+    let longer : length after.locals ≡ length s.locals + 1 = ap length h.locals ∙ length-append s.locals (t ∷ []) in
     record {
       here = here;
+      free = is_none (length s.locals) g.seen sees.numbers;
       sees = record {
-        fit = (declared (Fits more) n (variable (length s.locals) t) s.blocks is (sees_more g (length s.locals) s sees).fit).holds after.blocks h.blocks;
+        fit = (declared (Fits more) n (variable (length s.locals) t) s.blocks is (fits_more g (length s.locals) s sees.fit)).holds after.blocks h.blocks;
         formed = subst AreFormed (sym h.locals) (formed_more s.locals t sees.formed formed);
         emits = sees.emits;
+        numbers = (omega (arith, longer), below_more (length s.locals) (length after.locals) g.seen (omega (arith, longer)) sees.numbers);
       };
     }
 
 -- ---- statements
 
--- where a statement stands
-abbrev pub around : Around → sound.Around
-around a = record { result = a.result; loop = a.loop }
+-- the statement is sound, and declares nothing
+pub record IsDone (g : Sight) (a : Around) (m : Stm) : Type 0 where
+  pub stm : IsStm g a m
+  pub same : seen_behind g m ≡ g
+
+-- the statement is sound, and can be done between the turns of a `for`
+pub record IsSimple (g : Sight) (a : Around) (m : Stm) : Type 0 where
+  pub stm : IsStm g a m
+  pub between : IsBetweenTurns m
+
+-- such a statement declares nothing
+pub simple_done : (g : Sight) (a : Around) (m : Stm) → IsSimple g a m → IsDone g a m
+simple_done g a m h = record { stm = h.stm; same = same m h.between }
+  where
+    same : (m : Stm) → IsBetweenTurns m → seen_behind g m ≡ g
+    same (store p n steps e) h = refl
+    same (evaluate p e) h = refl
+    same (block no_stms) h = refl
+    same _ h = absurd h
 
 -- the statement is sound wherever the variables go on as they do behind it, and what is known behind it is seen there
 pub record IsSoundHere (g : Sight) (a : Around) (b : Behind) : Type 0 where
-  pub stm : IsStm g (around a) b.stm
+  pub stm : IsStm g a b.stm
   pub sees : Sees (seen_behind g b.stm) b.scene
 
 -- what is known in front goes on behind the statement, which is sound
@@ -155,7 +199,7 @@ pub record IsBehind (a : Around) (s : Scene) (b : Behind) : Type 0 where
 
 -- the same of a part statement, behind which nothing more is seen
 pub record IsSoundPart (g : Sight) (a : Around) (b : Behind) : Type 0 where
-  pub stm : IsStm g (around a) b.stm
+  pub stm : IsStm g a b.stm
   pub sees : Sees g b.scene
 
 -- the same of a part
@@ -165,7 +209,7 @@ pub record IsInside (a : Around) (s : Scene) (b : Behind) : Type 0 where
 
 -- the same of statements in order
 pub record AreSoundHere (g : Sight) (a : Around) (b : AllBehind) : Type 0 where
-  pub stms : AreStms g (around a) b.stms
+  pub stms : AreStms g a b.stms
   pub formed : AreFormed b.scene.locals
 
 -- the same of all

@@ -21,7 +21,7 @@ use Rattle.sz_check.specs.Agreeing.{in_turn, converted}
 use Rattle.sz_check.specs.JudgingTypes.{judge_type}
 use Rattle.sz_check.specs.JudgingExpressions.{judge_exps}
 use Rattle.sz_check.specs.JudgingStatements.{Scene, Around, judge, judge_if_some, judge_declaration, judge_initialised, judge_definition, judge_simple, judge_first, judge_between, test_if_some, judge_return, Numbered, table_named, weight_agrees, judge_emit, done}
-use Rattle.sz_check.proofs.Holds.{Holds, ok_holds, err_holds, bind_holds, known, weaker, unless_holds}
+use Rattle.sz_check.proofs.Holds.{Holds, ok_holds, err_holds, bind_holds, known, weaker, both_hold, unless_holds}
 use Rattle.sz_check.proofs.Meanings.{looked_up}
 use Rattle.sz_check.proofs.Sights.{IsFormed, IsTableOf, Fits}
 use Rattle.sz_check.proofs.TypeSound.{type_formed}
@@ -29,7 +29,7 @@ use Rattle.sz_check.proofs.RowLemmas.{sum_keeps, difference_keeps}
 use Rattle.sz_check.proofs.AgreeLemmas.{IsTyped, AreTyped, HasType, all_nodes, agrees_holds, counted_holds, agree_in_turn, converted_holds}
 use Rattle.sz_check.proofs.NodeLemmas.{test_holds}
 use Rattle.sz_check.proofs.ExpressionSound.{expressions_typed}
-use Rattle.sz_check.proofs.SceneLemmas.{Sees, judged, begins_itself, begins_more, HasVariable, variable_added, added, around, IsSoundHere, IsBehind, sees_behind}
+use Rattle.sz_check.proofs.SceneLemmas.{Sees, judged, begins_itself, begins_more, HasVariable, variable_added, added, IsSoundHere, IsBehind, IsDone, IsSimple, simple_done, call_judged}
 use Rattle.sz_check.proofs.PathLemmas.{assignment_sound, change_sound}
 
 -- ---- declarations
@@ -45,7 +45,7 @@ declaration_sound a s n t = bind_holds (known (judge_type s.blocks t)) (λ u jud
       grows = grown n u s after h;
       is_sound = λ g sees final.
           let is = added g n u s after h sees ((type_formed g s.blocks sees.fit t).holds u judged_type) final in
-          record { stm = slice_get_within g.locals (length s.locals) u is.here; sees = is.sees };
+          record { stm = (slice_get_within g.locals (length s.locals) u is.here, is.free); sees = is.sees };
     })))
 
 -- a value that is kept in a variable of its type
@@ -54,7 +54,7 @@ kept_sound : (a : Around) (g : Sight) (s after : Scene) (n : Ident) (t : Shape) 
 unfolding IsStm
 kept_sound a g s after n t value h sees formed k final =
     let is = added g n t s after h sees formed final in
-    record { stm = (k.typed, is.here ∙ ap Some (sym k.is)); sees = is.sees }
+    record { stm = (k.typed, is.here ∙ ap Some (sym k.is), is.free); sees = is.sees }
 
 -- a declaration with a value
 pub initialised_sound : (a : Around) (s : Scene) (n : Ident) (t : Typ) (e : Exp) → Holds (judge_initialised s n t e) (IsBehind a s)
@@ -80,27 +80,30 @@ definition_sound a s n e = bind_holds (known (judge s None e)) (λ value judged_
 
 -- ---- statements that declare nothing
 
--- a statement that is sound where its scene is seen
-pub done_sound : (a : Around) (s : Scene) (judging : Judged core.Stm) → ((g : Sight) → Sees g s → Holds judging (IsStm g (around a)))
+-- a statement that is sound where its scene is seen, and declares nothing
+pub done_sound : (a : Around) (s : Scene) (judging : Judged core.Stm) → ((g : Sight) → Sees g s → Holds judging (IsDone g a))
     → Holds (done s judging) (IsBehind a s)
 done_sound a s judging h = bind_holds (known judging) (λ m is. ok_holds (IsBehind a s) (record { scene = s; stm = m }) (record {
   grows = begins_itself s.locals;
-  is_sound = λ g sees final. record { stm = (h g sees).holds m is; sees = sees_behind g m s sees };
+  is_sound = λ g sees final.
+      let done = (h g sees).holds m is in
+      record { stm = done.stm; sees = subst (λ x. Sees x s) (sym done.same) sees };
 }))
 
 module _ (a : Around) (g : Sight) (s : Scene) (sees : Sees g s) where
   -- an assignment, a change or a call
-  pub simple_sound : (t : SimpleForm) → Holds (judge_simple s t) (IsStm g (around a))
+  pub simple_sound : (t : SimpleForm) → Holds (judge_simple s t) (IsSimple g a)
   unfolding IsStm
-  simple_sound (assign path e) = assignment_sound g s sees (around a) path e
-  simple_sound (increment n) = change_sound g s sees (around a) n Add sum_row (λ t. refl) sum_keeps
-  simple_sound (decrement n) = change_sound g s sees (around a) n Sub difference_row (λ t. refl) difference_keeps
-  simple_sound (call_of n es) = bind_holds (judged g s sees None (exps.call n es) tt) (λ m h. ok_holds (IsStm g (around a)) (core.evaluate n.place m) h.typed)
+  simple_sound (assign path e) = assignment_sound g s sees a path e
+  simple_sound (increment n) = change_sound g s sees a n Add sum_row (λ t. refl) sum_keeps
+  simple_sound (decrement n) = change_sound g s sees a n Sub difference_row (λ t. refl) difference_keeps
+  simple_sound (call_of n es) = bind_holds (both_hold (judged g s sees None (exps.call n es) tt) (call_judged g s sees None n es)) (λ m h.
+      ok_holds (IsSimple g a) (core.evaluate n.place m) (record { stm = (h.0.typed, h.1); between = tt }))
 
   -- what is done between the turns of a `for`
-  pub between_sound : (t : Option SimpleForm) → Holds (judge_between s t) (IsStm g (around a))
+  pub between_sound : (t : Option SimpleForm) → Holds (judge_between s t) (IsSimple g a)
   unfolding IsStm AreStms
-  between_sound None = ok_holds _ core.nothing tt
+  between_sound None = ok_holds (IsSimple g a) core.nothing (record { stm = tt; between = tt })
   between_sound (Some t) = simple_sound t
 
   -- an expression that may be missing
@@ -122,17 +125,17 @@ module _ (a : Around) (g : Sight) (s : Scene) (sees : Sees g s) where
   maybe_test (Some e) (Some n) h = weaker (test_holds g e n) (λ u is. (h.typed, is))
 
   -- a `return`
-  pub return_sound : (p : Place) (e : Option Exp) → IfSome a.result IsFormed → Holds (judge_return s p a.result e) (IsStm g (around a))
+  pub return_sound : (p : Place) (e : Option Exp) → IfSome a.result IsFormed → Holds (judge_return s p a.result e) (IsDone g a)
   unfolding IsStm
   return_sound p e formed = by_result a.result refl e formed
     where
       by_result : (result : Option Shape) → a.result ≡ result → (e : Option Exp) → IfSome result IsFormed
-          → Holds (judge_return s p result e) (IsStm g (around a))
-      by_result None is None formed = ok_holds (IsStm g (around a)) (core.end_record p) is
+          → Holds (judge_return s p result e) (IsDone g a)
+      by_result None is None formed = ok_holds (IsDone g a) (core.end_record p) (record { stm = is; same = refl })
       by_result None is (Some e) formed = err_holds _ _
       by_result (Some t) is None formed = err_holds _ _
       by_result (Some t) is (Some e) formed = bind_holds (judged g s sees (Some t) e formed) (λ value h. bind_holds (agrees_holds t e value) (λ u same.
-          ok_holds (IsStm g (around a)) (core.return_value p value) (h.typed, is ∙ ap Some (sym same))))
+          ok_holds (IsDone g a) (core.return_value p value) (record { stm = (h.typed, is ∙ ap Some (sym same)); same = refl })))
 
   -- the table that a name stands for
   table_found : (n : Ident) (m : Meaning) → Fits g m → Holds (table_named n m) (λ t. IsTableOf g t.number t.declaration)
@@ -160,7 +163,7 @@ module _ (a : Around) (g : Sight) (s : Scene) (sees : Sees g s) where
   weight_sound (Some t) (Some e) (Some n) h = weaker (agrees_holds t e n) (λ u is same. (h.typed, is))
 
   -- an `emit`
-  pub emit_sound : (p : Place) (n : Ident) (es : Exps) (e : Exp) (w : Option Exp) → Holds (judge_emit s p n es e w) (IsStm g (around a))
+  pub emit_sound : (p : Place) (n : Ident) (es : Exps) (e : Exp) (w : Option Exp) → Holds (judge_emit s p n es e w) (IsDone g a)
   unfolding IsStm
   emit_sound p n es e w = bind_holds (looked_up (Fits g) n s.blocks sees.fit) (λ m fits. bind_holds (table_found n m fits) (λ t table.
       bind_holds (indexes_typed t table) (λ indexes h. bind_holds (judged g s sees (Some t.declaration.element) e table.element) (λ value k.
@@ -168,12 +171,18 @@ module _ (a : Around) (g : Sight) (s : Scene) (sees : Sees g s) where
       bind_holds (agree_in_turn g t.declaration.indexes es indexes h) (λ u types. bind_holds (agrees_holds t.declaration.element e value) (λ v element.
       bind_holds (weight_sound t.declaration.weight w weight l) (λ x weights. bind_holds (counted_holds _ es n.place) (λ y count.
       bind_holds (unless_holds (both_or_neither (is_some t.declaration.weight) (is_some w)) _) (λ z both.
-      ok_holds (IsStm g (around a)) (core.emit p t.number indexes value weight)
-      (all_nodes g es indexes h, k.typed, (t.declaration, table.here, types count, element, weights both))))))))))))
+      ok_holds (IsDone g a) (core.emit p t.number indexes value weight) (record {
+        stm = (all_nodes g es indexes h, k.typed, (t.declaration, table.here, types count, element, weights both));
+        same = refl;
+      })))))))))))
     where
       indexes_typed : (t : Numbered) → IsTableOf g t.number t.declaration → Holds (judge_exps s.blocks true (in_turn t.declaration.indexes) es) (AreTyped g es)
       indexes_typed t table = subst (λ b. Holds (judge_exps s.blocks b (in_turn t.declaration.indexes) es) (AreTyped g es)) sees.emits
           (expressions_typed g s.blocks sees.fit (in_turn t.declaration.indexes) es table.indexes)
+
+-- an assignment, a change or a call declares nothing
+pub simple_behind : (a : Around) (s : Scene) (t : SimpleForm) → Holds (done s (judge_simple s t)) (IsBehind a s)
+simple_behind a s t = done_sound a s (judge_simple s t) (λ g sees. weaker (simple_sound a g s sees t) (λ m h. simple_done g a m h))
 
 -- the first part of a `for`
 pub first_sound : (a : Around) (s : Scene) (f : Option FirstForm) → Holds (judge_first s f) (IsBehind a s)
@@ -184,4 +193,4 @@ first_sound a s None = ok_holds (IsBehind a s) (record { scene = s; stm = core.n
 })
 first_sound a s (Some (first_declare n t e)) = initialised_sound a s n t e
 first_sound a s (Some (first_define n e)) = definition_sound a s n e
-first_sound a s (Some (first_simple t)) = done_sound a s (judge_simple s t) (λ g sees. simple_sound a g s sees t)
+first_sound a s (Some (first_simple t)) = simple_behind a s t

@@ -1,5 +1,5 @@
 -- Statements that are judged are sound.
-use Rattle.std.proofs.Common.{◌≡◌, [], ◌∷◌, Some, None, sym, subst}
+use Rattle.std.proofs.Common.{◌≡◌, [], ◌∷◌, Some, None, refl, sym, subst}
 use Rattle.std.specs.Prelude.{IfSome}
 use Rattle.sz_tree.specs.Statements.{Stm, empty, declare, define, static, typedef, table, function, simple, if_only, if_else, return, when, Stms}
 use Rattle.sz_tree.specs.Statements as trees
@@ -9,12 +9,12 @@ use Rattle.sz_core.specs.Statements as core
 use Rattle.sz_core.specs.Sound.{Sight, BeginsWith, IsStm, AreStms, IsTest, seen_behind}
 use Rattle.sz_check.specs.Refusals.{Judged}
 use Rattle.sz_check.specs.JudgingExpressions.{test}
-use Rattle.sz_check.specs.JudgingStatements.{Scene, Around, in_loop, Behind, opened, closed, judge, judge_if_some, judge_between, judge_simple, judge_return, judge_emit, test_if_some, in_block, judge_stm, judge_stms}
+use Rattle.sz_check.specs.JudgingStatements.{Scene, Around, in_loop, Behind, opened, closed, judge, judge_if_some, judge_between, judge_return, judge_emit, test_if_some, in_block, judge_stm, judge_stms}
 use Rattle.sz_check.proofs.Holds.{Holds, good, ok_holds, err_holds, bind_holds, known, if_holds}
 use Rattle.sz_check.proofs.Sights.{IsFormed}
 use Rattle.sz_check.proofs.NodeLemmas.{test_holds}
-use Rattle.sz_check.proofs.SceneLemmas.{Sees, sees_opened, sees_closed, locals_behind, judged, begins_itself, begins_on, around, IsBehind, IsInside, AreBehind}
-use Rattle.sz_check.proofs.StatementLemmas.{declaration_sound, initialised_sound, definition_sound, done_sound, simple_sound, between_sound, maybe_judged, maybe_test, return_sound, emit_sound, first_sound}
+use Rattle.sz_check.proofs.SceneLemmas.{Sees, sees_opened, sees_closed, locals_behind, judged, begins_itself, begins_on, IsDone, IsBehind, IsInside, AreBehind}
+use Rattle.sz_check.proofs.StatementLemmas.{declaration_sound, initialised_sound, definition_sound, done_sound, simple_behind, between_sound, maybe_judged, maybe_test, return_sound, emit_sound, first_sound}
 
 -- a part statement that was judged in a block of its own
 inside_sound : (a : Around) (s : Scene) (judging : Judged Behind) → Holds judging (IsBehind a (opened s)) → Holds (in_block s judging) (IsInside a s)
@@ -22,7 +22,7 @@ inside_sound a s judging h = bind_holds h (λ b is. ok_holds (IsInside a s) (rec
   grows = is.grows;
   is_sound = λ g sees final.
       let here = is.is_sound g (sees_opened g s sees) final in
-      record { stm = here.stm; sees = sees_closed g s b.scene sees here.sees.formed };
+      record { stm = here.stm; sees = sees_closed g s b.scene sees is.grows here.sees.formed };
 }))
 
 -- an expression that was judged, and is a test
@@ -43,7 +43,7 @@ mutual
         grows = is.grows;
         is_sound = λ g sees final.
             let here = is.are_sound g (sees_opened g s sees) final in
-            record { stm = here.stms; sees = sees_closed g s b.scene sees here.formed };
+            record { stm = here.stms; sees = sees_closed g s b.scene sees is.grows here.formed };
       }))
   statement_sound a s (declare n t None) r = declaration_sound a s n t
   statement_sound a s (declare n t (Some e)) r = initialised_sound a s n t e
@@ -52,7 +52,7 @@ mutual
   statement_sound a s (typedef p n t) r = err_holds _ _
   statement_sound a s (table n t) r = err_holds _ _
   statement_sound a s (function n ps t ss) r = err_holds _ _
-  statement_sound a s (simple t) r = done_sound a s (judge_simple s t) (λ g sees. simple_sound a g s sees t)
+  statement_sound a s (simple t) r = simple_behind a s t
   statement_sound a s (if_only p c t) r = bind_holds (known (judge s None c)) (λ n is_n.
       bind_holds (inside_sound a s _ (statement_sound a (opened s) t r)) (λ taken is.
       bind_holds (known (test c n)) (λ u is_test.
@@ -101,12 +101,16 @@ mutual
             let value = (maybe_judged a more first.scene here.sees None c tt).holds n is_n in
             let is_tested = (maybe_test a more first.scene here.sees c n value).holds u is_test in
             let between_turns = (between_sound a more first.scene here.sees between).holds step is_step in
-            record { stm = (here.stm, ((is_tested, between_turns, inner.stm), tt)); sees = sees_closed g s body.scene sees inner.sees.formed };
+            let grows = begins_on s.locals first.scene.locals body.scene.locals is.grows also.grows in
+            record {
+              stm = (here.stm, ((is_tested, between_turns.stm, between_turns.between, inner.stm), tt));
+              sees = sees_closed g s body.scene sees grows inner.sees.formed;
+            };
       }))))))
   statement_sound a s (trees.break p) r = done_sound a s _ (λ g sees.
-      if_holds a.loop (λ loop. ok_holds (IsStm g (around a)) core.break loop) (λ none. err_holds _ _))
+      if_holds a.loop (λ loop. ok_holds (IsDone g a) core.break (record { stm = loop; same = refl })) (λ none. err_holds _ _))
   statement_sound a s (trees.continue p) r = done_sound a s _ (λ g sees.
-      if_holds a.loop (λ loop. ok_holds (IsStm g (around a)) core.continue loop) (λ none. err_holds _ _))
+      if_holds a.loop (λ loop. ok_holds (IsDone g a) core.continue (record { stm = loop; same = refl })) (λ none. err_holds _ _))
   statement_sound a s (return p e) r = done_sound a s (judge_return s p a.result e) (λ g sees. return_sound a g s sees p e r)
   statement_sound a s (trees.emit p n es e w) r = done_sound a s (judge_emit s p n es e w) (λ g sees. emit_sound a g s sees p n es e w)
   statement_sound a s (when p qs c t) r = err_holds _ _

@@ -1,5 +1,5 @@
 -- What a place asks of the expressions that stand there, and where they first disagree.
-use Rattle.std.specs.Prelude.{ℕ, zero, suc, ◌+◌, List, [], ◌∷◌, length, Bool, true, false, ◌&&◌, if◌then◌else◌, is_some, nat_eq, Option, Some, None, Ok, bytes_eq}
+use Rattle.std.specs.Prelude.{ℕ, ◌+◌, List, [], ◌∷◌, length, Bool, true, false, if◌then◌else◌, is_some, nat_eq, Option, Some, None, Ok, bytes_eq}
 use Rattle.sz_types.specs.Data.{Shape, FieldShapes, no_fields, with_field, field}
 use Rattle.sz_types.specs.Same.{alike}
 use Rattle.sz_types.specs.Conversions.{converts_to}
@@ -7,8 +7,9 @@ use Rattle.sz_types.specs.Rows.{len_row, keys_row, haskey_row, strfind_row}
 use Rattle.sz_types.specs.declared.place.Place.{Place}
 use Rattle.sz_types.specs.declared.operator.Builtin.{Builtin}
 use Rattle.sz_types.specs.declared.operator.Builtin.TheVariants.{Len, Keys, HasKey, StrFind}
-use Rattle.sz_tree.specs.Expressions.{Exp, Exps, end, more, Pairs, no_pairs, pair, place_of}
-use Rattle.sz_core.specs.Nodes.{Node, node, convert, Nodes, no_nodes, with_node, Pairings, no_pairings, with_pairing, type_of, types_of}
+use Rattle.sz_tree.specs.Expressions.{Exp, Exps, end, more, Pairs, pair, place_of}
+use Rattle.sz_core.specs.Nodes.{Node, node, convert, Nodes, with_node, Pairings, with_pairing, type_of}
+pub use Rattle.sz_core.specs.Sound.{field_types}
 use Rattle.sz_check.specs.Refusals.{Judged, ◌>>=◌, unless, wrong_type, wrong_count}
 
 -- the types that a place asks of the expressions there, one by one: none, the same of each, or these in turn and then none
@@ -59,11 +60,6 @@ count_of (more e es) = 1 + count_of es
 -- there are just so many expressions, or the count at the place is wrong
 abbrev pub counted : ℕ → Exps → Place → Judged Unit
 counted n es p = unless (nat_eq (count_of es) n) (wrong_count p)
-
--- the types of fields, in order
-abbrev pub field_types : FieldShapes → List Shape
-field_types no_fields = []
-field_types (with_field (field name t number code) fields) = t ∷ field_types fields
 
 -- how many fields there are
 abbrev pub fields_count : FieldShapes → ℕ

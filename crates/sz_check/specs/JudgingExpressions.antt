@@ -1,6 +1,6 @@
 -- The checked expression that an expression's tree is, or its first refusal: the parts in the order of the text, and then
 -- the rules of the expression itself.
-use Rattle.std.specs.Prelude.{ℕ, pos, List, [], ◌∷◌, length, Bool, true, false, not, ◌&&◌, ◌||◌, if◌then◌else◌, Option, Some, None, Ok}
+use Rattle.std.specs.Prelude.{ℕ, pos, List, length, Bool, true, false, not, ◌||◌, if◌then◌else◌, Option, Some, None, Ok}
 use Rattle.sz_types.specs.Data.{Shape, FieldShapes}
 use Rattle.sz_types.specs.Same.{alike}
 use Rattle.sz_types.specs.Conversions.{converts_to}

@@ -1,5 +1,5 @@
 -- The checked program that a tree is, or its first refusal.
-use Rattle.std.specs.Prelude.{ℕ, ◌+◌, pos, negsuc, ℤ, List, [], ◌∷◌, ◌++◌, length, Bool, true, false, ◌&&◌, if◌then◌else◌, nat_lt, Option, Some, None, Ok, codes, bytes_eq}
+use Rattle.std.specs.Prelude.{ℕ, ◌+◌, pos, negsuc, ℤ, List, [], ◌∷◌, ◌++◌, length, Bool, true, false, if◌then◌else◌, nat_lt, Option, Some, None, Ok, codes, bytes_eq}
 use Rattle.sz_types.specs.Data.{Shape}
 use Rattle.sz_types.specs.Tables.{Declaration}
 use Rattle.sz_types.specs.declared.place.Place.{Place}
@@ -9,8 +9,6 @@ use Rattle.sz_tree.specs.Names.{Ident}
 use Rattle.sz_tree.specs.Expressions.{Exp}
 use Rattle.sz_tree.specs.Statements.{ElemForm, TableForm, Stm, static, typedef, table, function, Stms, no_stms, stm}
 use Rattle.sz_tree.specs.Types.{Typ, Params, no_params, param}
-use Rattle.sz_core.specs.Nodes.{Node}
-use Rattle.sz_core.specs.Statements as core
 use Rattle.sz_core.specs.Programs.{Signature, Function, Item, Core}
 use Rattle.sz_core.specs.Programs as items
 use Rattle.sz_core.specs.Emitting.{body_emits}

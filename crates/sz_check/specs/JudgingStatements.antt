@@ -1,7 +1,6 @@
 -- The checked statement that a statement's tree is, with what is declared behind it, or its first refusal.
-use Rattle.std.specs.Prelude.{ℕ, pos, negsuc, List, [], ◌∷◌, ◌++◌, length, Bool, true, false, ◌&&◌, if◌then◌else◌, nat_eq, is_some, Option, Some, None, Ok}
-use Rattle.sz_types.specs.Data.{Shape, FieldShapes}
-use Rattle.sz_types.specs.Same.{alike}
+use Rattle.std.specs.Prelude.{ℕ, pos, List, [], ◌∷◌, ◌++◌, length, Bool, true, false, if◌then◌else◌, is_some, Option, Some, None, Ok}
+use Rattle.sz_types.specs.Data.{Shape}
 use Rattle.sz_types.specs.Rows.{sum_row, difference_row}
 use Rattle.sz_types.specs.Tables.{Declaration}
 use Rattle.sz_types.specs.declared.place.Place.{Place}
@@ -18,27 +17,18 @@ use Rattle.sz_core.specs.Nodes.{Node, node, Nodes, type_of}
 use Rattle.sz_core.specs.Nodes as forms
 use Rattle.sz_core.specs.Statements.{Step, at_index, at_field}
 use Rattle.sz_core.specs.Statements as core
+pub use Rattle.sz_core.specs.Sound.{Around, in_loop}
 use Rattle.sz_check.specs.Refusals.{Judged, ◌>>=◌, unless, wrong_kind, wrong_type, wrong_weight, not_assignable, misplaced, not_built}
 use Rattle.sz_check.specs.Names.{Block, Meaning, look_up}
 use Rattle.sz_check.specs.Names as names
 use Rattle.sz_check.specs.JudgingTypes.{judge_type}
-use Rattle.sz_check.specs.Agreeing.{in_turn, agree, agrees, counted, converted, Found}
+use Rattle.sz_check.specs.Agreeing.{in_turn, agree, agrees, counted, converted}
 use Rattle.sz_check.specs.JudgingExpressions.{judge_exp, judge_exps, test, whole, field_in}
 
 -- what is known in front of a statement: the blocks, and the types of the routine's variables so far, by number
 pub record Scene : Type 0 where
   pub blocks : List Block
   pub locals : List Shape
-
--- where a statement stands: the type of the function's result, if it is in one, and whether `break` and `continue` have a
--- loop to reach
-pub record Around : Type 0 where
-  pub result : Option Shape
-  pub loop : Bool
-
--- the same inside a loop
-abbrev pub in_loop : Around → Around
-in_loop a = record a { loop = true }
 
 -- a checked statement, and what is known behind it
 pub record Behind : Type 0 where

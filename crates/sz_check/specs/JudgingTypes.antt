@@ -1,5 +1,5 @@
 -- The type that a type's tree stands for, with names written out, or its first refusal.
-use Rattle.std.specs.Prelude.{ℕ, ℤ, pos, negsuc, List, [], ◌∷◌, Bool, true, false, not, ◌&&◌, if◌then◌else◌, nat_le, nat_eq, Option, Some, None, Ok, codes, bytes_eq}
+use Rattle.std.specs.Prelude.{ℕ, ℤ, pos, negsuc, List, [], ◌∷◌, not, ◌&&◌, if◌then◌else◌, nat_le, nat_eq, Option, Some, None, Ok, codes, bytes_eq}
 use Rattle.std.specs.List.{list_any}
 use Rattle.sz_types.specs.Data.{Shape, FieldShapes, no_fields, with_field, field}
 use Rattle.sz_types.specs.declared.encoding.Encoding.{Encoding}

@@ -1,5 +1,5 @@
 -- Names while a program is judged: blocks, the innermost first, each with what it declares.
-use Rattle.std.specs.Prelude.{ℕ, List, [], ◌∷◌, map, filter, Bool, true, false, not, if◌then◌else◌, Option, Some, None, Ok, codes, bytes_eq}
+use Rattle.std.specs.Prelude.{ℕ, List, [], ◌∷◌, map, filter, Bool, true, false, if◌then◌else◌, Option, Some, None, Ok, codes, bytes_eq}
 use Rattle.std.specs.List.{list_any}
 use Rattle.sz_types.specs.Data.{Shape}
 use Rattle.sz_types.specs.Tables.{Declaration}
@@ -7,7 +7,7 @@ use Rattle.sz_types.specs.declared.operator.Builtin.{Builtin}
 use Rattle.sz_types.specs.declared.operator.Builtin.TheVariants.{Len, Keys, HasKey, StrFind}
 use Rattle.sz_tree.specs.Names.{Ident}
 use Rattle.sz_core.specs.Programs.{Signature}
-use Rattle.sz_check.specs.Refusals.{Judged, unseen, wrong_kind, declared_twice}
+use Rattle.sz_check.specs.Refusals.{Judged, unseen, declared_twice}
 
 -- what a name stands for, with its number among those of its kind
 pub data Meaning : Type 0 where

@@ -64,7 +64,7 @@ module _ (g : Sight) (quiet : g.may_emit ≡ false) where
     form_is_quiet t (convert e) h = node_is_quiet e h.0
     form_is_quiet t (array es) h = nodes_are_quiet es h.0
     form_is_quiet t (tuple es) h = nodes_are_quiet es h.0
-    form_is_quiet t (mapping ps) h = pairings_are_quiet h.0 h.1 ps h.3
+    form_is_quiet t (mapping ps) h = pairings_are_quiet h.1.0 h.1.1 ps h.1.3
     form_is_quiet t (index e i) h = neither (node_is_quiet e h.0) (node_is_quiet i h.1)
     form_is_quiet t (slice e i j) h = neither (neither (node_is_quiet e h.0) (node_is_quiet i h.1)) (node_is_quiet j h.2)
     form_is_quiet t (field e n) h = node_is_quiet e h.0

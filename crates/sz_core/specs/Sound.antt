@@ -65,9 +65,9 @@ unfoldable mutual
   IsForm g t (builtin b es) = AreNodes g es × (builtin_row b (types_of es) ≡ Some t)
   IsForm g t (def e) = IsNode g e × (t ≡ Shape.truth)
   IsForm g t (convert e) = IsNode g e × (is_well_formed t ≡ true) × (converts_to (type_of e) t ≡ true)
-  IsForm g t (array es) = AreNodes g es × ((u : Shape) × (t ≡ Shape.array u) × AreAll u (types_of es))
-  IsForm g t (tuple es) = AreNodes g es × ((fs : FieldShapes) × HasFields t fs × (types_of es ≡ field_types fs))
-  IsForm g t (mapping ps) = (k v : Shape) × (t ≡ Shape.mapping k v) × ArePairings g k v ps
+  IsForm g t (array es) = AreNodes g es × (is_well_formed t ≡ true) × ((u : Shape) × (t ≡ Shape.array u) × AreAll u (types_of es))
+  IsForm g t (tuple es) = AreNodes g es × (is_well_formed t ≡ true) × ((fs : FieldShapes) × HasFields t fs × (types_of es ≡ field_types fs))
+  IsForm g t (mapping ps) = (is_well_formed t ≡ true) × ((k v : Shape) × (t ≡ Shape.mapping k v) × ArePairings g k v ps)
   IsForm g t (index e i) = IsNode g e × IsNode g i × (index_row (type_of e) (type_of i) ≡ Some t)
   IsForm g t (slice e i j) = IsNode g e × IsNode g i × IsNode g j × (slice_row (type_of e) ≡ Some t) × (type_of i ≡ Shape.int) × (type_of j ≡ Shape.int)
   IsForm g t (part e n) = IsNode g e × ((fs : FieldShapes) × HasFields (type_of e) fs × (slice_get (field_types fs) n ≡ Some t))
@@ -115,6 +115,24 @@ seen_behind g _ = g
 abbrev pub IsTest : Sight → Node → Type 0
 IsTest g e = IsNode g e × (type_of e ≡ Shape.truth)
 
+-- the expression is a call: of a function, of a predeclared one, or of a type by its name, which converts
+abbrev pub IsCall : Node → Type 0
+IsCall (node p t (call f es)) = Unit {0}
+IsCall (node p t (builtin b es)) = Unit {0}
+IsCall (node p t (convert e)) = Unit {0}
+IsCall _ = ⊥
+
+-- the statement can be done between the turns of a `for`: it is an assignment, a call, or nothing
+abbrev pub IsBetweenTurns : Stm → Type 0
+IsBetweenTurns (store p n steps e) = Unit {0}
+IsBetweenTurns (evaluate p e) = Unit {0}
+IsBetweenTurns (block no_stms) = Unit {0}
+IsBetweenTurns _ = ⊥
+
+-- no variable with this number is seen yet, so it can be declared
+abbrev pub IsFree : Sight → ℕ → Type 0
+IsFree g n = Contains g.seen n → ⊥
+
 -- the weight of an emit is there where the table has one, and of its type
 abbrev pub IsWeightOf : Sight → Option Shape → Option Node → Type 0
 IsWeightOf g None None = Unit {0}
@@ -125,14 +143,14 @@ unfoldable mutual
   -- the statement is sound
   pub IsStm : Sight → Around → Stm → Type 0
   IsStm g a (block ss) = AreStms g a ss
-  IsStm g a (clear n) = n < length g.locals
-  IsStm g a (keep p n e) = IsNode g e × (slice_get g.locals n ≡ Some (type_of e))
+  IsStm g a (clear n) = (n < length g.locals) × IsFree g n
+  IsStm g a (keep p n e) = IsNode g e × (slice_get g.locals n ≡ Some (type_of e)) × IsFree g n
   IsStm g a (store p n steps e) = Contains g.seen n × IsNode g e × ((t : Shape) × (slice_get g.locals n ≡ Some t) × LeadTo g t steps (type_of e))
-  IsStm g a (evaluate p e) = IsNode g e
+  IsStm g a (evaluate p e) = IsNode g e × IsCall e
   IsStm g a (branch p c s t) = IsTest g c × IsStm g a s × IsStm g a t
   IsStm g a (while p c s) = IsTest g c × IsStm g (in_loop a) s
   IsStm g a (do_while p s c) = IsStm g (in_loop a) s × IsTest g c
-  IsStm g a (for_loop p c t s) = IfSome c (IsTest g) × IsStm g a t × IsStm g (in_loop a) s
+  IsStm g a (for_loop p c t s) = IfSome c (IsTest g) × IsStm g a t × IsBetweenTurns t × IsStm g (in_loop a) s
   IsStm g a break = a.loop ≡ true
   IsStm g a continue = a.loop ≡ true
   IsStm g a (return_value p e) = IsNode g e × (a.result ≡ Some (type_of e))
