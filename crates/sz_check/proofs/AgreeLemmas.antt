@@ -7,7 +7,7 @@ use Rattle.sz_types.specs.declared.place.Place.{Place}
 use Rattle.sz_types.proofs.ForCallers.{alike_equal}
 use Rattle.sz_tree.specs.Expressions.{Exp, Exps, end, more, Pairs, no_pairs, pair, place_of}
 use Rattle.sz_core.specs.Nodes.{Node, node, convert, Nodes, no_nodes, with_node, Pairings, no_pairings, with_pairing, type_of, types_of}
-use Rattle.sz_core.specs.Sound.{Sight, IsNode, IsForm, AreNodes, ArePairings, AreAll}
+use Rattle.sz_core.specs.Typing.{Sight, IsNode, IsForm, AreNodes, ArePairings, AreAll}
 use Rattle.sz_check.specs.Agreeing.{each, in_turn, agrees, agree, pairs_agree, count_of, counted, converted}
 use Rattle.sz_check.proofs.Holds.{Holds, ok_holds, err_holds, bind_holds, weaker, unless_holds, if_holds}
 use Rattle.sz_check.proofs.Sights.{IsFormed, AreFormed}

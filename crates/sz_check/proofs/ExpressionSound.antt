@@ -3,24 +3,30 @@ use Rattle.std.proofs.Common.{List, [], ◌∷◌, Option, None, refl}
 use Rattle.std.specs.Prelude.{IfSome}
 use Rattle.std.specs.Cmp.{first_so, second_so}
 use Rattle.sz_types.specs.Data.{Shape}
-use Rattle.sz_tree.specs.Expressions.{Exp, literal, named, call, def, paren, convert, list, mapping, index, slice, field, Exps, end, more, Pairs, no_pairs, pair}
+use Rattle.sz_tree.specs.Expressions.{Exp, literal, named, call, def, paren, convert, list, mapping, index, slice, field, Exps, end, more, Pairs, no_pairs}
+use Rattle.sz_tree.specs.Expressions.{pair}
 use Rattle.sz_tree.specs.Expressions as trees
 use Rattle.sz_tree.specs.Names.{Ident}
 use Rattle.sz_core.specs.Nodes.{Node, node, no_nodes, with_node, no_pairings, with_pairing, type_of}
 use Rattle.sz_core.specs.Nodes as forms
 use Rattle.sz_core.specs.WellFormed.{is_well_formed, are_well_formed}
-use Rattle.sz_core.specs.Sound.{Sight, IsNode, IsForm, IsCall}
+use Rattle.sz_core.specs.Typing.{Sight, IsNode, IsForm, IsCall}
 use Rattle.sz_check.specs.Names.{Block, look_up}
 use Rattle.sz_check.specs.Agreeing.{Asks, nothing, each, in_turn, asked_first, asked_behind}
 use Rattle.sz_check.specs.JudgingTypes.{shape_of}
-use Rattle.sz_check.specs.JudgingExpressions.{judge_exp, judge_exps, judge_pairs, literal_node, callee_of, asks_of_callee, asks_of_list, asked_of_keys, asked_of_values, asked_of_right, operation_of}
+use Rattle.sz_check.specs.JudgingExpressions.{judge_exp, judge_exps, judge_pairs, literal_node}
+use Rattle.sz_check.specs.JudgingCalls.{callee_of, asks_of_callee}
+use Rattle.sz_check.specs.JudgingComposites.{asks_of_list, asked_of_keys, asked_of_values}
+use Rattle.sz_check.specs.JudgingOperators.{asked_of_right, operation_of}
 use Rattle.sz_check.proofs.Holds.{Holds, ok_holds, bind_holds, known}
 use Rattle.sz_check.proofs.Meanings.{looked_up}
 use Rattle.sz_check.proofs.Sights.{IsFormed, Fits, AllFit}
 use Rattle.sz_check.proofs.TypeSound.{basic_formed}
 use Rattle.sz_check.proofs.RowLemmas.{truth_formed}
 use Rattle.sz_check.proofs.AgreeLemmas.{IsTyped, AreTyped, PairsTyped}
-use Rattle.sz_check.proofs.NodeLemmas.{AskFormed, literal_typed, variable_typed, callee_fits, callee_asks, call_typed, call_made, conversion_typed, list_typed, list_asks, mapping_typed, keys_ask, values_ask, index_typed, slice_typed, field_typed, unary_typed, binary_typed, right_asks}
+use Rattle.sz_check.proofs.NodeLemmas.{AskFormed, literal_typed, variable_typed, callee_fits, callee_asks, call_typed, call_made, conversion_typed, list_typed}
+use Rattle.sz_check.proofs.NodeLemmas.{list_asks, mapping_typed, keys_ask, values_ask, index_typed, slice_typed, field_typed, unary_typed, binary_typed}
+use Rattle.sz_check.proofs.NodeLemmas.{right_asks}
 
 -- what is asked of the first is well formed, and of those behind it
 first_asked : (asks : Asks) → AskFormed asks → IfSome (asked_first asks) IsFormed

@@ -8,11 +8,13 @@ use Rattle.sz_tree.specs.Statements.{Stms}
 use Rattle.sz_core.specs.Programs.{Signature, Function, Item}
 use Rattle.sz_core.specs.Programs as items
 use Rattle.sz_core.specs.Emitting.{body_emits}
-use Rattle.sz_core.specs.Sound.{Sight, BeginsWith, Declared, record_sight, first_numbers, IsFunction, AreItems}
+use Rattle.sz_core.specs.Typing.{Sight}
+use Rattle.sz_core.specs.Sound.{BeginsWith, Declared, record_sight, first_numbers, IsFunction, AreItems}
 use Rattle.sz_check.specs.Names.{Block, Meaning, only, is_seen_by_functions}
 use Rattle.sz_check.specs.Names as names
 use Rattle.sz_check.specs.JudgingTypes.{judge_type}
-use Rattle.sz_check.specs.JudgingStatements.{Scene, AllBehind, judge_stms}
+use Rattle.sz_check.specs.Scenes.{Scene, AllBehind}
+use Rattle.sz_check.specs.JudgingStatements.{judge_stms}
 use Rattle.sz_check.specs.JudgingPrograms.{Known, blocks_of, with_blocks, innermost_on, in_function, judge_function}
 use Rattle.sz_check.proofs.Holds.{Holds, good, ok_holds, bind_holds, known}
 use Rattle.sz_check.proofs.Meanings.{Mean, declared, kept_only, all_follow}

@@ -1,5 +1,6 @@
 -- Parts of declarations at the top level: parameters, and the parts of tables.
-use Rattle.std.proofs.Common.{◌≡◌, ◌≢◌, ℕ, zero, suc, ◌+◌, ◌<◌, Bool, true, false, List, [], ◌∷◌, ◌++◌, length, Option, Some, None, nat_eq, refl, sym, ap, ◌∙◌, subst, arith}
+use Rattle.std.proofs.Common.{◌≡◌, ◌≢◌, ℕ, zero, suc, ◌+◌, ◌<◌, Bool, true, false, List, [], ◌∷◌, ◌++◌, length, Option, Some, None, nat_eq, refl, sym, ap, ◌∙◌}
+use Rattle.std.proofs.Common.{subst, arith}
 use Rattle.std.specs.Prelude.{◌&&◌, IfSome}
 use Rattle.std.specs.List.{Contains}
 use Rattle.std.proofs.lemmas.Bool.{eqb-true, eqb-false}
@@ -12,11 +13,12 @@ use Rattle.sz_tree.specs.Names.{Ident}
 use Rattle.sz_tree.specs.Statements.{ElemForm}
 use Rattle.sz_tree.specs.Types.{Typ, Params, no_params, param}
 use Rattle.sz_core.specs.WellFormed.{is_allowed}
-use Rattle.sz_core.specs.Sound.{Sight, BeginsWith, first_numbers}
+use Rattle.sz_core.specs.Typing.{Sight}
+use Rattle.sz_core.specs.Sound.{BeginsWith, first_numbers}
 use Rattle.sz_check.specs.Names.{Block}
 use Rattle.sz_check.specs.Names as names
 use Rattle.sz_check.specs.JudgingTypes.{judge_type}
-use Rattle.sz_check.specs.JudgingStatements.{Scene}
+use Rattle.sz_check.specs.Scenes.{Scene}
 use Rattle.sz_check.specs.JudgingPrograms.{judge_elems, judge_weight, declaration_of, judge_parameters, innermost_on}
 use Rattle.sz_check.proofs.Holds.{Holds, good, ok_holds, err_holds, bind_holds, known, weaker, if_holds}
 use Rattle.sz_check.proofs.Meanings.{declared}

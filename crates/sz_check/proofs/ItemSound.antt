@@ -13,13 +13,15 @@ use Rattle.sz_tree.specs.Statements.{TableForm, Stm}
 use Rattle.sz_core.specs.Statements as core
 use Rattle.sz_core.specs.Programs.{Signature, Function, Static, Item, Core}
 use Rattle.sz_core.specs.Programs as items
-use Rattle.sz_core.specs.Sound.{Sight, seen_behind, Declared, record_sight, static_sight, IsTable, IsStatic, AreItems}
+use Rattle.sz_core.specs.Typing.{Sight}
+use Rattle.sz_core.specs.Sound.{seen_behind, Declared, record_sight, static_sight, IsTable, IsStatic, AreItems}
 use Rattle.sz_check.specs.Names.{Block, Meaning, only, is_seen_by_functions, is_seen_by_statics}
 use Rattle.sz_check.specs.Names as names
 use Rattle.sz_check.specs.Agreeing.{converted}
 use Rattle.sz_check.specs.JudgingTypes.{judge_type}
 use Rattle.sz_check.specs.JudgingExpressions.{judge_exp}
-use Rattle.sz_check.specs.JudgingPrograms.{Known, blocks_of, with_blocks, kind_of, limit_of, judge_elems, judge_weight, most_tables, judge_table, judge_static, judge_typedef, judge_statement}
+use Rattle.sz_check.specs.JudgingPrograms.{Known, blocks_of, with_blocks, kind_of, limit_of, judge_elems, judge_weight, most_tables, judge_table, judge_static}
+use Rattle.sz_check.specs.JudgingPrograms.{judge_typedef, judge_statement}
 use Rattle.sz_check.proofs.Holds.{Holds, good, ok_holds, bind_holds, known, unless_holds}
 use Rattle.sz_check.proofs.Meanings.{kept_only}
 use Rattle.sz_check.proofs.Sights.{IsFormed, AreFormed, IsTableOf, Fits, AllFit}

@@ -15,15 +15,21 @@ use Rattle.sz_core.specs.Nodes.{Node, node, Nodes, no_nodes, with_node, Pairings
 use Rattle.sz_core.specs.Nodes as forms
 use Rattle.sz_core.specs.Programs.{Signature}
 use Rattle.sz_core.specs.WellFormed.{is_well_formed}
-use Rattle.sz_core.specs.Sound.{Sight, HasFields, field_types, IsNode, IsForm, IsCall}
+use Rattle.sz_core.specs.Typing.{Sight, HasFields, field_types, IsNode, IsForm, IsCall}
 use Rattle.sz_check.specs.Refusals.{Judged, ◌>>=◌, wrong_type, wrong_count}
 use Rattle.sz_check.specs.Names.{Block, Meaning}
 use Rattle.sz_check.specs.Names as names
 use Rattle.sz_check.specs.Agreeing.{Asks, nothing, each, in_turn, Found, agree, counted, arguments_fit, arity}
-use Rattle.sz_check.specs.JudgingExpressions.{literal_node, variable_node, Callee, declared, predeclared, conversion, callee_of, asks_of_callee, declared_call, predeclared_call, conversion_node, conversion_call, made_call, asks_of_list, made_tuple, made_list, asked_of_keys, asked_of_values, made_mapping, made_index, whole, made_slice, field_in, made_field, unary_of, made_unary, Operation, both, either, of, hands_type_on, asked_of_right, made_operator, test, made_binary}
+use Rattle.sz_check.specs.JudgingExpressions.{literal_node, variable_node}
+use Rattle.sz_check.specs.JudgingCalls.{Callee, declared, predeclared, conversion, callee_of, asks_of_callee, declared_call, predeclared_call, conversion_node}
+use Rattle.sz_check.specs.JudgingCalls.{conversion_call, made_call}
+use Rattle.sz_check.specs.JudgingComposites.{asks_of_list, made_tuple, made_list, asked_of_keys, asked_of_values, made_mapping}
+use Rattle.sz_check.specs.JudgingParts.{made_index, whole, made_slice, field_in, made_field}
+use Rattle.sz_check.specs.JudgingOperators.{unary_of, made_unary, Operation, both, either, of, hands_type_on, asked_of_right, made_operator, test, made_binary}
 use Rattle.sz_check.proofs.Holds.{Holds, good, by_option, ok_holds, err_holds, bind_holds, known, weaker, unless_holds, if_holds, option_holds, some_has}
 use Rattle.sz_check.proofs.Sights.{IsFormed, AreFormed, Fits, IsCalled}
-use Rattle.sz_check.proofs.RowLemmas.{element_formed, key_formed, value_formed, fields_formed, formed_at, IsFieldOf, named_field, has_fields, unary_formed, binary_formed, index_formed, slice_same, builtin_formed}
+use Rattle.sz_check.proofs.RowLemmas.{element_formed, key_formed, value_formed, fields_formed, formed_at, IsFieldOf, named_field, has_fields, unary_formed}
+use Rattle.sz_check.proofs.RowLemmas.{binary_formed, index_formed, slice_same, builtin_formed}
 use Rattle.sz_check.proofs.AgreeLemmas.{IsTyped, AreTyped, PairsTyped, all_nodes, all_formed, counted_holds, agree_in_turn, agree_each, pairs_have}
 
 -- the types that a place asks are well formed

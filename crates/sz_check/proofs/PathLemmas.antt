@@ -15,12 +15,15 @@ use Rattle.sz_core.specs.Nodes.{Node, node, type_of}
 use Rattle.sz_core.specs.Nodes as forms
 use Rattle.sz_core.specs.Statements.{Step, at_index, at_field}
 use Rattle.sz_core.specs.Statements as core
-use Rattle.sz_core.specs.Sound.{Sight, field_types, IsNode, IsForm, LeadTo, IsStm, Around}
+use Rattle.sz_core.specs.Typing.{Sight, field_types, IsNode, IsForm}
+use Rattle.sz_core.specs.Sound.{LeadTo, IsStm, Around}
 use Rattle.sz_check.specs.Refusals.{wrong_type}
 use Rattle.sz_check.specs.Names.{Meaning, look_up}
 use Rattle.sz_check.specs.Names as names
 use Rattle.sz_check.specs.Agreeing.{Found}
-use Rattle.sz_check.specs.JudgingStatements.{Scene, Target, target_of, stepped, indexed, judge_steps, judge_path, judge_assignment, judge_change}
+use Rattle.sz_check.specs.Scenes.{Scene}
+use Rattle.sz_check.specs.JudgingPaths.{Target, target_of, stepped, indexed, judge_steps, judge_path}
+use Rattle.sz_check.specs.JudgingSimple.{judge_assignment, judge_change}
 use Rattle.sz_check.proofs.Holds.{Holds, good, by_option, ok_holds, err_holds, bind_holds, unless_holds, option_holds, some_has}
 use Rattle.sz_check.proofs.Meanings.{looked_up}
 use Rattle.sz_check.proofs.Sights.{IsFormed, IsVariable, Fits}

@@ -11,10 +11,11 @@ use Rattle.sz_types.specs.declared.operator.BinOp.{BinOp}
 use Rattle.sz_types.specs.declared.operator.BinOp.TheVariants as binary
 use Rattle.sz_types.specs.declared.operator.Builtin.{Builtin}
 use Rattle.sz_types.specs.declared.operator.Builtin.TheVariants.{Len, Keys, HasKey, StrFind}
-use Rattle.sz_core.specs.WellFormed.{is_well_formed, are_well_formed, are_parts, are_message_fields, are_distinct_texts, are_distinct_numbers, names_of, numbers_of}
-use Rattle.sz_core.specs.Sound.{HasFields, field_types}
+use Rattle.sz_core.specs.WellFormed.{is_well_formed, are_well_formed, are_parts, are_message_fields, are_distinct_texts, are_distinct_numbers, names_of}
+use Rattle.sz_core.specs.WellFormed.{numbers_of}
+use Rattle.sz_core.specs.Typing.{HasFields, field_types}
 use Rattle.sz_check.specs.Agreeing.{Found, field_named}
-use Rattle.sz_check.specs.JudgingExpressions.{fields_in}
+use Rattle.sz_check.specs.JudgingParts.{fields_in}
 use Rattle.sz_check.proofs.Sights.{IsFormed, AreFormed}
 
 -- a type that is there by a test

@@ -1,5 +1,6 @@
 -- What is seen of what is known in front of a statement, and what stays so behind it.
-use Rattle.std.proofs.Common.{◌≡◌, ℕ, zero, suc, ◌+◌, ◌≤◌, ◌<◌, true, List, [], ◌∷◌, ◌++◌, length, Option, Some, None, refl, sym, ap, ◌∙◌, subst, append_assoc, arith}
+use Rattle.std.proofs.Common.{◌≡◌, ℕ, zero, suc, ◌+◌, ◌≤◌, ◌<◌, true, List, [], ◌∷◌, ◌++◌, length, Option, Some, None, refl, sym, ap, ◌∙◌, subst, append_assoc}
+use Rattle.std.proofs.Common.{arith}
 use Rattle.std.specs.Prelude.{◌&&◌, slice_get, slice_index_or, IfSome}
 use Rattle.std.specs.List.{Contains}
 use Rattle.std.specs.Cmp.{first_so, second_so}
@@ -10,10 +11,11 @@ use Rattle.sz_tree.specs.Names.{Ident}
 use Rattle.sz_tree.specs.Expressions.{Exp, Exps, call}
 use Rattle.sz_core.specs.Statements.{Stm, clear, keep, block, store, evaluate, no_stms}
 use Rattle.sz_core.specs.WellFormed.{is_well_formed, are_well_formed}
-use Rattle.sz_core.specs.Sound.{Sight, seen_behind, BeginsWith, Around, IsStm, AreStms, IsFree, IsCall, IsBetweenTurns}
+use Rattle.sz_core.specs.Typing.{Sight, IsCall}
+use Rattle.sz_core.specs.Sound.{seen_behind, BeginsWith, Around, IsStm, AreStms, IsFree, IsBetweenTurns}
 use Rattle.sz_check.specs.Names.{variable, declare}
 use Rattle.sz_check.specs.JudgingExpressions.{judge_exp}
-use Rattle.sz_check.specs.JudgingStatements.{Scene, Behind, AllBehind, opened, closed, with_variable, judge}
+use Rattle.sz_check.specs.Scenes.{Scene, Behind, AllBehind, opened, closed, with_variable, judge}
 use Rattle.sz_check.proofs.Holds.{Holds, good, ok_holds, bind_holds, known}
 use Rattle.sz_check.proofs.Meanings.{declared}
 use Rattle.sz_check.proofs.Sights.{IsFormed, AreFormed, IsVariable, Fits, AllFit, IsWider, all_fit_wider}

@@ -6,7 +6,7 @@ use Rattle.sz_types.specs.Data.{Shape}
 use Rattle.sz_types.specs.Tables.{Declaration}
 use Rattle.sz_core.specs.Programs.{Signature}
 use Rattle.sz_core.specs.WellFormed.{is_well_formed, are_well_formed}
-use Rattle.sz_core.specs.Sound.{Sight}
+use Rattle.sz_core.specs.Typing.{Sight}
 use Rattle.sz_check.specs.Names.{Block, Meaning, variable, static, type_name, table, function, predeclared, input}
 use Rattle.sz_check.proofs.Meanings.{Mean, all_follow}
 

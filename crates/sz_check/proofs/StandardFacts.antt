@@ -13,7 +13,8 @@ use Rattle.sz_check.specs.Refusals.{refused_at, refused_for}
 use Rattle.sz_check.specs.Agreeing.{agree}
 use Rattle.sz_check.specs.JudgingTypes.{judge_type}
 use Rattle.sz_check.specs.JudgingExpressions.{judge_exp}
-use Rattle.sz_check.specs.JudgingStatements.{judge_stm, judge_steps}
+use Rattle.sz_check.specs.JudgingStatements.{judge_stm}
+use Rattle.sz_check.specs.JudgingPaths.{judge_steps}
 use Rattle.sz_check.specs.JudgingPrograms.{judge_program, judge_all, judge_elems, judge_parameters}
 use Rattle.sz_check.specs.Example.{name_at, small_tree}
 

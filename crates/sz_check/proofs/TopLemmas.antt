@@ -5,10 +5,11 @@ use Rattle.sz_types.specs.Data.{Shape}
 use Rattle.sz_types.specs.Tables.{Declaration}
 use Rattle.sz_tree.specs.Names.{Ident}
 use Rattle.sz_core.specs.Programs.{Signature, Item}
-use Rattle.sz_core.specs.Sound.{Sight, BeginsWith, Declared, record_sight, AreItems}
+use Rattle.sz_core.specs.Typing.{Sight}
+use Rattle.sz_core.specs.Sound.{BeginsWith, Declared, record_sight, AreItems}
 use Rattle.sz_check.specs.Names.{Block, Meaning, only, is_seen_by_functions, is_seen_by_statics}
 use Rattle.sz_check.specs.Names as names
-use Rattle.sz_check.specs.JudgingStatements.{Scene}
+use Rattle.sz_check.specs.Scenes.{Scene}
 use Rattle.sz_check.specs.JudgingPrograms.{Known, Found, blocks_of, with_blocks}
 use Rattle.sz_check.proofs.Holds.{good}
 use Rattle.sz_check.proofs.Meanings.{declared}
@@ -67,7 +68,12 @@ more_tables d t = record { statics = λ n u h. h; functions = λ n f h. h; table
 pub sees_on : (locals : List Shape) (seen : List ℕ) (d e : Declared) (s : Scene) → IsMore d e → Sees (record_sight locals seen d) s
     → Sees (record_sight locals seen e) s
 sees_on locals seen d e s more is =
-    record { fit = all_fit_wider (record_sight locals seen d) (record_sight locals seen e) s.blocks wider is.fit; formed = is.formed; emits = refl; numbers = is.numbers }
+    record {
+      fit = all_fit_wider (record_sight locals seen d) (record_sight locals seen e) s.blocks wider is.fit;
+      formed = is.formed;
+      emits = refl;
+      numbers = is.numbers;
+    }
   where
     wider : IsWider (record_sight locals seen d) (record_sight locals seen e)
     wider = record {
@@ -87,4 +93,9 @@ last_is xs x n is = ap (λ k. slice_get (xs ++ x ∷ []) k) is ∙ get_behind xs
 -- a name more at the top level
 pub declares : (g : Sight) (n : Ident) (m : Meaning) (k : Known) (blocks : List Block) → names.declare n m (blocks_of k) ≡ good blocks → Fits g m
     → Sees g k.scene → Sees g (with_blocks k blocks).scene
-declares g n m k blocks is fits h = record { fit = (declared (Fits g) n m (blocks_of k) fits h.fit).holds blocks is; formed = h.formed; emits = h.emits; numbers = h.numbers }
+declares g n m k blocks is fits h = record {
+  fit = (declared (Fits g) n m (blocks_of k) fits h.fit).holds blocks is;
+  formed = h.formed;
+  emits = h.emits;
+  numbers = h.numbers;
+}

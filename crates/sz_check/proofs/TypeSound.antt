@@ -11,8 +11,9 @@ use Rattle.sz_tree.specs.declared.types.BasicType.TheVariants as basics
 use Rattle.sz_tree.specs.Names.{Ident}
 use Rattle.sz_tree.specs.Types.{Typ, basic, type_name, array, map_type, tuple, proto, Params, no_params, param, Fields, proto_field}
 use Rattle.sz_tree.specs.Types as trees
-use Rattle.sz_core.specs.WellFormed.{is_well_formed, are_parts, are_message_fields, names_of, numbers_of, are_distinct_texts, are_distinct_numbers, is_field_type, takes_encoding, most_field_number}
-use Rattle.sz_core.specs.Sound.{Sight}
+use Rattle.sz_core.specs.WellFormed.{is_well_formed, are_parts, are_message_fields, names_of, numbers_of, are_distinct_texts, are_distinct_numbers}
+use Rattle.sz_core.specs.WellFormed.{is_field_type, takes_encoding, most_field_number}
+use Rattle.sz_core.specs.Typing.{Sight}
 use Rattle.sz_check.specs.Refusals.{has_name}
 use Rattle.sz_check.specs.Names.{Block, Meaning, look_up}
 use Rattle.sz_check.specs.Names as names

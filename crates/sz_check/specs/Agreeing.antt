@@ -9,7 +9,7 @@ use Rattle.sz_types.specs.declared.operator.Builtin.{Builtin}
 use Rattle.sz_types.specs.declared.operator.Builtin.TheVariants.{Len, Keys, HasKey, StrFind}
 use Rattle.sz_tree.specs.Expressions.{Exp, Exps, end, more, Pairs, pair, place_of}
 use Rattle.sz_core.specs.Nodes.{Node, node, convert, Nodes, with_node, Pairings, with_pairing, type_of}
-pub use Rattle.sz_core.specs.Sound.{field_types}
+pub use Rattle.sz_core.specs.Typing.{field_types}
 use Rattle.sz_check.specs.Refusals.{Judged, ◌>>=◌, unless, wrong_type, wrong_count}
 
 -- the types that a place asks of the expressions there, one by one: none, the same of each, or these in turn and then none

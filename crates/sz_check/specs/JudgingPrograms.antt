@@ -1,5 +1,6 @@
 -- The checked program that a tree is, or its first refusal.
-use Rattle.std.specs.Prelude.{ℕ, ◌+◌, pos, negsuc, ℤ, List, [], ◌∷◌, ◌++◌, length, Bool, true, false, if◌then◌else◌, nat_lt, Option, Some, None, Ok, codes, bytes_eq}
+use Rattle.std.specs.Prelude.{ℕ, ◌+◌, pos, negsuc, ℤ, List, [], ◌∷◌, ◌++◌, length, Bool, true, false, if◌then◌else◌, nat_lt, Option, Some, None, Ok, codes}
+use Rattle.std.specs.Prelude.{bytes_eq}
 use Rattle.sz_types.specs.Data.{Shape}
 use Rattle.sz_types.specs.Tables.{Declaration}
 use Rattle.sz_types.specs.declared.place.Place.{Place}
@@ -19,7 +20,8 @@ use Rattle.sz_check.specs.Names as names
 use Rattle.sz_check.specs.JudgingTypes.{judge_type}
 use Rattle.sz_check.specs.JudgingExpressions.{judge_exp}
 use Rattle.sz_check.specs.Agreeing.{converted}
-use Rattle.sz_check.specs.JudgingStatements.{Scene, Around, judge_stm, judge_stms}
+use Rattle.sz_check.specs.Scenes.{Scene}
+use Rattle.sz_check.specs.JudgingStatements.{Around, judge_stm, judge_stms}
 
 -- what is known in front of a statement at the top level: the scene, and how much of each kind is declared
 pub record Known : Type 0 where

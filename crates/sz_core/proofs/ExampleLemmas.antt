@@ -4,7 +4,8 @@ use Rattle.sz_core.specs.Programs.{core_of}
 use Rattle.sz_core.specs.Emitting.{stm_emits, node_emits}
 use Rattle.sz_core.specs.WellFormed.{is_well_formed}
 use Rattle.sz_core.specs.Example.{sum_table, identity, call_node, small_items}
-use Rattle.sz_core.specs.Sound.{IsSound, AreItems, IsTable, IsFunction, IsStm, IsNode, nothing_declared, record_sight}
+use Rattle.sz_core.specs.Sound.{IsSound, AreItems, IsTable, IsFunction, IsStm, nothing_declared, record_sight}
+use Rattle.sz_core.specs.Typing.{IsNode}
 
 table_is_sound : IsTable nothing_declared sum_table
 unfolding is_well_formed

@@ -2,11 +2,13 @@
 use Rattle.std.proofs.Common.{◌≡◌, ◌≤◌, ◌+◌, ◌++◌, ℕ, List, [], ◌∷◌, length, Bool, true, false, ◌||◌, refl, arith, length-append, sym, ap, ◌∙◌}
 use Rattle.std.specs.Prelude.{Option, Some, slice_get}
 use Rattle.sz_types.specs.Data.{Shape}
-use Rattle.sz_core.specs.Nodes.{Node, node, Form, constant, local, static, input, call, builtin, def, convert, array, tuple, mapping, index, slice, field, unary, binary, both, either, Nodes, no_nodes, with_node, Pairings, no_pairings, with_pairing}
+use Rattle.sz_core.specs.Nodes.{Node, node, Form, constant, local, static, input, call, builtin, def, convert, array, tuple, mapping, index, slice, field}
+use Rattle.sz_core.specs.Nodes.{unary, binary, both, either, Nodes, no_nodes, with_node, Pairings, no_pairings, with_pairing}
 use Rattle.sz_core.specs.Programs.{Signature, Function, Static, Item, Core, tables_of, core_of}
 use Rattle.sz_core.specs.Programs as items
 use Rattle.sz_core.specs.Emitting.{node_emits, form_emits, nodes_emit, pairings_emit, is_emitting}
-use Rattle.sz_core.specs.Sound.{IsSound, AreItems, Declared, nothing_declared, Sight, seen_behind, record_sight, IsStatic, static_sight, IsNode, IsForm, AreNodes, ArePairings}
+use Rattle.sz_core.specs.Sound.{IsSound, AreItems, Declared, nothing_declared, seen_behind, record_sight, IsStatic, static_sight}
+use Rattle.sz_core.specs.Typing.{Sight, IsNode, IsForm, AreNodes, ArePairings}
 
 pub empty_is_sound : IsSound (core_of [] [])
 unfolding AreItems

@@ -6,8 +6,10 @@ use Rattle.sz_types.specs.declared.operator.Builtin.{Builtin}
 use Rattle.sz_types.specs.Seen.{seen}
 use Rattle.sz_core.specs.declared.expr.CoreExpr.{CoreExpr}
 use Rattle.sz_core.specs.declared.expr.CorePair.{CorePair}
-use Rattle.sz_core.specs.declared.expr.Form.{Row_of-CoreExpr, end_of-CoreExpr, more_of-CoreExpr, items-the_row-CoreExpr, Row_of-CorePair, end_of-CorePair, more_of-CorePair, items-the_row-CorePair}
-use Rattle.sz_core.specs.declared.expr.Form.TheBlock.{hidden-the_row-CoreExpr-0, items_hidden-the_row-CoreExpr-0, hidden-the_row-CorePair-1, items_hidden-the_row-CorePair-1}
+use Rattle.sz_core.specs.declared.expr.Form.{Row_of-CoreExpr, end_of-CoreExpr, more_of-CoreExpr, items-the_row-CoreExpr, Row_of-CorePair, end_of-CorePair}
+use Rattle.sz_core.specs.declared.expr.Form.{more_of-CorePair, items-the_row-CorePair}
+use Rattle.sz_core.specs.declared.expr.Form.TheBlock.{hidden-the_row-CoreExpr-0, items_hidden-the_row-CoreExpr-0, hidden-the_row-CorePair-1}
+use Rattle.sz_core.specs.declared.expr.Form.TheBlock.{items_hidden-the_row-CorePair-1}
 use Rattle.sz_core.specs.declared.expr.Form.TheVariants as forms
 use Rattle.sz_core.specs.declared.stmt.CoreStmt.{CoreStmt, Row_of-CoreStmt, end_of-CoreStmt, more_of-CoreStmt, items-the_row-CoreStmt}
 use Rattle.sz_core.specs.declared.stmt.CoreStmt.TheBlock.{hidden-the_row-CoreStmt-0, items_hidden-the_row-CoreStmt-0}

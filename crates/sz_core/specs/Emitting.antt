@@ -1,7 +1,9 @@
 -- Whether a statement emits, itself or through a function that it calls. The text decides, whether or not it is reached.
 use Rattle.std.specs.Prelude.{List, [], ◌∷◌, Bool, true, false, ◌||◌, Option, Some, None, slice_get}
-use Rattle.sz_core.specs.Nodes.{Node, node, Form, constant, local, static, input, call, builtin, def, convert, array, tuple, mapping, index, slice, field, unary, binary, both, either, Nodes, no_nodes, with_node, Pairings, no_pairings, with_pairing}
-use Rattle.sz_core.specs.Statements.{Step, at_index, at_field, Stm, block, clear, keep, store, evaluate, branch, while, do_while, for_loop, break, continue, return_value, end_record, emit, Stms, no_stms, with_stm}
+use Rattle.sz_core.specs.Nodes.{Node, node, Form, constant, local, static, input, call, builtin, def, convert, array, tuple, mapping, index, slice, field}
+use Rattle.sz_core.specs.Nodes.{unary, binary, both, either, Nodes, no_nodes, with_node, Pairings, no_pairings, with_pairing}
+use Rattle.sz_core.specs.Statements.{Step, at_index, at_field, Stm, block, clear, keep, store, evaluate, branch, while, do_while, for_loop, break, continue}
+use Rattle.sz_core.specs.Statements.{return_value, end_record, emit, Stms, no_stms, with_stm}
 use Rattle.sz_core.specs.Programs.{Signature}
 
 -- whether the function is known to emit; one that isn't among them doesn't

@@ -4,6 +4,7 @@ pub mod Statements
 pub mod Programs
 pub mod Emitting
 pub mod WellFormed
+pub mod Typing
 pub mod Sound
 pub mod View
 -- what the functions inside the crate promise each other

@@ -6,7 +6,8 @@ use base.Stored.{Gv, gnil, gnum, gcons, num}
 use Rattle.sz_types.specs.Code.{shape_code}
 use Rattle.sz_value.specs.Code.{datum_code}
 use Rattle.sz_core.specs.OperatorCode.{place_code, unary_code, binary_code, builtin_code}
-use Rattle.sz_core.specs.Nodes.{Node, node, Form, constant, local, static, input, call, builtin, def, convert, array, tuple, mapping, index, slice, field, unary, binary, both, either, Nodes, no_nodes, with_node, Pairings, no_pairings, with_pairing}
+use Rattle.sz_core.specs.Nodes.{Node, node, Form, constant, local, static, input, call, builtin, def, convert, array, tuple, mapping, index, slice, field}
+use Rattle.sz_core.specs.Nodes.{unary, binary, both, either, Nodes, no_nodes, with_node, Pairings, no_pairings, with_pairing}
 
 -- the first part of a pair, else the tree itself
 abbrev pub head : Gv → Gv

@@ -6,7 +6,8 @@ use base.Stored.{Gv, gnil, gnum, gcons, num}
 use Rattle.sz_core.specs.OperatorCode.{place_code}
 use Rattle.sz_core.specs.Nodes.{Node}
 use Rattle.sz_core.specs.NodeCode.{head, tail, is_pair, node_tree, node_apart, nodes_tree, nodes_apart, node_code}
-use Rattle.sz_core.specs.Statements.{Step, at_index, at_field, Stm, block, clear, keep, store, evaluate, branch, while, do_while, for_loop, break, continue, return_value, end_record, emit, Stms, no_stms, with_stm}
+use Rattle.sz_core.specs.Statements.{Step, at_index, at_field, Stm, block, clear, keep, store, evaluate, branch, while, do_while, for_loop, break, continue}
+use Rattle.sz_core.specs.Statements.{return_value, end_record, emit, Stms, no_stms, with_stm}
 
 -- a step as an expression or a place
 abbrev step_parts : Step → Node ⊎ ℕ

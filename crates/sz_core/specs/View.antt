@@ -6,7 +6,8 @@ use Rattle.sz_types.specs.SeenTables.{seen_table}
 use Rattle.sz_value.specs.Seen.{seen as datum_of}
 use Rattle.sz_core.specs.declared.expr.CoreExpr.{CoreExpr}
 use Rattle.sz_core.specs.declared.expr.CorePair.{CorePair}
-use Rattle.sz_core.specs.declared.expr.Form.{Form as CoreForm, Row_of-CoreExpr, end_of-CoreExpr, more_of-CoreExpr, Row_of-CorePair, end_of-CorePair, more_of-CorePair}
+use Rattle.sz_core.specs.declared.expr.Form.{Form as CoreForm, Row_of-CoreExpr, end_of-CoreExpr, more_of-CoreExpr, Row_of-CorePair, end_of-CorePair}
+use Rattle.sz_core.specs.declared.expr.Form.{more_of-CorePair}
 use Rattle.sz_core.specs.declared.expr.Form.TheVariants as forms
 use Rattle.sz_core.specs.declared.stmt.CoreStep.{CoreStep}
 use Rattle.sz_core.specs.declared.stmt.CoreStep.TheVariants as steps
@@ -17,8 +18,10 @@ use Rattle.sz_core.specs.declared.program.Function.{Function as CoreFunction}
 use Rattle.sz_core.specs.declared.program.Static.{Static as CoreStatic}
 use Rattle.sz_core.specs.declared.program.Item.{Item as CoreItem}
 use Rattle.sz_core.specs.declared.program.Item.TheVariants as items
-use Rattle.sz_core.specs.Nodes.{nodes_of, Node, node, Form, constant, local, static, input, call, builtin, def, convert, array, tuple, mapping, index, slice, field, unary, binary, both, either, Nodes, no_nodes, with_node, Pairings, no_pairings, with_pairing}
-use Rattle.sz_core.specs.Statements.{Step, at_index, at_field, Stm, block, clear, keep, store, evaluate, branch, while, do_while, for_loop, break, continue, return_value, end_record, emit, Stms, no_stms, with_stm, stms_of}
+use Rattle.sz_core.specs.Nodes.{nodes_of, Node, node, Form, constant, local, static, input, call, builtin, def, convert, array, tuple, mapping, index, slice}
+use Rattle.sz_core.specs.Nodes.{field, unary, binary, both, either, Nodes, no_nodes, with_node, Pairings, no_pairings, with_pairing}
+use Rattle.sz_core.specs.Statements.{Step, at_index, at_field, Stm, block, clear, keep, store, evaluate, branch, while, do_while, for_loop, break, continue}
+use Rattle.sz_core.specs.Statements.{return_value, end_record, emit, Stms, no_stms, with_stm, stms_of}
 use Rattle.sz_core.specs.Programs.{Signature, Function, Static, Item, table, function, statement}
 use Rattle.sz_core.specs.Programs as program
 
