@@ -31,7 +31,7 @@ use Rattle.sz_tree.specs.Statements.{StepForm, at_index, at_field, PathForm, Sim
 -- a literal
 abbrev pub literal_of : Literal → Lit
 literal_of (literals.Number n) = number n
-literal_of (literals.Str s) = string s.items
+literal_of (literals.Str s) = string s
 literal_of (literals.Bytes s) = bytes s.items
 literal_of (literals.Character c) = character c
 literal_of (literals.Bool b) = boolean b

@@ -2,13 +2,13 @@
 ghost use Rattle.std.specs.Prelude.{◌≡◌};
 
 use std::marker::Model;
-use sz_types::Place;
+use sz_types::{Place, Text};
 
 /// A name where it stands in a program: its place and its letters, digits and `_`.
 #[derive(Debug, Drop)]
 pub struct Name {
     place: Place,
-    text: Vec<u8>,
+    text: Text,
 }
 
 impl Model for Name {
@@ -16,13 +16,13 @@ impl Model for Name {
 
     ghost Value = { Ident };
 
-    ghost view = { λ n. record { place = n.place; text = n.text.items } };
+    ghost view = { λ n. record { place = n.place; text = n.text } };
 }
 
 impl Name {
     /// The name with this text at this place.
-    pub fn new(place: Place, text: Vec<u8>) -> Name
-        ensures value { result ≡ record { place = place; text = text.items } }
+    pub fn new(place: Place, text: Text) -> Name
+        ensures value { result ≡ record { place = place; text = text } }
     {
         Name { place, text }
     }
@@ -34,10 +34,10 @@ impl Name {
         self.place
     }
 
-    /// Its bytes.
-    pub fn text(&self) -> &[u8]
+    /// Its text.
+    pub fn text(&self) -> &Text
         ensures value { result.now ≡ self.now.text }
     {
-        self.text.as_slice()
+        &self.text
     }
 }

@@ -2,25 +2,25 @@
 use super::*;
 use std::alloc::{AllocError, Global};
 use std::test::Fail;
-use sz_types::Place;
+use sz_types::{Place, Text};
 
 fn at(column: u32) -> Place {
     Place { line: 1, column }
 }
 
-fn name(alloc: Global, column: u32, text: &[u8]) -> Result<Name, AllocError> {
-    Ok(Name::new(at(column), Vec::from_slice(alloc, text)?))
+fn name(alloc: Global, column: u32, text: &str) -> Result<Name, AllocError> {
+    Ok(Name::new(at(column), Text::from_str(alloc, text)?))
 }
 
 #[test]
 fn a_tree_is_built_and_knows_its_places(rt: HostRuntime) -> Result<(), Fail> {
     let alloc = rt.alloc();
-    let x = name(alloc, 3, b"x".as_slice())?;
-    assert_eq!(rt; x.text(), b"x".as_slice());
+    let x = name(alloc, 3, "x")?;
+    assert_eq!(rt; x.text().as_str(), "x");
     assert_eq!(rt; x.place(), at(3));
     let mut arguments = Vec::new(alloc);
     arguments.push(Expr::Named(x))?;
-    let call = Expr::call(name(alloc, 1, b"f".as_slice())?, arguments);
+    let call = Expr::call(name(alloc, 1, "f")?, arguments);
     assert_eq!(rt; call.place(), at(1));
     assert_eq!(rt; call.level(), 0);
     let one = Expr::Literal(at(8), Literal::Number(1));
@@ -41,12 +41,12 @@ fn a_tree_is_built_and_knows_its_places(rt: HostRuntime) -> Result<(), Fail> {
     assert_eq!(rt; tuple.place(), at(5));
     let proto = TypeTree::proto(at(6), Vec::new(alloc));
     assert_eq!(rt; proto.place(), at(6));
-    let step = Simple::Increment(name(alloc, 4, b"i".as_slice())?);
+    let step = Simple::Increment(name(alloc, 4, "i")?);
     assert_eq!(rt; step.place(), at(4));
     let mut body = Vec::new(alloc);
     body.push(Stmt::Simple(step))?;
     let function = Stmt::function(
-        name(alloc, 2, b"g".as_slice())?,
+        name(alloc, 2, "g")?,
         Vec::new(alloc),
         tuple,
         body,
