@@ -17,3 +17,16 @@ mod ItemSound
 mod FunctionSound
 mod ProgramSound
 mod StandardFacts
+-- what the proofs of the code rest on
+mod TypeLemmas
+mod ListLemmas
+mod CallLemmas
+mod ExpLemmas
+mod TypeLoops
+mod StatementParts
+mod StatementLoops
+mod ProgramLemmas
+mod EmitLemmas
+mod FunctionLemmas
+mod TableLemmas
+mod KnownLemmas

@@ -119,6 +119,12 @@ abbrev pub weight_agrees : Option Shape → Option Exp → Option Node → Judge
 weight_agrees (Some t) (Some e) (Some n) = agrees (Some t) e n
 weight_agrees _ _ _ = Ok tt
 
+-- both, or none
+abbrev pub same_presence : Bool → Bool → Bool
+same_presence true b = b
+same_presence false true = false
+same_presence false false = true
+
 -- `emit name[e].. <- e weight e;`
 abbrev pub judge_emit : Scene → Place → Ident → Exps → Exp → Option Exp → Judged core.Stm
 judge_emit s p n es e w = do
@@ -133,11 +139,6 @@ judge_emit s p n es e w = do
   _ ← counted (length t.declaration.indexes) es n.place
   _ ← unless (same_presence (is_some t.declaration.weight) (is_some w)) (wrong_weight p)
   Ok (core.emit p t.number indexes value weight)
-  where
-    same_presence : Bool → Bool → Bool
-    same_presence true b = b
-    same_presence false true = false
-    same_presence false false = true
 
 -- a statement that declares nothing for those behind it
 abbrev pub done : Scene → Judged core.Stm → Judged Behind

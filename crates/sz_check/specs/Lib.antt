@@ -14,3 +14,19 @@ pub mod JudgingSimple
 pub mod JudgingStatements
 pub mod JudgingPrograms
 pub mod Example
+pub mod Outcome
+-- what the functions inside the crate promise each other
+pub mod Kinds
+pub mod Holding
+pub mod Asking
+pub mod Lists
+pub mod Calling
+pub mod Operating
+pub mod Parts
+pub mod Targets
+pub mod Behind
+pub mod Lending
+pub mod Top
+pub mod Functions
+pub mod FunctionParts
+pub mod Tabling

@@ -1,6 +1,33 @@
 //! From the syntax tree to the checked tree, or to the first refusal.
 #![tactic(auto)]
 
+mod agree;
+mod asks;
+mod call;
+mod composite;
+mod emitted;
+mod emitting;
+mod error;
+mod expr;
+mod function;
+mod kind;
+mod known;
 mod laws;
+mod lending;
+mod literal;
+mod meaning;
+mod operator;
+mod path;
+mod program;
+mod rows;
+mod simple;
+mod stmt;
+mod table;
+mod target;
+mod text;
+mod top;
+mod types;
 
+pub use error::CheckError;
 pub use laws::{a_small_program_is_judged, judged_programs_are_sound};
+pub use program::check;

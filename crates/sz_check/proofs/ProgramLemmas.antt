@@ -1,0 +1,66 @@
+-- Turns of the loop over statements at the top level, and declarations that are made twice.
+use Rattle.std.proofs.Common.{◌≡◌, ℕ, ◌+◌, ◌<◌, ◌≤◌, Bool, true, false, List, [], ◌∷◌, ◌++◌, length, get_or, drop, map, refl, sym, ap, ◌∙◌, subst, append_assoc}
+use Rattle.std.proofs.lemmas.List.{append-nil}
+use Rattle.std.specs.Prelude.{Ok, Err, if◌then◌else◌}
+use Rattle.sz_tree.specs.declared.stmt.Stmt.{Stmt}
+use Rattle.sz_tree.specs.Names.{Ident}
+use Rattle.sz_tree.specs.Statements.{stms_of}
+use Rattle.sz_tree.specs.View.{stm_of}
+use Rattle.sz_core.specs.Programs.{Item}
+use Rattle.sz_check.specs.Refusals.{Judged, ◌>>=◌, declared_twice}
+use Rattle.sz_check.specs.Names.{Meaning, Named, Block, has, declare}
+use Rattle.sz_check.specs.JudgingPrograms.{Known, Found, judge_top, judge_all}
+use Rattle.sz_check.specs.Top.{with_items}
+use Rattle.sz_check.specs.Outcome.{Stops}
+use Rattle.sz_check.specs.declared.error.CheckError.{CheckError}
+use Rattle.sz_check.specs.declared.error.CheckError.TheVariants as errors
+use Rattle.sz_check.proofs.ListLemmas.{rest_more, rest_none}
+
+all_turn : (k : Known) (ts : List Stmt) (i : ℕ) (t : Stmt) → i < length ts → t ≡ get_or ts i t
+    → judge_all k (stms_of (map stm_of (drop i ts)))
+    ≡ (judge_top k (stm_of t) >>= λ first. judge_all first.known (stms_of (map stm_of (drop (i + 1) ts))) >>= λ rest. Ok (record { known = rest.known; items = first.items ++ rest.items }))
+unfolding judge_all
+all_turn k ts i t within is = rw (rest_more stm_of ts i t within is) refl
+
+pub all_fails : (front : List Item) (k : Known) (ts : List Stmt) (i : ℕ) (t : Stmt) (e : CheckError) (whole : Judged Found) → i < length ts → t ≡ get_or ts i t
+    → Stops e (judge_top k (stm_of t)) → with_items front (judge_all k (stms_of (map stm_of (drop i ts)))) ≡ whole → Stops e whole
+all_fails front k ts i t errors.NoMemory whole within is h so_far = tt
+all_fails front k ts i t (errors.Refused n p name) whole within is h so_far =
+    sym so_far ∙ ap (with_items front) (all_turn k ts i t within is ∙ ap (λ (j : Judged Found). j >>= λ first. judge_all first.known (stms_of (map stm_of (drop (i + 1) ts))) >>= λ rest. Ok (record { known = rest.known; items = first.items ++ rest.items })) h)
+
+joined : (front items : List Item) (j : Judged Found) → with_items front (j >>= λ rest. Ok (record { known = rest.known; items = items ++ rest.items })) ≡ with_items (front ++ items) j
+joined front items (Err r) = refl
+joined front items (Ok rest) = ap (λ (is : List Item). Ok (record { known = rest.known; items = is })) (sym (append_assoc front items rest.items))
+
+pub all_go : (front : List Item) (k : Known) (ts : List Stmt) (i : ℕ) (t : Stmt) (first : Found) (whole : Judged Found) → i < length ts → t ≡ get_or ts i t
+    → judge_top k (stm_of t) ≡ Ok first → with_items front (judge_all k (stms_of (map stm_of (drop i ts)))) ≡ whole
+    → with_items (front ++ first.items) (judge_all first.known (stms_of (map stm_of (drop (i + 1) ts)))) ≡ whole
+all_go front k ts i t first whole within is h so_far =
+    sym (joined front first.items (judge_all first.known (stms_of (map stm_of (drop (i + 1) ts)))))
+    ∙ ap (with_items front) (ap (λ (j : Judged Found). j >>= λ first. judge_all first.known (stms_of (map stm_of (drop (i + 1) ts))) >>= λ rest. Ok (record { known = rest.known; items = first.items ++ rest.items })) (sym h) ∙ sym (all_turn k ts i t within is))
+    ∙ so_far
+
+pub all_end : (front : List Item) (k : Known) (ts : List Stmt) (i : ℕ) (whole : Judged Found) → length ts ≤ i
+    → with_items front (judge_all k (stms_of (map stm_of (drop i ts)))) ≡ whole → whole ≡ Ok (record { known = k; items = front })
+unfolding judge_all
+all_end front k ts i whole over so_far =
+    sym so_far ∙ ap (λ (rest : List _). with_items front (judge_all k (stms_of rest))) (rest_none stm_of ts i over) ∙ ap (λ (is : List Item). Ok (record { known = k; items = is })) (append-nil front)
+
+abbrev only_ok : {A : Type 0} → Judged A → A → A
+only_ok (Ok y) x = y
+only_ok (Err r) x = x
+
+abbrev is_made : {A : Type 0} → Judged A → Type 0
+is_made (Ok y) = Unit {0}
+is_made (Err r) = ⊥
+
+-- what is declared is the first name of the innermost block
+pub declared_is : (n : Ident) (m : Meaning) (b : Block) (bs new : List Block) → declare n m (b ∷ bs) ≡ Ok new → new ≡ (record { name = n.text; meaning = m } ∷ b) ∷ bs
+declared_is n m b bs new h = by_test (has n.text b) refl
+  where
+    choice : Bool → Judged (List Block)
+    choice t = if t then declared_twice n else Ok ((record { name = n.text; meaning = m } ∷ b) ∷ bs)
+
+    by_test : (c : Bool) → has n.text b ≡ c → new ≡ (record { name = n.text; meaning = m } ∷ b) ∷ bs
+    by_test true e = absurd (subst is_made (sym h ∙ ap choice e) tt)
+    by_test false e = ap (λ (j : Judged (List Block)). only_ok j new) (sym h ∙ ap choice e)

@@ -1,0 +1,200 @@
+-- Statements by their parts.
+use Rattle.std.proofs.Common.{◌≡◌, Bool, true, false, List, [], ◌∷◌, length, Option, Some, None, refl, sym, ap, ◌∙◌, fun_ext}
+use Rattle.std.specs.Prelude.{Result, Ok, Err, is_some, if◌then◌else◌}
+use Rattle.sz_types.specs.declared.place.Place.{Place}
+use Rattle.sz_tree.specs.Names.{Ident}
+use Rattle.sz_tree.specs.Expressions.{Exp, Exps}
+use Rattle.sz_tree.specs.Statements.{SimpleForm, FirstForm, TableForm, QuantifierForm, Stm as Tree, Stms as Trees, block, for_loop}
+use Rattle.sz_tree.specs.Statements as trees
+use Rattle.sz_tree.specs.Types.{Typ, Params}
+use Rattle.sz_core.specs.Nodes.{Node, Nodes}
+use Rattle.sz_core.specs.Statements.{Stm, Stms, stms_of}
+use Rattle.sz_core.specs.Statements as core
+use Rattle.sz_check.specs.Refusals.{Judged, ◌>>=◌, unless, wrong_weight, misplaced, not_built}
+use Rattle.sz_check.specs.Names.{look_up, Meaning}
+use Rattle.sz_check.specs.Agreeing.{in_turn, agree, agrees, counted}
+use Rattle.sz_check.specs.JudgingExpressions.{judge_exps}
+use Rattle.sz_check.specs.Scenes.{Scene, Behind, AllBehind, opened, closed, judge, judge_if_some}
+use Rattle.sz_check.specs.JudgingStatements.{Around, in_block, in_loop, same_presence, judge_stm, judge_stms}
+use Rattle.sz_check.specs.JudgingSimple.{Numbered, judge_first, judge_between, test_if_some, table_named, weight_agrees, judge_declaration, judge_initialised}
+use Rattle.sz_check.specs.JudgingSimple.{judge_definition, judge_simple, judge_return, done, judge_emit}
+use Rattle.sz_check.specs.Outcome.{Stops, Judges}
+use Rattle.sz_check.specs.declared.error.CheckError.{CheckError}
+use Rattle.sz_check.proofs.ListLemmas.{stops_then, goes_on}
+use Rattle.sz_core.specs.declared.stmt.CoreStmt.{CoreStmt}
+use Rattle.sz_core.specs.View.{stm_of}
+use Rattle.sz_check.specs.declared.known.Known.{Known}
+use Rattle.sz_check.specs.Holding.{scene_of}
+use Rattle.sz_check.specs.Behind.{behind_of, judge_inside, judge_turns, judge_for, Emitted, judge_emitted, emitted_fits, judge_emit_by_parts}
+
+tested : {A B : Type 0} (u : Judged Unit) (x : A) (f : A → B) → (u >>= λ _. Ok (f x)) ≡ ((u >>= λ _. Ok x) >>= λ y. Ok (f y))
+tested (Ok t) x f = refl
+tested (Err r) x f = refl
+
+turns_then : (p : Place) (j : Judged (Option Node)) (k : Judged Stm) (l : Judged Behind) (u : Option Node → Judged Unit) (f : Behind → Behind)
+    → (j >>= λ n. k >>= λ step. l >>= λ body. u n >>= λ _. Ok (f (record { scene = body.scene; stm = core.for_loop p n step body.stm })))
+    ≡ ((j >>= λ n. k >>= λ step. l >>= λ body. u n >>= λ _. Ok (record { scene = body.scene; stm = core.for_loop p n step body.stm })) >>= λ t. Ok (f t))
+turns_then p (Err r) k l u f = refl
+turns_then p (Ok n) (Err r) l u f = refl
+turns_then p (Ok n) (Ok step) (Err r) u f = refl
+turns_then p (Ok n) (Ok step) (Ok body) u f = tested (u n) (record { scene = body.scene; stm = core.for_loop p n step body.stm }) f
+
+-- a `for` is its first part and then its turns
+pub for_is : (a : Around) (s : Scene) (p : Place) (f : Option FirstForm) (c : Option Exp) (between : Option SimpleForm) (t : Tree) → judge_stm a s (for_loop p f c between t) ≡ judge_for a s p f c between t
+unfolding judge_stm
+for_is a s p f c between t = first_then (judge_first (opened s) f)
+  where
+    first_then : (j : Judged Behind)
+        → (j >>= λ first. judge_if_some first.scene None c >>= λ n. judge_between first.scene between >>= λ step. judge_inside (in_loop a) first.scene t >>= λ body. test_if_some c n >>= λ _.
+        Ok (record { scene = closed s body.scene; stm = core.block (stms_of (first.stm ∷ core.for_loop p n step body.stm ∷ [])) }))
+        ≡ (j >>= λ first. judge_turns a first.scene p c between t >>= λ turns. Ok (record { scene = closed s turns.scene; stm = core.block (stms_of (first.stm ∷ turns.stm ∷ [])) }))
+    first_then (Err r) = refl
+    first_then (Ok first) = turns_then p (judge_if_some first.scene None c) (judge_between first.scene between) (judge_inside (in_loop a) first.scene t) (test_if_some c)
+        (λ turns. record { scene = closed s turns.scene; stm = core.block (stms_of (first.stm ∷ turns.stm ∷ [])) })
+
+parts_then : {A : Type 0} (j : Judged Nodes) (k : Judged Node) (l : Judged (Option Node)) (f : Emitted → Judged A)
+    → (j >>= λ is. k >>= λ v. l >>= λ w. f (record { indexes = is; value = v; weight = w }))
+    ≡ ((j >>= λ is. k >>= λ v. l >>= λ w. Ok (record { indexes = is; value = v; weight = w })) >>= f)
+parts_then (Err r) k l f = refl
+parts_then (Ok is) (Err r) l f = refl
+parts_then (Ok is) (Ok v) (Err r) f = refl
+parts_then (Ok is) (Ok v) (Ok w) f = refl
+
+rules_then : {A : Type 0} (a b c d e : Judged Unit) (x : Judged A)
+    → (a >>= λ _. b >>= λ _. c >>= λ _. d >>= λ _. e >>= λ _. x) ≡ ((a >>= λ _. b >>= λ _. c >>= λ _. d >>= λ _. e) >>= λ _. x)
+rules_then (Err r) b c d e x = refl
+rules_then (Ok t) (Err r) c d e x = refl
+rules_then (Ok t) (Ok u) (Err r) d e x = refl
+rules_then (Ok t) (Ok u) (Ok v) (Err r) e x = refl
+rules_then (Ok t) (Ok u) (Ok v) (Ok w) e x = refl
+
+-- an emit is its parts, and then its rules
+pub emit_is : (s : Scene) (p : Place) (n : Ident) (es : Exps) (e : Exp) (w : Option Exp) → judge_emit s p n es e w ≡ judge_emit_by_parts s p n es e w
+emit_is s p n es e w = ap (λ (f : Meaning → Judged Stm). look_up n s.blocks >>= f) (fun_ext (λ m. ap (λ (f : Numbered → Judged Stm). table_named n m >>= f) (fun_ext after)))
+  where
+    after : (t : Numbered)
+        → (judge_exps s.blocks true (in_turn t.declaration.indexes) es >>= λ indexes. judge s (Some t.declaration.element) e >>= λ value. judge_if_some s t.declaration.weight w >>= λ weight.
+        agree (in_turn t.declaration.indexes) es indexes >>= λ _. agrees (Some t.declaration.element) e value >>= λ _. weight_agrees t.declaration.weight w weight >>= λ _. counted (length t.declaration.indexes) es n.place >>= λ _.
+        unless (same_presence (is_some t.declaration.weight) (is_some w)) (wrong_weight p) >>= λ _. Ok (core.emit p t.number indexes value weight))
+        ≡ (judge_emitted s t.declaration es e w >>= λ x. emitted_fits t.declaration p n.place es e w x >>= λ _. Ok (core.emit p t.number x.indexes x.value x.weight))
+    after t =
+        parts_then (judge_exps s.blocks true (in_turn t.declaration.indexes) es) (judge s (Some t.declaration.element) e) (judge_if_some s t.declaration.weight w)
+        (λ x. agree (in_turn t.declaration.indexes) es x.indexes >>= λ _. agrees (Some t.declaration.element) e x.value >>= λ _. weight_agrees t.declaration.weight w x.weight >>= λ _. counted (length t.declaration.indexes) es n.place >>= λ _.
+        unless (same_presence (is_some t.declaration.weight) (is_some w)) (wrong_weight p) >>= λ _. Ok (core.emit p t.number x.indexes x.value x.weight))
+        ∙ ap (λ (f : Emitted → Judged Stm). judge_emitted s t.declaration es e w >>= f) (fun_ext (λ x.
+        rules_then (agree (in_turn t.declaration.indexes) es x.indexes) (agrees (Some t.declaration.element) e x.value) (weight_agrees t.declaration.weight w x.weight) (counted (length t.declaration.indexes) es n.place)
+        (unless (same_presence (is_some t.declaration.weight) (is_some w)) (wrong_weight p)) (Ok (core.emit p t.number x.indexes x.value x.weight))))
+
+-- ---- statements in a block of their own
+
+-- a part statement is judged in the scene with a block more, and the scene behind it has the blocks that were there before
+pub inside_made : (a : Around) (s inner behind after : Scene) (t : Tree) (x : Stm) → inner ≡ opened s → judge_stm a inner t ≡ Ok (record { scene = behind; stm = x })
+    → after.blocks ≡ s.blocks → after.locals ≡ behind.locals → judge_inside a s t ≡ Ok (record { scene = after; stm = x })
+inside_made a s inner behind after t x open h blocks locals =
+    ap (λ (u : Scene). in_block s (judge_stm a u t)) (sym open) ∙ ap (in_block s) h ∙ (λ i. Ok (record { scene = record { blocks = sym blocks i; locals = sym locals i }; stm = x }))
+
+pub inside_stops : (a : Around) (s inner : Scene) (t : Tree) (e : CheckError) → inner ≡ opened s → Stops e (judge_stm a inner t) → Stops e (judge_inside a s t)
+inside_stops a s inner t e open h = stops_then e (judge_stm a inner t) (λ b. Ok (record { scene = closed s b.scene; stm = b.stm })) _ h (ap (λ (u : Scene). in_block s (judge_stm a u t)) open)
+
+-- the same of a block
+pub block_made : (a : Around) (s inner behind after : Scene) (p : Place) (ts : Trees) (xs : Stms) → inner ≡ opened s → judge_stms a inner ts ≡ Ok (record { scene = behind; stms = xs })
+    → after.blocks ≡ s.blocks → after.locals ≡ behind.locals → judge_stm a s (block p ts) ≡ Ok (record { scene = after; stm = core.block xs })
+unfolding judge_stm
+block_made a s inner behind after p ts xs open h blocks locals =
+    ap (λ (u : Scene). judge_stms a u ts >>= λ b. Ok (record { scene = closed s b.scene; stm = core.block b.stms })) (sym open)
+    ∙ ap (λ (j : Judged AllBehind). j >>= λ b. Ok (record { scene = closed s b.scene; stm = core.block b.stms })) h
+    ∙ (λ i. Ok (record { scene = record { blocks = sym blocks i; locals = sym locals i }; stm = core.block xs }))
+
+pub block_stops : (a : Around) (s inner : Scene) (p : Place) (ts : Trees) (e : CheckError) → inner ≡ opened s → Stops e (judge_stms a inner ts) → Stops e (judge_stm a s (block p ts))
+unfolding judge_stm
+block_stops a s inner p ts e open h =
+    stops_then e (judge_stms a inner ts) (λ b. Ok (record { scene = closed s b.scene; stm = core.block b.stms })) _ h
+    (ap (λ (u : Scene). judge_stms a u ts >>= λ b. Ok (record { scene = closed s b.scene; stm = core.block b.stms })) open)
+
+-- the same of a `for`
+abbrev behind_first : Around → Scene → Place → Option Exp → Option SimpleForm → Tree → Behind → Judged Behind
+behind_first a s p c between t first = judge_turns a first.scene p c between t >>= λ turns. Ok (record { scene = closed s turns.scene; stm = core.block (stms_of (first.stm ∷ turns.stm ∷ [])) })
+
+pub for_made : (a : Around) (s inner start behind after : Scene) (p : Place) (f : Option FirstForm) (c : Option Exp) (between : Option SimpleForm) (t : Tree) (x y : Stm) → inner ≡ opened s
+    → judge_first inner f ≡ Ok (record { scene = start; stm = x }) → judge_turns a start p c between t ≡ Ok (record { scene = behind; stm = y })
+    → after.blocks ≡ s.blocks → after.locals ≡ behind.locals → judge_for a s p f c between t ≡ Ok (record { scene = after; stm = core.block (stms_of (x ∷ y ∷ [])) })
+for_made a s inner start behind after p f c between t x y open h g blocks locals =
+    ap (λ (u : Scene). judge_first u f >>= behind_first a s p c between t) (sym open)
+    ∙ ap (λ (j : Judged Behind). j >>= behind_first a s p c between t) h
+    ∙ ap (λ (j : Judged Behind). j >>= λ turns. Ok (record { scene = closed s turns.scene; stm = core.block (stms_of (x ∷ turns.stm ∷ [])) })) g
+    ∙ (λ i. Ok (record { scene = record { blocks = sym blocks i; locals = sym locals i }; stm = core.block (stms_of (x ∷ y ∷ [])) }))
+
+pub for_first_stops : (a : Around) (s inner : Scene) (p : Place) (f : Option FirstForm) (c : Option Exp) (between : Option SimpleForm) (t : Tree) (e : CheckError) → inner ≡ opened s
+    → Stops e (judge_first inner f) → Stops e (judge_for a s p f c between t)
+for_first_stops a s inner p f c between t e open h =
+    stops_then e (judge_first inner f) (behind_first a s p c between t) _ h (ap (λ (u : Scene). judge_first u f >>= behind_first a s p c between t) open)
+
+pub for_turns_stop : (a : Around) (s inner start : Scene) (p : Place) (f : Option FirstForm) (c : Option Exp) (between : Option SimpleForm) (t : Tree) (x : Stm) (e : CheckError) → inner ≡ opened s
+    → judge_first inner f ≡ Ok (record { scene = start; stm = x }) → Stops e (judge_turns a start p c between t) → Stops e (judge_for a s p f c between t)
+for_turns_stop a s inner start p f c between t x e open h g =
+    stops_then e (judge_turns a start p c between t) (λ turns. Ok (record { scene = closed s turns.scene; stm = core.block (stms_of (x ∷ turns.stm ∷ [])) })) _ g
+    (goes_on (judge_first inner f) (behind_first a s p c between t) _ (record { scene = start; stm = x }) h (ap (λ (u : Scene). judge_first u f >>= behind_first a s p c between t) open))
+
+-- ---- each statement by its own judgement
+
+module _ (a : Around) (s : Scene) where
+  pub empty_is : (p : Place) → judge_stm a s (trees.empty p) ≡ Ok (record { scene = s; stm = core.nothing })
+  unfolding judge_stm
+  empty_is p = refl
+
+  pub declare_is : (n : Ident) (t : Typ) → judge_stm a s (trees.declare n t None) ≡ judge_declaration s n t
+  unfolding judge_stm
+  declare_is n t = refl
+
+  pub initialised_is : (n : Ident) (t : Typ) (e : Exp) → judge_stm a s (trees.declare n t (Some e)) ≡ judge_initialised s n t e
+  unfolding judge_stm
+  initialised_is n t e = refl
+
+  pub define_is : (n : Ident) (e : Exp) → judge_stm a s (trees.define n e) ≡ judge_definition s n e
+  unfolding judge_stm
+  define_is n e = refl
+
+  pub static_is : (p : Place) (n : Ident) (t : Typ) (e : Exp) → judge_stm a s (trees.static p n t e) ≡ misplaced p
+  unfolding judge_stm
+  static_is p n t e = refl
+
+  pub typedef_is : (p : Place) (n : Ident) (t : Typ) → judge_stm a s (trees.typedef p n t) ≡ misplaced p
+  unfolding judge_stm
+  typedef_is p n t = refl
+
+  pub table_is : (n : Ident) (t : TableForm) → judge_stm a s (trees.table n t) ≡ misplaced n.place
+  unfolding judge_stm
+  table_is n t = refl
+
+  pub nested_is : (n : Ident) (ps : Params) (t : Typ) (ss : Trees) → judge_stm a s (trees.function n ps t ss) ≡ misplaced n.place
+  unfolding judge_stm
+  nested_is n ps t ss = refl
+
+  pub simple_is : (t : SimpleForm) → judge_stm a s (trees.simple t) ≡ done s (judge_simple s t)
+  unfolding judge_stm
+  simple_is t = refl
+
+  pub break_is : (p : Place) → judge_stm a s (trees.break p) ≡ done s (if a.loop then Ok core.break else misplaced p)
+  unfolding judge_stm
+  break_is p = refl
+
+  pub continue_is : (p : Place) → judge_stm a s (trees.continue p) ≡ done s (if a.loop then Ok core.continue else misplaced p)
+  unfolding judge_stm
+  continue_is p = refl
+
+  pub return_is : (p : Place) (e : Option Exp) → judge_stm a s (trees.return p e) ≡ done s (judge_return s p a.result e)
+  unfolding judge_stm
+  return_is p e = refl
+
+  pub emitting_is : (p : Place) (n : Ident) (es : Exps) (e : Exp) (w : Option Exp) → judge_stm a s (trees.emit p n es e w) ≡ done s (judge_emit_by_parts s p n es e w)
+  unfolding judge_stm
+  emitting_is p n es e w = ap (done s) (emit_is s p n es e w)
+
+  pub when_is : (p : Place) (qs : List QuantifierForm) (c : Exp) (t : Tree) → judge_stm a s (trees.when p qs c t) ≡ not_built p
+  unfolding judge_stm
+  when_is p qs c t = refl
+
+-- a statement that declares nothing leaves what is known as it was
+pub done_is : (k : Known) (r : Result CoreStmt CheckError) (j : Judged Stm) → Judges stm_of r j → Judges (λ s. behind_of k s) r (done (scene_of k) j)
+done_is k (Ok s) j h = ap (done (scene_of k)) h
+done_is k (Err e) j h = stops_then e j (λ m. Ok (record { scene = scene_of k; stm = m })) _ h refl

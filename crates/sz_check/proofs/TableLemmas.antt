@@ -1,0 +1,98 @@
+-- Declarations of tables: limits that are too large, types in order, and fields that are whole numbers.
+use Rattle.std.proofs.Common.{◌≡◌, ◌≤◌, ◌<◌, ℕ, ◌+◌, Bool, true, false, List, [], ◌∷◌, ◌++◌, length, get_or, drop, map, Option, Some, None, refl, sym, ap, ◌∙◌}
+use Rattle.std.proofs.Common.{nat_eq, arith}
+use Rattle.std.specs.Prelude.{Ok, Err, ◌&&◌, nat_le, if◌then◌else◌}
+use Rattle.std.proofs.lemmas.Bool.{ne_eqb, lt-leb}
+use Rattle.sz_types.specs.Data.{Shape, FieldShapes, field, with_field, fields_of}
+use Rattle.sz_types.specs.declared.encoding.Encoding.{Encoding}
+use Rattle.sz_types.specs.Seen.{seen, seen_field}
+use Rattle.sz_types.specs.Tables.{Declaration}
+use Rattle.sz_types.specs.declared.ty.Field.{Field}
+use Rattle.sz_types.specs.declared.table.TableKind.{TableKind}
+use Rattle.sz_types.specs.declared.table.TableKind.TheVariants.{Sum, Maximum, Minimum, Set, Collection}
+use Rattle.sz_tree.specs.declared.stmt.Elem.{Elem}
+use Rattle.sz_tree.specs.Names.{Ident}
+use Rattle.sz_tree.specs.View.{elem_of, type_of}
+use Rattle.sz_core.specs.WellFormed.{is_allowed, kind_allows, are_whole_numbers}
+use Rattle.sz_check.specs.Refusals.{Judged, ◌>>=◌, bad_table}
+use Rattle.sz_check.specs.Names.{Block}
+use Rattle.sz_check.specs.JudgingTypes.{judge_type}
+use Rattle.sz_check.specs.JudgingPrograms.{judge_elems, allowed, declaration_of}
+use Rattle.sz_check.specs.Lists.{behind, put_all}
+use Rattle.sz_check.specs.Tabling.{is_int, with_type}
+use Rattle.sz_check.specs.Outcome.{Stops}
+use Rattle.sz_check.specs.declared.error.CheckError.{CheckError}
+use Rattle.sz_check.proofs.ListLemmas.{rest_more, rest_none, turn_fails, turn_goes, turn_ends}
+
+second_fails : (a b : Bool) → b ≡ false → (a && b) ≡ false
+second_fails true b h = h
+second_fails false b h = refl
+
+first_fails : (a b : Bool) → a ≡ false → (a && b) ≡ false
+first_fails a b h = ap (λ c. c && b) h
+
+no_kind_allows : (k : TableKind) (d : Declaration) → 4294967296 ≤ d.limit → kind_allows k d ≡ false
+no_kind_allows Sum d h = first_fails _ _ (ne_eqb d.limit 0 (λ p. absurd (omega (arith, p, h))))
+no_kind_allows Maximum d h = first_fails _ _ (second_fails _ _ (lt-leb d.limit 10000 (omega (arith, h))))
+no_kind_allows Minimum d h = first_fails _ _ (second_fails _ _ (lt-leb d.limit 10000 (omega (arith, h))))
+no_kind_allows Set d h = first_fails _ _ (second_fails _ _ (lt-leb d.limit 1000000 (omega (arith, h))))
+no_kind_allows Collection d h = first_fails _ _ (ne_eqb d.limit 0 (λ p. absurd (omega (arith, p, h))))
+
+-- no kind has so large a limit
+pub too_large : (n word : Ident) (kind : TableKind) (limit : ℕ) (indexes : List Shape) (element : Shape) (weight : Option Shape) → 4294967296 ≤ limit
+    → declaration_of n word kind (Some limit) indexes element weight ≡ bad_table word.place
+too_large n word kind limit indexes element weight h =
+    let d : Declaration = record { name = n.text; kind = kind; limit = limit; indexes = indexes; element = element; weight = weight } in
+    ap (λ (b : Bool). if b then Ok d else bad_table word.place) (no_kind_allows kind d h)
+
+put_types : (ts : List Shape) → put_all with_type ts [] ≡ ts
+put_types [] = refl
+put_types (t ∷ ts) = ap (λ (us : List Shape). t ∷ us) (put_types ts)
+
+module _ (blocks : List Block) where
+  elems_turn : (es : List Elem) (i : ℕ) (e : Elem) → i < length es → e ≡ get_or es i e
+      → judge_elems blocks (map elem_of (drop i es)) ≡ (judge_type blocks (type_of e.of) >>= λ t. judge_elems blocks (map elem_of (drop (i + 1) es)) >>= λ ts. Ok (with_type t ts))
+  unfolding judge_elems
+  elems_turn es i e within is = rw (rest_more elem_of es i e within is) refl
+
+  pub elems_fail : (front : List Shape) (es : List Elem) (i : ℕ) (e : Elem) (r : CheckError) (whole : Judged (List Shape)) → i < length es → e ≡ get_or es i e
+      → Stops r (judge_type blocks (type_of e.of)) → behind with_type front (judge_elems blocks (map elem_of (drop i es))) ≡ whole → Stops r whole
+  elems_fail front es i e r whole within is h so_far = turn_fails with_type front r _ _ _ whole (elems_turn es i e within is) h so_far
+
+  pub elems_go : (front : List Shape) (es : List Elem) (i : ℕ) (e : Elem) (t : Shape) (whole : Judged (List Shape)) → i < length es → e ≡ get_or es i e
+      → judge_type blocks (type_of e.of) ≡ Ok t → behind with_type front (judge_elems blocks (map elem_of (drop i es))) ≡ whole
+      → behind with_type (front ++ t ∷ []) (judge_elems blocks (map elem_of (drop (i + 1) es))) ≡ whole
+  elems_go front es i e t whole within is h so_far =
+      turn_goes with_type front t _ (λ _. judge_elems blocks (map elem_of (drop (i + 1) es))) _ whole (elems_turn es i e within is) h so_far
+
+  pub elems_end : (front : List Shape) (es : List Elem) (i : ℕ) (whole : Judged (List Shape)) → length es ≤ i
+      → behind with_type front (judge_elems blocks (map elem_of (drop i es))) ≡ whole → whole ≡ Ok front
+  unfolding judge_elems
+  elems_end front es i whole over so_far =
+      turn_ends with_type front [] _ whole (ap (judge_elems blocks) (rest_none elem_of es i over)) so_far ∙ ap (λ (ts : List Shape). Ok ts) (put_types front)
+
+-- a field in front of fields: its type decides, or else those behind it
+pub whole_numbers : (name : List ℕ) (t : Shape) (number : ℕ) (code : Encoding) (fs : FieldShapes) → are_whole_numbers (with_field (field name t number code) fs) ≡ (is_int t && are_whole_numbers fs)
+whole_numbers name Shape.truth number code fs = refl
+whole_numbers name Shape.int number code fs = refl
+whole_numbers name Shape.time number code fs = refl
+whole_numbers name Shape.str number code fs = refl
+whole_numbers name Shape.bytes number code fs = refl
+whole_numbers name (Shape.array t) number code fs = refl
+whole_numbers name (Shape.mapping k v) number code fs = refl
+whole_numbers name (Shape.tuple gs) number code fs = refl
+whole_numbers name (Shape.proto gs) number code fs = refl
+
+pub whole_turn : (fs : List Field) (i : ℕ) (f : Field) → i < length fs → f ≡ get_or fs i f
+    → are_whole_numbers (fields_of (map seen_field (drop i fs))) ≡ (is_int (seen f.ty) && are_whole_numbers (fields_of (map seen_field (drop (i + 1) fs))))
+whole_turn fs i f within is = rw (rest_more seen_field fs i f within is) (whole_numbers f.name (seen f.ty) f.number f.code _)
+
+pub whole_over : (fs : List Field) (i : ℕ) → length fs ≤ i → are_whole_numbers (fields_of (map seen_field (drop i fs))) ≡ true
+whole_over fs i over = rw (rest_none seen_field fs i over) refl
+
+-- where one isn't, not all are
+pub fails_whole : (b c whole : Bool) → (b && c) ≡ whole → b ≡ false → false ≡ whole
+fails_whole b c whole same h = ap (λ d. d && c) (sym h) ∙ same
+
+pub rest_holds : (b c whole : Bool) → (b && c) ≡ whole → b ≡ true → c ≡ whole
+rest_holds b c whole same h = ap (λ d. d && c) (sym h) ∙ same

@@ -1,0 +1,37 @@
+-- What contracts see of where a path has come to, and one step of it.
+use Rattle.std.specs.Prelude.{List, map, None, false, Ok}
+use Rattle.sz_types.specs.Data.{Shape}
+use Rattle.sz_types.specs.Seen.{seen}
+use Rattle.sz_types.specs.declared.place.Place.{Place}
+use Rattle.sz_tree.specs.Names.{Ident}
+use Rattle.sz_tree.specs.Statements.{StepForm, PathForm}
+use Rattle.sz_tree.specs.Statements as trees
+use Rattle.sz_core.specs.Nodes.{Node}
+use Rattle.sz_core.specs.Statements.{at_index, at_field}
+use Rattle.sz_core.specs.View.{step_of}
+use Rattle.sz_check.specs.declared.target.Target.{Target as Reached}
+use Rattle.sz_check.specs.Refusals.{Judged, ◌>>=◌}
+use Rattle.sz_check.specs.JudgingParts.{field_in}
+use Rattle.sz_check.specs.Scenes.{Scene, judge}
+use Rattle.sz_check.specs.JudgingPaths.{Target, stepped, indexed}
+
+-- where a path has come to
+abbrev pub target_seen : Reached → Target
+target_seen t = record { local = t.local; steps = map step_of t.steps.items; type = seen t.ty; assignable = t.assignable }
+
+-- a path by its name and its steps
+abbrev pub path_form : Ident → List StepForm → PathForm
+path_form n steps = record { name = n; steps = steps }
+
+-- a step by an index into a string
+abbrev pub into_string : Target → Node → Target
+into_string t n = record (stepped t (at_index n) Shape.int) { assignable = false }
+
+-- the next step of a path that begins at this place
+abbrev pub judge_step : Scene → Place → Target → StepForm → Judged Target
+judge_step s p t (trees.at_index e) = do
+  n ← judge s None e
+  indexed p t t.type e n
+judge_step s p t (trees.at_field f) = do
+  x ← field_in p t.type f
+  Ok (stepped t (at_field x.place) x.type)

@@ -1,0 +1,139 @@
+//! `emit`.
+ghost use Rattle.std.specs.Prelude.{◌≡◌, map as each};
+ghost use Rattle.std.specs.Option.{option_map};
+ghost use Rattle.sz_types.specs.Seen.{seen};
+ghost use Rattle.sz_types.specs.SeenTables.{seen_table};
+ghost use Rattle.sz_tree.specs.Expressions.{exps_of};
+ghost use Rattle.sz_tree.specs.View.{tree_of};
+ghost use Rattle.sz_core.specs.View.{node_of, stm_of};
+ghost use Rattle.sz_check.specs.Scenes.{judge_if_some};
+ghost use Rattle.sz_check.specs.JudgingSimple.{table_named, weight_agrees};
+ghost use Rattle.sz_check.specs.Holding.{means_of, scene_of};
+ghost use Rattle.sz_check.specs.Behind.{numbered_of, emitted_of, judge_emitted, emitted_fits, judge_emit_by_parts};
+ghost use Rattle.sz_check.specs.Outcome.{Judges};
+
+use crate::agree::{agree, agrees, counted};
+use crate::asks::Asks;
+use crate::error::{CheckError, at, of};
+use crate::expr::{judge_exp, judge_exps};
+use crate::known::Known;
+use crate::meaning::Means;
+use std::alloc::Global;
+use sz_core::{CoreExpr, CoreStmt};
+use sz_tree::{Expr, Name};
+use sz_types::{Place, TableDecl, Ty};
+
+// The checked parts of an emit.
+#[derive(Drop)]
+pub struct Parts {
+    pub indexes: Vec<CoreExpr>,
+    pub value: CoreExpr,
+    pub weight: Option<CoreExpr>,
+}
+
+// The table that a name stands for.
+fn table_named<'k>(
+    alloc: Global,
+    name: &Name,
+    means: Means<'k>,
+) -> Result<(u32, &'k TableDecl), CheckError>
+    ensures value { Judges numbered_of result (table_named name.now (means_of means.entry)) }
+{
+    match means {
+        Means::Table(number, table) => Ok((number, table)),
+        _ => Err(of(alloc, 8, name)),
+    }
+}
+
+// A weight, where there is one.
+fn judge_weight(
+    alloc: Global,
+    known: &Known,
+    asked: &Option<Ty>,
+    tree: &Option<Expr>,
+) -> Result<Option<CoreExpr>, CheckError>
+    ensures value { Judges (option_map node_of) result (judge_if_some (scene_of known.now) (option_map seen asked.now) (option_map tree_of tree.now)) }
+{
+    match tree {
+        Some(tree) => Ok(Some(judge_exp(alloc, known, true, asked.as_ref(), tree)?)),
+        None => Ok(None),
+    }
+}
+
+// The weight of an emit has the type that the table's weights have, if both are there.
+fn weight_agrees(
+    asked: &Option<Ty>,
+    tree: &Option<Expr>,
+    node: &Option<CoreExpr>,
+) -> Result<(), CheckError>
+    ensures value { Judges (λ x. x) result (weight_agrees (option_map seen asked.now) (option_map tree_of tree.now) (option_map node_of node.now)) }
+{
+    match (asked, tree, node) {
+        (Some(ty), Some(tree), Some(node)) => agrees(Some(ty), tree, node),
+        _ => Ok(()),
+    }
+}
+
+// The parts of an emit into a table.
+fn judge_parts(
+    alloc: Global,
+    known: &Known,
+    table: &TableDecl,
+    indexes: &[Expr],
+    value: &Expr,
+    weight: &Option<Expr>,
+) -> Result<Parts, CheckError>
+    ensures value { Judges emitted_of result (judge_emitted (scene_of known.now) (seen_table table.now) (exps_of (each tree_of indexes.now)) (tree_of value.now) (option_map tree_of weight.now)) }
+{
+    let asks = Asks::Types(table.indexes.as_slice());
+    let indexes = judge_exps(alloc, known, true, asks, indexes)?;
+    let value = judge_exp(alloc, known, true, Some(&table.element), value)?;
+    let weight = judge_weight(alloc, known, &table.weight, weight)?;
+    Ok(Parts {
+        indexes,
+        value,
+        weight,
+    })
+}
+
+// The parts of an emit are as the table's declaration asks. The places are that of the emit and that of the table's name.
+fn parts_fit(
+    table: &TableDecl,
+    place: Place,
+    name_place: Place,
+    indexes: &[Expr],
+    value: &Expr,
+    weight: &Option<Expr>,
+    parts: &Parts,
+) -> Result<(), CheckError>
+    ensures value { Judges (λ x. x) result (emitted_fits (seen_table table.now) place name_place (exps_of (each tree_of indexes.now)) (tree_of value.now) (option_map tree_of weight.now) (emitted_of parts.now)) }
+{
+    let asks = Asks::Types(table.indexes.as_slice());
+    agree(asks, indexes, parts.indexes.as_slice())?;
+    agrees(Some(&table.element), value, &parts.value)?;
+    weight_agrees(&table.weight, weight, &parts.weight)?;
+    counted(table.indexes.len(), indexes, name_place)?;
+    if table.weight.is_some() == weight.is_some() {
+        Ok(())
+    } else {
+        Err(at(13, place))
+    }
+}
+
+// `emit name[e].. <- e weight e;`
+pub fn judge_emit(
+    alloc: Global,
+    known: &Known,
+    place: Place,
+    name: &Name,
+    indexes: &[Expr],
+    value: &Expr,
+    weight: &Option<Expr>,
+) -> Result<CoreStmt, CheckError>
+    ensures value { Judges stm_of result (judge_emit_by_parts (scene_of known.now) place name.now (exps_of (each tree_of indexes.now)) (tree_of value.now) (option_map tree_of weight.now)) }
+{
+    let (number, table) = table_named(alloc, name, known.look_up(alloc, name)?)?;
+    let parts = judge_parts(alloc, known, table, indexes, value, weight)?;
+    parts_fit(table, place, name.place(), indexes, value, weight, &parts)?;
+    Ok(CoreStmt::Emit(place, number, parts.indexes, parts.value, parts.weight))
+}

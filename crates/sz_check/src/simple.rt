@@ -1,0 +1,233 @@
+//! Statements that hold no others.
+ghost use Rattle.std.specs.Prelude.{◌≡◌, IfOk, None as Nothing};
+ghost use Rattle.sz_types.specs.Data.{Shape, int};
+ghost use Rattle.std.specs.Option.{option_map};
+ghost use Rattle.sz_types.specs.Seen.{seen};
+ghost use Rattle.sz_tree.specs.View.{tree_of, type_of, path_of, simple_of, first_of};
+ghost use Rattle.sz_core.specs.Statements.{nothing};
+ghost use Rattle.sz_core.specs.View.{node_of, stm_of};
+ghost use Rattle.sz_check.specs.Scenes.{judge_if_some};
+ghost use Rattle.sz_check.specs.JudgingSimple.{judge_declaration, judge_initialised, judge_definition, judge_assignment, judge_change, judge_simple};
+ghost use Rattle.sz_check.specs.JudgingSimple.{judge_first, judge_between, test_if_some, judge_return};
+ghost use Rattle.sz_check.specs.Asking.{asked_of};
+ghost use Rattle.sz_check.specs.Holding.{scene_of};
+ghost use Rattle.sz_check.specs.Behind.{behind_of, change_row};
+ghost use Rattle.sz_check.specs.Outcome.{Judges};
+
+use crate::agree::{agrees, converted};
+use crate::error::{CheckError, at};
+use crate::expr::{judge_call, judge_exp};
+use crate::known::Known;
+use crate::operator::test;
+use crate::rows::{difference_row, sum_row};
+use crate::target::judge_path;
+use crate::types::judge_type;
+use std::alloc::{AllocError, Global};
+use sz_core::{CoreExpr, CoreStmt, Form};
+use sz_tree::{Expr, First, Name, Path, Simple, TypeTree};
+use sz_types::{BinOp, Place, Ty, copy_ty};
+use sz_value::Value;
+
+// `name: type;`
+pub fn judge_declaration(
+    alloc: Global,
+    known: &mut Known,
+    name: &Name,
+    tree: &TypeTree,
+) -> Result<CoreStmt, CheckError>
+    ensures value { Judges (λ s. behind_of known.new s) result (judge_declaration (scene_of known.old) name.now (type_of tree.now)) }
+    ensures outer { known.new.outer ≡ known.old.outer }
+{
+    let ty = judge_type(alloc, known, tree)?;
+    let number = known.declare_variable(alloc, name, ty)?;
+    Ok(CoreStmt::Clear(number))
+}
+
+// `name: type = e;`
+pub fn judge_initialised(
+    alloc: Global,
+    known: &mut Known,
+    name: &Name,
+    tree: &TypeTree,
+    value: &Expr,
+) -> Result<CoreStmt, CheckError>
+    ensures value { Judges (λ s. behind_of known.new s) result (judge_initialised (scene_of known.old) name.now (type_of tree.now) (tree_of value.now)) }
+    ensures outer { known.new.outer ≡ known.old.outer }
+{
+    let ty = judge_type(alloc, known, tree)?;
+    let node = judge_exp(alloc, known, true, Some(&ty), value)?;
+    let node = converted(alloc, &ty, value, node)?;
+    let number = known.declare_variable(alloc, name, ty)?;
+    Ok(CoreStmt::Keep(name.place(), number, node))
+}
+
+// `name := e;`
+pub fn judge_definition(
+    alloc: Global,
+    known: &mut Known,
+    name: &Name,
+    value: &Expr,
+) -> Result<CoreStmt, CheckError>
+    ensures value { Judges (λ s. behind_of known.new s) result (judge_definition (scene_of known.old) name.now (tree_of value.now)) }
+    ensures outer { known.new.outer ≡ known.old.outer }
+{
+    let node = judge_exp(alloc, known, true, None, value)?;
+    let ty = copy_ty(alloc, &node.ty)?;
+    let number = known.declare_variable(alloc, name, ty)?;
+    Ok(CoreStmt::Keep(name.place(), number, node))
+}
+
+// `path = e`
+fn judge_assignment(
+    alloc: Global,
+    known: &Known,
+    path: &Path,
+    value: &Expr,
+) -> Result<CoreStmt, CheckError>
+    ensures value { Judges stm_of result (judge_assignment (scene_of known.now) (path_of path.now) (tree_of value.now)) }
+{
+    let target = judge_path(alloc, known, &path.name, path.steps.as_slice())?;
+    let node = judge_exp(alloc, known, true, Some(&target.ty), value)?;
+    agrees(Some(&target.ty), value, &node)?;
+    let place = path.name.place();
+    Ok(CoreStmt::Store(place, target.local, target.steps, node))
+}
+
+// The type of `name + 1`, or of `name - 1`.
+fn changed_type(alloc: Global, op: BinOp, ty: &Ty) -> Result<Option<Ty>, AllocError>
+    ensures value { IfOk result (λ row. option_map seen row ≡ change_row op (seen ty.now) int) }
+{
+    match op {
+        BinOp::Add => sum_row(alloc, ty, &Ty::Int),
+        _ => Ok(difference_row(ty, &Ty::Int)),
+    }
+}
+
+// `name++` or `name--`: `name = name + 1` or `name = name - 1`, all of it at the place of the name.
+fn judge_change(
+    alloc: Global,
+    known: &Known,
+    name: &Name,
+    op: BinOp,
+) -> Result<CoreStmt, CheckError>
+    ensures value { Judges stm_of result (judge_change (scene_of known.now) name.now op (change_row op)) }
+{
+    let place = name.place();
+    let target = judge_path(alloc, known, name, [].as_slice())?;
+    let Some(ty) = changed_type(alloc, op, &target.ty)? else {
+        return Err(at(9, place));
+    };
+    let variable = CoreExpr {
+        place,
+        ty: target.ty,
+        form: Form::Local(target.local),
+    };
+    let one = CoreExpr {
+        place,
+        ty: Ty::Int,
+        form: Form::Constant(Value::Int(1)),
+    };
+    let form = Form::Binary(op, Box::new(alloc, variable)?, Box::new(alloc, one)?);
+    let node = CoreExpr { place, ty, form };
+    Ok(CoreStmt::Store(place, target.local, Vec::new(alloc), node))
+}
+
+// An assignment or a call.
+pub fn judge_simple(alloc: Global, known: &Known, tree: &Simple) -> Result<CoreStmt, CheckError>
+    ensures value { Judges stm_of result (judge_simple (scene_of known.now) (simple_of tree.now)) }
+{
+    match tree {
+        Simple::Assign(path, value) => judge_assignment(alloc, known, path, value),
+        Simple::Increment(name) => judge_change(alloc, known, name, BinOp::Add),
+        Simple::Decrement(name) => judge_change(alloc, known, name, BinOp::Sub),
+        Simple::Call(name, arguments) => {
+            let node = judge_call(alloc, known, true, name, arguments.as_slice())?;
+            Ok(CoreStmt::Evaluate(name.place(), node))
+        }
+    }
+}
+
+// Nothing is done.
+pub fn nothing(alloc: Global) -> CoreStmt
+    ensures value { stm_of result ≡ nothing }
+{
+    CoreStmt::block(Vec::new(alloc))
+}
+
+// The first part of a `for`.
+pub fn judge_first(
+    alloc: Global,
+    known: &mut Known,
+    first: &Option<First>,
+) -> Result<CoreStmt, CheckError>
+    ensures value { Judges (λ s. behind_of known.new s) result (judge_first (scene_of known.old) (option_map first_of first.now)) }
+    ensures outer { known.new.outer ≡ known.old.outer }
+{
+    match first {
+        None => Ok(nothing(alloc)),
+        Some(First::Declare(name, tree, value)) => {
+            judge_initialised(alloc, known, name, tree, value)
+        }
+        Some(First::Define(name, value)) => judge_definition(alloc, known, name, value),
+        Some(First::Simple(tree)) => judge_simple(alloc, known, tree),
+    }
+}
+
+// What is done between the turns of a `for`.
+pub fn judge_between(
+    alloc: Global,
+    known: &Known,
+    tree: &Option<Simple>,
+) -> Result<CoreStmt, CheckError>
+    ensures value { Judges stm_of result (judge_between (scene_of known.now) (option_map simple_of tree.now)) }
+{
+    match tree {
+        Some(tree) => judge_simple(alloc, known, tree),
+        None => Ok(nothing(alloc)),
+    }
+}
+
+// A test that may be missing.
+pub fn judge_test(
+    alloc: Global,
+    known: &Known,
+    tree: &Option<Expr>,
+) -> Result<Option<CoreExpr>, CheckError>
+    ensures value { Judges (option_map node_of) result (judge_if_some (scene_of known.now) Nothing (option_map tree_of tree.now)) }
+{
+    match tree {
+        Some(tree) => Ok(Some(judge_exp(alloc, known, true, None, tree)?)),
+        None => Ok(None),
+    }
+}
+
+// A test that may be missing is a truth value where it is there.
+pub fn test_if_some(tree: &Option<Expr>, node: &Option<CoreExpr>) -> Result<(), CheckError>
+    ensures value { Judges (λ x. x) result (test_if_some (option_map tree_of tree.now) (option_map node_of node.now)) }
+{
+    match (tree, node) {
+        (Some(tree), Some(node)) => test(tree, node),
+        _ => Ok(()),
+    }
+}
+
+// `return;` outside functions, and `return e;` inside.
+pub fn judge_return(
+    alloc: Global,
+    known: &Known,
+    place: Place,
+    result_type: Option<&Ty>,
+    tree: &Option<Expr>,
+) -> Result<CoreStmt, CheckError>
+    ensures value { Judges stm_of result (judge_return (scene_of known.now) place (asked_of result_type.entry) (option_map tree_of tree.now)) }
+{
+    match (result_type, tree) {
+        (None, None) => Ok(CoreStmt::EndRecord(place)),
+        (Some(ty), Some(tree)) => {
+            let node = judge_exp(alloc, known, true, Some(ty), tree)?;
+            agrees(Some(ty), tree, &node)?;
+            Ok(CoreStmt::Return(place, node))
+        }
+        _ => Err(at(15, place)),
+    }
+}

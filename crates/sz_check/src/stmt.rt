@@ -1,0 +1,285 @@
+//! Statements.
+ghost use Rattle.std.specs.Prelude.{◌≡◌, ◌∷◌, [], true, IfOk, map as each};
+ghost use Rattle.std.specs.Option.{option_map};
+ghost use Rattle.sz_tree.specs.Statements.{stms_of, block, if_only, while, do_while};
+ghost use Rattle.sz_tree.specs.View.{tree_of, stm_of, simple_of, first_of};
+ghost use Rattle.sz_core.specs.Statements.{block as core_block, stms_of as core_stms_of};
+ghost use Rattle.sz_core.specs.View.{stm_of as core_stm_of};
+ghost use Rattle.sz_check.specs.JudgingStatements.{judge_stm, judge_stms};
+ghost use Rattle.sz_check.specs.Holding.{outer_of, scene_of};
+ghost use Rattle.sz_check.specs.Behind.{behind_of, all_behind_of, around_of, judge_inside, judge_turns, judge_for};
+ghost use Rattle.sz_check.specs.Outcome.{Judges};
+
+use crate::emitted::judge_emit;
+use crate::error::{CheckError, at};
+use crate::expr::judge_exp;
+use crate::known::Known;
+use crate::operator::test;
+use crate::simple::{
+    judge_between, judge_declaration, judge_definition, judge_first, judge_initialised,
+    judge_return, judge_simple, judge_test, nothing, test_if_some,
+};
+use std::alloc::{AllocError, Global};
+use sz_core::CoreStmt;
+use sz_tree::{Expr, First, Simple, Stmt};
+use sz_types::{Place, Ty};
+
+// Where a statement stands: the type of the function's result, if it is in one, and whether `break` and `continue` have a loop
+// to reach.
+#[derive(Clone, Copy)]
+pub struct Around<'t> {
+    pub result: Option<&'t Ty>,
+    pub in_loop: bool,
+}
+
+impl<'t> Around<'t> {
+    // The same inside a loop.
+    fn inside_loop(self) -> Around<'t>
+        ensures value { result ≡ record self.entry { in_loop = true } }
+    {
+        Around {
+            result: self.result,
+            in_loop: true,
+        }
+    }
+}
+
+// The statement.
+#[cycle(stmt)]
+#[tactic(auto, using(crate::proofs::StatementParts::for_is, crate::proofs::StatementParts::empty_is, crate::proofs::StatementParts::declare_is, crate::proofs::StatementParts::initialised_is, crate::proofs::StatementParts::define_is, crate::proofs::StatementParts::static_is, crate::proofs::StatementParts::typedef_is, crate::proofs::StatementParts::table_is, crate::proofs::StatementParts::nested_is, crate::proofs::StatementParts::simple_is, crate::proofs::StatementParts::break_is, crate::proofs::StatementParts::continue_is, crate::proofs::StatementParts::return_is, crate::proofs::StatementParts::emitting_is, crate::proofs::StatementParts::when_is, crate::proofs::StatementParts::done_is))]
+pub fn judge_stm(
+    alloc: Global,
+    known: &mut Known,
+    around: Around<'_>,
+    tree: &Stmt,
+) -> Result<CoreStmt, CheckError>
+    ensures value { Judges (λ s. behind_of known.new s) result (judge_stm (around_of around.entry) (scene_of known.old) (stm_of tree.now)) }
+    ensures outer { IfOk result (λ _. outer_of known.new ≡ outer_of known.old) }
+{
+    match tree {
+        Stmt::Empty(_) => Ok(nothing(alloc)),
+        Stmt::Block(place, trees) => { judge_block(alloc, known, around, *place, trees.as_slice()) }
+        Stmt::Declare(name, of, None) => judge_declaration(alloc, known, name, of),
+        Stmt::Declare(name, of, Some(value)) => judge_initialised(alloc, known, name, of, value),
+        Stmt::Define(name, value) => judge_definition(alloc, known, name, value),
+        Stmt::Static(place, _, _, _) | Stmt::Type(place, _, _) => Err(at(15, *place)),
+        Stmt::Table(name, _) | Stmt::Function(name, _, _, _) => Err(at(15, name.place())),
+        Stmt::Simple(tree) => judge_simple(alloc, known, tree),
+        Stmt::If(place, test, taken, None) => {
+            judge_if_only(alloc, known, around, *place, taken, test)
+        }
+        Stmt::If(_, _, _, Some(_)) => judge_if_else(alloc, known, around, tree),
+        Stmt::While(place, test, body) => judge_while(alloc, known, around, *place, body, test),
+        Stmt::DoWhile(place, body, test) => {
+            judge_do_while(alloc, known, around, *place, body, test)
+        }
+        Stmt::For(place, first, test, between, body) => {
+            judge_for(alloc, known, around, *place, body, first, test, between)
+        }
+        Stmt::Break(place) if !around.in_loop => Err(at(15, *place)),
+        Stmt::Continue(place) if !around.in_loop => Err(at(15, *place)),
+        Stmt::Break(_) => Ok(CoreStmt::Break),
+        Stmt::Continue(_) => Ok(CoreStmt::Continue),
+        Stmt::Return(place, value) => judge_return(alloc, known, *place, around.result, value),
+        Stmt::Emit(place, name, indexes, value, weight) => {
+            judge_emit(
+                alloc,
+                known,
+                *place,
+                name,
+                indexes.as_slice(),
+                value,
+                weight,
+            )
+        }
+        Stmt::When(place, _, _, _) => Err(at(23, *place)),
+    }
+}
+
+// A part statement, which is judged in a block of its own.
+#[cycle(stmt)]
+fn judge_inside(
+    alloc: Global,
+    known: &mut Known,
+    around: Around<'_>,
+    tree: &Stmt,
+) -> Result<CoreStmt, CheckError>
+    ensures value { Judges (λ s. behind_of known.new s) result (judge_inside (around_of around.entry) (scene_of known.old) (stm_of tree.now)) }
+    ensures outer { IfOk result (λ _. outer_of known.new ≡ outer_of known.old) }
+{
+    known.open(alloc)?;
+    let statement = judge_stm(alloc, known, around, tree)?;
+    known.close();
+    Ok(statement)
+}
+
+#[cycle(stmt)]
+#[tactic(auto, unfolding(crate::specs::JudgingStatements::judge_stm))]
+fn judge_block(
+    alloc: Global,
+    known: &mut Known,
+    around: Around<'_>,
+    place: Place,
+    trees: &[Stmt],
+) -> Result<CoreStmt, CheckError>
+    ensures value { Judges (λ s. behind_of known.new s) result (judge_stm (around_of around.entry) (scene_of known.old) (block place (stms_of (each stm_of trees.now)))) }
+    ensures outer { IfOk result (λ _. outer_of known.new ≡ outer_of known.old) }
+{
+    known.open(alloc)?;
+    let statements = judge_stms(alloc, known, around, trees)?;
+    known.close();
+    Ok(CoreStmt::block(statements))
+}
+
+// Statements in order.
+#[cycle(stmt)]
+pub fn judge_stms(
+    alloc: Global,
+    known: &mut Known,
+    around: Around<'_>,
+    trees: &[Stmt],
+) -> Result<Vec<CoreStmt>, CheckError>
+    ensures value { Judges (λ ss. all_behind_of known.new ss.items) result (judge_stms (around_of around.entry) (scene_of known.old) (stms_of (each stm_of trees.now))) }
+    ensures outer { IfOk result (λ _. outer_of known.new ≡ outer_of known.old) }
+{
+    let mut statements = Vec::new(alloc);
+    for tree in trees {
+        let statement = judge_stm(alloc, known, around, tree)?;
+        statements.push(statement)?;
+    }
+    Ok(statements)
+}
+
+#[cycle(stmt)]
+#[tactic(auto, unfolding(crate::specs::JudgingStatements::judge_stm))]
+fn judge_if_only(
+    alloc: Global,
+    known: &mut Known,
+    around: Around<'_>,
+    place: Place,
+    taken: &Stmt,
+    condition: &Expr,
+) -> Result<CoreStmt, CheckError>
+    ensures value { Judges (λ s. behind_of known.new s) result (judge_stm (around_of around.entry) (scene_of known.old) (if_only place (tree_of condition.now) (stm_of taken.now))) }
+    ensures outer { IfOk result (λ _. outer_of known.new ≡ outer_of known.old) }
+{
+    let node = judge_exp(alloc, known, true, None, condition)?;
+    let taken = judge_inside(alloc, known, around, taken)?;
+    test(condition, &node)?;
+    let (taken, other) = (Box::new(alloc, taken)?, Box::new(alloc, nothing(alloc))?);
+    Ok(CoreStmt::Branch(place, node, taken, other))
+}
+
+// A statement with several parts is handed on whole: its height bounds the depth of the calls. No other tree comes here.
+#[cycle(stmt)]
+#[tactic(auto, unfolding(crate::specs::JudgingStatements::judge_stm))]
+fn judge_if_else(
+    alloc: Global,
+    known: &mut Known,
+    around: Around<'_>,
+    tree: &Stmt,
+) -> Result<CoreStmt, CheckError>
+    ensures value { Judges (λ s. behind_of known.new s) result (judge_stm (around_of around.entry) (scene_of known.old) (stm_of tree.now)) }
+    ensures outer { IfOk result (λ _. outer_of known.new ≡ outer_of known.old) }
+{
+    let Stmt::If(place, condition, taken, Some(other)) = tree else {
+        return Err(CheckError::NoMemory);
+    };
+    let node = judge_exp(alloc, known, true, None, condition)?;
+    let taken = judge_inside(alloc, known, around, taken)?;
+    let other = judge_inside(alloc, known, around, other)?;
+    test(condition, &node)?;
+    let (taken, other) = (Box::new(alloc, taken)?, Box::new(alloc, other)?);
+    Ok(CoreStmt::Branch(*place, node, taken, other))
+}
+
+#[cycle(stmt)]
+#[tactic(auto, unfolding(crate::specs::JudgingStatements::judge_stm))]
+fn judge_while(
+    alloc: Global,
+    known: &mut Known,
+    around: Around<'_>,
+    place: Place,
+    body: &Stmt,
+    condition: &Expr,
+) -> Result<CoreStmt, CheckError>
+    ensures value { Judges (λ s. behind_of known.new s) result (judge_stm (around_of around.entry) (scene_of known.old) (while place (tree_of condition.now) (stm_of body.now))) }
+    ensures outer { IfOk result (λ _. outer_of known.new ≡ outer_of known.old) }
+{
+    let node = judge_exp(alloc, known, true, None, condition)?;
+    let body = judge_inside(alloc, known, around.inside_loop(), body)?;
+    test(condition, &node)?;
+    Ok(CoreStmt::While(place, node, Box::new(alloc, body)?))
+}
+
+#[cycle(stmt)]
+#[tactic(auto, unfolding(crate::specs::JudgingStatements::judge_stm))]
+fn judge_do_while(
+    alloc: Global,
+    known: &mut Known,
+    around: Around<'_>,
+    place: Place,
+    body: &Stmt,
+    condition: &Expr,
+) -> Result<CoreStmt, CheckError>
+    ensures value { Judges (λ s. behind_of known.new s) result (judge_stm (around_of around.entry) (scene_of known.old) (do_while place (stm_of body.now) (tree_of condition.now))) }
+    ensures outer { IfOk result (λ _. outer_of known.new ≡ outer_of known.old) }
+{
+    let body = judge_inside(alloc, known, around.inside_loop(), body)?;
+    let node = judge_exp(alloc, known, true, None, condition)?;
+    test(condition, &node)?;
+    Ok(CoreStmt::DoWhile(place, Box::new(alloc, body)?, node))
+}
+
+// Two statements in a block.
+fn joined(alloc: Global, first: CoreStmt, second: CoreStmt) -> Result<CoreStmt, AllocError>
+    ensures value { IfOk result (λ made. core_stm_of made ≡ core_block (core_stms_of (core_stm_of first ∷ core_stm_of second ∷ []))) }
+{
+    let mut statements = Vec::new(alloc);
+    statements.push(first)?;
+    statements.push(second)?;
+    Ok(CoreStmt::block(statements))
+}
+
+// What a `for` does behind its first part.
+#[cycle(stmt)]
+fn judge_turns(
+    alloc: Global,
+    known: &mut Known,
+    around: Around<'_>,
+    place: Place,
+    body: &Stmt,
+    condition: &Option<Expr>,
+    between: &Option<Simple>,
+) -> Result<CoreStmt, CheckError>
+    ensures value { Judges (λ s. behind_of known.new s) result (judge_turns (around_of around.entry) (scene_of known.old) place (option_map tree_of condition.now) (option_map simple_of between.now) (stm_of body.now)) }
+    ensures outer { IfOk result (λ _. outer_of known.new ≡ outer_of known.old) }
+{
+    let node = judge_test(alloc, known, condition)?;
+    let step = judge_between(alloc, known, between)?;
+    let body = judge_inside(alloc, known, around.inside_loop(), body)?;
+    test_if_some(condition, &node)?;
+    let (step, body) = (Box::new(alloc, step)?, Box::new(alloc, body)?);
+    Ok(CoreStmt::For(place, node, step, body))
+}
+
+#[cycle(stmt)]
+fn judge_for(
+    alloc: Global,
+    known: &mut Known,
+    around: Around<'_>,
+    place: Place,
+    body: &Stmt,
+    first: &Option<First>,
+    condition: &Option<Expr>,
+    between: &Option<Simple>,
+) -> Result<CoreStmt, CheckError>
+    ensures value { Judges (λ s. behind_of known.new s) result (judge_for (around_of around.entry) (scene_of known.old) place (option_map first_of first.now) (option_map tree_of condition.now) (option_map simple_of between.now) (stm_of body.now)) }
+    ensures outer { IfOk result (λ _. outer_of known.new ≡ outer_of known.old) }
+{
+    known.open(alloc)?;
+    let start = judge_first(alloc, known, first)?;
+    let turns = judge_turns(alloc, known, around, place, body, condition, between)?;
+    known.close();
+    Ok(joined(alloc, start, turns)?)
+}

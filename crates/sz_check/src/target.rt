@@ -1,0 +1,160 @@
+//! Paths: what is assigned to.
+ghost use Rattle.std.specs.Prelude.{◌≡◌, IfOk, map as each};
+ghost use Rattle.sz_types.specs.Seen.{seen};
+ghost use Rattle.sz_tree.specs.View.{tree_of, step_of};
+ghost use Rattle.sz_core.specs.View.{node_of, step_of as core_step_of};
+ghost use Rattle.sz_check.specs.JudgingPaths.{target_of, stepped, indexed, judge_steps, judge_path};
+ghost use Rattle.sz_check.specs.Holding.{means_of, scene_of};
+ghost use Rattle.sz_check.specs.Targets.{target_seen, into_string, judge_step, path_form};
+ghost use Rattle.sz_check.specs.Outcome.{Judges};
+
+use crate::agree::agrees;
+use crate::error::{CheckError, at, of};
+use crate::expr::judge_exp;
+use crate::kind::{Kind, type_kind};
+use crate::known::Known;
+use crate::meaning::Means;
+use crate::path::{field_in, whole};
+use crate::text::small;
+use std::alloc::{AllocError, Global};
+use sz_core::{CoreExpr, CoreStep};
+use sz_tree::{Expr, Name, Step};
+use sz_types::{Place, Ty, copy_ty};
+
+// Where a path has come to: the number of its variable, the steps so far, the type of what is there, and whether it can be
+// assigned to.
+#[derive(Drop)]
+pub struct Target {
+    pub local: u32,
+    pub steps: Vec<CoreStep>,
+    pub ty: Ty,
+    pub assignable: bool,
+}
+
+// Where a path begins.
+fn target_of(alloc: Global, name: &Name, means: Means<'_>) -> Result<Target, CheckError>
+    ensures value { Judges target_seen result (target_of name.now (means_of means.entry)) }
+{
+    let (local, ty, assignable) = match means {
+        Means::Variable(number, ty) => (number, copy_ty(alloc, ty)?, true),
+        Means::Static(number, ty) => (number, copy_ty(alloc, ty)?, false),
+        Means::Input => (0, Ty::Bytes, false),
+        _ => return Err(of(alloc, 8, name)),
+    };
+    Ok(Target {
+        local,
+        steps: Vec::new(alloc),
+        ty,
+        assignable,
+    })
+}
+
+// One step on, to a value of this type.
+fn stepped(target: Target, step: CoreStep, ty: Ty) -> Result<Target, AllocError>
+    ensures value { IfOk result (λ made. target_seen made ≡ stepped (target_seen target) (core_step_of step) (seen ty)) }
+{
+    let mut steps = target.steps;
+    steps.push(step)?;
+    Ok(Target {
+        local: target.local,
+        steps,
+        ty,
+        assignable: target.assignable,
+    })
+}
+
+// A step into a string, where nothing can be assigned.
+fn into_string(target: Target, node: CoreExpr) -> Result<Target, AllocError>
+    ensures value { IfOk result (λ made. target_seen made ≡ into_string (target_seen target) (node_of node)) }
+{
+    let mut next = stepped(target, CoreStep::Index(node), Ty::Int)?;
+    next.assignable = false;
+    Ok(next)
+}
+
+// A step by an index: to an element, to the value of a key, or into a string.
+fn indexed(
+    alloc: Global,
+    place: Place,
+    target: Target,
+    tree: &Expr,
+    node: CoreExpr,
+) -> Result<Target, CheckError>
+    ensures value { Judges target_seen result (indexed place (target_seen target) (seen target.ty) (tree_of tree.now) (node_of node)) }
+{
+    match type_kind(&target.ty) {
+        Kind::Array(element) => {
+            whole(tree, &node)?;
+            let ty = copy_ty(alloc, element)?;
+            Ok(stepped(target, CoreStep::Index(node), ty)?)
+        }
+        Kind::Map(key, value) => {
+            agrees(Some(key), tree, &node)?;
+            let ty = copy_ty(alloc, value)?;
+            Ok(stepped(target, CoreStep::Index(node), ty)?)
+        }
+        Kind::Str | Kind::Bytes => {
+            whole(tree, &node)?;
+            Ok(into_string(target, node)?)
+        }
+        _ => Err(at(9, place)),
+    }
+}
+
+// The next step of a path that begins at this place.
+fn judge_step(
+    alloc: Global,
+    known: &Known,
+    place: Place,
+    target: Target,
+    step: &Step,
+) -> Result<Target, CheckError>
+    ensures value { Judges target_seen result (judge_step (scene_of known.now) place (target_seen target) (step_of step.now)) }
+{
+    match step {
+        Step::Index(tree) => {
+            let node = judge_exp(alloc, known, true, None, tree)?;
+            indexed(alloc, place, target, tree, node)
+        }
+        Step::Field(name) => {
+            let (number, ty) = field_in(alloc, place, &target.ty, name)?;
+            let (number, ty) = (small(number)?, copy_ty(alloc, ty)?);
+            Ok(stepped(target, CoreStep::Field(number), ty)?)
+        }
+    }
+}
+
+// The steps of a path that begins at this place, one after the other.
+fn judge_steps(
+    alloc: Global,
+    known: &Known,
+    place: Place,
+    first: Target,
+    steps: &[Step],
+) -> Result<Target, CheckError>
+    ensures value { Judges target_seen result (judge_steps (scene_of known.now) place (target_seen first) (each step_of steps.now)) }
+{
+    let mut target = first;
+    for step in steps {
+        let next = judge_step(alloc, known, place, target, step)?;
+        target = next;
+    }
+    Ok(target)
+}
+
+// A path, as a whole.
+pub fn judge_path(
+    alloc: Global,
+    known: &Known,
+    name: &Name,
+    steps: &[Step],
+) -> Result<Target, CheckError>
+    ensures value { Judges target_seen result (judge_path (scene_of known.now) (path_form name.now (each step_of steps.now))) }
+{
+    let first = target_of(alloc, name, known.look_up(alloc, name)?)?;
+    let target = judge_steps(alloc, known, name.place(), first, steps)?;
+    if !target.assignable {
+        return Err(of(alloc, 14, name));
+    }
+    Ok(target)
+}
