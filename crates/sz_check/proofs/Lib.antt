@@ -27,6 +27,4 @@ mod StatementParts
 mod StatementLoops
 mod ProgramLemmas
 mod EmitLemmas
-mod FunctionLemmas
 mod TableLemmas
-mod KnownLemmas

@@ -19,7 +19,6 @@ use Rattle.sz_core.specs.Statements.{Stm, with_stm, stms_of}
 use Rattle.sz_core.specs.declared.stmt.CoreStmt.{CoreStmt}
 use Rattle.sz_core.specs.View.{stm_of, node_of}
 use Rattle.sz_check.specs.declared.emitted.Parts.{Parts}
-use Rattle.sz_check.specs.declared.known.Known.{Known}
 use Rattle.sz_check.specs.declared.stmt.Around.{Around as Standing}
 use Rattle.sz_check.specs.Refusals.{Judged, ◌>>=◌, unless, wrong_weight}
 use Rattle.sz_check.specs.Names.{look_up}
@@ -29,10 +28,10 @@ use Rattle.sz_check.specs.Scenes.{Behind, AllBehind, Scene, opened, closed, judg
 use Rattle.sz_check.specs.JudgingSimple.{Numbered, judge_first, judge_between, test_if_some, table_named, weight_agrees}
 use Rattle.sz_check.specs.JudgingStatements.{Around, in_block, in_loop, same_presence, judge_stm}
 use Rattle.sz_check.specs.Asking.{asked_of}
-use Rattle.sz_check.specs.Holding.{scene_of}
+use Rattle.sz_check.specs.Holding.{Held, scene_of}
 
 -- a checked statement, and what is known behind it
-abbrev pub behind_of : Known → CoreStmt → Behind
+abbrev pub behind_of : Held → CoreStmt → Behind
 behind_of k s = record { scene = scene_of k; stm = stm_of s }
 
 -- a table by its number
@@ -45,7 +44,7 @@ change_row Add = sum_row
 change_row _ = difference_row
 
 -- checked statements, and what is known behind them
-abbrev pub all_behind_of : Known → List CoreStmt → AllBehind
+abbrev pub all_behind_of : Held → List CoreStmt → AllBehind
 all_behind_of k ss = record { scene = scene_of k; stms = stms_of (map stm_of ss) }
 
 -- a statement in front of others

@@ -19,7 +19,7 @@ use Rattle.sz_check.specs.JudgingComposites.{made_list}
 abbrev pub callee_seen : Called → Callee
 callee_seen (called.Declared n s) = declared n (signature_of s.now)
 callee_seen (called.Predeclared b) = predeclared b
-callee_seen (called.Conversion t) = conversion (seen t.now)
+callee_seen (called.Conversion t) = conversion (seen t)
 
 -- a slice, which has the type of what it is cut from
 abbrev pub slice_node : Place → Node → Node → Node → Node

@@ -2,9 +2,9 @@
 use Rattle.std.specs.Prelude.{ℕ, List, [], ◌∷◌, ◌++◌, length, Bool, false, Ok}
 use Rattle.sz_types.specs.Data.{Shape}
 use Rattle.sz_tree.specs.Names.{Ident}
-use Rattle.sz_tree.specs.Statements.{Stms}
-use Rattle.sz_tree.specs.Types.{Typ, Params}
-use Rattle.sz_core.specs.Statements as core
+use Rattle.sz_tree.specs.Statements.{Stms as Trees}
+use Rattle.sz_tree.specs.Types.{Typ, Params, no_params, param}
+use Rattle.sz_core.specs.Statements.{Stms}
 use Rattle.sz_core.specs.Programs.{Signature}
 use Rattle.sz_core.specs.Programs as items
 use Rattle.sz_core.specs.Emitting.{body_emits}
@@ -12,51 +12,54 @@ use Rattle.sz_check.specs.Refusals.{Judged, ◌>>=◌}
 use Rattle.sz_check.specs.Names.{Block, only, is_seen_by_functions}
 use Rattle.sz_check.specs.Names as names
 use Rattle.sz_check.specs.JudgingTypes.{judge_type}
-use Rattle.sz_check.specs.Scenes.{Scene, AllBehind}
+use Rattle.sz_check.specs.Scenes.{Scene, with_variable}
 use Rattle.sz_check.specs.JudgingStatements.{judge_stms}
-use Rattle.sz_check.specs.JudgingPrograms.{Known, Found, blocks_of, with_blocks, judge_parameters, innermost_on, in_function}
+use Rattle.sz_check.specs.JudgingPrograms.{Known, Found, blocks_of, with_blocks, judge_parameters, in_function}
 
--- what a function's parameters see
-abbrev pub front_of : Known → Scene
-front_of k = record { blocks = [] ∷ only is_seen_by_functions (blocks_of k); locals = [] }
+-- what a function sees at first, with these blocks round it
+abbrev pub front_of : List Block → Scene
+front_of blocks = record { blocks = [] ∷ only is_seen_by_functions blocks; locals = [] }
 
--- the scene behind the parameters of a function, and its signature, as long as it isn't known whether it emits
-pub record Header : Type 0 where
-  pub front : Scene
-  pub signature : Signature
-
-abbrev pub header_with : Scene → Shape → Header
-header_with front u = record { front = front; signature = record { parameters = front.locals; result = u; emits = false } }
-
-abbrev pub judge_header : Known → Params → Typ → Judged Header
-judge_header k ps t = do
-  front ← judge_parameters (front_of k) ps
+-- the parameters and the result of a function, as long as it isn't known whether it emits
+abbrev pub judge_header : List Block → Params → Typ → Judged Signature
+judge_header blocks ps t = do
+  front ← judge_parameters (front_of blocks) ps
   u ← judge_type front.blocks t
-  Ok (header_with front u)
+  Ok (record { parameters = front.locals; result = u; emits = false })
 
--- where the statements of a function begin, with these blocks round it
-abbrev pub body_scene : Scene → List Block → Scene
-body_scene front own = record { blocks = innermost_on front.blocks (only is_seen_by_functions own); locals = front.locals }
+-- parameters whose types are known
+unfoldable pub declare_parameters : Scene → Params → List Shape → Judged Scene
+declare_parameters s (param n t ps) (u ∷ us) = do
+  next ← with_variable n u s
+  declare_parameters next ps us
+declare_parameters s ps us = Ok s
 
--- the statements of a function, which see its own name
-abbrev pub judge_body : Known → Ident → Header → Stms → Judged AllBehind
-judge_body k n h ss = do
-  own ← names.declare n (names.function (length k.functions) h.signature) (blocks_of k)
-  judge_stms (in_function h.signature.result) (body_scene h.front own) ss
+-- the types of a function's variables by number, and its statements
+pub record Body : Type 0 where
+  pub locals : List Shape
+  pub statements : Stms
+
+-- the statements of a function, with these blocks round it, which have its own name
+abbrev pub judge_body : List Block → Params → Signature → Trees → Judged Body
+judge_body blocks ps s ss = do
+  front ← declare_parameters (front_of blocks) ps s.parameters
+  body ← judge_stms (in_function s.result) front ss
+  Ok (record { locals = body.scene.locals; statements = body.stms })
 
 -- what the statements of a function make of it
-abbrev pub finished : Known → Ident → Signature → AllBehind → Judged Found
+abbrev pub finished : Known → Ident → Signature → Body → Judged Found
 finished k n unknown body = do
-  let signature : Signature = record unknown { emits = body_emits k.functions body.stms }
+  let signature : Signature = record unknown { emits = body_emits k.functions body.statements }
   blocks ← names.declare n (names.function (length k.functions) signature) (blocks_of k)
   Ok (record {
     known = record (with_blocks k blocks) { functions = k.functions ++ signature ∷ [] };
-    items = items.function (record { signature = signature; locals = body.scene.locals; body = body.stms }) ∷ [];
+    items = items.function (record { signature = signature; locals = body.locals; body = body.statements }) ∷ [];
   })
 
 -- a function, by its parts
-abbrev pub judge_function_by_parts : Known → Ident → Params → Typ → Stms → Judged Found
+abbrev pub judge_function_by_parts : Known → Ident → Params → Typ → Trees → Judged Found
 judge_function_by_parts k n ps t ss = do
-  h ← judge_header k ps t
-  body ← judge_body k n h ss
-  finished k n h.signature body
+  unknown ← judge_header (blocks_of k) ps t
+  own ← names.declare n (names.function (length k.functions) unknown) (blocks_of k)
+  body ← judge_body own ps unknown ss
+  finished k n unknown body

@@ -17,7 +17,10 @@ pub mod Example
 pub mod Outcome
 -- what the functions inside the crate promise each other
 pub mod Kinds
+pub mod Written
 pub mod Holding
+pub mod KnownCode
+pub mod Keeping
 pub mod Asking
 pub mod Lists
 pub mod Calling
@@ -25,7 +28,6 @@ pub mod Operating
 pub mod Parts
 pub mod Targets
 pub mod Behind
-pub mod Lending
 pub mod Top
 pub mod Functions
 pub mod FunctionParts

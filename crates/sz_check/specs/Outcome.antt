@@ -7,7 +7,7 @@ use Rattle.sz_check.specs.Refusals.{Judged}
 
 -- the judgement is this refusal, unless memory ran out
 abbrev pub Stops : {Y : Type 0} → CheckError → Judged Y → Type 0
-Stops (errors.Refused n p name) judged = judged ≡ Err (record { number = n; place = p; name = option_map (λ bytes. bytes.items) name })
+Stops (errors.Refused n p name) judged = judged ≡ Err (record { number = n; place = p; name = name })
 Stops errors.NoMemory judged = Unit {0}
 
 -- the result, seen by view, is the judgement, unless memory ran out

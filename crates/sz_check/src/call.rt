@@ -41,11 +41,11 @@ pub fn variable_node(alloc: Global, name: &Name, means: Means<'_>) -> Result<Cor
 }
 
 // What can be called: a declared function by its number, a predeclared one, or a type by whose name a value is converted.
-#[derive(Clone, Copy)]
+#[derive(Drop)]
 pub enum Callee<'k> {
     Declared(u32, &'k Signature),
     Predeclared(Builtin),
-    Conversion(&'k Ty),
+    Conversion(Ty),
 }
 
 // What the name calls.
@@ -55,14 +55,14 @@ pub fn callee_of<'k>(alloc: Global, name: &Name, means: Means<'k>) -> Result<Cal
     match means {
         Means::Function(number, signature) => Ok(Callee::Declared(number, signature)),
         Means::Predeclared(builtin) => Ok(Callee::Predeclared(builtin)),
-        Means::Type(ty) => Ok(Callee::Conversion(ty)),
+        Means::Type(named) => Ok(Callee::Conversion(named.write_out(alloc)?)),
         _ => Err(of(alloc, 8, name)),
     }
 }
 
 // What a callee asks of its arguments.
-pub fn asks_of_callee(callee: Callee<'_>) -> Asks<'_>
-    ensures value { asks_of result ≡ asks_of_callee (callee_seen callee.entry) }
+pub fn asks_of_callee<'k>(callee: &Callee<'k>) -> Asks<'k>
+    ensures value { asks_of result ≡ asks_of_callee (callee_seen callee.now) }
 {
     match callee {
         Callee::Declared(_, signature) => Asks::Types(signature.parameters.as_slice()),
@@ -254,6 +254,6 @@ pub fn made_call(
             declared_call(alloc, may_emit, name, number, signature, trees, nodes)
         }
         Callee::Predeclared(function) => predeclared_call(alloc, name, function, trees, nodes),
-        Callee::Conversion(ty) => conversion_call(alloc, name, ty, trees, nodes),
+        Callee::Conversion(ty) => conversion_call(alloc, name, &ty, trees, nodes),
     }
 }

@@ -132,7 +132,7 @@ pub fn judge_emit(
 ) -> Result<CoreStmt, CheckError>
     ensures value { Judges stm_of result (judge_emit_by_parts (scene_of known.now) place name.now (exps_of (each tree_of indexes.now)) (tree_of value.now) (option_map tree_of weight.now)) }
 {
-    let (number, table) = table_named(alloc, name, known.look_up(alloc, name)?)?;
+    let (number, table) = table_named(alloc, name, known.look_up(alloc, true, name)?)?;
     let parts = judge_parts(alloc, known, table, indexes, value, weight)?;
     parts_fit(table, place, name.place(), indexes, value, weight, &parts)?;
     Ok(CoreStmt::Emit(place, number, parts.indexes, parts.value, parts.weight))

@@ -6,7 +6,7 @@ ghost use Rattle.sz_check.specs.declared.error.CheckError.TheVariants.{Refused a
 
 use std::alloc::{AllocError, AllocFailed, Global};
 use sz_tree::Name;
-use sz_types::Place;
+use sz_types::{Place, Text};
 
 /// Why `check` gives no program.
 #[derive(Debug, Drop)]
@@ -15,7 +15,7 @@ pub enum CheckError {
     Refused {
         number: u8,
         place: Place,
-        name: Option<Vec<u8>>,
+        name: Option<Text>,
     },
     /// Memory ran out.
     NoMemory,
@@ -58,7 +58,7 @@ pub fn at(number: u8, place: Place) -> CheckError
 pub fn of(alloc: Global, number: u8, name: &Name) -> CheckError
     ensures value { Stops {Y = Unit} result (refused_for number name.now) }
 {
-    match Vec::from_slice(alloc, name.text()) {
+    match Text::from_str(alloc, name.text().as_str()) {
         Ok(text) => CheckError::Refused {
             number,
             place: name.place(),

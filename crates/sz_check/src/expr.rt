@@ -7,7 +7,7 @@ ghost use Rattle.sz_core.specs.Nodes.{nodes_of, pairings_of};
 ghost use Rattle.sz_core.specs.View.{node_of, pairing_of};
 ghost use Rattle.sz_check.specs.JudgingExpressions.{judge_exp, judge_exps, judge_pairs};
 ghost use Rattle.sz_check.specs.Asking.{asks_of, asked_of};
-ghost use Rattle.sz_check.specs.Holding.{blocks_of};
+ghost use Rattle.sz_check.specs.Holding.{blocks_for};
 ghost use Rattle.sz_check.specs.Lists.{judge_pair};
 ghost use Rattle.sz_check.specs.Outcome.{Judges};
 
@@ -35,7 +35,7 @@ pub fn judge_exp(
     asked: Option<&Ty>,
     tree: &Expr,
 ) -> Result<CoreExpr, CheckError>
-    ensures value { Judges node_of result (judge_exp (blocks_of known.now) may_emit (asked_of asked.entry) (tree_of tree.now)) }
+    ensures value { Judges node_of result (judge_exp (blocks_for known.now may_emit) may_emit (asked_of asked.entry) (tree_of tree.now)) }
 {
     match tree {
         Expr::Literal(place, literal) => Ok(literal_node(alloc, *place, literal)?),
@@ -68,9 +68,9 @@ fn judge_named(
     may_emit: bool,
     name: &Name,
 ) -> Result<CoreExpr, CheckError>
-    ensures value { (asked : Option Shape) → Judges node_of result (judge_exp (blocks_of known.now) may_emit asked (named name.now)) }
+    ensures value { (asked : Option Shape) → Judges node_of result (judge_exp (blocks_for known.now may_emit) may_emit asked (named name.now)) }
 {
-    variable_node(alloc, name, known.look_up(alloc, name)?)
+    variable_node(alloc, name, known.look_up(alloc, may_emit, name)?)
 }
 
 #[cycle(expr)]
@@ -82,10 +82,10 @@ pub fn judge_call(
     name: &Name,
     arguments: &[Expr],
 ) -> Result<CoreExpr, CheckError>
-    ensures value { (asked : Option Shape) → Judges node_of result (judge_exp (blocks_of known.now) may_emit asked (call name.now (exps_of (each tree_of arguments.now)))) }
+    ensures value { (asked : Option Shape) → Judges node_of result (judge_exp (blocks_for known.now may_emit) may_emit asked (call name.now (exps_of (each tree_of arguments.now)))) }
 {
-    let callee = callee_of(alloc, name, known.look_up(alloc, name)?)?;
-    let nodes = judge_exps(alloc, known, may_emit, asks_of_callee(callee), arguments)?;
+    let callee = callee_of(alloc, name, known.look_up(alloc, may_emit, name)?)?;
+    let nodes = judge_exps(alloc, known, may_emit, asks_of_callee(&callee), arguments)?;
     made_call(alloc, may_emit, name, callee, arguments, nodes)
 }
 
@@ -98,7 +98,7 @@ fn judge_def(
     place: Place,
     tree: &Expr,
 ) -> Result<CoreExpr, CheckError>
-    ensures value { (asked : Option Shape) → Judges node_of result (judge_exp (blocks_of known.now) may_emit asked (def place (tree_of tree.now))) }
+    ensures value { (asked : Option Shape) → Judges node_of result (judge_exp (blocks_for known.now may_emit) may_emit asked (def place (tree_of tree.now))) }
 {
     let node = judge_exp(alloc, known, may_emit, None, tree)?;
     let form = Form::Def(Box::new(alloc, node)?);
@@ -119,7 +119,7 @@ fn judge_conversion(
     basic: BasicType,
     tree: &Expr,
 ) -> Result<CoreExpr, CheckError>
-    ensures value { (asked : Option Shape) → Judges node_of result (judge_exp (blocks_of known.now) may_emit asked (convert place basic (tree_of tree.now))) }
+    ensures value { (asked : Option Shape) → Judges node_of result (judge_exp (blocks_for known.now may_emit) may_emit asked (convert place basic (tree_of tree.now))) }
 {
     let node = judge_exp(alloc, known, may_emit, None, tree)?;
     conversion_node(alloc, place, &basic_type(basic), tree, node)
@@ -135,7 +135,7 @@ fn judge_list(
     place: Place,
     trees: &[Expr],
 ) -> Result<CoreExpr, CheckError>
-    ensures value { Judges node_of result (judge_exp (blocks_of known.now) may_emit (asked_of asked.entry) (list place (exps_of (each tree_of trees.now)))) }
+    ensures value { Judges node_of result (judge_exp (blocks_for known.now may_emit) may_emit (asked_of asked.entry) (list place (exps_of (each tree_of trees.now)))) }
 {
     let nodes = judge_exps(alloc, known, may_emit, asks_of_list(asked, trees), trees)?;
     made_list(alloc, place, asked, trees, nodes)
@@ -151,7 +151,7 @@ fn judge_mapping(
     place: Place,
     trees: &[Pair],
 ) -> Result<CoreExpr, CheckError>
-    ensures value { Judges node_of result (judge_exp (blocks_of known.now) may_emit (asked_of asked.entry) (mapping place (pairs_of (each pair_of trees.now)))) }
+    ensures value { Judges node_of result (judge_exp (blocks_for known.now may_emit) may_emit (asked_of asked.entry) (mapping place (pairs_of (each pair_of trees.now)))) }
 {
     let (key, value) = (asked_of_keys(asked), asked_of_values(asked));
     let nodes = judge_pairs(alloc, known, may_emit, key, value, trees)?;
@@ -167,7 +167,7 @@ fn judge_index(
     may_emit: bool,
     tree: &Expr,
 ) -> Result<CoreExpr, CheckError>
-    ensures value { (asked : Option Shape) → Judges node_of result (judge_exp (blocks_of known.now) may_emit asked (tree_of tree.now)) }
+    ensures value { (asked : Option Shape) → Judges node_of result (judge_exp (blocks_for known.now may_emit) may_emit asked (tree_of tree.now)) }
 {
     let Expr::Index(place, part, key) = tree else {
         return Err(CheckError::NoMemory);
@@ -186,7 +186,7 @@ fn judge_slice(
     may_emit: bool,
     tree: &Expr,
 ) -> Result<CoreExpr, CheckError>
-    ensures value { (asked : Option Shape) → Judges node_of result (judge_exp (blocks_of known.now) may_emit asked (tree_of tree.now)) }
+    ensures value { (asked : Option Shape) → Judges node_of result (judge_exp (blocks_for known.now may_emit) may_emit asked (tree_of tree.now)) }
 {
     let Expr::Slice(place, part, from, to) = tree else {
         return Err(CheckError::NoMemory);
@@ -207,7 +207,7 @@ fn judge_field(
     tree: &Expr,
     name: &Name,
 ) -> Result<CoreExpr, CheckError>
-    ensures value { (asked : Option Shape) → Judges node_of result (judge_exp (blocks_of known.now) may_emit asked (field place (tree_of tree.now) name.now)) }
+    ensures value { (asked : Option Shape) → Judges node_of result (judge_exp (blocks_for known.now may_emit) may_emit asked (field place (tree_of tree.now) name.now)) }
 {
     let node = judge_exp(alloc, known, may_emit, None, tree)?;
     made_field(alloc, place, tree, node, name)
@@ -223,7 +223,7 @@ fn judge_unary(
     op: UnaryOp,
     tree: &Expr,
 ) -> Result<CoreExpr, CheckError>
-    ensures value { (asked : Option Shape) → Judges node_of result (judge_exp (blocks_of known.now) may_emit asked (unary place op (tree_of tree.now))) }
+    ensures value { (asked : Option Shape) → Judges node_of result (judge_exp (blocks_for known.now may_emit) may_emit asked (unary place op (tree_of tree.now))) }
 {
     let node = judge_exp(alloc, known, may_emit, None, tree)?;
     made_unary(alloc, place, op, tree, node)
@@ -238,7 +238,7 @@ fn judge_binary(
     may_emit: bool,
     tree: &Expr,
 ) -> Result<CoreExpr, CheckError>
-    ensures value { (asked : Option Shape) → Judges node_of result (judge_exp (blocks_of known.now) may_emit asked (tree_of tree.now)) }
+    ensures value { (asked : Option Shape) → Judges node_of result (judge_exp (blocks_for known.now may_emit) may_emit asked (tree_of tree.now)) }
 {
     let Expr::Binary(place, op, left, right) = tree else {
         return Err(CheckError::NoMemory);
@@ -258,7 +258,7 @@ pub fn judge_exps(
     asks: Asks<'_>,
     trees: &[Expr],
 ) -> Result<Vec<CoreExpr>, CheckError>
-    ensures value { Judges (λ made. nodes_of (each node_of made.items)) result (judge_exps (blocks_of known.now) may_emit (asks_of asks.entry) (exps_of (each tree_of trees.now))) }
+    ensures value { Judges (λ made. nodes_of (each node_of made.items)) result (judge_exps (blocks_for known.now may_emit) may_emit (asks_of asks.entry) (exps_of (each tree_of trees.now))) }
 {
     let mut nodes = Vec::new(alloc);
     let mut asks = asks;
@@ -280,7 +280,7 @@ fn judge_pair(
     value: Option<&Ty>,
     tree: &Pair,
 ) -> Result<CorePair, CheckError>
-    ensures value { Judges pairing_of result (judge_pair (blocks_of known.now) may_emit (asked_of key.entry) (asked_of value.entry) (pair_of tree.now)) }
+    ensures value { Judges pairing_of result (judge_pair (blocks_for known.now may_emit) may_emit (asked_of key.entry) (asked_of value.entry) (pair_of tree.now)) }
 {
     let key = judge_exp(alloc, known, may_emit, key, &tree.key)?;
     let value = judge_exp(alloc, known, may_emit, value, &tree.value)?;
@@ -297,7 +297,7 @@ fn judge_pairs(
     value: Option<&Ty>,
     trees: &[Pair],
 ) -> Result<Vec<CorePair>, CheckError>
-    ensures value { Judges (λ made. pairings_of (each pairing_of made.items)) result (judge_pairs (blocks_of known.now) may_emit (asked_of key.entry) (asked_of value.entry) (pairs_of (each pair_of trees.now))) }
+    ensures value { Judges (λ made. pairings_of (each pairing_of made.items)) result (judge_pairs (blocks_for known.now may_emit) may_emit (asked_of key.entry) (asked_of value.entry) (pairs_of (each pair_of trees.now))) }
 {
     let mut nodes = Vec::new(alloc);
     for tree in trees {

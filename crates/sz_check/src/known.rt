@@ -1,129 +1,102 @@
 //! What is known in front of a statement.
-ghost use Rattle.std.specs.Prelude.{◌≡◌, ◌∷◌, [], ℕ, List, length, IfOk, IfSome, IfNone};
+ghost use Rattle.std.specs.Prelude.{◌≡◌, ◌∷◌, [], length, IfOk};
+ghost use Rattle.sz_types.specs.Data.{Shape};
 ghost use Rattle.sz_types.specs.Seen.{seen};
-ghost use Rattle.sz_check.specs.Names.{Block, Named as NamedMeaning, look_up, declare, has, meaning_in, meaning_of as found_by};
+ghost use Rattle.sz_check.specs.Names.{Block, Named, look_up, declare, type_name};
 ghost use Rattle.sz_check.specs.Outcome.{Judges, Stops};
 ghost use Rattle.sz_check.specs.Refusals.{unseen};
 ghost use Rattle.sz_check.specs.Scenes.{opened, with_variable};
-ghost use Rattle.sz_check.specs.Holding.{meaning_of, means_of, named_of, block_of, blocks_in, outer_of, blocks_of, scene_of, maybe_means_of};
+ghost use Rattle.sz_check.specs.Holding.{at_first, meaning_of, means_of, Held, blocks_of, blocks_for, scene_of, outside_of, in_function, IsRoundFunction};
+ghost use Rattle.sz_check.specs.Written.{shape_in};
 
 use crate::error::{CheckError, of};
 use crate::meaning::{Meaning, Means};
-use crate::text::small;
+use crate::number::small;
+use crate::written::{NamedTypes, Written};
 use std::alloc::{AllocError, Global};
+use std::marker::Model;
 use std::mem;
+use sz_scope::{Scopes, Sight};
 use sz_tree::Name;
 use sz_types::{Ty, Tys, copy_ty};
 
-// A name with its meaning.
-#[derive(Drop)]
-pub struct Named {
-    pub name: Vec<u8>,
-    pub meaning: Meaning,
-}
-
-// The blocks that are open: what the innermost declares, the newest last, and those round it, the innermost last; and the types
-// of the routine's variables by number.
+// What is known in front of a statement: the blocks that are open, what each name in them means, and the types of the routine's
+// variables by number.
 #[derive(Drop)]
 pub struct Known {
-    pub innermost: Vec<Named>,
-    pub outer: Vec<Vec<Named>>,
-    pub locals: Tys,
+    // A name's meaning goes by its place among all meanings.
+    scopes: Scopes,
+    meanings: Vec<Meaning>,
+    types: NamedTypes,
+    sight: Sight,
+    locals: Tys,
 }
 
-// What the name stands for in a block.
-fn meaning_in<'k>(name: &[u8], block: &'k [Named]) -> Option<Means<'k>>
-    ensures value { maybe_means_of result ≡ meaning_in name.now (block_of block.now) }
-{
-    let mut found = None;
-    for named in block {
-        if named.name.as_slice() == name {
-            found = Some(named.meaning.means());
-        }
-    }
-    found
+// What a function leaves aside of what is known outside it.
+#[derive(Drop)]
+pub struct Aside {
+    sight: Sight,
+    locals: Tys,
 }
 
-// What the name stands for in blocks: the innermost that has it decides.
-fn meaning_outside<'k>(name: &[u8], blocks: &'k [Vec<Named>]) -> Option<Means<'k>>
-    ensures value { maybe_means_of result ≡ found_by name.now (blocks_in blocks.now) }
-{
-    let mut found = None;
-    for block in blocks {
-        found = meaning_in(name, block.as_slice()).or(found);
-    }
-    found
-}
+impl Model for Known {
+    ghost use Rattle.sz_check.specs.Holding.{Held};
+    ghost use Rattle.sz_check.specs.KnownCode.{held_code};
+    ghost use Rattle.sz_check.specs.Keeping.{blocks_by, held_of};
 
-// Whether a block has the name.
-fn has(name: &[u8], block: &[Named]) -> bool
-    ensures value { result ≡ has name.now (block_of block.now) }
-{
-    let mut found = false;
-    for named in block {
-        found = found || named.name.as_slice() == name;
-    }
-    found
-}
+    ghost Value = { Held };
 
-// Nothing that is seen has the name: it is unknown, or left out.
-fn unseen(alloc: Global, name: &Name) -> CheckError
-    ensures value { Stops {Y = Unit} result (unseen name.now) }
-{
-    let text = name.text();
-    let is_left_out = text == b"float".as_slice()
-        || text == b"fingerprint".as_slice()
-        || text == b"fingerprintof".as_slice()
-        || text == b"match".as_slice();
-    of(alloc, if is_left_out { 16 } else { 6 }, name)
-}
+    ghost coded = { held_code };
 
-// Takes out the innermost of some blocks.
-#[tactic(auto, using(crate::proofs::KnownLemmas::blocks_push))]
-fn pop_block(blocks: &mut Vec<Vec<Named>>) -> Option<Vec<Named>>
-    ensures some { IfSome result (λ b. blocks_in blocks.old.items ≡ block_of b.items ∷ blocks_in blocks.new.items) }
-    ensures none { IfNone result (blocks_in blocks.old.items ≡ []) }
-{
-    blocks.pop()
-}
-
-// Takes out the newest name of a block, if it has one.
-fn pop_name(block: &mut Vec<Named>)
-    ensures value { (n : NamedMeaning) (b : Block) → block_of block.old.items ≡ n ∷ b → block_of block.new.items ≡ b }
-{
-    let _named = block.pop();
+    ghost view = { λ k. held_of (blocks_by k.types k.meanings.items k.scopes) k.sight k.types k.locals };
 }
 
 impl Known {
-    // What the name stands for, if anything that is seen has it.
-    pub fn look_up(&self, alloc: Global, name: &Name) -> Result<Means<'_>, CheckError>
-        ensures value { Judges means_of result (look_up name.now (blocks_of self.now)) }
+    // The predeclared names, in a block round the program's own, which is empty.
+    pub fn predeclared(alloc: Global) -> Result<Known, AllocError>
+        ensures value { IfOk result (λ made. scene_of made ≡ at_first) }
     {
-        let inside = meaning_in(name.text(), self.innermost.as_slice());
-        match inside.or(meaning_outside(name.text(), self.outer.as_slice())) {
-            Some(means) => Ok(means),
-            None => Err(unseen(alloc, name)),
-        }
+        Err(AllocError)
+    }
+
+    // What the name stands for, if anything that is seen has it. The value of a static, which may call nothing that emits, sees
+    // less than a statement.
+    pub fn look_up(
+        &self,
+        alloc: Global,
+        may_emit: bool,
+        name: &Name,
+    ) -> Result<Means<'_>, CheckError>
+        ensures value { Judges means_of result (look_up name.now (blocks_for self.now may_emit)) }
+    {
+        Err(CheckError::NoMemory)
     }
 
     // A name more in the innermost block, which must not have it already.
-    #[tactic(auto, using(crate::proofs::KnownLemmas::block_push))]
     pub fn declare(
         &mut self,
         alloc: Global,
         name: &Name,
         meaning: Meaning,
     ) -> Result<(), CheckError>
-        ensures value { Judges (λ _. blocks_of self.new) result (declare name.now (meaning_of meaning) (blocks_of self.old)) }
-        ensures outer { self.new.outer ≡ self.old.outer }
+        ensures value { Judges (λ _. blocks_of self.new) result (declare name.now (meaning_of self.old.outside.types meaning) (blocks_of self.old)) }
+        ensures outside { self.new.outside ≡ self.old.outside }
         ensures locals { self.new.locals ≡ self.old.locals }
     {
-        if has(name.text(), self.innermost.as_slice()) {
-            return Err(of(alloc, 7, name));
-        }
-        let name = Vec::from_slice(alloc, name.text())?;
-        self.innermost.push(Named { name, meaning })?;
-        Ok(())
+        Err(CheckError::NoMemory)
+    }
+
+    // A type by its name, as it is written.
+    pub fn declare_type(
+        &mut self,
+        alloc: Global,
+        name: &Name,
+        written: Written,
+    ) -> Result<(), CheckError>
+        ensures value { Judges (λ _. blocks_of self.new) result (declare name.now (type_name (shape_in self.old.outside.types written)) (blocks_of self.old)) }
+        ensures locals { self.new.locals ≡ self.old.locals }
+    {
+        Err(CheckError::NoMemory)
     }
 
     // A variable more, which has the next number.
@@ -135,7 +108,7 @@ impl Known {
     ) -> Result<u32, CheckError>
         ensures value { Judges (λ _. scene_of self.new) result (with_variable name.now (seen ty) (scene_of self.old)) }
         ensures number { IfOk result (λ number. number ≡ length self.old.locals) }
-        ensures outer { self.new.outer ≡ self.old.outer }
+        ensures outside { self.new.outside ≡ self.old.outside }
     {
         let number = small(self.locals.len())?;
         let copy = copy_ty(alloc, &ty)?;
@@ -144,33 +117,57 @@ impl Known {
         Ok(number)
     }
 
-    // An empty block more, inside.
-    #[tactic(auto, using(crate::proofs::KnownLemmas::blocks_push))]
-    pub fn open(&mut self, alloc: Global) -> Result<(), AllocError>
-        ensures value { IfOk result (λ _. scene_of self.new ≡ opened (scene_of self.old)) }
-        ensures outer { IfOk result (λ _. outer_of self.new ≡ blocks_of self.old) }
-    {
-        let block = mem::replace(&mut self.innermost, Vec::new(alloc));
-        self.outer.push(block)?;
-        Ok(())
-    }
-
-    // The end of the innermost block. The variables inside keep their numbers.
-    pub fn close(&mut self)
-        ensures blocks { (b : Block) (bs : List Block) → outer_of self.old ≡ b ∷ bs → blocks_of self.new ≡ b ∷ bs }
-        ensures outer { (b : Block) (bs : List Block) → outer_of self.old ≡ b ∷ bs → outer_of self.new ≡ bs }
-        ensures locals { self.new.locals ≡ self.old.locals }
-    {
-        match pop_block(&mut self.outer) {
-            Some(block) => self.innermost = block,
-            None => {}
-        }
-    }
     // Takes the newest name out of the innermost block.
     pub fn undeclare(&mut self)
-        ensures value { (n : NamedMeaning) (b : Block) (bs : List Block) → blocks_of self.old ≡ (n ∷ b) ∷ bs → blocks_of self.new ≡ b ∷ bs }
-        ensures locals { self.new.locals ≡ self.old.locals }
+        ensures value { (n : Named) (b : Block) → self.old.innermost ≡ n ∷ b → self.new ≡ record self.old { innermost = b } }
+    {}
+
+    // An empty block more, inside.
+    pub fn open(&mut self) -> Result<(), AllocError>
+        ensures value { IfOk result (λ _. self.new ≡ record self.old { innermost = []; outside = outside_of self.old }) }
     {
-        pop_name(&mut self.innermost);
+        Err(AllocError)
+    }
+
+    // The end of the innermost block, if the routine opened it. The variables inside keep their numbers.
+    pub fn close(&mut self)
+        ensures value { (k : Held) → self.old.outside ≡ outside_of k → self.new ≡ record k { locals = self.old.locals } }
+    {}
+
+    // The block of a function inside the innermost one, with no variables yet; and what is to be put back behind the function.
+    pub fn enter_function(&mut self, alloc: Global) -> Result<Aside, AllocError>
+        ensures value { IfOk result (λ _. self.new ≡ in_function self.old) }
+        ensures aside { IfOk result (λ aside. (aside.sight ≡ self.old.outside.sight) × (aside.locals ≡ self.old.locals)) }
+    {
+        Err(AllocError)
+    }
+
+    // The end of a function's block, with the types of the function's variables.
+    pub fn leave_function(&mut self, aside: Aside) -> Tys
+        ensures value { (k : Held) → aside.sight ≡ k.outside.sight → aside.locals ≡ k.locals → IsRoundFunction k self.old → self.new ≡ k }
+        ensures locals { result ≡ self.old.locals }
+    {
+        aside.locals
+    }
+
+    // The types of the routine's variables.
+    pub fn locals(&self) -> &Tys
+        ensures value { result.now ≡ self.now.locals }
+    {
+        &self.locals
+    }
+
+    // The named types.
+    pub fn types(&self) -> &NamedTypes
+        ensures value { result.now ≡ self.now.outside.types }
+    {
+        &self.types
+    }
+
+    // The types of the record's variables.
+    pub fn into_locals(self) -> Tys
+        ensures value { result ≡ self.locals }
+    {
+        self.locals
     }
 }

@@ -4,7 +4,6 @@ ghost use Rattle.sz_tree.specs.View.{literal_of};
 ghost use Rattle.sz_core.specs.View.{node_of};
 ghost use Rattle.sz_check.specs.JudgingExpressions.{literal_node};
 
-use crate::text::string;
 use std::alloc::{AllocError, Global};
 use sz_core::{CoreExpr, Form};
 use sz_tree::Literal;
@@ -17,10 +16,10 @@ pub fn literal_node(alloc: Global, place: Place, literal: &Literal) -> Result<Co
 {
     let (ty, value) = match literal {
         Literal::Number(number) => (Ty::Int, Value::Int(*number)),
-        Literal::Str(bytes) => (
-            Ty::Str,
-            Value::Str(Text::from_string(string(alloc, bytes.as_slice())?)),
-        ),
+        Literal::Str(text) => {
+            let string = String::from_str(alloc, text.as_str())?;
+            (Ty::Str, Value::Str(Text::from_string(string)))
+        }
         Literal::Bytes(bytes) => {
             let octets = Octets::from_slice(alloc, bytes.as_slice())?;
             (Ty::Bytes, Value::Bytes(octets))

@@ -2,6 +2,7 @@
 ghost use Rattle.std.specs.Prelude.{◌≡◌};
 ghost use Rattle.sz_check.specs.Holding.{meaning_of, means_of};
 
+use crate::written::{NamedType, NamedTypes};
 use sz_core::Signature;
 use sz_types::{Builtin, TableDecl, Ty};
 
@@ -10,7 +11,7 @@ use sz_types::{Builtin, TableDecl, Ty};
 pub enum Meaning {
     Variable(u32, Ty),
     Static(u32, Ty),
-    Type(Ty),
+    Type(u32),
     Table(u32, TableDecl),
     Function(u32, Signature),
     Predeclared(Builtin),
@@ -22,7 +23,7 @@ pub enum Meaning {
 pub enum Means<'k> {
     Variable(u32, &'k Ty),
     Static(u32, &'k Ty),
-    Type(&'k Ty),
+    Type(NamedType<'k>),
     Table(u32, &'k TableDecl),
     Function(u32, &'k Signature),
     Predeclared(Builtin),
@@ -30,14 +31,17 @@ pub enum Means<'k> {
 }
 
 impl Meaning {
-    // Lends it.
-    pub fn means(&self) -> Means<'_>
-        ensures value { means_of result ≡ meaning_of self.now }
+    // Lends it, with the types by which the numbers of types go.
+    pub fn means<'k>(&'k self, types: &'k NamedTypes) -> Means<'k>
+        ensures value { means_of result ≡ meaning_of types.now self.now }
     {
         match self {
             Meaning::Variable(number, ty) => Means::Variable(*number, ty),
             Meaning::Static(number, ty) => Means::Static(*number, ty),
-            Meaning::Type(ty) => Means::Type(ty),
+            Meaning::Type(number) => Means::Type(NamedType {
+                types,
+                number: *number,
+            }),
             Meaning::Table(number, table) => Means::Table(*number, table),
             Meaning::Function(number, signature) => Means::Function(*number, signature),
             Meaning::Predeclared(builtin) => Means::Predeclared(*builtin),

@@ -15,8 +15,8 @@ ghost use Rattle.sz_check.specs.Outcome.{Judges};
 
 use crate::error::{CheckError, at, of};
 use crate::kind::{Kind, type_kind};
+use crate::number::small;
 use crate::rows::{alike, has_index, has_slices, index_row};
-use crate::text::small;
 use std::alloc::{AllocError, Global};
 use sz_core::{CoreExpr, Form};
 use sz_tree::{Expr, Name};
@@ -148,7 +148,7 @@ pub fn field_in<'t>(
     let (Kind::Tuple(fields) | Kind::Proto(fields)) = type_kind(ty) else {
         return Err(at(9, place));
     };
-    match field_named(name.text(), fields) {
+    match field_named(name.text().as_bytes(), fields) {
         Some(found) => Ok(found),
         None => Err(of(alloc, 11, name)),
     }

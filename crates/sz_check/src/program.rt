@@ -3,9 +3,7 @@ ghost use Rattle.std.specs.Prelude.{◌≡◌, ◌++◌, IfOk, map as each, None
 ghost use Rattle.sz_tree.specs.Statements.{stms_of};
 ghost use Rattle.sz_tree.specs.View.{tree_of, type_of, stm_of, program_of};
 ghost use Rattle.sz_core.specs.View.{item_of};
-ghost use Rattle.sz_check.specs.Names.{predeclared_names};
 ghost use Rattle.sz_check.specs.JudgingPrograms.{judge_static, judge_typedef, judge_statement, judge_top, judge_all, known_at_first, judge_program};
-ghost use Rattle.sz_check.specs.Holding.{meaning_of, named_of, block_of};
 ghost use Rattle.sz_check.specs.Top.{found_all, found_one, found_with, items_in, top_of, core_seen};
 ghost use Rattle.sz_check.specs.Outcome.{Judges};
 
@@ -13,17 +11,16 @@ use crate::agree::converted;
 use crate::error::CheckError;
 use crate::expr::judge_exp;
 use crate::function::judge_function;
-use crate::known::{Known, Named};
-use crate::lending::{Looker, seen_known};
+use crate::known::Known;
 use crate::meaning::Meaning;
 use crate::stmt::{Around, judge_stm};
 use crate::table::judge_table;
 use crate::top::Top;
-use crate::types::judge_type;
+use crate::types::{judge_type, judge_written};
 use std::alloc::{AllocError, Global};
 use sz_core::{Item, Program, Static};
 use sz_tree::{Expr, Name, Stmt, Tree, TypeTree};
-use sz_types::{Builtin, Place, Tys, copy_ty};
+use sz_types::{Place, Tys, copy_ty};
 
 // `static name: type = e;`
 fn judge_static(
@@ -37,8 +34,7 @@ fn judge_static(
     ensures value { Judges (λ i. found_one top.new i) result (judge_static (top_of top.old) place name.now (type_of of.now) (tree_of tree.now)) }
 {
     let ty = judge_type(alloc, &top.known, of)?;
-    let seen = seen_known(alloc, Looker::Static, &top.known)?;
-    let node = judge_exp(alloc, &seen, false, Some(&ty), tree)?;
+    let node = judge_exp(alloc, &top.known, false, Some(&ty), tree)?;
     let value = converted(alloc, &ty, tree, node)?;
     let Some(statics) = top.statics.checked_add(1) else {
         return Err(CheckError::NoMemory);
@@ -53,8 +49,8 @@ fn judge_static(
 fn judge_typedef(alloc: Global, top: &mut Top, name: &Name, of: &TypeTree) -> Result<(), CheckError>
     ensures value { Judges (λ _. found_with top.new Nothing) result (judge_typedef (top_of top.old) name.now (type_of of.now)) }
 {
-    let ty = judge_type(alloc, &top.known, of)?;
-    top.known.declare(alloc, name, Meaning::Type(ty))
+    let written = judge_written(alloc, &top.known, of)?;
+    top.known.declare_type(alloc, name, written)
 }
 
 // A statement that runs for each record.
@@ -113,40 +109,12 @@ fn judge_all(alloc: Global, top: &mut Top, trees: &[Stmt]) -> Result<Vec<Item>, 
     Ok(items)
 }
 
-// A predeclared name.
-fn named(alloc: Global, name: &str, meaning: Meaning) -> Result<Named, AllocError>
-    ensures value { IfOk result (λ made. named_of made ≡ record { name = name.now; meaning = meaning_of meaning }) }
-{
-    let name = Vec::from_slice(alloc, name.as_bytes())?;
-    Ok(Named { name, meaning })
-}
-
-// The block round each program.
-fn predeclared_names(alloc: Global) -> Result<Vec<Named>, AllocError>
-    ensures value { IfOk result (λ made. block_of made.items ≡ predeclared_names) }
-{
-    let mut names = Vec::new(alloc);
-    names.push(named(alloc, "strfind", Meaning::Predeclared(Builtin::StrFind))?)?;
-    names.push(named(alloc, "haskey", Meaning::Predeclared(Builtin::HasKey))?)?;
-    names.push(named(alloc, "keys", Meaning::Predeclared(Builtin::Keys))?)?;
-    names.push(named(alloc, "len", Meaning::Predeclared(Builtin::Len))?)?;
-    names.push(named(alloc, "input", Meaning::Input)?)?;
-    Ok(names)
-}
-
 // What is known at first: the predeclared names, in a block round the program's own.
 fn known_at_first(alloc: Global) -> Result<Top, AllocError>
     ensures value { IfOk result (λ made. top_of made ≡ known_at_first) }
 {
-    let mut outer = Vec::new(alloc);
-    outer.push(predeclared_names(alloc)?)?;
-    let known = Known {
-        innermost: Vec::new(alloc),
-        outer,
-        locals: Tys::new(alloc),
-    };
     Ok(Top {
-        known,
+        known: Known::predeclared(alloc)?,
         tables: 0,
         statics: 0,
         functions: Vec::new(alloc),
@@ -159,7 +127,7 @@ fn judge_items(alloc: Global, tree: &Tree) -> Result<(Vec<Item>, Tys), CheckErro
 {
     let mut top = known_at_first(alloc)?;
     let items = judge_all(alloc, &mut top, tree.statements.as_slice())?;
-    Ok((items, top.known.locals))
+    Ok((items, top.known.into_locals()))
 }
 
 /// The checked program that the tree stands for, or its first refusal.

@@ -36,7 +36,7 @@ pub fn judge_declaration(
     tree: &TypeTree,
 ) -> Result<CoreStmt, CheckError>
     ensures value { Judges (λ s. behind_of known.new s) result (judge_declaration (scene_of known.old) name.now (type_of tree.now)) }
-    ensures outer { known.new.outer ≡ known.old.outer }
+    ensures outside { known.new.outside ≡ known.old.outside }
 {
     let ty = judge_type(alloc, known, tree)?;
     let number = known.declare_variable(alloc, name, ty)?;
@@ -52,7 +52,7 @@ pub fn judge_initialised(
     value: &Expr,
 ) -> Result<CoreStmt, CheckError>
     ensures value { Judges (λ s. behind_of known.new s) result (judge_initialised (scene_of known.old) name.now (type_of tree.now) (tree_of value.now)) }
-    ensures outer { known.new.outer ≡ known.old.outer }
+    ensures outside { known.new.outside ≡ known.old.outside }
 {
     let ty = judge_type(alloc, known, tree)?;
     let node = judge_exp(alloc, known, true, Some(&ty), value)?;
@@ -69,7 +69,7 @@ pub fn judge_definition(
     value: &Expr,
 ) -> Result<CoreStmt, CheckError>
     ensures value { Judges (λ s. behind_of known.new s) result (judge_definition (scene_of known.old) name.now (tree_of value.now)) }
-    ensures outer { known.new.outer ≡ known.old.outer }
+    ensures outside { known.new.outside ≡ known.old.outside }
 {
     let node = judge_exp(alloc, known, true, None, value)?;
     let ty = copy_ty(alloc, &node.ty)?;
@@ -161,7 +161,7 @@ pub fn judge_first(
     first: &Option<First>,
 ) -> Result<CoreStmt, CheckError>
     ensures value { Judges (λ s. behind_of known.new s) result (judge_first (scene_of known.old) (option_map first_of first.now)) }
-    ensures outer { known.new.outer ≡ known.old.outer }
+    ensures outside { known.new.outside ≡ known.old.outside }
 {
     match first {
         None => Ok(nothing(alloc)),

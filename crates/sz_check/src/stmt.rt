@@ -6,7 +6,7 @@ ghost use Rattle.sz_tree.specs.View.{tree_of, stm_of, simple_of, first_of};
 ghost use Rattle.sz_core.specs.Statements.{block as core_block, stms_of as core_stms_of};
 ghost use Rattle.sz_core.specs.View.{stm_of as core_stm_of};
 ghost use Rattle.sz_check.specs.JudgingStatements.{judge_stm, judge_stms};
-ghost use Rattle.sz_check.specs.Holding.{outer_of, scene_of};
+ghost use Rattle.sz_check.specs.Holding.{scene_of};
 ghost use Rattle.sz_check.specs.Behind.{behind_of, all_behind_of, around_of, judge_inside, judge_turns, judge_for};
 ghost use Rattle.sz_check.specs.Outcome.{Judges};
 
@@ -54,7 +54,7 @@ pub fn judge_stm(
     tree: &Stmt,
 ) -> Result<CoreStmt, CheckError>
     ensures value { Judges (λ s. behind_of known.new s) result (judge_stm (around_of around.entry) (scene_of known.old) (stm_of tree.now)) }
-    ensures outer { IfOk result (λ _. outer_of known.new ≡ outer_of known.old) }
+    ensures outside { IfOk result (λ _. known.new.outside ≡ known.old.outside) }
 {
     match tree {
         Stmt::Empty(_) => Ok(nothing(alloc)),
@@ -105,9 +105,9 @@ fn judge_inside(
     tree: &Stmt,
 ) -> Result<CoreStmt, CheckError>
     ensures value { Judges (λ s. behind_of known.new s) result (judge_inside (around_of around.entry) (scene_of known.old) (stm_of tree.now)) }
-    ensures outer { IfOk result (λ _. outer_of known.new ≡ outer_of known.old) }
+    ensures outside { IfOk result (λ _. known.new.outside ≡ known.old.outside) }
 {
-    known.open(alloc)?;
+    known.open()?;
     let statement = judge_stm(alloc, known, around, tree)?;
     known.close();
     Ok(statement)
@@ -123,9 +123,9 @@ fn judge_block(
     trees: &[Stmt],
 ) -> Result<CoreStmt, CheckError>
     ensures value { Judges (λ s. behind_of known.new s) result (judge_stm (around_of around.entry) (scene_of known.old) (block place (stms_of (each stm_of trees.now)))) }
-    ensures outer { IfOk result (λ _. outer_of known.new ≡ outer_of known.old) }
+    ensures outside { IfOk result (λ _. known.new.outside ≡ known.old.outside) }
 {
-    known.open(alloc)?;
+    known.open()?;
     let statements = judge_stms(alloc, known, around, trees)?;
     known.close();
     Ok(CoreStmt::block(statements))
@@ -140,7 +140,7 @@ pub fn judge_stms(
     trees: &[Stmt],
 ) -> Result<Vec<CoreStmt>, CheckError>
     ensures value { Judges (λ ss. all_behind_of known.new ss.items) result (judge_stms (around_of around.entry) (scene_of known.old) (stms_of (each stm_of trees.now))) }
-    ensures outer { IfOk result (λ _. outer_of known.new ≡ outer_of known.old) }
+    ensures outside { IfOk result (λ _. known.new.outside ≡ known.old.outside) }
 {
     let mut statements = Vec::new(alloc);
     for tree in trees {
@@ -161,7 +161,7 @@ fn judge_if_only(
     condition: &Expr,
 ) -> Result<CoreStmt, CheckError>
     ensures value { Judges (λ s. behind_of known.new s) result (judge_stm (around_of around.entry) (scene_of known.old) (if_only place (tree_of condition.now) (stm_of taken.now))) }
-    ensures outer { IfOk result (λ _. outer_of known.new ≡ outer_of known.old) }
+    ensures outside { IfOk result (λ _. known.new.outside ≡ known.old.outside) }
 {
     let node = judge_exp(alloc, known, true, None, condition)?;
     let taken = judge_inside(alloc, known, around, taken)?;
@@ -180,7 +180,7 @@ fn judge_if_else(
     tree: &Stmt,
 ) -> Result<CoreStmt, CheckError>
     ensures value { Judges (λ s. behind_of known.new s) result (judge_stm (around_of around.entry) (scene_of known.old) (stm_of tree.now)) }
-    ensures outer { IfOk result (λ _. outer_of known.new ≡ outer_of known.old) }
+    ensures outside { IfOk result (λ _. known.new.outside ≡ known.old.outside) }
 {
     let Stmt::If(place, condition, taken, Some(other)) = tree else {
         return Err(CheckError::NoMemory);
@@ -204,7 +204,7 @@ fn judge_while(
     condition: &Expr,
 ) -> Result<CoreStmt, CheckError>
     ensures value { Judges (λ s. behind_of known.new s) result (judge_stm (around_of around.entry) (scene_of known.old) (while place (tree_of condition.now) (stm_of body.now))) }
-    ensures outer { IfOk result (λ _. outer_of known.new ≡ outer_of known.old) }
+    ensures outside { IfOk result (λ _. known.new.outside ≡ known.old.outside) }
 {
     let node = judge_exp(alloc, known, true, None, condition)?;
     let body = judge_inside(alloc, known, around.inside_loop(), body)?;
@@ -223,7 +223,7 @@ fn judge_do_while(
     condition: &Expr,
 ) -> Result<CoreStmt, CheckError>
     ensures value { Judges (λ s. behind_of known.new s) result (judge_stm (around_of around.entry) (scene_of known.old) (do_while place (stm_of body.now) (tree_of condition.now))) }
-    ensures outer { IfOk result (λ _. outer_of known.new ≡ outer_of known.old) }
+    ensures outside { IfOk result (λ _. known.new.outside ≡ known.old.outside) }
 {
     let body = judge_inside(alloc, known, around.inside_loop(), body)?;
     let node = judge_exp(alloc, known, true, None, condition)?;
@@ -253,7 +253,7 @@ fn judge_turns(
     between: &Option<Simple>,
 ) -> Result<CoreStmt, CheckError>
     ensures value { Judges (λ s. behind_of known.new s) result (judge_turns (around_of around.entry) (scene_of known.old) place (option_map tree_of condition.now) (option_map simple_of between.now) (stm_of body.now)) }
-    ensures outer { IfOk result (λ _. outer_of known.new ≡ outer_of known.old) }
+    ensures outside { IfOk result (λ _. known.new.outside ≡ known.old.outside) }
 {
     let node = judge_test(alloc, known, condition)?;
     let step = judge_between(alloc, known, between)?;
@@ -275,9 +275,9 @@ fn judge_for(
     between: &Option<Simple>,
 ) -> Result<CoreStmt, CheckError>
     ensures value { Judges (λ s. behind_of known.new s) result (judge_for (around_of around.entry) (scene_of known.old) place (option_map first_of first.now) (option_map tree_of condition.now) (option_map simple_of between.now) (stm_of body.now)) }
-    ensures outer { IfOk result (λ _. outer_of known.new ≡ outer_of known.old) }
+    ensures outside { IfOk result (λ _. known.new.outside ≡ known.old.outside) }
 {
-    known.open(alloc)?;
+    known.open()?;
     let start = judge_first(alloc, known, first)?;
     let turns = judge_turns(alloc, known, around, place, body, condition, between)?;
     known.close();

@@ -18,7 +18,6 @@ use crate::error::{CheckError, at, of};
 use crate::kind::{Kind, type_kind};
 use crate::known::Known;
 use crate::meaning::Meaning;
-use crate::text::string;
 use crate::top::Top;
 use crate::types::judge_type;
 use std::alloc::Global;
@@ -30,7 +29,7 @@ use sz_types::{Field, TableDecl, TableKind, Text, Ty, Tys, copy_table};
 fn no_kind(alloc: Global, name: &Name) -> CheckError
     ensures value { Stops {Y = Unit} result (no_kind name.now) }
 {
-    let word = name.text();
+    let word = name.text().as_bytes();
     let is_left_out = word == b"sample".as_slice()
         || word == b"weightedsample".as_slice()
         || word == b"distinctsample".as_slice()
@@ -48,7 +47,7 @@ fn no_kind(alloc: Global, name: &Name) -> CheckError
 fn kind_of(alloc: Global, name: &Name) -> Result<TableKind, CheckError>
     ensures value { Judges (λ x. x) result (kind_of name.now) }
 {
-    let word = name.text();
+    let word = name.text().as_bytes();
     if word == b"sum".as_slice() {
         return Ok(TableKind::Sum);
     }
@@ -194,7 +193,7 @@ fn declaration_of(
     let Ok(limit) = u32::try_from(limit) else {
         return Err(at(17, word.place()));
     };
-    let name = Text::from_string(string(alloc, name.text())?);
+    let name = Text::from_str(alloc, name.text().as_str())?;
     let table = TableDecl {
         name,
         kind,

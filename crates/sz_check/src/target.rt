@@ -14,8 +14,8 @@ use crate::expr::judge_exp;
 use crate::kind::{Kind, type_kind};
 use crate::known::Known;
 use crate::meaning::Means;
+use crate::number::small;
 use crate::path::{field_in, whole};
-use crate::text::small;
 use std::alloc::{AllocError, Global};
 use sz_core::{CoreExpr, CoreStep};
 use sz_tree::{Expr, Name, Step};
@@ -151,7 +151,7 @@ pub fn judge_path(
 ) -> Result<Target, CheckError>
     ensures value { Judges target_seen result (judge_path (scene_of known.now) (path_form name.now (each step_of steps.now))) }
 {
-    let first = target_of(alloc, name, known.look_up(alloc, name)?)?;
+    let first = target_of(alloc, name, known.look_up(alloc, true, name)?)?;
     let target = judge_steps(alloc, known, name.place(), first, steps)?;
     if !target.assignable {
         return Err(of(alloc, 14, name));

@@ -13,7 +13,8 @@ use Rattle.sz_core.specs.Statements.{Stm, Stms, nothing}
 use Rattle.sz_core.specs.StatementCode.{stm_code, stms_code}
 use Rattle.sz_core.specs.Programs.{Signature, Function, Static, Item, table, function, static, statement, Core}
 
-abbrev signature_code : Coded Signature
+-- how a signature is stored
+abbrev pub signature_code : Coded Signature
 signature_code = code_by (List Shape × (Shape × Bool)) (coded× shapes_code (coded× shape_code coded_bool))
     (λ s. (s.parameters, (s.result, s.emits)))
     (λ p. record { parameters = p.0; result = p.1.0; emits = p.1.1 })

@@ -1,0 +1,109 @@
+//! Named types, each kept as it is written: a name in it is the number of the type that it stands for.
+//!
+//! A type that is built from named types is so as long as its own text, however high it is with all names written out.
+ghost use Rattle.std.specs.Prelude.{◌≡◌, ◌++◌, ◌∷◌, [], length, IfOk, OnErr};
+ghost use Rattle.sz_types.specs.Seen.{seen};
+ghost use Rattle.sz_check.specs.Written.{shape_in, type_at, shapes_of};
+
+use crate::number::small;
+use std::alloc::{AllocError, Global};
+use std::marker::Model;
+use sz_types::{Encoding, Text, Ty};
+
+// A type as it is written.
+#[cycle(written)]
+#[derive(Drop)]
+pub enum Written {
+    Bool,
+    Int,
+    Time,
+    Str,
+    Bytes,
+    Array(Box<Written>),
+    Map(Box<Written>, Box<Written>),
+    Tuple(Vec<WrittenField>),
+    Proto(Vec<WrittenField>),
+    // The named type with this number.
+    Named(u32),
+}
+
+// A part of a tuple, or a field of a message.
+#[cycle(written)]
+#[derive(Drop)]
+pub struct WrittenField {
+    pub name: Text,
+    pub ty: Written,
+    pub number: u32,
+    pub code: Encoding,
+}
+
+// The named types of a program by number. Contracts see them with all names written out.
+#[derive(Drop)]
+pub struct NamedTypes {
+    held: Vec<Written>,
+}
+
+impl Model for NamedTypes {
+    ghost use Rattle.std.specs.Prelude.{List};
+    ghost use Rattle.sz_types.specs.Data.{Shape};
+    ghost use Rattle.sz_types.specs.Code.{shapes_code};
+    ghost use Rattle.sz_check.specs.Written.{shapes_of};
+
+    ghost Value = { List Shape };
+
+    ghost coded = { shapes_code };
+
+    ghost view = { λ types. shapes_of types.held.items };
+}
+
+// A named type, lent with those that it is built from.
+#[derive(Clone, Copy)]
+pub struct NamedType<'k> {
+    pub types: &'k NamedTypes,
+    pub number: u32,
+}
+
+impl NamedTypes {
+    // No types. It takes no memory.
+    pub fn new(alloc: Global) -> NamedTypes
+        ensures value { result ≡ [] }
+    {
+        NamedTypes {
+            held: Vec::new(alloc),
+        }
+    }
+
+    // One type more, with its number.
+    pub fn add(&mut self, written: Written) -> Result<u32, AllocError>
+        ensures number { IfOk result (λ number. number ≡ length self.old) }
+        ensures ok { IfOk result (λ _. self.new ≡ self.old ++ shape_in self.old written ∷ []) }
+        ensures err { OnErr result (self.new ≡ self.old) }
+    {
+        let number = small(self.held.len())?;
+        self.held.push(written)?;
+        Ok(number)
+    }
+
+    // The type, with all names written out.
+    pub fn write_out(&self, alloc: Global, written: &Written) -> Result<Ty, AllocError>
+        ensures value { IfOk result (λ ty. seen ty ≡ shape_in self.now written.now) }
+    {
+        write_out(alloc, written, self.held.as_slice())
+    }
+}
+
+impl NamedType<'_> {
+    // The type, with all names written out.
+    pub fn write_out(self, alloc: Global) -> Result<Ty, AllocError>
+        ensures value { IfOk result (λ ty. seen ty ≡ type_at self.entry.types.now self.entry.number) }
+    {
+        self.types.write_out(alloc, &Written::Named(self.number))
+    }
+}
+
+// The type, with all names written out by these types.
+fn write_out(alloc: Global, written: &Written, types: &[Written]) -> Result<Ty, AllocError>
+    ensures value { IfOk result (λ ty. seen ty ≡ shape_in (shapes_of types.now) written.now) }
+{
+    Err(AllocError)
+}
