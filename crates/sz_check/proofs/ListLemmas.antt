@@ -15,12 +15,9 @@ use Rattle.sz_core.specs.declared.expr.CorePair.{CorePair}
 use Rattle.sz_core.specs.Nodes.{Node, Nodes, no_nodes, with_node, nodes_of, Pairings, no_pairings, with_pairing, pairings_of}
 use Rattle.sz_core.specs.View.{node_of, pairing_of}
 use Rattle.sz_check.specs.Refusals.{Judged, ◌>>=◌, Refusal, unless}
-use Rattle.sz_check.specs.Names.{Named, Block, meaning_in, meaning_of, Meaning, first_of}
 use Rattle.sz_check.specs.Agreeing.{Asks, asked_first, asked_behind, agrees, agree, pairs_agree, counted, count_of}
 use Rattle.sz_check.specs.Lists.{behind, put_all}
 use Rattle.sz_check.specs.Outcome.{Stops, Judges}
-use Rattle.sz_check.specs.Holding.{named_of, block_of, blocks_in}
-use Rattle.sz_check.specs.declared.known.Named.{Named as HeldName}
 use Rattle.sz_check.specs.declared.error.CheckError.{CheckError}
 use Rattle.sz_check.specs.declared.error.CheckError.TheVariants as errors
 
