@@ -1,5 +1,6 @@
 -- Statements by their parts.
-use Rattle.std.proofs.Common.{◌≡◌, Bool, true, false, List, [], ◌∷◌, length, Option, Some, None, refl, sym, ap, ◌∙◌, fun_ext}
+use Rattle.std.proofs.Common.{◌≡◌, Bool, true, false, List, [], ◌∷◌, length, Option, Some, None, refl, sym, ap, ◌∙◌}
+use Rattle.std.proofs.Math.Path.{fun_ext}
 use Rattle.std.specs.Prelude.{Result, Ok, Err, is_some, if◌then◌else◌}
 use Rattle.sz_types.specs.declared.place.Place.{Place}
 use Rattle.sz_tree.specs.Names.{Ident}
@@ -15,16 +16,15 @@ use Rattle.sz_check.specs.Names.{look_up, Meaning}
 use Rattle.sz_check.specs.Agreeing.{in_turn, agree, agrees, counted}
 use Rattle.sz_check.specs.JudgingExpressions.{judge_exps}
 use Rattle.sz_check.specs.Scenes.{Scene, Behind, AllBehind, opened, closed, judge, judge_if_some}
-use Rattle.sz_check.specs.JudgingStatements.{Around, in_block, in_loop, same_presence, judge_stm, judge_stms}
+use Rattle.sz_check.specs.JudgingStatements.{Around, in_block, in_loop, judge_stm, judge_stms}
 use Rattle.sz_check.specs.JudgingSimple.{Numbered, judge_first, judge_between, test_if_some, table_named, weight_agrees, judge_declaration, judge_initialised}
-use Rattle.sz_check.specs.JudgingSimple.{judge_definition, judge_simple, judge_return, done, judge_emit}
+use Rattle.sz_check.specs.JudgingSimple.{judge_definition, judge_simple, judge_return, done, judge_emit, same_presence}
 use Rattle.sz_check.specs.Outcome.{Stops, Judges}
 use Rattle.sz_check.specs.declared.error.CheckError.{CheckError}
 use Rattle.sz_check.proofs.ListLemmas.{stops_then, goes_on}
 use Rattle.sz_core.specs.declared.stmt.CoreStmt.{CoreStmt}
 use Rattle.sz_core.specs.View.{stm_of}
-use Rattle.sz_check.specs.declared.known.Known.{Known}
-use Rattle.sz_check.specs.Holding.{scene_of}
+use Rattle.sz_check.specs.Holding.{Held, outside_of, scene_of}
 use Rattle.sz_check.specs.Behind.{behind_of, judge_inside, judge_turns, judge_for, Emitted, judge_emitted, emitted_fits, judge_emit_by_parts}
 
 tested : {A B : Type 0} (u : Judged Unit) (x : A) (f : A → B) → (u >>= λ _. Ok (f x)) ≡ ((u >>= λ _. Ok x) >>= λ y. Ok (f y))
@@ -87,53 +87,76 @@ emit_is s p n es e w = ap (λ (f : Meaning → Judged Stm). look_up n s.blocks >
 
 -- ---- statements in a block of their own
 
--- a part statement is judged in the scene with a block more, and the scene behind it has the blocks that were there before
-pub inside_made : (a : Around) (s inner behind after : Scene) (t : Tree) (x : Stm) → inner ≡ opened s → judge_stm a inner t ≡ Ok (record { scene = behind; stm = x })
-    → after.blocks ≡ s.blocks → after.locals ≡ behind.locals → judge_inside a s t ≡ Ok (record { scene = after; stm = x })
-inside_made a s inner behind after t x open h blocks locals =
-    ap (λ (u : Scene). in_block s (judge_stm a u t)) (sym open) ∙ ap (in_block s) h ∙ (λ i. Ok (record { scene = record { blocks = sym blocks i; locals = sym locals i }; stm = x }))
+-- what is known in a block that is opened inside the innermost one
+abbrev pub inside_of : Held → Held
+inside_of k = record k { innermost = []; outside = outside_of k }
 
-pub inside_stops : (a : Around) (s inner : Scene) (t : Tree) (e : CheckError) → inner ≡ opened s → Stops e (judge_stm a inner t) → Stops e (judge_inside a s t)
-inside_stops a s inner t e open h = stops_then e (judge_stm a inner t) (λ b. Ok (record { scene = closed s b.scene; stm = b.stm })) _ h (ap (λ (u : Scene). in_block s (judge_stm a u t)) open)
+-- what goes on from what is judged inside a block
+abbrev from_inside : {A B : Type 0} → (Scene → Judged A) → (A → Judged B) → Held → Judged B
+from_inside judge f k = judge (scene_of k) >>= f
+
+-- a part statement is judged with a block more, and behind it is known what was known before
+pub inside_made : (a : Around) (k inner behind after : Held) (t : Tree) (x : Stm) → inner ≡ inside_of k
+    → judge_stm a (scene_of inner) t ≡ Ok (record { scene = scene_of behind; stm = x }) → after ≡ record k { locals = behind.locals }
+    → judge_inside a (scene_of k) t ≡ Ok (record { scene = scene_of after; stm = x })
+inside_made a k inner behind after t x open h close =
+    ap (λ (u : Held). in_block (scene_of k) (judge_stm a (scene_of u) t)) (sym open) ∙ ap (in_block (scene_of k)) h
+    ∙ ap (λ (u : Held). Ok (record { scene = scene_of u; stm = x })) (sym close)
+
+pub inside_stops : (a : Around) (k inner : Held) (t : Tree) (e : CheckError) → inner ≡ inside_of k → Stops e (judge_stm a (scene_of inner) t)
+    → Stops e (judge_inside a (scene_of k) t)
+inside_stops a k inner t e open h =
+    stops_then e (judge_stm a (scene_of inner) t) (λ b. Ok (record { scene = closed (scene_of k) b.scene; stm = b.stm })) _ h
+    (ap (λ (u : Held). in_block (scene_of k) (judge_stm a (scene_of u) t)) open)
 
 -- the same of a block
-pub block_made : (a : Around) (s inner behind after : Scene) (p : Place) (ts : Trees) (xs : Stms) → inner ≡ opened s → judge_stms a inner ts ≡ Ok (record { scene = behind; stms = xs })
-    → after.blocks ≡ s.blocks → after.locals ≡ behind.locals → judge_stm a s (block p ts) ≡ Ok (record { scene = after; stm = core.block xs })
-unfolding judge_stm
-block_made a s inner behind after p ts xs open h blocks locals =
-    ap (λ (u : Scene). judge_stms a u ts >>= λ b. Ok (record { scene = closed s b.scene; stm = core.block b.stms })) (sym open)
-    ∙ ap (λ (j : Judged AllBehind). j >>= λ b. Ok (record { scene = closed s b.scene; stm = core.block b.stms })) h
-    ∙ (λ i. Ok (record { scene = record { blocks = sym blocks i; locals = sym locals i }; stm = core.block xs }))
+abbrev ended : Held → AllBehind → Judged Behind
+ended k b = Ok (record { scene = closed (scene_of k) b.scene; stm = core.block b.stms })
 
-pub block_stops : (a : Around) (s inner : Scene) (p : Place) (ts : Trees) (e : CheckError) → inner ≡ opened s → Stops e (judge_stms a inner ts) → Stops e (judge_stm a s (block p ts))
+pub block_made : (a : Around) (k inner behind after : Held) (p : Place) (ts : Trees) (xs : Stms) → inner ≡ inside_of k
+    → judge_stms a (scene_of inner) ts ≡ Ok (record { scene = scene_of behind; stms = xs }) → after ≡ record k { locals = behind.locals }
+    → judge_stm a (scene_of k) (block p ts) ≡ Ok (record { scene = scene_of after; stm = core.block xs })
 unfolding judge_stm
-block_stops a s inner p ts e open h =
-    stops_then e (judge_stms a inner ts) (λ b. Ok (record { scene = closed s b.scene; stm = core.block b.stms })) _ h
-    (ap (λ (u : Scene). judge_stms a u ts >>= λ b. Ok (record { scene = closed s b.scene; stm = core.block b.stms })) open)
+block_made a k inner behind after p ts xs open h close =
+    ap (from_inside (λ s. judge_stms a s ts) (ended k)) (sym open) ∙ ap (λ (j : Judged AllBehind). j >>= ended k) h
+    ∙ ap (λ (u : Held). Ok (record { scene = scene_of u; stm = core.block xs })) (sym close)
+
+pub block_stops : (a : Around) (k inner : Held) (p : Place) (ts : Trees) (e : CheckError) → inner ≡ inside_of k
+    → Stops e (judge_stms a (scene_of inner) ts) → Stops e (judge_stm a (scene_of k) (block p ts))
+unfolding judge_stm
+block_stops a k inner p ts e open h =
+    stops_then e (judge_stms a (scene_of inner) ts) (ended k) _ h (ap (from_inside (λ s. judge_stms a s ts) (ended k)) open)
 
 -- the same of a `for`
 abbrev behind_first : Around → Scene → Place → Option Exp → Option SimpleForm → Tree → Behind → Judged Behind
-behind_first a s p c between t first = judge_turns a first.scene p c between t >>= λ turns. Ok (record { scene = closed s turns.scene; stm = core.block (stms_of (first.stm ∷ turns.stm ∷ [])) })
+behind_first a s p c between t first =
+    judge_turns a first.scene p c between t
+    >>= λ turns. Ok (record { scene = closed s turns.scene; stm = core.block (stms_of (first.stm ∷ turns.stm ∷ [])) })
 
-pub for_made : (a : Around) (s inner start behind after : Scene) (p : Place) (f : Option FirstForm) (c : Option Exp) (between : Option SimpleForm) (t : Tree) (x y : Stm) → inner ≡ opened s
-    → judge_first inner f ≡ Ok (record { scene = start; stm = x }) → judge_turns a start p c between t ≡ Ok (record { scene = behind; stm = y })
-    → after.blocks ≡ s.blocks → after.locals ≡ behind.locals → judge_for a s p f c between t ≡ Ok (record { scene = after; stm = core.block (stms_of (x ∷ y ∷ [])) })
-for_made a s inner start behind after p f c between t x y open h g blocks locals =
-    ap (λ (u : Scene). judge_first u f >>= behind_first a s p c between t) (sym open)
-    ∙ ap (λ (j : Judged Behind). j >>= behind_first a s p c between t) h
-    ∙ ap (λ (j : Judged Behind). j >>= λ turns. Ok (record { scene = closed s turns.scene; stm = core.block (stms_of (x ∷ turns.stm ∷ [])) })) g
-    ∙ (λ i. Ok (record { scene = record { blocks = sym blocks i; locals = sym locals i }; stm = core.block (stms_of (x ∷ y ∷ [])) }))
+module _ (a : Around) (k inner start : Held) (p : Place) (f : Option FirstForm) (c : Option Exp) (between : Option SimpleForm) (t : Tree) where
+  begin : inner ≡ inside_of k → (judge_first (scene_of inner) f >>= behind_first a (scene_of k) p c between t) ≡ judge_for a (scene_of k) p f c between t
+  begin open = ap (from_inside (λ s. judge_first s f) (behind_first a (scene_of k) p c between t)) open
 
-pub for_first_stops : (a : Around) (s inner : Scene) (p : Place) (f : Option FirstForm) (c : Option Exp) (between : Option SimpleForm) (t : Tree) (e : CheckError) → inner ≡ opened s
-    → Stops e (judge_first inner f) → Stops e (judge_for a s p f c between t)
-for_first_stops a s inner p f c between t e open h =
-    stops_then e (judge_first inner f) (behind_first a s p c between t) _ h (ap (λ (u : Scene). judge_first u f >>= behind_first a s p c between t) open)
+  pub for_first_stops : (e : CheckError) → inner ≡ inside_of k → Stops e (judge_first (scene_of inner) f) → Stops e (judge_for a (scene_of k) p f c between t)
+  for_first_stops e open h = stops_then e (judge_first (scene_of inner) f) (behind_first a (scene_of k) p c between t) _ h (begin open)
 
-pub for_turns_stop : (a : Around) (s inner start : Scene) (p : Place) (f : Option FirstForm) (c : Option Exp) (between : Option SimpleForm) (t : Tree) (x : Stm) (e : CheckError) → inner ≡ opened s
-    → judge_first inner f ≡ Ok (record { scene = start; stm = x }) → Stops e (judge_turns a start p c between t) → Stops e (judge_for a s p f c between t)
-for_turns_stop a s inner start p f c between t x e open h g =
-    stops_then e (judge_turns a start p c between t) (λ turns. Ok (record { scene = closed s turns.scene; stm = core.block (stms_of (x ∷ turns.stm ∷ [])) })) _ g
-    (goes_on (judge_first inner f) (behind_first a s p c between t) _ (record { scene = start; stm = x }) h (ap (λ (u : Scene). judge_first u f >>= behind_first a s p c between t) open))
+  behind_start : (x : Stm) → inner ≡ inside_of k → judge_first (scene_of inner) f ≡ Ok (record { scene = scene_of start; stm = x })
+      → behind_first a (scene_of k) p c between t (record { scene = scene_of start; stm = x }) ≡ judge_for a (scene_of k) p f c between t
+  behind_start x open h = goes_on (judge_first (scene_of inner) f) (behind_first a (scene_of k) p c between t) _ (record { scene = scene_of start; stm = x }) h (begin open)
+
+  pub for_turns_stop : (x : Stm) (e : CheckError) → inner ≡ inside_of k → judge_first (scene_of inner) f ≡ Ok (record { scene = scene_of start; stm = x })
+      → Stops e (judge_turns a (scene_of start) p c between t) → Stops e (judge_for a (scene_of k) p f c between t)
+  for_turns_stop x e open h g =
+      stops_then e (judge_turns a (scene_of start) p c between t)
+      (λ turns. Ok (record { scene = closed (scene_of k) turns.scene; stm = core.block (stms_of (x ∷ turns.stm ∷ [])) })) _ g (behind_start x open h)
+
+  pub for_made : (behind after : Held) (x y : Stm) → inner ≡ inside_of k → judge_first (scene_of inner) f ≡ Ok (record { scene = scene_of start; stm = x })
+      → judge_turns a (scene_of start) p c between t ≡ Ok (record { scene = scene_of behind; stm = y }) → after ≡ record k { locals = behind.locals }
+      → judge_for a (scene_of k) p f c between t ≡ Ok (record { scene = scene_of after; stm = core.block (stms_of (x ∷ y ∷ [])) })
+  for_made behind after x y open h g close =
+      sym (behind_start x open h)
+      ∙ ap (λ (j : Judged Behind). j >>= λ turns. Ok (record { scene = closed (scene_of k) turns.scene; stm = core.block (stms_of (x ∷ turns.stm ∷ [])) })) g
+      ∙ ap (λ (u : Held). Ok (record { scene = scene_of u; stm = core.block (stms_of (x ∷ y ∷ [])) })) (sym close)
 
 -- ---- each statement by its own judgement
 
@@ -195,6 +218,6 @@ module _ (a : Around) (s : Scene) where
   when_is p qs c t = refl
 
 -- a statement that declares nothing leaves what is known as it was
-pub done_is : (k : Known) (r : Result CoreStmt CheckError) (j : Judged Stm) → Judges stm_of r j → Judges (λ s. behind_of k s) r (done (scene_of k) j)
+pub done_is : (k : Held) (r : Result CoreStmt CheckError) (j : Judged Stm) → Judges stm_of r j → Judges (λ s. behind_of k s) r (done (scene_of k) j)
 done_is k (Ok s) j h = ap (done (scene_of k)) h
 done_is k (Err e) j h = stops_then e j (λ m. Ok (record { scene = scene_of k; stm = m })) _ h refl

@@ -25,8 +25,8 @@ use Rattle.sz_check.specs.Names.{look_up}
 use Rattle.sz_check.specs.Agreeing.{in_turn, agree, agrees, counted}
 use Rattle.sz_check.specs.JudgingExpressions.{judge_exps}
 use Rattle.sz_check.specs.Scenes.{Behind, AllBehind, Scene, opened, closed, judge, judge_if_some}
-use Rattle.sz_check.specs.JudgingSimple.{Numbered, judge_first, judge_between, test_if_some, table_named, weight_agrees}
-use Rattle.sz_check.specs.JudgingStatements.{Around, in_block, in_loop, same_presence, judge_stm}
+use Rattle.sz_check.specs.JudgingSimple.{Numbered, judge_first, judge_between, test_if_some, table_named, weight_agrees, same_presence}
+use Rattle.sz_check.specs.JudgingStatements.{Around, in_block, in_loop, judge_stm}
 use Rattle.sz_check.specs.Asking.{asked_of}
 use Rattle.sz_check.specs.Holding.{Held, scene_of}
 

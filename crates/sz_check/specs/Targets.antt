@@ -10,7 +10,7 @@ use Rattle.sz_core.specs.Nodes.{Node}
 use Rattle.sz_core.specs.Statements.{at_index, at_field}
 use Rattle.sz_core.specs.View.{step_of}
 use Rattle.sz_check.specs.declared.target.Target.{Target as Reached}
-use Rattle.sz_check.specs.Refusals.{Judged, ◌>>=◌}
+use Rattle.sz_check.specs.Refusals.{Judged, ◌>>=◌, unless, not_assignable}
 use Rattle.sz_check.specs.JudgingParts.{field_in}
 use Rattle.sz_check.specs.Scenes.{Scene, judge}
 use Rattle.sz_check.specs.JudgingPaths.{Target, stepped, indexed}
@@ -35,3 +35,9 @@ judge_step s p t (trees.at_index e) = do
 judge_step s p t (trees.at_field f) = do
   x ← field_in p t.type f
   Ok (stepped t (at_field x.place) x.type)
+
+-- what a path that begins with this name has come to, where it can be assigned to
+abbrev pub assignable : Ident → Target → Judged Target
+assignable n t = do
+  _ ← unless t.assignable (not_assignable n)
+  Ok t

@@ -20,7 +20,7 @@ use crate::expr::{judge_call, judge_exp};
 use crate::known::Known;
 use crate::operator::test;
 use crate::rows::{difference_row, sum_row};
-use crate::target::judge_path;
+use crate::target::{judge_path, judge_variable};
 use crate::types::judge_type;
 use std::alloc::{AllocError, Global};
 use sz_core::{CoreExpr, CoreStmt, Form};
@@ -113,7 +113,7 @@ fn judge_change(
     ensures value { Judges stm_of result (judge_change (scene_of known.now) name.now op (change_row op)) }
 {
     let place = name.place();
-    let target = judge_path(alloc, known, name, [].as_slice())?;
+    let target = judge_variable(alloc, known, name)?;
     let Some(ty) = changed_type(alloc, op, &target.ty)? else {
         return Err(at(9, place));
     };

@@ -1,11 +1,11 @@
 //! Paths: what is assigned to.
-ghost use Rattle.std.specs.Prelude.{◌≡◌, IfOk, map as each};
+ghost use Rattle.std.specs.Prelude.{◌≡◌, [], IfOk, map as each};
 ghost use Rattle.sz_types.specs.Seen.{seen};
 ghost use Rattle.sz_tree.specs.View.{tree_of, step_of};
 ghost use Rattle.sz_core.specs.View.{node_of, step_of as core_step_of};
 ghost use Rattle.sz_check.specs.JudgingPaths.{target_of, stepped, indexed, judge_steps, judge_path};
 ghost use Rattle.sz_check.specs.Holding.{means_of, scene_of};
-ghost use Rattle.sz_check.specs.Targets.{target_seen, into_string, judge_step, path_form};
+ghost use Rattle.sz_check.specs.Targets.{target_seen, into_string, judge_step, path_form, assignable};
 ghost use Rattle.sz_check.specs.Outcome.{Judges};
 
 use crate::agree::agrees;
@@ -142,6 +142,17 @@ fn judge_steps(
     Ok(target)
 }
 
+// What a path has come to, which has to be assignable. The name is that of the path's beginning.
+fn assignable(alloc: Global, name: &Name, target: Target) -> Result<Target, CheckError>
+    ensures value { Judges target_seen result (assignable name.now (target_seen target)) }
+{
+    if target.assignable {
+        Ok(target)
+    } else {
+        Err(of(alloc, 14, name))
+    }
+}
+
 // A path, as a whole.
 pub fn judge_path(
     alloc: Global,
@@ -153,8 +164,14 @@ pub fn judge_path(
 {
     let first = target_of(alloc, name, known.look_up(alloc, true, name)?)?;
     let target = judge_steps(alloc, known, name.place(), first, steps)?;
-    if !target.assignable {
-        return Err(of(alloc, 14, name));
-    }
-    Ok(target)
+    assignable(alloc, name, target)
+}
+
+// A path that is a name alone.
+#[tactic(auto, unfolding(crate::specs::JudgingPaths::judge_steps))]
+pub fn judge_variable(alloc: Global, known: &Known, name: &Name) -> Result<Target, CheckError>
+    ensures value { Judges target_seen result (judge_path (scene_of known.now) (path_form name.now [])) }
+{
+    let target = target_of(alloc, name, known.look_up(alloc, true, name)?)?;
+    assignable(alloc, name, target)
 }

@@ -5,11 +5,11 @@ use Rattle.sz_tree.specs.Statements.{stms_of}
 use Rattle.sz_tree.specs.View.{stm_of}
 use Rattle.sz_tree.proofs.RowLemmas.{stm_of_block}
 use Rattle.sz_check.specs.JudgingStatements.{judge_stm}
-use Rattle.sz_check.specs.Holding.{block_of, outer_of, scene_of}
+use Rattle.sz_check.specs.Holding.{Held, scene_of}
 use Rattle.sz_check.specs.Behind.{around_of, behind_of}
 use Rattle.sz_check.proofs.ListLemmas.{map_push, judged_as}
 use Rattle.sz_check.proofs.StatementLoops.{stms_fail, stms_go, stms_end}
-use Rattle.sz_check.proofs.StatementParts.{inside_made, inside_stops, block_made, block_stops, for_first_stops, for_turns_stop}
+use Rattle.sz_check.proofs.StatementParts.{inside_made, inside_stops, block_made, block_stops, for_first_stops, for_turns_stop, for_made}
 use Rattle.sz_check.proofs.stmt.+stmt.Goals as goal
 
 pub judge_stms-returns-in_err-statement-clause-value : goal.judge_stms-returns-in_err-statement-clause-value
@@ -23,7 +23,7 @@ judge_stms-loop-tree-preserved t c = record {
   judged = rw (c.in_ok-push.ensures.items, map_push core_stm_of c.loop-tree.statements.items c.in_ok-statement.statement)
       (stms_go (map core_stm_of c.loop-tree.statements.items) (around_of c.args.around) (scene_of c.loop-tree.known.now) c.args.trees.now c.loop-tree.tree-index c.tree-item.result _ _ (omega arith) c.tree-item.is
       c.in_ok-statement.ensures.value c.loop-tree.invariant.judged);
-  outer = c.in_ok-statement.ensures.outer ∙ c.loop-tree.invariant.outer;
+  outside = c.in_ok-statement.ensures.outside ∙ c.loop-tree.invariant.outside;
 }
 
 pub judge_stms-returns-clause-value : goal.judge_stms-returns-clause-value
@@ -34,30 +34,34 @@ judge_stms-returns-clause-value t c = stms_end (map core_stm_of c.loop-tree.stat
 pub judge_inside-returns-in_err-statement-clause-value : goal.judge_inside-returns-in_err-statement-clause-value
 judge_inside-returns-in_err-statement-clause-value t c =
     let p = err_from_is_err_and c.from_residual-in_err-statement.result c.from_residual-in_err-statement.ensures.1 in
-    rw (p.1, p.2) (inside_stops (around_of c.args.around) (scene_of c.args.known.now) (scene_of c.open.new.self) (stm_of c.args.tree.now) c.in_err-statement.field-0.0 c.in_ok-open.ensures.value c.in_err-statement.ensures.value)
+    rw (p.1, p.2)
+    (inside_stops (around_of c.args.around) c.args.known.now c.open.new.self (stm_of c.args.tree.now) c.in_err-statement.field-0.0 c.in_ok-open.ensures.value c.in_err-statement.ensures.value)
 
 pub judge_inside-returns-clause-value : goal.judge_inside-returns-clause-value
 judge_inside-returns-clause-value t c =
-    inside_made (around_of c.args.around) (scene_of c.args.known.now) (scene_of c.open.new.self) (scene_of c.judge_stm-statement.new.known) (scene_of c.close.new.self) (stm_of c.args.tree.now) (core_stm_of c.in_ok-statement.statement)
+    inside_made (around_of c.args.around) c.args.known.now c.open.new.self c.judge_stm-statement.new.known c.close.new.self (stm_of c.args.tree.now) (core_stm_of c.in_ok-statement.statement)
     c.in_ok-open.ensures.value c.in_ok-statement.ensures.value
-    (c.close.ensures.blocks (block_of c.args.known.now.innermost.items) (outer_of c.args.known.now) (c.in_ok-statement.ensures.outer ∙ c.in_ok-open.ensures.outer)) c.close.ensures.locals
+    (c.close.ensures.value c.args.known.now (c.in_ok-statement.ensures.outside ∙ ap (λ (k : Held). k.outside) c.in_ok-open.ensures.value))
 
-pub judge_inside-returns-clause-outer : goal.judge_inside-returns-clause-outer
-judge_inside-returns-clause-outer t c = c.close.ensures.outer (block_of c.args.known.now.innermost.items) (outer_of c.args.known.now) (c.in_ok-statement.ensures.outer ∙ c.in_ok-open.ensures.outer)
+pub judge_inside-returns-clause-outside : goal.judge_inside-returns-clause-outside
+judge_inside-returns-clause-outside t c =
+    ap (λ (k : Held). k.outside) (c.close.ensures.value c.args.known.now (c.in_ok-statement.ensures.outside ∙ ap (λ (k : Held). k.outside) c.in_ok-open.ensures.value))
 
 pub judge_block-returns-in_err-statements-clause-value : goal.judge_block-returns-in_err-statements-clause-value
 judge_block-returns-in_err-statements-clause-value t c =
     let p = err_from_is_err_and c.from_residual-in_err-statements.result c.from_residual-in_err-statements.ensures.1 in
-    rw (p.1, p.2) (block_stops (around_of c.args.around) (scene_of c.args.known.now) (scene_of c.open.new.self) c.args.place (stms_of (map stm_of c.args.trees.now)) c.in_err-statements.field-0.0 c.in_ok-open.ensures.value c.in_err-statements.ensures.value)
+    rw (p.1, p.2)
+    (block_stops (around_of c.args.around) c.args.known.now c.open.new.self c.args.place (stms_of (map stm_of c.args.trees.now)) c.in_err-statements.field-0.0 c.in_ok-open.ensures.value c.in_err-statements.ensures.value)
 
 pub judge_block-returns-clause-value : goal.judge_block-returns-clause-value
 judge_block-returns-clause-value t c = rw c.block.ensures.value
-    (block_made (around_of c.args.around) (scene_of c.args.known.now) (scene_of c.open.new.self) (scene_of c.judge_stms-statements.new.known) (scene_of c.close.new.self) c.args.place (stms_of (map stm_of c.args.trees.now)) _
+    (block_made (around_of c.args.around) c.args.known.now c.open.new.self c.judge_stms-statements.new.known c.close.new.self c.args.place (stms_of (map stm_of c.args.trees.now)) _
     c.in_ok-open.ensures.value c.in_ok-statements.ensures.value
-    (c.close.ensures.blocks (block_of c.args.known.now.innermost.items) (outer_of c.args.known.now) (c.in_ok-statements.ensures.outer ∙ c.in_ok-open.ensures.outer)) c.close.ensures.locals)
+    (c.close.ensures.value c.args.known.now (c.in_ok-statements.ensures.outside ∙ ap (λ (k : Held). k.outside) c.in_ok-open.ensures.value)))
 
-pub judge_block-returns-clause-outer : goal.judge_block-returns-clause-outer
-judge_block-returns-clause-outer t c = c.close.ensures.outer (block_of c.args.known.now.innermost.items) (outer_of c.args.known.now) (c.in_ok-statements.ensures.outer ∙ c.in_ok-open.ensures.outer)
+pub judge_block-returns-clause-outside : goal.judge_block-returns-clause-outside
+judge_block-returns-clause-outside t c =
+    ap (λ (k : Held). k.outside) (c.close.ensures.value c.args.known.now (c.in_ok-statements.ensures.outside ∙ ap (λ (k : Held). k.outside) c.in_ok-open.ensures.value))
 
 pub judge_stm-returns-in-Block-clause-value : goal.judge_stm-returns-in-Block-clause-value
 judge_stm-returns-in-Block-clause-value t c =
@@ -66,9 +70,11 @@ judge_stm-returns-in-Block-clause-value t c =
 pub judge_for-returns-in_err-start-clause-value : goal.judge_for-returns-in_err-start-clause-value
 judge_for-returns-in_err-start-clause-value t c =
     let p = err_from_is_err_and c.from_residual-in_err-start.result c.from_residual-in_err-start.ensures.1 in
-    rw (p.1, p.2) (for_first_stops (around_of c.args.around) (scene_of c.args.known.now) (scene_of c.open.new.self) c.args.place _ _ _ _ c.in_err-start.field-0.0 c.in_ok-open.ensures.value c.in_err-start.ensures.value)
+    rw (p.1, p.2)
+    (for_first_stops (around_of c.args.around) c.args.known.now c.open.new.self c.open.new.self c.args.place _ _ _ _ c.in_err-start.field-0.0 c.in_ok-open.ensures.value c.in_err-start.ensures.value)
 
 pub judge_for-returns-in_err-turns-clause-value : goal.judge_for-returns-in_err-turns-clause-value
 judge_for-returns-in_err-turns-clause-value t c =
     let p = err_from_is_err_and c.from_residual-in_err-turns.result c.from_residual-in_err-turns.ensures.1 in
-    rw (p.1, p.2) (for_turns_stop (around_of c.args.around) (scene_of c.args.known.now) (scene_of c.open.new.self) (scene_of c.judge_first-start.new.known) c.args.place _ _ _ _ _ c.in_err-turns.field-0.0 c.in_ok-open.ensures.value c.in_ok-start.ensures.value c.in_err-turns.ensures.value)
+    rw (p.1, p.2)
+    (for_turns_stop (around_of c.args.around) c.args.known.now c.open.new.self c.judge_first-start.new.known c.args.place _ _ _ _ _ c.in_err-turns.field-0.0 c.in_ok-open.ensures.value c.in_ok-start.ensures.value c.in_err-turns.ensures.value)
