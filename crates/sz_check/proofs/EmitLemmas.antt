@@ -1,15 +1,18 @@
 -- Turns of the loops that look for an emit.
 use Rattle.std.proofs.Common.{◌≡◌, ℕ, ◌+◌, ◌<◌, ◌≤◌, Bool, true, false, List, [], ◌∷◌, length, get_or, drop, map, refl, sym, ap, ◌∙◌}
-use Rattle.std.specs.Prelude.{◌||◌}
+use Rattle.std.specs.Prelude.{◌||◌, slice_get}
+use Rattle.std.specs.Global.{Vec}
+use Rattle.sz_types.specs.declared.operator.Builtin.{Builtin}
 use Rattle.sz_core.specs.declared.expr.CoreExpr.{CoreExpr}
 use Rattle.sz_core.specs.declared.expr.CorePair.{CorePair}
+use Rattle.sz_core.specs.declared.expr.Form.{Form}
 use Rattle.sz_core.specs.declared.stmt.CoreStep.{CoreStep}
 use Rattle.sz_core.specs.declared.stmt.CoreStmt.{CoreStmt}
-use Rattle.sz_core.specs.Nodes.{nodes_of, pairings_of}
+use Rattle.sz_core.specs.Nodes.{nodes_of, call, builtin, pairings_of}
 use Rattle.sz_core.specs.Statements.{stms_of, Step, at_index, at_field}
 use Rattle.sz_core.specs.Programs.{Signature}
-use Rattle.sz_core.specs.View.{node_of, pairing_of, step_of, stm_of}
-use Rattle.sz_core.specs.Emitting.{node_emits, nodes_emit, pairings_emit, steps_emit, stm_emits, stms_emit}
+use Rattle.sz_core.specs.View.{node_of, form_of, pairing_of, step_of, stm_of}
+use Rattle.sz_core.specs.Emitting.{is_emitting, node_emits, form_emits, nodes_emit, pairings_emit, steps_emit, stm_emits, stms_emit}
 use Rattle.sz_check.proofs.ListLemmas.{rest_more, rest_none}
 
 or_false : (b : Bool) → (b || false) ≡ b
@@ -25,6 +28,20 @@ module _ (fs : List Signature) where
   pub nodes_over : (ns : List CoreExpr) (i : ℕ) → length ns ≤ i → nodes_emit fs (nodes_of (map node_of (drop i ns))) ≡ false
   unfolding nodes_emit
   nodes_over ns i over = rw (rest_none node_of ns i over) refl
+
+  -- a call of a function that doesn't emit: its arguments decide
+  pub call_emits : (form : Form) (f : ℕ) (v : Vec CoreExpr) (ns : List CoreExpr) (itself : Bool) → form_of form ≡ call f (nodes_of (map node_of v.items))
+      → ns ≡ v.items → itself ≡ is_emitting (slice_get fs f) → itself ≡ false → nodes_emit fs (nodes_of (map node_of ns)) ≡ form_emits fs (form_of form)
+  unfolding form_emits
+  call_emits form f v ns itself is items known silent =
+      ap (λ (es : List CoreExpr). nodes_emit fs (nodes_of (map node_of es))) items
+      ∙ sym (ap (form_emits fs) is ∙ ap (λ (b : Bool). b || nodes_emit fs (nodes_of (map node_of v.items))) (sym known ∙ silent))
+
+  -- a call of a predeclared function: the same
+  pub builtin_emits : (form : Form) (b : Builtin) (v : Vec CoreExpr) (ns : List CoreExpr) → form_of form ≡ builtin b (nodes_of (map node_of v.items))
+      → ns ≡ v.items → nodes_emit fs (nodes_of (map node_of ns)) ≡ form_emits fs (form_of form)
+  unfolding form_emits
+  builtin_emits form b v ns is items = ap (λ (es : List CoreExpr). nodes_emit fs (nodes_of (map node_of es))) items ∙ sym (ap (form_emits fs) is)
 
   pub pairings_turn : (ps : List CorePair) (i : ℕ) (p : CorePair) → i < length ps → p ≡ get_or ps i p
       → pairings_emit fs (pairings_of (map pairing_of (drop i ps))) ≡ (node_emits fs (node_of p.key) || node_emits fs (node_of p.value) || pairings_emit fs (pairings_of (map pairing_of (drop (i + 1) ps))))
@@ -63,3 +80,10 @@ holds_whole b c whole same h = ap (λ d. d || c) (sym h) ∙ same
 
 pub rest_decides : (b c whole : Bool) → (b || c) ≡ whole → b ≡ false → c ≡ whole
 rest_decides b c whole same h = ap (λ d. d || c) (sym h) ∙ same
+
+-- where the first holds, one of both does; where it doesn't, the second decides
+pub first_holds : (b c : Bool) → b ≡ true → (b || c) ≡ true
+first_holds b c h = ap (λ d. d || c) h
+
+pub second_decides : (b c d : Bool) → b ≡ false → c ≡ d → (b || c) ≡ d
+second_decides b c d h same = ap (λ e. e || c) h ∙ same

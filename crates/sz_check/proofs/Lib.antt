@@ -25,6 +25,7 @@ mod ExpLemmas
 mod TypeLoops
 mod StatementParts
 mod StatementLoops
+mod FunctionLemmas
 mod ProgramLemmas
 mod EmitLemmas
 mod TableLemmas

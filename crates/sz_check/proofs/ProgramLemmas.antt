@@ -2,14 +2,20 @@
 use Rattle.std.proofs.Common.{◌≡◌, ℕ, ◌+◌, ◌<◌, ◌≤◌, Bool, true, false, List, [], ◌∷◌, ◌++◌, length, get_or, drop, map, refl, sym, ap, ◌∙◌, subst, append_assoc}
 use Rattle.std.proofs.lemmas.List.{append-nil}
 use Rattle.std.specs.Prelude.{Ok, Err, if◌then◌else◌}
+use Rattle.std.specs.Global.{Vec}
 use Rattle.sz_tree.specs.declared.stmt.Stmt.{Stmt}
+use Rattle.sz_tree.specs.declared.stmt.Stmt.TheVariants as stmts
+use Rattle.sz_tree.specs.declared.types.Param.{Param}
+use Rattle.sz_tree.specs.declared.types.TypeTree.{TypeTree}
+use Rattle.sz_tree.specs.Types.{params_of}
 use Rattle.sz_tree.specs.Names.{Ident}
 use Rattle.sz_tree.specs.Statements.{stms_of}
-use Rattle.sz_tree.specs.View.{stm_of}
+use Rattle.sz_tree.specs.View.{stm_of, param_of, type_of}
+use Rattle.sz_tree.proofs.RowLemmas.{stm_of_function}
 use Rattle.sz_core.specs.Programs.{Item}
 use Rattle.sz_check.specs.Refusals.{Judged, ◌>>=◌, declared_twice}
 use Rattle.sz_check.specs.Names.{Meaning, Named, Block, has, declare}
-use Rattle.sz_check.specs.JudgingPrograms.{Known, Found, judge_top, judge_all}
+use Rattle.sz_check.specs.JudgingPrograms.{Known, Found, judge_function, judge_top, judge_all}
 use Rattle.sz_check.specs.Top.{with_items}
 use Rattle.sz_check.specs.Outcome.{Stops}
 use Rattle.sz_check.specs.declared.error.CheckError.{CheckError}
@@ -45,6 +51,14 @@ pub all_end : (front : List Item) (k : Known) (ts : List Stmt) (i : ℕ) (whole 
 unfolding judge_all
 all_end front k ts i whole over so_far =
     sym so_far ∙ ap (λ (rest : List _). with_items front (judge_all k (stms_of rest))) (rest_none stm_of ts i over) ∙ ap (λ (is : List Item). Ok (record { known = k; items = is })) (append-nil front)
+
+-- a declaration of a function, as it stands in a tree
+pub of_function : (k : Known) (s : Stmt) (n : Ident) (params : Vec Param) (t : TypeTree) (body : Vec Stmt) (ps : List Param) (ss : List Stmt)
+    → s ≡ stmts.Function n params t body → ps ≡ params.items → ss ≡ body.items
+    → judge_top k (stm_of s) ≡ judge_function k n (params_of (map param_of ps)) (type_of t) (stms_of (map stm_of ss))
+of_function k s n params t body ps ss is ps_are ss_are =
+    ap (λ (r : Stmt). judge_top k (stm_of r)) is ∙ ap (judge_top k) (stm_of_function n params t body)
+    ∙ (λ i. judge_function k n (params_of (map param_of (sym ps_are i))) (type_of t) (stms_of (map stm_of (sym ss_are i))))
 
 abbrev only_ok : {A : Type 0} → Judged A → A → A
 only_ok (Ok y) x = y

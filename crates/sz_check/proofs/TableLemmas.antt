@@ -13,7 +13,7 @@ use Rattle.sz_types.specs.declared.table.TableKind.TheVariants.{Sum, Maximum, Mi
 use Rattle.sz_tree.specs.declared.stmt.Elem.{Elem}
 use Rattle.sz_tree.specs.Names.{Ident}
 use Rattle.sz_tree.specs.View.{elem_of, type_of}
-use Rattle.sz_core.specs.WellFormed.{is_allowed, kind_allows, are_whole_numbers}
+use Rattle.sz_core.specs.WellFormed.{is_allowed, kind_allows, has_sum, has_no_weight, are_whole_numbers}
 use Rattle.sz_check.specs.Refusals.{Judged, ◌>>=◌, bad_table}
 use Rattle.sz_check.specs.Names.{Block}
 use Rattle.sz_check.specs.JudgingTypes.{judge_type}
@@ -32,7 +32,9 @@ first_fails : (a b : Bool) → a ≡ false → (a && b) ≡ false
 first_fails a b h = ap (λ c. c && b) h
 
 no_kind_allows : (k : TableKind) (d : Declaration) → 4294967296 ≤ d.limit → kind_allows k d ≡ false
-no_kind_allows Sum d h = first_fails _ _ (ne_eqb d.limit 0 (λ p. absurd (omega (arith, p, h))))
+no_kind_allows Sum d h =
+    first_fails (nat_eq d.limit 0 && has_sum d.element) (has_no_weight d.weight)
+    (first_fails (nat_eq d.limit 0) (has_sum d.element) (ne_eqb d.limit 0 (λ p. absurd (omega (arith, p, h)))))
 no_kind_allows Maximum d h = first_fails _ _ (second_fails _ _ (lt-leb d.limit 10000 (omega (arith, h))))
 no_kind_allows Minimum d h = first_fails _ _ (second_fails _ _ (lt-leb d.limit 10000 (omega (arith, h))))
 no_kind_allows Set d h = first_fails _ _ (second_fails _ _ (lt-leb d.limit 1000000 (omega (arith, h))))

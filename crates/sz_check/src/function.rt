@@ -164,7 +164,6 @@ fn finished(
 
 // `name: function(parameters): type {statements}`: the parameters and the type of the result, then the function's own name, and
 // then its statements, which see it.
-#[tactic(auto)]
 pub fn judge_function(
     alloc: Global,
     top: &mut Top,

@@ -66,7 +66,6 @@ fn judge_statement(alloc: Global, top: &mut Top, tree: &Stmt) -> Result<Item, Ch
 }
 
 // A statement at the top level.
-#[tactic(auto, using(sz_tree::proofs::RowLemmas::stm_of_function))]
 fn judge_top(alloc: Global, top: &mut Top, tree: &Stmt) -> Result<Option<Item>, CheckError>
     ensures value { Judges (λ i. found_with top.new i) result (judge_top (top_of top.old) (stm_of tree.now)) }
 {
@@ -131,7 +130,6 @@ fn judge_items(alloc: Global, tree: &Tree) -> Result<(Vec<Item>, Tys), CheckErro
 }
 
 /// The checked program that the tree stands for, or its first refusal.
-#[tactic(auto, using(crate::proofs::ProgramSound::program_sound))]
 pub fn check(alloc: Global, tree: &Tree) -> Result<Program, CheckError>
     ensures value { Judges (λ program. program) result (judge_program (program_of tree.now)) }
 {

@@ -1,4 +1,4 @@
--- The parameters that are left, from what is known, are all of them.
+-- The parameters that are left, from what is known, are all of them; what is outside the innermost block stays.
 use Rattle.std.proofs.Common.{◌≡◌, map, drop}
 use Rattle.sz_tree.specs.Types.{params_of}
 use Rattle.sz_tree.specs.View.{param_of}
@@ -7,6 +7,8 @@ use Rattle.sz_check.specs.Holding.{scene_of}
 use Rattle.sz_check.proofs.function.judge_parameters.Given as goal
 
 abbrev pub invariant-loop-tree : goal.invariant-loop-tree
-invariant-loop-tree l =
-    judge_parameters (scene_of l.known) (params_of (map param_of (drop l.tree-index l.trees)))
-    ≡ judge_parameters (scene_of l.fn.known) (params_of (map param_of l.trees))
+invariant-loop-tree l = record {
+  judged : judge_parameters (scene_of l.known) (params_of (map param_of (drop l.tree-index l.trees)))
+      ≡ judge_parameters (scene_of l.fn.known) (params_of (map param_of l.trees));
+  outside : l.known.outside ≡ l.fn.known.outside;
+}

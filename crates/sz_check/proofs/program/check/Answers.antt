@@ -1,0 +1,12 @@
+-- A program that is judged is sound.
+use Rattle.std.proofs.Common.{◌≡◌, map}
+use Rattle.sz_tree.specs.View.{program_of}
+use Rattle.sz_core.specs.View.{item_of}
+use Rattle.sz_core.specs.Programs.{core_of}
+use Rattle.sz_check.proofs.ProgramSound.{program_sound}
+use Rattle.sz_check.proofs.program.check.Goals as goal
+
+pub new-requires : goal.new-requires
+new-requires c = record {
+  sound = ∣ (program_sound (program_of c.args.tree.now)).holds (core_of (map item_of c.in_ok-items.items.items) c.in_ok-items.locals) c.in_ok-items.ensures.value ∣₁;
+}
