@@ -73,6 +73,13 @@ impl NamedTypes {
         }
     }
 
+    // The number of types.
+    pub fn len(&self) -> usize
+        ensures value { result ≡ length self.now }
+    {
+        self.held.len()
+    }
+
     // One type more, with its number.
     pub fn add(&mut self, written: Written) -> Result<u32, AllocError>
         ensures number { IfOk result (λ number. number ≡ length self.old) }
