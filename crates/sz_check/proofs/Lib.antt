@@ -1,4 +1,6 @@
 mod Holds
+mod KeepingLemmas
+mod WrittenLemmas
 mod Tests
 mod Meanings
 mod Sights

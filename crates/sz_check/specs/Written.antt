@@ -1,8 +1,9 @@
 -- Types as they are written, whose names stand for types that were named before.
 use Rattle.std.specs.Prelude.{ℕ, List, [], ◌∷◌, ◌++◌, slice_get, unwrap_or}
-use Rattle.sz_types.specs.Data.{Shape, FieldShapes, no_fields, with_field, field}
+use Rattle.sz_types.specs.Data.{Shape, FieldShape, FieldShapes, no_fields, with_field, field}
 use Rattle.sz_check.specs.declared.written.Written.{Written, Row_of-WrittenField, end_of-WrittenField, more_of-WrittenField}
 use Rattle.sz_check.specs.declared.written.Written.TheVariants as written
+use Rattle.sz_check.specs.declared.written.WrittenField.{WrittenField}
 
 -- the type with this number; there is always one where it is asked for
 abbrev pub type_at : List Shape → ℕ → Shape
@@ -27,6 +28,10 @@ module _ (types : List Shape) where
     pub fields_in_row : {m : _} → Row_of-WrittenField m → FieldShapes
     fields_in_row end_of-WrittenField = no_fields
     fields_in_row (more_of-WrittenField n t k c fs) = with_field (field n (shape_in t) k c) (fields_in_row fs)
+
+-- a field as it is written, with the names in its type written out
+abbrev pub field_in : List Shape → WrittenField → FieldShape
+field_in types f = field f.name (shape_in types f.ty) f.number f.code
 
 -- the types behind these, each written with those in front of it
 abbrev pub shapes_behind : List Shape → List Written → List Shape

@@ -1,14 +1,14 @@
 //! Named types, each kept as it is written: a name in it is the number of the type that it stands for.
 //!
 //! A type that is built from named types is so as long as its own text, however high it is with all names written out.
-ghost use Rattle.std.specs.Prelude.{◌≡◌, ◌++◌, ◌∷◌, [], length, IfOk, OnErr};
-ghost use Rattle.sz_types.specs.Seen.{seen};
-ghost use Rattle.sz_check.specs.Written.{shape_in, type_at, shapes_of};
+ghost use Rattle.std.specs.Prelude.{◌≡◌, ◌++◌, ◌∷◌, [], length, map, IfOk, OnErr};
+ghost use Rattle.sz_types.specs.Seen.{seen, seen_fields};
+ghost use Rattle.sz_check.specs.Written.{shape_in, field_in, type_at, shapes_of};
 
 use crate::number::small;
 use std::alloc::{AllocError, Global};
 use std::marker::Model;
-use sz_types::{Encoding, Text, Ty};
+use sz_types::{Encoding, Field, Fields, Text, Ty};
 
 // A type as it is written.
 #[cycle(written)]
@@ -73,6 +73,13 @@ impl NamedTypes {
         }
     }
 
+    // The number of types.
+    pub fn len(&self) -> usize
+        ensures value { result ≡ length self.now }
+    {
+        self.held.len()
+    }
+
     // One type more, with its number.
     pub fn add(&mut self, written: Written) -> Result<u32, AllocError>
         ensures number { IfOk result (λ number. number ≡ length self.old) }
@@ -101,9 +108,65 @@ impl NamedType<'_> {
     }
 }
 
-// The type, with all names written out by these types.
+// The type, with all names written out by these types. A named type is written with those before it alone.
+#[cycle(write_out)]
 fn write_out(alloc: Global, written: &Written, types: &[Written]) -> Result<Ty, AllocError>
     ensures value { IfOk result (λ ty. seen ty ≡ shape_in (shapes_of types.now) written.now) }
 {
-    Err(AllocError)
+    match written {
+        Written::Bool => Ok(Ty::Bool),
+        Written::Int => Ok(Ty::Int),
+        Written::Time => Ok(Ty::Time),
+        Written::Str => Ok(Ty::Str),
+        Written::Bytes => Ok(Ty::Bytes),
+        Written::Array(element) => {
+            let element = write_out(alloc, element, types)?;
+            Ok(Ty::Array(Box::new(alloc, element)?))
+        }
+        Written::Map(key, value) => {
+            let key = Box::new(alloc, write_out(alloc, key, types)?)?;
+            let value = Box::new(alloc, write_out(alloc, value, types)?)?;
+            Ok(Ty::Map(key, value))
+        }
+        Written::Tuple(fields) => Ok(Ty::Tuple(write_out_fields(
+            alloc,
+            fields.as_slice(),
+            types,
+        )?)),
+        Written::Proto(fields) => Ok(Ty::Proto(write_out_fields(
+            alloc,
+            fields.as_slice(),
+            types,
+        )?)),
+        Written::Named(number) => {
+            let number = *number as usize;
+            match types.get(number) {
+                Some(named) => write_out(alloc, named, &types[..number]),
+                None => Err(AllocError),
+            }
+        }
+    }
+}
+
+// The fields, with all names in their types written out.
+#[cycle(write_out)]
+fn write_out_fields(
+    alloc: Global,
+    fields: &[WrittenField],
+    types: &[Written],
+) -> Result<Fields, AllocError>
+    ensures value { IfOk result (λ made. seen_fields made ≡ map (field_in (shapes_of types.now)) fields.now) }
+{
+    let mut held = Vec::with_capacity(alloc, fields.len())?;
+    for field in fields {
+        let name = Text::from_str(alloc, field.name.as_str())?;
+        let ty = write_out(alloc, &field.ty, types)?;
+        held.push(Field {
+            name,
+            ty,
+            number: field.number,
+            code: field.code,
+        })?;
+    }
+    Ok(Fields::from_vec(held))
 }

@@ -95,6 +95,20 @@ fn a_name_that_is_not_seen_is_looked_for_outside(rt: HostRuntime) -> Result<(), 
     Ok(())
 }
 
+#[test]
+fn a_declaration_is_taken_back(rt: HostRuntime) -> Result<(), Fail> {
+    let mut scopes = two_blocks(rt.alloc())?;
+    scopes.undeclare();
+    assert!(rt; scopes.find("y").is_none());
+    assert!(rt; means(&scopes, "x", Meaning::Table(3)));
+    scopes.undeclare();
+    assert!(rt; means(&scopes, "x", Meaning::Var(1)));
+    scopes.undeclare();
+    assert!(rt; means(&scopes, "x", Meaning::Var(1)));
+    assert_eq!(rt; scopes.depth(), 2);
+    Ok(())
+}
+
 // Declares a name for each number below `count`, with the number as what it means.
 fn declare_many(scopes: &mut Scopes, alloc: Global, count: u32) -> Result<(), Fail> {
     for number in 0..count {
