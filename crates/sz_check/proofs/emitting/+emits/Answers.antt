@@ -1,4 +1,4 @@
-use Rattle.std.proofs.Common.{◌≡◌, map, sym, ap, ◌∙◌, arith}
+use Rattle.std.proofs.Common.{map, sym, ap, ◌∙◌, arith}
 use Rattle.sz_core.specs.View.{signature_of, form_of}
 use Rattle.sz_core.proofs.ForCallers.{form_of_call, form_of_builtin}
 use Rattle.sz_check.proofs.EmitLemmas.{nodes_turn, call_emits, builtin_emits, pairings_turn, holds_whole, rest_decides, first_holds, second_decides}

@@ -1,4 +1,4 @@
-use Rattle.std.proofs.Common.{◌≡◌, map, sym, ap, ◌∙◌, arith}
+use Rattle.std.proofs.Common.{map, sym, ◌∙◌, arith}
 use Rattle.sz_core.specs.View.{signature_of}
 use Rattle.sz_check.proofs.EmitLemmas.{stms_turn, holds_whole, rest_decides}
 use Rattle.sz_check.proofs.emitting.+stm_emits.Goals as goal
