@@ -44,7 +44,8 @@ module _ (fs : List Signature) where
   builtin_emits form b v ns is items = ap (λ (es : List CoreExpr). nodes_emit fs (nodes_of (map node_of es))) items ∙ sym (ap (form_emits fs) is)
 
   pub pairings_turn : (ps : List CorePair) (i : ℕ) (p : CorePair) → i < length ps → p ≡ get_or ps i p
-      → pairings_emit fs (pairings_of (map pairing_of (drop i ps))) ≡ (node_emits fs (node_of p.key) || node_emits fs (node_of p.value) || pairings_emit fs (pairings_of (map pairing_of (drop (i + 1) ps))))
+      → pairings_emit fs (pairings_of (map pairing_of (drop i ps)))
+      ≡ (node_emits fs (node_of p.key) || node_emits fs (node_of p.value) || pairings_emit fs (pairings_of (map pairing_of (drop (i + 1) ps))))
   unfolding pairings_emit
   pairings_turn ps i p within is = rw (rest_more pairing_of ps i p within is) refl
 

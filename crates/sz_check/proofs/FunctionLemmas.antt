@@ -1,5 +1,6 @@
 -- Declarations of functions, by their parts.
-use Rattle.std.proofs.Common.{◌≡◌, ℕ, ◌+◌, ◌<◌, ◌≤◌, List, [], ◌∷◌, ◌++◌, length, get_or, drop, map, Bool, true, false, refl, sym, ap, ◌∙◌, subst, append_assoc, arith}
+use Rattle.std.proofs.Common.{◌≡◌, ℕ, ◌+◌, ◌<◌, ◌≤◌, List, [], ◌∷◌, ◌++◌, length, get_or, drop, map, Bool, true, false}
+use Rattle.std.proofs.Common.{refl, sym, ap, ◌∙◌, subst, append_assoc, arith}
 use Rattle.std.proofs.Math.Path.{fun_ext}
 use Rattle.std.proofs.lemmas.List.{append-nil, length-drop}
 use Rattle.std.specs.Prelude.{Result, Ok, Err, if◌then◌else◌, min}
@@ -44,27 +45,32 @@ record AreDeclared (ps : Params) (b : Block) (locals : List Shape) (front : Scen
 
 -- parameters, from the innermost block and the variables so far
 abbrev AllDeclare : Params → Type 0
-AllDeclare ps = (b : Block) (bs : List Block) (locals : List Shape) (front : Scene) → judge_parameters (on b bs locals) ps ≡ good front → AreDeclared ps b locals front
+AllDeclare ps =
+    (b : Block) (bs : List Block) (locals : List Shape) (front : Scene) → judge_parameters (on b bs locals) ps ≡ good front → AreDeclared ps b locals front
 
 module _ (n : Ident) (t : Typ) (ps : Params) (rest : AllDeclare ps) (b : Block) (bs : List Block) (locals : List Shape) (front : Scene) where
   abbrev named : Shape → Named
   named u = record { name = n.text; meaning = names.variable (length locals) u }
 
+  -- the parameters behind one of this type
+  abbrev behind : Shape → List Block → Judged Scene
+  behind u blocks = judge_parameters (record { blocks = blocks; locals = locals ++ u ∷ [] }) ps
+
   by_test : (u : Shape) (c : Bool) → has n.text b ≡ c
-      → ((if c then declared_twice n else good ((named u ∷ b) ∷ bs)) >>= λ blocks. judge_parameters (record { blocks = blocks; locals = locals ++ u ∷ [] }) ps) ≡ good front
+      → ((if c then declared_twice n else good ((named u ∷ b) ∷ bs)) >>= behind u) ≡ good front
       → AreDeclared (param n t ps) b locals front
   unfolding declare_parameters
   by_test u true e h = absurd cc
   by_test u false e h =
-      let behind = rest (named u ∷ b) bs (locals ++ u ∷ []) front h in
+      let are = rest (named u ∷ b) bs (locals ++ u ∷ []) front h in
       record {
-        types = u ∷ behind.types;
-        grown = behind.grown ∙ append_assoc locals (u ∷ []) behind.types;
-        declared = λ others. rw e (behind.declared others);
+        types = u ∷ are.types;
+        grown = are.grown ∙ append_assoc locals (u ∷ []) are.types;
+        declared = λ others. rw e (are.declared others);
       }
 
   by_type : (j : Judged Shape)
-      → (j >>= λ u. names.declare n (names.variable (length locals) u) (b ∷ bs) >>= λ blocks. judge_parameters (record { blocks = blocks; locals = locals ++ u ∷ [] }) ps) ≡ good front
+      → (j >>= λ u. names.declare n (names.variable (length locals) u) (b ∷ bs) >>= behind u) ≡ good front
       → AreDeclared (param n t ps) b locals front
   by_type (Ok u) h = by_test u (has n.text b) refl h
   by_type (Err r) h = absurd cc
@@ -128,8 +134,8 @@ module _ (k : Known) (n : Ident) (ps : Params) (t : Typ) (ss : Stms) (unknown : 
   left : (judge_body own ps unknown ss >>= finished k n unknown) ≡ judge_function k n ps t ss
   left =
       let here : names.declare n (names.function (length k.functions) unknown) (blocks_of k) ≡ Ok own =
-          subst (λ (bs : List Block). names.declare n (names.function (length k.functions) unknown) bs ≡ Ok own) same
-          (subst (λ (m : ℕ). names.declare n (names.function m unknown) blocks ≡ Ok own) next is) in
+      subst (λ (bs : List Block). names.declare n (names.function (length k.functions) unknown) bs ≡ Ok own) same
+      (subst (λ (m : ℕ). names.declare n (names.function m unknown) blocks ≡ Ok own) next is) in
       goes_on (names.declare n (names.function (length k.functions) unknown) (blocks_of k)) (λ bs. judge_body bs ps unknown ss >>= finished k n unknown)
       (judge_function k n ps t ss) own here
       (goes_on (judge_header (blocks_of k) ps t) (by_parts k n ps t ss) (judge_function k n ps t ss) unknown header (sym (function_is k n ps t ss)))
@@ -142,16 +148,19 @@ module _ (k : Known) (n : Ident) (ps : Params) (t : Typ) (ss : Stms) (unknown : 
   pub body_makes : {X : Type 0} (view : X → Found) (r : Result X CheckError) (body : Body) (j : Known) → judge_body own ps unknown ss ≡ Ok body → j ≡ k
       → Judges view r (finished j n unknown body) → Judges view r (judge_function k n ps t ss)
   body_makes view r body j made again h =
-      subst (Judges view r) (ap (λ (i : Known). finished i n unknown body) again ∙ goes_on (judge_body own ps unknown ss) (finished k n unknown) (judge_function k n ps t ss) body made left) h
+      subst (Judges view r)
+      (ap (λ (i : Known). finished i n unknown body) again
+      ∙ goes_on (judge_body own ps unknown ss) (finished k n unknown) (judge_function k n ps t ss) body made left)
+      h
 
 -- ---- what is known where a name that was declared is taken back
 
-pub known_again : (k declared there back : Held) (n : Ident) (m : Meaning) → names.declare n m (seen_of k) ≡ Ok (seen_of declared) → declared.outside ≡ k.outside
-    → declared.locals ≡ k.locals → there ≡ declared
+pub known_again : (k declared there back : Held) (n : Ident) (m : Meaning) → names.declare n m (seen_of k) ≡ Ok (seen_of declared)
+    → declared.outside ≡ k.outside → declared.locals ≡ k.locals → there ≡ declared
     → ((x : Named) (b : Block) → there.innermost ≡ x ∷ b → back ≡ record there { innermost = b }) → back ≡ k
 known_again k declared there back n m named outside locals same undone =
     let first : declared.innermost ≡ record { name = n.text; meaning = m } ∷ k.innermost =
-        ap (λ (bs : List Block). head bs) (declared_is n m k.innermost k.outside.seen (seen_of declared) named) in
+    ap (λ (bs : List Block). head bs) (declared_is n m k.innermost k.outside.seen (seen_of declared) named) in
     undone (record { name = n.text; meaning = m }) k.innermost (ap (λ (h : Held). h.innermost) same ∙ first)
     ∙ (λ i. record {
       innermost = k.innermost;

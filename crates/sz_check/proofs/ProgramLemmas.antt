@@ -1,5 +1,6 @@
 -- Turns of the loop over statements at the top level, and declarations that are made twice.
-use Rattle.std.proofs.Common.{◌≡◌, ℕ, ◌+◌, ◌<◌, ◌≤◌, Bool, true, false, List, [], ◌∷◌, ◌++◌, length, get_or, drop, map, refl, sym, ap, ◌∙◌, subst, append_assoc}
+use Rattle.std.proofs.Common.{◌≡◌, ℕ, ◌+◌, ◌<◌, ◌≤◌, Bool, true, false, List, [], ◌∷◌, ◌++◌, length, get_or, drop, map}
+use Rattle.std.proofs.Common.{refl, sym, ap, ◌∙◌, subst, append_assoc}
 use Rattle.std.proofs.lemmas.List.{append-nil}
 use Rattle.std.specs.Prelude.{Ok, Err, if◌then◌else◌}
 use Rattle.std.specs.Global.{Vec}
@@ -22,9 +23,12 @@ use Rattle.sz_check.specs.declared.error.CheckError.{CheckError}
 use Rattle.sz_check.specs.declared.error.CheckError.TheVariants as errors
 use Rattle.sz_check.proofs.ListLemmas.{rest_more, rest_none}
 
+-- the statements behind the first, with what the first is
+abbrev behind : List Stmt → Found → Judged Found
+behind ts first = judge_all first.known (stms_of (map stm_of ts)) >>= λ rest. Ok (record { known = rest.known; items = first.items ++ rest.items })
+
 all_turn : (k : Known) (ts : List Stmt) (i : ℕ) (t : Stmt) → i < length ts → t ≡ get_or ts i t
-    → judge_all k (stms_of (map stm_of (drop i ts)))
-    ≡ (judge_top k (stm_of t) >>= λ first. judge_all first.known (stms_of (map stm_of (drop (i + 1) ts))) >>= λ rest. Ok (record { known = rest.known; items = first.items ++ rest.items }))
+    → judge_all k (stms_of (map stm_of (drop i ts))) ≡ (judge_top k (stm_of t) >>= behind (drop (i + 1) ts))
 unfolding judge_all
 all_turn k ts i t within is = rw (rest_more stm_of ts i t within is) refl
 
@@ -32,9 +36,10 @@ pub all_fails : (front : List Item) (k : Known) (ts : List Stmt) (i : ℕ) (t : 
     → Stops e (judge_top k (stm_of t)) → with_items front (judge_all k (stms_of (map stm_of (drop i ts)))) ≡ whole → Stops e whole
 all_fails front k ts i t errors.NoMemory whole within is h so_far = tt
 all_fails front k ts i t (errors.Refused n p name) whole within is h so_far =
-    sym so_far ∙ ap (with_items front) (all_turn k ts i t within is ∙ ap (λ (j : Judged Found). j >>= λ first. judge_all first.known (stms_of (map stm_of (drop (i + 1) ts))) >>= λ rest. Ok (record { known = rest.known; items = first.items ++ rest.items })) h)
+    sym so_far ∙ ap (with_items front) (all_turn k ts i t within is ∙ ap (λ (j : Judged Found). j >>= behind (drop (i + 1) ts)) h)
 
-joined : (front items : List Item) (j : Judged Found) → with_items front (j >>= λ rest. Ok (record { known = rest.known; items = items ++ rest.items })) ≡ with_items (front ++ items) j
+joined : (front items : List Item) (j : Judged Found)
+    → with_items front (j >>= λ rest. Ok (record { known = rest.known; items = items ++ rest.items })) ≡ with_items (front ++ items) j
 joined front items (Err r) = refl
 joined front items (Ok rest) = ap (λ (is : List Item). Ok (record { known = rest.known; items = is })) (sym (append_assoc front items rest.items))
 
@@ -43,14 +48,15 @@ pub all_go : (front : List Item) (k : Known) (ts : List Stmt) (i : ℕ) (t : Stm
     → with_items (front ++ first.items) (judge_all first.known (stms_of (map stm_of (drop (i + 1) ts)))) ≡ whole
 all_go front k ts i t first whole within is h so_far =
     sym (joined front first.items (judge_all first.known (stms_of (map stm_of (drop (i + 1) ts)))))
-    ∙ ap (with_items front) (ap (λ (j : Judged Found). j >>= λ first. judge_all first.known (stms_of (map stm_of (drop (i + 1) ts))) >>= λ rest. Ok (record { known = rest.known; items = first.items ++ rest.items })) (sym h) ∙ sym (all_turn k ts i t within is))
+    ∙ ap (with_items front) (ap (λ (j : Judged Found). j >>= behind (drop (i + 1) ts)) (sym h) ∙ sym (all_turn k ts i t within is))
     ∙ so_far
 
 pub all_end : (front : List Item) (k : Known) (ts : List Stmt) (i : ℕ) (whole : Judged Found) → length ts ≤ i
     → with_items front (judge_all k (stms_of (map stm_of (drop i ts)))) ≡ whole → whole ≡ Ok (record { known = k; items = front })
 unfolding judge_all
 all_end front k ts i whole over so_far =
-    sym so_far ∙ ap (λ (rest : List _). with_items front (judge_all k (stms_of rest))) (rest_none stm_of ts i over) ∙ ap (λ (is : List Item). Ok (record { known = k; items = is })) (append-nil front)
+    sym so_far ∙ ap (λ (rest : List _). with_items front (judge_all k (stms_of rest))) (rest_none stm_of ts i over)
+    ∙ ap (λ (is : List Item). Ok (record { known = k; items = is })) (append-nil front)
 
 -- a declaration of a function, as it stands in a tree
 pub of_function : (k : Known) (s : Stmt) (n : Ident) (params : Vec Param) (t : TypeTree) (body : Vec Stmt) (ps : List Param) (ss : List Stmt)
@@ -69,7 +75,8 @@ is_made (Ok y) = Unit {0}
 is_made (Err r) = ⊥
 
 -- what is declared is the first name of the innermost block
-pub declared_is : (n : Ident) (m : Meaning) (b : Block) (bs new : List Block) → declare n m (b ∷ bs) ≡ Ok new → new ≡ (record { name = n.text; meaning = m } ∷ b) ∷ bs
+pub declared_is : (n : Ident) (m : Meaning) (b : Block) (bs new : List Block) → declare n m (b ∷ bs) ≡ Ok new
+    → new ≡ (record { name = n.text; meaning = m } ∷ b) ∷ bs
 declared_is n m b bs new h = by_test (has n.text b) refl
   where
     choice : Bool → Judged (List Block)

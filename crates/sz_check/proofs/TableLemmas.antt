@@ -53,7 +53,8 @@ put_types (t ∷ ts) = ap (λ (us : List Shape). t ∷ us) (put_types ts)
 
 module _ (blocks : List Block) where
   elems_turn : (es : List Elem) (i : ℕ) (e : Elem) → i < length es → e ≡ get_or es i e
-      → judge_elems blocks (map elem_of (drop i es)) ≡ (judge_type blocks (type_of e.of) >>= λ t. judge_elems blocks (map elem_of (drop (i + 1) es)) >>= λ ts. Ok (with_type t ts))
+      → judge_elems blocks (map elem_of (drop i es))
+      ≡ (judge_type blocks (type_of e.of) >>= λ t. judge_elems blocks (map elem_of (drop (i + 1) es)) >>= λ ts. Ok (with_type t ts))
   unfolding judge_elems
   elems_turn es i e within is = rw (rest_more elem_of es i e within is) refl
 
@@ -74,7 +75,8 @@ module _ (blocks : List Block) where
       turn_ends with_type front [] _ whole (ap (judge_elems blocks) (rest_none elem_of es i over)) so_far ∙ ap (λ (ts : List Shape). Ok ts) (put_types front)
 
 -- a field in front of fields: its type decides, or else those behind it
-pub whole_numbers : (name : List ℕ) (t : Shape) (number : ℕ) (code : Encoding) (fs : FieldShapes) → are_whole_numbers (with_field (field name t number code) fs) ≡ (is_int t && are_whole_numbers fs)
+pub whole_numbers : (name : List ℕ) (t : Shape) (number : ℕ) (code : Encoding) (fs : FieldShapes)
+    → are_whole_numbers (with_field (field name t number code) fs) ≡ (is_int t && are_whole_numbers fs)
 whole_numbers name Shape.truth number code fs = refl
 whole_numbers name Shape.int number code fs = refl
 whole_numbers name Shape.time number code fs = refl

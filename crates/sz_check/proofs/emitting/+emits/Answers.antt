@@ -1,9 +1,10 @@
-use Rattle.std.proofs.Common.{◌≡◌, map, sym, ap, ◌∙◌, arith}
+use Rattle.std.proofs.Common.{map, sym, ap, ◌∙◌, arith}
 use Rattle.sz_core.specs.View.{signature_of, form_of}
 use Rattle.sz_core.proofs.ForCallers.{form_of_call, form_of_builtin}
 use Rattle.sz_check.proofs.EmitLemmas.{nodes_turn, call_emits, builtin_emits, pairings_turn, holds_whole, rest_decides, first_holds, second_decides}
 use Rattle.sz_check.proofs.emitting.+emits.Goals as goal
-use Rattle.sz_check.proofs.emitting.+emits.Goals.{pairings_emit-then-node_emits-via-then-node_emits, pairings_emit-then-node_emits-via-else-node_emits+then-node_emits-2}
+use Rattle.sz_check.proofs.emitting.+emits.Goals.{pairings_emit-then-node_emits-via-then-node_emits}
+use Rattle.sz_check.proofs.emitting.+emits.Goals.{pairings_emit-then-node_emits-via-else-node_emits+then-node_emits-2}
 
 pub form_emits-returns-else-is_emitting : goal.form_emits-returns-else-is_emitting
 form_emits-returns-else-is_emitting t c = record {
@@ -32,10 +33,10 @@ pub pairings_emit-returns-then-node_emits : goal.pairings_emit-returns-then-node
 pairings_emit-returns-then-node_emits t c =
     let turn = pairings_turn (map signature_of c.args.functions.now) c.args.pairs.now c.loop-pair.pair-index c.pair-item.result (omega arith) c.pair-item.is in
     elim c.then-node_emits.branch [
-      pairings_emit-then-node_emits-via-then-node_emits w ↦ record {
+      | pairings_emit-then-node_emits-via-then-node_emits w ↦ record {
         value = holds_whole _ _ _ (sym turn ∙ c.loop-pair.invariant) (first_holds _ _ (sym c.node_emits.ensures.value ∙ w.if-node_emits.true));
       }
-    | pairings_emit-then-node_emits-via-else-node_emits+then-node_emits-2 w ↦ record {
+      | pairings_emit-then-node_emits-via-else-node_emits+then-node_emits-2 w ↦ record {
         value = holds_whole _ _ _ (sym turn ∙ c.loop-pair.invariant) (second_decides _ _ _ (sym c.node_emits.ensures.value ∙ w.if-node_emits.false)
             (sym w.node_emits-else-node_emits.ensures.value ∙ w.if-node_emits-2.true));
       }

@@ -7,8 +7,10 @@ use Rattle.sz_check.proofs.emitting.+emits.Given as goal
 
 abbrev pub invariant-nodes_emit-loop-node : goal.invariant-nodes_emit-loop-node
 invariant-nodes_emit-loop-node l =
-    nodes_emit (map signature_of l.functions) (nodes_of (map node_of (drop l.node-index l.nodes))) ≡ nodes_emit (map signature_of l.functions) (nodes_of (map node_of l.nodes))
+    nodes_emit (map signature_of l.functions) (nodes_of (map node_of (drop l.node-index l.nodes)))
+    ≡ nodes_emit (map signature_of l.functions) (nodes_of (map node_of l.nodes))
 
 abbrev pub invariant-pairings_emit-loop-pair : goal.invariant-pairings_emit-loop-pair
 invariant-pairings_emit-loop-pair l =
-    pairings_emit (map signature_of l.functions) (pairings_of (map pairing_of (drop l.pair-index l.pairs))) ≡ pairings_emit (map signature_of l.functions) (pairings_of (map pairing_of l.pairs))
+    pairings_emit (map signature_of l.functions) (pairings_of (map pairing_of (drop l.pair-index l.pairs)))
+    ≡ pairings_emit (map signature_of l.functions) (pairings_of (map pairing_of l.pairs))

@@ -7,4 +7,5 @@ use Rattle.sz_check.proofs.emitting.+stm_emits.Given as goal
 
 abbrev pub invariant-stms_emit-loop-statement : goal.invariant-stms_emit-loop-statement
 invariant-stms_emit-loop-statement l =
-    stms_emit (map signature_of l.functions) (stms_of (map stm_of (drop l.statement-index l.statements))) ≡ stms_emit (map signature_of l.functions) (stms_of (map stm_of l.statements))
+    stms_emit (map signature_of l.functions) (stms_of (map stm_of (drop l.statement-index l.statements)))
+    ≡ stms_emit (map signature_of l.functions) (stms_of (map stm_of l.statements))

@@ -5,4 +5,6 @@ use Rattle.sz_core.specs.Emitting.{steps_emit}
 use Rattle.sz_check.proofs.emitting.steps_emit.Given as goal
 
 abbrev pub invariant-loop-step : goal.invariant-loop-step
-invariant-loop-step l = steps_emit (map signature_of l.functions) (map step_of (drop l.step-index l.steps)) ≡ steps_emit (map signature_of l.functions) (map step_of l.steps)
+invariant-loop-step l =
+    steps_emit (map signature_of l.functions) (map step_of (drop l.step-index l.steps))
+    ≡ steps_emit (map signature_of l.functions) (map step_of l.steps)

@@ -26,8 +26,8 @@ returns-in_err-body c =
 pub returns : goal.returns
 returns c =
     let known = known_again c.judge_header.new.known c.declare_function.new.top.known c.judge_body.new.known c.undeclare.new.self c.args.name.now
-        (function (length c.args.top.now.functions.items) (signature_of c.in_ok-unknown.unknown)) c.in_ok-declare_function.ensures.value
-        c.in_ok-declare_function.ensures.outside c.in_ok-declare_function.ensures.locals c.in_ok-body.ensures.kept c.undeclare.ensures.value in
+    (function (length c.args.top.now.functions.items) (signature_of c.in_ok-unknown.unknown)) c.in_ok-declare_function.ensures.value
+    c.in_ok-declare_function.ensures.outside c.in_ok-declare_function.ensures.locals c.in_ok-body.ensures.kept c.undeclare.ensures.value in
     record {
       value = body_makes (top_of c.args.top.now) c.args.name.now (params_of (map param_of c.args.params.now)) (type_of c.args.of.now)
           (stms_of (map stm_of c.args.trees.now)) (signature_of c.in_ok-unknown.unknown) (length c.args.top.now.functions.items)

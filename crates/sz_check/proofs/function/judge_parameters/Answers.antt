@@ -1,4 +1,4 @@
-use Rattle.std.proofs.Common.{◌≡◌, ◌∙◌, arith}
+use Rattle.std.proofs.Common.{◌∙◌, arith}
 use Rattle.std.proofs.lemmas.Result.{err_from_is_err_and}
 use Rattle.sz_types.specs.Seen.{seen}
 use Rattle.sz_check.specs.Holding.{scene_of}
@@ -8,8 +8,8 @@ use Rattle.sz_check.proofs.function.judge_parameters.Goals as goal
 pub returns-in_err-ty-clause-value : goal.returns-in_err-ty-clause-value
 returns-in_err-ty-clause-value c =
     let p = err_from_is_err_and c.from_residual.result c.from_residual.ensures.1 in
-    rw (p.1, p.2) (param_type_fails (scene_of c.loop-tree.known) c.args.trees.now c.loop-tree.tree-index c.tree-item.result c.in_err-ty.field-0.0 _ (omega arith)
-    c.tree-item.is c.in_err-ty.ensures.value c.loop-tree.invariant.judged)
+    rw (p.1, p.2) (param_type_fails (scene_of c.loop-tree.known) c.args.trees.now c.loop-tree.tree-index c.tree-item.result c.in_err-ty.field-0.0 _
+    (omega arith) c.tree-item.is c.in_err-ty.ensures.value c.loop-tree.invariant.judged)
 
 pub returns-in_err-_number-clause-value : goal.returns-in_err-_number-clause-value
 returns-in_err-_number-clause-value c =
