@@ -1,5 +1,5 @@
--- A conversion by the name of a type, by its first argument.
-use Rattle.std.proofs.Common.{◌≡◌, ◌<◌, ℕ, Bool, true, false, List, [], ◌∷◌, length, map, Some, None, refl, sym, ap, ◌∙◌, nat_eq, arith}
+-- Calls and composites, by what the code looks at first.
+use Rattle.std.proofs.Common.{◌≡◌, ◌<◌, Bool, true, false, List, [], ◌∷◌, length, map, Some, None, refl, sym, nat_eq, arith}
 use Rattle.std.proofs.lemmas.Bool.{ne_eqb}
 use Rattle.std.specs.Prelude.{Ok, Err, ◌&&◌}
 use Rattle.sz_types.specs.Data.{Shape, FieldShapes, fields_of}
@@ -35,7 +35,8 @@ as_it_is : (j : Judged Node) → j ≡ (j >>= λ c. Ok c)
 as_it_is (Ok c) = refl
 as_it_is (Err r) = refl
 
-pub conversion_is : (n : Ident) (t : Shape) (es : Exps) (ns : Nodes) → conversion_call n t es ns ≡ conversion_of_first n t es (first_node ns) (is_one es && is_one_node ns)
+pub conversion_is : (n : Ident) (t : Shape) (es : Exps) (ns : Nodes)
+    → conversion_call n t es ns ≡ conversion_of_first n t es (first_node ns) (is_one es && is_one_node ns)
 conversion_is n t end ns = refl
 conversion_is n t (more e end) no_nodes = refl
 conversion_is n t (more e (more f es)) no_nodes = refl
@@ -54,11 +55,13 @@ one_node_is (n ∷ []) = refl
 one_node_is (n ∷ m ∷ ns) = sym (ne_eqb (length (n ∷ m ∷ ns)) 1 (λ p. absurd (omega (arith, p))))
 
 -- what a composite with parts asks, as a tuple or as a message
-pub tuple_asks : (fs : FieldShapes) (es : List Expr) → 0 < length es → asks_of_list (Some (Shape.tuple fs)) (exps_of (map tree_of es)) ≡ in_turn (field_types fs)
+pub tuple_asks : (fs : FieldShapes) (es : List Expr) → 0 < length es
+    → asks_of_list (Some (Shape.tuple fs)) (exps_of (map tree_of es)) ≡ in_turn (field_types fs)
 tuple_asks fs [] h = absurd (omega (arith, h))
 tuple_asks fs (e ∷ es) h = refl
 
-pub proto_asks : (fs : FieldShapes) (es : List Expr) → 0 < length es → asks_of_list (Some (Shape.proto fs)) (exps_of (map tree_of es)) ≡ in_turn (field_types fs)
+pub proto_asks : (fs : FieldShapes) (es : List Expr) → 0 < length es
+    → asks_of_list (Some (Shape.proto fs)) (exps_of (map tree_of es)) ≡ in_turn (field_types fs)
 proto_asks fs [] h = absurd (omega (arith, h))
 proto_asks fs (e ∷ es) h = refl
 

@@ -1,5 +1,5 @@
 -- Types by their levels.
-use Rattle.std.proofs.Common.{◌≡◌, Bool, true, false, sym, ap, refl, ◌∙◌}
+use Rattle.std.proofs.Common.{◌≡◌, Bool, true, false, sym, refl}
 use Rattle.std.specs.Prelude.{◌↔◌, IsTrue}
 use Rattle.sz_types.specs.Data.{Shape}
 use Rattle.sz_types.specs.Same.{alike}

@@ -1,5 +1,5 @@
 -- What contracts see of the types that a place asks for.
-use Rattle.std.specs.Prelude.{ℕ, List, map, Option}
+use Rattle.std.specs.Prelude.{ℕ, map, Option}
 use Rattle.std.specs.Option.{option_map}
 use Rattle.std.specs.Borrow.{Bor}
 use Rattle.sz_types.specs.Data.{Shape, fields_of}

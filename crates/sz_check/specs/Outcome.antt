@@ -1,6 +1,5 @@
 -- What a function that judges returned, against the judgement.
-use Rattle.std.specs.Prelude.{◌≡◌, Option, Some, None, Result, Ok, Err}
-use Rattle.std.specs.Option.{option_map}
+use Rattle.std.specs.Prelude.{◌≡◌, Result, Ok, Err}
 use Rattle.sz_check.specs.declared.error.CheckError.{CheckError}
 use Rattle.sz_check.specs.declared.error.CheckError.TheVariants as errors
 use Rattle.sz_check.specs.Refusals.{Judged}

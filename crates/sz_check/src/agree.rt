@@ -1,30 +1,42 @@
 //! Whether expressions have the types that a place asks of them.
-ghost use Rattle.std.specs.Prelude.{◌≡◌, map as each, Some as Just};
-ghost use Rattle.sz_types.specs.Data.{fields_of};
-ghost use Rattle.sz_types.specs.Seen.{seen, seen_field};
+ghost use Rattle.std.specs.Prelude.{map as each};
+ghost use Rattle.sz_types.specs.Seen.{seen};
 ghost use Rattle.sz_tree.specs.Expressions.{exps_of, pairs_of};
 ghost use Rattle.sz_tree.specs.View.{tree_of, pair_of};
 ghost use Rattle.sz_core.specs.Nodes.{nodes_of, pairings_of};
 ghost use Rattle.sz_core.specs.View.{node_of, pairing_of};
 ghost use Rattle.sz_check.specs.Agreeing.{agrees, agree, pairs_agree, counted, converted};
 ghost use Rattle.sz_check.specs.Asking.{asks_of, asked_of};
+ghost use Rattle.sz_check.specs.Calling.{fits};
 ghost use Rattle.sz_check.specs.Outcome.{Judges};
 
 use crate::asks::Asks;
 use crate::error::{CheckError, at};
+use crate::path::conversion_node;
 use crate::rows::alike;
 use std::alloc::Global;
-use sz_core::{CoreExpr, CorePair, Form};
+use sz_core::{CoreExpr, CorePair};
 use sz_tree::{Expr, Pair};
-use sz_types::{Place, Ty, converts, copy_ty};
+use sz_types::{Place, Ty, copy_ty};
+
+// Nothing is refused where the test holds; else the expression has the wrong type.
+pub fn fits(holds: bool, tree: &Expr) -> Result<(), CheckError>
+    ensures value { Judges (λ x. x) result (fits holds (tree_of tree.now)) }
+{
+    if holds {
+        Ok(())
+    } else {
+        Err(at(9, tree.place()))
+    }
+}
 
 // The expression has the type that is asked, if one is; else it is the wrong one.
 pub fn agrees(asked: Option<&Ty>, tree: &Expr, node: &CoreExpr) -> Result<(), CheckError>
     ensures value { Judges (λ x. x) result (agrees (asked_of asked.entry) (tree_of tree.now) (node_of node.now)) }
 {
     match asked {
-        Some(ty) if !alike(&node.ty, ty) => Err(at(9, tree.place())),
-        _ => Ok(()),
+        Some(ty) => fits(alike(&node.ty, ty), tree),
+        None => Ok(()),
     }
 }
 
@@ -79,14 +91,8 @@ pub fn converted(
     ensures value { Judges node_of result (converted (seen ty.now) (tree_of tree.now) (node_of node)) }
 {
     if alike(&node.ty, ty) {
-        return Ok(node);
+        Ok(node)
+    } else {
+        conversion_node(alloc, tree.place(), copy_ty(alloc, ty)?, tree, node)
     }
-    if !converts(&node.ty, ty) {
-        return Err(at(9, tree.place()));
-    }
-    Ok(CoreExpr {
-        place: tree.place(),
-        ty: copy_ty(alloc, ty)?,
-        form: Form::Convert(Box::new(alloc, node)?),
-    })
 }

@@ -11,16 +11,16 @@ ghost use Rattle.sz_check.specs.Agreeing.{arguments_fit, arity};
 ghost use Rattle.sz_check.specs.JudgingExpressions.{variable_node};
 ghost use Rattle.sz_check.specs.JudgingCalls.{callee_of, asks_of_callee, declared_call, predeclared_call, conversion_call, made_call};
 ghost use Rattle.sz_check.specs.Asking.{asks_of};
-ghost use Rattle.sz_check.specs.Calling.{callee_seen, fits, first_node, conversion_of_first};
+ghost use Rattle.sz_check.specs.Calling.{callee_seen, first_node, conversion_of_first};
 ghost use Rattle.sz_check.specs.Holding.{means_of};
 ghost use Rattle.sz_check.specs.Outcome.{Judges};
 
-use crate::agree::{agree, counted};
+use crate::agree::{agree, counted, fits};
 use crate::asks::Asks;
 use crate::error::{CheckError, at, of};
 use crate::meaning::Means;
 use crate::path::conversion_node;
-use crate::rows::{builtin_row, has_keys_of, has_length, is_found_in, is_map, is_searched_for};
+use crate::rows::{builtin_row, has_elements, has_keys_of, is_found_in, is_map, is_searched_for};
 use std::alloc::Global;
 use sz_core::{CoreExpr, Form, Signature};
 use sz_tree::{Expr, Name};
@@ -80,17 +80,6 @@ fn arity(function: Builtin) -> usize
     }
 }
 
-// Nothing is refused where the argument fits; else it has the wrong type.
-fn fits(holds: bool, tree: &Expr) -> Result<(), CheckError>
-    ensures value { Judges (λ x. x) result (fits holds (tree_of tree.now)) }
-{
-    if holds {
-        Ok(())
-    } else {
-        Err(at(9, tree.place()))
-    }
-}
-
 // The arguments of `haskey`, the first of which is there.
 fn key_fits(
     tree: &Expr,
@@ -140,7 +129,7 @@ fn arguments_fit(function: Builtin, trees: &[Expr], nodes: &[CoreExpr]) -> Resul
         return Ok(());
     };
     match function {
-        Builtin::Len => fits(has_length(&node.ty), tree),
+        Builtin::Len => fits(has_elements(&node.ty), tree),
         Builtin::Keys => fits(is_map(&node.ty), tree),
         Builtin::HasKey => key_fits(tree, trees, node, nodes),
         Builtin::StrFind => part_fits(tree, trees, node, nodes),
@@ -204,12 +193,12 @@ fn first_of(nodes: Vec<CoreExpr>) -> Option<CoreExpr>
 fn conversion_of_first(
     alloc: Global,
     name: &Name,
-    ty: &Ty,
+    ty: Ty,
     trees: &[Expr],
     node: Option<CoreExpr>,
     is_single: bool,
 ) -> Result<CoreExpr, CheckError>
-    ensures value { Judges node_of result (conversion_of_first name.now (seen ty.now) (exps_of (each tree_of trees.now)) (option_map node_of node) is_single) }
+    ensures value { Judges node_of result (conversion_of_first name.now (seen ty) (exps_of (each tree_of trees.now)) (option_map node_of node) is_single) }
 {
     let place = name.place();
     let ([tree, ..], Some(node)) = (trees, node) else {
@@ -228,11 +217,11 @@ fn conversion_of_first(
 fn conversion_call(
     alloc: Global,
     name: &Name,
-    ty: &Ty,
+    ty: Ty,
     trees: &[Expr],
     nodes: Vec<CoreExpr>,
 ) -> Result<CoreExpr, CheckError>
-    ensures value { Judges node_of result (conversion_call name.now (seen ty.now) (exps_of (each tree_of trees.now)) (nodes_of (each node_of nodes.items))) }
+    ensures value { Judges node_of result (conversion_call name.now (seen ty) (exps_of (each tree_of trees.now)) (nodes_of (each node_of nodes.items))) }
 {
     let is_single = trees.len() == 1 && nodes.len() == 1;
     conversion_of_first(alloc, name, ty, trees, first_of(nodes), is_single)
@@ -254,6 +243,6 @@ pub fn made_call(
             declared_call(alloc, may_emit, name, number, signature, trees, nodes)
         }
         Callee::Predeclared(function) => predeclared_call(alloc, name, function, trees, nodes),
-        Callee::Conversion(ty) => conversion_call(alloc, name, &ty, trees, nodes),
+        Callee::Conversion(ty) => conversion_call(alloc, name, ty, trees, nodes),
     }
 }

@@ -30,8 +30,7 @@ pub fn asks_of_list<'t>(asked: Option<&'t Ty>, trees: &[Expr]) -> Asks<'t>
     };
     match (type_kind(ty), trees) {
         (Kind::Array(element), _) => Asks::Each(element),
-        (Kind::Tuple(fields), [_, ..]) => Asks::Fields(fields),
-        (Kind::Proto(fields), [_, ..]) => Asks::Fields(fields),
+        (Kind::Tuple(fields) | Kind::Proto(fields), [_, ..]) => Asks::Fields(fields),
         _ => Asks::Nothing,
     }
 }
@@ -105,8 +104,9 @@ pub fn made_list(
     };
     match type_kind(ty) {
         Kind::Array(element) => made_array(alloc, place, element, trees, nodes),
-        Kind::Tuple(fields) => made_tuple(alloc, place, ty, fields, trees, nodes),
-        Kind::Proto(fields) => made_tuple(alloc, place, ty, fields, trees, nodes),
+        Kind::Tuple(fields) | Kind::Proto(fields) => {
+            made_tuple(alloc, place, ty, fields, trees, nodes)
+        }
         _ => Err(at(9, place)),
     }
 }

@@ -1,5 +1,5 @@
 //! Why a program is not checked.
-ghost use Rattle.std.specs.Prelude.{◌≡◌, Err, Some as Just, None as Nothing};
+ghost use Rattle.std.specs.Prelude.{◌≡◌, Err, None as Nothing};
 ghost use Rattle.sz_check.specs.Refusals.{refused_for};
 ghost use Rattle.sz_check.specs.Outcome.{Stops};
 ghost use Rattle.sz_check.specs.declared.error.CheckError.TheVariants.{Refused as refused};

@@ -1,5 +1,5 @@
 //! Expressions.
-ghost use Rattle.std.specs.Prelude.{◌≡◌, Option, map as each};
+ghost use Rattle.std.specs.Prelude.{Option, map as each};
 ghost use Rattle.sz_types.specs.Data.{Shape};
 ghost use Rattle.sz_tree.specs.Expressions.{exps_of, pairs_of, named, call, def, convert, list, mapping, field, unary};
 ghost use Rattle.sz_tree.specs.View.{tree_of, pair_of};
@@ -73,6 +73,7 @@ fn judge_named(
     variable_node(alloc, name, known.look_up(alloc, may_emit, name)?)
 }
 
+// A call: what the name calls, the arguments, and then the call of them.
 #[cycle(expr)]
 #[tactic(auto, unfolding(crate::specs::JudgingExpressions::judge_exp))]
 pub fn judge_call(
@@ -89,6 +90,7 @@ pub fn judge_call(
     made_call(alloc, may_emit, name, callee, arguments, nodes)
 }
 
+// `def(e)`.
 #[cycle(expr)]
 #[tactic(auto, unfolding(crate::specs::JudgingExpressions::judge_exp))]
 fn judge_def(
@@ -109,6 +111,7 @@ fn judge_def(
     })
 }
 
+// A conversion to a type that is a word.
 #[cycle(expr)]
 #[tactic(auto, unfolding(crate::specs::JudgingExpressions::judge_exp))]
 fn judge_conversion(
@@ -122,9 +125,10 @@ fn judge_conversion(
     ensures value { (asked : Option Shape) → Judges node_of result (judge_exp (blocks_for known.now may_emit) may_emit asked (convert place basic (tree_of tree.now))) }
 {
     let node = judge_exp(alloc, known, may_emit, None, tree)?;
-    conversion_node(alloc, place, &basic_type(basic), tree, node)
+    conversion_node(alloc, place, basic_type(basic), tree, node)
 }
 
+// `{e, ..}`.
 #[cycle(expr)]
 #[tactic(auto, unfolding(crate::specs::JudgingExpressions::judge_exp))]
 fn judge_list(
@@ -141,6 +145,7 @@ fn judge_list(
     made_list(alloc, place, asked, trees, nodes)
 }
 
+// `{k: v, ..}`.
 #[cycle(expr)]
 #[tactic(auto, unfolding(crate::specs::JudgingExpressions::judge_exp))]
 fn judge_mapping(
@@ -158,7 +163,7 @@ fn judge_mapping(
     made_mapping(alloc, place, asked, trees, nodes)
 }
 
-// An expression with several parts is handed on whole: its height bounds the depth of the calls. No other tree comes here.
+// `e[i]`. An expression with several parts is handed on whole: its height bounds the depth of the calls. No other tree comes here.
 #[cycle(expr)]
 #[tactic(auto, unfolding(crate::specs::JudgingExpressions::judge_exp))]
 fn judge_index(
@@ -177,7 +182,7 @@ fn judge_index(
     made_index(alloc, *place, part, key, node, at)
 }
 
-// As for an index.
+// `e[i: j]`, handed on as for an index.
 #[cycle(expr)]
 #[tactic(auto, unfolding(crate::specs::JudgingExpressions::judge_exp))]
 fn judge_slice(
@@ -197,6 +202,7 @@ fn judge_slice(
     made_slice(alloc, *place, part, from, to, node, first, last)
 }
 
+// `e.name`.
 #[cycle(expr)]
 #[tactic(auto, unfolding(crate::specs::JudgingExpressions::judge_exp))]
 fn judge_field(
@@ -213,6 +219,7 @@ fn judge_field(
     made_field(alloc, place, tree, node, name)
 }
 
+// An operator before its operand.
 #[cycle(expr)]
 #[tactic(auto, unfolding(crate::specs::JudgingExpressions::judge_exp))]
 fn judge_unary(
@@ -229,7 +236,7 @@ fn judge_unary(
     made_unary(alloc, place, op, tree, node)
 }
 
-// As for an index.
+// An operator between its operands, handed on as for an index.
 #[cycle(expr)]
 #[tactic(auto, unfolding(crate::specs::JudgingExpressions::judge_exp))]
 fn judge_binary(

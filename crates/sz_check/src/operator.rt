@@ -9,6 +9,7 @@ ghost use Rattle.sz_check.specs.Asking.{asked_of};
 ghost use Rattle.sz_check.specs.Operating.{operation_seen};
 ghost use Rattle.sz_check.specs.Outcome.{Judges};
 
+use crate::agree::fits;
 use crate::error::{CheckError, at};
 use crate::kind::{Kind, type_kind};
 use crate::rows::{alike, binary_row, unary_row};
@@ -155,11 +156,7 @@ fn made_operator(
 pub fn test(tree: &Expr, node: &CoreExpr) -> Result<(), CheckError>
     ensures value { Judges (λ x. x) result (test (tree_of tree.now) (node_of node.now)) }
 {
-    if alike(&node.ty, &Ty::Bool) {
-        Ok(())
-    } else {
-        Err(at(9, tree.place()))
-    }
+    fits(alike(&node.ty, &Ty::Bool), tree)
 }
 
 // An operator between its operands.

@@ -13,10 +13,11 @@ ghost use Rattle.sz_check.specs.Asking.{found_of};
 ghost use Rattle.sz_check.specs.Calling.{slice_node};
 ghost use Rattle.sz_check.specs.Outcome.{Judges};
 
+use crate::agree::fits;
 use crate::error::{CheckError, at, of};
 use crate::kind::{Kind, type_kind};
 use crate::number::small;
-use crate::rows::{alike, has_index, has_slices, index_row};
+use crate::rows::{alike, has_elements, has_slices, index_row};
 use std::alloc::{AllocError, Global};
 use sz_core::{CoreExpr, Form};
 use sz_tree::{Expr, Name};
@@ -26,16 +27,15 @@ use sz_types::{Field, Place, Ty, converts, copy_ty};
 pub fn conversion_node(
     alloc: Global,
     place: Place,
-    ty: &Ty,
+    ty: Ty,
     tree: &Expr,
     node: CoreExpr,
 ) -> Result<CoreExpr, CheckError>
-    ensures value { Judges node_of result (conversion_node place (seen ty.now) (tree_of tree.now) (node_of node)) }
+    ensures value { Judges node_of result (conversion_node place (seen ty) (tree_of tree.now) (node_of node)) }
 {
-    if !converts(&node.ty, ty) {
+    if !converts(&node.ty, &ty) {
         return Err(at(9, tree.place()));
     }
-    let ty = copy_ty(alloc, ty)?;
     let form = Form::Convert(Box::new(alloc, node)?);
     Ok(CoreExpr { place, ty, form })
 }
@@ -51,7 +51,7 @@ pub fn made_index(
 ) -> Result<CoreExpr, CheckError>
     ensures value { Judges node_of result (made_index place (tree_of tree.now) (tree_of index.now) (node_of node) (node_of at_node)) }
 {
-    if !has_index(&node.ty) {
+    if !has_elements(&node.ty) {
         return Err(at(9, tree.place()));
     }
     match index_row(alloc, &node.ty, &at_node.ty)? {
@@ -67,11 +67,7 @@ pub fn made_index(
 pub fn whole(tree: &Expr, node: &CoreExpr) -> Result<(), CheckError>
     ensures value { Judges (λ x. x) result (whole (tree_of tree.now) (node_of node.now)) }
 {
-    if alike(&node.ty, &Ty::Int) {
-        Ok(())
-    } else {
-        Err(at(9, tree.place()))
-    }
+    fits(alike(&node.ty, &Ty::Int), tree)
 }
 
 // The form of a slice.

@@ -104,12 +104,8 @@ pub fn binary_row(alloc: Global, op: BinOp, a: &Ty, b: &Ty) -> Result<Option<Ty>
         | BinOp::Less
         | BinOp::LessEqual
         | BinOp::Greater
-        | BinOp::GreaterEqual => Ok(if is_compared(op, a, b) {
-            Some(Ty::Bool)
-        } else {
-            None
-        }),
-        _ => Ok(if both_int(a, b) { Some(Ty::Int) } else { None }),
+        | BinOp::GreaterEqual => Ok(only_if(is_compared(op, a, b), Ty::Bool)),
+        _ => Ok(only_if(both_int(a, b), Ty::Int)),
     }
 }
 
@@ -125,9 +121,10 @@ pub fn index_row(alloc: Global, ty: &Ty, index: &Ty) -> Result<Option<Ty>, Alloc
     }
 }
 
-// Whether a value of this type has an index.
-pub fn has_index(ty: &Ty) -> bool
-    ensures value { result ≡ has_index (seen ty.now) }
+// Whether a value of this type has elements, which an index reaches and `len` counts.
+pub fn has_elements(ty: &Ty) -> bool
+    ensures index { result ≡ has_index (seen ty.now) }
+    ensures length { len_row (seen ty.now) ≡ (if result then Just int else Nothing) }
 {
     matches!(
         type_kind(ty),
@@ -140,16 +137,6 @@ pub fn has_slices(ty: &Ty) -> bool
     ensures value { slice_row (seen ty.now) ≡ (if result then Just (seen ty.now) else Nothing) }
 {
     matches!(type_kind(ty), Kind::Str | Kind::Bytes | Kind::Array(_))
-}
-
-// Whether a value of this type has parts that can be counted.
-pub fn has_length(ty: &Ty) -> bool
-    ensures value { len_row (seen ty.now) ≡ (if result then Just int else Nothing) }
-{
-    matches!(
-        type_kind(ty),
-        Kind::Str | Kind::Bytes | Kind::Array(_) | Kind::Map(_, _)
-    )
 }
 
 // Whether the type is that of maps.
@@ -212,7 +199,7 @@ fn row_of_one(alloc: Global, function: Builtin, ty: &Ty) -> Result<Option<Ty>, A
     ensures value { IfOk result (λ row. option_map seen row ≡ builtin_row function (seen ty.now ∷ [])) }
 {
     match function {
-        Builtin::Len => Ok(only_if(has_length(ty), Ty::Int)),
+        Builtin::Len => Ok(only_if(has_elements(ty), Ty::Int)),
         Builtin::Keys => keys_row(alloc, ty),
         Builtin::HasKey | Builtin::StrFind => Ok(None),
     }
