@@ -1,4 +1,4 @@
-use Rattle.std.proofs.Common.{◌≡◌, sym, ap, subst, ◌∙◌, map, IfOk, Some, slice_get, length, refl, arith}
+use Rattle.std.proofs.Common.{◌≡◌, sym, ap, subst, ◌∙◌, map, IfOk, length, refl, arith}
 use Rattle.std.proofs.lemmas.Option.{slice_get_read}
 use Rattle.sz_types.proofs.ForCallers.{seen_tuple, seen_proto}
 use Rattle.sz_types.specs.Data.{Shape, fields_of}
@@ -7,20 +7,19 @@ use Rattle.sz_check.specs.Written.{shape_in, field_in, shapes_of}
 use Rattle.sz_check.proofs.WrittenLemmas.{shape_in_tuple, shape_in_proto, named_is, depths_less}
 use Rattle.sz_check.proofs.written.+write_out.Goals as goal
 
--- the named type that was read
-read : (c : goal.In-Some) → slice_get c.args.types.now c.in-Named.number ≡ Some c.in-Some.named.now
-read c = slice_get_read c.args.types.now (length c.args.types.now) c.in-Named.number c.in-Some.named.now refl c.in-Some.ensures.lookup.3.0 c.in-Some.ensures.lookup.1
-
 -- a name goes on among the types before it
 pub write_out-write_out-requires-in-Some : goal.write_out-write_out-requires-in-Some
 write_out-write_out-requires-in-Some t c =
-    let less = depths_less c.args.types.now c.in-Named.number c.in-Some.named.now (read c) in
+    let types = c.args.types.now in
+    let read = slice_get_read types (length types) c.in-Named.number c.in-Some.named.now refl c.in-Some.ensures.lookup.3.0 c.in-Some.ensures.lookup.1 in
+    let less = depths_less types c.in-Named.number c.in-Some.named.now read in
     (omega (arith, less, c.decreases), tt)
 
 pub write_out-returns-in-Some : goal.write_out-returns-in-Some
 write_out-returns-in-Some t c =
-    let same = named_is c.args.types.now c.in-Named.number c.in-Some.named.now (read (goal.at.write_out-returns-in-Some t c).In-Some)
-        ∙ sym (ap (shape_in (shapes_of c.args.types.now)) c.in-Named.is) in
+    let types = c.args.types.now in
+    let read = slice_get_read types (length types) c.in-Named.number c.in-Some.named.now refl c.in-Some.ensures.lookup.3.0 c.in-Some.ensures.lookup.1 in
+    let same = named_is types c.in-Named.number c.in-Some.named.now read ∙ sym (ap (shape_in (shapes_of types)) c.in-Named.is) in
     record { value = subst (λ s. IfOk c.write_out-in-Some.result (λ ty. seen ty ≡ s)) same c.write_out-in-Some.ensures.value }
 
 -- the list of fields
