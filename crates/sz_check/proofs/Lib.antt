@@ -1,6 +1,7 @@
 mod Holds
 mod KeepingLemmas
 mod WrittenLemmas
+mod TakenLemmas
 mod Tests
 mod Meanings
 mod Sights

@@ -4,6 +4,7 @@ use Rattle.std.specs.List.{list_any}
 use Rattle.sz_types.specs.Data.{FieldShape, field}
 use Rattle.sz_types.specs.declared.encoding.Encoding.{Encoding}
 use Rattle.sz_types.specs.declared.encoding.Encoding.TheVariants.{Plain}
+use Rattle.sz_scope.specs.Blocks as scopes
 use Rattle.sz_tree.specs.Names.{Ident}
 use Rattle.sz_tree.specs.Types.{Typ, FieldForm}
 use Rattle.sz_check.specs.Refusals.{Judged, ◌>>=◌, bad_field, has_name}
@@ -23,6 +24,11 @@ names_before fields = map name_of (reverse fields)
 
 abbrev pub numbers_before : List FieldShape → List ℕ
 numbers_before fields = map number_of (reverse fields)
+
+-- the names that the innermost block declares, the newest first
+abbrev pub names_in : List scopes.Block → List (List ℕ)
+names_in [] = []
+names_in (block ∷ blocks) = map (λ (d : scopes.Declaration). d.name) block
 
 -- whether a number is among these
 abbrev pub has_number : ℕ → List ℕ → Bool

@@ -23,6 +23,7 @@ mod rows;
 mod simple;
 mod stmt;
 mod table;
+mod taken;
 mod target;
 mod top;
 mod types;

@@ -128,16 +128,8 @@ fn write_out(alloc: Global, written: &Written, types: &[Written]) -> Result<Ty, 
             let value = Box::new(alloc, write_out(alloc, value, types)?)?;
             Ok(Ty::Map(key, value))
         }
-        Written::Tuple(fields) => Ok(Ty::Tuple(write_out_fields(
-            alloc,
-            fields.as_slice(),
-            types,
-        )?)),
-        Written::Proto(fields) => Ok(Ty::Proto(write_out_fields(
-            alloc,
-            fields.as_slice(),
-            types,
-        )?)),
+        Written::Tuple(fields) => Ok(Ty::Tuple(write_out_fields(alloc, fields.as_slice(), types)?)),
+        Written::Proto(fields) => Ok(Ty::Proto(write_out_fields(alloc, fields.as_slice(), types)?)),
         Written::Named(number) => {
             let number = *number as usize;
             match types.get(number) {
