@@ -45,12 +45,7 @@ fn a_tree_is_built_and_knows_its_places(rt: HostRuntime) -> Result<(), Fail> {
     assert_eq!(rt; step.place(), at(4));
     let mut body = Vec::new(alloc);
     body.push(Stmt::Simple(step))?;
-    let function = Stmt::function(
-        name(alloc, 2, "g")?,
-        Vec::new(alloc),
-        tuple,
-        body,
-    );
+    let function = Stmt::function(name(alloc, 2, "g")?, Vec::new(alloc), tuple, body);
     assert_eq!(rt; function.place(), at(2));
     let block = Stmt::block(at(1), Vec::new(alloc));
     assert_eq!(rt; block.place(), at(1));
