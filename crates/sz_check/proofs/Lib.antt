@@ -2,6 +2,7 @@ mod Holds
 mod KeepingLemmas
 mod WrittenLemmas
 mod TakenLemmas
+mod SortLemmas
 mod Tests
 mod Meanings
 mod Sights

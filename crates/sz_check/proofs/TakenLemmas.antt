@@ -1,6 +1,6 @@
 -- Laws of names and numbers that are taken.
-use Rattle.std.proofs.Common.{◌≡◌, ℕ, suc, Bool, true, false, ◌||◌, List, [], ◌∷◌, ◌++◌, length, map, reverse, Option, Some, None, is_some, bytes_eq, nat_eq, refl, sym, ap, ◌∙◌, if◌then◌else◌, arith}
-use Rattle.std.specs.Option.{option_or}
+use Rattle.std.proofs.Common.{◌≡◌, ℕ, suc, Bool, true, false, ◌||◌, List, [], ◌∷◌, ◌++◌, length, map, reverse, Option, Some, None, is_some, bytes_eq, nat_eq, Bor, refl, sym, ap, ◌∙◌, if◌then◌else◌, arith}
+use Rattle.std.specs.Option.{option_or, option_copied}
 use Rattle.std.specs.List.{list_any}
 use Rattle.std.proofs.lemmas.List.{reverse-append}
 use Rattle.std.proofs.lemmas.List.Folds.{list_any-append}
@@ -59,3 +59,8 @@ numbers_with number keys = by (list_any (nat_eq number) keys) ∙ ap (λ b. if b
     by : (b : Bool) → reverse (if b then keys else keys ++ number ∷ []) ≡ (if b then reverse keys else number ∷ reverse keys)
     by true = refl
     by false = reverse-append keys (number ∷ [])
+
+-- whether there is something behind a reference
+pub copied_is_some : {X : Type 0} (o : Option (Bor X)) → is_some o ≡ is_some (option_copied o)
+copied_is_some None = refl
+copied_is_some (Some x) = refl

@@ -1,6 +1,6 @@
 -- Laws of named types that are kept as they are written.
 use Rattle.std.proofs.Common.{◌≡◌, ℕ, zero, suc, ◌+◌, ◌<◌, ◌≤◌, List, [], ◌∷◌, ◌++◌, length, map, take, slice_get, Option, None, Some, unwrap_or, refl, sym, ap, subst, ◌∙◌, arith}
-use Rattle.std.proofs.lemmas.Option.{none-some, same_Some}
+use Rattle.std.proofs.lemmas.Option.{none-some, same_Some, slice_get_past}
 use Rattle.std.proofs.lemmas.List.{length_push}
 use Rattle.std.specs.Global.{Vec}
 use Rattle.sz_types.specs.Data.{Shape, fields_of, with_field, field}
@@ -79,6 +79,10 @@ named_is ws k w p = sym (ap (λ o. unwrap_or o Shape.truth) (ap (slice_get (shap
   where
     zero_more : k ≡ 0 + k
     zero_more = omega arith
+
+-- there is no type past all
+pub named_none : (ws : List Written) (k : ℕ) → length ws ≤ k → type_at (shapes_of ws) k ≡ Shape.truth
+named_none ws k over = ap (λ o. unwrap_or o Shape.truth) (slice_get_past (shapes_of ws) k (omega (arith, over, length_shapes ws)))
 
 -- the work that is left: a name goes on among the types before it
 abbrev pub depths : List Written → ℕ

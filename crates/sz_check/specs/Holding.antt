@@ -36,6 +36,11 @@ means_of (lent.Function n s) = names.function n (signature_of s.now)
 means_of (lent.Predeclared b) = names.predeclared b
 means_of lent.Input = names.input
 
+-- a type that is lent is lent with these types
+abbrev pub IsOfTypes : List Shape → Means → Type 0
+IsOfTypes types (lent.«Type» t) = t.types.now ≡ types
+IsOfTypes types _ = Unit {0}
+
 abbrev pub maybe_means_of : Option Means → Option Meaning
 maybe_means_of = option_map means_of
 

@@ -18,6 +18,7 @@ pub mod Outcome
 -- what the functions inside the crate promise each other
 pub mod Kinds
 pub mod Written
+pub mod Sorts
 pub mod Holding
 pub mod KnownCode
 pub mod Keeping

@@ -1,5 +1,5 @@
 //! What is known in front of a statement.
-ghost use Rattle.std.specs.Prelude.{◌≡◌, ◌∷◌, ◌++◌, ◌-◌, ◌<◌, ◌↔◌, [], length, not, Bool, IfOk, OnErr, IsTrue, codes, if◌then◌else◌};
+ghost use Rattle.std.specs.Prelude.{◌≡◌, ◌∷◌, ◌++◌, ◌-◌, ◌<◌, ◌↔◌, [], length, not, Bool, IfOk, IfSome, OnErr, IsTrue, codes, if◌then◌else◌};
 ghost use Rattle.sz_types.specs.Data.{Shape};
 ghost use Rattle.sz_types.specs.Seen.{seen};
 ghost use Rattle.sz_check.specs.Names.{Block, Named, has, look_up, declare, type_name};
@@ -7,7 +7,7 @@ ghost use Rattle.sz_check.specs.Names as names;
 ghost use Rattle.sz_check.specs.Outcome.{Judges, Stops};
 ghost use Rattle.sz_check.specs.Refusals.{unseen, has_name, left_out_names};
 ghost use Rattle.sz_check.specs.Scenes.{opened, with_variable};
-ghost use Rattle.sz_check.specs.Holding.{at_first, meaning_of, means_of, maybe_means_of, Held, blocks_of, blocks_for, scene_of, outside_of, in_function, IsRoundFunction};
+ghost use Rattle.sz_check.specs.Holding.{at_first, meaning_of, means_of, maybe_means_of, IsOfTypes, Held, blocks_of, blocks_for, scene_of, outside_of, in_function, IsRoundFunction};
 ghost use Rattle.sz_check.specs.Keeping.{floor_of, sits_in, place_of, placed, is_new, sight_for, fitting, with_name, with_type, IsBySight, IsTyped, without_innermost, at_no_name};
 ghost use Rattle.sz_check.specs.Written.{shape_in};
 ghost use Rattle.sz_scope.specs.declared.sight.Sight.TheVariants.{Static as for_static};
@@ -223,6 +223,7 @@ impl Known {
     // What the name stands for, if anything that is seen has it.
     fn find(&self, may_emit: bool, name: &Name) -> Option<Means<'_>>
         ensures value { maybe_means_of result ≡ names.meaning_of name.now.text (blocks_for self.now may_emit) }
+        ensures types { IfSome result (IsOfTypes self.now.outside.types) }
     {
         let sight = sight_for(self.sight, may_emit);
         let found = self.scopes.find_seen(name.text().as_str(), sight, &[])?;
@@ -241,6 +242,7 @@ impl Known {
         name: &Name,
     ) -> Result<Means<'_>, CheckError>
         ensures value { Judges means_of result (look_up name.now (blocks_for self.now may_emit)) }
+        ensures types { IfOk result (IsOfTypes self.now.outside.types) }
     {
         match self.find(may_emit, name) {
             Some(means) => Ok(means),

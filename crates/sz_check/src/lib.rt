@@ -21,6 +21,7 @@ mod path;
 mod program;
 mod rows;
 mod simple;
+mod sort;
 mod stmt;
 mod table;
 mod taken;

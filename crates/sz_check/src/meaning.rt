@@ -1,6 +1,6 @@
 //! What names stand for.
 ghost use Rattle.std.specs.Prelude.{◌≡◌};
-ghost use Rattle.sz_check.specs.Holding.{meaning_of, means_of};
+ghost use Rattle.sz_check.specs.Holding.{meaning_of, means_of, IsOfTypes};
 
 use crate::written::{NamedType, NamedTypes};
 use sz_core::Signature;
@@ -34,6 +34,7 @@ impl Meaning {
     // Lends it, with the types by which the numbers of types go.
     pub fn means<'k>(&'k self, types: &'k NamedTypes) -> Means<'k>
         ensures value { means_of result ≡ meaning_of types.now self.now }
+        ensures types { IsOfTypes types.now result }
     {
         match self {
             Meaning::Variable(number, ty) => Means::Variable(*number, ty),

@@ -1,11 +1,13 @@
 //! Named types, each kept as it is written: a name in it is the number of the type that it stands for.
 //!
 //! A type that is built from named types is so as long as its own text, however high it is with all names written out.
-ghost use Rattle.std.specs.Prelude.{◌≡◌, ◌++◌, ◌∷◌, [], length, map, IfOk, OnErr};
+ghost use Rattle.std.specs.Prelude.{◌≡◌, ◌++◌, ◌∷◌, [], length, map, false, IfOk, OnErr};
 ghost use Rattle.sz_types.specs.Seen.{seen, seen_fields};
+ghost use Rattle.sz_check.specs.Sorts.{sort_at};
 ghost use Rattle.sz_check.specs.Written.{shape_in, field_in, type_at, shapes_of};
 
 use crate::number::small;
+use crate::sort::{Sort, sort_of};
 use std::alloc::{AllocError, Global};
 use std::marker::Model;
 use sz_types::{Encoding, Field, Fields, Text, Ty};
@@ -89,6 +91,13 @@ impl NamedTypes {
         let number = small(self.held.len())?;
         self.held.push(written)?;
         Ok(number)
+    }
+
+    // What a field of a message holds of the type.
+    pub fn sort_of(&self, written: &Written) -> Sort
+        ensures value { result ≡ sort_at false (shape_in self.now written.now) }
+    {
+        sort_of(written, self.held.as_slice(), false)
     }
 
     // The type, with all names written out.
