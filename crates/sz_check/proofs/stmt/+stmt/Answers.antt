@@ -12,8 +12,8 @@ use Rattle.sz_check.specs.Holding.{Held, scene_of}
 use Rattle.sz_check.specs.Behind.{around_of, behind_of}
 use Rattle.sz_check.proofs.ListLemmas.{map_push, judged_as}
 use Rattle.sz_check.proofs.StatementLoops.{stms_fail, stms_go, stms_end}
-use Rattle.sz_check.proofs.StatementParts.{inside_made, inside_stops, block_made, block_stops, for_first_stops, for_turns_stop, for_made, if_stops, while_stops,
-    declare_is, initialised_is}
+use Rattle.sz_check.proofs.StatementParts.{inside_made, inside_stops, block_made, block_stops, for_first_stops, for_turns_stop, for_made}
+use Rattle.sz_check.proofs.StatementParts.{if_stops, while_stops, declare_is, initialised_is}
 use Rattle.sz_check.proofs.stmt.+stmt.Goals as goal
 
 pub judge_stms-returns-in_err-statement-clause-value : goal.judge_stms-returns-in_err-statement-clause-value
