@@ -34,7 +34,8 @@ pub assoc : {A B C : Type 0} (j : Judged A) (f : A → Judged B) (g : B → Judg
 assoc (Ok x) f g = refl
 assoc (Err r) f g = refl
 
-step_turn : (s : Scene) (p : Place) (t : Target) (x : StepForm) (xs : List StepForm) → judge_steps s p t (x ∷ xs) ≡ (judge_step s p t x >>= λ u. judge_steps s p u xs)
+step_turn : (s : Scene) (p : Place) (t : Target) (x : StepForm) (xs : List StepForm)
+    → judge_steps s p t (x ∷ xs) ≡ (judge_step s p t x >>= λ u. judge_steps s p u xs)
 unfolding judge_steps
 step_turn s p t (trees.at_index e) xs = assoc (judge s None e) (λ n. indexed p t t.type e n) (λ u. judge_steps s p u xs)
 step_turn s p t (trees.at_field f) xs = assoc (field_in p t.type f) (λ x. Ok (stepped t (core.at_field x.place) x.type)) (λ u. judge_steps s p u xs)
@@ -43,15 +44,18 @@ steps_turn : (s : Scene) (p : Place) (t : Target) (xs : List Step) (i : ℕ) (x 
     → judge_steps s p t (map step_of (drop i xs)) ≡ (judge_step s p t (step_of x) >>= λ u. judge_steps s p u (map step_of (drop (i + 1) xs)))
 steps_turn s p t xs i x within is = ap (judge_steps s p t) (rest_more step_of xs i x within is) ∙ step_turn s p t (step_of x) (map step_of (drop (i + 1) xs))
 
-pub steps_fail : (s : Scene) (p : Place) (t : Target) (xs : List Step) (i : ℕ) (x : Step) (e : CheckError) (whole : Judged Target) → i < length xs → x ≡ get_or xs i x
+pub steps_fail : (s : Scene) (p : Place) (t : Target) (xs : List Step) (i : ℕ) (x : Step) (e : CheckError) (whole : Judged Target) → i < length xs
+    → x ≡ get_or xs i x
     → Stops e (judge_step s p t (step_of x)) → judge_steps s p t (map step_of (drop i xs)) ≡ whole → Stops e whole
 steps_fail s p t xs i x e whole within is h so_far = stops_then e _ _ whole h (sym (steps_turn s p t xs i x within is) ∙ so_far)
 
 pub steps_go : (s : Scene) (p : Place) (t u : Target) (xs : List Step) (i : ℕ) (x : Step) (whole : Judged Target) → i < length xs → x ≡ get_or xs i x
     → judge_step s p t (step_of x) ≡ Ok u → judge_steps s p t (map step_of (drop i xs)) ≡ whole → judge_steps s p u (map step_of (drop (i + 1) xs)) ≡ whole
-steps_go s p t u xs i x whole within is h so_far = goes_on _ (λ u. judge_steps s p u (map step_of (drop (i + 1) xs))) whole u h (sym (steps_turn s p t xs i x within is) ∙ so_far)
+steps_go s p t u xs i x whole within is h so_far = goes_on _ (λ u. judge_steps s p u (map step_of (drop (i + 1) xs))) whole u h
+    (sym (steps_turn s p t xs i x within is) ∙ so_far)
 
-pub steps_end : (s : Scene) (p : Place) (t : Target) (xs : List Step) (i : ℕ) (whole : Judged Target) → length xs ≤ i → judge_steps s p t (map step_of (drop i xs)) ≡ whole → whole ≡ Ok t
+pub steps_end : (s : Scene) (p : Place) (t : Target) (xs : List Step) (i : ℕ) (whole : Judged Target) → length xs ≤ i
+    → judge_steps s p t (map step_of (drop i xs)) ≡ whole → whole ≡ Ok t
 unfolding judge_steps
 steps_end s p t xs i whole over so_far = sym so_far ∙ ap (judge_steps s p t) (rest_none step_of xs i over)
 
@@ -66,16 +70,19 @@ stms_turn : (a : Around) (s : Scene) (ts : List Stmt) (i : ℕ) (t : Stmt) → i
 unfolding judge_stms
 stms_turn a s ts i t within is = rw (rest_more stm_of ts i t within is) refl
 
-pub stms_fail : (front : List Stm) (a : Around) (s : Scene) (ts : List Stmt) (i : ℕ) (t : Stmt) (e : CheckError) (whole : Judged AllBehind) → i < length ts → t ≡ get_or ts i t
+pub stms_fail : (front : List Stm) (a : Around) (s : Scene) (ts : List Stmt) (i : ℕ) (t : Stmt) (e : CheckError) (whole : Judged AllBehind) → i < length ts
+    → t ≡ get_or ts i t
     → Stops e (judge_stm a s (stm_of t)) → behind in_front front (judge_stms a s (stms_of (map stm_of (drop i ts)))) ≡ whole → Stops e whole
 stms_fail front a s ts i t e whole within is h so_far = turn_fails in_front front e _ _ _ whole (stms_turn a s ts i t within is) h so_far
 
-pub stms_go : (front : List Stm) (a : Around) (s : Scene) (ts : List Stmt) (i : ℕ) (t : Stmt) (b : Behind) (whole : Judged AllBehind) → i < length ts → t ≡ get_or ts i t
+pub stms_go : (front : List Stm) (a : Around) (s : Scene) (ts : List Stmt) (i : ℕ) (t : Stmt) (b : Behind) (whole : Judged AllBehind) → i < length ts
+    → t ≡ get_or ts i t
     → judge_stm a s (stm_of t) ≡ Ok b → behind in_front front (judge_stms a s (stms_of (map stm_of (drop i ts)))) ≡ whole
     → behind in_front (front ++ b.stm ∷ []) (judge_stms a b.scene (stms_of (map stm_of (drop (i + 1) ts)))) ≡ whole
 stms_go front a s ts i t b whole within is h so_far =
     sym (behind_next in_front front b.stm (judge_stms a b.scene (stms_of (map stm_of (drop (i + 1) ts)))))
-    ∙ ap (behind in_front front) (ap (λ (k : Judged Behind). k >>= λ first. judge_stms a first.scene (stms_of (map stm_of (drop (i + 1) ts))) >>= λ rest. Ok (in_front first.stm rest)) (sym h) ∙ sym (stms_turn a s ts i t within is))
+    ∙ ap (behind in_front front) (ap (λ (k : Judged Behind). k >>= λ first. judge_stms a first.scene (stms_of (map stm_of (drop (i + 1) ts)))
+    >>= λ rest. Ok (in_front first.stm rest)) (sym h) ∙ sym (stms_turn a s ts i t within is))
     ∙ so_far
 
 pub stms_end : (front : List Stm) (a : Around) (s : Scene) (ts : List Stmt) (i : ℕ) (whole : Judged AllBehind) → length ts ≤ i
@@ -99,18 +106,22 @@ pub param_type_fails : (s : Scene) (ps : List Param) (i : ℕ) (p : Param) (e : 
 param_type_fails s ps i p e whole within is h so_far = stops_then e _ _ whole h (sym (params_turn s ps i p within is) ∙ so_far)
 
 pub param_fails : (s : Scene) (ps : List Param) (i : ℕ) (p : Param) (u : Shape) (e : CheckError) (whole : Judged Scene) → i < length ps → p ≡ get_or ps i p
-    → judge_type s.blocks (type_of p.of) ≡ Ok u → Stops e (with_variable p.name u s) → judge_parameters s (params_of (map param_of (drop i ps))) ≡ whole → Stops e whole
+    → judge_type s.blocks (type_of p.of) ≡ Ok u → Stops e (with_variable p.name u s) → judge_parameters s (params_of (map param_of (drop i ps))) ≡ whole
+    → Stops e whole
 param_fails s ps i p u e whole within is typed h so_far =
     stops_then e (with_variable p.name u s) (λ t. judge_parameters t (params_of (map param_of (drop (i + 1) ps)))) whole h
-    (goes_on _ (λ u. with_variable p.name u s >>= λ t. judge_parameters t (params_of (map param_of (drop (i + 1) ps)))) whole u typed (sym (params_turn s ps i p within is) ∙ so_far))
+    (goes_on _ (λ u. with_variable p.name u s >>= λ t. judge_parameters t (params_of (map param_of (drop (i + 1) ps)))) whole u typed
+    (sym (params_turn s ps i p within is) ∙ so_far))
 
 pub params_go : (s t : Scene) (ps : List Param) (i : ℕ) (p : Param) (u : Shape) (whole : Judged Scene) → i < length ps → p ≡ get_or ps i p
     → judge_type s.blocks (type_of p.of) ≡ Ok u → with_variable p.name u s ≡ Ok t → judge_parameters s (params_of (map param_of (drop i ps))) ≡ whole
     → judge_parameters t (params_of (map param_of (drop (i + 1) ps))) ≡ whole
 params_go s t ps i p u whole within is typed h so_far =
     goes_on (with_variable p.name u s) (λ t. judge_parameters t (params_of (map param_of (drop (i + 1) ps)))) whole t h
-    (goes_on _ (λ u. with_variable p.name u s >>= λ t. judge_parameters t (params_of (map param_of (drop (i + 1) ps)))) whole u typed (sym (params_turn s ps i p within is) ∙ so_far))
+    (goes_on _ (λ u. with_variable p.name u s >>= λ t. judge_parameters t (params_of (map param_of (drop (i + 1) ps)))) whole u typed
+    (sym (params_turn s ps i p within is) ∙ so_far))
 
-pub params_end : (s : Scene) (ps : List Param) (i : ℕ) (whole : Judged Scene) → length ps ≤ i → judge_parameters s (params_of (map param_of (drop i ps))) ≡ whole → whole ≡ Ok s
+pub params_end : (s : Scene) (ps : List Param) (i : ℕ) (whole : Judged Scene) → length ps ≤ i
+    → judge_parameters s (params_of (map param_of (drop i ps))) ≡ whole → whole ≡ Ok s
 unfolding judge_parameters
 params_end s ps i whole over so_far = sym so_far ∙ ap (λ (rest : List _). judge_parameters s (params_of rest)) (rest_none param_of ps i over)

@@ -15,6 +15,7 @@ use Rattle.sz_check.specs.Refusals.{Judged, ◌>>=◌, unless, wrong_weight, mis
 use Rattle.sz_check.specs.Names.{look_up, Meaning}
 use Rattle.sz_check.specs.Agreeing.{in_turn, agree, agrees, counted}
 use Rattle.sz_check.specs.JudgingExpressions.{judge_exps}
+use Rattle.sz_check.specs.JudgingOperators.{test}
 use Rattle.sz_check.specs.Scenes.{Scene, Behind, AllBehind, opened, closed, judge, judge_if_some}
 use Rattle.sz_check.specs.JudgingStatements.{Around, in_block, in_loop, judge_stm, judge_stms}
 use Rattle.sz_check.specs.JudgingSimple.{Numbered, judge_first, judge_between, test_if_some, table_named, weight_agrees, judge_declaration, judge_initialised}
@@ -39,18 +40,28 @@ turns_then p (Ok n) (Err r) l u f = refl
 turns_then p (Ok n) (Ok step) (Err r) u f = refl
 turns_then p (Ok n) (Ok step) (Ok body) u f = tested (u n) (record { scene = body.scene; stm = core.for_loop p n step body.stm }) f
 
+-- a `for`, where its parts are judged
+abbrev for_end : Scene → Place → Behind → Option Node → Stm → Behind → Behind
+for_end s p first n step body = record { scene = closed s body.scene; stm = core.block (stms_of (first.stm ∷ core.for_loop p n step body.stm ∷ [])) }
+
+-- a `for`, where its first part and its turns are judged
+abbrev for_whole : Scene → Behind → Behind → Behind
+for_whole s first turns = record { scene = closed s turns.scene; stm = core.block (stms_of (first.stm ∷ turns.stm ∷ [])) }
+
 -- a `for` is its first part and then its turns
-pub for_is : (a : Around) (s : Scene) (p : Place) (f : Option FirstForm) (c : Option Exp) (between : Option SimpleForm) (t : Tree) → judge_stm a s (for_loop p f c between t) ≡ judge_for a s p f c between t
+pub for_is : (a : Around) (s : Scene) (p : Place) (f : Option FirstForm) (c : Option Exp) (between : Option SimpleForm) (t : Tree)
+    → judge_stm a s (for_loop p f c between t) ≡ judge_for a s p f c between t
 unfolding judge_stm
 for_is a s p f c between t = first_then (judge_first (opened s) f)
   where
     first_then : (j : Judged Behind)
-        → (j >>= λ first. judge_if_some first.scene None c >>= λ n. judge_between first.scene between >>= λ step. judge_inside (in_loop a) first.scene t >>= λ body. test_if_some c n >>= λ _.
-        Ok (record { scene = closed s body.scene; stm = core.block (stms_of (first.stm ∷ core.for_loop p n step body.stm ∷ [])) }))
-        ≡ (j >>= λ first. judge_turns a first.scene p c between t >>= λ turns. Ok (record { scene = closed s turns.scene; stm = core.block (stms_of (first.stm ∷ turns.stm ∷ [])) }))
+        → (j >>= λ first. judge_if_some first.scene None c >>= λ n. judge_between first.scene between
+        >>= λ step. judge_inside (in_loop a) first.scene t >>= λ body. test_if_some c n >>= λ _. Ok (for_end s p first n step body))
+        ≡ (j >>= λ first. judge_turns a first.scene p c between t >>= λ turns. Ok (for_whole s first turns))
     first_then (Err r) = refl
-    first_then (Ok first) = turns_then p (judge_if_some first.scene None c) (judge_between first.scene between) (judge_inside (in_loop a) first.scene t) (test_if_some c)
-        (λ turns. record { scene = closed s turns.scene; stm = core.block (stms_of (first.stm ∷ turns.stm ∷ [])) })
+    first_then (Ok first) =
+        turns_then p (judge_if_some first.scene None c) (judge_between first.scene between) (judge_inside (in_loop a) first.scene t) (test_if_some c)
+        (for_whole s first)
 
 parts_then : {A : Type 0} (j : Judged Nodes) (k : Judged Node) (l : Judged (Option Node)) (f : Emitted → Judged A)
     → (j >>= λ is. k >>= λ v. l >>= λ w. f (record { indexes = is; value = v; weight = w }))
@@ -70,19 +81,26 @@ rules_then (Ok t) (Ok u) (Ok v) (Ok w) e x = refl
 
 -- an emit is its parts, and then its rules
 pub emit_is : (s : Scene) (p : Place) (n : Ident) (es : Exps) (e : Exp) (w : Option Exp) → judge_emit s p n es e w ≡ judge_emit_by_parts s p n es e w
-emit_is s p n es e w = ap (λ (f : Meaning → Judged Stm). look_up n s.blocks >>= f) (fun_ext (λ m. ap (λ (f : Numbered → Judged Stm). table_named n m >>= f) (fun_ext after)))
+emit_is s p n es e w = ap (λ (f : Meaning → Judged Stm). look_up n s.blocks >>= f)
+    (fun_ext (λ m. ap (λ (f : Numbered → Judged Stm). table_named n m >>= f) (fun_ext after)))
   where
     after : (t : Numbered)
-        → (judge_exps s.blocks true (in_turn t.declaration.indexes) es >>= λ indexes. judge s (Some t.declaration.element) e >>= λ value. judge_if_some s t.declaration.weight w >>= λ weight.
-        agree (in_turn t.declaration.indexes) es indexes >>= λ _. agrees (Some t.declaration.element) e value >>= λ _. weight_agrees t.declaration.weight w weight >>= λ _. counted (length t.declaration.indexes) es n.place >>= λ _.
+        → (judge_exps s.blocks true (in_turn t.declaration.indexes) es >>= λ indexes. judge s (Some t.declaration.element) e
+        >>= λ value. judge_if_some s t.declaration.weight w >>= λ weight.
+        agree (in_turn t.declaration.indexes) es indexes >>= λ _. agrees (Some t.declaration.element) e value
+        >>= λ _. weight_agrees t.declaration.weight w weight >>= λ _. counted (length t.declaration.indexes) es n.place >>= λ _.
         unless (same_presence (is_some t.declaration.weight) (is_some w)) (wrong_weight p) >>= λ _. Ok (core.emit p t.number indexes value weight))
-        ≡ (judge_emitted s t.declaration es e w >>= λ x. emitted_fits t.declaration p n.place es e w x >>= λ _. Ok (core.emit p t.number x.indexes x.value x.weight))
+        ≡ (judge_emitted s t.declaration es e w >>= λ x. emitted_fits t.declaration p n.place es e w x
+        >>= λ _. Ok (core.emit p t.number x.indexes x.value x.weight))
     after t =
-        parts_then (judge_exps s.blocks true (in_turn t.declaration.indexes) es) (judge s (Some t.declaration.element) e) (judge_if_some s t.declaration.weight w)
-        (λ x. agree (in_turn t.declaration.indexes) es x.indexes >>= λ _. agrees (Some t.declaration.element) e x.value >>= λ _. weight_agrees t.declaration.weight w x.weight >>= λ _. counted (length t.declaration.indexes) es n.place >>= λ _.
+        parts_then (judge_exps s.blocks true (in_turn t.declaration.indexes) es) (judge s (Some t.declaration.element) e)
+        (judge_if_some s t.declaration.weight w)
+        (λ x. agree (in_turn t.declaration.indexes) es x.indexes >>= λ _. agrees (Some t.declaration.element) e x.value
+        >>= λ _. weight_agrees t.declaration.weight w x.weight >>= λ _. counted (length t.declaration.indexes) es n.place >>= λ _.
         unless (same_presence (is_some t.declaration.weight) (is_some w)) (wrong_weight p) >>= λ _. Ok (core.emit p t.number x.indexes x.value x.weight))
         ∙ ap (λ (f : Emitted → Judged Stm). judge_emitted s t.declaration es e w >>= f) (fun_ext (λ x.
-        rules_then (agree (in_turn t.declaration.indexes) es x.indexes) (agrees (Some t.declaration.element) e x.value) (weight_agrees t.declaration.weight w x.weight) (counted (length t.declaration.indexes) es n.place)
+        rules_then (agree (in_turn t.declaration.indexes) es x.indexes) (agrees (Some t.declaration.element) e x.value)
+        (weight_agrees t.declaration.weight w x.weight) (counted (length t.declaration.indexes) es n.place)
         (unless (same_presence (is_some t.declaration.weight) (is_some w)) (wrong_weight p)) (Ok (core.emit p t.number x.indexes x.value x.weight))))
 
 -- ---- statements in a block of their own
@@ -99,15 +117,15 @@ from_inside judge f k = judge (scene_of k) >>= f
 pub inside_made : (a : Around) (k inner behind after : Held) (t : Tree) (x : Stm) → inner ≡ inside_of k
     → judge_stm a (scene_of inner) t ≡ Ok (record { scene = scene_of behind; stm = x }) → after ≡ record k { locals = behind.locals }
     → judge_inside a (scene_of k) t ≡ Ok (record { scene = scene_of after; stm = x })
-inside_made a k inner behind after t x open h close =
-    ap (λ (u : Held). in_block (scene_of k) (judge_stm a (scene_of u) t)) (sym open) ∙ ap (in_block (scene_of k)) h
-    ∙ ap (λ (u : Held). Ok (record { scene = scene_of u; stm = x })) (sym close)
+inside_made a k inner behind after t x opening h ending =
+    ap (λ (u : Held). in_block (scene_of k) (judge_stm a (scene_of u) t)) (sym opening) ∙ ap (in_block (scene_of k)) h
+    ∙ ap (λ (u : Held). Ok (record { scene = scene_of u; stm = x })) (sym ending)
 
 pub inside_stops : (a : Around) (k inner : Held) (t : Tree) (e : CheckError) → inner ≡ inside_of k → Stops e (judge_stm a (scene_of inner) t)
     → Stops e (judge_inside a (scene_of k) t)
-inside_stops a k inner t e open h =
+inside_stops a k inner t e opening h =
     stops_then e (judge_stm a (scene_of inner) t) (λ b. Ok (record { scene = closed (scene_of k) b.scene; stm = b.stm })) _ h
-    (ap (λ (u : Held). in_block (scene_of k) (judge_stm a (scene_of u) t)) open)
+    (ap (λ (u : Held). in_block (scene_of k) (judge_stm a (scene_of u) t)) opening)
 
 -- the same of a block
 abbrev ended : Held → AllBehind → Judged Behind
@@ -117,15 +135,41 @@ pub block_made : (a : Around) (k inner behind after : Held) (p : Place) (ts : Tr
     → judge_stms a (scene_of inner) ts ≡ Ok (record { scene = scene_of behind; stms = xs }) → after ≡ record k { locals = behind.locals }
     → judge_stm a (scene_of k) (block p ts) ≡ Ok (record { scene = scene_of after; stm = core.block xs })
 unfolding judge_stm
-block_made a k inner behind after p ts xs open h close =
-    ap (from_inside (λ s. judge_stms a s ts) (ended k)) (sym open) ∙ ap (λ (j : Judged AllBehind). j >>= ended k) h
-    ∙ ap (λ (u : Held). Ok (record { scene = scene_of u; stm = core.block xs })) (sym close)
+block_made a k inner behind after p ts xs opening h ending =
+    ap (from_inside (λ s. judge_stms a s ts) (ended k)) (sym opening) ∙ ap (λ (j : Judged AllBehind). j >>= ended k) h
+    ∙ ap (λ (u : Held). Ok (record { scene = scene_of u; stm = core.block xs })) (sym ending)
 
 pub block_stops : (a : Around) (k inner : Held) (p : Place) (ts : Trees) (e : CheckError) → inner ≡ inside_of k
     → Stops e (judge_stms a (scene_of inner) ts) → Stops e (judge_stm a (scene_of k) (block p ts))
 unfolding judge_stm
-block_stops a k inner p ts e open h =
-    stops_then e (judge_stms a (scene_of inner) ts) (ended k) _ h (ap (from_inside (λ s. judge_stms a s ts) (ended k)) open)
+block_stops a k inner p ts e opening h =
+    stops_then e (judge_stms a (scene_of inner) ts) (ended k) _ h (ap (from_inside (λ s. judge_stms a s ts) (ended k)) opening)
+
+-- ---- a test behind what it chooses
+
+tested_stops : {A B C : Type 0} (j : Judged A) (k : Judged B) (x : A) (y : B) (u : A → Judged Unit) (f : A → B → C) (e : CheckError)
+    → j ≡ Ok x → k ≡ Ok y → Stops e (u x) → Stops e (j >>= λ n. k >>= λ b. u n >>= λ _. Ok (f n b))
+tested_stops j k x y u f e h g stop =
+    stops_then e (u x) (λ _. Ok (f x y)) _ stop
+    (goes_on k (λ b. u x >>= λ _. Ok (f x b)) _ y g (goes_on j (λ n. k >>= λ b. u n >>= λ _. Ok (f n b)) _ x h refl))
+
+abbrev if_end : Place → Node → Behind → Behind
+if_end p n taken = record { scene = taken.scene; stm = core.branch p n taken.stm core.nothing }
+
+abbrev while_end : Place → Node → Behind → Behind
+while_end p n body = record { scene = body.scene; stm = core.while p n body.stm }
+
+-- a test that is refused behind a part statement that is judged
+pub if_stops : (a : Around) (s : Scene) (p : Place) (c : Exp) (t : Tree) (n : Node) (b : Behind) (e : CheckError)
+    → judge s None c ≡ Ok n → judge_inside a s t ≡ Ok b → Stops e (test c n) → Stops e (judge_stm a s (trees.if_only p c t))
+unfolding judge_stm
+if_stops a s p c t n b e h g stop = tested_stops (judge s None c) (judge_inside a s t) n b (test c) (if_end p) e h g stop
+
+pub while_stops : (a in_body : Around) (s : Scene) (p : Place) (c : Exp) (t : Tree) (n : Node) (b : Behind) (e : CheckError) → in_body ≡ in_loop a
+    → judge s None c ≡ Ok n → judge_inside in_body s t ≡ Ok b → Stops e (test c n) → Stops e (judge_stm a s (trees.while p c t))
+unfolding judge_stm
+while_stops a in_body s p c t n b e same h g stop =
+    tested_stops (judge s None c) (judge_inside (in_loop a) s t) n b (test c) (while_end p) e h (ap (λ (u : Around). judge_inside u s t) (sym same) ∙ g) stop
 
 -- the same of a `for`
 abbrev behind_first : Around → Scene → Place → Option Exp → Option SimpleForm → Tree → Behind → Judged Behind
@@ -135,28 +179,29 @@ behind_first a s p c between t first =
 
 module _ (a : Around) (k inner start : Held) (p : Place) (f : Option FirstForm) (c : Option Exp) (between : Option SimpleForm) (t : Tree) where
   begin : inner ≡ inside_of k → (judge_first (scene_of inner) f >>= behind_first a (scene_of k) p c between t) ≡ judge_for a (scene_of k) p f c between t
-  begin open = ap (from_inside (λ s. judge_first s f) (behind_first a (scene_of k) p c between t)) open
+  begin opening = ap (from_inside (λ s. judge_first s f) (behind_first a (scene_of k) p c between t)) opening
 
   pub for_first_stops : (e : CheckError) → inner ≡ inside_of k → Stops e (judge_first (scene_of inner) f) → Stops e (judge_for a (scene_of k) p f c between t)
-  for_first_stops e open h = stops_then e (judge_first (scene_of inner) f) (behind_first a (scene_of k) p c between t) _ h (begin open)
+  for_first_stops e opening h = stops_then e (judge_first (scene_of inner) f) (behind_first a (scene_of k) p c between t) _ h (begin opening)
 
   behind_start : (x : Stm) → inner ≡ inside_of k → judge_first (scene_of inner) f ≡ Ok (record { scene = scene_of start; stm = x })
       → behind_first a (scene_of k) p c between t (record { scene = scene_of start; stm = x }) ≡ judge_for a (scene_of k) p f c between t
-  behind_start x open h = goes_on (judge_first (scene_of inner) f) (behind_first a (scene_of k) p c between t) _ (record { scene = scene_of start; stm = x }) h (begin open)
+  behind_start x opening h = goes_on (judge_first (scene_of inner) f) (behind_first a (scene_of k) p c between t) _
+      (record { scene = scene_of start; stm = x }) h (begin opening)
 
   pub for_turns_stop : (x : Stm) (e : CheckError) → inner ≡ inside_of k → judge_first (scene_of inner) f ≡ Ok (record { scene = scene_of start; stm = x })
       → Stops e (judge_turns a (scene_of start) p c between t) → Stops e (judge_for a (scene_of k) p f c between t)
-  for_turns_stop x e open h g =
+  for_turns_stop x e opening h g =
       stops_then e (judge_turns a (scene_of start) p c between t)
-      (λ turns. Ok (record { scene = closed (scene_of k) turns.scene; stm = core.block (stms_of (x ∷ turns.stm ∷ [])) })) _ g (behind_start x open h)
+      (λ turns. Ok (record { scene = closed (scene_of k) turns.scene; stm = core.block (stms_of (x ∷ turns.stm ∷ [])) })) _ g (behind_start x opening h)
 
   pub for_made : (behind after : Held) (x y : Stm) → inner ≡ inside_of k → judge_first (scene_of inner) f ≡ Ok (record { scene = scene_of start; stm = x })
       → judge_turns a (scene_of start) p c between t ≡ Ok (record { scene = scene_of behind; stm = y }) → after ≡ record k { locals = behind.locals }
       → judge_for a (scene_of k) p f c between t ≡ Ok (record { scene = scene_of after; stm = core.block (stms_of (x ∷ y ∷ [])) })
-  for_made behind after x y open h g close =
-      sym (behind_start x open h)
+  for_made behind after x y opening h g ending =
+      sym (behind_start x opening h)
       ∙ ap (λ (j : Judged Behind). j >>= λ turns. Ok (record { scene = closed (scene_of k) turns.scene; stm = core.block (stms_of (x ∷ turns.stm ∷ [])) })) g
-      ∙ ap (λ (u : Held). Ok (record { scene = scene_of u; stm = core.block (stms_of (x ∷ y ∷ [])) })) (sym close)
+      ∙ ap (λ (u : Held). Ok (record { scene = scene_of u; stm = core.block (stms_of (x ∷ y ∷ [])) })) (sym ending)
 
 -- ---- each statement by its own judgement
 
@@ -209,7 +254,8 @@ module _ (a : Around) (s : Scene) where
   unfolding judge_stm
   return_is p e = refl
 
-  pub emitting_is : (p : Place) (n : Ident) (es : Exps) (e : Exp) (w : Option Exp) → judge_stm a s (trees.emit p n es e w) ≡ done s (judge_emit_by_parts s p n es e w)
+  pub emitting_is : (p : Place) (n : Ident) (es : Exps) (e : Exp) (w : Option Exp)
+      → judge_stm a s (trees.emit p n es e w) ≡ done s (judge_emit_by_parts s p n es e w)
   unfolding judge_stm
   emitting_is p n es e w = ap (done s) (emit_is s p n es e w)
 

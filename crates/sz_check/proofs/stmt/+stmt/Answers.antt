@@ -2,32 +2,39 @@ use Rattle.std.proofs.Common.{◌≡◌, ◌∷◌, ◌++◌, map, sym, ap, ◌�
 use Rattle.std.proofs.lemmas.Result.{err_from_is_err_and}
 use Rattle.sz_core.specs.View.{stm_of as core_stm_of}
 use Rattle.sz_tree.specs.Statements.{stms_of}
-use Rattle.sz_tree.specs.View.{stm_of}
+use Rattle.sz_tree.specs.declared.stmt.Stmt.{Stmt}
+use Rattle.sz_tree.specs.View.{tree_of, type_of, stm_of}
 use Rattle.sz_tree.proofs.RowLemmas.{stm_of_block}
+use Rattle.sz_check.specs.Refusals.{Judged}
+use Rattle.sz_check.specs.Scenes.{Behind}
 use Rattle.sz_check.specs.JudgingStatements.{judge_stm}
 use Rattle.sz_check.specs.Holding.{Held, scene_of}
 use Rattle.sz_check.specs.Behind.{around_of, behind_of}
 use Rattle.sz_check.proofs.ListLemmas.{map_push, judged_as}
 use Rattle.sz_check.proofs.StatementLoops.{stms_fail, stms_go, stms_end}
 use Rattle.sz_check.proofs.StatementParts.{inside_made, inside_stops, block_made, block_stops, for_first_stops, for_turns_stop, for_made}
+use Rattle.sz_check.proofs.StatementParts.{if_stops, while_stops, declare_is, initialised_is}
 use Rattle.sz_check.proofs.stmt.+stmt.Goals as goal
 
 pub judge_stms-returns-in_err-statement-clause-value : goal.judge_stms-returns-in_err-statement-clause-value
 judge_stms-returns-in_err-statement-clause-value t c =
     let p = err_from_is_err_and c.from_residual.result c.from_residual.ensures.1 in
-    rw (p.1, p.2) (stms_fail (map core_stm_of c.loop-tree.statements.items) (around_of c.args.around) (scene_of c.loop-tree.known.now) c.args.trees.now c.loop-tree.tree-index c.tree-item.result c.in_err-statement.field-0.0 _ (omega arith) c.tree-item.is
+    rw (p.1, p.2) (stms_fail (map core_stm_of c.loop-tree.statements.items) (around_of c.args.around)
+    (scene_of c.loop-tree.known) c.args.trees.now c.loop-tree.tree-index c.tree-item.result c.in_err-statement.field-0.0 _ (omega arith) c.tree-item.is
     c.in_err-statement.ensures.value c.loop-tree.invariant.judged)
 
 pub judge_stms-loop-tree-preserved : goal.judge_stms-loop-tree-preserved
 judge_stms-loop-tree-preserved t c = record {
   judged = rw (c.in_ok-push.ensures.items, map_push core_stm_of c.loop-tree.statements.items c.in_ok-statement.statement)
-      (stms_go (map core_stm_of c.loop-tree.statements.items) (around_of c.args.around) (scene_of c.loop-tree.known.now) c.args.trees.now c.loop-tree.tree-index c.tree-item.result _ _ (omega arith) c.tree-item.is
+      (stms_go (map core_stm_of c.loop-tree.statements.items) (around_of c.args.around)
+      (scene_of c.loop-tree.known) c.args.trees.now c.loop-tree.tree-index c.tree-item.result _ _ (omega arith) c.tree-item.is
       c.in_ok-statement.ensures.value c.loop-tree.invariant.judged);
   outside = c.in_ok-statement.ensures.outside ∙ c.loop-tree.invariant.outside;
 }
 
 pub judge_stms-returns-clause-value : goal.judge_stms-returns-clause-value
-judge_stms-returns-clause-value t c = stms_end (map core_stm_of c.loop-tree.statements.items) (around_of c.args.around) (scene_of c.loop-tree.known.now) c.args.trees.now c.loop-tree.tree-index _ (omega arith) c.loop-tree.invariant.judged
+judge_stms-returns-clause-value t c = stms_end (map core_stm_of c.loop-tree.statements.items) (around_of c.args.around)
+    (scene_of c.loop-tree.known) c.args.trees.now c.loop-tree.tree-index _ (omega arith) c.loop-tree.invariant.judged
 
 -- ---- statements in a block of their own
 
@@ -35,46 +42,102 @@ pub judge_inside-returns-in_err-statement-clause-value : goal.judge_inside-retur
 judge_inside-returns-in_err-statement-clause-value t c =
     let p = err_from_is_err_and c.from_residual-in_err-statement.result c.from_residual-in_err-statement.ensures.1 in
     rw (p.1, p.2)
-    (inside_stops (around_of c.args.around) c.args.known.now c.open.new.self (stm_of c.args.tree.now) c.in_err-statement.field-0.0 c.in_ok-open.ensures.value c.in_err-statement.ensures.value)
+    (inside_stops (around_of c.args.around) c.args.known.now c.open.new.self
+    (stm_of c.args.tree.now) c.in_err-statement.field-0.0 c.in_ok-open.ensures.value c.in_err-statement.ensures.value)
 
 pub judge_inside-returns-clause-value : goal.judge_inside-returns-clause-value
 judge_inside-returns-clause-value t c =
-    inside_made (around_of c.args.around) c.args.known.now c.open.new.self c.judge_stm-statement.new.known c.close.new.self (stm_of c.args.tree.now) (core_stm_of c.in_ok-statement.statement)
+    inside_made (around_of c.args.around) c.args.known.now c.open.new.self c.judge_stm.new.known c.close.new.self (stm_of c.args.tree.now)
+    (core_stm_of c.in_ok-statement.statement)
     c.in_ok-open.ensures.value c.in_ok-statement.ensures.value
     (c.close.ensures.value c.args.known.now (c.in_ok-statement.ensures.outside ∙ ap (λ (k : Held). k.outside) c.in_ok-open.ensures.value))
 
 pub judge_inside-returns-clause-outside : goal.judge_inside-returns-clause-outside
 judge_inside-returns-clause-outside t c =
-    ap (λ (k : Held). k.outside) (c.close.ensures.value c.args.known.now (c.in_ok-statement.ensures.outside ∙ ap (λ (k : Held). k.outside) c.in_ok-open.ensures.value))
+    ap (λ (k : Held). k.outside) (c.close.ensures.value c.args.known.now
+    (c.in_ok-statement.ensures.outside ∙ ap (λ (k : Held). k.outside) c.in_ok-open.ensures.value))
 
 pub judge_block-returns-in_err-statements-clause-value : goal.judge_block-returns-in_err-statements-clause-value
 judge_block-returns-in_err-statements-clause-value t c =
     let p = err_from_is_err_and c.from_residual-in_err-statements.result c.from_residual-in_err-statements.ensures.1 in
     rw (p.1, p.2)
-    (block_stops (around_of c.args.around) c.args.known.now c.open.new.self c.args.place (stms_of (map stm_of c.args.trees.now)) c.in_err-statements.field-0.0 c.in_ok-open.ensures.value c.in_err-statements.ensures.value)
+    (block_stops (around_of c.args.around) c.args.known.now c.open.new.self c.args.place
+    (stms_of (map stm_of c.args.trees.now)) c.in_err-statements.field-0.0 c.in_ok-open.ensures.value c.in_err-statements.ensures.value)
 
 pub judge_block-returns-clause-value : goal.judge_block-returns-clause-value
 judge_block-returns-clause-value t c = rw c.block.ensures.value
-    (block_made (around_of c.args.around) c.args.known.now c.open.new.self c.judge_stms-statements.new.known c.close.new.self c.args.place (stms_of (map stm_of c.args.trees.now)) _
+    (block_made (around_of c.args.around) c.args.known.now c.open.new.self c.judge_stms.new.known c.close.new.self c.args.place
+    (stms_of (map stm_of c.args.trees.now)) _
     c.in_ok-open.ensures.value c.in_ok-statements.ensures.value
     (c.close.ensures.value c.args.known.now (c.in_ok-statements.ensures.outside ∙ ap (λ (k : Held). k.outside) c.in_ok-open.ensures.value)))
 
 pub judge_block-returns-clause-outside : goal.judge_block-returns-clause-outside
 judge_block-returns-clause-outside t c =
-    ap (λ (k : Held). k.outside) (c.close.ensures.value c.args.known.now (c.in_ok-statements.ensures.outside ∙ ap (λ (k : Held). k.outside) c.in_ok-open.ensures.value))
+    ap (λ (k : Held). k.outside) (c.close.ensures.value c.args.known.now
+    (c.in_ok-statements.ensures.outside ∙ ap (λ (k : Held). k.outside) c.in_ok-open.ensures.value))
 
 pub judge_stm-returns-in-Block-clause-value : goal.judge_stm-returns-in-Block-clause-value
 judge_stm-returns-in-Block-clause-value t c =
-    judged_as (λ s. behind_of c.judge_block.new.known s) c.judge_block.result (judge_stm (around_of c.args.around) (scene_of c.args.known.now)) _ _ (ap stm_of c.in-Block.is ∙ stm_of_block _ _) (rw c.as_slice.ensures.value at c.judge_block.ensures.value)
+    judged_as (λ s. behind_of c.judge_block.new.known s) c.judge_block.result (judge_stm (around_of c.args.around) (scene_of c.args.known.now)) _ _
+    (ap stm_of c.in-Block.is ∙ stm_of_block _ _) (rw c.as_slice.ensures.value at c.judge_block.ensures.value)
 
 pub judge_for-returns-in_err-start-clause-value : goal.judge_for-returns-in_err-start-clause-value
 judge_for-returns-in_err-start-clause-value t c =
     let p = err_from_is_err_and c.from_residual-in_err-start.result c.from_residual-in_err-start.ensures.1 in
     rw (p.1, p.2)
-    (for_first_stops (around_of c.args.around) c.args.known.now c.open.new.self c.open.new.self c.args.place _ _ _ _ c.in_err-start.field-0.0 c.in_ok-open.ensures.value c.in_err-start.ensures.value)
+    (for_first_stops (around_of c.args.around) c.args.known.now c.open.new.self c.open.new.self c.args.place _ _ _ _ c.in_err-start.field-0.0
+    c.in_ok-open.ensures.value c.in_err-start.ensures.value)
 
 pub judge_for-returns-in_err-turns-clause-value : goal.judge_for-returns-in_err-turns-clause-value
 judge_for-returns-in_err-turns-clause-value t c =
     let p = err_from_is_err_and c.from_residual-in_err-turns.result c.from_residual-in_err-turns.ensures.1 in
     rw (p.1, p.2)
-    (for_turns_stop (around_of c.args.around) c.args.known.now c.open.new.self c.judge_first-start.new.known c.args.place _ _ _ _ _ c.in_err-turns.field-0.0 c.in_ok-open.ensures.value c.in_ok-start.ensures.value c.in_err-turns.ensures.value)
+    (for_turns_stop (around_of c.args.around) c.args.known.now c.open.new.self c.judge_first.new.known c.args.place _ _ _ _ _ c.in_err-turns.field-0.0
+    c.in_ok-open.ensures.value c.in_ok-start.ensures.value c.in_err-turns.ensures.value)
+
+pub judge_for-returns-clause-value : goal.judge_for-returns-clause-value
+judge_for-returns-clause-value t c = rw c.in_ok-joined.ensures.value
+    (for_made (around_of c.args.around) c.args.known.now c.open.new.self c.judge_first.new.known c.args.place _ _ _ _ c.judge_turns.new.known
+    c.close.new.self
+    (core_stm_of c.in_ok-start.start) (core_stm_of c.in_ok-turns.turns) c.in_ok-open.ensures.value c.in_ok-start.ensures.value c.in_ok-turns.ensures.value
+    (c.close.ensures.value c.args.known.now (c.in_ok-turns.ensures.outside ∙ c.judge_first.ensures.outside
+    ∙ ap (λ (k : Held). k.outside) c.in_ok-open.ensures.value)))
+
+pub judge_for-returns-clause-outside : goal.judge_for-returns-clause-outside
+judge_for-returns-clause-outside t c =
+    ap (λ (k : Held). k.outside)
+    (c.close.ensures.value c.args.known.now (c.in_ok-turns.ensures.outside ∙ c.judge_first.ensures.outside
+    ∙ ap (λ (k : Held). k.outside) c.in_ok-open.ensures.value))
+
+-- ---- a test behind what it chooses
+
+pub judge_if_only-returns-in_err-test-clause-value : goal.judge_if_only-returns-in_err-test-clause-value
+judge_if_only-returns-in_err-test-clause-value t c =
+    let p = err_from_is_err_and c.from_residual-in_err-test.result c.from_residual-in_err-test.ensures.1 in
+    rw (p.1, p.2)
+    (if_stops (around_of c.args.around) (scene_of c.args.known.now) c.args.place (tree_of c.args.condition.now) (stm_of c.args.taken.now) _ _
+    c.in_err-test.field-0.0 c.in_ok-node.ensures.value c.in_ok-taken.ensures.value c.in_err-test.ensures.value)
+
+pub judge_while-returns-in_err-test-clause-value : goal.judge_while-returns-in_err-test-clause-value
+judge_while-returns-in_err-test-clause-value t c =
+    let p = err_from_is_err_and c.from_residual-in_err-test.result c.from_residual-in_err-test.ensures.1 in
+    rw (p.1, p.2)
+    (while_stops (around_of c.args.around) _ (scene_of c.args.known.now) c.args.place (tree_of c.args.condition.now) (stm_of c.args.body.now) _ _
+    c.in_err-test.field-0.0 (ap around_of c.inside_loop.ensures.value) c.in_ok-node.ensures.value c.in_ok-body.ensures.value c.in_err-test.ensures.value)
+
+-- ---- declarations
+
+pub judge_stm-returns-in-Declare-default-default-None-clause-value : goal.judge_stm-returns-in-Declare-default-default-None-clause-value
+judge_stm-returns-in-Declare-default-default-None-clause-value t c =
+    let declared = c.in-Declare-default-default-None in
+    judged_as (λ s. behind_of c.judge_declaration.new.known s) c.judge_declaration.result (λ (j : Judged Behind). j) _ _
+    (ap (λ (u : Stmt). judge_stm (around_of c.args.around) (scene_of c.args.known.now) (stm_of u)) declared.is
+    ∙ declare_is (around_of c.args.around) (scene_of c.args.known.now) declared.name (type_of declared.of)) c.judge_declaration.ensures.value
+
+pub judge_stm-returns-in-Declare-default-default-Some-clause-value : goal.judge_stm-returns-in-Declare-default-default-Some-clause-value
+judge_stm-returns-in-Declare-default-default-Some-clause-value t c =
+    let declared = c.in-Declare-default-default-Some in
+    judged_as (λ s. behind_of c.judge_initialised.new.known s) c.judge_initialised.result (λ (j : Judged Behind). j) _ _
+    (ap (λ (u : Stmt). judge_stm (around_of c.args.around) (scene_of c.args.known.now) (stm_of u)) declared.is
+    ∙ initialised_is (around_of c.args.around) (scene_of c.args.known.now) declared.name (type_of declared.of) (tree_of declared.value))
+    c.judge_initialised.ensures.value

@@ -11,7 +11,8 @@ use Rattle.sz_check.proofs.stmt.+stmt.Given as goal
 
 abbrev pub invariant-judge_stms-loop-tree : goal.invariant-judge_stms-loop-tree
 invariant-judge_stms-loop-tree l = record {
-  judged : behind in_front (map core_stm_of l.statements.items) (judge_stms (around_of l.around) (scene_of l.known) (stms_of (map stm_of (drop l.tree-index l.trees))))
+  judged : behind in_front (map core_stm_of l.statements.items)
+      (judge_stms (around_of l.around) (scene_of l.known) (stms_of (map stm_of (drop l.tree-index l.trees))))
       ≡ judge_stms (around_of l.around) (scene_of l.fn.known) (stms_of (map stm_of l.trees));
   outside : l.known.outside ≡ l.fn.known.outside;
 }
