@@ -1,5 +1,5 @@
 -- What is spelled as an expression is read.
-use Rattle.std.proofs.Common.{◌≡◌, ◌⊎◌, ℕ, zero, suc, ◌+◌, ◌≤◌, ◌<◌, Bool, true, false, List, [], ◌∷◌, length, Option, Some, None, max, refl, sym, ap, subst, ◌∙◌, arith, inl, inr}
+use Rattle.std.proofs.Common.{◌≡◌, ◌⊎◌, ℕ, zero, suc, ◌+◌, ◌≤◌, ◌<◌, Bool, true, false, List, [], ◌∷◌, Option, Some, None, refl, sym, ap, ◌∙◌, arith, inl, inr}
 use denote.Enum.Bare.{sameb, false_same}
 use Rattle.std.proofs.lemmas.Bool.{le-leb, eq-eqb, ne_eqb, cases_lt}
 use Rattle.sz_types.specs.declared.place.Place.{Place}
@@ -8,11 +8,8 @@ use Rattle.sz_lex.specs.declared.token.Kind.{Kind}
 use Rattle.sz_lex.specs.declared.token.Kind.TheVariants as kinds
 use Rattle.sz_lex.specs.declared.sign.Sign.{Sign}
 use Rattle.sz_lex.specs.declared.sign.Sign.TheVariants as signs
-use Rattle.sz_lex.specs.declared.word.Word.{Word}
-use Rattle.sz_lex.specs.declared.word.Word.TheVariants as words
 use Rattle.sz_lex.specs.declared.escape.Quoted.TheVariants as quoteds
 use Rattle.sz_lex.specs.contracts.sign.Sign.{the_type as sign_type}
-use Rattle.sz_lex.specs.Lexed.{lexeme_of}
 use Rattle.sz_tree.specs.declared.operator.BinaryOp.{BinaryOp}
 use Rattle.sz_tree.specs.declared.operator.BinaryOp.TheVariants as ops
 use Rattle.sz_tree.specs.declared.operator.UnaryOp.{UnaryOp}
@@ -21,13 +18,13 @@ use Rattle.sz_tree.specs.declared.types.BasicType.{BasicType}
 use Rattle.sz_tree.specs.declared.types.BasicType.TheVariants as basics
 use Rattle.sz_tree.specs.Names.{Ident}
 use Rattle.sz_tree.specs.Expressions.{Lit, number, string, bytes, character, boolean, Exp, literal, named, call, def, paren, convert, list, mapping, index, slice, field, unary, binary, Exps, end, more, Pairs, no_pairs, pair, exps_of, pairs_of, place_of, loose_of, left_loose, loose, height, heights, pair_heights, IsPostfix}
-use Rattle.sz_parse.specs.Tokens.{token, At, Is, IsSign, AtName, IsLiteral, AtLiteral, Many}
+use Rattle.sz_parse.specs.Tokens.{Spelling, token, At, IsSign, AtName, IsLiteral, Many}
 use Rattle.sz_parse.specs.Expressions.{sign_of, unary_sign, basic_word, Converts, Reads, ReadsArgs, ReadsMore, ReadsEntries, ReadsPairs}
 use Rattle.sz_parse.specs.Reading.{Read, sign_here, after_sign, ident_of, all_at}
-use Rattle.sz_parse.specs.ReadingExpressions.{Sub, sign_unary, unary_of, sign_binary, binary_of, operator_here, operator_at, conversion_of, comma_step, pair_at, pair_step, items_behind, pairs_behind, args_at, call_at, named_at, closed_at, condition_at, paren_at, def_at, convert_at, list_at, map_at, composite_at, bracketed, converted, worded, primary_here, bracket_at, field_at, part_step, tail_at, unary_at, postfix_at, prefix_at, chain_at, level_at, expr_at}
+use Rattle.sz_parse.specs.ReadingExpressions.{Sub, sign_unary, unary_of, sign_binary, binary_of, operator_here, operator_at, comma_step, pair_at, pair_step, items_behind, pairs_behind, args_at, call_at, named_at, closed_at, condition_at, paren_at, def_at, convert_at, list_at, map_at, composite_at, primary_here, bracket_at, field_at, part_step, tail_at, unary_at, postfix_at, prefix_at, chain_at, level_at, expr_at}
 use Rattle.sz_parse.proofs.Steps.{bind_step, choose_some, choose_none, guard_step}
 use Rattle.sz_parse.proofs.Items.{IsFound, all_complete, follows}
-use Rattle.sz_parse.proofs.TokenLemmas.{after_sign_is, other_sign, name_is, is_length, decoded_is}
+use Rattle.sz_parse.proofs.TokenLemmas.{after_sign_is, other_sign, name_is, decoded_is}
 use Rattle.sz_parse.proofs.ExpressionSound.{IsSound, CommaItem, PairItem, comma_item, pair_item, height_positive, sign_binary_sound, expr_sound}
 
 -- ---- one token
@@ -191,7 +188,7 @@ unary_starts unaries.Plus = refl
 unary_starts unaries.Not = refl
 unary_starts unaries.Complement = refl
 
-literal_starts : (text : List ℕ) (l : Lit) (t : Token) → IsLiteral text l t → starts_kind t.kind ≡ true
+literal_starts : (text : Spelling) (l : Lit) (t : Token) → IsLiteral text l t → starts_kind t.kind ≡ true
 literal_starts text (number n) t h = rw h refl
 literal_starts text (string v) t h = rw h.0 refl
 literal_starts text (bytes v) t h = rw h.0 refl
@@ -199,7 +196,7 @@ literal_starts text (character c) t h = rw h refl
 literal_starts text (boolean true) t h = rw h refl
 literal_starts text (boolean false) t h = rw h refl
 
-pub reads_starts : (text : List ℕ) (e : Exp) (ts rest : List Token) → Reads text e ts rest → starts ts ≡ true
+pub reads_starts : (text : Spelling) (e : Exp) (ts rest : List Token) → Reads text e ts rest → starts ts ≡ true
 unfolding Reads
 reads_starts text (literal p l) ts rest h = rw h.is (literal_starts text l h.here h.means)
 reads_starts text (named n) ts rest h = rw h.is refl
@@ -235,7 +232,7 @@ no_start s (t ∷ ts) f h = no_start_here s t.kind ts f h
 
 -- ---- whole expressions and lists of them
 
-abbrev pub IsComplete : List ℕ → Sub → ℕ → Type 0
+abbrev pub IsComplete : Spelling → Sub → ℕ → Type 0
 IsComplete text sub d = (l : ℕ) (e : Exp) (ts rest : List Token) → Reads text e ts rest → height e ≤ d → loose e ≤ l → l < grip rest → sub l ts ≡ Some (e, rest)
 
 pub ends_at : (s : Sign) (ts rest : List Token) → sign_grip s ≡ 6 → IsSign s ts rest → 5 < grip ts
@@ -258,7 +255,7 @@ pairs_list : (ps : Pairs) → pairs_of (pair_list ps) ≡ ps
 pairs_list no_pairs = refl
 pairs_list (pair k v ps) = ap (pair k v) (pairs_list ps)
 
-module _ (text : List ℕ) (sub : Sub) (d : ℕ) (s : IsSound text sub d) (h : IsComplete text sub d) where
+module _ (text : Spelling) (sub : Sub) (d : ℕ) (s : IsSound text sub d) (h : IsComplete text sub d) where
   -- a whole expression, before a token that ends it
   pub whole : (e : Exp) (ts rest : List Token) → Reads text e ts rest → height e ≤ d → 5 < grip rest → sub 5 ts ≡ Some (e, rest)
   whole e ts rest re low g = h 5 e ts rest re low (loose_most e) g
@@ -384,18 +381,18 @@ module _ (text : List ℕ) (sub : Sub) (d : ℕ) (s : IsSound text sub d) (h : I
 -- ---- what an index may stand behind
 
 -- the expression and what follows, at some number of turns that is enough for what is left
-pub record Reached (text : List ℕ) (sub : Sub) (d : ℕ) (ts rest : List Token) (e : Exp) : Type 0 where
+pub record Reached (text : Spelling) (sub : Sub) (d : ℕ) (ts rest : List Token) (e : Exp) : Type 0 where
   pub turns : ℕ
   pub enough : suc d ≤ turns + height e
   pub reached : postfix_at text sub d ts ≡ tail_at text sub d turns e rest
 
 -- a primary that is read at once
-at_once : (text : List ℕ) (sub : Sub) (d : ℕ) (t : Token) (ts a rest : List Token) (e : Exp) → ts ≡ t ∷ a → primary_here text sub d t t.kind a ≡ Some (e, rest) → Reached text sub d ts rest e
+at_once : (text : Spelling) (sub : Sub) (d : ℕ) (t : Token) (ts a rest : List Token) (e : Exp) → ts ≡ t ∷ a → primary_here text sub d t t.kind a ≡ Some (e, rest) → Reached text sub d ts rest e
 unfolding postfix_at
 at_once text sub d t ts a rest e at h = record { turns = suc d; enough = omega arith; reached = rw at (bind_step _ _ _ _ h refl) }
 
 -- one part more
-one_more : (text : List ℕ) (sub : Sub) (d : ℕ) (ts a rest : List Token) (e x : Exp) → Reached text sub d ts a e → height e ≤ d → height e < height x → part_step text sub e a ≡ Some (Some (x, rest)) → Reached text sub d ts rest x
+one_more : (text : Spelling) (sub : Sub) (d : ℕ) (ts a rest : List Token) (e x : Exp) → Reached text sub d ts a e → height e ≤ d → height e < height x → part_step text sub e a ≡ Some (Some (x, rest)) → Reached text sub d ts rest x
 unfolding tail_at
 one_more text sub d ts a rest e x r low higher h = go r.turns r.enough r.reached
   where
@@ -408,18 +405,20 @@ unfolding named_at
 named_alone sub d n rest none = choose_none _ _ _ _ none refl
 
 -- a name's token gives the name
-same_ident : (text : List ℕ) (n : Ident) (ts rest : List Token) → (at : AtName text n ts rest) → ident_of text (token kinds.Name n.place at.start at.len) ≡ n
+same_ident : (text : Spelling) (n : Ident) (ts rest : List Token) → (at : AtName text n ts rest) → ident_of text (token kinds.Name n.place at.start at.len) ≡ n
 same_ident text n ts rest at = ap (λ (t : List ℕ). record { place = n.place; text = t }) (sym at.spelled)
 
-literal_is : (text : List ℕ) (sub : Sub) (d : ℕ) (l : Lit) (t : Token) (rest : List Token) → IsLiteral text l t → primary_here text sub d t t.kind rest ≡ Some (literal t.place l, rest)
+literal_is : (text : Spelling) (sub : Sub) (d : ℕ) (l : Lit) (t : Token) (rest : List Token) → IsLiteral text l t → primary_here text sub d t t.kind rest ≡ Some (literal t.place l, rest)
 literal_is text sub d (number n) t rest h = rw h refl
-literal_is text sub d (string v) t rest h = rw h.0 (bind_step _ _ _ _ (decoded_is quoteds.Str (lexeme_of text t) v h.1) refl)
-literal_is text sub d (bytes v) t rest h = rw h.0 (bind_step _ _ _ _ (decoded_is quoteds.Bytes (lexeme_of text t) v h.1) refl)
+literal_is text sub d (string v) t rest h =
+    ap (λ (k : Kind). primary_here text sub d t k rest) h.0 ∙ bind_step _ _ _ _ (decoded_is quoteds.Str (text t) v h.1) refl
+literal_is text sub d (bytes v) t rest h =
+    ap (λ (k : Kind). primary_here text sub d t k rest) h.0 ∙ bind_step _ _ _ _ (decoded_is quoteds.Bytes (text t) v h.1) refl
 literal_is text sub d (character c) t rest h = rw h refl
 literal_is text sub d (boolean true) t rest h = rw h refl
 literal_is text sub d (boolean false) t rest h = rw h refl
 
-module _ (text : List ℕ) (sub : Sub) (d : ℕ) (s : IsSound text sub d) (h : IsComplete text sub d) where
+module _ (text : Spelling) (sub : Sub) (d : ℕ) (s : IsSound text sub d) (h : IsComplete text sub d) where
   bracket_index : (e i : Exp) (a b c rest : List Token) → IsSign signs.OpenBracket a b → Reads text i b c → height i ≤ d → IsSign signs.CloseBracket c rest → part_step text sub e a ≡ Some (Some (index (place_of e) e i, rest))
   unfolding part_step bracket_at
   bracket_index e i a b c rest o re low cl =
@@ -486,7 +485,7 @@ module _ (text : List ℕ) (sub : Sub) (d : ℕ) (s : IsSound text sub d) (h : I
 -- ---- levels
 
 -- such an expression begins with no sign of a unary operator
-literal_first : (text : List ℕ) (l : Lit) (t : Token) → IsLiteral text l t → unary_of t.kind ≡ None
+literal_first : (text : Spelling) (l : Lit) (t : Token) → IsLiteral text l t → unary_of t.kind ≡ None
 literal_first text (number n) t h = rw h refl
 literal_first text (string v) t h = rw h.0 refl
 literal_first text (bytes v) t h = rw h.0 refl
@@ -494,7 +493,7 @@ literal_first text (character c) t h = rw h refl
 literal_first text (boolean true) t h = rw h refl
 literal_first text (boolean false) t h = rw h refl
 
-postfix_first : (text : List ℕ) (e : Exp) (ts rest : List Token) → IsPostfix e → Reads text e ts rest → (t : Token) × (more : List Token) × (ts ≡ t ∷ more) × (unary_of t.kind ≡ None)
+postfix_first : (text : Spelling) (e : Exp) (ts rest : List Token) → IsPostfix e → Reads text e ts rest → (t : Token) × (more : List Token) × (ts ≡ t ∷ more) × (unary_of t.kind ≡ None)
 unfolding Reads
 postfix_first text (literal p l) ts rest post h = (h.here, _, h.is, literal_first text l h.here h.means)
 postfix_first text (named n) ts rest post h = (_, _, h.is, refl)
@@ -510,21 +509,21 @@ postfix_first text (index p e i) ts rest post h = postfix_first text e ts _ h.4 
 postfix_first text (slice p e i j) ts rest post h = postfix_first text e ts _ h.6 h.7
 postfix_first text (field p e n) ts rest post h = postfix_first text e ts _ h.3 h.4
 
-no_part : (text : List ℕ) (sub : Sub) (e : Exp) (ts : List Token) → 0 < grip ts → part_step text sub e ts ≡ None
+no_part : (text : Spelling) (sub : Sub) (e : Exp) (ts : List Token) → 0 < grip ts → part_step text sub e ts ≡ None
 unfolding part_step
 no_part text sub e ts g = choose_none _ _ _ _ (no_grip signs.OpenBracket ts refl g) (choose_none _ _ _ _ (no_grip signs.Dot ts refl g) refl)
 
 -- the left operand and what follows it
-pub record Chained (text : List ℕ) (sub : Sub) (d l : ℕ) (ts rest : List Token) (e : Exp) : Type 0 where
+pub record Chained (text : Spelling) (sub : Sub) (d l : ℕ) (ts rest : List Token) (e : Exp) : Type 0 where
   pub turns : ℕ
   pub enough : suc d ≤ turns + height e
   pub reached : level_at text sub d (suc l) ts ≡ chain_at sub d l turns e rest
 
 -- what a level reads completely
-abbrev IsLevel : List ℕ → Sub → ℕ → ℕ → Type 0
+abbrev IsLevel : Spelling → Sub → ℕ → ℕ → Type 0
 IsLevel text sub d l = (e : Exp) (ts rest : List Token) → Reads text e ts rest → height e ≤ suc d → loose e ≤ l → l < grip rest → level_at text sub d l ts ≡ Some (e, rest)
 
-module _ (text : List ℕ) (sub : Sub) (d : ℕ) (s : IsSound text sub d) (h : IsComplete text sub d) where
+module _ (text : Spelling) (sub : Sub) (d : ℕ) (s : IsSound text sub d) (h : IsComplete text sub d) where
   prefix_postfix : (e : Exp) (ts rest : List Token) → IsPostfix e → Reads text e ts rest → height e ≤ suc d → 0 < grip rest → prefix_at text sub d ts ≡ Some (e, rest)
   unfolding prefix_at tail_at
   prefix_postfix e ts rest post re low g =
@@ -608,7 +607,7 @@ module _ (text : List ℕ) (sub : Sub) (d : ℕ) (s : IsSound text sub d) (h : I
       let c = chain_complete l (level_complete l) e ts rest re low tight (omega arith) in
       c.reached ∙ chain_stops l c.turns e rest g
 
-pub expr_complete : (text : List ℕ) (d : ℕ) → IsComplete text (expr_at text d) d
+pub expr_complete : (text : Spelling) (d : ℕ) → IsComplete text (expr_at text d) d
 unfolding expr_at
 expr_complete text zero l e ts rest re low tight g = absurd (omega (arith, height_positive e))
 expr_complete text (suc d) l e ts rest re low tight g = level_complete text (expr_at text d) d (expr_sound text d) (expr_complete text d) l e ts rest re low tight g

@@ -1,5 +1,5 @@
 -- Expressions and pairs in a vector.
-use Rattle.std.proofs.Common.{◌≡◌, ℕ, List, [], ◌∷◌, ◌++◌, Option, Some, max, refl, sym, ap, ◌∙◌, arith}
+use Rattle.std.proofs.Common.{◌≡◌, List, [], ◌∷◌, ◌++◌, Option, Some, max, refl, ap, arith}
 use Rattle.std.specs.Prelude.{map}
 use Rattle.sz_lex.specs.declared.token.Token.{Token}
 use Rattle.sz_tree.specs.declared.expr.Expr.{Expr}

@@ -1,5 +1,5 @@
 -- What is read as an expression is spelled so.
-use Rattle.std.proofs.Common.{◌≡◌, ℕ, zero, suc, ◌+◌, ◌≤◌, ◌<◌, Bool, true, false, List, [], ◌∷◌, length, Option, Some, None, max, refl, sym, ap, subst, ◌∙◌, arith}
+use Rattle.std.proofs.Common.{◌≡◌, ℕ, zero, suc, ◌≤◌, ◌<◌, List, [], ◌∷◌, length, Option, Some, None, refl, ap, arith}
 use Rattle.std.proofs.lemmas.Bool.{leb-true, eqb-true}
 use Rattle.sz_types.specs.declared.place.Place.{Place}
 use Rattle.sz_lex.specs.declared.token.Token.{Token}
@@ -10,23 +10,22 @@ use Rattle.sz_lex.specs.declared.sign.Sign.TheVariants as signs
 use Rattle.sz_lex.specs.declared.word.Word.{Word}
 use Rattle.sz_lex.specs.declared.word.Word.TheVariants as words
 use Rattle.sz_lex.specs.declared.escape.Quoted.TheVariants as quoteds
-use Rattle.sz_lex.specs.Lexed.{lexeme_of}
 use Rattle.sz_tree.specs.declared.operator.UnaryOp.{UnaryOp}
 use Rattle.sz_tree.specs.declared.operator.BinaryOp.{BinaryOp}
 use Rattle.sz_tree.specs.declared.types.BasicType.{BasicType}
 use Rattle.sz_tree.specs.Names.{Ident}
-use Rattle.sz_tree.specs.Expressions.{Lit, Exp, literal, named, call, def, paren, convert, list, mapping, index, slice, field, unary, binary, Exps, end, more, Pairs, no_pairs, pair, exps_of, pairs_of, place_of, loose_of, left_loose, loose, height, heights, pair_heights, IsPostfix}
-use Rattle.sz_parse.specs.Tokens.{token, At, IsSign, AtName, AtLiteral, Many}
+use Rattle.sz_tree.specs.Expressions.{Exp, literal, named, call, def, paren, convert, list, mapping, index, slice, field, unary, binary, Exps, end, more, Pairs, no_pairs, pair, exps_of, pairs_of, place_of, loose_of, left_loose, loose, height, heights, pair_heights, IsPostfix}
+use Rattle.sz_parse.specs.Tokens.{Spelling, token, At, IsSign, AtName, Many}
 use Rattle.sz_parse.specs.Expressions.{sign_of, unary_sign, basic_word, Converts, Reads, ReadsArgs, ReadsMore, ReadsEntries, ReadsPairs}
-use Rattle.sz_parse.specs.Reading.{Read, after_sign, ident_of, all_at}
-use Rattle.sz_parse.specs.ReadingExpressions.{Sub, sign_unary, unary_of, sign_binary, binary_of, operator_here, operator_at, conversion_of, comma_step, pair_at, pair_step, items_behind, pairs_behind, args_at, call_at, named_at, closed_at, condition_at, paren_at, def_at, convert_at, list_at, map_at, composite_at, bracketed, converted, worded, primary_here, bracket_at, field_at, part_step, tail_at, unary_at, postfix_at, prefix_at, chain_at, level_at, expr_at}
-use Rattle.sz_parse.proofs.Holds.{Holds, some, some_is, some_holds, nothing, none_holds, bind_holds, choose_holds, guard_holds, if_holds, weaker}
-use Rattle.sz_parse.proofs.Items.{IsItem, known, all_sound}
+use Rattle.sz_parse.specs.Reading.{ident_of}
+use Rattle.sz_parse.specs.ReadingExpressions.{Sub, sign_unary, unary_of, sign_binary, binary_of, operator_here, operator_at, comma_step, pair_at, pair_step, items_behind, pairs_behind, args_at, call_at, named_at, closed_at, condition_at, paren_at, def_at, convert_at, list_at, map_at, composite_at, bracketed, worded, primary_here, bracket_at, field_at, part_step, tail_at, unary_at, postfix_at, prefix_at, chain_at, level_at, expr_at}
+use Rattle.sz_parse.proofs.Holds.{Holds, some, some_holds, none_holds, bind_holds, choose_holds, guard_holds, if_holds, weaker}
+use Rattle.sz_parse.proofs.Items.{IsItem, all_sound}
 use Rattle.sz_parse.proofs.TokenLemmas.{after_sign_sound, name_sound, at_length, is_length, name_length, decoded_sound}
 
 -- ---- expressions take tokens
 
-module _ (text : List ℕ) where
+module _ (text : Spelling) where
   mutual
     unfolding Reads
 
@@ -64,29 +63,29 @@ module _ (text : List ℕ) where
 -- ---- what is known of the parts
 
 -- x is an expression at the front of ts, and what follows it
-pub record Parsed (text : List ℕ) (d l : ℕ) (ts : List Token) (x : Exp × List Token) : Type 0 where
+pub record Parsed (text : Spelling) (d l : ℕ) (ts : List Token) (x : Exp × List Token) : Type 0 where
   pub reads : Reads text x.0 ts x.1
   pub low : height x.0 ≤ d
   pub tight : loose x.0 ≤ l
 
-abbrev pub IsSound : List ℕ → Sub → ℕ → Type 0
+abbrev pub IsSound : Spelling → Sub → ℕ → Type 0
 IsSound text sub d = (l : ℕ) (ts : List Token) → Holds (sub l ts) (Parsed text d l ts)
 
 -- x is such an expression that an index may stand behind
-pub record ParsedTight (text : List ℕ) (d : ℕ) (ts : List Token) (x : Exp × List Token) : Type 0 where
+pub record ParsedTight (text : Spelling) (d : ℕ) (ts : List Token) (x : Exp × List Token) : Type 0 where
   pub reads : Reads text x.0 ts x.1
   pub low : height x.0 ≤ d
   pub postfix : IsPostfix x.0
 
 -- a comma and an expression
-pub record CommaItem (text : List ℕ) (d : ℕ) (e : Exp) (ts rest : List Token) : Type 0 where
+pub record CommaItem (text : Spelling) (d : ℕ) (e : Exp) (ts rest : List Token) : Type 0 where
   pub behind : List Token
   pub comma : IsSign signs.Comma ts behind
   pub reads : Reads text e behind rest
   pub low : height e ≤ d
 
 -- a comma, a key and its value
-pub record PairItem (text : List ℕ) (d : ℕ) (p : Exp × Exp) (ts rest : List Token) : Type 0 where
+pub record PairItem (text : Spelling) (d : ℕ) (p : Exp × Exp) (ts rest : List Token) : Type 0 where
   pub a : List Token
   pub b : List Token
   pub c : List Token
@@ -97,7 +96,7 @@ pub record PairItem (text : List ℕ) (d : ℕ) (p : Exp × Exp) (ts rest : List
   pub low : height p.0 ≤ d
   pub low_value : height p.1 ≤ d
 
-module _ (text : List ℕ) (sub : Sub) (d : ℕ) (h : IsSound text sub d) where
+module _ (text : Spelling) (sub : Sub) (d : ℕ) (h : IsSound text sub d) where
   comma_step_sound : (ts : List Token) → Holds (comma_step sub ts) (λ r. Holds r (λ x. CommaItem text d x.0 ts x.1))
   unfolding comma_step
   comma_step_sound ts = choose_holds (after_sign_sound signs.Comma ts) (none_holds _) (λ a c.
@@ -138,36 +137,36 @@ module _ (text : List ℕ) (sub : Sub) (d : ℕ) (h : IsSound text sub d) where
       ((i.a, i.b, i.c, m.0, i.comma, i.key, i.colon, i.value, l.0), omega (arith, i.low, i.low_value, l.1))
 
 -- arguments, or the items of a list
-pub record ParsedArgs (text : List ℕ) (d : ℕ) (ts : List Token) (y : List Exp × List Token) : Type 0 where
+pub record ParsedArgs (text : Spelling) (d : ℕ) (ts : List Token) (y : List Exp × List Token) : Type 0 where
   pub reads : ReadsArgs text (exps_of y.0) ts y.1
   pub low : heights (exps_of y.0) ≤ d
 
 -- the entries of a map
-pub record ParsedEntries (text : List ℕ) (d : ℕ) (ts : List Token) (y : List (Exp × Exp) × List Token) : Type 0 where
+pub record ParsedEntries (text : Spelling) (d : ℕ) (ts : List Token) (y : List (Exp × Exp) × List Token) : Type 0 where
   pub reads : ReadsEntries text (pairs_of y.0) ts y.1
   pub low : pair_heights (pairs_of y.0) ≤ d
 
 -- the arguments of a call and the closing parenthesis
-pub record ParsedCall (text : List ℕ) (d : ℕ) (ts : List Token) (y : Exps × List Token) : Type 0 where
+pub record ParsedCall (text : Spelling) (d : ℕ) (ts : List Token) (y : Exps × List Token) : Type 0 where
   pub behind : List Token
   pub reads : ReadsArgs text y.0 ts behind
   pub closes : IsSign signs.CloseParen behind y.1
   pub low : heights y.0 ≤ d
 
 -- an expression and the closing parenthesis
-pub record ParsedClosed (text : List ℕ) (d : ℕ) (ts : List Token) (x : Exp × List Token) : Type 0 where
+pub record ParsedClosed (text : Spelling) (d : ℕ) (ts : List Token) (x : Exp × List Token) : Type 0 where
   pub behind : List Token
   pub reads : Reads text x.0 ts behind
   pub closes : IsSign signs.CloseParen behind x.1
   pub low : height x.0 ≤ d
 
 -- an expression in parentheses
-pub record ParsedCondition (text : List ℕ) (d : ℕ) (ts : List Token) (x : Exp × List Token) : Type 0 where
+pub record ParsedCondition (text : Spelling) (d : ℕ) (ts : List Token) (x : Exp × List Token) : Type 0 where
   pub inner : List Token
   pub opens : IsSign signs.OpenParen ts inner
   pub closed : ParsedClosed text d inner x
 
-module _ (text : List ℕ) (sub : Sub) (d : ℕ) (h : IsSound text sub d) where
+module _ (text : Spelling) (sub : Sub) (d : ℕ) (h : IsSound text sub d) where
   items_sound : (ts a : List Token) (e : Exp) → Parsed text d 5 ts (e, a) → Holds (items_behind sub e a) (ParsedArgs text d ts)
   unfolding items_behind Reads height
   items_sound ts a e g = bind_holds (all_sound (comma_item text sub d h) a) (λ y m.
@@ -280,11 +279,11 @@ module _ (text : List ℕ) (sub : Sub) (d : ℕ) (h : IsSound text sub d) where
       go : (k : Kind) → t.kind ≡ k → Holds (primary_here text sub d t k ts) (ParsedTight text (suc d) (t ∷ ts))
       go (kinds.Number n) e = some_holds _ _ (record { reads = record { here = t; place = refl; means = e; is = refl }; low = omega arith; postfix = tt })
       go (kinds.Character c) e = some_holds _ _ (record { reads = record { here = t; place = refl; means = e; is = refl }; low = omega arith; postfix = tt })
-      go kinds.Str e = bind_holds (decoded_sound quoteds.Str (lexeme_of text t)) (λ v q.
+      go kinds.Str e = bind_holds (decoded_sound quoteds.Str (text t)) (λ v q.
           some_holds _ _ (record { reads = record { here = t; place = refl; means = (e, q); is = refl }; low = omega arith; postfix = tt }))
-      go kinds.Bytes e = bind_holds (decoded_sound quoteds.Bytes (lexeme_of text t)) (λ v q.
+      go kinds.Bytes e = bind_holds (decoded_sound quoteds.Bytes (text t)) (λ v q.
           some_holds _ _ (record { reads = record { here = t; place = refl; means = (e, q); is = refl }; low = omega arith; postfix = tt }))
-      go kinds.Name e = named_sound (t ∷ ts) (ident_of text t) ts (record { start = t.start; len = t.len; is = (at kinds.Name e).is; spelled = refl })
+      go kinds.Name e = named_sound (t ∷ ts) (ident_of text t) ts (record { start = t.start; len = t.len; is = (at kinds.Name e).is; spelled = ap (λ (k : Kind). text (token k t.place t.start t.len)) e })
       go (kinds.Sign s) e = bracketed_sound (t ∷ ts) t.place s ts (at (kinds.Sign s) e)
       go (kinds.Word w) e = worded_sound t w ts e
 
@@ -316,7 +315,7 @@ tight_of (unary p o e) h = absurd h
 tight_of (binary p o l r) h = absurd h
 tight_of _ h = omega arith
 
-module _ (text : List ℕ) (sub : Sub) (d : ℕ) (h : IsSound text sub d) where
+module _ (text : Spelling) (sub : Sub) (d : ℕ) (h : IsSound text sub d) where
   -- a part of e, if e is not too high
   part_sound : (e : Exp) (ts0 ts : List Token) → ParsedTight text (suc d) ts0 (e, ts) → Holds (part_step text sub e ts) (λ r. height e ≤ d → Holds r (ParsedTight text (suc d) ts0))
   unfolding part_step
@@ -387,10 +386,10 @@ unfolding operator_at
 operator_sound l [] = none_holds _
 operator_sound l (t ∷ ts) = operator_here_sound l (binary_of t.kind) t ts (binary_of_sound t.kind)
 
-parsed_of : (text : List ℕ) (d : ℕ) (ts : List Token) (x : Exp × List Token) → ParsedTight text d ts x → Parsed text d 0 ts x
+parsed_of : (text : Spelling) (d : ℕ) (ts : List Token) (x : Exp × List Token) → ParsedTight text d ts x → Parsed text d 0 ts x
 parsed_of text d ts x g = record { reads = g.reads; low = g.low; tight = tight_of x.0 g.postfix }
 
-module _ (text : List ℕ) (sub : Sub) (d : ℕ) (h : IsSound text sub d) where
+module _ (text : Spelling) (sub : Sub) (d : ℕ) (h : IsSound text sub d) where
   unary_sound : (ts0 : List Token) (p : Place) (o : UnaryOp) (ts : List Token) → At p (kinds.Sign (unary_sign o)) ts0 ts → Holds (unary_at sub p o ts) (Parsed text (suc d) 0 ts0)
   unfolding unary_at Reads height
   unary_sound ts0 p o ts at = bind_holds (h 0 ts) (λ x g. some_holds _ _ (record { reads = (ts, at, g.tight, g.reads); low = omega (arith, g.low); tight = omega arith }))
@@ -420,7 +419,7 @@ module _ (text : List ℕ) (sub : Sub) (d : ℕ) (h : IsSound text sub d) where
   level_sound (suc l) ts =
       bind_holds (level_sound l ts) (λ x g. chain_sound l (suc d) x.0 ts x.1 (record { reads = g.reads; low = g.low; tight = omega (arith, g.tight) }))
 
-pub expr_sound : (text : List ℕ) (d : ℕ) → IsSound text (expr_at text d) d
+pub expr_sound : (text : Spelling) (d : ℕ) → IsSound text (expr_at text d) d
 unfolding expr_at
 expr_sound text zero l ts = none_holds _
 expr_sound text (suc d) l ts = level_sound text (expr_at text d) d (expr_sound text d) l ts

@@ -1,15 +1,16 @@
 -- The loops of the expressions, turn by turn.
-use Rattle.std.proofs.Common.{◌≡◌, ◌⊎◌, ℕ, zero, suc, ◌+◌, ◌-◌, ◌≤◌, ◌<◌, add-one, nat_le, Bool, true, false, List, [], ◌∷◌, length, Option, Some, None, refl, sym, ap, ◌∙◌, arith, inl, inr}
+use Rattle.std.proofs.Common.{◌≡◌, ◌⊎◌, ℕ, zero, suc, ◌+◌, ◌-◌, ◌≤◌, ◌<◌, add-one, nat_le, Bool, true, false, List, [], Option, Some, None, refl, sym, ◌∙◌, arith, inl, inr}
 use Rattle.std.proofs.lemmas.Bool.{le-leb, lt-leb}
 use Rattle.sz_lex.specs.declared.token.Token.{Token}
 use Rattle.sz_lex.specs.declared.sign.Sign.TheVariants as signs
 use Rattle.sz_tree.specs.declared.operator.BinaryOp.{BinaryOp}
 use Rattle.sz_tree.specs.Expressions.{Exp, binary, place_of, left_loose, loose, height}
+use Rattle.sz_parse.specs.Tokens.{Spelling}
 use Rattle.sz_parse.specs.declared.failed.Failed.{Failed}
-use Rattle.sz_parse.specs.Reading.{Read, bind, ◌>>=◌, choose, guard, after_sign}
+use Rattle.sz_parse.specs.Reading.{Read, bind, choose, guard, after_sign}
 use Rattle.sz_parse.specs.ReadingExpressions.{Sub, operator_at, chain_at, part_step, part_at, tail_at, comma_step, pair_at, pair_step}
 use Rattle.sz_parse.specs.Outcome.{Fails}
-use Rattle.sz_parse.proofs.Steps.{bind_step, choose_some, choose_none, guard_step, guard_false, bind_none, true_or_false}
+use Rattle.sz_parse.proofs.Steps.{bind_step, choose_some, choose_none, guard_step, guard_false, true_or_false}
 use Rattle.sz_parse.proofs.Loops.{fails_bind, fails_same}
 
 -- a turn at an operator
@@ -60,11 +61,11 @@ chain_over sub d l i n e ts le = let k : n - i ≡ 0 = omega arith in rw k refl
 -- ---- indices, slices and fields
 
 -- what a turn gives: another part, or the end
-after_part : (text : List ℕ) (sub : Sub) (d k : ℕ) → (Exp × Bool) × List Token → Read Exp
+after_part : (text : Spelling) (sub : Sub) (d k : ℕ) → (Exp × Bool) × List Token → Read Exp
 after_part text sub d k ((x, true), rest) = tail_at text sub d k x rest
 after_part text sub d k ((x, false), rest) = Some (x, rest)
 
-tail_turn : (text : List ℕ) (sub : Sub) (d k : ℕ) (e : Exp) (ts : List Token) → tail_at text sub d (suc k) e ts ≡ bind (part_at text sub d e ts) (after_part text sub d k)
+tail_turn : (text : Spelling) (sub : Sub) (d k : ℕ) (e : Exp) (ts : List Token) → tail_at text sub d (suc k) e ts ≡ bind (part_at text sub d e ts) (after_part text sub d k)
 unfolding tail_at part_at bind after_part guard choose
 tail_turn text sub d k e ts = go (part_step text sub e ts) (nat_le (height e) d)
   where
@@ -77,7 +78,7 @@ tail_turn text sub d k e ts = go (part_step text sub e ts) (nat_le (height e) d)
     go (Some r) b = inside r b
     go None b = refl
 
-pub tail_goes_on : (text : List ℕ) (sub : Sub) (d i n : ℕ) (e x : Exp) (b : Bool) (ts rest : List Token) (r : Read Exp) → i < n → b ≡ true → part_at text sub d e ts ≡ Some ((x, b), rest)
+pub tail_goes_on : (text : Spelling) (sub : Sub) (d i n : ℕ) (e x : Exp) (b : Bool) (ts rest : List Token) (r : Read Exp) → i < n → b ≡ true → part_at text sub d e ts ≡ Some ((x, b), rest)
     → tail_at text sub d (n - i) e ts ≡ r → tail_at text sub d (n - (i + 1)) x rest ≡ r
 unfolding after_part
 tail_goes_on text sub d i n e x false ts rest r lt is h so_far = absurd cc
@@ -86,7 +87,7 @@ tail_goes_on text sub d i n e x true ts rest r lt is h so_far =
     let here : tail_at text sub d (suc (n - (i + 1))) e ts ≡ r = rw (← k) so_far in
     sym (bind_step _ _ _ _ h refl) ∙ sym (tail_turn text sub d (n - (i + 1)) e ts) ∙ here
 
-pub tail_stops : (text : List ℕ) (sub : Sub) (d i n : ℕ) (e x : Exp) (b : Bool) (ts rest : List Token) (r : Read Exp) → i < n → b ≡ false → part_at text sub d e ts ≡ Some ((x, b), rest)
+pub tail_stops : (text : Spelling) (sub : Sub) (d i n : ℕ) (e x : Exp) (b : Bool) (ts rest : List Token) (r : Read Exp) → i < n → b ≡ false → part_at text sub d e ts ≡ Some ((x, b), rest)
     → tail_at text sub d (n - i) e ts ≡ r → r ≡ Some (x, rest)
 unfolding after_part
 tail_stops text sub d i n e x true ts rest r lt is h so_far = absurd cc
@@ -95,14 +96,14 @@ tail_stops text sub d i n e x false ts rest r lt is h so_far =
     let here : tail_at text sub d (suc (n - (i + 1))) e ts ≡ r = rw (← k) so_far in
     sym here ∙ tail_turn text sub d (n - (i + 1)) e ts ∙ bind_step _ _ _ _ h refl
 
-pub tail_fails : (f : Failed) (text : List ℕ) (sub : Sub) (d i n : ℕ) (e : Exp) (ts : List Token) (r : Read Exp) → i < n → Fails f (part_at text sub d e ts)
+pub tail_fails : (f : Failed) (text : Spelling) (sub : Sub) (d i n : ℕ) (e : Exp) (ts : List Token) (r : Read Exp) → i < n → Fails f (part_at text sub d e ts)
     → tail_at text sub d (n - i) e ts ≡ r → Fails f r
 tail_fails f text sub d i n e ts r lt h so_far =
     let k : n - i ≡ suc (n - (i + 1)) = omega arith in
     let here : tail_at text sub d (suc (n - (i + 1))) e ts ≡ r = rw (← k) so_far in
     fails_same f _ _ (sym (tail_turn text sub d (n - (i + 1)) e ts) ∙ here) (fails_bind f _ _ h)
 
-pub tail_over : (text : List ℕ) (sub : Sub) (d i n : ℕ) (e : Exp) (ts : List Token) → n ≤ i → tail_at text sub d (n - i) e ts ≡ Some (e, ts)
+pub tail_over : (text : Spelling) (sub : Sub) (d i n : ℕ) (e : Exp) (ts : List Token) → n ≤ i → tail_at text sub d (n - i) e ts ≡ Some (e, ts)
 unfolding tail_at
 tail_over text sub d i n e ts le = let k : n - i ≡ 0 = omega arith in rw k refl
 

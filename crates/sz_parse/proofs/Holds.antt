@@ -1,5 +1,5 @@
 -- What holds of the value of a step, if it has one.
-use Rattle.std.proofs.Common.{◌≡◌, Bool, true, false, cond, Option, Some, None, refl, sym, subst}
+use Rattle.std.proofs.Common.{◌≡◌, Bool, true, false, cond, Option, Some, None, refl, subst}
 use Rattle.sz_parse.specs.Reading.{◌>>=◌, bind, choose, guard}
 
 -- P holds of the value, if there is one

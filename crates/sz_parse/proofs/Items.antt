@@ -1,13 +1,11 @@
 -- The laws of reading items, once for all kinds of items.
-use Rattle.std.proofs.Common.{◌≡◌, ℕ, zero, suc, ◌+◌, ◌-◌, ◌≤◌, ◌<◌, List, [], ◌∷◌, ◌++◌, length, Option, Some, None, refl, sym, ap, ◌∙◌, append_assoc, arith}
-use Rattle.std.proofs.lemmas.List.{append-nil}
+use Rattle.std.proofs.Common.{◌≡◌, ℕ, zero, suc, ◌≤◌, ◌<◌, List, [], ◌∷◌, length, Option, Some, None, refl, ap, arith}
 use Rattle.sz_lex.specs.declared.token.Token.{Token}
-use Rattle.std.specs.Prelude.{max}
 use Rattle.sz_tree.specs.Statements.{greatest}
 use Rattle.sz_parse.specs.Tokens.{Many}
-use Rattle.sz_parse.specs.Reading.{Read, bind, choose, many_at, all_at, with_items}
+use Rattle.sz_parse.specs.Reading.{Read, many_at, all_at}
 use Rattle.sz_parse.proofs.Holds.{Holds, some_holds, bind_holds, chosen_holds}
-use Rattle.sz_parse.proofs.Steps.{bind_step, choose_some, choose_none, bind_same, choose_same}
+use Rattle.sz_parse.proofs.Steps.{bind_step, choose_some, choose_none}
 
 -- what is known of one item: what is read is spelled, and takes a token at least
 pub record IsItem {A : Type 0} (step : List Token → Option (Read A)) (R : A → List Token → List Token → Type 0) : Type 0 where

@@ -8,6 +8,9 @@ mod TypeSound
 mod TypeComplete
 mod StatementSound
 mod StatementComplete
+mod ExpressionAlike
+mod TypeAlike
+mod StatementAlike
 mod Whole
 mod Loops
 mod ExpressionTurns

@@ -4,7 +4,7 @@ use Rattle.std.proofs.lemmas.List.{append-nil}
 use Rattle.sz_lex.specs.declared.token.Token.{Token}
 use Rattle.sz_parse.specs.declared.failed.Failed.{Failed}
 use Rattle.sz_parse.specs.declared.failed.Failed.TheVariants as failures
-use Rattle.sz_parse.specs.Reading.{Read, bind, choose, many_at, all_at, with_items}
+use Rattle.sz_parse.specs.Reading.{Read, bind, many_at, all_at, with_items}
 use Rattle.sz_parse.specs.Outcome.{Fails}
 use Rattle.sz_parse.proofs.Steps.{bind_step, choose_some, choose_none, bind_same, choose_same, bind_none}
 use Rattle.sz_parse.proofs.Items.{IsItem}

@@ -1,8 +1,7 @@
 -- What is spelled as a statement is read.
-use Rattle.std.proofs.Common.{◌≡◌, ℕ, zero, suc, ℤ, ◌+◌, ◌≤◌, ◌<◌, Bool, true, false, List, [], ◌∷◌, length, Option, Some, None, max, refl, sym, ap, ◌∙◌, arith}
+use Rattle.std.proofs.Common.{◌≡◌, ℕ, zero, suc, ℤ, ◌≤◌, ◌<◌, true, false, List, [], ◌∷◌, Option, Some, None, refl, sym, ap, ◌∙◌, arith}
 use denote.Enum.Bare.{sameb, false_same}
 use Rattle.std.proofs.lemmas.Bool.{le-leb}
-use Rattle.sz_types.specs.declared.place.Place.{Place}
 use Rattle.sz_lex.specs.declared.token.Token.{Token}
 use Rattle.sz_lex.specs.declared.token.Kind.{Kind}
 use Rattle.sz_lex.specs.declared.token.Kind.TheVariants as kinds
@@ -23,18 +22,18 @@ use Rattle.sz_tree.specs.Types.{Typ, Params, no_params, param, params_of, type_h
 use Rattle.sz_tree.specs.Types as types
 use Rattle.sz_tree.specs.Statements.{StepForm, at_index, at_field, SimpleForm, assign, increment, decrement, call_of, FirstForm, first_declare, first_define, first_simple, ElemForm, TableForm, QuantifierForm, Stm, Stms, stms_of, part_height, greatest, step_height, elem_height, quantifier_height, table_height, simple_height, first_height, stm_height, stm_heights}
 use Rattle.sz_tree.specs.Statements as forms
-use Rattle.sz_parse.specs.Tokens.{token, At, Is, IsSign, IsWord, AtName, IsLiteral, Many}
+use Rattle.sz_parse.specs.Tokens.{Spelling, token, IsSign, IsWord, AtName, IsLiteral, Many}
 use Rattle.sz_parse.specs.Expressions.{sign_of, Reads}
 use Rattle.sz_parse.specs.Types.{ReadsType, ReadsElem}
 use Rattle.sz_parse.specs.Statements.{quantity_word, Perhaps, NotElse, ReadsBehind, ReadsWeight, ReadsIndex, ReadsStep, ReadsSimple, ReadsFirst, ReadsTableIndex, ReadsTableWeight, ReadsArgument, ReadsTable, ReadsNextName, ReadsNames, ReadsQuantifier, ReadsQuantifiers, ReadsDeclared, ReadsCondition, ReadsStm, ReadsStms}
-use Rattle.sz_parse.specs.Reading.{Read, sign_here, after_sign, word_here, after_word, ident_of, name_here, name_at, all_at}
+use Rattle.sz_parse.specs.Reading.{Read, sign_here, after_sign, word_here, after_word, name_here, name_at}
 use Rattle.sz_parse.specs.ReadingExpressions.{Sub, condition_at, expr_at}
 use Rattle.sz_parse.specs.ReadingTypes.{SubType, elem_at, type_at}
 use Rattle.sz_parse.specs.ReadingStatements.{unless_at, init_at, weight_at, index_at, index_step, path_step, assign_at, simple_behind, simple_at, first_behind, first_at, argument_at, table_index_at, table_index_step, table_weight_at, table_at, name_step, names_behind, names_at, quantity_at, quantifier_at, begins_quantifier, quantifier_step, quantifiers_behind, quantifiers_at, Readers, begins_stm, stm_step, body_at, block_at, declare_at, declared_at, function_at, table_stm_at, colon_at, define_at, simple_stm_at, named_stm_at, static_at, typedef_at, if_at, while_at, do_at, for_at, break_at, continue_at, return_at, emit_at, when_at, step_at, stm_at}
 use Rattle.sz_parse.proofs.Steps.{bind_step, bind_none, choose_some, choose_none, guard_step}
-use Rattle.sz_parse.proofs.Items.{IsFound, Low, all_complete, many_join, follows}
+use Rattle.sz_parse.proofs.Items.{IsFound, Low, all_complete, many_join}
 use Rattle.sz_parse.proofs.TokenLemmas.{after_sign_is, other_sign, after_word_is, other_word, name_is}
-use Rattle.sz_parse.proofs.ExpressionSound.{IsSound, expr_sound, height_positive}
+use Rattle.sz_parse.proofs.ExpressionSound.{IsSound, expr_sound}
 use Rattle.sz_parse.proofs.ExpressionComplete.{IsComplete, grip, sign_grip, ends_at, starts, reads_starts, no_start, whole, call_complete, condition_complete, expr_complete, looseness}
 use Rattle.sz_parse.proofs.TypeSound.{IsSoundType, type_sound}
 use Rattle.sz_parse.proofs.TypeComplete.{IsCompleteType, label_is, number_is, elem_complete, params_complete, type_complete}
@@ -50,7 +49,7 @@ sign_at_word : (s : Sign) (w : Word) (ts rest : List Token) → IsWord w ts rest
 unfolding after_sign
 sign_at_word s w ts rest h = rw h.is refl
 
-sign_at_name : (text : List ℕ) (s : Sign) (n : Ident) (ts rest : List Token) → AtName text n ts rest → after_sign s ts ≡ None
+sign_at_name : (text : Spelling) (s : Sign) (n : Ident) (ts rest : List Token) → AtName text n ts rest → after_sign s ts ≡ None
 unfolding after_sign
 sign_at_name text s n ts rest h = rw h.is refl
 
@@ -73,7 +72,7 @@ no_else (t ∷ ts) h = no_else_here t t.kind ts refl h
 
 -- ---- parts that may be left out
 
-module _ (text : List ℕ) (sub : Sub) (d : ℕ) (s : IsSound text sub d) (h : IsComplete text sub d) where
+module _ (text : Spelling) (sub : Sub) (d : ℕ) (s : IsSound text sub d) (h : IsComplete text sub d) where
   init_complete : (e : Option Exp) (ts rest after : List Token) → Perhaps (ReadsBehind text signs.Assign) e ts rest → part_height height e ≤ d → IsSign signs.Semicolon rest after → init_at sub ts ≡ Some (e, rest)
   unfolding init_at
   init_complete None ts rest after p low c = rw p (choose_none _ _ _ _ (other_sign signs.Assign signs.Semicolon rest after c refl) refl)
@@ -167,14 +166,14 @@ simple_positive (increment n) = omega arith
 simple_positive (decrement n) = omega arith
 simple_positive (call_of n es) = omega arith
 
-simple_at_complete : (text : List ℕ) (d : ℕ) (x : SimpleForm) (ts rest : List Token) → ReadsSimple text x ts rest → simple_height x ≤ d → 5 < grip rest → simple_at text d ts ≡ Some (x, rest)
+simple_at_complete : (text : Spelling) (d : ℕ) (x : SimpleForm) (ts rest : List Token) → ReadsSimple text x ts rest → simple_height x ≤ d → 5 < grip rest → simple_at text d ts ≡ Some (x, rest)
 unfolding simple_at
 simple_at_complete text zero x ts rest re low g = absurd (omega (arith, simple_positive x))
 simple_at_complete text (suc d) x ts rest re low g =
     let m = simple_complete text (expr_at text d) d (expr_sound text d) (expr_complete text d) x ts rest re low g in
     bind_step _ _ _ _ (name_is text m.0 ts m.1 m.2) m.3
 
-first_complete : (text : List ℕ) (sub : Sub) (ty : SubType) (d : ℕ) → IsSound text sub d → IsComplete text sub d → IsCompleteType text ty d → (x : FirstForm) (ts rest : List Token) → ReadsFirst text x ts rest → first_height x ≤ suc d → 5 < grip rest
+first_complete : (text : Spelling) (sub : Sub) (ty : SubType) (d : ℕ) → IsSound text sub d → IsComplete text sub d → IsCompleteType text ty d → (x : FirstForm) (ts rest : List Token) → ReadsFirst text x ts rest → first_height x ≤ suc d → 5 < grip rest
     → (n : Ident) × (a : List Token) × AtName text n ts a × (first_behind text sub ty d n a ≡ Some (x, rest))
 unfolding first_behind ReadsFirst first_height
 first_complete text sub ty d s h ht (first_declare n t e) ts rest re low g =
@@ -191,7 +190,7 @@ first_positive (first_declare n t e) = omega arith
 first_positive (first_define n e) = omega arith
 first_positive (first_simple s) = simple_positive s
 
-first_at_complete : (text : List ℕ) (d : ℕ) (x : FirstForm) (ts rest : List Token) → ReadsFirst text x ts rest → first_height x ≤ d → 5 < grip rest → first_at text d ts ≡ Some (x, rest)
+first_at_complete : (text : Spelling) (d : ℕ) (x : FirstForm) (ts rest : List Token) → ReadsFirst text x ts rest → first_height x ≤ d → 5 < grip rest → first_at text d ts ≡ Some (x, rest)
 unfolding first_at
 first_at_complete text zero x ts rest re low g = absurd (omega (arith, first_positive x))
 first_at_complete text (suc d) x ts rest re low g =
@@ -199,14 +198,14 @@ first_at_complete text (suc d) x ts rest re low g =
     bind_step _ _ _ _ (name_is text m.0 ts m.1 m.2) m.3
 
 -- both begin with a name
-simple_no_sign : (text : List ℕ) (z : Sign) (x : SimpleForm) (ts rest : List Token) → ReadsSimple text x ts rest → after_sign z ts ≡ None
+simple_no_sign : (text : Spelling) (z : Sign) (x : SimpleForm) (ts rest : List Token) → ReadsSimple text x ts rest → after_sign z ts ≡ None
 unfolding ReadsSimple
 simple_no_sign text z (assign p e) ts rest re = sign_at_name text z p.name ts _ re.3
 simple_no_sign text z (increment n) ts rest re = sign_at_name text z n ts _ re.1
 simple_no_sign text z (decrement n) ts rest re = sign_at_name text z n ts _ re.1
 simple_no_sign text z (call_of n es) ts rest re = sign_at_name text z n ts _ re.3
 
-first_no_sign : (text : List ℕ) (z : Sign) (x : FirstForm) (ts rest : List Token) → ReadsFirst text x ts rest → after_sign z ts ≡ None
+first_no_sign : (text : Spelling) (z : Sign) (x : FirstForm) (ts rest : List Token) → ReadsFirst text x ts rest → after_sign z ts ≡ None
 unfolding ReadsFirst
 first_no_sign text z (first_declare n t e) ts rest re = sign_at_name text z n ts _ re.4
 first_no_sign text z (first_define n e) ts rest re = sign_at_name text z n ts _ re.2
@@ -215,7 +214,7 @@ first_no_sign text z (first_simple s) ts rest re = simple_no_sign text z s ts re
 -- ---- tables and quantifiers
 
 -- no type begins with the words of a table or a function
-no_table : (text : List ℕ) (t : Typ) (ts rest : List Token) → ReadsType text t ts rest → (after_word words.Table ts ≡ None) × (after_word words.Function ts ≡ None)
+no_table : (text : Spelling) (t : Typ) (ts rest : List Token) → ReadsType text t ts rest → (after_word words.Table ts ≡ None) × (after_word words.Function ts ≡ None)
 unfolding ReadsType after_word
 no_table text (types.basic p basics.Bool) ts rest re = (rw re.is refl, rw re.is refl)
 no_table text (types.basic p basics.Int) ts rest re = (rw re.is refl, rw re.is refl)
@@ -228,7 +227,7 @@ no_table text (types.map_type p n k v) ts rest re = (rw re.6.is refl, rw re.6.is
 no_table text (types.tuple p ps) ts rest re = (rw re.2.is refl, rw re.2.is refl)
 no_table text (types.proto p fs) ts rest re = (rw re.3.is refl, rw re.3.is refl)
 
-literal_no_name : (text : List ℕ) (l : Lit) (t : Token) (rest : List Token) → IsLiteral text l t → name_here text t t.kind rest ≡ None
+literal_no_name : (text : Spelling) (l : Lit) (t : Token) (rest : List Token) → IsLiteral text l t → name_here text t t.kind rest ≡ None
 literal_no_name text (number n) t rest h = rw h refl
 literal_no_name text (string v) t rest h = rw h.0 refl
 literal_no_name text (bytes v) t rest h = rw h.0 refl
@@ -244,7 +243,7 @@ operator_no_comma o z six most = false_same sign_type tt (sign_of o) z (λ e. cl
     clash e = omega (arith, e, six, most)
 
 -- where an expression begins, and no comma or colon follows it, no quantifier begins
-no_quantifier : (text : List ℕ) (e : Exp) (ts rest : List Token) → Reads text e ts rest → after_sign signs.Comma rest ≡ None → after_sign signs.Colon rest ≡ None → begins_quantifier text ts ≡ None
+no_quantifier : (text : Spelling) (e : Exp) (ts rest : List Token) → Reads text e ts rest → after_sign signs.Comma rest ≡ None → after_sign signs.Colon rest ≡ None → begins_quantifier text ts ≡ None
 unfolding Reads begins_quantifier name_at
 no_quantifier text (trees.literal p l) ts rest re c m = bind_none _ _ (rw re.is (literal_no_name text l re.here rest re.means))
 no_quantifier text (trees.named n) ts rest re c m = bind_step _ _ _ _ (name_is text n ts rest re) (choose_none _ _ _ _ c m)
@@ -273,7 +272,7 @@ quantity_is quantities.Some ts rest h = rw h.is (bind_step _ _ _ _ refl refl)
 quantity_is quantities.Each ts rest h = rw h.is (bind_step _ _ _ _ refl refl)
 quantity_is quantities.All ts rest h = rw h.is (bind_step _ _ _ _ refl refl)
 
-module _ (text : List ℕ) (ty : SubType) (d : ℕ) (s : IsSoundType text ty d) (h : IsCompleteType text ty d) where
+module _ (text : Spelling) (ty : SubType) (d : ℕ) (s : IsSoundType text ty d) (h : IsCompleteType text ty d) where
   whole_elem : (e : ElemForm) (ts rest : List Token) → ReadsElem text e ts rest → elem_height e ≤ d → after_sign signs.Colon rest ≡ None → elem_at text ty ts ≡ Some (e, rest)
   unfolding ReadsElem
   whole_elem e ts rest re low none = elem_complete text ty d s h e.name e.of ts re.0 rest re.1 re.2 low none
@@ -369,11 +368,11 @@ module _ (text : List ℕ) (ty : SubType) (d : ℕ) (s : IsSoundType text ty d) 
 
 -- ---- statements
 
-abbrev pub IsCompleteStm : List ℕ → (List Token → Read Stm) → ℕ → Type 0
+abbrev pub IsCompleteStm : Spelling → (List Token → Read Stm) → ℕ → Type 0
 IsCompleteStm text st d = (x : Stm) (ts rest : List Token) → ReadsStm text x ts rest → stm_height x ≤ d → st ts ≡ Some (x, rest)
 
 -- what is known of the readers of the parts, forwards
-pub record AreComplete (text : List ℕ) (r : Readers) (d : ℕ) : Type 0 where
+pub record AreComplete (text : Spelling) (r : Readers) (d : ℕ) : Type 0 where
   pub expr : IsComplete text r.expr d
   pub type : IsCompleteType text r.type d
   pub simple : (x : SimpleForm) (ts rest : List Token) → ReadsSimple text x ts rest → simple_height x ≤ d → 5 < grip rest → r.simple ts ≡ Some (x, rest)
@@ -381,14 +380,14 @@ pub record AreComplete (text : List ℕ) (r : Readers) (d : ℕ) : Type 0 where
   pub stm : IsCompleteStm text r.stm d
 
 -- a statement begins with a token that is no closing brace
-simple_begins : (text : List ℕ) (x : SimpleForm) (ts rest : List Token) → ReadsSimple text x ts rest → (t : Token) × (more : List Token) × (ts ≡ t ∷ more) × (sign_here signs.CloseBrace t.kind more ≡ None)
+simple_begins : (text : Spelling) (x : SimpleForm) (ts rest : List Token) → ReadsSimple text x ts rest → (t : Token) × (more : List Token) × (ts ≡ t ∷ more) × (sign_here signs.CloseBrace t.kind more ≡ None)
 unfolding ReadsSimple
 simple_begins text (assign p e) ts rest re = (_, _, re.3.is, refl)
 simple_begins text (increment n) ts rest re = (_, _, re.1.is, refl)
 simple_begins text (decrement n) ts rest re = (_, _, re.1.is, refl)
 simple_begins text (call_of n es) ts rest re = (_, _, re.3.is, refl)
 
-stm_begins : (text : List ℕ) (x : Stm) (ts rest : List Token) → ReadsStm text x ts rest → (t : Token) × (more : List Token) × (ts ≡ t ∷ more) × (sign_here signs.CloseBrace t.kind more ≡ None)
+stm_begins : (text : Spelling) (x : Stm) (ts rest : List Token) → ReadsStm text x ts rest → (t : Token) × (more : List Token) × (ts ≡ t ∷ more) × (sign_here signs.CloseBrace t.kind more ≡ None)
 unfolding ReadsStm
 stm_begins text (forms.empty p) ts rest re = (_, _, re.is, refl)
 stm_begins text (forms.block p ss) ts rest re = (_, _, re.2.is, refl)
@@ -418,7 +417,7 @@ stms_list : (ss : Stms) → stms_of (stm_list ss) ≡ ss
 stms_list forms.no_stms = refl
 stms_list (forms.stm s ss) = ap (forms.stm s) (stms_list ss)
 
-module _ (text : List ℕ) (r : Readers) (d : ℕ) (s : AreSound text r d) (h : AreComplete text r d) where
+module _ (text : Spelling) (r : Readers) (d : ℕ) (s : AreSound text r d) (h : AreComplete text r d) where
   found_stm : (x : Stm) (ts rest : List Token) → Low (ReadsStm text) stm_height d x ts rest → stm_step r.stm ts ≡ Some (Some (x, rest))
   unfolding stm_step begins_stm after_sign
   found_stm x ts rest i =
@@ -538,7 +537,7 @@ unfolding stm_height
 stm_height_positive (forms.simple s) = simple_positive s
 stm_height_positive _ = omega arith
 
-pub stm_complete : (text : List ℕ) (d : ℕ) → IsCompleteStm text (stm_at text d) d
+pub stm_complete : (text : Spelling) (d : ℕ) → IsCompleteStm text (stm_at text d) d
 unfolding stm_at
 stm_complete text zero x ts rest re low = absurd (omega (arith, stm_height_positive x))
 stm_complete text (suc d) x ts rest re low =

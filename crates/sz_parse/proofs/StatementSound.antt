@@ -1,5 +1,5 @@
 -- What is read as a statement is spelled so.
-use Rattle.std.proofs.Common.{◌≡◌, ℕ, zero, suc, ℤ, ◌+◌, ◌≤◌, ◌<◌, List, [], ◌∷◌, length, Option, Some, None, max, refl, sym, ap, subst, ◌∙◌, arith}
+use Rattle.std.proofs.Common.{◌≡◌, ℕ, zero, suc, ◌≤◌, ◌<◌, List, [], ◌∷◌, length, Option, Some, None, max, refl, ap, subst, ◌∙◌, arith}
 use Rattle.std.proofs.lemmas.Bool.{leb-true}
 use Rattle.sz_types.specs.declared.place.Place.{Place}
 use Rattle.sz_lex.specs.declared.token.Token.{Token}
@@ -9,26 +9,24 @@ use Rattle.sz_lex.specs.declared.sign.Sign.{Sign}
 use Rattle.sz_lex.specs.declared.sign.Sign.TheVariants as signs
 use Rattle.sz_lex.specs.declared.word.Word.{Word}
 use Rattle.sz_lex.specs.declared.word.Word.TheVariants as words
-use Rattle.sz_tree.specs.declared.stmt.Quantity.{Quantity}
-use Rattle.sz_tree.specs.declared.stmt.Quantity.TheVariants as quantities
 use Rattle.sz_tree.specs.Names.{Ident}
 use Rattle.sz_tree.specs.Expressions.{Exp, exps_of, height, heights}
 use Rattle.sz_tree.specs.Types.{Typ, Params, no_params, param, params_of, type_height, param_heights}
 use Rattle.sz_tree.specs.Statements.{StepForm, at_index, at_field, SimpleForm, assign, increment, decrement, call_of, FirstForm, first_declare, first_define, first_simple, ElemForm, TableForm, QuantifierForm, Stm, Stms, stms_of, part_height, greatest, step_height, elem_height, quantifier_height, table_height, simple_height, first_height, stm_height, stm_heights}
 use Rattle.sz_tree.specs.Statements as forms
-use Rattle.sz_parse.specs.Tokens.{token, At, Is, IsSign, IsWord, AtName, Many}
+use Rattle.sz_parse.specs.Tokens.{Spelling, token, At, IsSign, IsWord, AtName, Many}
 use Rattle.sz_parse.specs.Expressions.{Reads}
 use Rattle.sz_parse.specs.Types.{ReadsType, ReadsElem, ReadsParams}
 use Rattle.sz_parse.specs.Statements.{quantity_word, Perhaps, NotElse, ReadsBehind, ReadsWeight, ReadsIndex, ReadsStep, ReadsSimple, ReadsFirst, ReadsTableIndex, ReadsTableWeight, ReadsArgument, ReadsTable, ReadsNextName, ReadsNames, ReadsQuantifier, ReadsQuantifiers, ReadsDeclared, ReadsCondition, ReadsStm, ReadsStms}
-use Rattle.sz_parse.specs.Reading.{Read, ◌>>=◌, bind, after_sign, after_word, ident_of, name_at, all_at}
+use Rattle.sz_parse.specs.Reading.{Read, after_sign, after_word, ident_of}
 use Rattle.sz_parse.specs.ReadingExpressions.{Sub, expr_at}
 use Rattle.sz_parse.specs.ReadingTypes.{SubType, type_at}
 use Rattle.sz_parse.specs.ReadingStatements.{unless_at, init_at, weight_at, index_at, index_step, path_step, assign_at, simple_behind, simple_at, first_behind, first_at, argument_at, table_index_at, table_index_step, table_weight_at, table_at, name_step, names_behind, names_at, quantity_of, quantity_here, quantity_at, quantifier_at, begins_quantifier, quantifier_step, quantifiers_behind, quantifiers_at, Readers, begins_stm, stm_step, body_at, block_at, declare_at, declared_at, function_at, table_stm_at, colon_at, define_at, simple_stm_at, named_stm_at, static_at, typedef_at, if_at, while_at, do_at, for_at, break_at, continue_at, return_at, emit_at, when_at, stm_bracketed, stm_worded, stm_here, step_at, stm_at, readers_at}
 use Rattle.sz_parse.proofs.Holds.{Holds, some_holds, none_holds, bind_holds, choose_holds, chosen_holds, guard_holds, weaker}
 use Rattle.sz_parse.proofs.Items.{IsItem, Low, all_sound, many_split, many_fewer, known}
 use Rattle.sz_parse.proofs.TokenLemmas.{after_sign_sound, after_word_sound, after_word_is, name_sound, at_length, is_length, name_length}
-use Rattle.sz_parse.proofs.ExpressionSound.{Parsed, IsSound, shorter, args_shorter, call_sound, condition_sound, expr_sound, height_positive}
-use Rattle.sz_parse.proofs.TypeSound.{ParsedType, IsSoundType, ParsedParams, label_sound, number_sound, elem_sound, params_sound, label_shorter, type_shorter, params_shorter, type_sound}
+use Rattle.sz_parse.proofs.ExpressionSound.{IsSound, shorter, args_shorter, call_sound, condition_sound, expr_sound}
+use Rattle.sz_parse.proofs.TypeSound.{IsSoundType, label_sound, number_sound, elem_sound, params_sound, label_shorter, type_shorter, params_shorter, type_sound}
 
 -- ---- statements take tokens
 
@@ -36,7 +34,7 @@ perhaps_shorter : {A : Type 0} (R : A → List Token → List Token → Type 0) 
 perhaps_shorter R h None ts rest p = omega (arith, ap length p)
 perhaps_shorter R h (Some x) ts rest p = h x ts rest p
 
-module _ (text : List ℕ) where
+module _ (text : Spelling) where
   label_elem_shorter : (e : ElemForm) (ts rest : List Token) → ReadsElem text e ts rest → length rest < length ts
   unfolding ReadsElem
   label_elem_shorter e ts rest i = omega (arith, label_shorter text e.name ts i.0 i.1, type_shorter text e.of i.0 rest i.2)
@@ -146,16 +144,16 @@ module _ (text : List ℕ) where
 
 -- ---- what is known of the parts
 
-abbrev pub ParsedSimple : List ℕ → ℕ → List Token → SimpleForm × List Token → Type 0
+abbrev pub ParsedSimple : Spelling → ℕ → List Token → SimpleForm × List Token → Type 0
 ParsedSimple text d ts x = Low (ReadsSimple text) simple_height d x.0 ts x.1
 
-abbrev pub ParsedFirst : List ℕ → ℕ → List Token → FirstForm × List Token → Type 0
+abbrev pub ParsedFirst : Spelling → ℕ → List Token → FirstForm × List Token → Type 0
 ParsedFirst text d ts x = Low (ReadsFirst text) first_height d x.0 ts x.1
 
-abbrev pub ParsedStm : List ℕ → ℕ → List Token → Stm × List Token → Type 0
+abbrev pub ParsedStm : Spelling → ℕ → List Token → Stm × List Token → Type 0
 ParsedStm text d ts x = Low (ReadsStm text) stm_height d x.0 ts x.1
 
-abbrev pub IsSoundStm : List ℕ → (List Token → Read Stm) → ℕ → Type 0
+abbrev pub IsSoundStm : Spelling → (List Token → Read Stm) → ℕ → Type 0
 IsSoundStm text st d = (ts : List Token) → Holds (st ts) (ParsedStm text d ts)
 
 -- a part that may be left out
@@ -166,20 +164,20 @@ unless_sound : {A : Type 0} (R : A → List Token → List Token → Type 0) (h 
 unfolding unless_at
 unless_sound R h d s read ts k = choose_holds (after_sign_sound s ts) (bind_holds k (λ x g. some_holds _ _ g)) (λ a c. some_holds _ _ (refl, omega arith))
 
-abbrev IndexItem : List ℕ → ℕ → Exp → List Token → List Token → Type 0
+abbrev IndexItem : Spelling → ℕ → Exp → List Token → List Token → Type 0
 IndexItem text d = Low (ReadsIndex text) height d
 
-abbrev StepItem : List ℕ → ℕ → StepForm → List Token → List Token → Type 0
+abbrev StepItem : Spelling → ℕ → StepForm → List Token → List Token → Type 0
 StepItem text d = Low (ReadsStep text) step_height d
 
 -- an expression and a closing bracket
-record ParsedIndex (text : List ℕ) (d : ℕ) (ts : List Token) (x : Exp × List Token) : Type 0 where
+record ParsedIndex (text : Spelling) (d : ℕ) (ts : List Token) (x : Exp × List Token) : Type 0 where
   behind : List Token
   reads : Reads text x.0 ts behind
   closes : IsSign signs.CloseBracket behind x.1
   low : height x.0 ≤ d
 
-module _ (text : List ℕ) (sub : Sub) (d : ℕ) (h : IsSound text sub d) where
+module _ (text : Spelling) (sub : Sub) (d : ℕ) (h : IsSound text sub d) where
   init_sound : (ts : List Token) → Holds (init_at sub ts) (ParsedPart (ReadsBehind text signs.Assign) height d ts)
   unfolding init_at
   init_sound ts = choose_holds (after_sign_sound signs.Assign ts) (some_holds _ _ (refl, omega arith)) (λ a c. bind_holds (h 5 a) (λ x g. some_holds _ _ ((a, c, g.reads), g.low)))
@@ -233,12 +231,12 @@ module _ (text : List ℕ) (sub : Sub) (d : ℕ) (h : IsSound text sub d) where
       (λ r c. guard_holds (λ t. let some : 2 ≤ d = leb-true _ _ t in some_holds _ _ ((ts, at, c), omega arith))))
       (λ r c. guard_holds (λ t. let some : 2 ≤ d = leb-true _ _ t in some_holds _ _ ((ts, at, c), omega arith)))
 
-pub simple_at_sound : (text : List ℕ) (d : ℕ) (ts : List Token) → Holds (simple_at text d ts) (ParsedSimple text d ts)
+pub simple_at_sound : (text : Spelling) (d : ℕ) (ts : List Token) → Holds (simple_at text d ts) (ParsedSimple text d ts)
 unfolding simple_at
 simple_at_sound text zero ts = none_holds _
 simple_at_sound text (suc d) ts = bind_holds (name_sound text ts) (λ n at. simple_sound text (expr_at text d) d (expr_sound text d) ts n.0 n.1 at)
 
-module _ (text : List ℕ) (sub : Sub) (ty : SubType) (d : ℕ) (h : IsSound text sub d) (hty : IsSoundType text ty d) where
+module _ (text : Spelling) (sub : Sub) (ty : SubType) (d : ℕ) (h : IsSound text sub d) (hty : IsSoundType text ty d) where
   first_sound : (ts0 : List Token) (n : Ident) (ts : List Token) → AtName text n ts0 ts → Holds (first_behind text sub ty d n ts) (ParsedFirst text (suc d) ts0)
   unfolding first_behind ReadsFirst first_height
   first_sound ts0 n ts at =
@@ -248,7 +246,7 @@ module _ (text : List ℕ) (sub : Sub) (ty : SubType) (d : ℕ) (h : IsSound tex
       (λ a c. bind_holds (hty a) (λ t gt. bind_holds (after_sign_sound signs.Assign t.1) (λ b e. bind_holds (h 5 b) (λ x g.
       some_holds _ _ ((ts, a, t.1, b, at, c, gt.reads, e, g.reads), omega (arith, gt.low, g.low))))))
 
-pub first_at_sound : (text : List ℕ) (d : ℕ) (ts : List Token) → Holds (first_at text d ts) (ParsedFirst text d ts)
+pub first_at_sound : (text : Spelling) (d : ℕ) (ts : List Token) → Holds (first_at text d ts) (ParsedFirst text d ts)
 unfolding first_at
 first_at_sound text zero ts = none_holds _
 first_at_sound text (suc d) ts = bind_holds (name_sound text ts) (λ n at. first_sound text (expr_at text d) (type_at text d) d (expr_sound text d) (type_sound text d) ts n.0 n.1 at)
@@ -259,7 +257,7 @@ argument_sound : (ts : List Token) → Holds (argument_at ts) (λ x. Perhaps Rea
 unfolding argument_at
 argument_sound ts = choose_holds (after_sign_sound signs.OpenParen ts) (some_holds _ _ refl) (λ a o. bind_holds (number_sound a) (λ n g. bind_holds (after_sign_sound signs.CloseParen n.1) (λ r c. some_holds _ _ (a, n.1, o, g, c))))
 
-module _ (text : List ℕ) (ty : SubType) (d : ℕ) (h : IsSoundType text ty d) where
+module _ (text : Spelling) (ty : SubType) (d : ℕ) (h : IsSoundType text ty d) where
   table_index_sound : (ts : List Token) → Holds (table_index_step text ty ts) (λ r. Holds r (λ x. Low (ReadsTableIndex text) elem_height d x.0 ts x.1))
   unfolding table_index_step table_index_at ReadsElem
   table_index_sound ts = choose_holds (after_sign_sound signs.OpenBracket ts) (none_holds _) (λ a o. some_holds _ _ (bind_holds (elem_sound text ty d h a) (λ e g. bind_holds (after_sign_sound signs.CloseBracket e.1) (λ r c.
@@ -341,7 +339,7 @@ module _ (text : List ℕ) (ty : SubType) (d : ℕ) (h : IsSoundType text ty d) 
 -- ---- statements
 
 -- what is known of the readers of the parts
-pub record AreSound (text : List ℕ) (r : Readers) (d : ℕ) : Type 0 where
+pub record AreSound (text : Spelling) (r : Readers) (d : ℕ) : Type 0 where
   pub expr : IsSound text r.expr d
   pub type : IsSoundType text r.type d
   pub simple : (ts : List Token) → Holds (r.simple ts) (ParsedSimple text d ts)
@@ -354,13 +352,13 @@ exps_heights [] = refl
 exps_heights (e ∷ es) = ap (max (height e)) (exps_heights es)
 
 -- statements, and the closing brace
-pub record ParsedBody (text : List ℕ) (d : ℕ) (ts : List Token) (y : List Stm × List Token) : Type 0 where
+pub record ParsedBody (text : Spelling) (d : ℕ) (ts : List Token) (y : List Stm × List Token) : Type 0 where
   pub behind : List Token
   pub reads : ReadsStms text (stms_of y.0) ts behind
   pub closes : IsSign signs.CloseBrace behind y.1
   pub low : stm_heights (stms_of y.0) ≤ d
 
-module _ (text : List ℕ) (r : Readers) (d : ℕ) (h : AreSound text r d) where
+module _ (text : Spelling) (r : Readers) (d : ℕ) (h : AreSound text r d) where
   begins_stm_sound : (ts : List Token) → Holds (begins_stm ts) (λ b. b ≡ ts)
   unfolding begins_stm
   begins_stm_sound [] = none_holds _
@@ -513,7 +511,7 @@ module _ (text : List ℕ) (r : Readers) (d : ℕ) (h : AreSound text r d) where
       word _ e = none_holds _
 
       go : (k : Kind) → t.kind ≡ k → Holds (stm_here text r d t k ts) (ParsedStm text (suc d) (t ∷ ts))
-      go kinds.Name e = named_stm_sound (t ∷ ts) ts (ident_of text t) (record { start = t.start; len = t.len; is = (at kinds.Name e).is; spelled = refl })
+      go kinds.Name e = named_stm_sound (t ∷ ts) ts (ident_of text t) (record { start = t.start; len = t.len; is = (at kinds.Name e).is; spelled = ap (λ (k : Kind). text (token k t.place t.start t.len)) e })
       go (kinds.Sign s) e = sign s e
       go (kinds.Word w) e = word w e
       go _ e = none_holds _
@@ -523,15 +521,15 @@ module _ (text : List ℕ) (r : Readers) (d : ℕ) (h : AreSound text r d) where
   step_sound [] = none_holds _
   step_sound (t ∷ ts) = stm_here_sound t ts
 
-pub stm_sound : (text : List ℕ) (d : ℕ) → IsSoundStm text (stm_at text d) d
+pub stm_sound : (text : Spelling) (d : ℕ) → IsSoundStm text (stm_at text d) d
 unfolding stm_at
 stm_sound text zero ts = none_holds _
 stm_sound text (suc d) ts =
     step_sound text _ d (record { expr = expr_sound text d; type = type_sound text d; simple = simple_at_sound text d; first = first_at_sound text d; stm = stm_sound text d }) ts
 
 -- what is known of the readers of the parts
-are_sound : (text : List ℕ) (d : ℕ) → AreSound text (readers_at text d) d
+are_sound : (text : Spelling) (d : ℕ) → AreSound text (readers_at text d) d
 are_sound text d = record { expr = expr_sound text d; type = type_sound text d; simple = simple_at_sound text d; first = first_at_sound text d; stm = stm_sound text d }
 
-pub stms_item : (text : List ℕ) (d : ℕ) → IsItem (stm_step (stm_at text d)) (Low (ReadsStm text) stm_height d)
+pub stms_item : (text : Spelling) (d : ℕ) → IsItem (stm_step (stm_at text d)) (Low (ReadsStm text) stm_height d)
 stms_item text d = stm_item text (readers_at text d) d (are_sound text d)

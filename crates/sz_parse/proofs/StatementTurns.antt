@@ -1,14 +1,15 @@
 -- The loops of the statements, turn by turn.
-use Rattle.std.proofs.Common.{◌≡◌, ℕ, List, [], ◌∷◌, ◌++◌, length, Option, Some, None, refl, sym, ap, ◌∙◌}
+use Rattle.std.proofs.Common.{◌≡◌, List, [], ◌∷◌, ◌++◌, Option, Some, None, refl, ap}
 use Rattle.sz_lex.specs.declared.token.Token.{Token}
 use Rattle.sz_lex.specs.declared.sign.Sign.TheVariants as signs
 use Rattle.sz_tree.specs.Names.{Ident}
 use Rattle.sz_tree.specs.Statements.{StepForm, at_index, at_field, QuantifierForm, Stm}
+use Rattle.sz_parse.specs.Tokens.{Spelling}
 use Rattle.sz_parse.specs.Reading.{Read, bind, choose, after_sign, name_at, all_at, with_items}
 use Rattle.sz_parse.specs.ReadingExpressions.{Sub}
 use Rattle.sz_parse.specs.ReadingTypes.{SubType}
 use Rattle.sz_parse.specs.ReadingStatements.{index_at, index_step, begins_step, step_item, path_step, table_index_at, table_index_step, name_step, names_behind, begins_quantifier, quantifier_at, quantifier_step, quantifiers_behind, begins_stm, stm_step}
-use Rattle.sz_parse.proofs.Steps.{bind_step, choose_some, choose_none}
+use Rattle.sz_parse.proofs.Steps.{choose_some, choose_none}
 
 same_read : {A : Type 0} (read : Read (List A)) → bind read (λ y. Some ([] ++ y.0, y.1)) ≡ read
 unfolding bind
@@ -45,7 +46,7 @@ pub no_index_at_end : (sub : Sub) → index_step sub [] ≡ None
 unfolding index_step after_sign choose
 no_index_at_end sub = refl
 
-module _ (text : List ℕ) (sub : Sub) where
+module _ (text : Spelling) (sub : Sub) where
   abbrev field_part : List Token → Read StepForm
   field_part a = bind (name_at text a) (λ n. Some (at_field n.0, n.1))
 
@@ -64,7 +65,7 @@ module _ (text : List ℕ) (sub : Sub) where
   unfolding path_step after_sign choose
   no_step_at_end = refl
 
-module _ (text : List ℕ) (ty : SubType) where
+module _ (text : Spelling) (ty : SubType) where
   pub table_index_here : (ts after : List Token) → after_sign signs.OpenBracket ts ≡ Some after → table_index_step text ty ts ≡ Some (table_index_at text ty after)
   unfolding table_index_step
   table_index_here ts after c = choose_some _ _ _ _ _ c refl
@@ -93,7 +94,7 @@ module _ (text : List ℕ) (ty : SubType) where
   unfolding with_items quantifiers_behind
   quantifiers_start q ts = refl
 
-module _ (text : List ℕ) where
+module _ (text : Spelling) where
   pub name_here : (ts after : List Token) → after_sign signs.Comma ts ≡ Some after → name_step text ts ≡ Some (name_at text after)
   unfolding name_step
   name_here ts after c = choose_some _ _ _ _ _ c refl

@@ -1,10 +1,12 @@
 -- Single tokens: what is read is there, and what is there is read.
-use Rattle.std.proofs.Common.{◌≡◌, ℕ, suc, ◌+◌, ◌<◌, Bool, true, false, eqb, List, [], ◌∷◌, ◌++◌, length, take, drop, Option, Some, None, refl, sym, ap, subst, ◌∙◌, arith}
-use Rattle.std.specs.Str.{bytes_eq}
+use Rattle.std.proofs.Common.{◌≡◌, ℕ, suc, Bool, true, false, eqb, List, [], ◌∷◌, ◌++◌, length, take, drop, Option, Some, None, refl, sym, ap, subst, ◌∙◌}
+use Rattle.std.specs.Prelude.{IsUtf8}
+use Rattle.std.specs.Str.{bytes_eq, is_utf8}
 use Rattle.std.proofs.lemmas.List.{append-nil, take_at, take-append-drop, drop_at}
 use Rattle.std.proofs.lemmas.Bool.{eq-eqb}
 use Rattle.std.proofs.lemmas.Slice.Eq.{bytes_eq-Decides}
-use denote.Enum.Bare.{sameb, same_true, true_same, false_same}
+use Rattle.std.proofs.lemmas.Str.{IsUtf8-from_is_utf8, is_utf8-from_IsUtf8}
+use denote.Enum.Bare.{sameb, same_true, true_same}
 use Rattle.sz_types.specs.declared.place.Place.{Place}
 use Rattle.sz_lex.specs.declared.token.Token.{Token}
 use Rattle.sz_lex.specs.declared.token.Kind.{Kind}
@@ -12,16 +14,18 @@ use Rattle.sz_lex.specs.declared.token.Kind.TheVariants as kinds
 use Rattle.sz_lex.specs.declared.sign.Sign.{Sign}
 use Rattle.sz_lex.specs.declared.word.Word.{Word}
 use Rattle.sz_lex.specs.declared.escape.Quoted.{Quoted}
+use Rattle.sz_lex.specs.declared.escape.Quoted.TheVariants as quoteds
 use Rattle.sz_lex.specs.contracts.sign.Sign.{the_type as sign_type}
 use Rattle.sz_lex.specs.contracts.word.Word.{the_type as word_type}
 use Rattle.sz_lex.specs.Literals.{opening, IsQuoted}
 use Rattle.sz_lex.specs.Lexed.{lexeme_of}
-use Rattle.sz_lex.specs.Reading.{Body, body_at, whole_value}
+use Rattle.sz_lex.specs.Reading.{body_at, whole_value}
 use Rattle.sz_lex.proofs.FormLemmas.{opened}
 use Rattle.sz_lex.proofs.DecodeLemmas.{whole_found}
+use Rattle.sz_lex.proofs.Utf8Lemmas.{strings_are_utf8}
 use Rattle.sz_tree.specs.Names.{Ident}
-use Rattle.sz_parse.specs.Tokens.{token, At, Is, IsSign, IsWord, AtName}
-use Rattle.sz_parse.specs.Reading.{Read, sign_here, after_sign, word_here, after_word, name_here, name_at, ident_of, decoded}
+use Rattle.sz_parse.specs.Tokens.{Spelling, token, At, Is, IsSign, IsWord, AtName}
+use Rattle.sz_parse.specs.Reading.{sign_here, after_sign, word_here, after_word, name_here, name_at, utf8_in, decoded}
 use Rattle.sz_parse.proofs.Holds.{Holds, some_holds, none_holds, if_holds}
 
 -- ---- what is read is there
@@ -46,12 +50,12 @@ unfolding after_word
 after_word_sound w [] = none_holds _
 after_word_sound w (t ∷ ts) = word_here_sound w t t.kind ts refl
 
-name_here_sound : (text : List ℕ) (t : Token) (k : Kind) (ts : List Token) → t.kind ≡ k → Holds (name_here text t k ts) (λ r. AtName text r.0 (t ∷ ts) r.1)
+name_here_sound : (text : Spelling) (t : Token) (k : Kind) (ts : List Token) → t.kind ≡ k → Holds (name_here text t k ts) (λ r. AtName text r.0 (t ∷ ts) r.1)
 name_here_sound text t kinds.Name ts e =
-    some_holds _ _ (record { start = t.start; len = t.len; is = ap (λ (k : Kind). token k t.place t.start t.len ∷ ts) e; spelled = refl })
+    some_holds _ _ (record { start = t.start; len = t.len; is = ap (λ (k : Kind). token k t.place t.start t.len ∷ ts) e; spelled = ap (λ (k : Kind). text (token k t.place t.start t.len)) e })
 name_here_sound text t _ ts e = none_holds _
 
-pub name_sound : (text : List ℕ) (ts : List Token) → Holds (name_at text ts) (λ r. AtName text r.0 ts r.1)
+pub name_sound : (text : Spelling) (ts : List Token) → Holds (name_at text ts) (λ r. AtName text r.0 ts r.1)
 unfolding name_at
 name_sound text [] = none_holds _
 name_sound text (t ∷ ts) = name_here_sound text t t.kind ts refl
@@ -75,7 +79,7 @@ pub other_word : (w v : Word) (ts rest : List Token) → IsWord v ts rest → sa
 unfolding after_word
 other_word w v ts rest h e = rw (h.is, e) refl
 
-pub name_is : (text : List ℕ) (n : Ident) (ts rest : List Token) → AtName text n ts rest → name_at text ts ≡ Some (n, rest)
+pub name_is : (text : Spelling) (n : Ident) (ts rest : List Token) → AtName text n ts rest → name_at text ts ≡ Some (n, rest)
 unfolding name_at
 name_is text n ts rest h = rw h.is (ap (λ (t : List ℕ). Some (record { place = n.place; text = t }, rest)) (sym h.spelled))
 
@@ -87,8 +91,22 @@ at_length h = ap length h.is
 pub is_length : {k : Kind} {ts rest : List Token} → Is k ts rest → length ts ≡ suc (length rest)
 is_length h = ap length h.is
 
-pub name_length : {text : List ℕ} {n : Ident} {ts rest : List Token} → AtName text n ts rest → length ts ≡ suc (length rest)
+pub name_length : {text : Spelling} {n : Ident} {ts rest : List Token} → AtName text n ts rest → length ts ≡ suc (length rest)
 name_length h = ap length h.is
+
+-- ---- the bytes of a token
+
+pub utf8_in_is : (text : List ℕ) (t : Token) → IsUtf8 (lexeme_of text t) → utf8_in text t ≡ lexeme_of text t
+unfolding utf8_in
+utf8_in_is text t u = rw (is_utf8-from_IsUtf8 (lexeme_of text t) u) refl
+
+pub utf8_in_none : (text : List ℕ) (t : Token) → (IsUtf8 (lexeme_of text t) → ⊥) → utf8_in text t ≡ []
+unfolding utf8_in
+utf8_in_none text t none = go (is_utf8 (lexeme_of text t)) refl
+  where
+    go : (b : Bool) → is_utf8 (lexeme_of text t) ≡ b → utf8_in text t ≡ []
+    go true e = absurd (none (IsUtf8-from_is_utf8 (lexeme_of text t) e))
+    go false e = rw e refl
 
 -- ---- literals between quotes
 
@@ -126,3 +144,7 @@ decoded_none q l none = go (decoded q l) refl
     go : (o : Option (List ℕ)) → decoded q l ≡ o → decoded q l ≡ None
     go (Some v) e = absurd (none v ((decoded_sound q l).holds v e))
     go None e = e
+
+-- what a string that is written in UTF-8 stands for is UTF-8
+pub string_is_utf8 : (l v : List ℕ) → IsUtf8 l → decoded quoteds.Str l ≡ Some v → IsUtf8 v
+string_is_utf8 l v u e = strings_are_utf8 l v u ((decoded_sound quoteds.Str l).holds v e)

@@ -1,5 +1,5 @@
 -- What is spelled as a type is read.
-use Rattle.std.proofs.Common.{◌≡◌, ℕ, zero, suc, ℤ, ◌+◌, ◌≤◌, ◌<◌, Bool, true, false, List, [], ◌∷◌, length, Option, Some, None, max, refl, sym, ap, ◌∙◌, arith}
+use Rattle.std.proofs.Common.{◌≡◌, ℕ, zero, suc, ℤ, ◌≤◌, ◌<◌, false, List, [], ◌∷◌, Option, Some, None, refl, sym, ap, arith}
 use denote.Enum.Bare.{sameb}
 use Rattle.sz_types.specs.declared.place.Place.{Place}
 use Rattle.sz_lex.specs.declared.token.Token.{Token}
@@ -13,21 +13,20 @@ use Rattle.sz_tree.specs.declared.types.BasicType.{BasicType}
 use Rattle.sz_tree.specs.declared.types.BasicType.TheVariants as basics
 use Rattle.sz_tree.specs.Names.{Ident}
 use Rattle.sz_tree.specs.Types.{Typ, basic, type_name, array, map_type, tuple, proto, Params, no_params, param, Fields, no_fields, proto_field, FieldForm, params_of, fields_of, type_height, param_heights, field_heights}
-use Rattle.sz_tree.specs.Statements.{ElemForm}
-use Rattle.sz_parse.specs.Tokens.{token, At, Is, IsSign, AtName, Many}
+use Rattle.sz_parse.specs.Tokens.{Spelling, token, At, Is, IsSign, AtName, Many}
 use Rattle.sz_parse.specs.Expressions.{basic_word}
 use Rattle.sz_parse.specs.Types.{ReadsLabel, ReadsName, ReadsType, ReadsParams, ReadsMoreParams, ReadsFields, ReadsMoreFields}
-use Rattle.sz_parse.specs.Reading.{Read, after_sign, name_here, name_at, ident_of, all_at}
+use Rattle.sz_parse.specs.Reading.{Read, after_sign, name_here, name_at, ident_of}
 use Rattle.sz_parse.specs.ReadingTypes.{SubType, number_at, label_at, maybe_name_at, elem_at, param_at, param_step, params_behind, params_at, proto_field_at, proto_field_step, proto_fields_behind, proto_fields_at, array_at, map_type_at, tuple_at, proto_at, type_step, type_at}
 use Rattle.sz_parse.proofs.Steps.{bind_step, choose_some, choose_none, bind_none}
-use Rattle.sz_parse.proofs.Items.{IsFound, all_complete, follows}
+use Rattle.sz_parse.proofs.Items.{IsFound, all_complete}
 use Rattle.sz_parse.proofs.TokenLemmas.{after_sign_is, other_sign, after_word_is, name_is}
 use Rattle.sz_parse.proofs.TypeSound.{IsSoundType, ReadsParam, ParamItem, ReadsField, FieldItem, param_item, field_item, type_sound}
 
-abbrev pub IsCompleteType : List ℕ → SubType → ℕ → Type 0
+abbrev pub IsCompleteType : Spelling → SubType → ℕ → Type 0
 IsCompleteType text sub d = (t : Typ) (ts rest : List Token) → ReadsType text t ts rest → type_height t ≤ d → sub ts ≡ Some (t, rest)
 
-pub label_is : (text : List ℕ) (n : Ident) (ts a rest : List Token) → AtName text n ts a → IsSign signs.Colon a rest → label_at text ts ≡ Some (n, rest)
+pub label_is : (text : Spelling) (n : Ident) (ts a rest : List Token) → AtName text n ts a → IsSign signs.Colon a rest → label_at text ts ≡ Some (n, rest)
 unfolding label_at
 label_is text n ts a rest at c = bind_step _ _ _ _ (name_is text n ts a at) (bind_step _ _ _ _ (after_sign_is signs.Colon a rest c) refl)
 
@@ -35,8 +34,8 @@ pub number_is : (n : ℤ) (ts rest : List Token) → Is (kinds.Number n) ts rest
 unfolding number_at
 number_is n ts rest h = rw h.is refl
 
-no_name_here : (text : List ℕ) (t : Token) (k : Kind) (ts : List Token) → t.kind ≡ k → ((n : Ident) (a : List Token) → AtName text n (t ∷ ts) a → ⊥) → name_here text t k ts ≡ None
-no_name_here text t kinds.Name ts e h = absurd (h (ident_of text t) ts (record { start = t.start; len = t.len; is = ap (λ (k : Kind). token k t.place t.start t.len ∷ ts) e; spelled = refl }))
+no_name_here : (text : Spelling) (t : Token) (k : Kind) (ts : List Token) → t.kind ≡ k → ((n : Ident) (a : List Token) → AtName text n (t ∷ ts) a → ⊥) → name_here text t k ts ≡ None
+no_name_here text t kinds.Name ts e h = absurd (h (ident_of text t) ts (record { start = t.start; len = t.len; is = ap (λ (k : Kind). token k t.place t.start t.len ∷ ts) e; spelled = ap (λ (k : Kind). text (token k t.place t.start t.len)) e }))
 no_name_here text t (kinds.Word w) ts e h = refl
 no_name_here text t (kinds.Number n) ts e h = refl
 no_name_here text t (kinds.Character c) ts e h = refl
@@ -44,18 +43,18 @@ no_name_here text t kinds.Str ts e h = refl
 no_name_here text t kinds.Bytes ts e h = refl
 no_name_here text t (kinds.Sign s) ts e h = refl
 
-no_name : (text : List ℕ) (ts : List Token) → ((n : Ident) (a : List Token) → AtName text n ts a → ⊥) → name_at text ts ≡ None
+no_name : (text : Spelling) (ts : List Token) → ((n : Ident) (a : List Token) → AtName text n ts a → ⊥) → name_at text ts ≡ None
 unfolding name_at
 no_name text [] h = refl
 no_name text (t ∷ ts) h = no_name_here text t t.kind ts refl h
 
-maybe_name_is : (text : List ℕ) (n : Option Ident) (ts rest : List Token) → ReadsName text n ts rest → maybe_name_at text ts ≡ Some (n, rest)
+maybe_name_is : (text : Spelling) (n : Option Ident) (ts rest : List Token) → ReadsName text n ts rest → maybe_name_at text ts ≡ Some (n, rest)
 unfolding maybe_name_at
 maybe_name_is text None ts rest h = choose_none _ _ _ _ (no_name text ts h.1) (ap (λ (r : List Token). Some (None, r)) h.0)
 maybe_name_is text (Some n) ts rest h = choose_some _ _ _ _ _ (name_is text n ts rest h) refl
 
 -- where a type begins and no colon follows it, no name with a colon behind it begins
-no_label : (text : List ℕ) (t : Typ) (ts rest : List Token) → ReadsType text t ts rest → after_sign signs.Colon rest ≡ None → label_at text ts ≡ None
+no_label : (text : Spelling) (t : Typ) (ts rest : List Token) → ReadsType text t ts rest → after_sign signs.Colon rest ≡ None → label_at text ts ≡ None
 unfolding label_at ReadsType name_at
 no_label text (basic p b) ts rest re none = bind_none _ _ (rw re.is refl)
 no_label text (type_name n) ts rest re none = bind_step _ _ _ _ (name_is text n ts rest re) (bind_none _ _ none)
@@ -81,7 +80,7 @@ fields_list : (fs : Fields) → fields_of (field_list fs) ≡ fs
 fields_list no_fields = refl
 fields_list (proto_field n t k l fs) = ap (proto_field n t k l) (fields_list fs)
 
-module _ (text : List ℕ) (sub : SubType) (d : ℕ) (s : IsSoundType text sub d) (h : IsCompleteType text sub d) where
+module _ (text : Spelling) (sub : SubType) (d : ℕ) (s : IsSoundType text sub d) (h : IsCompleteType text sub d) where
   pub elem_complete : (n : Option Ident) (t : Typ) (ts a rest : List Token) → ReadsLabel text n ts a → ReadsType text t a rest → type_height t ≤ d → after_sign signs.Colon rest ≡ None → elem_at text sub ts ≡ Some (record { name = n; of = t }, rest)
   unfolding elem_at
   elem_complete None t ts a rest l re low none = rw l (choose_none _ _ _ _ (no_label text t a rest re none) (bind_step _ _ _ _ (h t a rest re low) refl))
@@ -182,7 +181,7 @@ unfolding type_height
 type_height_positive (array p t) = omega arith
 type_height_positive _ = omega arith
 
-pub type_complete : (text : List ℕ) (d : ℕ) → IsCompleteType text (type_at text d) d
+pub type_complete : (text : Spelling) (d : ℕ) → IsCompleteType text (type_at text d) d
 unfolding type_at
 type_complete text zero t ts rest re low = absurd (omega (arith, type_height_positive t))
 type_complete text (suc d) t ts rest re low = step_complete text (type_at text d) d (type_sound text d) (type_complete text d) t ts rest re low

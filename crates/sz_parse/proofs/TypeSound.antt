@@ -1,5 +1,5 @@
 -- What is read as a type is spelled so.
-use Rattle.std.proofs.Common.{◌≡◌, ℕ, zero, suc, ℤ, ◌+◌, ◌≤◌, ◌<◌, List, [], ◌∷◌, length, Option, Some, None, max, refl, sym, ap, ◌∙◌, arith}
+use Rattle.std.proofs.Common.{◌≡◌, ℕ, zero, suc, ◌≤◌, ◌<◌, List, [], ◌∷◌, length, Option, Some, None, refl, ap, arith}
 use Rattle.sz_types.specs.declared.place.Place.{Place}
 use Rattle.sz_lex.specs.declared.token.Token.{Token}
 use Rattle.sz_lex.specs.declared.token.Kind.{Kind}
@@ -11,9 +11,9 @@ use Rattle.sz_lex.specs.declared.word.Word.TheVariants as words
 use Rattle.sz_tree.specs.Names.{Ident}
 use Rattle.sz_tree.specs.Types.{Typ, basic, type_name, array, map_type, tuple, proto, Params, no_params, param, Fields, no_fields, proto_field, FieldForm, params_of, fields_of, type_height, param_heights, field_heights}
 use Rattle.sz_tree.specs.Statements.{ElemForm}
-use Rattle.sz_parse.specs.Tokens.{token, At, Is, IsSign, AtName, Many}
-use Rattle.sz_parse.specs.Types.{ReadsLabel, ReadsName, ReadsType, ReadsParams, ReadsMoreParams, ReadsFields, ReadsMoreFields, ReadsElem}
-use Rattle.sz_parse.specs.Reading.{Read, name_at, ident_of, all_at}
+use Rattle.sz_parse.specs.Tokens.{Spelling, token, At, Is, IsSign, AtName, Many}
+use Rattle.sz_parse.specs.Types.{ReadsLabel, ReadsName, ReadsType, ReadsParams, ReadsMoreParams, ReadsFields, ReadsMoreFields}
+use Rattle.sz_parse.specs.Reading.{name_at}
 use Rattle.sz_parse.specs.ReadingTypes.{SubType, number_here, number_at, label_at, maybe_name_at, elem_at, param_at, param_step, params_behind, params_at, proto_field_at, proto_field_step, proto_fields_behind, proto_fields_at, array_at, map_type_at, tuple_at, proto_at, type_worded, type_bracketed, type_here, type_step, type_at}
 use Rattle.sz_parse.proofs.Holds.{Holds, some_holds, none_holds, bind_holds, choose_holds, chosen_holds, weaker}
 use Rattle.sz_parse.proofs.Items.{IsItem, all_sound}
@@ -21,7 +21,7 @@ use Rattle.sz_parse.proofs.TokenLemmas.{after_sign_sound, after_word_sound, name
 
 -- ---- types take tokens
 
-module _ (text : List ℕ) where
+module _ (text : Spelling) where
   pub label_shorter : (n : Option Ident) (ts rest : List Token) → ReadsLabel text n ts rest → length rest ≤ length ts
   label_shorter None ts rest h = omega (arith, ap length h)
   label_shorter (Some n) ts rest h = omega (arith, name_length h.1, is_length h.2)
@@ -60,15 +60,15 @@ module _ (text : List ℕ) where
 -- ---- what is known of the parts
 
 -- x is a type at the front of ts, and what follows it
-pub record ParsedType (text : List ℕ) (d : ℕ) (ts : List Token) (x : Typ × List Token) : Type 0 where
+pub record ParsedType (text : Spelling) (d : ℕ) (ts : List Token) (x : Typ × List Token) : Type 0 where
   pub reads : ReadsType text x.0 ts x.1
   pub low : type_height x.0 ≤ d
 
-abbrev pub IsSoundType : List ℕ → SubType → ℕ → Type 0
+abbrev pub IsSoundType : Spelling → SubType → ℕ → Type 0
 IsSoundType text sub d = (ts : List Token) → Holds (sub ts) (ParsedType text d ts)
 
 -- a name with its type
-pub record ReadsParam (text : List ℕ) (d : ℕ) (p : Ident × Typ) (ts rest : List Token) : Type 0 where
+pub record ReadsParam (text : Spelling) (d : ℕ) (p : Ident × Typ) (ts rest : List Token) : Type 0 where
   pub a : List Token
   pub b : List Token
   pub name : AtName text p.0 ts a
@@ -76,13 +76,13 @@ pub record ReadsParam (text : List ℕ) (d : ℕ) (p : Ident × Typ) (ts rest : 
   pub reads : ReadsType text p.1 b rest
   pub low : type_height p.1 ≤ d
 
-pub record ParamItem (text : List ℕ) (d : ℕ) (p : Ident × Typ) (ts rest : List Token) : Type 0 where
+pub record ParamItem (text : Spelling) (d : ℕ) (p : Ident × Typ) (ts rest : List Token) : Type 0 where
   pub behind : List Token
   pub comma : IsSign signs.Comma ts behind
   pub item : ReadsParam text d p behind rest
 
 -- a field of a message
-pub record ReadsField (text : List ℕ) (d : ℕ) (f : FieldForm) (ts rest : List Token) : Type 0 where
+pub record ReadsField (text : Spelling) (d : ℕ) (f : FieldForm) (ts rest : List Token) : Type 0 where
   pub a : List Token
   pub b : List Token
   pub c : List Token
@@ -91,25 +91,25 @@ pub record ReadsField (text : List ℕ) (d : ℕ) (f : FieldForm) (ts rest : Lis
   pub number : Is (kinds.Number f.number) b c
   pub label : ReadsName text f.label c rest
 
-pub record FieldItem (text : List ℕ) (d : ℕ) (f : FieldForm) (ts rest : List Token) : Type 0 where
+pub record FieldItem (text : Spelling) (d : ℕ) (f : FieldForm) (ts rest : List Token) : Type 0 where
   pub behind : List Token
   pub comma : IsSign signs.Comma ts behind
   pub item : ReadsField text d f behind rest
 
 -- an index or a part of a table, or the key of a map
-pub record ParsedElem (text : List ℕ) (d : ℕ) (ts : List Token) (x : ElemForm × List Token) : Type 0 where
+pub record ParsedElem (text : Spelling) (d : ℕ) (ts : List Token) (x : ElemForm × List Token) : Type 0 where
   pub behind : List Token
   pub label : ReadsLabel text x.0.name ts behind
   pub reads : ReadsType text x.0.of behind x.1
   pub low : type_height x.0.of ≤ d
 
 -- a name with a colon behind it
-pub record ParsedLabel (text : List ℕ) (ts : List Token) (x : Ident × List Token) : Type 0 where
+pub record ParsedLabel (text : Spelling) (ts : List Token) (x : Ident × List Token) : Type 0 where
   pub behind : List Token
   pub name : AtName text x.0 ts behind
   pub colon : IsSign signs.Colon behind x.1
 
-pub label_sound : (text : List ℕ) (ts : List Token) → Holds (label_at text ts) (ParsedLabel text ts)
+pub label_sound : (text : Spelling) (ts : List Token) → Holds (label_at text ts) (ParsedLabel text ts)
 unfolding label_at
 label_sound text ts = bind_holds (name_sound text ts) (λ n at. bind_holds (after_sign_sound signs.Colon n.1) (λ r c. some_holds _ _ (record { behind = n.1; name = at; colon = c })))
 
@@ -122,12 +122,12 @@ unfolding number_at
 number_sound [] = none_holds _
 number_sound (t ∷ ts) = number_here_sound t t.kind ts refl
 
-maybe_name_sound : (text : List ℕ) (ts : List Token) → Holds (maybe_name_at text ts) (λ r. ReadsName text r.0 ts r.1)
+maybe_name_sound : (text : Spelling) (ts : List Token) → Holds (maybe_name_at text ts) (λ r. ReadsName text r.0 ts r.1)
 unfolding maybe_name_at
 maybe_name_sound text ts =
     chosen_holds (name_sound text ts) (λ none. some_holds _ _ (refl, λ n a at. let is : name_at text ts ≡ Some (n, a) = name_is text n ts a at in cc)) (λ n at. some_holds _ _ at)
 
-module _ (text : List ℕ) (sub : SubType) (d : ℕ) (h : IsSoundType text sub d) where
+module _ (text : Spelling) (sub : SubType) (d : ℕ) (h : IsSoundType text sub d) where
   pub elem_sound : (ts : List Token) → Holds (elem_at text sub ts) (ParsedElem text d ts)
   unfolding elem_at
   elem_sound ts =
@@ -185,16 +185,16 @@ module _ (text : List ℕ) (sub : SubType) (d : ℕ) (h : IsSoundType text sub d
       ((i.behind, p.a, p.b, i.item.a, i.item.b, i.item.c, m.0, i.comma, p.name, p.colon, p.reads, i.item.at, i.item.number, i.item.label, l.0), omega (arith, p.low, l.1))
 
 -- names with their types
-pub record ParsedParams (text : List ℕ) (d : ℕ) (ts : List Token) (y : List (Ident × Typ) × List Token) : Type 0 where
+pub record ParsedParams (text : Spelling) (d : ℕ) (ts : List Token) (y : List (Ident × Typ) × List Token) : Type 0 where
   pub reads : ReadsParams text (params_of y.0) ts y.1
   pub low : param_heights (params_of y.0) ≤ d
 
 -- the fields of a message
-pub record ParsedFields (text : List ℕ) (d : ℕ) (ts : List Token) (y : List FieldForm × List Token) : Type 0 where
+pub record ParsedFields (text : Spelling) (d : ℕ) (ts : List Token) (y : List FieldForm × List Token) : Type 0 where
   pub reads : ReadsFields text (fields_of y.0) ts y.1
   pub low : field_heights (fields_of y.0) ≤ d
 
-module _ (text : List ℕ) (sub : SubType) (d : ℕ) (h : IsSoundType text sub d) where
+module _ (text : Spelling) (sub : SubType) (d : ℕ) (h : IsSoundType text sub d) where
   pub params_sound : (ts : List Token) → Holds (params_at text sub ts) (ParsedParams text d ts)
   unfolding params_at params_behind ReadsType type_height
   params_sound ts = bind_holds (param_sound text sub d h ts) (λ p g. bind_holds (all_sound (param_item text sub d h) p.1) (λ y m.
@@ -253,7 +253,7 @@ module _ (text : List ℕ) (sub : SubType) (d : ℕ) (h : IsSoundType text sub d
       sign _ e = none_holds _
 
       go : (k : Kind) → t.kind ≡ k → Holds (type_here text sub t k ts) (ParsedType text (suc d) (t ∷ ts))
-      go kinds.Name e = some_holds _ _ (record { reads = record { start = t.start; len = t.len; is = (at kinds.Name e).is; spelled = refl }; low = omega arith })
+      go kinds.Name e = some_holds _ _ (record { reads = record { start = t.start; len = t.len; is = (at kinds.Name e).is; spelled = ap (λ (k : Kind). text (token k t.place t.start t.len)) e }; low = omega arith })
       go (kinds.Word w) e = word w e
       go (kinds.Sign s) e = sign s e
       go _ e = none_holds _
@@ -263,7 +263,7 @@ module _ (text : List ℕ) (sub : SubType) (d : ℕ) (h : IsSoundType text sub d
   type_step_sound [] = none_holds _
   type_step_sound (t ∷ ts) = type_here_sound t ts
 
-pub type_sound : (text : List ℕ) (d : ℕ) → IsSoundType text (type_at text d) d
+pub type_sound : (text : Spelling) (d : ℕ) → IsSoundType text (type_at text d) d
 unfolding type_at
 type_sound text zero ts = none_holds _
 type_sound text (suc d) ts = type_step_sound text (type_at text d) d (type_sound text d) ts

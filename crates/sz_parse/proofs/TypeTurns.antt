@@ -1,14 +1,15 @@
 -- The loops of the types, turn by turn.
-use Rattle.std.proofs.Common.{◌≡◌, ℕ, List, [], ◌∷◌, Option, Some, None, refl}
+use Rattle.std.proofs.Common.{◌≡◌, List, [], ◌∷◌, Some, None, refl}
 use Rattle.sz_lex.specs.declared.token.Token.{Token}
 use Rattle.sz_lex.specs.declared.sign.Sign.TheVariants as signs
 use Rattle.sz_tree.specs.Names.{Ident}
 use Rattle.sz_tree.specs.Types.{Typ, FieldForm}
+use Rattle.sz_parse.specs.Tokens.{Spelling}
 use Rattle.sz_parse.specs.Reading.{choose, after_sign, all_at, with_items}
 use Rattle.sz_parse.specs.ReadingTypes.{SubType, param_at, param_step, params_behind, proto_field_at, proto_field_step, proto_fields_behind}
 use Rattle.sz_parse.proofs.Steps.{choose_some, choose_none}
 
-module _ (text : List ℕ) (sub : SubType) where
+module _ (text : Spelling) (sub : SubType) where
   pub param_here : (ts after : List Token) → after_sign signs.Comma ts ≡ Some after → param_step text sub ts ≡ Some (param_at text sub after)
   unfolding param_step
   param_here ts after c = choose_some _ _ _ _ _ c refl

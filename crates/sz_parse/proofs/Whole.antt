@@ -1,9 +1,10 @@
 -- Laws of whole programs.
-use Rattle.std.proofs.Common.{◌≡◌, ℕ, ◌+◌, ◌≤◌, ◌<◌, List, [], ◌∷◌, length, Option, Some, None, max, refl, sym, ap, ◌∙◌, arith}
+use Rattle.std.proofs.Common.{◌≡◌, ◌≤◌, List, [], ◌∷◌, length, refl, sym, ap, ◌∙◌, arith}
 use Rattle.sz_types.specs.declared.place.Place.{Place}
 use Rattle.sz_lex.specs.declared.token.Token.{Token}
-use Rattle.sz_lex.specs.Lexed.{Lexed}
+use Rattle.sz_lex.specs.Lexed.{lexeme_of, Lexed}
 use Rattle.sz_tree.specs.Statements.{Stm, Stms, no_stms, stm, stm_height, stm_heights}
+use Rattle.sz_parse.specs.Tokens.{Spelling}
 use Rattle.sz_parse.specs.declared.limit.TheConstants.{MAX_HEIGHT}
 use Rattle.sz_parse.specs.Statements.{ReadsStm, ReadsStms}
 use Rattle.sz_parse.specs.Program.{Spells, IsStuck, count_of}
@@ -11,7 +12,7 @@ use Rattle.sz_parse.proofs.Holds.{some_is}
 use Rattle.sz_parse.proofs.StatementSound.{stm_shorter, stms_shorter}
 use Rattle.sz_parse.proofs.StatementComplete.{stm_complete}
 
-module _ (text : List ℕ) where
+module _ (text : Spelling) where
   -- tokens begin with one statement at most
   one_stm : (s q : Stm) (ts a b : List Token) → ReadsStm text s ts a → stm_height s ≤ MAX_HEIGHT → ReadsStm text q ts b → stm_height q ≤ MAX_HEIGHT → (s ≡ q) × (a ≡ b)
   one_stm s q ts a b rs low rq lowq =
@@ -50,13 +51,13 @@ module _ (text : List ℕ) where
 
 -- tokens spell one list of statements at most
 pub one_tree : (tokens : Lexed) (ss qs : Stms) → Spells tokens ss → Spells tokens qs → ss ≡ qs
-one_tree tokens ss qs a b = (one_stop tokens.text ss qs tokens.tokens [] [] a.reads a.low (stop_end tokens.text) b.reads b.low (stop_end tokens.text)).0
+one_tree tokens ss qs a b = (one_stop (lexeme_of tokens.text) ss qs tokens.tokens [] [] a.reads a.low (stop_end (lexeme_of tokens.text)) b.reads b.low (stop_end (lexeme_of tokens.text))).0
 
 pub one_place : (tokens : Lexed) (p q : Place) → IsStuck tokens p → IsStuck tokens q → p ≡ q
 one_place tokens p q a b =
-    let same = (one_stop tokens.text a.front b.front tokens.tokens (a.here ∷ a.rest) (b.here ∷ b.rest) a.reads a.low a.none b.reads b.low b.none).1 in
+    let same = (one_stop (lexeme_of tokens.text) a.front b.front tokens.tokens (a.here ∷ a.rest) (b.here ∷ b.rest) a.reads a.low a.none b.reads b.low b.none).1 in
     let here : a.here ≡ b.here = cc in
     sym a.place ∙ ap (λ (t : Token). t.place) here ∙ b.place
 
 pub not_both : (tokens : Lexed) (ss : Stms) (p : Place) → Spells tokens ss → IsStuck tokens p → ⊥
-not_both tokens ss p b a = omega (arith, (most tokens.text a.front ss tokens.tokens (a.here ∷ a.rest) [] a.reads a.low a.none b.reads b.low).1)
+not_both tokens ss p b a = omega (arith, (most (lexeme_of tokens.text) a.front ss tokens.tokens (a.here ∷ a.rest) [] a.reads a.low a.none b.reads b.low).1)

@@ -1,5 +1,5 @@
 -- Which tokens spell which expression: one case for each rule of the grammar.
-use Rattle.std.specs.Prelude.{◌≡◌, ℕ, ◌<◌, ◌≤◌, List}
+use Rattle.std.specs.Prelude.{◌≡◌, ◌<◌, ◌≤◌, List}
 use Rattle.sz_lex.specs.declared.token.Token.{Token}
 use Rattle.sz_lex.specs.declared.token.Kind.TheVariants as kinds
 use Rattle.sz_lex.specs.declared.sign.Sign.{Sign}
@@ -13,7 +13,7 @@ use Rattle.sz_tree.specs.declared.operator.BinaryOp.TheVariants as ops
 use Rattle.sz_tree.specs.declared.types.BasicType.{BasicType}
 use Rattle.sz_tree.specs.declared.types.BasicType.TheVariants as basics
 use Rattle.sz_tree.specs.Expressions.{Exp, literal, named, call, def, paren, convert, list, mapping, index, slice, field, unary, binary, Exps, end, more, Pairs, no_pairs, pair, place_of, loose_of, left_loose, loose, IsPostfix}
-use Rattle.sz_parse.specs.Tokens.{At, IsSign, AtName, AtLiteral}
+use Rattle.sz_parse.specs.Tokens.{Spelling, At, IsSign, AtName, AtLiteral}
 
 -- how operators are spelled
 abbrev pub sign_of : BinaryOp → Sign
@@ -55,7 +55,7 @@ abbrev pub Converts : BasicType → Type 0
 Converts basics.Bool = ⊥
 Converts _ = Unit {0}
 
-module _ (text : List ℕ) where
+module _ (text : Spelling) where
   -- ts begins with the tokens of the expression, and rest is what follows them
   unfoldable mutual
     pub Reads : Exp → List Token → List Token → Type 0

@@ -1,8 +1,7 @@
 -- Reading from left to right: what stands at the front of the tokens, and what is left.
-use Rattle.std.specs.Prelude.{◌≡◌, ℕ, zero, suc, List, [], ◌∷◌, ◌++◌, length, take, drop, Option, Some, None, Bool, true, false, if◌then◌else◌}
-use Rattle.std.specs.Str.{bytes_eq}
+use Rattle.std.specs.Prelude.{ℕ, zero, suc, List, [], ◌∷◌, ◌++◌, length, take, drop, Option, Some, None, Bool, true, false, if◌then◌else◌}
+use Rattle.std.specs.Str.{bytes_eq, is_utf8}
 use denote.Enum.Bare.{sameb}
-use Rattle.sz_types.specs.declared.place.Place.{Place}
 use Rattle.sz_lex.specs.declared.token.Token.{Token}
 use Rattle.sz_lex.specs.declared.token.Kind.{Kind}
 use Rattle.sz_lex.specs.declared.token.Kind.TheVariants as kinds
@@ -15,6 +14,7 @@ use Rattle.sz_lex.specs.Literals.{opening}
 use Rattle.sz_lex.specs.Lexed.{lexeme_of}
 use Rattle.sz_lex.specs.Reading.{body_at, whole_value}
 use Rattle.sz_tree.specs.Names.{Ident}
+use Rattle.sz_parse.specs.Tokens.{Spelling}
 
 -- what was read, and what is left
 abbrev pub Read : Type 0 → Type 0
@@ -59,16 +59,20 @@ unfoldable pub after_word : Word → List Token → Option (List Token)
 after_word w [] = None
 after_word w (t ∷ ts) = word_here w t.kind ts
 
--- the name that the token is
-abbrev pub ident_of : List ℕ → Token → Ident
-ident_of text t = record { place = t.place; text = lexeme_of text t }
+-- the bytes of the text in a token's span, if they are UTF-8, as those of the text's own tokens are, or else none
+unfoldable pub utf8_in : List ℕ → Spelling
+utf8_in text t = if is_utf8 (lexeme_of text t) then lexeme_of text t else []
 
-abbrev pub name_here : List ℕ → Token → Kind → List Token → Read Ident
+-- the name that the token is
+abbrev pub ident_of : Spelling → Token → Ident
+ident_of text t = record { place = t.place; text = text t }
+
+abbrev pub name_here : Spelling → Token → Kind → List Token → Read Ident
 name_here text t kinds.Name ts = Some (ident_of text t, ts)
 name_here text t _ ts = None
 
 -- a name
-unfoldable pub name_at : List ℕ → List Token → Read Ident
+unfoldable pub name_at : Spelling → List Token → Read Ident
 name_at text [] = None
 name_at text (t ∷ ts) = name_here text t t.kind ts
 

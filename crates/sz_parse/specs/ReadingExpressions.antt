@@ -1,5 +1,5 @@
 -- Reading expressions. Each rule is over a reader of its parts, which reads trees of at most some height, each no looser than its argument.
-use Rattle.std.specs.Prelude.{◌≡◌, ℕ, zero, suc, List, [], ◌∷◌, length, Option, Some, None, Bool, true, false, nat_le, ◌==◌, if◌then◌else◌}
+use Rattle.std.specs.Prelude.{ℕ, zero, suc, List, [], ◌∷◌, Option, Some, None, Bool, true, false, nat_le, ◌==◌, if◌then◌else◌}
 use Rattle.sz_types.specs.declared.place.Place.{Place}
 use Rattle.sz_lex.specs.declared.token.Token.{Token}
 use Rattle.sz_lex.specs.declared.token.Kind.{Kind}
@@ -9,7 +9,6 @@ use Rattle.sz_lex.specs.declared.sign.Sign.TheVariants as signs
 use Rattle.sz_lex.specs.declared.word.Word.{Word}
 use Rattle.sz_lex.specs.declared.word.Word.TheVariants as words
 use Rattle.sz_lex.specs.declared.escape.Quoted.TheVariants as quoteds
-use Rattle.sz_lex.specs.Lexed.{lexeme_of}
 use Rattle.sz_tree.specs.declared.operator.UnaryOp.{UnaryOp}
 use Rattle.sz_tree.specs.declared.operator.UnaryOp.TheVariants as unaries
 use Rattle.sz_tree.specs.declared.operator.BinaryOp.{BinaryOp}
@@ -17,8 +16,9 @@ use Rattle.sz_tree.specs.declared.operator.BinaryOp.TheVariants as ops
 use Rattle.sz_tree.specs.declared.types.BasicType.{BasicType}
 use Rattle.sz_tree.specs.declared.types.BasicType.TheVariants as basics
 use Rattle.sz_tree.specs.Names.{Ident}
-use Rattle.sz_tree.specs.Expressions.{Lit, number, string, bytes, character, boolean, Exp, literal, named, call, def, paren, convert, list, mapping, index, slice, field, unary, binary, Exps, exps_of, pairs_of, place_of, loose_of, left_loose, loose, height}
-use Rattle.sz_parse.specs.Reading.{Read, bind, ◌>>=◌, choose, guard, after_sign, after_word, ident_of, name_at, decoded, all_at}
+use Rattle.sz_tree.specs.Expressions.{number, string, bytes, character, boolean, Exp, literal, named, call, def, paren, convert, list, mapping, index, slice, field, unary, binary, Exps, exps_of, pairs_of, place_of, loose_of, left_loose, loose, height}
+use Rattle.sz_parse.specs.Tokens.{Spelling}
+use Rattle.sz_parse.specs.Reading.{Read, ◌>>=◌, choose, guard, after_sign, ident_of, name_at, decoded, all_at}
 
 -- the operators that a sign stands for
 abbrev pub sign_unary : Sign → Option UnaryOp
@@ -161,11 +161,11 @@ worded sub p words.Def ts = def_at sub p ts
 worded sub p w ts = converted sub p (conversion_of w) ts
 
 -- what a token begins
-abbrev pub primary_here : List ℕ → Sub → ℕ → Token → Kind → List Token → Read Exp
+abbrev pub primary_here : Spelling → Sub → ℕ → Token → Kind → List Token → Read Exp
 primary_here text sub d t (kinds.Number n) ts = Some (literal t.place (number n), ts)
 primary_here text sub d t (kinds.Character c) ts = Some (literal t.place (character c), ts)
-primary_here text sub d t kinds.Str ts = decoded quoteds.Str (lexeme_of text t) >>= λ v. Some (literal t.place (string v), ts)
-primary_here text sub d t kinds.Bytes ts = decoded quoteds.Bytes (lexeme_of text t) >>= λ v. Some (literal t.place (bytes v), ts)
+primary_here text sub d t kinds.Str ts = decoded quoteds.Str (text t) >>= λ v. Some (literal t.place (string v), ts)
+primary_here text sub d t kinds.Bytes ts = decoded quoteds.Bytes (text t) >>= λ v. Some (literal t.place (bytes v), ts)
 primary_here text sub d t kinds.Name ts = named_at sub d (ident_of text t) ts
 primary_here text sub d t (kinds.Sign s) ts = bracketed sub t.place s ts
 primary_here text sub d t (kinds.Word w) ts = worded sub t.place w ts
@@ -178,30 +178,30 @@ bracket_at sub e ts =
     (λ b. sub 5 b >>= λ j. after_sign signs.CloseBracket j.1 >>= λ r. Some (slice (place_of e) e i.0 j.0, r))
 
 -- a field, behind its dot
-unfoldable pub field_at : List ℕ → Exp → List Token → Read Exp
+unfoldable pub field_at : Spelling → Exp → List Token → Read Exp
 field_at text e ts = name_at text ts >>= λ n. Some (field (place_of e) e n.0, n.1)
 
 -- an index, a slice or a field of e; nothing where none begins
-unfoldable pub part_step : List ℕ → Sub → Exp → List Token → Option (Read Exp)
+unfoldable pub part_step : Spelling → Sub → Exp → List Token → Option (Read Exp)
 part_step text sub e ts = choose (after_sign signs.OpenBracket ts) (choose (after_sign signs.Dot ts) None (λ a. Some (field_at text e a))) (λ a. Some (bracket_at sub e a))
 
 -- an index, a slice or a field of e if one stands there, and whether one does
-unfoldable pub part_at : List ℕ → Sub → ℕ → Exp → List Token → Read (Exp × Bool)
+unfoldable pub part_at : Spelling → Sub → ℕ → Exp → List Token → Read (Exp × Bool)
 part_at text sub d e ts = choose (part_step text sub e ts) (Some ((e, false), ts)) (λ r. guard (nat_le (height e) d) (r >>= λ x. Some ((x.0, true), x.1)))
 
 -- what stands behind e, in so many turns at most
-unfoldable pub tail_at : List ℕ → Sub → ℕ → ℕ → Exp → List Token → Read Exp
+unfoldable pub tail_at : Spelling → Sub → ℕ → ℕ → Exp → List Token → Read Exp
 tail_at text sub d zero e ts = Some (e, ts)
 tail_at text sub d (suc k) e ts = choose (part_step text sub e ts) (Some (e, ts)) (λ r. guard (nat_le (height e) d) (r >>= λ x. tail_at text sub d k x.0 x.1))
 
 unfoldable pub unary_at : Sub → Place → UnaryOp → List Token → Read Exp
 unary_at sub p o ts = sub 0 ts >>= λ x. Some (unary p o x.0, x.1)
 
-unfoldable pub postfix_at : List ℕ → Sub → ℕ → List Token → Read Exp
+unfoldable pub postfix_at : Spelling → Sub → ℕ → List Token → Read Exp
 postfix_at text sub d [] = None
 postfix_at text sub d (t ∷ ts) = primary_here text sub d t t.kind ts >>= λ x. tail_at text sub d (suc d) x.0 x.1
 
-unfoldable pub prefix_at : List ℕ → Sub → ℕ → List Token → Read Exp
+unfoldable pub prefix_at : Spelling → Sub → ℕ → List Token → Read Exp
 prefix_at text sub d [] = None
 prefix_at text sub d (t ∷ ts) = choose (unary_of t.kind) (postfix_at text sub d (t ∷ ts)) (λ o. unary_at sub t.place o ts)
 
@@ -211,11 +211,11 @@ chain_at sub d l zero e ts = Some (e, ts)
 chain_at sub d l (suc k) e ts =
     choose (operator_at (suc l) ts) (Some (e, ts)) (λ o. guard (nat_le (loose e) (left_loose o.0)) (guard (nat_le (height e) d) (sub l o.1 >>= λ x. chain_at sub d l k (binary (place_of e) o.0 e x.0) x.1)))
 
-unfoldable pub level_at : List ℕ → Sub → ℕ → ℕ → List Token → Read Exp
+unfoldable pub level_at : Spelling → Sub → ℕ → ℕ → List Token → Read Exp
 level_at text sub d zero ts = prefix_at text sub d ts
 level_at text sub d (suc l) ts = level_at text sub d l ts >>= λ x. chain_at sub d l (suc d) x.0 x.1
 
 -- an expression of at most this height, no looser than this
-unfoldable pub expr_at : List ℕ → ℕ → Sub
+unfoldable pub expr_at : Spelling → ℕ → Sub
 expr_at text zero l ts = None
 expr_at text (suc d) l ts = level_at text (expr_at text d) d l ts

@@ -1,5 +1,5 @@
 -- Reading statements. Each rule is over readers of its parts.
-use Rattle.std.specs.Prelude.{◌≡◌, ℕ, zero, suc, ℤ, List, [], ◌∷◌, Option, Some, None, nat_le}
+use Rattle.std.specs.Prelude.{ℕ, zero, suc, ℤ, List, [], ◌∷◌, Option, Some, None, nat_le}
 use Rattle.sz_types.specs.declared.place.Place.{Place}
 use Rattle.sz_lex.specs.declared.token.Token.{Token}
 use Rattle.sz_lex.specs.declared.token.Kind.{Kind}
@@ -14,7 +14,8 @@ use Rattle.sz_tree.specs.Names.{Ident}
 use Rattle.sz_tree.specs.Expressions.{Exp, exps_of}
 use Rattle.sz_tree.specs.Types.{Typ, params_of}
 use Rattle.sz_tree.specs.Statements.{StepForm, at_index, at_field, SimpleForm, assign, increment, decrement, call_of, FirstForm, first_declare, first_define, first_simple, ElemForm, TableForm, QuantifierForm, Stm, empty, block, declare, define, static, typedef, table, function, simple, if_only, if_else, while, do_while, for_loop, break, continue, return, emit, when, stms_of}
-use Rattle.sz_parse.specs.Reading.{Read, bind, ◌>>=◌, choose, guard, after_sign, after_word, ident_of, name_at, all_at}
+use Rattle.sz_parse.specs.Tokens.{Spelling}
+use Rattle.sz_parse.specs.Reading.{Read, ◌>>=◌, choose, guard, after_sign, after_word, ident_of, name_at, all_at}
 use Rattle.sz_parse.specs.ReadingExpressions.{Sub, call_at, condition_at, expr_at}
 use Rattle.sz_parse.specs.ReadingTypes.{SubType, number_at, label_at, elem_at, params_at, type_at}
 
@@ -37,7 +38,7 @@ unfoldable pub index_step : Sub → List Token → Option (Read Exp)
 index_step sub ts = choose (after_sign signs.OpenBracket ts) None (λ a. Some (index_at sub a))
 
 -- a step of a path
-unfoldable pub path_step : List ℕ → Sub → List Token → Option (Read StepForm)
+unfoldable pub path_step : Spelling → Sub → List Token → Option (Read StepForm)
 path_step text sub ts =
     choose (after_sign signs.OpenBracket ts) (choose (after_sign signs.Dot ts) None (λ a. Some (name_at text a >>= λ n. Some (at_field n.0, n.1))))
     (λ a. Some (index_at sub a >>= λ x. Some (at_index x.0, x.1)))
@@ -47,16 +48,16 @@ unfoldable pub begins_step : List Token → Option (List Token)
 begins_step ts = choose (after_sign signs.OpenBracket ts) (after_sign signs.Dot ts) (λ r. Some r)
 
 -- a step of a path, which must be there
-unfoldable pub step_item : List ℕ → Sub → List Token → Read StepForm
+unfoldable pub step_item : Spelling → Sub → List Token → Read StepForm
 step_item text sub ts =
     choose (after_sign signs.OpenBracket ts) (after_sign signs.Dot ts >>= λ a. name_at text a >>= λ n. Some (at_field n.0, n.1))
     (λ a. index_at sub a >>= λ x. Some (at_index x.0, x.1))
 
 -- an assignment, a step up or down, or a call, behind its name; d is how high its parts may be
-unfoldable pub assign_at : List ℕ → Sub → Ident → List Token → Read SimpleForm
+unfoldable pub assign_at : Spelling → Sub → Ident → List Token → Read SimpleForm
 assign_at text sub n ts = all_at (path_step text sub) ts >>= λ y. after_sign signs.Assign y.1 >>= λ a. sub 5 a >>= λ x. Some (assign (record { name = n; steps = y.0 }) x.0, x.1)
 
-unfoldable pub simple_behind : List ℕ → Sub → ℕ → Ident → List Token → Read SimpleForm
+unfoldable pub simple_behind : Spelling → Sub → ℕ → Ident → List Token → Read SimpleForm
 simple_behind text sub d n ts =
     choose (after_sign signs.Increment ts) (choose (after_sign signs.Decrement ts) (choose (after_sign signs.OpenParen ts)
     (assign_at text sub n ts)
@@ -65,19 +66,19 @@ simple_behind text sub d n ts =
     (λ r. guard (nat_le 2 d) (Some (increment n, r)))
 
 -- a statement of at most this height that may stand as a step of a `for`
-unfoldable pub simple_at : List ℕ → ℕ → List Token → Read SimpleForm
+unfoldable pub simple_at : Spelling → ℕ → List Token → Read SimpleForm
 simple_at text zero ts = None
 simple_at text (suc d) ts = name_at text ts >>= λ n. simple_behind text (expr_at text d) d n.0 n.1
 
 -- the first part of a `for`, behind its name
-unfoldable pub first_behind : List ℕ → Sub → SubType → ℕ → Ident → List Token → Read FirstForm
+unfoldable pub first_behind : Spelling → Sub → SubType → ℕ → Ident → List Token → Read FirstForm
 first_behind text sub ty d n ts =
     choose (after_sign signs.Colon ts) (choose (after_sign signs.Define ts)
     (simple_behind text sub d n ts >>= λ s. Some (first_simple s.0, s.1))
     (λ a. sub 5 a >>= λ x. Some (first_define n x.0, x.1)))
     (λ a. ty a >>= λ t. after_sign signs.Assign t.1 >>= λ b. sub 5 b >>= λ x. Some (first_declare n t.0 x.0, x.1))
 
-unfoldable pub first_at : List ℕ → ℕ → List Token → Read FirstForm
+unfoldable pub first_at : Spelling → ℕ → List Token → Read FirstForm
 first_at text zero ts = None
 first_at text (suc d) ts = name_at text ts >>= λ n. first_behind text (expr_at text d) (type_at text d) d n.0 n.1
 
@@ -85,30 +86,30 @@ first_at text (suc d) ts = name_at text ts >>= λ n. first_behind text (expr_at 
 unfoldable pub argument_at : List Token → Read (Option ℤ)
 argument_at ts = choose (after_sign signs.OpenParen ts) (Some (None, ts)) (λ a. number_at a >>= λ n. after_sign signs.CloseParen n.1 >>= λ r. Some (Some n.0, r))
 
-unfoldable pub table_index_at : List ℕ → SubType → List Token → Read ElemForm
+unfoldable pub table_index_at : Spelling → SubType → List Token → Read ElemForm
 table_index_at text ty ts = elem_at text ty ts >>= λ e. after_sign signs.CloseBracket e.1 >>= λ r. Some (e.0, r)
 
-unfoldable pub table_index_step : List ℕ → SubType → List Token → Option (Read ElemForm)
+unfoldable pub table_index_step : Spelling → SubType → List Token → Option (Read ElemForm)
 table_index_step text ty ts = choose (after_sign signs.OpenBracket ts) None (λ a. Some (table_index_at text ty a))
 
-unfoldable pub table_weight_at : List ℕ → SubType → List Token → Read (Option ElemForm)
+unfoldable pub table_weight_at : Spelling → SubType → List Token → Read (Option ElemForm)
 table_weight_at text ty ts = choose (after_word words.Weight ts) (Some (None, ts)) (λ a. elem_at text ty a >>= λ e. Some (Some e.0, e.1))
 
 -- what stands behind `table`, up to the semicolon
-unfoldable pub table_at : List ℕ → SubType → List Token → Read TableForm
+unfoldable pub table_at : Spelling → SubType → List Token → Read TableForm
 table_at text ty ts =
     name_at text ts >>= λ k. argument_at k.1 >>= λ a. all_at (table_index_step text ty) a.1 >>= λ i. after_word words.Of i.1 >>= λ o.
     elem_at text ty o >>= λ e. table_weight_at text ty e.1 >>= λ w. after_sign signs.Semicolon w.1 >>= λ r.
     Some (record { kind = k.0; argument = a.0; indexes = i.0; of = e.0; weight = w.0 }, r)
 
 -- a comma and a name
-unfoldable pub name_step : List ℕ → List Token → Option (Read Ident)
+unfoldable pub name_step : Spelling → List Token → Option (Read Ident)
 name_step text ts = choose (after_sign signs.Comma ts) None (λ a. Some (name_at text a))
 
-unfoldable pub names_behind : List ℕ → Ident → List Token → Read (List Ident)
+unfoldable pub names_behind : Spelling → Ident → List Token → Read (List Ident)
 names_behind text n ts = all_at (name_step text) ts >>= λ y. Some (n ∷ y.0, y.1)
 
-unfoldable pub names_at : List ℕ → List Token → Read (List Ident)
+unfoldable pub names_at : Spelling → List Token → Read (List Ident)
 names_at text ts = name_at text ts >>= λ n. names_behind text n.0 n.1
 
 abbrev pub quantity_of : Word → Option Quantity
@@ -127,22 +128,22 @@ quantity_at [] = None
 quantity_at (t ∷ ts) = quantity_here t.kind ts
 
 -- a quantifier with its semicolon
-unfoldable pub quantifier_at : List ℕ → SubType → List Token → Read QuantifierForm
+unfoldable pub quantifier_at : Spelling → SubType → List Token → Read QuantifierForm
 quantifier_at text ty ts =
     names_at text ts >>= λ n. after_sign signs.Colon n.1 >>= λ a. quantity_at a >>= λ q. ty q.1 >>= λ t. after_sign signs.Semicolon t.1 >>= λ r.
     Some (record { names = n.0; quantity = q.0; of = t.0 }, r)
 
 -- a name and a comma or a colon behind it
-unfoldable pub begins_quantifier : List ℕ → List Token → Option (List Token)
+unfoldable pub begins_quantifier : Spelling → List Token → Option (List Token)
 begins_quantifier text ts = name_at text ts >>= λ n. choose (after_sign signs.Comma n.1) (after_sign signs.Colon n.1) (λ r. Some r)
 
-unfoldable pub quantifier_step : List ℕ → SubType → List Token → Option (Read QuantifierForm)
+unfoldable pub quantifier_step : Spelling → SubType → List Token → Option (Read QuantifierForm)
 quantifier_step text ty ts = choose (begins_quantifier text ts) None (λ _. Some (quantifier_at text ty ts))
 
-unfoldable pub quantifiers_behind : List ℕ → SubType → QuantifierForm → List Token → Read (List QuantifierForm)
+unfoldable pub quantifiers_behind : Spelling → SubType → QuantifierForm → List Token → Read (List QuantifierForm)
 quantifiers_behind text ty q ts = all_at (quantifier_step text ty) ts >>= λ y. Some (q ∷ y.0, y.1)
 
-unfoldable pub quantifiers_at : List ℕ → SubType → List Token → Read (List QuantifierForm)
+unfoldable pub quantifiers_at : Spelling → SubType → List Token → Read (List QuantifierForm)
 quantifiers_at text ty ts = quantifier_at text ty ts >>= λ q. quantifiers_behind text ty q.0 q.1
 
 -- readers of the parts of a statement
@@ -173,37 +174,37 @@ block_at st p ts = body_at st ts >>= λ y. Some (block p (stms_of y.0), y.1)
 unfoldable pub declare_at : Readers → Ident → List Token → Read Stm
 declare_at r n ts = r.type ts >>= λ t. init_at r.expr t.1 >>= λ e. after_sign signs.Semicolon e.1 >>= λ z. Some (declare n t.0 e.0, z)
 
-unfoldable pub declared_at : List ℕ → SubType → List Token → Read (List (Ident × Typ))
+unfoldable pub declared_at : Spelling → SubType → List Token → Read (List (Ident × Typ))
 declared_at text ty ts = choose (after_sign signs.CloseParen ts) (params_at text ty ts) (λ _. Some ([], ts))
 
-unfoldable pub function_at : List ℕ → Readers → Ident → List Token → Read Stm
+unfoldable pub function_at : Spelling → Readers → Ident → List Token → Read Stm
 function_at text r n ts =
     after_sign signs.OpenParen ts >>= λ a. declared_at text r.type a >>= λ ps. after_sign signs.CloseParen ps.1 >>= λ b. after_sign signs.Colon b >>= λ c.
     r.type c >>= λ t. after_sign signs.OpenBrace t.1 >>= λ f. body_at r.stm f >>= λ y. Some (function n (params_of ps.0) t.0 (stms_of y.0), y.1)
 
-unfoldable pub table_stm_at : List ℕ → Readers → Ident → List Token → Read Stm
+unfoldable pub table_stm_at : Spelling → Readers → Ident → List Token → Read Stm
 table_stm_at text r n ts = table_at text r.type ts >>= λ t. Some (table n t.0, t.1)
 
-unfoldable pub colon_at : List ℕ → Readers → Ident → List Token → Read Stm
+unfoldable pub colon_at : Spelling → Readers → Ident → List Token → Read Stm
 colon_at text r n ts = choose (after_word words.Table ts) (choose (after_word words.Function ts) (declare_at r n ts) (λ a. function_at text r n a)) (λ a. table_stm_at text r n a)
 
 unfoldable pub define_at : Readers → Ident → List Token → Read Stm
 define_at r n ts = r.expr 5 ts >>= λ x. after_sign signs.Semicolon x.1 >>= λ z. Some (define n x.0, z)
 
-unfoldable pub simple_stm_at : List ℕ → Readers → ℕ → Ident → List Token → Read Stm
+unfoldable pub simple_stm_at : Spelling → Readers → ℕ → Ident → List Token → Read Stm
 simple_stm_at text r d n ts = simple_behind text r.expr d n ts >>= λ s. after_sign signs.Semicolon s.1 >>= λ z. Some (simple s.0, z)
 
 -- what a name begins
-unfoldable pub named_stm_at : List ℕ → Readers → ℕ → Ident → List Token → Read Stm
+unfoldable pub named_stm_at : Spelling → Readers → ℕ → Ident → List Token → Read Stm
 named_stm_at text r d n ts =
     choose (after_sign signs.Colon ts) (choose (after_sign signs.Define ts) (simple_stm_at text r d n ts) (λ a. define_at r n a)) (λ a. colon_at text r n a)
 
 -- the statements behind their first word
-unfoldable pub static_at : List ℕ → Readers → Place → List Token → Read Stm
+unfoldable pub static_at : Spelling → Readers → Place → List Token → Read Stm
 static_at text r p ts =
     label_at text ts >>= λ n. r.type n.1 >>= λ t. after_sign signs.Assign t.1 >>= λ a. r.expr 5 a >>= λ x. after_sign signs.Semicolon x.1 >>= λ z. Some (static p n.0 t.0 x.0, z)
 
-unfoldable pub typedef_at : List ℕ → Readers → Place → List Token → Read Stm
+unfoldable pub typedef_at : Spelling → Readers → Place → List Token → Read Stm
 typedef_at text r p ts = name_at text ts >>= λ n. after_sign signs.Assign n.1 >>= λ a. r.type a >>= λ t. after_sign signs.Semicolon t.1 >>= λ z. Some (typedef p n.0 t.0, z)
 
 unfoldable pub if_at : Readers → Place → List Token → Read Stm
@@ -232,12 +233,12 @@ continue_at p ts = after_sign signs.Semicolon ts >>= λ z. Some (continue p, z)
 unfoldable pub return_at : Readers → Place → List Token → Read Stm
 return_at r p ts = unless_at signs.Semicolon (r.expr 5) ts >>= λ e. after_sign signs.Semicolon e.1 >>= λ z. Some (return p e.0, z)
 
-unfoldable pub emit_at : List ℕ → Readers → Place → List Token → Read Stm
+unfoldable pub emit_at : Spelling → Readers → Place → List Token → Read Stm
 emit_at text r p ts =
     name_at text ts >>= λ n. all_at (index_step r.expr) n.1 >>= λ i. after_sign signs.Arrow i.1 >>= λ a. r.expr 5 a >>= λ x. weight_at r.expr x.1 >>= λ w.
     after_sign signs.Semicolon w.1 >>= λ z. Some (emit p n.0 (exps_of i.0) x.0 w.0, z)
 
-unfoldable pub when_at : List ℕ → Readers → Place → List Token → Read Stm
+unfoldable pub when_at : Spelling → Readers → Place → List Token → Read Stm
 when_at text r p ts =
     after_sign signs.OpenParen ts >>= λ a. quantifiers_at text r.type a >>= λ q. r.expr 5 q.1 >>= λ c. after_sign signs.CloseParen c.1 >>= λ b. r.stm b >>= λ s.
     Some (when p q.0 c.0 s.0, s.1)
@@ -247,7 +248,7 @@ stm_bracketed r p signs.Semicolon ts = Some (empty p, ts)
 stm_bracketed r p signs.OpenBrace ts = block_at r.stm p ts
 stm_bracketed r p _ ts = None
 
-abbrev pub stm_worded : List ℕ → Readers → Place → Word → List Token → Read Stm
+abbrev pub stm_worded : Spelling → Readers → Place → Word → List Token → Read Stm
 stm_worded text r p words.Static ts = static_at text r p ts
 stm_worded text r p words.Type ts = typedef_at text r p ts
 stm_worded text r p words.If ts = if_at r p ts
@@ -262,21 +263,21 @@ stm_worded text r p words.When ts = when_at text r p ts
 stm_worded text r p _ ts = None
 
 -- what a token begins
-abbrev pub stm_here : List ℕ → Readers → ℕ → Token → Kind → List Token → Read Stm
+abbrev pub stm_here : Spelling → Readers → ℕ → Token → Kind → List Token → Read Stm
 stm_here text r d t kinds.Name ts = named_stm_at text r d (ident_of text t) ts
 stm_here text r d t (kinds.Sign s) ts = stm_bracketed r t.place s ts
 stm_here text r d t (kinds.Word w) ts = stm_worded text r t.place w ts
 stm_here text r d t _ ts = None
 
-unfoldable pub step_at : List ℕ → Readers → ℕ → List Token → Read Stm
+unfoldable pub step_at : Spelling → Readers → ℕ → List Token → Read Stm
 step_at text r d [] = None
 step_at text r d (t ∷ ts) = stm_here text r d t t.kind ts
 
 -- a statement of at most this height
-unfoldable pub stm_at : List ℕ → ℕ → List Token → Read Stm
+unfoldable pub stm_at : Spelling → ℕ → List Token → Read Stm
 stm_at text zero ts = None
 stm_at text (suc d) ts = step_at text (record { expr = expr_at text d; type = type_at text d; simple = simple_at text d; first = first_at text d; stm = stm_at text d }) d ts
 
 -- the readers of the parts of a statement whose parts are at most this high
-abbrev pub readers_at : List ℕ → ℕ → Readers
+abbrev pub readers_at : Spelling → ℕ → Readers
 readers_at text d = record { expr = expr_at text d; type = type_at text d; simple = simple_at text d; first = first_at text d; stm = stm_at text d }

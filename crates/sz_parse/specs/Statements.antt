@@ -1,6 +1,5 @@
 -- Which tokens spell which statement: one case for each rule of the grammar.
-use Rattle.std.specs.Prelude.{◌≡◌, ℕ, ℤ, Option, Some, None, List, [], ◌∷◌}
-use Rattle.sz_types.specs.declared.place.Place.{Place}
+use Rattle.std.specs.Prelude.{◌≡◌, ℤ, Option, Some, None, List, [], ◌∷◌}
 use Rattle.sz_lex.specs.declared.token.Token.{Token}
 use Rattle.sz_lex.specs.declared.token.Kind.TheVariants as kinds
 use Rattle.sz_lex.specs.declared.sign.Sign.{Sign}
@@ -13,7 +12,7 @@ use Rattle.sz_tree.specs.Names.{Ident}
 use Rattle.sz_tree.specs.Expressions.{Exp, exps_of}
 use Rattle.sz_tree.specs.Types.{Params, no_params, param}
 use Rattle.sz_tree.specs.Statements.{StepForm, at_index, at_field, SimpleForm, assign, increment, decrement, call_of, FirstForm, first_declare, first_define, first_simple, ElemForm, TableForm, QuantifierForm, Stm, empty, block, declare, define, static, typedef, table, function, simple, if_only, if_else, while, do_while, for_loop, break, continue, return, emit, when, Stms, no_stms, stm}
-use Rattle.sz_parse.specs.Tokens.{At, Is, IsSign, IsWord, AtName, Many}
+use Rattle.sz_parse.specs.Tokens.{Spelling, At, Is, IsSign, IsWord, AtName, Many}
 use Rattle.sz_parse.specs.Expressions.{Reads, ReadsArgs}
 use Rattle.sz_parse.specs.Types.{ReadsType, ReadsParams, ReadsElem}
 
@@ -36,7 +35,7 @@ NotElse ts = (rest : List Token) → IsWord words.Else ts rest → ⊥
 abbrev pub ReadsArgument : ℤ → List Token → List Token → Type 0
 ReadsArgument n ts rest = (a b : List Token) × IsSign signs.OpenParen ts a × Is (kinds.Number n) a b × IsSign signs.CloseParen b rest
 
-module _ (text : List ℕ) where
+module _ (text : Spelling) where
   -- a sign or a word and an expression behind it
   abbrev pub ReadsBehind : Sign → Exp → List Token → List Token → Type 0
   ReadsBehind s e ts rest = (a : List Token) × IsSign s ts a × Reads text e a rest

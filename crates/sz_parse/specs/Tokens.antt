@@ -1,5 +1,5 @@
 -- Single tokens at the front of a list, and items one after the other.
-use Rattle.std.specs.Prelude.{◌≡◌, ℕ, List, [], ◌∷◌, take, drop, true, false}
+use Rattle.std.specs.Prelude.{◌≡◌, ℕ, List, [], ◌∷◌, true, false}
 use Rattle.sz_types.specs.declared.place.Place.{Place}
 use Rattle.sz_lex.specs.declared.token.Token.{Token}
 use Rattle.sz_lex.specs.declared.token.Kind.{Kind}
@@ -9,9 +9,12 @@ use Rattle.sz_lex.specs.declared.word.Word.{Word}
 use Rattle.sz_lex.specs.declared.word.Word.TheVariants as words
 use Rattle.sz_lex.specs.declared.escape.Quoted.TheVariants as quoteds
 use Rattle.sz_lex.specs.Literals.{IsQuoted}
-use Rattle.sz_lex.specs.Lexed.{lexeme_of}
 use Rattle.sz_tree.specs.Names.{Ident}
 use Rattle.sz_tree.specs.Expressions.{Lit, number, string, bytes, character, boolean}
+
+-- the bytes with which a token is written
+abbrev pub Spelling : Type 0
+Spelling = Token → List ℕ
 
 -- a token by its parts
 abbrev pub token : Kind → Place → ℕ → ℕ → Token
@@ -37,24 +40,24 @@ IsSign s ts rest = Is (kinds.Sign s) ts rest
 abbrev pub IsWord : Word → List Token → List Token → Type 0
 IsWord w ts rest = Is (kinds.Word w) ts rest
 
--- ts is this name, written so in the text, and then rest
-pub record AtName (text : List ℕ) (n : Ident) (ts rest : List Token) : Type 0 where
+-- ts is this name, written so, and then rest
+pub record AtName (text : Spelling) (n : Ident) (ts rest : List Token) : Type 0 where
   pub start : ℕ
   pub len : ℕ
   pub is : ts ≡ token kinds.Name n.place start len ∷ rest
-  pub spelled : n.text ≡ take len (drop start text)
+  pub spelled : n.text ≡ text (token kinds.Name n.place start len)
 
 -- the token stands for this literal
-abbrev pub IsLiteral : List ℕ → Lit → Token → Type 0
+abbrev pub IsLiteral : Spelling → Lit → Token → Type 0
 IsLiteral text (number n) t = t.kind ≡ kinds.Number n
-IsLiteral text (string v) t = (t.kind ≡ kinds.Str) × IsQuoted quoteds.Str (lexeme_of text t) v
-IsLiteral text (bytes v) t = (t.kind ≡ kinds.Bytes) × IsQuoted quoteds.Bytes (lexeme_of text t) v
+IsLiteral text (string v) t = (t.kind ≡ kinds.Str) × IsQuoted quoteds.Str (text t) v
+IsLiteral text (bytes v) t = (t.kind ≡ kinds.Bytes) × IsQuoted quoteds.Bytes (text t) v
 IsLiteral text (character c) t = t.kind ≡ kinds.Character c
 IsLiteral text (boolean true) t = t.kind ≡ kinds.Word words.True
 IsLiteral text (boolean false) t = t.kind ≡ kinds.Word words.False
 
 -- ts is a token at this place that stands for this literal, and then rest
-pub record AtLiteral (text : List ℕ) (p : Place) (l : Lit) (ts rest : List Token) : Type 0 where
+pub record AtLiteral (text : Spelling) (p : Place) (l : Lit) (ts rest : List Token) : Type 0 where
   pub here : Token
   pub place : here.place ≡ p
   pub means : IsLiteral text l here

@@ -1,5 +1,5 @@
 -- Which tokens spell which type: one case for each rule of the grammar.
-use Rattle.std.specs.Prelude.{◌≡◌, ℕ, ℤ, Option, Some, None, List}
+use Rattle.std.specs.Prelude.{◌≡◌, Option, Some, None, List}
 use Rattle.sz_lex.specs.declared.token.Token.{Token}
 use Rattle.sz_lex.specs.declared.token.Kind.TheVariants as kinds
 use Rattle.sz_lex.specs.declared.sign.Sign.TheVariants as signs
@@ -7,10 +7,10 @@ use Rattle.sz_lex.specs.declared.word.Word.TheVariants as words
 use Rattle.sz_tree.specs.Names.{Ident}
 use Rattle.sz_tree.specs.Types.{Typ, basic, type_name, array, map_type, tuple, proto, Params, no_params, param, Fields, no_fields, proto_field}
 use Rattle.sz_tree.specs.Statements.{ElemForm}
-use Rattle.sz_parse.specs.Tokens.{At, Is, IsSign, IsWord, AtName}
+use Rattle.sz_parse.specs.Tokens.{Spelling, At, Is, IsSign, IsWord, AtName}
 use Rattle.sz_parse.specs.Expressions.{basic_word}
 
-module _ (text : List ℕ) where
+module _ (text : Spelling) where
   -- a name with a colon behind it, or nothing
   abbrev pub ReadsLabel : Option Ident → List Token → List Token → Type 0
   ReadsLabel None ts rest = ts ≡ rest

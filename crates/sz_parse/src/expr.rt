@@ -2,13 +2,14 @@
 ghost use Rattle.std.specs.Prelude.{◌≡◌, ◌+◌, ◌<◌, ◌≤◌, [], ◌∷◌, IfOk, map as each};
 ghost use Rattle.sz_tree.specs.Expressions.{exps_of, pairs_of, height, heights, pair_heights};
 ghost use Rattle.sz_tree.specs.View.{tree_of, pair_of};
+ghost use Rattle.sz_parse.specs.Reading.{utf8_in};
 ghost use Rattle.sz_parse.specs.ReadingExpressions.{pair_at, items_behind, pairs_behind, args_at, call_at, named_at, closed_at, condition_at, paren_at, list_at, map_at, composite_at, worded, primary_here, bracket_at, part_at, tail_at, prefix_at, postfix_at, chain_at, level_at, expr_at};
 ghost use Rattle.sz_parse.specs.Outcome.{Gives};
 
 use crate::failed::Failed;
 use crate::limit::MAX_HEIGHT;
-use crate::operators::{conversion_of, joined, operator, quoted, unary_of};
-use crate::token::{expect, ident, lexeme, name, skip};
+use crate::operators::{conversion_of, joined, operator, quoted, string, unary_of};
+use crate::token::{expect, ident, name, skip, spelled};
 use std::alloc::Global;
 use sz_lex::{Kind, Quoted, Sign, Token, Word};
 use sz_tree::{Expr, Literal, Name, Pair};
@@ -26,7 +27,7 @@ pub fn expr<'t>(
 ) -> Result<(Expr, u32, &'t [Token]), Failed>
     requires depth { depth ≤ MAX_HEIGHT }
     requires level { level ≤ 5 }
-    ensures read { Gives (λ x. (tree_of x.0, x.2.now)) result (expr_at text.now depth level tokens.now) }
+    ensures read { Gives (λ x. (tree_of x.0, x.2.now)) result (expr_at (utf8_in text.now) depth level tokens.now) }
     ensures measured { IfOk result (λ x. x.1 ≡ height (tree_of x.0)) }
     ensures low { IfOk result (λ x. x.1 ≤ depth) }
 {
@@ -48,7 +49,7 @@ fn at_level<'t>(
 ) -> Result<(Expr, u32, &'t [Token]), Failed>
     requires depth { inner < MAX_HEIGHT }
     requires level { level ≤ 5 }
-    ensures read { Gives (λ x. (tree_of x.0, x.2.now)) result (level_at text.now (expr_at text.now inner) inner level tokens.now) }
+    ensures read { Gives (λ x. (tree_of x.0, x.2.now)) result (level_at (utf8_in text.now) (expr_at (utf8_in text.now) inner) inner level tokens.now) }
     ensures measured { IfOk result (λ x. x.1 ≡ height (tree_of x.0)) }
     ensures low { IfOk result (λ x. x.1 ≤ inner + 1) }
 {
@@ -74,7 +75,7 @@ fn chain<'t>(
     requires level { below < 5 }
     requires low { first_height ≤ inner + 1 }
     requires measured { first_height ≡ height (tree_of first) }
-    ensures read { Gives (λ x. (tree_of x.0, x.2.now)) result (chain_at (expr_at text.now inner) inner below (inner + 1) (tree_of first) tokens.now) }
+    ensures read { Gives (λ x. (tree_of x.0, x.2.now)) result (chain_at (expr_at (utf8_in text.now) inner) inner below (inner + 1) (tree_of first) tokens.now) }
     ensures measured { IfOk result (λ x. x.1 ≡ height (tree_of x.0)) }
     ensures low { IfOk result (λ x. x.1 ≤ inner + 1) }
 {
@@ -107,7 +108,7 @@ fn prefix<'t>(
     tokens: &'t [Token],
 ) -> Result<(Expr, u32, &'t [Token]), Failed>
     requires depth { inner < MAX_HEIGHT }
-    ensures read { Gives (λ x. (tree_of x.0, x.2.now)) result (prefix_at text.now (expr_at text.now inner) inner tokens.now) }
+    ensures read { Gives (λ x. (tree_of x.0, x.2.now)) result (prefix_at (utf8_in text.now) (expr_at (utf8_in text.now) inner) inner tokens.now) }
     ensures measured { IfOk result (λ x. x.1 ≡ height (tree_of x.0)) }
     ensures low { IfOk result (λ x. x.1 ≤ inner + 1) }
 {
@@ -133,7 +134,7 @@ fn postfix<'t>(
     tokens: &'t [Token],
 ) -> Result<(Expr, u32, &'t [Token]), Failed>
     requires depth { inner < MAX_HEIGHT }
-    ensures read { Gives (λ x. (tree_of x.0, x.2.now)) result (postfix_at text.now (expr_at text.now inner) inner tokens.now) }
+    ensures read { Gives (λ x. (tree_of x.0, x.2.now)) result (postfix_at (utf8_in text.now) (expr_at (utf8_in text.now) inner) inner tokens.now) }
     ensures measured { IfOk result (λ x. x.1 ≡ height (tree_of x.0)) }
     ensures low { IfOk result (λ x. x.1 ≤ inner + 1) }
 {
@@ -157,7 +158,7 @@ fn parts<'t>(
     requires depth { inner < MAX_HEIGHT }
     requires low { first_height ≤ inner + 1 }
     requires measured { first_height ≡ height (tree_of first) }
-    ensures read { Gives (λ x. (tree_of x.0, x.2.now)) result (tail_at text.now (expr_at text.now inner) inner (inner + 1) (tree_of first) tokens.now) }
+    ensures read { Gives (λ x. (tree_of x.0, x.2.now)) result (tail_at (utf8_in text.now) (expr_at (utf8_in text.now) inner) inner (inner + 1) (tree_of first) tokens.now) }
     ensures measured { IfOk result (λ x. x.1 ≡ height (tree_of x.0)) }
     ensures low { IfOk result (λ x. x.1 ≤ inner + 1) }
 {
@@ -191,7 +192,7 @@ fn part<'t>(
     requires depth { inner < MAX_HEIGHT }
     requires low { left_height ≤ inner + 1 }
     requires measured { left_height ≡ height (tree_of left) }
-    ensures read { Gives (λ x. ((tree_of x.0.0, x.0.1), x.2.now)) result (part_at text.now (expr_at text.now inner) inner (tree_of left) tokens.now) }
+    ensures read { Gives (λ x. ((tree_of x.0.0, x.0.1), x.2.now)) result (part_at (utf8_in text.now) (expr_at (utf8_in text.now) inner) inner (tree_of left) tokens.now) }
     ensures measured { IfOk result (λ x. x.1 ≡ height (tree_of x.0.0)) }
     ensures low { IfOk result (λ x. x.1 ≤ inner + 1) }
 {
@@ -232,7 +233,7 @@ fn bracket<'t>(
     requires depth { inner < MAX_HEIGHT }
     requires low { left_height ≤ inner }
     requires measured { left_height ≡ height (tree_of left) }
-    ensures read { Gives (λ x. (tree_of x.0, x.2.now)) result (bracket_at (expr_at text.now inner) (tree_of left) tokens.now) }
+    ensures read { Gives (λ x. (tree_of x.0, x.2.now)) result (bracket_at (expr_at (utf8_in text.now) inner) (tree_of left) tokens.now) }
     ensures measured { IfOk result (λ x. x.1 ≡ height (tree_of x.0)) }
     ensures low { IfOk result (λ x. x.1 ≤ inner + 1) }
 {
@@ -269,7 +270,7 @@ fn primary<'t>(
     tokens: &'t [Token],
 ) -> Result<(Expr, u32, &'t [Token]), Failed>
     requires depth { inner < MAX_HEIGHT }
-    ensures read { Gives (λ x. (tree_of x.0, x.2.now)) result (primary_here text.now (expr_at text.now inner) inner token.now token.now.kind tokens.now) }
+    ensures read { Gives (λ x. (tree_of x.0, x.2.now)) result (primary_here (utf8_in text.now) (expr_at (utf8_in text.now) inner) inner token.now token.now.kind tokens.now) }
     ensures measured { IfOk result (λ x. x.1 ≡ height (tree_of x.0)) }
     ensures low { IfOk result (λ x. x.1 ≤ inner + 1) }
 {
@@ -278,11 +279,11 @@ fn primary<'t>(
         Kind::Number(n) => Ok((Expr::Literal(place, Literal::Number(n)), 1, tokens)),
         Kind::Character(c) => Ok((Expr::Literal(place, Literal::Character(c)), 1, tokens)),
         Kind::Str => {
-            let value = quoted(alloc, Quoted::Str, lexeme(text, token))?;
+            let value = string(alloc, spelled(text, token))?;
             Ok((Expr::Literal(place, Literal::Str(value)), 1, tokens))
         }
         Kind::Bytes => {
-            let value = quoted(alloc, Quoted::Bytes, lexeme(text, token))?;
+            let value = quoted(alloc, Quoted::Bytes, spelled(text, token).as_bytes())?;
             Ok((Expr::Literal(place, Literal::Bytes(value)), 1, tokens))
         }
         Kind::Name => {
@@ -307,7 +308,7 @@ fn worded<'t>(
     tokens: &'t [Token],
 ) -> Result<(Expr, u32, &'t [Token]), Failed>
     requires depth { inner < MAX_HEIGHT }
-    ensures read { Gives (λ x. (tree_of x.0, x.2.now)) result (worded (expr_at text.now inner) place word tokens.now) }
+    ensures read { Gives (λ x. (tree_of x.0, x.2.now)) result (worded (expr_at (utf8_in text.now) inner) place word tokens.now) }
     ensures measured { IfOk result (λ x. x.1 ≡ height (tree_of x.0)) }
     ensures low { IfOk result (λ x. x.1 ≤ inner + 1) }
 {
@@ -339,7 +340,7 @@ pub fn condition<'t>(
     tokens: &'t [Token],
 ) -> Result<(Expr, u32, &'t [Token]), Failed>
     requires depth { inner < MAX_HEIGHT }
-    ensures read { Gives (λ x. (tree_of x.0, x.2.now)) result (condition_at (expr_at text.now inner) tokens.now) }
+    ensures read { Gives (λ x. (tree_of x.0, x.2.now)) result (condition_at (expr_at (utf8_in text.now) inner) tokens.now) }
     ensures measured { IfOk result (λ x. x.1 ≡ height (tree_of x.0)) }
     ensures low { IfOk result (λ x. x.1 ≤ inner) }
 {
@@ -357,7 +358,7 @@ fn closed<'t>(
     tokens: &'t [Token],
 ) -> Result<(Expr, u32, &'t [Token]), Failed>
     requires depth { inner < MAX_HEIGHT }
-    ensures read { Gives (λ x. (tree_of x.0, x.2.now)) result (closed_at (expr_at text.now inner) tokens.now) }
+    ensures read { Gives (λ x. (tree_of x.0, x.2.now)) result (closed_at (expr_at (utf8_in text.now) inner) tokens.now) }
     ensures measured { IfOk result (λ x. x.1 ≡ height (tree_of x.0)) }
     ensures low { IfOk result (λ x. x.1 ≤ inner) }
 {
@@ -376,7 +377,7 @@ fn paren<'t>(
     tokens: &'t [Token],
 ) -> Result<(Expr, u32, &'t [Token]), Failed>
     requires depth { inner < MAX_HEIGHT }
-    ensures read { Gives (λ x. (tree_of x.0, x.2.now)) result (paren_at (expr_at text.now inner) place tokens.now) }
+    ensures read { Gives (λ x. (tree_of x.0, x.2.now)) result (paren_at (expr_at (utf8_in text.now) inner) place tokens.now) }
     ensures measured { IfOk result (λ x. x.1 ≡ height (tree_of x.0)) }
     ensures low { IfOk result (λ x. x.1 ≤ inner + 1) }
 {
@@ -395,7 +396,7 @@ fn named<'t>(
     tokens: &'t [Token],
 ) -> Result<(Expr, u32, &'t [Token]), Failed>
     requires depth { inner < MAX_HEIGHT }
-    ensures read { Gives (λ x. (tree_of x.0, x.2.now)) result (named_at (expr_at text.now inner) inner name tokens.now) }
+    ensures read { Gives (λ x. (tree_of x.0, x.2.now)) result (named_at (expr_at (utf8_in text.now) inner) inner name tokens.now) }
     ensures measured { IfOk result (λ x. x.1 ≡ height (tree_of x.0)) }
     ensures low { IfOk result (λ x. x.1 ≤ inner + 1) }
 {
@@ -421,7 +422,7 @@ pub fn call<'t>(
     tokens: &'t [Token],
 ) -> Result<(Vec<Expr>, u32, &'t [Token]), Failed>
     requires depth { inner < MAX_HEIGHT }
-    ensures read { Gives (λ x. (exps_of (each tree_of x.0.items), x.2.now)) result (call_at (expr_at text.now inner) tokens.now) }
+    ensures read { Gives (λ x. (exps_of (each tree_of x.0.items), x.2.now)) result (call_at (expr_at (utf8_in text.now) inner) tokens.now) }
     ensures measured { IfOk result (λ x. x.1 ≡ heights (exps_of (each tree_of x.0.items))) }
     ensures low { IfOk result (λ x. x.1 ≤ inner) }
 {
@@ -440,7 +441,7 @@ fn arguments<'t>(
     tokens: &'t [Token],
 ) -> Result<(Vec<Expr>, u32, &'t [Token]), Failed>
     requires depth { inner < MAX_HEIGHT }
-    ensures read { Gives (λ x. (each tree_of x.0.items, x.2.now)) result (args_at (expr_at text.now inner) tokens.now) }
+    ensures read { Gives (λ x. (each tree_of x.0.items, x.2.now)) result (args_at (expr_at (utf8_in text.now) inner) tokens.now) }
     ensures measured { IfOk result (λ x. x.1 ≡ heights (exps_of (each tree_of x.0.items))) }
     ensures low { IfOk result (λ x. x.1 ≤ inner) }
 {
@@ -464,7 +465,7 @@ fn items<'t>(
     requires depth { inner < MAX_HEIGHT }
     requires low { first_height ≤ inner }
     requires measured { first_height ≡ height (tree_of first) }
-    ensures read { Gives (λ x. (each tree_of x.0.items, x.2.now)) result (items_behind (expr_at text.now inner) (tree_of first) tokens.now) }
+    ensures read { Gives (λ x. (each tree_of x.0.items, x.2.now)) result (items_behind (expr_at (utf8_in text.now) inner) (tree_of first) tokens.now) }
     ensures measured { IfOk result (λ x. x.1 ≡ heights (exps_of (each tree_of x.0.items))) }
     ensures low { IfOk result (λ x. x.1 ≤ inner) }
 {
@@ -492,7 +493,7 @@ fn composite<'t>(
     tokens: &'t [Token],
 ) -> Result<(Expr, u32, &'t [Token]), Failed>
     requires depth { inner < MAX_HEIGHT }
-    ensures read { Gives (λ x. (tree_of x.0, x.2.now)) result (composite_at (expr_at text.now inner) place tokens.now) }
+    ensures read { Gives (λ x. (tree_of x.0, x.2.now)) result (composite_at (expr_at (utf8_in text.now) inner) place tokens.now) }
     ensures measured { IfOk result (λ x. x.1 ≡ height (tree_of x.0)) }
     ensures low { IfOk result (λ x. x.1 ≤ inner + 1) }
 {
@@ -536,7 +537,7 @@ fn list<'t>(
     requires depth { inner < MAX_HEIGHT }
     requires low { first_height ≤ inner }
     requires measured { first_height ≡ height (tree_of first) }
-    ensures read { Gives (λ x. (tree_of x.0, x.2.now)) result (list_at (expr_at text.now inner) place (tree_of first) tokens.now) }
+    ensures read { Gives (λ x. (tree_of x.0, x.2.now)) result (list_at (expr_at (utf8_in text.now) inner) place (tree_of first) tokens.now) }
     ensures measured { IfOk result (λ x. x.1 ≡ height (tree_of x.0)) }
     ensures low { IfOk result (λ x. x.1 ≤ inner + 1) }
 {
@@ -559,7 +560,7 @@ fn map<'t>(
     requires depth { inner < MAX_HEIGHT }
     requires low { first_height ≤ inner }
     requires measured { first_height ≡ pair_heights (pairs_of (pair_of first ∷ [])) }
-    ensures read { Gives (λ x. (tree_of x.0, x.2.now)) result (map_at (expr_at text.now inner) place (pair_of first) tokens.now) }
+    ensures read { Gives (λ x. (tree_of x.0, x.2.now)) result (map_at (expr_at (utf8_in text.now) inner) place (pair_of first) tokens.now) }
     ensures measured { IfOk result (λ x. x.1 ≡ height (tree_of x.0)) }
     ensures low { IfOk result (λ x. x.1 ≤ inner + 1) }
 {
@@ -578,7 +579,7 @@ fn pair<'t>(
     tokens: &'t [Token],
 ) -> Result<(Pair, u32, &'t [Token]), Failed>
     requires depth { inner < MAX_HEIGHT }
-    ensures read { Gives (λ x. (pair_of x.0, x.2.now)) result (pair_at (expr_at text.now inner) tokens.now) }
+    ensures read { Gives (λ x. (pair_of x.0, x.2.now)) result (pair_at (expr_at (utf8_in text.now) inner) tokens.now) }
     ensures measured { IfOk result (λ x. x.1 ≡ pair_heights (pairs_of (pair_of x.0 ∷ []))) }
     ensures low { IfOk result (λ x. x.1 ≤ inner) }
 {
@@ -601,7 +602,7 @@ fn pairs<'t>(
     requires depth { inner < MAX_HEIGHT }
     requires low { first_height ≤ inner }
     requires measured { first_height ≡ pair_heights (pairs_of (pair_of first ∷ [])) }
-    ensures read { Gives (λ x. (each pair_of x.0.items, x.2.now)) result (pairs_behind (expr_at text.now inner) (pair_of first) tokens.now) }
+    ensures read { Gives (λ x. (each pair_of x.0.items, x.2.now)) result (pairs_behind (expr_at (utf8_in text.now) inner) (pair_of first) tokens.now) }
     ensures measured { IfOk result (λ x. x.1 ≡ pair_heights (pairs_of (each pair_of x.0.items))) }
     ensures low { IfOk result (λ x. x.1 ≤ inner) }
 {

@@ -3,6 +3,7 @@ ghost use Rattle.std.specs.Prelude.{◌≡◌, ◌<◌, map as each};
 ghost use Rattle.std.specs.Option.{option_map};
 ghost use Rattle.sz_lex.specs.declared.sign.Sign.TheVariants.{Semicolon, CloseParen};
 ghost use Rattle.sz_tree.specs.View.{tree_of, first_of, simple_of, param_of, stm_of};
+ghost use Rattle.sz_parse.specs.Reading.{utf8_in};
 ghost use Rattle.sz_parse.specs.ReadingExpressions.{expr_at};
 ghost use Rattle.sz_parse.specs.ReadingTypes.{type_at};
 ghost use Rattle.sz_parse.specs.ReadingStatements.{unless_at, init_at, weight_at, simple_at, first_at, declare_at, declared_at, table_stm_at, define_at, simple_stm_at, static_at, typedef_at, break_at, continue_at, return_at, emit_at, readers_at};
@@ -30,7 +31,7 @@ pub fn maybe_expr<'t>(
     tokens: &'t [Token],
 ) -> Result<(Option<Expr>, &'t [Token]), Failed>
     requires depth { inner < MAX_HEIGHT }
-    ensures read { Gives (λ x. (option_map tree_of x.0, x.1.now)) result (unless_at sign (expr_at text.now inner 5) tokens.now) }
+    ensures read { Gives (λ x. (option_map tree_of x.0, x.1.now)) result (unless_at sign (expr_at (utf8_in text.now) inner 5) tokens.now) }
 {
     if let Some(_) = skip(sign, tokens) {
         return Ok((None, tokens));
@@ -48,7 +49,7 @@ pub fn maybe_first<'t>(
     tokens: &'t [Token],
 ) -> Result<(Option<First>, &'t [Token]), Failed>
     requires depth { inner < MAX_HEIGHT }
-    ensures read { Gives (λ x. (option_map first_of x.0, x.1.now)) result (unless_at Semicolon (first_at text.now inner) tokens.now) }
+    ensures read { Gives (λ x. (option_map first_of x.0, x.1.now)) result (unless_at Semicolon (first_at (utf8_in text.now) inner) tokens.now) }
 {
     if let Some(_) = skip(Sign::Semicolon, tokens) {
         return Ok((None, tokens));
@@ -66,7 +67,7 @@ pub fn maybe_simple<'t>(
     tokens: &'t [Token],
 ) -> Result<(Option<Simple>, &'t [Token]), Failed>
     requires depth { inner < MAX_HEIGHT }
-    ensures read { Gives (λ x. (option_map simple_of x.0, x.1.now)) result (unless_at CloseParen (simple_at text.now inner) tokens.now) }
+    ensures read { Gives (λ x. (option_map simple_of x.0, x.1.now)) result (unless_at CloseParen (simple_at (utf8_in text.now) inner) tokens.now) }
 {
     if let Some(_) = skip(Sign::CloseParen, tokens) {
         return Ok((None, tokens));
@@ -84,7 +85,7 @@ fn init<'t>(
     tokens: &'t [Token],
 ) -> Result<(Option<Expr>, &'t [Token]), Failed>
     requires depth { inner < MAX_HEIGHT }
-    ensures read { Gives (λ x. (option_map tree_of x.0, x.1.now)) result (init_at (expr_at text.now inner) tokens.now) }
+    ensures read { Gives (λ x. (option_map tree_of x.0, x.1.now)) result (init_at (expr_at (utf8_in text.now) inner) tokens.now) }
 {
     match skip(Sign::Assign, tokens) {
         None => Ok((None, tokens)),
@@ -104,7 +105,7 @@ fn weight<'t>(
     tokens: &'t [Token],
 ) -> Result<(Option<Expr>, &'t [Token]), Failed>
     requires depth { inner < MAX_HEIGHT }
-    ensures read { Gives (λ x. (option_map tree_of x.0, x.1.now)) result (weight_at (expr_at text.now inner) tokens.now) }
+    ensures read { Gives (λ x. (option_map tree_of x.0, x.1.now)) result (weight_at (expr_at (utf8_in text.now) inner) tokens.now) }
 {
     match skip_word(Word::Weight, tokens) {
         None => Ok((None, tokens)),
@@ -125,7 +126,7 @@ pub fn declare<'t>(
     tokens: &'t [Token],
 ) -> Result<(Stmt, &'t [Token]), Failed>
     requires depth { inner < MAX_HEIGHT }
-    ensures read { Gives (λ x. (stm_of x.0, x.1.now)) result (declare_at (readers_at text.now inner) name tokens.now) }
+    ensures read { Gives (λ x. (stm_of x.0, x.1.now)) result (declare_at (readers_at (utf8_in text.now) inner) name tokens.now) }
 {
     let (of, rest) = type_tree(alloc, text, inner, tokens)?;
     let (value, rest) = init(alloc, text, inner, rest)?;
@@ -142,7 +143,7 @@ pub fn declared<'t>(
     tokens: &'t [Token],
 ) -> Result<(Vec<Param>, &'t [Token]), Failed>
     requires depth { inner < MAX_HEIGHT }
-    ensures read { Gives (λ x. (each param_of x.0.items, x.1.now)) result (declared_at text.now (type_at text.now inner) tokens.now) }
+    ensures read { Gives (λ x. (each param_of x.0.items, x.1.now)) result (declared_at (utf8_in text.now) (type_at (utf8_in text.now) inner) tokens.now) }
 {
     if let Some(_) = skip(Sign::CloseParen, tokens) {
         return Ok((Vec::new(alloc), tokens));
@@ -159,7 +160,7 @@ pub fn define<'t>(
     tokens: &'t [Token],
 ) -> Result<(Stmt, &'t [Token]), Failed>
     requires depth { inner < MAX_HEIGHT }
-    ensures read { Gives (λ x. (stm_of x.0, x.1.now)) result (define_at (readers_at text.now inner) name tokens.now) }
+    ensures read { Gives (λ x. (stm_of x.0, x.1.now)) result (define_at (readers_at (utf8_in text.now) inner) name tokens.now) }
 {
     let (value, _, rest) = expr(alloc, text, inner, 5, tokens)?;
     let rest = expect(Sign::Semicolon, rest)?;
@@ -175,7 +176,7 @@ pub fn simple_statement<'t>(
     tokens: &'t [Token],
 ) -> Result<(Stmt, &'t [Token]), Failed>
     requires depth { inner < MAX_HEIGHT }
-    ensures read { Gives (λ x. (stm_of x.0, x.1.now)) result (simple_stm_at text.now (readers_at text.now inner) inner name tokens.now) }
+    ensures read { Gives (λ x. (stm_of x.0, x.1.now)) result (simple_stm_at (utf8_in text.now) (readers_at (utf8_in text.now) inner) inner name tokens.now) }
 {
     let (part, rest) = simple_behind(alloc, text, inner, name, tokens)?;
     let rest = expect(Sign::Semicolon, rest)?;
@@ -191,7 +192,7 @@ pub fn table_statement<'t>(
     tokens: &'t [Token],
 ) -> Result<(Stmt, &'t [Token]), Failed>
     requires depth { inner < MAX_HEIGHT }
-    ensures read { Gives (λ x. (stm_of x.0, x.1.now)) result (table_stm_at text.now (readers_at text.now inner) name tokens.now) }
+    ensures read { Gives (λ x. (stm_of x.0, x.1.now)) result (table_stm_at (utf8_in text.now) (readers_at (utf8_in text.now) inner) name tokens.now) }
 {
     let (part, rest) = table(alloc, text, inner, tokens)?;
     Ok((Stmt::Table(name, part), rest))
@@ -206,7 +207,7 @@ pub fn static_statement<'t>(
     tokens: &'t [Token],
 ) -> Result<(Stmt, &'t [Token]), Failed>
     requires depth { inner < MAX_HEIGHT }
-    ensures read { Gives (λ x. (stm_of x.0, x.1.now)) result (static_at text.now (readers_at text.now inner) place tokens.now) }
+    ensures read { Gives (λ x. (stm_of x.0, x.1.now)) result (static_at (utf8_in text.now) (readers_at (utf8_in text.now) inner) place tokens.now) }
 {
     let (name, rest) = label(alloc, text, tokens)?;
     let (of, rest) = type_tree(alloc, text, inner, rest)?;
@@ -225,7 +226,7 @@ pub fn type_statement<'t>(
     tokens: &'t [Token],
 ) -> Result<(Stmt, &'t [Token]), Failed>
     requires depth { inner < MAX_HEIGHT }
-    ensures read { Gives (λ x. (stm_of x.0, x.1.now)) result (typedef_at text.now (readers_at text.now inner) place tokens.now) }
+    ensures read { Gives (λ x. (stm_of x.0, x.1.now)) result (typedef_at (utf8_in text.now) (readers_at (utf8_in text.now) inner) place tokens.now) }
 {
     let (name, rest) = name(alloc, text, tokens)?;
     let rest = expect(Sign::Assign, rest)?;
@@ -243,7 +244,7 @@ pub fn return_statement<'t>(
     tokens: &'t [Token],
 ) -> Result<(Stmt, &'t [Token]), Failed>
     requires depth { inner < MAX_HEIGHT }
-    ensures read { Gives (λ x. (stm_of x.0, x.1.now)) result (return_at (readers_at text.now inner) place tokens.now) }
+    ensures read { Gives (λ x. (stm_of x.0, x.1.now)) result (return_at (readers_at (utf8_in text.now) inner) place tokens.now) }
 {
     let (value, rest) = maybe_expr(alloc, text, inner, Sign::Semicolon, tokens)?;
     let rest = expect(Sign::Semicolon, rest)?;
@@ -259,7 +260,7 @@ pub fn emit<'t>(
     tokens: &'t [Token],
 ) -> Result<(Stmt, &'t [Token]), Failed>
     requires depth { inner < MAX_HEIGHT }
-    ensures read { Gives (λ x. (stm_of x.0, x.1.now)) result (emit_at text.now (readers_at text.now inner) place tokens.now) }
+    ensures read { Gives (λ x. (stm_of x.0, x.1.now)) result (emit_at (utf8_in text.now) (readers_at (utf8_in text.now) inner) place tokens.now) }
 {
     let (table, rest) = name(alloc, text, tokens)?;
     let (indexes, rest) = indexes(alloc, text, inner, rest)?;

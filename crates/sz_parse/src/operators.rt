@@ -1,5 +1,6 @@
 //! Operators, conversions and literals: what single tokens of an expression mean.
 ghost use Rattle.std.specs.Prelude.{◌≡◌, Some as Just};
+ghost use Rattle.sz_lex.specs.declared.escape.Quoted.TheVariants as quoteds;
 ghost use Rattle.sz_tree.specs.Expressions.{place_of, binary as binary_tree};
 ghost use Rattle.sz_tree.specs.View.{tree_of};
 ghost use Rattle.sz_parse.specs.Reading.{decoded};
@@ -10,6 +11,7 @@ use crate::failed::Failed;
 use std::alloc::Global;
 use sz_lex::{Kind, Quoted, Sign, Token, Word, decode};
 use sz_tree::{BasicType, BinaryOp, Expr, UnaryOp};
+use sz_types::Text;
 
 // The operator that a token is before an operand.
 pub fn unary_of(kind: Kind) -> Option<UnaryOp>
@@ -94,6 +96,14 @@ pub fn quoted(alloc: Global, quoted: Quoted, literal: &[u8]) -> Result<Vec<u8>, 
         Some(value) => Ok(value),
         None => Err(Failed::Syntax),
     }
+}
+
+// The text that a string literal stands for.
+#[tactic(auto, using(crate::proofs::TokenLemmas::string_is_utf8))]
+pub fn string(alloc: Global, literal: &str) -> Result<Text, Failed>
+    ensures value { Gives (λ t. t) result (decoded quoteds.Str literal.now) }
+{
+    Ok(Text::from_utf8(quoted(alloc, Quoted::Str, literal.as_bytes())?))
 }
 
 // An operator with its operands.

@@ -1,7 +1,7 @@
 //! Statements that may stand as a step of a `for`, and its first part.
 ghost use Rattle.std.specs.Prelude.{◌≡◌, ◌≤◌, ◌<◌, map as each};
 ghost use Rattle.sz_tree.specs.View.{tree_of, step_of, simple_of, first_of};
-ghost use Rattle.sz_parse.specs.Reading.{all_at};
+ghost use Rattle.sz_parse.specs.Reading.{utf8_in, all_at};
 ghost use Rattle.sz_parse.specs.ReadingExpressions.{expr_at};
 ghost use Rattle.sz_parse.specs.ReadingTypes.{type_at};
 ghost use Rattle.sz_parse.specs.ReadingStatements.{index_at, index_step, begins_step, step_item, path_step, assign_at, simple_behind, simple_at, first_behind, first_at};
@@ -25,7 +25,7 @@ fn index<'t>(
     tokens: &'t [Token],
 ) -> Result<(Expr, &'t [Token]), Failed>
     requires depth { inner < MAX_HEIGHT }
-    ensures read { Gives (λ x. (tree_of x.0, x.1.now)) result (index_at (expr_at text.now inner) tokens.now) }
+    ensures read { Gives (λ x. (tree_of x.0, x.1.now)) result (index_at (expr_at (utf8_in text.now) inner) tokens.now) }
 {
     let (tree, _, rest) = expr(alloc, text, inner, 5, tokens)?;
     let rest = expect(Sign::CloseBracket, rest)?;
@@ -40,7 +40,7 @@ pub fn indexes<'t>(
     tokens: &'t [Token],
 ) -> Result<(Vec<Expr>, &'t [Token]), Failed>
     requires depth { inner < MAX_HEIGHT }
-    ensures read { Gives (λ x. (each tree_of x.0.items, x.1.now)) result (all_at (index_step (expr_at text.now inner)) tokens.now) }
+    ensures read { Gives (λ x. (each tree_of x.0.items, x.1.now)) result (all_at (index_step (expr_at (utf8_in text.now) inner)) tokens.now) }
 {
     let mut items = Vec::new(alloc);
     let mut rest = tokens;
@@ -72,7 +72,7 @@ fn step<'t>(
     tokens: &'t [Token],
 ) -> Result<(Step, &'t [Token]), Failed>
     requires depth { inner < MAX_HEIGHT }
-    ensures read { Gives (λ x. (step_of x.0, x.1.now)) result (step_item text.now (expr_at text.now inner) tokens.now) }
+    ensures read { Gives (λ x. (step_of x.0, x.1.now)) result (step_item (utf8_in text.now) (expr_at (utf8_in text.now) inner) tokens.now) }
 {
     match skip(Sign::OpenBracket, tokens) {
         Some(rest) => {
@@ -95,7 +95,7 @@ fn steps<'t>(
     tokens: &'t [Token],
 ) -> Result<(Vec<Step>, &'t [Token]), Failed>
     requires depth { inner < MAX_HEIGHT }
-    ensures read { Gives (λ x. (each step_of x.0.items, x.1.now)) result (all_at (path_step text.now (expr_at text.now inner)) tokens.now) }
+    ensures read { Gives (λ x. (each step_of x.0.items, x.1.now)) result (all_at (path_step (utf8_in text.now) (expr_at (utf8_in text.now) inner)) tokens.now) }
 {
     let mut items = Vec::new(alloc);
     let mut rest = tokens;
@@ -117,7 +117,7 @@ fn assign<'t>(
     tokens: &'t [Token],
 ) -> Result<(Simple, &'t [Token]), Failed>
     requires depth { inner < MAX_HEIGHT }
-    ensures read { Gives (λ x. (simple_of x.0, x.1.now)) result (assign_at text.now (expr_at text.now inner) name tokens.now) }
+    ensures read { Gives (λ x. (simple_of x.0, x.1.now)) result (assign_at (utf8_in text.now) (expr_at (utf8_in text.now) inner) name tokens.now) }
 {
     let (steps, rest) = steps(alloc, text, inner, tokens)?;
     let rest = expect(Sign::Assign, rest)?;
@@ -135,7 +135,7 @@ pub fn simple_behind<'t>(
     tokens: &'t [Token],
 ) -> Result<(Simple, &'t [Token]), Failed>
     requires depth { inner < MAX_HEIGHT }
-    ensures read { Gives (λ x. (simple_of x.0, x.1.now)) result (simple_behind text.now (expr_at text.now inner) inner name tokens.now) }
+    ensures read { Gives (λ x. (simple_of x.0, x.1.now)) result (simple_behind (utf8_in text.now) (expr_at (utf8_in text.now) inner) inner name tokens.now) }
 {
     if let Some(rest) = skip(Sign::Increment, tokens) {
         if inner < 2 {
@@ -170,7 +170,7 @@ pub fn simple<'t>(
     tokens: &'t [Token],
 ) -> Result<(Simple, &'t [Token]), Failed>
     requires depth { depth ≤ MAX_HEIGHT }
-    ensures read { Gives (λ x. (simple_of x.0, x.1.now)) result (simple_at text.now depth tokens.now) }
+    ensures read { Gives (λ x. (simple_of x.0, x.1.now)) result (simple_at (utf8_in text.now) depth tokens.now) }
 {
     if depth == 0 {
         return Err(Failed::Syntax);
@@ -189,7 +189,7 @@ fn first_behind<'t>(
     tokens: &'t [Token],
 ) -> Result<(First, &'t [Token]), Failed>
     requires depth { inner < MAX_HEIGHT }
-    ensures read { Gives (λ x. (first_of x.0, x.1.now)) result (first_behind text.now (expr_at text.now inner) (type_at text.now inner) inner name tokens.now) }
+    ensures read { Gives (λ x. (first_of x.0, x.1.now)) result (first_behind (utf8_in text.now) (expr_at (utf8_in text.now) inner) (type_at (utf8_in text.now) inner) inner name tokens.now) }
 {
     if let Some(rest) = skip(Sign::Colon, tokens) {
         let (of, rest) = type_tree(alloc, text, inner, rest)?;
@@ -214,7 +214,7 @@ pub fn first<'t>(
     tokens: &'t [Token],
 ) -> Result<(First, &'t [Token]), Failed>
     requires depth { depth ≤ MAX_HEIGHT }
-    ensures read { Gives (λ x. (first_of x.0, x.1.now)) result (first_at text.now depth tokens.now) }
+    ensures read { Gives (λ x. (first_of x.0, x.1.now)) result (first_at (utf8_in text.now) depth tokens.now) }
 {
     if depth == 0 {
         return Err(Failed::Syntax);

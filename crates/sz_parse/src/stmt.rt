@@ -1,7 +1,7 @@
 //! Statements.
 ghost use Rattle.std.specs.Prelude.{◌≡◌, ◌≤◌, ◌<◌, map as each};
 ghost use Rattle.sz_tree.specs.View.{stm_of};
-ghost use Rattle.sz_parse.specs.Reading.{all_at};
+ghost use Rattle.sz_parse.specs.Reading.{utf8_in, all_at};
 ghost use Rattle.sz_parse.specs.ReadingStatements.{begins_stm, stm_step, body_at, block_at, function_at, colon_at, named_stm_at, if_at, while_at, do_at, for_at, when_at, stm_worded, step_at, stm_at, readers_at};
 ghost use Rattle.sz_parse.specs.Outcome.{Gives, Sees};
 
@@ -45,7 +45,7 @@ pub fn statement<'t>(
     tokens: &'t [Token],
 ) -> Result<(Stmt, &'t [Token]), Failed>
     requires depth { depth ≤ MAX_HEIGHT }
-    ensures read { Gives (λ x. (stm_of x.0, x.1.now)) result (stm_at text.now depth tokens.now) }
+    ensures read { Gives (λ x. (stm_of x.0, x.1.now)) result (stm_at (utf8_in text.now) depth tokens.now) }
 {
     if depth == 0 {
         return Err(Failed::Syntax);
@@ -63,7 +63,7 @@ fn step<'t>(
     tokens: &'t [Token],
 ) -> Result<(Stmt, &'t [Token]), Failed>
     requires depth { inner < MAX_HEIGHT }
-    ensures read { Gives (λ x. (stm_of x.0, x.1.now)) result (step_at text.now (readers_at text.now inner) inner tokens.now) }
+    ensures read { Gives (λ x. (stm_of x.0, x.1.now)) result (step_at (utf8_in text.now) (readers_at (utf8_in text.now) inner) inner tokens.now) }
 {
     let [token, rest @ ..] = tokens else {
         return Err(Failed::Syntax);
@@ -91,7 +91,7 @@ fn named<'t>(
     tokens: &'t [Token],
 ) -> Result<(Stmt, &'t [Token]), Failed>
     requires depth { inner < MAX_HEIGHT }
-    ensures read { Gives (λ x. (stm_of x.0, x.1.now)) result (named_stm_at text.now (readers_at text.now inner) inner name tokens.now) }
+    ensures read { Gives (λ x. (stm_of x.0, x.1.now)) result (named_stm_at (utf8_in text.now) (readers_at (utf8_in text.now) inner) inner name tokens.now) }
 {
     if let Some(rest) = skip(Sign::Colon, tokens) {
         return colon(alloc, text, inner, name, rest);
@@ -113,7 +113,7 @@ fn colon<'t>(
     tokens: &'t [Token],
 ) -> Result<(Stmt, &'t [Token]), Failed>
     requires depth { inner < MAX_HEIGHT }
-    ensures read { Gives (λ x. (stm_of x.0, x.1.now)) result (colon_at text.now (readers_at text.now inner) name tokens.now) }
+    ensures read { Gives (λ x. (stm_of x.0, x.1.now)) result (colon_at (utf8_in text.now) (readers_at (utf8_in text.now) inner) name tokens.now) }
 {
     if let Some(rest) = skip_word(Word::Table, tokens) {
         return table_statement(alloc, text, inner, name, rest);
@@ -135,7 +135,7 @@ fn function<'t>(
     tokens: &'t [Token],
 ) -> Result<(Stmt, &'t [Token]), Failed>
     requires depth { inner < MAX_HEIGHT }
-    ensures read { Gives (λ x. (stm_of x.0, x.1.now)) result (function_at text.now (readers_at text.now inner) name tokens.now) }
+    ensures read { Gives (λ x. (stm_of x.0, x.1.now)) result (function_at (utf8_in text.now) (readers_at (utf8_in text.now) inner) name tokens.now) }
 {
     let rest = expect(Sign::OpenParen, tokens)?;
     let (params, rest) = declared(alloc, text, inner, rest)?;
@@ -157,7 +157,7 @@ fn block<'t>(
     tokens: &'t [Token],
 ) -> Result<(Stmt, &'t [Token]), Failed>
     requires depth { inner < MAX_HEIGHT }
-    ensures read { Gives (λ x. (stm_of x.0, x.1.now)) result (block_at (stm_at text.now inner) place tokens.now) }
+    ensures read { Gives (λ x. (stm_of x.0, x.1.now)) result (block_at (stm_at (utf8_in text.now) inner) place tokens.now) }
 {
     let (statements, rest) = body(alloc, text, inner, tokens)?;
     Ok((Stmt::block(place, statements), rest))
@@ -173,7 +173,7 @@ fn body<'t>(
     tokens: &'t [Token],
 ) -> Result<(Vec<Stmt>, &'t [Token]), Failed>
     requires depth { inner < MAX_HEIGHT }
-    ensures read { Gives (λ x. (each stm_of x.0.items, x.1.now)) result (body_at (stm_at text.now inner) tokens.now) }
+    ensures read { Gives (λ x. (each stm_of x.0.items, x.1.now)) result (body_at (stm_at (utf8_in text.now) inner) tokens.now) }
 {
     let (statements, rest) = statements(alloc, text, inner, tokens)?;
     let rest = expect(Sign::CloseBrace, rest)?;
@@ -189,7 +189,7 @@ fn statements<'t>(
     tokens: &'t [Token],
 ) -> Result<(Vec<Stmt>, &'t [Token]), Failed>
     requires depth { inner < MAX_HEIGHT }
-    ensures read { Gives (λ x. (each stm_of x.0.items, x.1.now)) result (all_at (stm_step (stm_at text.now inner)) tokens.now) }
+    ensures read { Gives (λ x. (each stm_of x.0.items, x.1.now)) result (all_at (stm_step (stm_at (utf8_in text.now) inner)) tokens.now) }
 {
     let mut items = Vec::new(alloc);
     let mut rest = tokens;
@@ -212,7 +212,7 @@ fn worded<'t>(
     tokens: &'t [Token],
 ) -> Result<(Stmt, &'t [Token]), Failed>
     requires depth { inner < MAX_HEIGHT }
-    ensures read { Gives (λ x. (stm_of x.0, x.1.now)) result (stm_worded text.now (readers_at text.now inner) place word tokens.now) }
+    ensures read { Gives (λ x. (stm_of x.0, x.1.now)) result (stm_worded (utf8_in text.now) (readers_at (utf8_in text.now) inner) place word tokens.now) }
 {
     match word {
         Word::Static => static_statement(alloc, text, inner, place, tokens),
@@ -240,7 +240,7 @@ fn choice<'t>(
     tokens: &'t [Token],
 ) -> Result<(Stmt, &'t [Token]), Failed>
     requires depth { inner < MAX_HEIGHT }
-    ensures read { Gives (λ x. (stm_of x.0, x.1.now)) result (if_at (readers_at text.now inner) place tokens.now) }
+    ensures read { Gives (λ x. (stm_of x.0, x.1.now)) result (if_at (readers_at (utf8_in text.now) inner) place tokens.now) }
 {
     let (test, _, rest) = condition(alloc, text, inner, tokens)?;
     let (part, rest) = statement(alloc, text, inner, rest)?;
@@ -268,7 +268,7 @@ fn repeat<'t>(
     tokens: &'t [Token],
 ) -> Result<(Stmt, &'t [Token]), Failed>
     requires depth { inner < MAX_HEIGHT }
-    ensures read { Gives (λ x. (stm_of x.0, x.1.now)) result (while_at (readers_at text.now inner) place tokens.now) }
+    ensures read { Gives (λ x. (stm_of x.0, x.1.now)) result (while_at (readers_at (utf8_in text.now) inner) place tokens.now) }
 {
     let (test, _, rest) = condition(alloc, text, inner, tokens)?;
     let (part, rest) = statement(alloc, text, inner, rest)?;
@@ -285,7 +285,7 @@ fn repeat_until<'t>(
     tokens: &'t [Token],
 ) -> Result<(Stmt, &'t [Token]), Failed>
     requires depth { inner < MAX_HEIGHT }
-    ensures read { Gives (λ x. (stm_of x.0, x.1.now)) result (do_at (readers_at text.now inner) place tokens.now) }
+    ensures read { Gives (λ x. (stm_of x.0, x.1.now)) result (do_at (readers_at (utf8_in text.now) inner) place tokens.now) }
 {
     let (part, rest) = statement(alloc, text, inner, tokens)?;
     let rest = expect_word(Word::While, rest)?;
@@ -304,7 +304,7 @@ fn for_loop<'t>(
     tokens: &'t [Token],
 ) -> Result<(Stmt, &'t [Token]), Failed>
     requires depth { inner < MAX_HEIGHT }
-    ensures read { Gives (λ x. (stm_of x.0, x.1.now)) result (for_at (readers_at text.now inner) place tokens.now) }
+    ensures read { Gives (λ x. (stm_of x.0, x.1.now)) result (for_at (readers_at (utf8_in text.now) inner) place tokens.now) }
 {
     let rest = expect(Sign::OpenParen, tokens)?;
     let (first, rest) = maybe_first(alloc, text, inner, rest)?;
@@ -328,7 +328,7 @@ fn when<'t>(
     tokens: &'t [Token],
 ) -> Result<(Stmt, &'t [Token]), Failed>
     requires depth { inner < MAX_HEIGHT }
-    ensures read { Gives (λ x. (stm_of x.0, x.1.now)) result (when_at text.now (readers_at text.now inner) place tokens.now) }
+    ensures read { Gives (λ x. (stm_of x.0, x.1.now)) result (when_at (utf8_in text.now) (readers_at (utf8_in text.now) inner) place tokens.now) }
 {
     let rest = expect(Sign::OpenParen, tokens)?;
     let (quantifiers, rest) = quantifiers(alloc, text, inner, rest)?;

@@ -2,7 +2,7 @@
 ghost use Rattle.std.specs.Prelude.{◌≡◌, ◌<◌, map as each};
 ghost use Rattle.sz_tree.specs.View.{elem_of, table_of, quantifier_of};
 ghost use Rattle.std.specs.Option.{option_map};
-ghost use Rattle.sz_parse.specs.Reading.{all_at};
+ghost use Rattle.sz_parse.specs.Reading.{utf8_in, all_at};
 ghost use Rattle.sz_parse.specs.ReadingTypes.{type_at};
 ghost use Rattle.sz_parse.specs.ReadingStatements.{argument_at, table_index_at, table_index_step, table_weight_at, table_at, name_step, names_behind, names_at, quantity_of, quantity_at, quantifier_at, begins_quantifier, quantifier_step, quantifiers_behind, quantifiers_at};
 ghost use Rattle.sz_parse.specs.Outcome.{Gives, Sees};
@@ -39,7 +39,7 @@ fn table_index<'t>(
     tokens: &'t [Token],
 ) -> Result<(Elem, &'t [Token]), Failed>
     requires depth { inner < MAX_HEIGHT }
-    ensures read { Gives (λ x. (elem_of x.0, x.1.now)) result (table_index_at text.now (type_at text.now inner) tokens.now) }
+    ensures read { Gives (λ x. (elem_of x.0, x.1.now)) result (table_index_at (utf8_in text.now) (type_at (utf8_in text.now) inner) tokens.now) }
 {
     let (item, rest) = elem(alloc, text, inner, tokens)?;
     let rest = expect(Sign::CloseBracket, rest)?;
@@ -54,7 +54,7 @@ fn table_indexes<'t>(
     tokens: &'t [Token],
 ) -> Result<(Vec<Elem>, &'t [Token]), Failed>
     requires depth { inner < MAX_HEIGHT }
-    ensures read { Gives (λ x. (each elem_of x.0.items, x.1.now)) result (all_at (table_index_step text.now (type_at text.now inner)) tokens.now) }
+    ensures read { Gives (λ x. (each elem_of x.0.items, x.1.now)) result (all_at (table_index_step (utf8_in text.now) (type_at (utf8_in text.now) inner)) tokens.now) }
 {
     let mut items = Vec::new(alloc);
     let mut rest = tokens;
@@ -75,7 +75,7 @@ fn table_weight<'t>(
     tokens: &'t [Token],
 ) -> Result<(Option<Elem>, &'t [Token]), Failed>
     requires depth { inner < MAX_HEIGHT }
-    ensures read { Gives (λ x. (option_map elem_of x.0, x.1.now)) result (table_weight_at text.now (type_at text.now inner) tokens.now) }
+    ensures read { Gives (λ x. (option_map elem_of x.0, x.1.now)) result (table_weight_at (utf8_in text.now) (type_at (utf8_in text.now) inner) tokens.now) }
 {
     match skip_word(Word::Weight, tokens) {
         None => Ok((None, tokens)),
@@ -95,7 +95,7 @@ pub fn table<'t>(
     tokens: &'t [Token],
 ) -> Result<(Table, &'t [Token]), Failed>
     requires depth { inner < MAX_HEIGHT }
-    ensures read { Gives (λ x. (table_of x.0, x.1.now)) result (table_at text.now (type_at text.now inner) tokens.now) }
+    ensures read { Gives (λ x. (table_of x.0, x.1.now)) result (table_at (utf8_in text.now) (type_at (utf8_in text.now) inner) tokens.now) }
 {
     let (kind, rest) = name(alloc, text, tokens)?;
     let (argument, rest) = argument(rest)?;
@@ -121,7 +121,7 @@ fn names<'t>(
     text: &[u8],
     tokens: &'t [Token],
 ) -> Result<(Vec<Name>, &'t [Token]), Failed>
-    ensures read { Gives (λ x. (x.0.items, x.1.now)) result (names_at text.now tokens.now) }
+    ensures read { Gives (λ x. (x.0.items, x.1.now)) result (names_at (utf8_in text.now) tokens.now) }
 {
     let (first, rest) = name(alloc, text, tokens)?;
     names_behind(alloc, text, first, rest)
@@ -133,7 +133,7 @@ fn names_behind<'t>(
     first: Name,
     tokens: &'t [Token],
 ) -> Result<(Vec<Name>, &'t [Token]), Failed>
-    ensures read { Gives (λ x. (x.0.items, x.1.now)) result (names_behind text.now first tokens.now) }
+    ensures read { Gives (λ x. (x.0.items, x.1.now)) result (names_behind (utf8_in text.now) first tokens.now) }
 {
     let mut items = Vec::new(alloc);
     items.push(first)?;
@@ -182,7 +182,7 @@ fn quantity(tokens: &[Token]) -> Result<(Quantity, &[Token]), Failed>
 // What follows a name and a comma or a colon.
 #[tactic(auto, unfolding(crate::specs::ReadingStatements::begins_quantifier, crate::specs::Reading::name_at, crate::specs::Reading::bind, crate::specs::Reading::choose))]
 fn begins_quantifier<'t>(text: &[u8], tokens: &'t [Token]) -> Option<&'t [Token]>
-    ensures value { Sees (λ r. r.now) result (begins_quantifier text.now tokens.now) }
+    ensures value { Sees (λ r. r.now) result (begins_quantifier (utf8_in text.now) tokens.now) }
 {
     let _text = text;
     let [
@@ -210,7 +210,7 @@ fn quantifier<'t>(
     tokens: &'t [Token],
 ) -> Result<(Quantifier, &'t [Token]), Failed>
     requires depth { inner < MAX_HEIGHT }
-    ensures read { Gives (λ x. (quantifier_of x.0, x.1.now)) result (quantifier_at text.now (type_at text.now inner) tokens.now) }
+    ensures read { Gives (λ x. (quantifier_of x.0, x.1.now)) result (quantifier_at (utf8_in text.now) (type_at (utf8_in text.now) inner) tokens.now) }
 {
     let (names, rest) = names(alloc, text, tokens)?;
     let rest = expect(Sign::Colon, rest)?;
@@ -234,7 +234,7 @@ pub fn quantifiers<'t>(
     tokens: &'t [Token],
 ) -> Result<(Vec<Quantifier>, &'t [Token]), Failed>
     requires depth { inner < MAX_HEIGHT }
-    ensures read { Gives (λ x. (each quantifier_of x.0.items, x.1.now)) result (quantifiers_at text.now (type_at text.now inner) tokens.now) }
+    ensures read { Gives (λ x. (each quantifier_of x.0.items, x.1.now)) result (quantifiers_at (utf8_in text.now) (type_at (utf8_in text.now) inner) tokens.now) }
 {
     let (first, rest) = quantifier(alloc, text, inner, tokens)?;
     quantifiers_behind(alloc, text, inner, first, rest)
@@ -248,7 +248,7 @@ fn quantifiers_behind<'t>(
     tokens: &'t [Token],
 ) -> Result<(Vec<Quantifier>, &'t [Token]), Failed>
     requires depth { inner < MAX_HEIGHT }
-    ensures read { Gives (λ x. (each quantifier_of x.0.items, x.1.now)) result (quantifiers_behind text.now (type_at text.now inner) (quantifier_of first) tokens.now) }
+    ensures read { Gives (λ x. (each quantifier_of x.0.items, x.1.now)) result (quantifiers_behind (utf8_in text.now) (type_at (utf8_in text.now) inner) (quantifier_of first) tokens.now) }
 {
     let mut items = Vec::new(alloc);
     items.push(first)?;

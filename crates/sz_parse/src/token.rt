@@ -1,13 +1,14 @@
 //! Single tokens.
 ghost use Rattle.std.specs.Prelude.{◌≡◌, Some as Just};
 ghost use Rattle.sz_lex.specs.Lexed.{lexeme_of};
-ghost use Rattle.sz_parse.specs.Reading.{after_sign, after_word, ident_of, name_at};
+ghost use Rattle.sz_parse.specs.Reading.{after_sign, after_word, utf8_in, ident_of, name_at};
 ghost use Rattle.sz_parse.specs.Outcome.{Gives, Sees};
 
 use crate::failed::Failed;
 use std::alloc::Global;
 use sz_lex::{Kind, Sign, Token, Word};
 use sz_tree::Name;
+use sz_types::Text;
 
 // What follows the sign, if it is there.
 #[tactic(auto, unfolding(crate::specs::Reading::after_sign))]
@@ -58,7 +59,7 @@ pub fn expect_word(word: Word, tokens: &[Token]) -> Result<&[Token], Failed>
 }
 
 // The bytes of the text in a token's span, as far as the text reaches.
-pub fn lexeme<'t>(text: &'t [u8], token: &Token) -> &'t [u8]
+fn lexeme<'t>(text: &'t [u8], token: &Token) -> &'t [u8]
     ensures value { result.now ≡ lexeme_of text.now token.now }
 {
     let start = token.start.min(text.len());
@@ -66,11 +67,22 @@ pub fn lexeme<'t>(text: &'t [u8], token: &Token) -> &'t [u8]
     &rest[..token.len.min(rest.len())]
 }
 
+// The text of a token. The text's own tokens are UTF-8, so that none of them is taken for empty.
+#[tactic(auto, using(crate::proofs::TokenLemmas::utf8_in_is, crate::proofs::TokenLemmas::utf8_in_none))]
+pub fn spelled<'t>(text: &'t [u8], token: &Token) -> &'t str
+    ensures value { result.now ≡ utf8_in text.now token.now }
+{
+    match std::str::from_utf8(lexeme(text, token)) {
+        Ok(lexeme) => lexeme,
+        Err(_) => "",
+    }
+}
+
 // The name that a token spells.
 pub fn ident(alloc: Global, text: &[u8], token: &Token) -> Result<Name, Failed>
-    ensures value { Gives (λ n. n) result (Just (ident_of text.now token.now)) }
+    ensures value { Gives (λ n. n) result (Just (ident_of (utf8_in text.now) token.now)) }
 {
-    Ok(Name::new(token.place, Vec::from_slice(alloc, lexeme(text, token))?))
+    Ok(Name::new(token.place, Text::from_str(alloc, spelled(text, token))?))
 }
 
 // A name, and what follows it.
@@ -80,7 +92,7 @@ pub fn name<'t>(
     text: &[u8],
     tokens: &'t [Token],
 ) -> Result<(Name, &'t [Token]), Failed>
-    ensures value { Gives (λ x. (x.0, x.1.now)) result (name_at text.now tokens.now) }
+    ensures value { Gives (λ x. (x.0, x.1.now)) result (name_at (utf8_in text.now) tokens.now) }
 {
     let [token, rest @ ..] = tokens else {
         return Err(Failed::Syntax);

@@ -2,6 +2,7 @@
 ghost use Rattle.std.specs.Prelude.{◌≡◌, ◌≤◌, ◌<◌, map as each};
 ghost use Rattle.sz_tree.specs.Types.{params_of, fields_of};
 ghost use Rattle.sz_tree.specs.View.{type_of, param_of, field_of, elem_of};
+ghost use Rattle.sz_parse.specs.Reading.{utf8_in};
 ghost use Rattle.sz_parse.specs.ReadingTypes.{number_at, label_at, maybe_name_at, elem_at, param_at, params_behind, params_at, proto_field_at, proto_fields_behind, proto_fields_at, array_at, map_type_at, tuple_at, proto_at, basic_of, type_worded, type_step, type_at};
 ghost use Rattle.sz_parse.specs.Outcome.{Gives};
 
@@ -34,7 +35,7 @@ pub fn label<'t>(
     text: &[u8],
     tokens: &'t [Token],
 ) -> Result<(Name, &'t [Token]), Failed>
-    ensures value { Gives (λ x. (x.0, x.1.now)) result (label_at text.now tokens.now) }
+    ensures value { Gives (λ x. (x.0, x.1.now)) result (label_at (utf8_in text.now) tokens.now) }
 {
     let (name, rest) = name(alloc, text, tokens)?;
     let rest = expect(Sign::Colon, rest)?;
@@ -48,7 +49,7 @@ fn maybe_name<'t>(
     text: &[u8],
     tokens: &'t [Token],
 ) -> Result<(Option<Name>, &'t [Token]), Failed>
-    ensures value { Gives (λ x. (x.0, x.1.now)) result (maybe_name_at text.now tokens.now) }
+    ensures value { Gives (λ x. (x.0, x.1.now)) result (maybe_name_at (utf8_in text.now) tokens.now) }
 {
     match name(alloc, text, tokens) {
         Ok((name, rest)) => Ok((Some(name), rest)),
@@ -81,7 +82,7 @@ pub fn type_tree<'t>(
     tokens: &'t [Token],
 ) -> Result<(TypeTree, &'t [Token]), Failed>
     requires depth { depth ≤ MAX_HEIGHT }
-    ensures read { Gives (λ x. (type_of x.0, x.1.now)) result (type_at text.now depth tokens.now) }
+    ensures read { Gives (λ x. (type_of x.0, x.1.now)) result (type_at (utf8_in text.now) depth tokens.now) }
 {
     if depth == 0 {
         return Err(Failed::Syntax);
@@ -99,7 +100,7 @@ fn step<'t>(
     tokens: &'t [Token],
 ) -> Result<(TypeTree, &'t [Token]), Failed>
     requires depth { inner < MAX_HEIGHT }
-    ensures read { Gives (λ x. (type_of x.0, x.1.now)) result (type_step text.now (type_at text.now inner) tokens.now) }
+    ensures read { Gives (λ x. (type_of x.0, x.1.now)) result (type_step (utf8_in text.now) (type_at (utf8_in text.now) inner) tokens.now) }
 {
     let [token, rest @ ..] = tokens else {
         return Err(Failed::Syntax);
@@ -123,7 +124,7 @@ fn worded<'t>(
     tokens: &'t [Token],
 ) -> Result<(TypeTree, &'t [Token]), Failed>
     requires depth { inner < MAX_HEIGHT }
-    ensures read { Gives (λ x. (type_of x.0, x.1.now)) result (type_worded text.now (type_at text.now inner) place word tokens.now) }
+    ensures read { Gives (λ x. (type_of x.0, x.1.now)) result (type_worded (utf8_in text.now) (type_at (utf8_in text.now) inner) place word tokens.now) }
 {
     match word {
         Word::Array => array(alloc, text, inner, place, tokens),
@@ -146,7 +147,7 @@ fn array<'t>(
     tokens: &'t [Token],
 ) -> Result<(TypeTree, &'t [Token]), Failed>
     requires depth { inner < MAX_HEIGHT }
-    ensures read { Gives (λ x. (type_of x.0, x.1.now)) result (array_at (type_at text.now inner) place tokens.now) }
+    ensures read { Gives (λ x. (type_of x.0, x.1.now)) result (array_at (type_at (utf8_in text.now) inner) place tokens.now) }
 {
     let rest = expect_word(Word::Of, tokens)?;
     let (of, rest) = type_tree(alloc, text, inner, rest)?;
@@ -163,7 +164,7 @@ fn map<'t>(
     tokens: &'t [Token],
 ) -> Result<(TypeTree, &'t [Token]), Failed>
     requires depth { inner < MAX_HEIGHT }
-    ensures read { Gives (λ x. (type_of x.0, x.1.now)) result (map_type_at text.now (type_at text.now inner) place tokens.now) }
+    ensures read { Gives (λ x. (type_of x.0, x.1.now)) result (map_type_at (utf8_in text.now) (type_at (utf8_in text.now) inner) place tokens.now) }
 {
     let rest = expect(Sign::OpenBracket, tokens)?;
     let (Elem { name, of: key }, rest) = elem(alloc, text, inner, rest)?;
@@ -184,7 +185,7 @@ pub fn elem<'t>(
     tokens: &'t [Token],
 ) -> Result<(Elem, &'t [Token]), Failed>
     requires depth { inner < MAX_HEIGHT }
-    ensures read { Gives (λ x. (elem_of x.0, x.1.now)) result (elem_at text.now (type_at text.now inner) tokens.now) }
+    ensures read { Gives (λ x. (elem_of x.0, x.1.now)) result (elem_at (utf8_in text.now) (type_at (utf8_in text.now) inner) tokens.now) }
 {
     match label(alloc, text, tokens) {
         Ok((name, rest)) => {
@@ -210,7 +211,7 @@ fn tuple<'t>(
     tokens: &'t [Token],
 ) -> Result<(TypeTree, &'t [Token]), Failed>
     requires depth { inner < MAX_HEIGHT }
-    ensures read { Gives (λ x. (type_of x.0, x.1.now)) result (tuple_at text.now (type_at text.now inner) place tokens.now) }
+    ensures read { Gives (λ x. (type_of x.0, x.1.now)) result (tuple_at (utf8_in text.now) (type_at (utf8_in text.now) inner) place tokens.now) }
 {
     let (parts, rest) = params(alloc, text, inner, tokens)?;
     let rest = expect(Sign::CloseBrace, rest)?;
@@ -227,7 +228,7 @@ fn proto<'t>(
     tokens: &'t [Token],
 ) -> Result<(TypeTree, &'t [Token]), Failed>
     requires depth { inner < MAX_HEIGHT }
-    ensures read { Gives (λ x. (type_of x.0, x.1.now)) result (proto_at text.now (type_at text.now inner) place tokens.now) }
+    ensures read { Gives (λ x. (type_of x.0, x.1.now)) result (proto_at (utf8_in text.now) (type_at (utf8_in text.now) inner) place tokens.now) }
 {
     let rest = expect(Sign::OpenBrace, tokens)?;
     let (fields, rest) = fields(alloc, text, inner, rest)?;
@@ -245,7 +246,7 @@ fn param<'t>(
     tokens: &'t [Token],
 ) -> Result<(Param, &'t [Token]), Failed>
     requires depth { inner < MAX_HEIGHT }
-    ensures read { Gives (λ x. (param_of x.0, x.1.now)) result (param_at text.now (type_at text.now inner) tokens.now) }
+    ensures read { Gives (λ x. (param_of x.0, x.1.now)) result (param_at (utf8_in text.now) (type_at (utf8_in text.now) inner) tokens.now) }
 {
     let (name, rest) = label(alloc, text, tokens)?;
     let (of, rest) = type_tree(alloc, text, inner, rest)?;
@@ -262,7 +263,7 @@ pub fn params<'t>(
     tokens: &'t [Token],
 ) -> Result<(Vec<Param>, &'t [Token]), Failed>
     requires depth { inner < MAX_HEIGHT }
-    ensures read { Gives (λ x. (each param_of x.0.items, x.1.now)) result (params_at text.now (type_at text.now inner) tokens.now) }
+    ensures read { Gives (λ x. (each param_of x.0.items, x.1.now)) result (params_at (utf8_in text.now) (type_at (utf8_in text.now) inner) tokens.now) }
 {
     let (first, rest) = param(alloc, text, inner, tokens)?;
     params_behind(alloc, text, inner, first, rest)
@@ -277,7 +278,7 @@ fn params_behind<'t>(
     tokens: &'t [Token],
 ) -> Result<(Vec<Param>, &'t [Token]), Failed>
     requires depth { inner < MAX_HEIGHT }
-    ensures read { Gives (λ x. (each param_of x.0.items, x.1.now)) result (params_behind text.now (type_at text.now inner) (param_of first) tokens.now) }
+    ensures read { Gives (λ x. (each param_of x.0.items, x.1.now)) result (params_behind (utf8_in text.now) (type_at (utf8_in text.now) inner) (param_of first) tokens.now) }
 {
     let mut params = Vec::new(alloc);
     params.push(first)?;
@@ -300,7 +301,7 @@ fn field<'t>(
     tokens: &'t [Token],
 ) -> Result<(ProtoField, &'t [Token]), Failed>
     requires depth { inner < MAX_HEIGHT }
-    ensures read { Gives (λ x. (field_of x.0, x.1.now)) result (proto_field_at text.now (type_at text.now inner) tokens.now) }
+    ensures read { Gives (λ x. (field_of x.0, x.1.now)) result (proto_field_at (utf8_in text.now) (type_at (utf8_in text.now) inner) tokens.now) }
 {
     let (Param { name, of }, rest) = param(alloc, text, inner, tokens)?;
     let rest = expect(Sign::At, rest)?;
@@ -325,7 +326,7 @@ fn fields<'t>(
     tokens: &'t [Token],
 ) -> Result<(Vec<ProtoField>, &'t [Token]), Failed>
     requires depth { inner < MAX_HEIGHT }
-    ensures read { Gives (λ x. (each field_of x.0.items, x.1.now)) result (proto_fields_at text.now (type_at text.now inner) tokens.now) }
+    ensures read { Gives (λ x. (each field_of x.0.items, x.1.now)) result (proto_fields_at (utf8_in text.now) (type_at (utf8_in text.now) inner) tokens.now) }
 {
     let (first, rest) = field(alloc, text, inner, tokens)?;
     fields_behind(alloc, text, inner, first, rest)
@@ -340,7 +341,7 @@ fn fields_behind<'t>(
     tokens: &'t [Token],
 ) -> Result<(Vec<ProtoField>, &'t [Token]), Failed>
     requires depth { inner < MAX_HEIGHT }
-    ensures read { Gives (λ x. (each field_of x.0.items, x.1.now)) result (proto_fields_behind text.now (type_at text.now inner) (field_of first) tokens.now) }
+    ensures read { Gives (λ x. (each field_of x.0.items, x.1.now)) result (proto_fields_behind (utf8_in text.now) (type_at (utf8_in text.now) inner) (field_of first) tokens.now) }
 {
     let mut fields = Vec::new(alloc);
     fields.push(first)?;

@@ -1,37 +1,36 @@
-use Rattle.std.proofs.Common.{rules, ◌≡◌, ◌+◌, ◌<◌, [], ◌∷◌, ◌++◌, length, refl, sym, ap, ◌∙◌, arith}
+use Rattle.std.proofs.Common.{◌≡◌, [], ◌∷◌, ◌++◌, refl, ap, ◌∙◌}
 use Rattle.std.specs.Prelude.{map}
 use Rattle.std.proofs.lemmas.Result.{err_from_is_err_and}
 use Rattle.sz_tree.specs.View.{step_of}
 use Rattle.sz_parse.specs.ReadingExpressions.{expr_at}
 use Rattle.sz_parse.specs.ReadingStatements.{path_step}
-use Rattle.sz_parse.specs.Reading.{all_at}
+use Rattle.sz_parse.specs.Reading.{utf8_in}
 use Rattle.sz_parse.proofs.ExpressionSound.{expr_sound}
-use Rattle.sz_parse.proofs.TypeSound.{type_sound}
-use Rattle.sz_parse.proofs.StatementSound.{index_item, path_item, table_index_item, name_item, quantifier_item}
+use Rattle.sz_parse.proofs.StatementSound.{path_item}
 use Rattle.sz_parse.proofs.Loops.{all_goes_on, all_fails, all_ends, item_shorter}
 use Rattle.sz_parse.proofs.ExpressionRows.{just, map_push}
-use Rattle.sz_parse.proofs.StatementTurns.{all_start, index_here, index_gone, no_index_at_end, step_here, step_gone, no_step_at_end, table_index_here, table_index_gone, no_table_index_at_end, name_here, name_gone, no_name_at_end, names_start, quantifier_here, quantifier_gone, no_quantifier_at_end, quantifiers_start}
+use Rattle.sz_parse.proofs.StatementTurns.{all_start, step_here, step_gone, no_step_at_end}
 use Rattle.sz_parse.proofs.simple.steps.Goals as goal
 
 pub loop-items-init : goal.loop-items-init
 loop-items-init c =
     let made : (map step_of c.new-items.result.items) ≡ [] = rw c.new-items.ensures.items refl in
-    rw made (all_start (path_step c.args.text.now (expr_at c.args.text.now c.args.inner)) c.args.tokens.now)
+    rw made (all_start (path_step (utf8_in c.args.text.now) (expr_at (utf8_in c.args.text.now) c.args.inner)) c.args.tokens.now)
 
 pub loop-items-smaller : goal.loop-items-smaller
 loop-items-smaller c =
-    item_shorter (path_item c.args.text.now (expr_at c.args.text.now c.args.inner) c.args.inner (expr_sound c.args.text.now c.args.inner)) (step_of c.in_ok-item.item) c.loop-items.rest.now c.in_ok-item.after.now ((step_here c.args.text.now (expr_at c.args.text.now c.args.inner) c.loop-items.rest.now c.in-Some.field-0.now c.in-Some.ensures.value ∙ ap just c.in_ok-item.ensures.read))
+    item_shorter (path_item (utf8_in c.args.text.now) (expr_at (utf8_in c.args.text.now) c.args.inner) c.args.inner (expr_sound (utf8_in c.args.text.now) c.args.inner)) (step_of c.in_ok-item.item) c.loop-items.rest.now c.in_ok-item.after.now ((step_here (utf8_in c.args.text.now) (expr_at (utf8_in c.args.text.now) c.args.inner) c.loop-items.rest.now c.in-Some.field-0.now c.in-Some.ensures.value ∙ ap just c.in_ok-item.ensures.read))
 
 pub returns-in_err-item : goal.returns-in_err-item
 returns-in_err-item c =
     let p = err_from_is_err_and c.from_residual.result c.from_residual.ensures.1 in
-    record { read = rw (p.1, p.2) (all_fails c.in_err-item.field-0.0 (path_step c.args.text.now (expr_at c.args.text.now c.args.inner)) (no_step_at_end c.args.text.now (expr_at c.args.text.now c.args.inner)) (map step_of c.loop-items.items.items) c.loop-items.rest.now _ _ (step_here c.args.text.now (expr_at c.args.text.now c.args.inner) c.loop-items.rest.now c.in-Some.field-0.now c.in-Some.ensures.value) c.in_err-item.ensures.read c.loop-items.invariant) }
+    record { read = rw (p.1, p.2) (all_fails c.in_err-item.field-0.0 (path_step (utf8_in c.args.text.now) (expr_at (utf8_in c.args.text.now) c.args.inner)) (no_step_at_end (utf8_in c.args.text.now) (expr_at (utf8_in c.args.text.now) c.args.inner)) (map step_of c.loop-items.items.items) c.loop-items.rest.now _ _ (step_here (utf8_in c.args.text.now) (expr_at (utf8_in c.args.text.now) c.args.inner) c.loop-items.rest.now c.in-Some.field-0.now c.in-Some.ensures.value) c.in_err-item.ensures.read c.loop-items.invariant) }
 
 pub loop-items-preserved : goal.loop-items-preserved
 loop-items-preserved c =
     let made : (map step_of c.push.new.self.items) ≡ (map step_of c.loop-items.items.items) ++ (step_of c.in_ok-item.item) ∷ [] = rw c.in_ok-push.ensures.items (map_push step_of c.loop-items.items.items c.in_ok-item.item) in
-    rw made (all_goes_on (path_item c.args.text.now (expr_at c.args.text.now c.args.inner) c.args.inner (expr_sound c.args.text.now c.args.inner)) (no_step_at_end c.args.text.now (expr_at c.args.text.now c.args.inner)) (map step_of c.loop-items.items.items) (step_of c.in_ok-item.item) c.loop-items.rest.now c.in_ok-item.after.now _ ((step_here c.args.text.now (expr_at c.args.text.now c.args.inner) c.loop-items.rest.now c.in-Some.field-0.now c.in-Some.ensures.value ∙ ap just c.in_ok-item.ensures.read)) c.loop-items.invariant)
+    rw made (all_goes_on (path_item (utf8_in c.args.text.now) (expr_at (utf8_in c.args.text.now) c.args.inner) c.args.inner (expr_sound (utf8_in c.args.text.now) c.args.inner)) (no_step_at_end (utf8_in c.args.text.now) (expr_at (utf8_in c.args.text.now) c.args.inner)) (map step_of c.loop-items.items.items) (step_of c.in_ok-item.item) c.loop-items.rest.now c.in_ok-item.after.now _ ((step_here (utf8_in c.args.text.now) (expr_at (utf8_in c.args.text.now) c.args.inner) c.loop-items.rest.now c.in-Some.field-0.now c.in-Some.ensures.value ∙ ap just c.in_ok-item.ensures.read)) c.loop-items.invariant)
 
 pub returns : goal.returns
 returns c =
-    record { read = all_ends (path_step c.args.text.now (expr_at c.args.text.now c.args.inner)) (map step_of c.loop-items.items.items) c.loop-items.rest.now _ (step_gone c.args.text.now (expr_at c.args.text.now c.args.inner) c.loop-items.rest.now c.in_default.ensures.value) c.loop-items.invariant }
+    record { read = all_ends (path_step (utf8_in c.args.text.now) (expr_at (utf8_in c.args.text.now) c.args.inner)) (map step_of c.loop-items.items.items) c.loop-items.rest.now _ (step_gone (utf8_in c.args.text.now) (expr_at (utf8_in c.args.text.now) c.args.inner) c.loop-items.rest.now c.in_default.ensures.value) c.loop-items.invariant }

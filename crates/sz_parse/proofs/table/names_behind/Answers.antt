@@ -1,36 +1,34 @@
-use Rattle.std.proofs.Common.{rules, ◌≡◌, ◌+◌, ◌<◌, [], ◌∷◌, ◌++◌, length, refl, sym, ap, ◌∙◌, arith}
-use Rattle.std.specs.Prelude.{map}
+use Rattle.std.proofs.Common.{◌≡◌, [], ◌∷◌, ◌++◌, refl, ap, ◌∙◌}
 use Rattle.std.proofs.lemmas.Result.{err_from_is_err_and}
-use Rattle.sz_parse.specs.ReadingStatements.{name_step, names_behind}
-use Rattle.sz_parse.specs.Reading.{all_at}
+use Rattle.sz_parse.specs.ReadingStatements.{name_step}
+use Rattle.sz_parse.specs.Reading.{utf8_in}
 use Rattle.sz_parse.specs.ReadingTypes.{type_at}
-use Rattle.sz_parse.proofs.ExpressionSound.{expr_sound}
 use Rattle.sz_parse.proofs.TypeSound.{type_sound}
-use Rattle.sz_parse.proofs.StatementSound.{index_item, path_item, table_index_item, name_item, quantifier_item}
+use Rattle.sz_parse.proofs.StatementSound.{name_item}
 use Rattle.sz_parse.proofs.Loops.{all_goes_on, all_fails, all_ends, item_shorter}
-use Rattle.sz_parse.proofs.ExpressionRows.{just, map_push}
-use Rattle.sz_parse.proofs.StatementTurns.{all_start, index_here, index_gone, no_index_at_end, step_here, step_gone, no_step_at_end, table_index_here, table_index_gone, no_table_index_at_end, name_here, name_gone, no_name_at_end, names_start, quantifier_here, quantifier_gone, no_quantifier_at_end, quantifiers_start}
+use Rattle.sz_parse.proofs.ExpressionRows.{just}
+use Rattle.sz_parse.proofs.StatementTurns.{name_here, name_gone, no_name_at_end, names_start}
 use Rattle.sz_parse.proofs.table.names_behind.Goals as goal
 
 pub loop-after-init : goal.loop-after-init
 loop-after-init c =
     let made : c.push.new.self.items ≡ c.args.first ∷ [] = rw (c.in_ok-push.ensures.items, c.new-items.ensures.items) refl in
-    rw made (names_start c.args.text.now c.args.first c.args.tokens.now)
+    rw made (names_start (utf8_in c.args.text.now) c.args.first c.args.tokens.now)
 
 pub loop-after-smaller : goal.loop-after-smaller
 loop-after-smaller c =
-    item_shorter (name_item c.args.text.now (type_at c.args.text.now 0) 0 (type_sound c.args.text.now 0)) c.in_ok-item.item c.loop-after.rest.now c.in_ok-item.after.now ((name_here c.args.text.now c.loop-after.rest.now c.in-Some.after.now c.in-Some.ensures.value ∙ ap just c.in_ok-item.ensures.value))
+    item_shorter (name_item (utf8_in c.args.text.now) (type_at (utf8_in c.args.text.now) 0) 0 (type_sound (utf8_in c.args.text.now) 0)) c.in_ok-item.item c.loop-after.rest.now c.in_ok-item.after.now ((name_here (utf8_in c.args.text.now) c.loop-after.rest.now c.in-Some.after.now c.in-Some.ensures.value ∙ ap just c.in_ok-item.ensures.value))
 
 pub returns-in_err-item : goal.returns-in_err-item
 returns-in_err-item c =
     let p = err_from_is_err_and c.from_residual-in_err-item.result c.from_residual-in_err-item.ensures.1 in
-    record { read = rw (p.1, p.2) (all_fails c.in_err-item.field-0.0 (name_step c.args.text.now) (no_name_at_end c.args.text.now) c.loop-after.items.items c.loop-after.rest.now _ _ (name_here c.args.text.now c.loop-after.rest.now c.in-Some.after.now c.in-Some.ensures.value) c.in_err-item.ensures.value c.loop-after.invariant) }
+    record { read = rw (p.1, p.2) (all_fails c.in_err-item.field-0.0 (name_step (utf8_in c.args.text.now)) (no_name_at_end (utf8_in c.args.text.now)) c.loop-after.items.items c.loop-after.rest.now _ _ (name_here (utf8_in c.args.text.now) c.loop-after.rest.now c.in-Some.after.now c.in-Some.ensures.value) c.in_err-item.ensures.value c.loop-after.invariant) }
 
 pub loop-after-preserved : goal.loop-after-preserved
 loop-after-preserved c =
     let made : c.push-in-Some.new.self.items ≡ c.loop-after.items.items ++ c.in_ok-item.item ∷ [] = rw c.in_ok-push-2.ensures.items refl in
-    rw made (all_goes_on (name_item c.args.text.now (type_at c.args.text.now 0) 0 (type_sound c.args.text.now 0)) (no_name_at_end c.args.text.now) c.loop-after.items.items c.in_ok-item.item c.loop-after.rest.now c.in_ok-item.after.now _ ((name_here c.args.text.now c.loop-after.rest.now c.in-Some.after.now c.in-Some.ensures.value ∙ ap just c.in_ok-item.ensures.value)) c.loop-after.invariant)
+    rw made (all_goes_on (name_item (utf8_in c.args.text.now) (type_at (utf8_in c.args.text.now) 0) 0 (type_sound (utf8_in c.args.text.now) 0)) (no_name_at_end (utf8_in c.args.text.now)) c.loop-after.items.items c.in_ok-item.item c.loop-after.rest.now c.in_ok-item.after.now _ ((name_here (utf8_in c.args.text.now) c.loop-after.rest.now c.in-Some.after.now c.in-Some.ensures.value ∙ ap just c.in_ok-item.ensures.value)) c.loop-after.invariant)
 
 pub returns : goal.returns
 returns c =
-    record { read = all_ends (name_step c.args.text.now) c.loop-after.items.items c.loop-after.rest.now _ (name_gone c.args.text.now c.loop-after.rest.now c.in_default.ensures.value) c.loop-after.invariant }
+    record { read = all_ends (name_step (utf8_in c.args.text.now)) c.loop-after.items.items c.loop-after.rest.now _ (name_gone (utf8_in c.args.text.now) c.loop-after.rest.now c.in_default.ensures.value) c.loop-after.invariant }

@@ -1,12 +1,11 @@
 use Rattle.std.proofs.Common.{◌≡◌, length}
-use Rattle.std.specs.Prelude.{map}
-use Rattle.sz_parse.specs.Reading.{all_at, with_items}
+use Rattle.sz_parse.specs.Reading.{utf8_in, all_at, with_items}
 use Rattle.sz_parse.specs.ReadingStatements.{name_step, names_behind}
 use Rattle.sz_parse.proofs.table.names_behind.Given as goal
 
 -- the items so far, and those that are read from here, are all of them
 abbrev pub invariant-loop-after : goal.invariant-loop-after
-invariant-loop-after l = with_items l.items.items (all_at (name_step l.text) l.rest) ≡ names_behind l.text l.fn.first l.fn.tokens
+invariant-loop-after l = with_items l.items.items (all_at (name_step (utf8_in l.text)) l.rest) ≡ names_behind (utf8_in l.text) l.fn.first l.fn.tokens
 
 abbrev pub decreases-loop-after : goal.decreases-loop-after
 decreases-loop-after l = length l.rest

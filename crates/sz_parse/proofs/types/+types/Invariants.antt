@@ -1,8 +1,8 @@
 -- What the loops of the types keep, and why their calls end.
-use Rattle.std.proofs.Common.{◌≡◌, ◌+◌, ℕ, ◌*◌, length}
+use Rattle.std.proofs.Common.{◌≡◌, ◌+◌, ◌*◌, length}
 use Rattle.std.specs.Prelude.{map}
 use Rattle.sz_tree.specs.View.{param_of, field_of}
-use Rattle.sz_parse.specs.Reading.{all_at, with_items}
+use Rattle.sz_parse.specs.Reading.{utf8_in, all_at, with_items}
 use Rattle.sz_parse.specs.ReadingTypes.{type_at, param_step, params_behind, proto_field_step, proto_fields_behind}
 use Rattle.sz_parse.proofs.types.+types.Given as goal
 
@@ -51,13 +51,13 @@ decreases-field l = 16 * l.inner + 5
 
 -- the items so far, and those that are read from here, are all of them
 abbrev pub invariant-params_behind-loop-after : goal.invariant-params_behind-loop-after
-invariant-params_behind-loop-after l = with_items (map param_of l.params.items) (all_at (param_step l.text (type_at l.text l.inner)) l.rest) ≡ params_behind l.text (type_at l.text l.inner) (param_of l.fn.first) l.fn.tokens
+invariant-params_behind-loop-after l = with_items (map param_of l.params.items) (all_at (param_step (utf8_in l.text) (type_at (utf8_in l.text) l.inner)) l.rest) ≡ params_behind (utf8_in l.text) (type_at (utf8_in l.text) l.inner) (param_of l.fn.first) l.fn.tokens
 
 abbrev pub decreases-params_behind-loop-after : goal.decreases-params_behind-loop-after
 decreases-params_behind-loop-after l = length l.rest
 
 abbrev pub invariant-fields_behind-loop-after : goal.invariant-fields_behind-loop-after
-invariant-fields_behind-loop-after l = with_items (map field_of l.fields.items) (all_at (proto_field_step l.text (type_at l.text l.inner)) l.rest) ≡ proto_fields_behind l.text (type_at l.text l.inner) (field_of l.fn.first) l.fn.tokens
+invariant-fields_behind-loop-after l = with_items (map field_of l.fields.items) (all_at (proto_field_step (utf8_in l.text) (type_at (utf8_in l.text) l.inner)) l.rest) ≡ proto_fields_behind (utf8_in l.text) (type_at (utf8_in l.text) l.inner) (field_of l.fn.first) l.fn.tokens
 
 abbrev pub decreases-fields_behind-loop-after : goal.decreases-fields_behind-loop-after
 decreases-fields_behind-loop-after l = length l.rest
