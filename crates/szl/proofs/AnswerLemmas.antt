@@ -1,26 +1,27 @@
 -- How the answer for a command line is put together: from the program's text, the program, and the input.
 use Rattle.std.proofs.Common.{◌≡◌, ◌≢◌, ℕ, ◌-◌, ◌<◌, ◌≤◌, ◌⊎◌, List, [], ◌∷◌, ◌++◌, length, Bool}
-use Rattle.std.proofs.Common.{true, false, refl, sym, ◌∙◌, subst, arith, inl, inr, append-nil}
+use Rattle.std.proofs.Common.{true, false, refl, sym, ap, ◌∙◌, subst, arith, inl, inr, append-nil}
 use Rattle.std.specs.Prelude.{unwrap_or, Result, Ok, Err, codes, nat_le, ◌&&◌, if◌then◌else◌}
 use Rattle.std.proofs.lemmas.Bool.Decides.{nat_tests}
 use Rattle.sz_io.specs.Rose.{Rose}
 use Rattle.sz_io.specs.declared.files.Files as files
 use Rattle.sz_tree.specs.Statements.{Stms}
+use Rattle.sz_core.specs.Programs.{Core}
 use Rattle.sz_mean.specs.Tree.{Prog}
 use Rattle.szl.specs.declared.status.Status.{Status}
 use Rattle.szl.specs.declared.status.Status.TheVariants as status
 use Rattle.szl.specs.declared.failure.Failure.{Failure}
 use Rattle.szl.specs.declared.failure.Failure.TheVariants.{Usage, Refused, Limit, ReadFailed, WriteFailed, NoMemory}
-use Rattle.szl.specs.Opening.{ReadsText, GainsName, Decides, AnswersOn, AnswersText}
-use Rattle.szl.specs.Outcome.{Answer, outcome_of_program, outcome_of_judgement, success, refusal}
+use Rattle.szl.specs.Opening.{ReadsText, GainsName, Decides, AnswersOn, AnswersText, AnswersCheck}
+use Rattle.szl.specs.Outcome.{Answer, outcome_of_program, outcome_of_built, outcome_of_run, outcome_of_checked, success, refusal}
 use Rattle.szl.specs.Forms.{program_in}
-use Rattle.szl.specs.Judgement.{IsShort, HasStatements, refused, runs}
+use Rattle.szl.specs.Checking.{built_so, checked}
+use Rattle.szl.specs.Judgement.{IsShort, HasStatements, refused, spells}
 use Rattle.szl.specs.Judging.{IsFailureOf, IsFailureOn}
 use Rattle.szl.specs.Promise.{OpensFirst, most_opened}
 use Rattle.szl.specs.Records.{is_within_limits, most_input_bytes}
 use Rattle.szl.specs.Running.{GivesTables}
-use Rattle.szl.proofs.JudgeLemmas.{failure_on}
-use Rattle.szl.proofs.JudgementLemmas.{every_text_is_judged}
+use Rattle.szl.proofs.JudgementLemmas.{every_text_is_read}
 use Rattle.szl.proofs.OpeningLemmas.{holds_or}
 use Rattle.szl.proofs.ProgramLemmas.{outcome_past}
 
@@ -96,7 +97,7 @@ module _ {F : Type 0} (the_files : files.Ghosts F) (name : List ℕ) (old new : 
     opened = gained name _ _ _ (one_left p reads.text) gains;
   }
   input_fails p Usage reads gains = let e = reads.tells.0 in absurd (cc)
-  input_fails p (Refused cause place) reads gains = let e = reads.tells.0 in absurd (cc)
+  input_fails p (Refused r) reads gains = let e = reads.tells.0 in absurd (cc)
   input_fails p WriteFailed reads gains = let e = reads.tells.0 in absurd (cc)
 
   decides_run : (p : Prog) (bytes text : List ℕ) (answer : Result (List ℕ) Failure) (rose : Type 0) → bytes ≡ text → GivesTables p bytes answer
@@ -105,7 +106,7 @@ module _ {F : Type 0} (the_files : files.Ghosts F) (name : List ℕ) (old new : 
   decides_run p bytes text (Err Limit) rose is gives = subst (λ b. outcome_of_program p b ≡ refusal status.Limit (codes "input limit at byte 0")) is gives
   decides_run p bytes text (Err NoMemory) rose is gives = tt
   decides_run p bytes text (Err Usage) rose is gives = absurd gives
-  decides_run p bytes text (Err (Refused cause place)) rose is gives = absurd gives
+  decides_run p bytes text (Err (Refused r)) rose is gives = absurd gives
   decides_run p bytes text (Err ReadFailed) rose is gives = absurd gives
   decides_run p bytes text (Err WriteFailed) rose is gives = absurd gives
 
@@ -132,40 +133,41 @@ module _ {F : Type 0} (the_files : files.Ghosts F) (name : List ℕ) (old new : 
         (same a.input) a.opened;
   }
 
--- the outcome of the text that is judged to be a program is the program's
+-- the outcome of running the text that spells a program is the program's
 pub program_answers : {F : Type 0} (the_files : files.Ghosts F) (text name : List ℕ) (old new : F) (ss : Stms) (p : Prog) (answer : Result (List ℕ) Failure)
     → IsShort text → HasStatements text ss → program_in ss ≡ Ok p → AnswersOn the_files (outcome_of_program p) name old new answer
     → AnswersText the_files text name old new answer
 program_answers the_files text name old new ss p answer short has is a = record {
-  judgement = runs p;
-  judged = (short, record { statements = ss; has = has; is = is });
-  answers = same_outcome the_files name old new (outcome_of_program p) (outcome_of_judgement (runs p)) answer (λ input. refl) a;
+  reading = spells ss;
+  read = (short, has);
+  answers = same_outcome the_files name old new (outcome_of_program p) (outcome_of_run (spells ss)) answer
+      (λ input. ap (λ built. outcome_of_built (built_so built) input) (sym is)) a;
 }
 
 module _ {F : Type 0} (the_files : files.Ghosts F) (text name : List ℕ) (old : F) where
+  -- a failure before the input is opened
+  answers_unopened : (outcome_on : List ℕ → Answer) (f : Failure) → ((input : List ℕ) → Decides (Err f) (outcome_on input) (Rose (the_files.faults old) (the_files.faults old)))
+      → AnswersOn the_files outcome_on name old old (Err f)
+  answers_unopened outcome_on f decides = record {
+    input = unwrap_or (the_files.held old name) [];
+    holds = holds_or (the_files.held old name) [];
+    decides = decides (unwrap_or (the_files.held old name) []);
+    opened = opened_none (name ∷ []) _ _;
+  }
+
   no_memory : AnswersText the_files text name old old (Err NoMemory)
-  no_memory = let j = every_text_is_judged text in record {
-    judgement = j.judgement;
-    judged = j.judged;
-    answers = record {
-      input = unwrap_or (the_files.held old name) [];
-      holds = holds_or (the_files.held old name) [];
-      decides = tt;
-      opened = opened_none (name ∷ []) _ _;
-    };
+  no_memory = let r = every_text_is_read text in record {
+    reading = r.reading;
+    read = r.read;
+    answers = answers_unopened (outcome_of_run r.reading) NoMemory (λ input. tt);
   }
 
   -- the text is refused, and no file is opened
   pub text_refused : (f : Failure) → IsFailureOf text f → AnswersText the_files text name old old (Err f)
-  text_refused (Refused cause place) judged = record {
-    judgement = refused cause place;
-    judged = judged;
-    answers = record {
-      input = unwrap_or (the_files.held old name) [];
-      holds = holds_or (the_files.held old name) [];
-      decides = refl;
-      opened = opened_none (name ∷ []) _ _;
-    };
+  text_refused (Refused r) read = record {
+    reading = refused r;
+    read = read;
+    answers = answers_unopened (outcome_of_run (refused r)) (Refused r) (λ input. refl);
   }
   text_refused NoMemory h = no_memory
   text_refused Usage h = absurd h
@@ -174,6 +176,43 @@ module _ {F : Type 0} (the_files : files.Ghosts F) (text name : List ℕ) (old :
   text_refused WriteFailed h = absurd h
 
   -- the text's statements don't run
-  pub statements_refused : (ss : Stms) (f : Failure) → IsShort text → HasStatements text ss → IsFailureOn (program_in ss) f
+  pub statements_refused : (ss : Stms) (f : Failure) → IsShort text → HasStatements text ss → IsFailureOn (built_so (program_in ss)) f
       → AnswersText the_files text name old old (Err f)
-  statements_refused ss f short has h = text_refused f (failure_on text ss f short has h)
+  statements_refused ss (Refused r) short has h = record {
+    reading = spells ss;
+    read = (short, has);
+    answers = answers_unopened (outcome_of_run (spells ss)) (Refused r) (λ input. ap (λ built. outcome_of_built built input) h);
+  }
+  statements_refused ss NoMemory short has h = no_memory
+  statements_refused ss Usage short has h = absurd h
+  statements_refused ss Limit short has h = absurd h
+  statements_refused ss ReadFailed short has h = absurd h
+  statements_refused ss WriteFailed short has h = absurd h
+
+module _ (text : List ℕ) where
+  check_no_memory : AnswersCheck text (Err NoMemory)
+  check_no_memory = let r = every_text_is_read text in record { reading = r.reading; read = r.read; decides = tt }
+
+  -- the text can't be read
+  pub check_unread : (f : Failure) → IsFailureOf text f → AnswersCheck text (Err f)
+  check_unread (Refused r) read = record { reading = refused r; read = read; decides = refl }
+  check_unread NoMemory h = check_no_memory
+  check_unread Usage h = absurd h
+  check_unread Limit h = absurd h
+  check_unread ReadFailed h = absurd h
+  check_unread WriteFailed h = absurd h
+
+  -- the text's statements are refused
+  pub check_fails : (ss : Stms) (f : Failure) → IsShort text → HasStatements text ss → IsFailureOn (checked ss) f → AnswersCheck text (Err f)
+  check_fails ss (Refused r) short has h = record { reading = spells ss; read = (short, has); decides = ap outcome_of_checked h }
+  check_fails ss NoMemory short has h = check_no_memory
+  check_fails ss Usage short has h = absurd h
+  check_fails ss Limit short has h = absurd h
+  check_fails ss ReadFailed short has h = absurd h
+  check_fails ss WriteFailed short has h = absurd h
+
+  -- nothing is refused
+  pub check_passes : (ss : Stms) (program : Core) (output : List ℕ) → IsShort text → HasStatements text ss → checked ss ≡ Ok program → [] ≡ output
+      → AnswersCheck text (Ok output)
+  check_passes ss program output short has h none =
+      record { reading = spells ss; read = (short, has); decides = ap outcome_of_checked h ∙ ap success none }

@@ -15,20 +15,19 @@ use Rattle.sz_parse.specs.Program.{Spells, IsStuck}
 use Rattle.sz_parse.specs.Parsed.{OrNoMemory}
 use Rattle.sz_mean.specs.Tree.{Prog}
 use Rattle.szl.specs.declared.refusal.Cause.TheVariants as causes
-use Rattle.szl.specs.declared.failure.Failure.{Failure}
-use Rattle.szl.specs.declared.failure.Failure.TheVariants.{Usage, Refused, Limit, ReadFailed, WriteFailed, NoMemory}
 use Rattle.szl.specs.Forms.{Draft, empty_draft, statement, go_on, program_of, program_from, program_in}
-use Rattle.szl.specs.Judgement.{IsShort, HasStatements, most_program_bytes}
-use Rattle.szl.specs.Judging.{failure_of_lexing, failure_of_parsing, IsFailureOf, IsFailureOn}
+use Rattle.szl.specs.Judgement.{IsShort, HasStatements, refusal_at, most_program_bytes}
+use Rattle.szl.specs.Checking.{built_so}
+use Rattle.szl.specs.Judging.{failure_of_lexing, failure_of_parsing, IsFailureOf}
 use Rattle.szl.specs.View.{HasRoom}
 use Rattle.szl.proofs.FormLemmas.{Grows, statement_grows, if_some_is, ran}
 use Rattle.szl.proofs.TakenLemmas.{from_place}
 
 -- a text without tokens is refused
 refused_failure : (text : List ℕ) (e : LexError) → IsShort text → IsRefused text e → IsFailureOf text (failure_of_lexing e)
-refused_failure text (lexing.BadChar q) short h = (short, h)
-refused_failure text (lexing.BadLiteral q) short h = (short, h)
-refused_failure text (lexing.NotUtf8 q) short h = (short, h)
+refused_failure text (lexing.BadChar q) short h = ((short, h), refl)
+refused_failure text (lexing.BadLiteral q) short h = ((short, h), refl)
+refused_failure text (lexing.NotUtf8 q) short h = ((short, h), refl)
 refused_failure text lexing.NoMemory short h = tt
 
 pub unread_failure : (text : List ℕ) (e : LexError) → IsShort text → (e ≡ lexing.NoMemory) ⊎ IsRefused text e
@@ -39,14 +38,9 @@ unread_failure text e short (inr h) = refused_failure text e short h
 -- tokens that are stuck are refused
 pub stuck_failure : (text : List ℕ) (tokens : Lexed) (e : ParseError) → IsShort text → HasTokens text tokens.tokens → tokens.text ≡ text
     → OrNoMemory e (λ p. IsStuck tokens p) → IsFailureOf text (failure_of_parsing e)
-stuck_failure text tokens (parsing.Syntax q) short has is h = (
-  short,
-  record {
-    tokens = tokens.tokens;
-    has = has;
-    stuck = subst (λ t. IsStuck (record { text = t; tokens = tokens.tokens }) q) is h;
-  },
-)
+stuck_failure text tokens (parsing.Syntax q) short has is h =
+    let stuck = subst (λ t. IsStuck (record { text = t; tokens = tokens.tokens }) q) is h in
+    ((short, record { tokens = tokens.tokens; has = has; stuck = stuck }), refl)
 stuck_failure text tokens parsing.NoMemory short has is h = tt
 
 -- tokens that spell statements are those of the text
@@ -57,20 +51,6 @@ has_statements text tokens ss has is h = record {
   has = has;
   spells = subst (λ t. Spells (record { text = t; tokens = tokens.tokens }) ss) is h;
 }
-
--- statements that don't run are the text's
-pub failure_on : (text : List ℕ) (ss : Stms) (f : Failure) → IsShort text → HasStatements text ss → IsFailureOn (program_in ss) f → IsFailureOf text f
-failure_on text ss NoMemory short has h = tt
-failure_on text ss (Refused causes.NotBuilt q) short has h = (short, record { statements = ss; has = has; first = h })
-failure_on text ss (Refused causes.TooLong q) short has h = absurd h
-failure_on text ss (Refused causes.NotUtf8 q) short has h = absurd h
-failure_on text ss (Refused causes.BadChar q) short has h = absurd h
-failure_on text ss (Refused causes.BadLiteral q) short has h = absurd h
-failure_on text ss (Refused causes.Syntax q) short has h = absurd h
-failure_on text ss Usage short has h = absurd h
-failure_on text ss Limit short has h = absurd h
-failure_on text ss ReadFailed short has h = absurd h
-failure_on text ss WriteFailed short has h = absurd h
 
 -- the statements from an item on
 abbrev rest_of : List Stmt → ℕ → Stms
@@ -110,11 +90,11 @@ draft_more items i d next s there is h e =
 
 -- a statement that doesn't run
 pub draft_fails : (items : List Stmt) (i : ℕ) (d : Draft) (s : Stmt) → i < length items → s ≡ get_or items i s → IsDraftUpTo items i d
-    → statement d (stm_of s) ≡ None → program_in (stms_of (map stm_of items)) ≡ Err (stm_place (stm_of s))
+    → statement d (stm_of s) ≡ None → built_so (program_in (stms_of (map stm_of items))) ≡ Err (refusal_at causes.NotBuilt (stm_place (stm_of s)))
 draft_fails items i d s there is h e =
-    sym (at_next items i d s there is h) ∙ ap (λ o. go_on o (stm_place (stm_of s)) (λ n. program_from n (rest_of items (suc i)))) e
+    ap built_so (sym (at_next items i d s there is h) ∙ ap (λ o. go_on o (stm_place (stm_of s)) (λ n. program_from n (rest_of items (suc i)))) e)
 
-none_left : (items : List Stmt) (i : ℕ) → length items ≤ i → drop i items ≡ []
+pub none_left : {A : Type 0} (items : List A) (i : ℕ) → length items ≤ i → drop i items ≡ []
 none_left [] zero le = refl
 none_left [] (suc i) le = refl
 none_left (s ∷ items) zero le = absurd (omega arith)

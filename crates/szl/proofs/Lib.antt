@@ -16,3 +16,4 @@ mod Simulation
 mod Sound
 mod TakenLemmas
 mod TotalsLemmas
+mod UnbuiltLemmas

@@ -38,7 +38,7 @@ fits_done answer output old new is h =
 fits_error : (answer : Answer) (f : Failure) (rose : Type 0) (old new : Option (List ℕ)) → Decides (Err f) answer rose
     → Appends old new [] → Fits answer (status_of f) old new
 fits_error answer Usage rose old new decides h = record { status_is = sym (ap (λ (a : Answer). a.status) decides); output = h }
-fits_error answer (Refused cause place) rose old new decides h = record { status_is = sym (ap (λ (a : Answer). a.status) decides); output = h }
+fits_error answer (Refused r) rose old new decides h = record { status_is = sym (ap (λ (a : Answer). a.status) decides); output = h }
 fits_error answer Limit rose old new decides h = record { status_is = sym (ap (λ (a : Answer). a.status) decides); output = h }
 fits_error answer ReadFailed rose old new decides h = record { status_is = decides.1; output = h }
 fits_error answer WriteFailed rose old new decides h = absurd decides
@@ -55,13 +55,13 @@ fits_failure answer WriteFailed (Ok output) rose old new decides printed =
 fits_failure answer NoMemory (Ok output) rose old new decides printed =
     subst (λ a. Fits a status.NoMemory old new) (sym decides) (record { status_is = tt; output = printed })
 fits_failure answer Usage (Ok output) rose old new decides printed = absurd printed
-fits_failure answer (Refused cause place) (Ok output) rose old new decides printed = absurd printed
+fits_failure answer (Refused r) (Ok output) rose old new decides printed = absurd printed
 fits_failure answer Limit (Ok output) rose old new decides printed = absurd printed
 fits_failure answer ReadFailed (Ok output) rose old new decides printed = absurd printed
 
 line_error : (answer : Answer) (f : Failure) (rose : Type 0) → Decides (Err f) answer rose → line_of_failure f ≡ line_of answer (status_of f)
 line_error answer Usage rose decides = sym (ap (λ (a : Answer). a.line) decides)
-line_error answer (Refused cause place) rose decides = sym (ap (λ (a : Answer). a.line) decides)
+line_error answer (Refused r) rose decides = sym (ap (λ (a : Answer). a.line) decides)
 line_error answer Limit rose decides = sym (ap (λ (a : Answer). a.line) decides)
 line_error answer ReadFailed rose decides = refl
 line_error answer WriteFailed rose decides = refl
@@ -76,7 +76,7 @@ line_is answer f (Err g) rose old new decides printed =
 line_is answer WriteFailed (Ok output) rose old new decides printed = refl
 line_is answer NoMemory (Ok output) rose old new decides printed = refl
 line_is answer Usage (Ok output) rose old new decides printed = absurd printed
-line_is answer (Refused cause place) (Ok output) rose old new decides printed = absurd printed
+line_is answer (Refused r) (Ok output) rose old new decides printed = absurd printed
 line_is answer Limit (Ok output) rose old new decides printed = absurd printed
 line_is answer ReadFailed (Ok output) rose old new decides printed = absurd printed
 
@@ -90,7 +90,7 @@ fits_no_memory answer WriteFailed (Ok output) rose old new decides printed =
 fits_no_memory answer NoMemory (Ok output) rose old new decides printed =
     subst (λ a. Fits a status.NoMemory old new) (sym decides) (record { status_is = tt; output = printed })
 fits_no_memory answer Usage (Ok output) rose old new decides printed = absurd printed
-fits_no_memory answer (Refused cause place) (Ok output) rose old new decides printed = absurd printed
+fits_no_memory answer (Refused r) (Ok output) rose old new decides printed = absurd printed
 fits_no_memory answer Limit (Ok output) rose old new decides printed = absurd printed
 fits_no_memory answer ReadFailed (Ok output) rose old new decides printed = absurd printed
 
@@ -102,13 +102,13 @@ module _ {F O E : Type 0} (the_files : files.Ghosts F) (the_out : sink.Ghosts O)
       → MeansSource the_files the_out the_err words status.Done old new out new_out err err
   means_done (Err f) a printed = absurd printed
   means_done (Ok output) a printed =
-      let o = outcome words a.judgement a.input in
+      let o = outcome words a.reading a.input in
       let fit = fits_done o output (the_out.taken out) (the_out.taken new_out) a.decides printed in
       let no_line : [] ≡ o.line = sym (ap (λ (x : Answer). x.line) a.decides) in
       record {
         text = a.text;
-        judgement = a.judgement;
-        judged = a.judged;
+        reading = a.reading;
+        read = a.read;
         input = a.input;
         held = a.held;
         answers = fit.status_is;
@@ -119,13 +119,13 @@ module _ {F O E : Type 0} (the_files : files.Ghosts F) (the_out : sink.Ghosts O)
 
   -- a status that fits what was printed, and its line is told
   means : (new_err : E) (made : Result (List ℕ) Failure) (a : Answers the_files (settings_in words) old new made) (s : Status)
-      → Fits (outcome words a.judgement a.input) s (the_out.taken out) (the_out.taken new_out)
-      → GainsLine the_err err new_err (line_of (outcome words a.judgement a.input) s)
+      → Fits (outcome words a.reading a.input) s (the_out.taken out) (the_out.taken new_out)
+      → GainsLine the_err err new_err (line_of (outcome words a.reading a.input) s)
       → MeansSource the_files the_out the_err words s old new out new_out err new_err
   means new_err made a s fit told = record {
     text = a.text;
-    judgement = a.judgement;
-    judged = a.judged;
+    reading = a.reading;
+    read = a.read;
     input = a.input;
     held = a.held;
     answers = fit.status_is;
@@ -139,13 +139,13 @@ module _ {F O E : Type 0} (the_files : files.Ghosts F) (the_out : sink.Ghosts O)
       → Prints {T = Unit {0}} (the_out.taken out) (the_out.taken new_out) made (Err f) → (told ≡ f) ⊎ (told ≡ NoMemory)
       → GainsLine the_err err new_err (line_of_failure told) → MeansSource the_files the_out the_err words (status_of told) old new out new_out err new_err
   means_failure new_err f told made a printed (inl is) gained =
-      let o = outcome words a.judgement a.input in
+      let o = outcome words a.reading a.input in
       let line = ap line_of_failure is ∙ line_is o f made _ (the_out.taken out) (the_out.taken new_out) a.decides printed in
       subst (λ t. MeansSource the_files the_out the_err words (status_of t) old new out new_out err new_err) (sym is)
       (means new_err made a (status_of f) (fits_failure o f made _ (the_out.taken out) (the_out.taken new_out) a.decides printed)
       (subst (GainsLine the_err err new_err) line gained))
   means_failure new_err f told made a printed (inr is) gained =
-      let o = outcome words a.judgement a.input in
+      let o = outcome words a.reading a.input in
       subst (λ t. MeansSource the_files the_out the_err words (status_of t) old new out new_out err new_err) (sym is)
       (means new_err made a status.NoMemory (fits_no_memory o f made _ (the_out.taken out) (the_out.taken new_out) a.decides printed)
       (subst (GainsLine the_err err new_err) (ap line_of_failure is) gained))

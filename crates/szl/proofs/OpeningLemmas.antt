@@ -32,8 +32,8 @@ reads_past_as held limit past rose long tells = record {
 
 pub reads_past : (held : Option (List ℕ)) (limit : ℕ) (past : Failure) (rose : Type 0) → IfSome held (λ bytes. limit < length bytes)
     → IsPast past → ReadsText held limit past rose (Err past)
-reads_past held limit (Refused cause place) rose long is =
-    reads_past_as held limit (Refused cause place) rose long (λ text lt. (refl, lt))
+reads_past held limit (Refused r) rose long is =
+    reads_past_as held limit (Refused r) rose long (λ text lt. (refl, lt))
 reads_past held limit Limit rose long is = reads_past_as held limit Limit rose long (λ text lt. (refl, lt))
 reads_past held limit Usage rose long is = absurd is
 reads_past held limit ReadFailed rose long is = absurd is

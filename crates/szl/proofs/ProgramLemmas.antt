@@ -10,7 +10,7 @@ use Rattle.szl.specs.Code.{IsCodeOf}
 use Rattle.szl.specs.Judgement.{most_program_bytes}
 use Rattle.szl.specs.Records.{records_in, is_within_limits}
 use Rattle.szl.specs.Outcome.{outcome_of_program, success, refusal, default_budget}
-use Rattle.szl.specs.Running.{MayRun, SumsAll, IsRead}
+use Rattle.szl.specs.Running.{MayRun, SumsAll, IsSpelled}
 use Rattle.szl.specs.Text.{tables_text}
 use Rattle.szl.specs.Totals.{Totals, StandFor}
 use Rattle.szl.proofs.FormLemmas.{IsFit, fit_more, program_fit}
@@ -18,15 +18,14 @@ use Rattle.szl.proofs.ReadLemmas.{statements_count}
 use Rattle.szl.proofs.Simulation.{simulates}
 use Rattle.szl.proofs.RecordLemmas.{emits_few, runs_to}
 
--- what a text is judged to be has sound statements, at most one for each byte
-read_fit : (p : Prog) → IsRead p → IsFit most_program_bytes p
+-- what a text spells has sound statements, at most one for each byte
+read_fit : (p : Prog) → IsSpelled p → IsFit most_program_bytes p
 read_fit p read =
-    let has = read.judged.1 in
-    fit_more (count_of has.statements) most_program_bytes p
-    (omega (arith, statements_count read.text has.statements has.has, read.judged.0)) (program_fit has.statements p has.is)
+    fit_more (count_of read.statements) most_program_bytes p
+    (omega (arith, statements_count read.text read.statements read.has, read.short)) (program_fit read.statements p read.is)
 
 -- the code of a program that was read may run
-pub may_run : (p : Prog) (code : Code) → IsRead p → IsCodeOf p code → MayRun code
+pub may_run : (p : Prog) (code : Code) → IsSpelled p → IsCodeOf p code → MayRun code
 may_run p code read is =
     let fit = read_fit p read in
     let sim = simulates p code fit.sound is.instructions is.locals in
@@ -39,7 +38,7 @@ may_run p code read is =
     }
 
 -- the sums of all records are those of all that the program means
-pub stands_for_all : (p : Prog) (code : Code) (input : List ℕ) (totals : Totals) → IsRead p → IsCodeOf p code → SumsAll code input totals
+pub stands_for_all : (p : Prog) (code : Code) (input : List ℕ) (totals : Totals) → IsSpelled p → IsCodeOf p code → SumsAll code input totals
     → StandFor totals (all_emits p default_budget (records_in input))
 stands_for_all p code input totals read is sums =
     let sim = simulates p code (read_fit p read).sound is.instructions is.locals in

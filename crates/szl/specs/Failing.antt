@@ -22,7 +22,7 @@ code_of status.Limit = 9
 -- the exit status of a failure
 abbrev pub status_of : Failure → Status
 status_of Usage = status.Usage
-status_of (Refused cause place) = status.Program
+status_of (Refused r) = status.Program
 status_of Limit = status.Limit
 status_of ReadFailed = status.ReadFailed
 status_of WriteFailed = status.WriteFailed
@@ -31,7 +31,7 @@ status_of NoMemory = status.NoMemory
 -- the line of a failure
 abbrev pub line_of_failure : Failure → List ℕ
 line_of_failure Usage = codes "bad command line\n"
-line_of_failure (Refused cause place) = refusal_line cause place ++ 10 ∷ []
+line_of_failure (Refused r) = refusal_line r ++ 10 ∷ []
 line_of_failure Limit = codes "input limit at byte 0\n"
 line_of_failure ReadFailed = codes "read failed\n"
 line_of_failure WriteFailed = codes "write failed\n"

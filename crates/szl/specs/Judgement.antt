@@ -1,19 +1,22 @@
--- What the text of a program is judged to be: the program that runs, or a refusal with its cause and its place.
-use Rattle.std.specs.Prelude.{◌≡◌, ℕ, ◌<◌, ◌≤◌, List, length, Ok, Err}
+-- What reading the text of a program gives: its statements, or a refusal with its cause and its place.
+use Rattle.std.specs.Prelude.{◌≡◌, ℕ, ◌<◌, ◌≤◌, List, length, None}
 use Rattle.sz_types.specs.declared.place.Place.{Place}
 use Rattle.sz_lex.specs.declared.token.Token.{Token}
 use Rattle.sz_lex.specs.Tokens.{HasTokens, HasBadChar, HasBadLiteral, HasNotUtf8, first_place}
 use Rattle.sz_tree.specs.Statements.{Stms}
 use Rattle.sz_parse.specs.Program.{Spells, IsStuck}
-use Rattle.sz_mean.specs.Tree.{Prog}
 use Rattle.szl.specs.declared.refusal.Cause.{Cause}
-use Rattle.szl.specs.declared.refusal.Cause.TheVariants.{TooLong, NotUtf8, BadChar, BadLiteral, Syntax, NotBuilt}
-use Rattle.szl.specs.Forms.{program_in}
+use Rattle.szl.specs.declared.refusal.Cause.TheVariants.{BadChar, BadLiteral, NotUtf8, TooLong, Syntax}
+use Rattle.szl.specs.declared.refusal.Refusal.{Refusal}
 
--- a judgement: the text is refused for a cause at a place, or it is a program that runs
-pub data Judgement : Type 0 where
-  refused : Cause → Place → Judgement
-  runs : Prog → Judgement
+-- what reading a text gives: a refusal, or the statements that it spells
+pub data Reading : Type 0 where
+  refused : Refusal → Reading
+  spells : Stms → Reading
+
+-- the refusal for a cause at a place, without a name
+abbrev pub refusal_at : Cause → Place → Refusal
+refusal_at cause place = record { cause = cause; place = place; name = None }
 
 -- the most bytes of a program's text
 abbrev pub most_program_bytes : ℕ
@@ -35,37 +38,29 @@ pub record HasStatements (text : List ℕ) (statements : Stms) : Type 0 where
   pub has : HasTokens text tokens
   pub spells : Spells (record { text = text; tokens = tokens }) statements
 
--- the text's statements are no program that runs, and the place is that of the first statement that doesn't
-pub record HasUnbuilt (text : List ℕ) (place : Place) : Type 0 where
-  pub statements : Stms
-  pub has : HasStatements text statements
-  pub first : program_in statements ≡ Err place
+-- the text can't be read, for a cause at a place; the causes of reading are looked for in this order
+abbrev pub IsUnreadable : List ℕ → Cause → Place → Type 0
+IsUnreadable text TooLong place = (most_program_bytes < length text) × (place ≡ first_place)
+IsUnreadable text NotUtf8 place = IsShort text × HasNotUtf8 text place
+IsUnreadable text BadChar place = IsShort text × HasBadChar text place
+IsUnreadable text BadLiteral place = IsShort text × HasBadLiteral text place
+IsUnreadable text Syntax place = IsShort text × HasStuckTokens text place
+IsUnreadable text cause place = ⊥
 
--- the text's statements are the program
-pub record HasProgram (text : List ℕ) (program : Prog) : Type 0 where
-  pub statements : Stms
-  pub has : HasStatements text statements
-  pub is : program_in statements ≡ Ok program
+-- reading the text gives this, by what it is alone
+abbrev pub IsRead : List ℕ → Reading → Type 0
+IsRead text (refused r) = IsUnreadable text r.cause r.place × (r.name ≡ None)
+IsRead text (spells statements) = IsShort text × HasStatements text statements
 
--- the text is judged so, by what it is alone; the causes are in the order in which they are looked for
-abbrev pub IsJudged : List ℕ → Judgement → Type 0
-IsJudged text (refused TooLong place) = (most_program_bytes < length text) × (place ≡ first_place)
-IsJudged text (refused NotUtf8 place) = IsShort text × HasNotUtf8 text place
-IsJudged text (refused BadChar place) = IsShort text × HasBadChar text place
-IsJudged text (refused BadLiteral place) = IsShort text × HasBadLiteral text place
-IsJudged text (refused Syntax place) = IsShort text × HasStuckTokens text place
-IsJudged text (refused NotBuilt place) = IsShort text × HasUnbuilt text place
-IsJudged text (runs program) = IsShort text × HasProgram text program
+-- the text has a reading
+pub record HasReading (text : List ℕ) : Type 0 where
+  pub reading : Reading
+  pub read : IsRead text reading
 
--- the text has a judgement
-pub record HasJudgement (text : List ℕ) : Type 0 where
-  pub judgement : Judgement
-  pub judged : IsJudged text judgement
+-- each text has a reading
+abbrev pub EveryTextIsRead : Type 0
+EveryTextIsRead = (text : List ℕ) → HasReading text
 
--- each text has a judgement
-abbrev pub EveryTextIsJudged : Type 0
-EveryTextIsJudged = (text : List ℕ) → HasJudgement text
-
--- no text has two judgements
-abbrev pub HasOneJudgement : Type 0
-HasOneJudgement = (text : List ℕ) (a b : Judgement) → IsJudged text a → IsJudged text b → a ≡ b
+-- no text has two readings
+abbrev pub HasOneReading : Type 0
+HasOneReading = (text : List ℕ) (a b : Reading) → IsRead text a → IsRead text b → a ≡ b

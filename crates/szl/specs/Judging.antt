@@ -1,11 +1,11 @@
 -- What judging a program's text gives, step by step.
 use Rattle.std.specs.Prelude.{◌≡◌, List, ℕ, ⊤, Option, Some, None, Result, Ok, Err}
-use Rattle.sz_types.specs.declared.place.Place.{Place}
 use Rattle.sz_lex.specs.declared.error.LexError.{LexError}
 use Rattle.sz_lex.specs.declared.error.LexError.TheVariants as lexing
 use Rattle.sz_parse.specs.declared.error.ParseError.{ParseError}
 use Rattle.sz_parse.specs.declared.error.ParseError.TheVariants as parsing
-use Rattle.sz_mean.specs.Tree.{Prog}
+use Rattle.sz_check.specs.declared.error.CheckError.{CheckError}
+use Rattle.sz_check.specs.declared.error.CheckError.TheVariants as checking
 use Rattle.szl.specs.declared.unfit.Unfit.{Unfit}
 use Rattle.szl.specs.declared.unfit.Unfit.TheVariants as unfit
 use Rattle.szl.specs.declared.refusal.Cause.TheVariants as causes
@@ -13,7 +13,9 @@ use Rattle.szl.specs.declared.failure.Failure.{Failure}
 use Rattle.szl.specs.declared.failure.Failure.TheVariants.{Refused, NoMemory}
 use Rattle.szl.specs.declared.tree.Draft.{Draft}
 use Rattle.szl.specs.Forms as forms
-use Rattle.szl.specs.Judgement.{IsJudged, refused}
+use Rattle.szl.specs.declared.refusal.Refusal.{Refusal}
+use Rattle.szl.specs.Judgement.{IsRead, refused, refusal_at}
+use Rattle.szl.specs.Checking.{cause_of}
 use Rattle.szl.specs.View.{seen_draft}
 
 -- nothing is given, unless memory ran out
@@ -33,24 +35,29 @@ Becomes (Err e) draft given = IsUnfit e given
 
 -- the failure for a text without tokens
 abbrev pub failure_of_lexing : LexError → Failure
-failure_of_lexing (lexing.BadChar place) = Refused causes.BadChar place
-failure_of_lexing (lexing.BadLiteral place) = Refused causes.BadLiteral place
-failure_of_lexing (lexing.NotUtf8 place) = Refused causes.NotUtf8 place
+failure_of_lexing (lexing.BadChar place) = Refused (refusal_at causes.BadChar place)
+failure_of_lexing (lexing.BadLiteral place) = Refused (refusal_at causes.BadLiteral place)
+failure_of_lexing (lexing.NotUtf8 place) = Refused (refusal_at causes.NotUtf8 place)
 failure_of_lexing lexing.NoMemory = NoMemory
 
 -- the failure for tokens without a tree
 abbrev pub failure_of_parsing : ParseError → Failure
-failure_of_parsing (parsing.Syntax place) = Refused causes.Syntax place
+failure_of_parsing (parsing.Syntax place) = Refused (refusal_at causes.Syntax place)
 failure_of_parsing parsing.NoMemory = NoMemory
 
--- the failure is the refusal that the text is judged to be, or want of memory
+-- the failure is the refusal that reading the text gives, or want of memory
 abbrev pub IsFailureOf : List ℕ → Failure → Type 0
 IsFailureOf text NoMemory = ⊤
-IsFailureOf text (Refused cause place) = IsJudged text (refused cause place)
+IsFailureOf text (Refused r) = IsRead text (refused r)
 IsFailureOf text failure = ⊥
 
--- the failure is the refusal of statements that don't run, or want of memory
-abbrev pub IsFailureOn : Result Prog Place → Failure → Type 0
-IsFailureOn read NoMemory = ⊤
-IsFailureOn read (Refused causes.NotBuilt place) = read ≡ Err place
-IsFailureOn read failure = ⊥
+-- the failure for a tree that the checker refuses
+abbrev pub failure_of_checking : CheckError → Failure
+failure_of_checking (checking.Refused number place name) = Refused (record { cause = cause_of number; place = place; name = name })
+failure_of_checking checking.NoMemory = NoMemory
+
+-- the failure is the refusal of what statements are, or want of memory
+abbrev pub IsFailureOn : {A : Type 0} → Result A Refusal → Failure → Type 0
+IsFailureOn found NoMemory = ⊤
+IsFailureOn found (Refused r) = found ≡ Err r
+IsFailureOn found failure = ⊥

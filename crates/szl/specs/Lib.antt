@@ -4,6 +4,8 @@ pub mod Records
 pub mod Text
 pub mod Forms
 pub mod Judgement
+pub mod Unbuilt
+pub mod Checking
 pub mod Outcome
 pub mod Promise
 -- what the functions inside the crate promise each other

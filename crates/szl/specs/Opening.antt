@@ -6,14 +6,16 @@ use Rattle.szl.specs.declared.status.Status.TheVariants as status
 use Rattle.szl.specs.declared.failure.Failure.{Failure}
 use Rattle.szl.specs.declared.failure.Failure.TheVariants.{Refused, Limit, ReadFailed, WriteFailed, NoMemory}
 use Rattle.szl.specs.Failing.{status_of, line_of_failure}
-use Rattle.szl.specs.Outcome.{Answer, outcome_of_judgement, outcome_of_settings, success}
-use Rattle.szl.specs.Judgement.{Judgement, IsJudged}
+use Rattle.szl.specs.Outcome.{Answer, outcome_of_run, outcome_of_check, outcome_of_settings, success}
+use Rattle.sz_lex.specs.Tokens.{first_place}
+use Rattle.szl.specs.declared.refusal.Cause.TheVariants.{TooLong}
+use Rattle.szl.specs.Judgement.{Reading, IsRead, refusal_at}
 use Rattle.szl.specs.Promise.{AreHeld, OpensFirst, names_asked, most_opened}
 use Rattle.szl.specs.Settings.{Settings}
 
 -- the failure may be that of a text past its limit
 abbrev pub IsPast : Failure → Type 0
-IsPast (Refused cause place) = ⊤
+IsPast (Refused r) = ⊤
 IsPast Limit = ⊤
 IsPast failure = ⊥
 
@@ -23,6 +25,10 @@ TellsText text limit past rose (Ok bytes) = (bytes ≡ text) × (length text ≤
 TellsText text limit past rose (Err ReadFailed) = rose
 TellsText text limit past rose (Err NoMemory) = ⊤
 TellsText text limit past rose (Err failure) = (failure ≡ past) × (limit < length text)
+
+-- the failure of a program's text past its limit
+abbrev pub past_program : Failure
+past_program = Refused (refusal_at TooLong first_place)
 
 -- a file was read: it holds this text where it is told, and the answer is of this text
 pub record ReadsText (held : Option (List ℕ)) (limit : ℕ) (past : Failure) (rose : Type 0) (answer : Result (List ℕ) Failure) : Type 0 where
@@ -50,13 +56,13 @@ Decides (Err failure) answer rose = IsCause failure answer rose
 -- the answer is that of the outcome, for what the files hold under the names that settings ask for
 pub record Answers {F : Type 0} (the_files : files.Ghosts F) (asked : Option Settings) (old new : F) (answer : Result (List ℕ) Failure) : Type 0 where
   pub text : List ℕ
-  pub judgement : Judgement
-  pub judged : IsJudged text judgement
+  pub reading : Reading
+  pub read : IsRead text reading
   pub input : List ℕ
   pub held : AreHeld asked (the_files.held old) text input
-  pub decides : Decides answer (outcome_of_settings asked judgement input) (Rose (the_files.faults old) (the_files.faults new))
+  pub decides : Decides answer (outcome_of_settings asked reading input) (Rose (the_files.faults old) (the_files.faults new))
   pub opened : OpensFirst (names_asked asked) (the_files.names old) (the_files.names new)
-      (most_opened (outcome_of_settings asked judgement input).status)
+      (most_opened (outcome_of_settings asked reading input).status)
 
 -- the answer is that of an outcome on what the file under the name holds; no file is opened for a refused program
 pub record AnswersOn {F : Type 0} (the_files : files.Ghosts F) (outcome_on : List ℕ → Answer) (name : List ℕ) (old new : F)
@@ -66,8 +72,14 @@ pub record AnswersOn {F : Type 0} (the_files : files.Ghosts F) (outcome_on : Lis
   pub decides : Decides answer (outcome_on input) (Rose (the_files.faults old) (the_files.faults new))
   pub opened : OpensFirst (name ∷ []) (the_files.names old) (the_files.names new) (most_opened (outcome_on input).status - 1)
 
--- the answer is that of a judgement of the text, on what the file under the name holds
+-- the answer is that of running what the text is read as, on what the file under the name holds
 pub record AnswersText {F : Type 0} (the_files : files.Ghosts F) (text name : List ℕ) (old new : F) (answer : Result (List ℕ) Failure) : Type 0 where
-  pub judgement : Judgement
-  pub judged : IsJudged text judgement
-  pub answers : AnswersOn the_files (outcome_of_judgement judgement) name old new answer
+  pub reading : Reading
+  pub read : IsRead text reading
+  pub answers : AnswersOn the_files (outcome_of_run reading) name old new answer
+
+-- the answer is that of checking what the text is read as
+pub record AnswersCheck (text : List ℕ) (answer : Result (List ℕ) Failure) : Type 0 where
+  pub reading : Reading
+  pub read : IsRead text reading
+  pub decides : Decides answer (outcome_of_check reading) ⊥

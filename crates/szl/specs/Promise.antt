@@ -6,8 +6,8 @@ use Rattle.sz_io.specs.declared.files.Files as files
 use Rattle.sz_io.specs.declared.sink.Sink as sink
 use Rattle.szl.specs.declared.status.Status.{Status}
 use Rattle.szl.specs.declared.status.Status.TheVariants.{Done, Usage, Program, ReadFailed, WriteFailed, NoMemory}
-use Rattle.szl.specs.Judgement.{Judgement, IsJudged}
-use Rattle.szl.specs.Settings.{Settings, settings_in}
+use Rattle.szl.specs.Judgement.{Reading, IsRead}
+use Rattle.szl.specs.Settings.{Settings, run, check, settings_in}
 use Rattle.szl.specs.Outcome.{Answer, outcome}
 
 -- The status is the outcome's, or one of the three that a device or want of memory brings: reading can fail only where
@@ -48,10 +48,11 @@ abbrev pub most_opened : Status → ℕ
 most_opened Program = 1
 most_opened status = 2
 
--- the names that settings may open, in order: the program, then the input
+-- the names that settings may open, in order: the program, and then the input of a run
 abbrev pub names_asked : Option Settings → List (List ℕ)
 names_asked None = []
-names_asked (Some settings) = settings.program ∷ settings.input ∷ []
+names_asked (Some (run program name)) = program ∷ name ∷ []
+names_asked (Some (check program)) = program ∷ []
 
 -- the first of the names asked for were opened, in order, and at most this many
 pub record OpensFirst (asked old new : List (List ℕ)) (most : ℕ) : Type 0 where
@@ -62,28 +63,35 @@ pub record OpensFirst (asked old new : List (List ℕ)) (most : ℕ) : Type 0 wh
 -- the bytes under each name that the words ask for are these, where they are told
 abbrev pub AreHeld : Option Settings → (List ℕ → Option (List ℕ)) → List ℕ → List ℕ → Type 0
 AreHeld None held text input = ⊤
-AreHeld (Some settings) held text input = IfSome (held settings.program) (λ bytes. bytes ≡ text) × IfSome (held settings.input) (λ bytes. bytes ≡ input)
+AreHeld (Some (run program name)) held text input = IfSome (held program) (λ bytes. bytes ≡ text) × IfSome (held name) (λ bytes. bytes ≡ input)
+AreHeld (Some (check program)) held text input = IfSome (held program) (λ bytes. bytes ≡ text)
 
 -- The call's status, its output, its line and the files that it opens are those of the outcome, for the bytes that the
--- files hold and the judgement of the program's text. Where a file doesn't tell its bytes, it is as if it held some. Since
--- a text has just one judgement, the outcome is determined by the words and the bytes.
+-- files hold and the reading of the program's text. Where a file doesn't tell its bytes, it is as if it held some. Since
+-- a text has just one reading, the outcome is determined by the words and the bytes.
 pub record MeansSource {F O E : Type 0} (the_files : files.Ghosts F) (the_out : sink.Ghosts O) (the_err : sink.Ghosts E)
     (words : List (List ℕ)) (status : Status) (files new_files : F) (out new_out : O) (err new_err : E) : Type 0 where
   pub text : List ℕ
-  pub judgement : Judgement
-  pub judged : IsJudged text judgement
+  pub reading : Reading
+  pub read : IsRead text reading
   pub input : List ℕ
   pub held : AreHeld (settings_in words) (the_files.held files) text input
-  pub answers : IsStatusOf (outcome words judgement input) status
-  pub output : GainsOutput status (the_out.taken out) (the_out.taken new_out) (outcome words judgement input).output
-  pub line : GainsLine the_err err new_err (line_of (outcome words judgement input) status)
+  pub answers : IsStatusOf (outcome words reading input) status
+  pub output : GainsOutput status (the_out.taken out) (the_out.taken new_out) (outcome words reading input).output
+  pub line : GainsLine the_err err new_err (line_of (outcome words reading input) status)
   pub opened : OpensFirst (names_asked (settings_in words)) (the_files.names files) (the_files.names new_files)
-      (most_opened (outcome words judgement input).status)
+      (most_opened (outcome words reading input).status)
 
--- each file opened since is at its end, and what is left of it is told where the bytes under both names are
-pub record AreReadToEnd {F : Type 0} (the_files : files.Ghosts F) (old new : F) (settings : Settings) : Type 0 where
-  pub both_opened : the_files.names new ≡ the_files.names old ++ settings.program ∷ settings.input ∷ []
+-- the fact, where the bytes under all these names are told
+abbrev pub IfTold : (List ℕ → Option (List ℕ)) → List (List ℕ) → Type 0 → Type 0
+IfTold held [] fact = fact
+IfTold held (name ∷ names) fact = IfSome (held name) (λ _. IfTold held names fact)
+
+-- the files under these names were opened; each file opened since is at its end, and what is left of it is told where the
+-- bytes under all the names are
+pub record AreReadToEnd {F : Type 0} (the_files : files.Ghosts F) (old new : F) (names : List (List ℕ)) : Type 0 where
+  pub all_opened : the_files.names new ≡ the_files.names old ++ names
   pub none_left : (file : ℕ) → (IsTrue (the_files.given old file) → ⊥) → IsTrue (the_files.given new file)
       → IsAtEnd (the_files.left new file)
   pub told : (file : ℕ) → (IsTrue (the_files.given old file) → ⊥) → IsTrue (the_files.given new file)
-      → IfSome (the_files.held old settings.program) (λ _. IfSome (the_files.held old settings.input) (λ _. IsSome (the_files.left new file)))
+      → IfTold (the_files.held old) names (IsSome (the_files.left new file))

@@ -8,7 +8,9 @@ use Rattle.szl.specs.declared.failure.Failure.TheVariants.{Limit, NoMemory}
 use Rattle.sz_mean.specs.Tree.{Prog}
 use Rattle.szl.specs.declared.status.Status.TheVariants as status
 use Rattle.szl.specs.Outcome.{outcome_of_program, success, refusal}
-use Rattle.szl.specs.Judgement.{IsJudged, runs}
+use Rattle.sz_tree.specs.Statements.{Stms}
+use Rattle.szl.specs.Forms.{program_in}
+use Rattle.szl.specs.Judgement.{IsShort, HasStatements}
 use Rattle.szl.specs.Records.{records_in}
 use Rattle.szl.specs.Totals.{Totals, StandFor}
 
@@ -33,10 +35,13 @@ IsLimitOrMemory Limit = ⊤
 IsLimitOrMemory NoMemory = ⊤
 IsLimitOrMemory failure = ⊥
 
--- some text is judged to be the program
-pub record IsRead (program : Prog) : Type 0 where
+-- some short text spells statements that are the program
+pub record IsSpelled (program : Prog) : Type 0 where
   pub text : List ℕ
-  pub judged : IsJudged text (runs program)
+  pub short : IsShort text
+  pub statements : Stms
+  pub has : HasStatements text statements
+  pub is : program_in statements ≡ Ok program
 
 -- the bytes of a vector that a result holds, or its failure
 abbrev pub vec_items_of : {A : Type 0} → Result (Vec ℕ A) Failure → Result (List ℕ) Failure

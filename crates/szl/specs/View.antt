@@ -9,6 +9,7 @@ use Rattle.szl.specs.declared.tree.Draft.{Draft}
 use Rattle.szl.specs.declared.tree.Program.{Program}
 use Rattle.szl.specs.Forms as forms
 use Rattle.szl.specs.declared.words.Settings.{Settings}
+use Rattle.szl.specs.declared.words.Settings.TheVariants as words
 use Rattle.szl.specs.Settings as settings
 use Rattle.std.specs.Borrow.{Bor}
 
@@ -43,4 +44,5 @@ seen_program p = record { tables = texts p.tables.items; locals = p.locals; body
 
 -- the plain data of settings
 abbrev pub seen_settings : Settings → settings.Settings
-seen_settings s = record { program = s.program.now; input = s.input.now }
+seen_settings (words.Run program name) = settings.run program.now name.now
+seen_settings (words.Check program) = settings.check program.now

@@ -1,17 +1,18 @@
 //! What a command line is answered, before anything is written.
-ghost use Rattle.std.specs.Prelude.{◌≡◌, ◌<◌, ◌≤◌, ◌++◌, ◌∷◌, [], length, map, string_bytes, Some, OnOk, IfSome};
+ghost use Rattle.std.specs.Prelude.{◌≡◌, ◌<◌, ◌≤◌, ◌++◌, ◌∷◌, [], length, map, string_bytes, Some, OnOk};
+ghost use Rattle.sz_io.specs.Rose.{Rose};
 ghost use Rattle.sz_io.specs.Opened.{KeepsFiles};
 ghost use Rattle.sz_io.specs.Calls.{ReadToEnd};
-ghost use Rattle.szl.specs.Opening.{Answers, AnswersOn, AnswersText};
+ghost use Rattle.szl.specs.Opening.{ReadsText, GainsName, past_program, Answers, AnswersOn, AnswersText, AnswersCheck};
 ghost use Rattle.szl.specs.Outcome.{outcome_of_program};
 ghost use Rattle.szl.specs.Judgement.{most_program_bytes};
-ghost use Rattle.szl.specs.Promise.{AreReadToEnd};
-ghost use Rattle.szl.specs.Running.{IsRead, vec_items_of};
-ghost use Rattle.szl.specs.Settings.{settings_in};
+ghost use Rattle.szl.specs.Promise.{AreReadToEnd, names_asked};
+ghost use Rattle.szl.specs.Running.{IsSpelled, vec_items_of};
+ghost use Rattle.szl.specs.Settings.{settings_in, run, check};
 ghost use Rattle.szl.specs.View.{seen_program, seen_settings};
 
-use crate::failure::Failure;
-use crate::judge::{program_in, tree_in};
+use crate::failure::{Failure, refused};
+use crate::judge::{checked, program_in, tree_in};
 use crate::opening::read_text;
 use crate::refusal::Cause;
 use crate::running::tables_of;
@@ -34,7 +35,7 @@ const MOST_INPUT_BYTES: usize = 1 << 40;
 pub fn answer<F: Files>(alloc: Global, words: &[String], files: &mut F) -> Result<Vec<u8>, Failure>
     requires { length (F.names files.old) < 127 }
     ensures value { Answers F.Files (settings_in (map string_bytes words.now)) files.old files.new (vec_items_of result) }
-    ensures end { OnOk result (IfSome (settings_in (map string_bytes words.now)) (AreReadToEnd F.Files files.old files.new)) }
+    ensures end { OnOk result (AreReadToEnd F.Files files.old files.new (names_asked (settings_in (map string_bytes words.now)))) }
     ensures kept { KeepsFiles F.held F.left F.given F.faults files.old files.new }
 {
     match read_words(words) {
@@ -51,17 +52,67 @@ fn answer_settings<F: Files>(
 ) -> Result<Vec<u8>, Failure>
     requires { length (F.names files.old) < 127 }
     ensures value { Answers F.Files (Some (seen_settings settings.entry)) files.old files.new (vec_items_of result) }
-    ensures end { OnOk result (AreReadToEnd F.Files files.old files.new (seen_settings settings.entry)) }
+    ensures end { OnOk result (AreReadToEnd F.Files files.old files.new (names_asked (Some (seen_settings settings.entry)))) }
     ensures kept { KeepsFiles F.held F.left F.given F.faults files.old files.new }
 {
-    let text = read_text(
+    match settings {
+        Settings::Run { program, input } => answer_run(alloc, program, input, files),
+        Settings::Check { program } => answer_check(alloc, program, files),
+    }
+}
+
+/// The text of the program under a name.
+fn read_program<F: Files>(alloc: Global, name: &str, files: &mut F) -> Result<Vec<u8>, Failure>
+    requires few { length (F.names files.old) < 128 }
+    ensures text { ReadsText (F.held files.old name.now) most_program_bytes past_program (Rose (F.faults files.old) (F.faults files.new)) (vec_items_of result) }
+    ensures names { GainsName (F.names files.old) (F.names files.new) name.now (vec_items_of result) }
+    ensures end { OnOk result (ReadToEnd F.Files files.old files.new name.now) }
+    ensures kept { KeepsFiles F.held F.left F.given F.faults files.old files.new }
+{
+    read_text(
         alloc,
         files,
-        settings.program,
+        name,
         MOST_PROGRAM_BYTES,
-        Failure::Refused(Cause::TooLong, FIRST_PLACE),
-    )?;
-    answer_text(alloc, &text, settings.input, files)
+        refused(Cause::TooLong, FIRST_PLACE),
+    )
+}
+
+/// The text of the tables of the program under a name, for the input under another.
+fn answer_run<F: Files>(
+    alloc: Global,
+    program: &str,
+    input: &str,
+    files: &mut F,
+) -> Result<Vec<u8>, Failure>
+    requires { length (F.names files.old) < 127 }
+    ensures value { Answers F.Files (Some (run program.now input.now)) files.old files.new (vec_items_of result) }
+    ensures end { OnOk result (AreReadToEnd F.Files files.old files.new (program.now ∷ input.now ∷ [])) }
+    ensures kept { KeepsFiles F.held F.left F.given F.faults files.old files.new }
+{
+    let text = read_program(alloc, program, files)?;
+    answer_text(alloc, &text, input, files)
+}
+
+/// No text, if the program under a name passes its check.
+fn answer_check<F: Files>(alloc: Global, program: &str, files: &mut F) -> Result<Vec<u8>, Failure>
+    requires { length (F.names files.old) < 127 }
+    ensures value { Answers F.Files (Some (check program.now)) files.old files.new (vec_items_of result) }
+    ensures end { OnOk result (AreReadToEnd F.Files files.old files.new (program.now ∷ [])) }
+    ensures kept { KeepsFiles F.held F.left F.given F.faults files.old files.new }
+{
+    let text = read_program(alloc, program, files)?;
+    check_text(alloc, &text)
+}
+
+/// No text, if the program that is spelled by a text passes its check.
+fn check_text(alloc: Global, text: &[u8]) -> Result<Vec<u8>, Failure>
+    requires short { length text.now ≤ most_program_bytes }
+    ensures value { AnswersCheck text.now (vec_items_of result) }
+{
+    let tree = tree_in(alloc, text)?;
+    checked(alloc, &tree)?;
+    Ok(Vec::new(alloc))
 }
 
 /// The text of the tables of the program that is spelled by a text.
@@ -91,7 +142,7 @@ fn answer_program<F: Files>(
     files: &mut F,
 ) -> Result<Vec<u8>, Failure>
     requires few { length (F.names files.old) < 128 }
-    requires read { IsRead (seen_program program.now) }
+    requires read { IsSpelled (seen_program program.now) }
     ensures value { AnswersOn F.Files (outcome_of_program (seen_program program.now)) input.now files.old files.new (vec_items_of result) }
     ensures end { OnOk result (ReadToEnd F.Files files.old files.new input.now) }
     ensures names { OnOk result (F.names files.new ≡ F.names files.old ++ input.now ∷ []) }

@@ -1,21 +1,24 @@
 //! Why a call of the program ends without all its output.
 ghost use Rattle.std.specs.Prelude.{◌≡◌};
-ghost use Rattle.szl.specs.Failing.{status_of, line_of_failure};
+ghost use Rattle.szl.specs.Failing.{status_of};
+ghost use Rattle.szl.specs.Judgement.{refusal_at};
+ghost use Rattle.szl.specs.declared.failure.Failure.TheVariants.{Refused as failed};
 
-use crate::refusal::Cause;
+use crate::refusal::{Cause, Refusal};
 use crate::status::Status;
 use std::alloc::AllocError;
+use sz_check::CheckError;
 use sz_lex::LexError;
 use sz_parse::ParseError;
 use sz_types::Place;
 
 /// The causes, each with a status and a line of its own.
-#[derive(Clone, Copy, Debug)]
+#[derive(Debug, Drop)]
 pub enum Failure {
     /// The words are no command line.
     Usage,
-    /// The program's text is refused, for this cause at this place.
-    Refused(Cause, Place),
+    /// The program is refused.
+    Refused(Refusal),
     /// The input passes a limit.
     Limit,
     /// A file couldn't be opened or read.
@@ -28,18 +31,25 @@ pub enum Failure {
 
 impl Failure {
     /// The exit status.
-    pub fn status(self) -> Status
-        ensures value { result ≡ status_of self }
+    pub fn status(&self) -> Status
+        ensures value { result ≡ status_of self.now }
     {
         match self {
             Failure::Usage => Status::Usage,
-            Failure::Refused(_, _) => Status::Program,
+            Failure::Refused(_) => Status::Program,
             Failure::Limit => Status::Limit,
             Failure::ReadFailed => Status::ReadFailed,
             Failure::WriteFailed => Status::WriteFailed,
             Failure::NoMemory => Status::NoMemory,
         }
     }
+}
+
+/// The failure of a program that is refused for a cause at a place.
+pub fn refused(cause: Cause, place: Place) -> Failure
+    ensures value { result ≡ failed (refusal_at cause place) }
+{
+    Failure::Refused(Refusal::at(cause, place))
 }
 
 impl From<AllocError> for Failure {
@@ -59,9 +69,9 @@ impl From<LexError> for Failure {
 
     fn from(error: LexError) -> Failure {
         match error {
-            LexError::BadChar(place) => Failure::Refused(Cause::BadChar, place),
-            LexError::BadLiteral(place) => Failure::Refused(Cause::BadLiteral, place),
-            LexError::NotUtf8(place) => Failure::Refused(Cause::NotUtf8, place),
+            LexError::BadChar(place) => refused(Cause::BadChar, place),
+            LexError::BadLiteral(place) => refused(Cause::BadLiteral, place),
+            LexError::NotUtf8(place) => refused(Cause::NotUtf8, place),
             LexError::NoMemory => Failure::NoMemory,
         }
     }
@@ -74,8 +84,29 @@ impl From<ParseError> for Failure {
 
     fn from(error: ParseError) -> Failure {
         match error {
-            ParseError::Syntax(place) => Failure::Refused(Cause::Syntax, place),
+            ParseError::Syntax(place) => refused(Cause::Syntax, place),
             ParseError::NoMemory => Failure::NoMemory,
+        }
+    }
+}
+
+impl From<CheckError> for Failure {
+    ghost use Rattle.szl.specs.Judging.{failure_of_checking};
+
+    ghost from_gives = { λ error failure. failure ≡ failure_of_checking error };
+
+    fn from(error: CheckError) -> Failure {
+        match error {
+            CheckError::Refused {
+                number,
+                place,
+                name,
+            } => Failure::Refused(Refusal {
+                cause: Cause::of_number(number),
+                place,
+                name,
+            }),
+            CheckError::NoMemory => Failure::NoMemory,
         }
     }
 }

@@ -1,4 +1,4 @@
-//! `szl` runs a program of counts over the records of a file, and prints the sums of its tables.
+//! `szl` runs a program of counts over the records of a file, and prints the sums of its tables; or it checks a program.
 #![tactic(auto)]
 
 mod answer;
@@ -21,13 +21,17 @@ mod sums;
 mod tests;
 mod top;
 mod tree;
+mod unbuilt;
 mod unfit;
 mod values;
 mod words;
 
 use std::alloc::Global;
-use std::env;
+use std::fs::Files;
+use std::io::{Input, Stderr, Stdout};
 use std::process::ExitCode;
+use std::thread::{Builder, Threads};
+use std::{env, thread};
 use sz_io::{NoGate, OsFiles, OsSink};
 use top::szl_main;
 
@@ -45,19 +49,38 @@ fn given_words(rt: &HostRuntime) -> Vec<String> {
     words
 }
 
+/// Runs the command line of these words over real files and streams, and gives the exit status.
+fn run<R: Threads + Sync + Files + Input>(
+    rt: &R,
+    alloc: Global,
+    words: &[String],
+    out: Stdout,
+    err: Stderr,
+) -> u8 {
+    let mut files = OsFiles::new(rt, alloc);
+    let mut out = OsSink::new(out);
+    let mut err = OsSink::new(err);
+    let status = szl_main(rt, alloc, words, &mut files, &mut out, &mut err, &NoGate);
+    status.code()
+}
+
+/// How much stack the command line runs on: calls go down one level for each level of a type, and a type whose names are
+/// written out may have 30,000.
+const STACK_BYTES: usize = 256 << 20;
+
+// Where no thread can be started, this one does the work itself.
 fn main(rt: HostRuntime) -> ExitCode {
     let alloc: Global = rt.alloc();
-    let mut files = OsFiles::new(&rt, alloc);
-    let mut out = OsSink::new(rt.stdout());
-    let mut err = OsSink::new(rt.stderr());
-    let status = szl_main(
-        &rt,
-        alloc,
-        &given_words(&rt),
-        &mut files,
-        &mut out,
-        &mut err,
-        &NoGate,
-    );
-    ExitCode::from(status.code())
+    let words = given_words(&rt);
+    let code = thread::scope(thread::scope_env(), &rt, |scope| {
+        match Builder::new()
+            .stack_size(STACK_BYTES)
+            .spawn_scoped(scope, || {
+                run(&rt, alloc, &words, rt.stdout(), rt.stderr())
+            }) {
+            Ok(work) => work.join(&rt),
+            Err(_) => run(&rt, alloc, &words, rt.stdout(), rt.stderr()),
+        }
+    });
+    ExitCode::from(code)
 }

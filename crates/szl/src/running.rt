@@ -1,6 +1,6 @@
 //! A program run over an input.
 ghost use Rattle.std.specs.Prelude.{◌≡◌, ◌≤◌, ◌^◌, length};
-ghost use Rattle.szl.specs.Running.{IsRead, GivesTables, vec_items_of};
+ghost use Rattle.szl.specs.Running.{IsSpelled, GivesTables, vec_items_of};
 ghost use Rattle.szl.specs.View.{seen_program};
 
 use crate::failure::Failure;
@@ -14,7 +14,7 @@ use std::alloc::Global;
 #[tactic(auto, using(crate::proofs::ProgramLemmas::may_run, crate::proofs::TotalsLemmas::stand_none))]
 /// The text of the program's tables for all records of the input.
 pub fn tables_of(alloc: Global, program: &Program, input: &[u8]) -> Result<Vec<u8>, Failure>
-    requires read { IsRead (seen_program program.now) }
+    requires read { IsSpelled (seen_program program.now) }
     requires size { length input.now ≤ 2 ^ 40 }
     ensures value { GivesTables (seen_program program.now) input.now (vec_items_of result) }
 {

@@ -1,10 +1,10 @@
 //! The top call: from the words and the devices to the status.
-ghost use Rattle.std.specs.Prelude.{◌≡◌, ◌<◌, ◌⊎◌, Err, Ok, length, map, string_bytes, IfSome};
+ghost use Rattle.std.specs.Prelude.{◌≡◌, ◌<◌, ◌⊎◌, Err, Ok, length, map, string_bytes};
 ghost use Rattle.sz_io.specs.Opened.{KeepsFiles};
 ghost use Rattle.sz_io.specs.Rose.{Rose, DoNotFall};
 ghost use Rattle.szl.specs.Failing.{line_of_failure};
 ghost use Rattle.szl.specs.Printing.{Prints};
-ghost use Rattle.szl.specs.Promise.{MeansSource, GainsLine, AreReadToEnd};
+ghost use Rattle.szl.specs.Promise.{MeansSource, GainsLine, AreReadToEnd, names_asked};
 ghost use Rattle.szl.specs.Running.{vec_items_of};
 ghost use Rattle.szl.specs.Settings.{settings_in};
 
@@ -32,7 +32,7 @@ pub fn szl_main<R: Threads + Sync, F: Files, O: Sink, E: Sink, G: Gate + Sync>(
     requires { length (F.names files.old) < 127 }
 
     ensures outcome { MeansSource F.Files O.Sink E.Sink (map string_bytes words.now) result files.old files.new out.old out.new err.old err.new }
-    ensures end { result ≡ Status.Done → IfSome (settings_in (map string_bytes words.now)) (AreReadToEnd F.Files files.old files.new) }
+    ensures end { result ≡ Status.Done → AreReadToEnd F.Files files.old files.new (names_asked (settings_in (map string_bytes words.now))) }
 
     ensures read_failed { result ≡ Status.ReadFailed → Rose (F.faults files.old) (F.faults files.new) }
     ensures write_failed { result ≡ Status.WriteFailed → Rose (O.faults out.old) (O.faults out.new) }
@@ -79,9 +79,9 @@ fn tell<E: Sink>(alloc: Global, err: &mut E, failure: Failure) -> Failure
     ensures line { GainsLine E.Sink err.old err.new (line_of_failure result) }
     ensures kept { DoNotFall E.faults E.refusals err.old err.new }
 {
-    match failure {
+    match &failure {
         Failure::Usage => tell_line(err, b"bad command line\n", failure),
-        Failure::Refused(cause, place) => match refusal_line(alloc, cause, place) {
+        Failure::Refused(refusal) => match refusal_line(alloc, refusal) {
             Ok(line) => tell_line(err, &line, failure),
             Err(_) => tell_line(err, b"out of memory\n", Failure::NoMemory),
         },

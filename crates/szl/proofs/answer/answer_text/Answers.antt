@@ -22,7 +22,10 @@ returns-in_err-program-clause-value g c =
 pub answer_program-requires-clause-read : goal.answer_program-requires-clause-read
 answer_program-requires-clause-read g c = record {
   text = c.args.text.now;
-  judged = (c.requires.short, record { statements = program_of c.in_ok-tree.tree; has = c.in_ok-tree.ensures.found; is = c.in_ok-program.ensures.found });
+  short = c.requires.short;
+  statements = program_of c.in_ok-tree.tree;
+  has = c.in_ok-tree.ensures.found;
+  is = c.in_ok-program.ensures.found;
 }
 
 -- the program was run

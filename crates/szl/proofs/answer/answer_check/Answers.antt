@@ -1,0 +1,21 @@
+use Rattle.std.proofs.Common.{subst}
+use Rattle.std.proofs.lemmas.Result.{err_from_is_err_and}
+use Rattle.szl.specs.Opening.{AnswersCheck}
+use Rattle.szl.specs.Running.{vec_items_of}
+use Rattle.szl.specs.Settings.{check}
+use Rattle.szl.proofs.SettingsLemmas.{text_fails, text_checked}
+use Rattle.szl.proofs.answer.answer_check.Goals as goal
+
+-- the program's text couldn't be read
+pub returns-in_err-text-clause-value : goal.returns-in_err-text-clause-value
+returns-in_err-text-clause-value g c =
+    let p = err_from_is_err_and c.from_residual.result c.from_residual.ensures.1 in
+    rw (p.1, p.2) (text_fails g.F.Files (check c.args.program.now) c.args.files.now c.read_program.new.files c.in_err-text.field-0.0
+    c.in_err-text.ensures.text c.in_err-text.ensures.names)
+
+-- the check is answered on the text
+pub returns-clause-value : goal.returns-clause-value
+returns-clause-value g c =
+    let a = subst (λ text. AnswersCheck text (vec_items_of c.check_text.result)) c.deref.ensures.value c.check_text.ensures.value in
+    text_checked g.F.Files c.args.program.now c.args.files.now c.read_program.new.files c.in_ok-text.text.items (vec_items_of c.check_text.result) _
+    c.in_ok-text.ensures.text c.in_ok-text.ensures.names a

@@ -1,0 +1,23 @@
+use Rattle.std.proofs.Common.{subst}
+use Rattle.std.proofs.lemmas.Result.{err_from_is_err_and}
+use Rattle.szl.specs.Opening.{AnswersText}
+use Rattle.szl.specs.Running.{vec_items_of}
+use Rattle.szl.specs.Settings.{run}
+use Rattle.szl.proofs.SettingsLemmas.{text_fails, text_read}
+use Rattle.szl.proofs.answer.answer_run.Goals as goal
+
+-- the program's text couldn't be read
+pub returns-in_err-text-clause-value : goal.returns-in_err-text-clause-value
+returns-in_err-text-clause-value g c =
+    let p = err_from_is_err_and c.from_residual.result c.from_residual.ensures.1 in
+    rw (p.1, p.2) (text_fails g.F.Files (run c.args.program.now c.args.input.now) c.args.files.now c.read_program.new.files c.in_err-text.field-0.0
+    c.in_err-text.ensures.text c.in_err-text.ensures.names)
+
+-- the rest is answered on the text
+pub returns-clause-value : goal.returns-clause-value
+returns-clause-value g c =
+    let name = c.args.input.now in
+    let a = subst (λ text. AnswersText g.F.Files text name c.read_program.new.files c.answer_text.new.files (vec_items_of c.answer_text.result))
+    c.deref.ensures.value c.answer_text.ensures.value in
+    text_read g.F.Files c.args.program.now c.args.files.now name c.read_program.new.files c.answer_text.new.files c.in_ok-text.text.items
+    (vec_items_of c.answer_text.result) _ c.in_ok-text.ensures.text c.in_ok-text.ensures.names c.in_ok-text.ensures.kept a
