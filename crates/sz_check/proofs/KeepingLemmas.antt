@@ -1,9 +1,8 @@
 -- Laws of how what is known is kept.
-use Rattle.std.proofs.Common.{◌≡◌, ℕ, zero, suc, ◌+◌, ◌-◌, ◌<◌, ◌≤◌, ◌⊎◌, inl, inr, Bool, true, false, not, ◌&&◌, ◌||◌, nat_le, nat_lt, List, [], ◌∷◌, ◌++◌, length, map, filter, drop, slice_get, Option, None, Some, option_map, is_some, unwrap_or, bytes_eq, refl, sym, ap, subst, ◌∙◌, ◌↔◌, IsTrue, IfOk, OnOk, OnErr, Result, Ok, Err, true≢false, if◌then◌else◌, arith}
+use Rattle.std.proofs.Common.{◌≡◌, ℕ, zero, suc, ◌-◌, ◌<◌, ◌≤◌, Bool, true, false, not, ◌||◌, nat_le, List, [], ◌∷◌, ◌++◌, length, filter, slice_get, Option, None, Some, option_map, is_some, unwrap_or, bytes_eq, refl, sym, ap, subst, ◌∙◌, ◌↔◌, IsTrue, IfOk, OnOk, OnErr, Result, Ok, Err, true≢false, if◌then◌else◌, arith}
 use Rattle.std.specs.Option.{option_or, option_map_or}
-use Rattle.std.specs.List.{list_any}
 use Rattle.std.specs.declared.alloc.AllocError.{AllocError}
-use Rattle.std.proofs.lemmas.Bool.{cases_lt, lt-ltb, le-ltb, le-leb, lt-leb, leb-true, ltb-true, ltb-false, cond-true, cond-false}
+use Rattle.std.proofs.lemmas.Bool.{le-leb, lt-leb, leb-true, cond-true, cond-false}
 use Rattle.std.proofs.lemmas.Option.{none-some, same_Some, slice_get_within}
 use Rattle.std.proofs.lemmas.List.{length_push}
 use Rattle.sz_types.specs.Data.{Shape}
@@ -11,7 +10,6 @@ use Rattle.sz_scope.specs.Blocks as scopes
 use Rattle.sz_scope.specs.Blocks.{Declaration, found, found_in, is_declared, with_declared, without_newest}
 use Rattle.sz_scope.specs.Sight.{is_seen, blocks_where, seen_blocks}
 use Rattle.sz_scope.specs.declared.meaning.Meaning.{Meaning as Place}
-use Rattle.sz_scope.specs.declared.meaning.Meaning.TheVariants as places
 use Rattle.sz_scope.specs.declared.error.ScopeError.{ScopeError}
 use Rattle.sz_scope.specs.declared.error.ScopeError.TheVariants.{Twice, NoMemory}
 use Rattle.sz_scope.specs.declared.sight.Sight.{Sight}
@@ -20,9 +18,8 @@ use Rattle.sz_check.specs.declared.meaning.Meaning.{Meaning as Kept}
 use Rattle.sz_check.specs.declared.meaning.Meaning.TheVariants as held
 use Rattle.sz_check.specs.Names.{Meaning, Named, Block, has, meaning_in, only, is_seen_by_functions, is_seen_by_statics}
 use Rattle.sz_check.specs.Names as names
-use Rattle.sz_check.specs.Written.{type_at}
-use Rattle.sz_check.specs.Holding.{meaning_of, Held, blocks_of, blocks_for, outside_of, in_function, IsRoundFunction}
-use Rattle.sz_check.specs.Keeping.{floor_of, seen_from, sits_in, fitting, sight_for, place_of, placed, is_new, kept_at, meaning_by, block_by, blocks_by, held_of, IsBySight, with_name, with_type, IsPlaced, ArePlacedIn, ArePlaced, IsTyped, AreTyped, IsKept, without_innermost}
+use Rattle.sz_check.specs.Holding.{meaning_of, Held, blocks_for, in_function}
+use Rattle.sz_check.specs.Keeping.{floor_of, seen_from, sits_in, fitting, sight_for, place_of, placed, is_new, kept_at, meaning_by, block_by, blocks_by, held_of, with_name, with_type, IsPlaced, ArePlacedIn, ArePlaced, IsTyped, AreTyped, IsKept}
 
 -- what is kept under a name, whose place is in the list
 record IsHeld (meanings : List Kept) (what : Place) : Type 0 where

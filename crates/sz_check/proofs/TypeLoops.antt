@@ -1,5 +1,5 @@
 -- Turns of the loops over parts of tuples and fields of messages.
-use Rattle.std.proofs.Common.{◌≡◌, ℕ, ◌+◌, ◌<◌, ◌≤◌, Bool, true, false, not, ◌&&◌, List, [], ◌∷◌, ◌++◌, length, get_or, drop, map, refl, sym, ap, subst, ◌∙◌}
+use Rattle.std.proofs.Common.{◌≡◌, ℕ, ◌+◌, ◌<◌, ◌≤◌, Bool, true, false, not, ◌&&◌, List, [], ◌∷◌, ◌++◌, length, get_or, drop, map, refl, sym, ap, ◌∙◌}
 use Rattle.std.specs.Prelude.{Ok, Err, if◌then◌else◌, Option, Some, None}
 use Rattle.sz_types.specs.Data.{Shape, FieldShape, field, FieldShapes, no_fields, with_field, fields_of as shapes_of}
 use Rattle.sz_types.specs.declared.encoding.Encoding.TheVariants.{Plain}

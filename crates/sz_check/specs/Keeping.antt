@@ -13,7 +13,7 @@ use Rattle.sz_scope.specs.declared.sight.Sight.TheVariants as sights
 use Rattle.sz_check.specs.declared.meaning.Meaning.{Meaning as Kept}
 use Rattle.sz_check.specs.declared.meaning.Meaning.TheVariants as held
 use Rattle.sz_check.specs.Names.{Meaning, Named, Block, input, is_seen_by_functions}
-use Rattle.sz_check.specs.Holding.{meaning_of, Outside, Held}
+use Rattle.sz_check.specs.Holding.{meaning_of, Held}
 
 -- round how many blocks the routine stands
 abbrev pub floor_of : Sight → ℕ

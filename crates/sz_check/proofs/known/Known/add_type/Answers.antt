@@ -1,6 +1,5 @@
-use Rattle.std.proofs.Common.{ap, subst, IfOk, ◌≡◌, ◌++◌, ◌∷◌, []}
+use Rattle.std.proofs.Common.{subst, IfOk, ◌≡◌, ◌++◌, ◌∷◌, []}
 use Rattle.sz_check.specs.Written.{shape_in}
-use Rattle.sz_check.specs.Keeping.{held_of, blocks_by, with_type}
 use Rattle.sz_check.proofs.KeepingLemmas.{kept_added, held_added, types_are}
 use Rattle.sz_check.proofs.known.Known.add_type.Goals as goal
 

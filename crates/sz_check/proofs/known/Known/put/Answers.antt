@@ -1,5 +1,4 @@
-use Rattle.std.proofs.Common.{◌≡◌, ap, sym, ◌∙◌, subst, IfOk, OnErr, Bool, not, length, if◌then◌else◌, Result, rules}
-use Rattle.std.specs.declared.alloc.AllocError.{AllocError}
+use Rattle.std.proofs.Common.{◌≡◌, sym, subst, IfOk, OnErr, not, length, if◌then◌else◌, rules}
 use Rattle.sz_check.specs.Names.{has}
 use Rattle.sz_check.specs.Holding.{meaning_of}
 use Rattle.sz_check.specs.Keeping.{held_of, blocks_by, with_name, IsTyped}
