@@ -1,5 +1,6 @@
 -- How what is known is kept: blocks whose names stand for places in a list of meanings.
-use Rattle.std.specs.Prelude.{◌≡◌, ℕ, ◌-◌, ◌<◌, List, [], ◌∷◌, ◌++◌, length, map, filter, Bool, true, false, nat_le, nat_lt, if◌then◌else◌, Option, Some, None, slice_get, unwrap_or, Result, Ok, Err, alloc_error}
+use Rattle.std.specs.Prelude.{◌≡◌, ℕ, ◌-◌, ◌<◌, List, [], ◌∷◌, ◌++◌, length, map, filter, Bool, true, false, nat_le, nat_lt, if◌then◌else◌, Option, Some}
+use Rattle.std.specs.Prelude.{None, slice_get, unwrap_or, Result, Ok, Err, alloc_error}
 use Rattle.std.specs.Option.{option_map, option_map_or}
 use Rattle.std.specs.declared.alloc.AllocError.{AllocError}
 use Rattle.sz_types.specs.Data.{Shape}

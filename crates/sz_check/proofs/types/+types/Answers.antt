@@ -58,13 +58,15 @@ judge_fields-returns t c = record {
 pub judge_written-returns-in-Tuple : goal.judge_written-returns-in-Tuple
 judge_written-returns-in-Tuple t c = record {
   value =
-      judged_as (shape_in c.args.known.now.outside.types) c.judge_tuple.result (judge_type (blocks_of c.args.known.now)) _ _ (ap type_of c.in-Tuple.is ∙ type_of_tuple _ _)
+      judged_as (shape_in c.args.known.now.outside.types) c.judge_tuple.result (judge_type (blocks_of c.args.known.now)) _ _
+      (ap type_of c.in-Tuple.is ∙ type_of_tuple _ _)
       (rw c.as_slice.ensures.value at c.judge_tuple.ensures.value);
 }
 
 pub judge_written-returns-in-Proto : goal.judge_written-returns-in-Proto
 judge_written-returns-in-Proto t c = record {
   value =
-      judged_as (shape_in c.args.known.now.outside.types) c.judge_proto.result (judge_type (blocks_of c.args.known.now)) _ _ (ap type_of c.in-Proto.is ∙ type_of_proto _ _)
+      judged_as (shape_in c.args.known.now.outside.types) c.judge_proto.result (judge_type (blocks_of c.args.known.now)) _ _
+      (ap type_of c.in-Proto.is ∙ type_of_proto _ _)
       (rw c.as_slice-in-Proto.ensures.value at c.judge_proto.ensures.value);
 }

@@ -41,10 +41,12 @@ returns-in-Some c =
     let within = place_within k.types k.meanings.items c.in_ok-found.found.now h c.in-Some.place placed in
     let read = slice_get_read k.meanings.items _ c.in-Some.place c.index.result.now refl within c.index.ensures in
     record {
-      value = ap (λ m. Some m) (c.means.ensures.value ∙ place_means k.types k.meanings.items c.in_ok-found.found.now c.in-Some.place c.index.result.now placed read)
+      value = ap (λ m. Some m) (c.means.ensures.value
+          ∙ place_means k.types k.meanings.items c.in_ok-found.found.now c.in-Some.place c.index.result.now placed read)
           ∙ find_is k.types k.meanings.items c.args.name.now.text k.locals c.args.may_emit k.scopes k.sight c.self.invariant _ asked
           ∙ ap (λ held. meaning_of c.args.name.now.text (blocks_for held c.args.may_emit)) c.self.view_is;
-      types = subst (λ ts. IsOfTypes ts c.means.result) (types_are k.types k.meanings.items k.scopes k.sight k.locals c.args.self.now c.self.view_is) c.means.ensures.types;
+      types = subst (λ ts. IsOfTypes ts c.means.result)
+          (types_are k.types k.meanings.items k.scopes k.sight k.locals c.args.self.now c.self.view_is) c.means.ensures.types;
     }
 
 -- the record is kept without a place
