@@ -1,9 +1,10 @@
 -- Laws of how what is known is kept.
-use Rattle.std.proofs.Common.{◌≡◌, ℕ, zero, suc, ◌+◌, ◌-◌, ◌<◌, ◌≤◌, ◌⊎◌, inl, inr, Bool, true, false, not, ◌&&◌, ◌||◌, nat_le, nat_lt, List, [], ◌∷◌, ◌++◌, length, map, filter, drop, slice_get, Option, None, Some, option_map, is_some, unwrap_or, bytes_eq, refl, sym, ap, subst, ◌∙◌, ◌↔◌, IsTrue, IfOk, OnOk, OnErr, Result, Ok, Err, true≢false, if◌then◌else◌, arith}
+use Rattle.std.proofs.Common.{◌≡◌, ℕ, zero, suc, ◌-◌, ◌<◌, ◌≤◌, Bool, true, false, not, ◌||◌, nat_le, List, [], ◌∷◌, ◌++◌, length, filter, slice_get}
+use Rattle.std.proofs.Common.{Option, None, Some, option_map, is_some, unwrap_or, bytes_eq, refl, sym, ap, subst, ◌∙◌, ◌↔◌, IsTrue, IfOk, OnOk, OnErr}
+use Rattle.std.proofs.Common.{Result, Ok, Err, true≢false, if◌then◌else◌, arith}
 use Rattle.std.specs.Option.{option_or, option_map_or}
-use Rattle.std.specs.List.{list_any}
 use Rattle.std.specs.declared.alloc.AllocError.{AllocError}
-use Rattle.std.proofs.lemmas.Bool.{cases_lt, lt-ltb, le-ltb, le-leb, lt-leb, leb-true, ltb-true, ltb-false, cond-true, cond-false}
+use Rattle.std.proofs.lemmas.Bool.{le-leb, lt-leb, leb-true, cond-true, cond-false}
 use Rattle.std.proofs.lemmas.Option.{none-some, same_Some, slice_get_within}
 use Rattle.std.proofs.lemmas.List.{length_push}
 use Rattle.sz_types.specs.Data.{Shape}
@@ -11,7 +12,6 @@ use Rattle.sz_scope.specs.Blocks as scopes
 use Rattle.sz_scope.specs.Blocks.{Declaration, found, found_in, is_declared, with_declared, without_newest}
 use Rattle.sz_scope.specs.Sight.{is_seen, blocks_where, seen_blocks}
 use Rattle.sz_scope.specs.declared.meaning.Meaning.{Meaning as Place}
-use Rattle.sz_scope.specs.declared.meaning.Meaning.TheVariants as places
 use Rattle.sz_scope.specs.declared.error.ScopeError.{ScopeError}
 use Rattle.sz_scope.specs.declared.error.ScopeError.TheVariants.{Twice, NoMemory}
 use Rattle.sz_scope.specs.declared.sight.Sight.{Sight}
@@ -20,9 +20,9 @@ use Rattle.sz_check.specs.declared.meaning.Meaning.{Meaning as Kept}
 use Rattle.sz_check.specs.declared.meaning.Meaning.TheVariants as held
 use Rattle.sz_check.specs.Names.{Meaning, Named, Block, has, meaning_in, only, is_seen_by_functions, is_seen_by_statics}
 use Rattle.sz_check.specs.Names as names
-use Rattle.sz_check.specs.Written.{type_at}
-use Rattle.sz_check.specs.Holding.{meaning_of, Held, blocks_of, blocks_for, outside_of, in_function, IsRoundFunction}
-use Rattle.sz_check.specs.Keeping.{floor_of, seen_from, sits_in, fitting, sight_for, place_of, placed, is_new, kept_at, meaning_by, block_by, blocks_by, held_of, IsBySight, with_name, with_type, IsPlaced, ArePlacedIn, ArePlaced, IsTyped, AreTyped, IsKept, without_innermost}
+use Rattle.sz_check.specs.Holding.{meaning_of, Held, blocks_for, in_function}
+use Rattle.sz_check.specs.Keeping.{floor_of, seen_from, sits_in, fitting, sight_for, place_of, placed, is_new, kept_at, meaning_by, block_by, blocks_by}
+use Rattle.sz_check.specs.Keeping.{held_of, with_name, with_type, IsPlaced, ArePlacedIn, ArePlaced, IsTyped, AreTyped, IsKept}
 
 -- what is kept under a name, whose place is in the list
 record IsHeld (meanings : List Kept) (what : Place) : Type 0 where
@@ -99,7 +99,8 @@ module _ (types : List Shape) (meanings : List Kept) where
       by : (b c : Bool) → b ≡ c
           → block_by types meanings (filter (λ (d : Declaration). test d.what) block) ≡ filter (λ (n : Named). sees n.meaning) (block_by types meanings block)
           → block_by types meanings (if b then d ∷ filter (λ (d : Declaration). test d.what) block else filter (λ (d : Declaration). test d.what) block)
-          ≡ (if c then front ∷ filter (λ (n : Named). sees n.meaning) (block_by types meanings block) else filter (λ (n : Named). sees n.meaning) (block_by types meanings block))
+          ≡ (if c then front ∷ filter (λ (n : Named). sees n.meaning) (block_by types meanings block) else filter (λ (n : Named). sees n.meaning)
+          (block_by types meanings block))
       by true true e rest = ap (λ (l : Block). front ∷ l) rest
       by false false e rest = rest
       by true false e rest = absurd (true≢false e)
@@ -123,7 +124,8 @@ module _ (types : List Shape) (meanings : List Kept) where
 
       joined : (o p : Option Place) → option_map (meaning_by types meanings) o ≡ meaning_in name (block_by types meanings block)
           → option_map (meaning_by types meanings) p ≡ names.meaning_of name (blocks_by types meanings blocks)
-          → option_map (meaning_by types meanings) (option_or o p) ≡ names.first_of (meaning_in name (block_by types meanings block)) (names.meaning_of name (blocks_by types meanings blocks))
+          → option_map (meaning_by types meanings) (option_or o p)
+          ≡ names.first_of (meaning_in name (block_by types meanings block)) (names.meaning_of name (blocks_by types meanings blocks))
       joined (Some w) p e f = ap (λ q. names.first_of q (names.meaning_of name (blocks_by types meanings blocks))) e
       joined None p e f = f ∙ ap (λ q. names.first_of q (names.meaning_of name (blocks_by types meanings blocks))) e
 
@@ -140,11 +142,13 @@ module _ (types : List Shape) (meanings : List Kept) where
       part (d ∷ block) h = by (test (length blocks) d.what) (part block h.1)
         where
           by : (b : Bool) → ArePlacedIn meanings (filter (λ (d : Declaration). test (length blocks) d.what) block)
-              → ArePlacedIn meanings (if b then d ∷ filter (λ (d : Declaration). test (length blocks) d.what) block else filter (λ (d : Declaration). test (length blocks) d.what) block)
+              → ArePlacedIn meanings (if b then d ∷ filter (λ (d : Declaration). test (length blocks) d.what) block else filter
+              (λ (d : Declaration). test (length blocks) d.what) block)
           by true rest = (h.0, rest)
           by false rest = rest
 
-  found_is_placed : (name : List ℕ) (blocks : List scopes.Block) → ArePlaced meanings blocks → (what : Place) → found name blocks ≡ Some what → IsPlaced meanings what
+  found_is_placed : (name : List ℕ) (blocks : List scopes.Block) → ArePlaced meanings blocks → (what : Place) → found name blocks ≡ Some what
+      → IsPlaced meanings what
   found_is_placed name [] h what p = absurd (none-some what p)
   found_is_placed name (block ∷ blocks) h what p = by (found_in name block) (in_block block h.0) (found_is_placed name blocks h.1) p
     where
@@ -164,7 +168,8 @@ module _ (types : List Shape) (meanings : List Kept) where
 
 -- what a test that is as strict leaves of a part is what it leaves of the whole
 part_of_part : (test : Meaning → Bool) → ((m : Meaning) → is_seen_by_functions m ≡ false → test m ≡ false)
-    → (block : Block) → filter (λ (n : Named). test n.meaning) (filter (λ (n : Named). is_seen_by_functions n.meaning) block) ≡ filter (λ (n : Named). test n.meaning) block
+    → (block : Block) → filter (λ (n : Named). test n.meaning) (filter (λ (n : Named). is_seen_by_functions n.meaning) block)
+    ≡ filter (λ (n : Named). test n.meaning) block
 part_of_part test strict [] = refl
 part_of_part test strict (n ∷ block) = by (is_seen_by_functions n.meaning) (strict n.meaning) (part_of_part test strict block)
   where
@@ -175,7 +180,8 @@ part_of_part test strict (n ∷ block) = by (is_seen_by_functions n.meaning) (st
         → filter (λ (n : Named). test n.meaning) part ≡ filter (λ (n : Named). test n.meaning) block
         → filter (λ (n : Named). test n.meaning) (if b then n ∷ part else part) ≡ filter (λ (n : Named). test n.meaning) (n ∷ block)
     by true less rest = ap (λ (l : Block). if test n.meaning then n ∷ l else l) rest
-    by false less rest = rest ∙ sym (cond-false (test n.meaning) (n ∷ filter (λ (n : Named). test n.meaning) block) (filter (λ (n : Named). test n.meaning) block) (less refl))
+    by false less rest = rest ∙ sym
+        (cond-false (test n.meaning) (n ∷ filter (λ (n : Named). test n.meaning) block) (filter (λ (n : Named). test n.meaning) block) (less refl))
 
 only_seen : (test : Meaning → Bool) → ((m : Meaning) → is_seen_by_functions m ≡ false → test m ≡ false)
     → (sight : Sight) (blocks : List Block) → only test (seen_from sight blocks) ≡ only test blocks
@@ -240,24 +246,28 @@ module _ (types : List Shape) (meanings : List Kept) where
           part_by types meanings (is_seen sight [] (length blocks)) (λ m. nat_le (floor_of sight) (length blocks) || is_seen_by_functions m)
           (λ what p. routine_sees types meanings sight count (length blocks) what s p) block h.0
           ∙ whole (nat_le (floor_of sight) (length blocks)) (block_by types meanings block)
-          ∙ ap (λ n. if nat_le (floor_of sight) n then block_by types meanings block else filter (λ (n : Named). is_seen_by_functions n.meaning) (block_by types meanings block))
+          ∙ ap (λ n. if nat_le (floor_of sight) n then block_by types meanings block else filter (λ (n : Named). is_seen_by_functions n.meaning)
+          (block_by types meanings block))
           (sym (length_by types meanings blocks))
 
   seen_by_static : (blocks : List scopes.Block) → ArePlaced meanings blocks
       → blocks_by types meanings (seen_blocks sights.Static [] blocks) ≡ only is_seen_by_statics (blocks_by types meanings blocks)
   seen_by_static [] h = refl
   seen_by_static (block ∷ blocks) h =
-      λ i. part_by types meanings (is_seen sights.Static [] (length blocks)) is_seen_by_statics (λ what p. static_sees types meanings (length blocks) what p) block h.0 i
+      λ i. part_by types meanings (is_seen sights.Static [] (length blocks)) is_seen_by_statics
+      (λ what p. static_sees types meanings (length blocks) what p) block h.0 i
       ∷ seen_by_static blocks h.1 i
 
   blocks_seen : (sight : Sight) (locals : List Shape) (may_emit : Bool) (blocks : List scopes.Block) → IsKept types meanings blocks sight
-      → blocks_by types meanings (seen_blocks (sight_for sight may_emit) [] blocks) ≡ blocks_for (held_of (blocks_by types meanings blocks) sight types locals) may_emit
+      → blocks_by types meanings (seen_blocks (sight_for sight may_emit) [] blocks)
+      ≡ blocks_for (held_of (blocks_by types meanings blocks) sight types locals) may_emit
   blocks_seen sight locals may_emit [] k = absurd (omega (arith, k.some))
   blocks_seen sight locals true (block ∷ blocks) k =
       seen_by_routine sight (length (block ∷ blocks) - 1) k.sits (block ∷ blocks) k.placed
       ∙ ap (λ (b : Block). b ∷ seen_from sight (blocks_by types meanings blocks))
       (cond-true (nat_le (floor_of sight) (length (blocks_by types meanings blocks))) (block_by types meanings block)
-      (filter (λ (n : Named). is_seen_by_functions n.meaning) (block_by types meanings block)) (le-leb (floor_of sight) (length (blocks_by types meanings blocks)) within))
+      (filter (λ (n : Named). is_seen_by_functions n.meaning) (block_by types meanings block))
+      (le-leb (floor_of sight) (length (blocks_by types meanings blocks)) within))
     where
       within : floor_of sight ≤ length (blocks_by types meanings blocks)
       within = omega (arith, sits_floor sight (length (block ∷ blocks) - 1) k.sits, length_by types meanings blocks)
@@ -388,7 +398,8 @@ module _ (types : List Shape) (meanings : List Kept) (m : Kept) (name : List ℕ
       ≡ with_name name (meaning_of types m) (held_of (blocks_by types meanings blocks) sight types locals)
   held_put [] sight locals k = absurd (omega (arith, k.some))
   held_put (block ∷ blocks) sight locals k =
-      λ i. held_of ((record { name = name; meaning = means_last types meanings m i } ∷ block_stays types meanings m block k.placed.0 i) ∷ blocks_stay types meanings m blocks k.placed.1 i) sight types locals
+      λ i. held_of ((record { name = name; meaning = means_last types meanings m i } ∷ block_stays types meanings m block
+      k.placed.0 i) ∷ blocks_stay types meanings m blocks k.placed.1 i) sight types locals
 
 -- whether the innermost block has a name
 pub has_is : (types : List Shape) (meanings : List Kept) (name : List ℕ) (blocks : List scopes.Block) (sight : Sight) (locals : List Shape)
@@ -422,7 +433,8 @@ module _ (types : List Shape) (t : Shape) (meanings : List Kept) where
   typed_at count (k ∷ ms) (Some zero) m h p = subst (IsTyped count) (same_Some k m p) h.0
   typed_at count (k ∷ ms) (Some (suc n)) m h p = typed_at count ms (Some n) m h.1 p
 
-  means_same : (what : Place) → IsPlaced meanings what → AreTyped (length types) meanings → meaning_by (types ++ t ∷ []) meanings what ≡ meaning_by types meanings what
+  means_same : (what : Place) → IsPlaced meanings what → AreTyped (length types) meanings
+      → meaning_by (types ++ t ∷ []) meanings what ≡ meaning_by types meanings what
   means_same what p typed =
       let h = held_by meanings what p in
       ap (λ o. option_map_or (meaning_of (types ++ t ∷ [])) o names.input) h.here
@@ -480,14 +492,17 @@ module _ (types more : List Shape) (t : Shape) (meanings : List Kept) (blocks : 
     where
       by : (r : Result ℕ AllocError) → IfOk r (λ n. more ≡ types ++ t ∷ [])
           → IfOk r (λ n. held_of (blocks_by more meanings blocks) sight more locals ≡ with_type t before)
-      by (Ok n) p = (λ i. held_of (blocks_by (p i) meanings blocks) sight (p i) locals) ∙ held_typed types t meanings blocks sight locals k ∙ ap (with_type t) view
+      by (Ok n) p = (λ i. held_of (blocks_by (p i) meanings blocks) sight (p i) locals) ∙ held_typed types t meanings blocks sight locals k
+          ∙ ap (with_type t) view
       by (Err e) p = tt
 
 -- a name is put in the innermost block, or the block has it
-module _ (types : List Shape) (meanings others : List Kept) (m : Kept) (name : List ℕ) (blocks new : List scopes.Block) (sight : Sight) (place : ℕ) (what : Place)
+module _ (types : List Shape) (meanings others : List Kept) (m : Kept) (name : List ℕ) (blocks new : List scopes.Block) (sight : Sight) (place : ℕ)
+    (what : Place)
     (k : IsKept types meanings blocks sight) (typed : IsTyped (length types) m) (pushed : others ≡ meanings ++ m ∷ [])
     (at : place ≡ length meanings) (is : what ≡ placed place m)
-    (result : Result Unit ScopeError) (ok : OnOk result (new ≡ with_declared (record { name = name; what = what }) blocks)) (err : OnErr result (new ≡ blocks)) where
+    (result : Result Unit ScopeError) (ok : OnOk result (new ≡ with_declared (record { name = name; what = what }) blocks))
+    (err : OnErr result (new ≡ blocks)) where
   declared : List scopes.Block
   declared = with_declared (record { name = name; what = placed (length meanings) m }) blocks
 
@@ -500,7 +515,8 @@ module _ (types : List Shape) (meanings others : List Kept) (m : Kept) (name : L
     where
       by : (r : Result Unit ScopeError) → OnOk r (new ≡ with_declared (record { name = name; what = what }) blocks) → OnErr r (new ≡ blocks)
           → IsKept types (meanings ++ m ∷ []) new sight
-      by (Ok u) p q = subst (λ bs. IsKept types (meanings ++ m ∷ []) bs sight) (sym (p ∙ ap (λ w. with_declared (record { name = name; what = w }) blocks) what_is))
+      by (Ok u) p q = subst (λ bs. IsKept types (meanings ++ m ∷ []) bs sight)
+          (sym (p ∙ ap (λ w. with_declared (record { name = name; what = w }) blocks) what_is))
           (kept_put types meanings m name blocks sight k typed)
       by (Err e) p q = subst (λ bs. IsKept types (meanings ++ m ∷ []) bs sight) (sym q) (kept_more types meanings m blocks sight k typed)
 
@@ -532,7 +548,8 @@ module _ (types : List Shape) (meanings others : List Kept) (m : Kept) (name : L
     put_ok = by result ok err
       where
         by : (r : Result Unit ScopeError) → OnOk r (new ≡ with_declared (record { name = name; what = what }) blocks) → OnErr r (new ≡ blocks)
-            → IfOk (is_new r) (λ new_one. held_of (blocks_by types others new) sight types locals ≡ (if new_one then with_name name (meaning_of types m) before else before))
+            → IfOk (is_new r) (λ new_one. held_of (blocks_by types others new) sight types locals
+            ≡ (if new_one then with_name name (meaning_of types m) before else before))
         by (Ok u) p q =
             (λ i. held_of (blocks_by types (pushed i) ((p ∙ ap (λ w. with_declared (record { name = name; what = w }) blocks) what_is) i)) sight types locals)
             ∙ held_put types meanings m name blocks sight locals k ∙ ap (with_name name (meaning_of types m)) view
@@ -551,12 +568,14 @@ module _ (types : List Shape) (meanings others : List Kept) (m : Kept) (name : L
 seen_outside : (outside : ℕ) (blocks : List Block) → length blocks ≤ outside → seen_from (sights.Function outside) blocks ≡ only is_seen_by_functions blocks
 seen_outside outside [] l = refl
 seen_outside outside (block ∷ blocks) l =
-    λ i. cond-false (nat_le outside (length blocks)) block (filter (λ (n : Named). is_seen_by_functions n.meaning) block) (lt-leb outside (length blocks) (omega (arith, l))) i
+    λ i. cond-false (nat_le outside (length blocks)) block (filter (λ (n : Named). is_seen_by_functions n.meaning) block)
+    (lt-leb outside (length blocks) (omega (arith, l))) i
     ∷ seen_outside outside blocks (omega (arith, l)) i
 
 pub held_function : (types : List Shape) (meanings : List Kept) (blocks : List scopes.Block) (sight : Sight) (locals : List Shape)
     → IsKept types meanings blocks sight
-    → held_of (blocks_by types meanings ([] ∷ blocks)) (sights.Function (length blocks)) types [] ≡ in_function (held_of (blocks_by types meanings blocks) sight types locals)
+    → held_of (blocks_by types meanings ([] ∷ blocks)) (sights.Function (length blocks)) types []
+    ≡ in_function (held_of (blocks_by types meanings blocks) sight types locals)
 held_function types meanings [] sight locals k = absurd (omega (arith, k.some))
 held_function types meanings (block ∷ blocks) sight locals k = λ i. record {
   innermost = [];

@@ -1,8 +1,8 @@
 -- What fields a type makes is what the definition says of it.
-use Rattle.std.proofs.Common.{◌≡◌, Bool, true, false, ◌||◌, refl}
+use Rattle.std.proofs.Common.{◌≡◌, false, refl}
 use Rattle.sz_types.specs.Data.{Shape}
 use Rattle.sz_types.specs.declared.encoding.Encoding.{Encoding}
-use Rattle.sz_core.specs.WellFormed.{is_plain, is_field_type, takes_encoding}
+use Rattle.sz_core.specs.WellFormed.{is_field_type, takes_encoding}
 use Rattle.sz_check.specs.Sorts.{sort_at, is_field, encodes}
 
 pub sort_is_field : (t : Shape) → is_field (sort_at false t) ≡ is_field_type t

@@ -1,5 +1,6 @@
 -- Laws of names and numbers that are taken.
-use Rattle.std.proofs.Common.{◌≡◌, ℕ, suc, Bool, true, false, ◌||◌, List, [], ◌∷◌, ◌++◌, length, map, reverse, Option, Some, None, is_some, bytes_eq, nat_eq, Bor, refl, sym, ap, ◌∙◌, if◌then◌else◌, arith}
+use Rattle.std.proofs.Common.{◌≡◌, ℕ, Bool, true, false, ◌||◌, List, [], ◌∷◌, ◌++◌, length, map, reverse, Option, Some, None, is_some, bytes_eq, nat_eq}
+use Rattle.std.proofs.Common.{Bor, refl, sym, ap, ◌∙◌, if◌then◌else◌, arith}
 use Rattle.std.specs.Option.{option_or, option_copied}
 use Rattle.std.specs.List.{list_any}
 use Rattle.std.proofs.lemmas.List.{reverse-append}
@@ -53,7 +54,8 @@ number_has number (key ∷ keys) =
 
 -- a number more
 pub numbers_with : (number : ℕ) (keys : List ℕ)
-    → reverse (if list_any (nat_eq number) keys then keys else keys ++ number ∷ []) ≡ (if has_number number (reverse keys) then reverse keys else number ∷ reverse keys)
+    → reverse (if list_any (nat_eq number) keys then keys else keys ++ number ∷ [])
+    ≡ (if has_number number (reverse keys) then reverse keys else number ∷ reverse keys)
 numbers_with number keys = by (list_any (nat_eq number) keys) ∙ ap (λ b. if b then reverse keys else number ∷ reverse keys) (number_has number keys)
   where
     by : (b : Bool) → reverse (if b then keys else keys ++ number ∷ []) ≡ (if b then reverse keys else number ∷ reverse keys)

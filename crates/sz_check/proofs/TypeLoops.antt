@@ -1,5 +1,5 @@
 -- Turns of the loops over parts of tuples and fields of messages.
-use Rattle.std.proofs.Common.{◌≡◌, ℕ, ◌+◌, ◌<◌, ◌≤◌, Bool, true, false, not, ◌&&◌, List, [], ◌∷◌, ◌++◌, length, get_or, drop, map, refl, sym, ap, subst, ◌∙◌}
+use Rattle.std.proofs.Common.{◌≡◌, ℕ, ◌+◌, ◌<◌, ◌≤◌, Bool, true, false, not, ◌&&◌, List, [], ◌∷◌, ◌++◌, length, get_or, drop, map, refl, sym, ap, ◌∙◌}
 use Rattle.std.specs.Prelude.{Ok, Err, if◌then◌else◌, Option, Some, None}
 use Rattle.sz_types.specs.Data.{Shape, FieldShape, field, FieldShapes, no_fields, with_field, fields_of as shapes_of}
 use Rattle.sz_types.specs.declared.encoding.Encoding.TheVariants.{Plain}
@@ -106,7 +106,8 @@ module _ (blocks : List Block) (ps : List ProtoField) where
       → behind with_field front (fields_from taken used i) ≡ whole → behind with_field (front ++ f ∷ []) (fields_from more others (i + 1)) ≡ whole
   fields_goes front taken more used others i p f whole within is h added counted so_far =
       (λ i'. behind with_field (front ++ f ∷ []) (fields_from (added i') (counted i') (i + 1)))
-      ∙ turn_goes with_field front f _ (λ g. fields_from (name_of g ∷ taken) (number_of g ∷ used) (i + 1)) _ whole (fields_turn taken used i p within is) h so_far
+      ∙ turn_goes with_field front f _ (λ g. fields_from (name_of g ∷ taken) (number_of g ∷ used) (i + 1)) _ whole
+      (fields_turn taken used i p within is) h so_far
 
   pub fields_ends : (front : List FieldShape) (taken : List (List ℕ)) (used : List ℕ) (i : ℕ) (whole : Judged FieldShapes) → length ps ≤ i
       → behind with_field front (fields_from taken used i) ≡ whole → whole ≡ Ok (shapes_of front)

@@ -1,10 +1,12 @@
 -- Laws of named types that are kept as they are written.
-use Rattle.std.proofs.Common.{◌≡◌, ℕ, zero, suc, ◌+◌, ◌<◌, ◌≤◌, List, [], ◌∷◌, ◌++◌, length, map, take, slice_get, Option, None, Some, unwrap_or, refl, sym, ap, subst, ◌∙◌, arith}
+use Rattle.std.proofs.Common.{◌≡◌, ℕ, zero, suc, ◌+◌, ◌<◌, ◌≤◌, List, [], ◌∷◌, ◌++◌, length, map, take, slice_get, Some, unwrap_or, refl, sym, ap, subst}
+use Rattle.std.proofs.Common.{◌∙◌, arith}
 use Rattle.std.proofs.lemmas.Option.{none-some, same_Some, slice_get_past}
 use Rattle.std.proofs.lemmas.List.{length_push}
 use Rattle.std.specs.Global.{Vec}
 use Rattle.sz_types.specs.Data.{Shape, fields_of, with_field, field}
-use Rattle.sz_check.specs.declared.written.Written.{Written, size-Written, Row_of-WrittenField, end_of-WrittenField, more_of-WrittenField, items-the_row-WrittenField}
+use Rattle.sz_check.specs.declared.written.Written.{Written, size-Written, Row_of-WrittenField, end_of-WrittenField, more_of-WrittenField}
+use Rattle.sz_check.specs.declared.written.Written.{items-the_row-WrittenField}
 use Rattle.sz_check.specs.declared.written.Written.TheBlock.{hidden-the_row-WrittenField-0, items_hidden-the_row-WrittenField-0}
 use Rattle.sz_check.specs.declared.written.Written.TheVariants as written
 use Rattle.sz_check.specs.declared.written.WrittenField.{WrittenField}
@@ -34,7 +36,8 @@ module _ (types : List Shape) where
   fields_in_row_is n (more_of-WrittenField m t k c fs) = ap (with_field (field m (shape_in types t) k c)) (fields_in_row_is _ fs)
 
   row_is : (v : Vec WrittenField) → fields_in_row types (hidden-the_row-WrittenField-0 v) ≡ fields_of (map (field_in types) v.items)
-  row_is v = fields_in_row_is _ (hidden-the_row-WrittenField-0 v) ∙ ap (λ (fs : List WrittenField). fields_of (map (field_in types) fs)) (items_hidden-the_row-WrittenField-0 v)
+  row_is v = fields_in_row_is _ (hidden-the_row-WrittenField-0 v)
+      ∙ ap (λ (fs : List WrittenField). fields_of (map (field_in types) fs)) (items_hidden-the_row-WrittenField-0 v)
 
   pub shape_in_tuple : (v : Vec WrittenField) → shape_in types (written.Tuple v) ≡ Shape.tuple (fields_of (map (field_in types) v.items))
   shape_in_tuple v = ap Shape.tuple (row_is v)

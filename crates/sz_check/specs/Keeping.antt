@@ -1,5 +1,6 @@
 -- How what is known is kept: blocks whose names stand for places in a list of meanings.
-use Rattle.std.specs.Prelude.{◌≡◌, ℕ, ◌-◌, ◌<◌, List, [], ◌∷◌, ◌++◌, length, map, filter, Bool, true, false, nat_le, nat_lt, if◌then◌else◌, Option, Some, None, slice_get, unwrap_or, Result, Ok, Err, alloc_error}
+use Rattle.std.specs.Prelude.{◌≡◌, ℕ, ◌-◌, ◌<◌, List, [], ◌∷◌, ◌++◌, length, map, filter, Bool, true, false, nat_le, nat_lt, if◌then◌else◌, Option, Some}
+use Rattle.std.specs.Prelude.{None, slice_get, unwrap_or, Result, Ok, Err, alloc_error}
 use Rattle.std.specs.Option.{option_map, option_map_or}
 use Rattle.std.specs.declared.alloc.AllocError.{AllocError}
 use Rattle.sz_types.specs.Data.{Shape}
@@ -13,7 +14,7 @@ use Rattle.sz_scope.specs.declared.sight.Sight.TheVariants as sights
 use Rattle.sz_check.specs.declared.meaning.Meaning.{Meaning as Kept}
 use Rattle.sz_check.specs.declared.meaning.Meaning.TheVariants as held
 use Rattle.sz_check.specs.Names.{Meaning, Named, Block, input, is_seen_by_functions}
-use Rattle.sz_check.specs.Holding.{meaning_of, Outside, Held}
+use Rattle.sz_check.specs.Holding.{meaning_of, Held}
 
 -- round how many blocks the routine stands
 abbrev pub floor_of : Sight → ℕ

@@ -11,7 +11,7 @@ use Rattle.sz_scope.specs.declared.sight.Sight.TheVariants.{Record, Function, St
 use Rattle.sz_core.specs.OperatorCode.{builtin_code}
 use Rattle.sz_core.specs.ProgramCode.{signature_code}
 use Rattle.sz_core.specs.Programs.{Signature}
-use Rattle.sz_check.specs.Names.{Meaning, Named, Block, variable, static, type_name, table, function, predeclared, input}
+use Rattle.sz_check.specs.Names.{Meaning, Block, variable, static, type_name, table, function, predeclared, input}
 use Rattle.sz_check.specs.Holding.{Outside, Held}
 
 -- a meaning as one of several things: a list of at most one declaration stands for a table, or for the record itself
@@ -47,7 +47,8 @@ meaning_again input = refl
 
 abbrev meaning_code : Coded Meaning
 meaning_code =
-    code_by Kinds (coded⊎ (coded⊎ (coded× coded_ℕ shape_code) (coded× coded_ℕ shape_code)) (coded⊎ (coded⊎ (coded× coded_ℕ declarations_code) (coded× coded_ℕ signature_code)) (coded⊎ shape_code builtin_code)))
+    code_by Kinds (coded⊎ (coded⊎ (coded× coded_ℕ shape_code) (coded× coded_ℕ shape_code))
+    (coded⊎ (coded⊎ (coded× coded_ℕ declarations_code) (coded× coded_ℕ signature_code)) (coded⊎ shape_code builtin_code)))
     kinds_of meaning_of meaning_again
 
 abbrev block_code : Coded Block

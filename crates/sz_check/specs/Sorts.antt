@@ -1,5 +1,5 @@
 -- What fields of a message a type makes.
-use Rattle.std.specs.Prelude.{Bool, true, false, not, ◌||◌}
+use Rattle.std.specs.Prelude.{Bool, true, false, ◌||◌}
 use Rattle.sz_types.specs.Data.{Shape}
 use Rattle.sz_types.specs.declared.encoding.Encoding.{Encoding}
 use Rattle.sz_core.specs.WellFormed.{is_plain}

@@ -1,4 +1,4 @@
-use Rattle.std.proofs.Common.{◌≡◌, sym, ap, ◌∙◌, length, refl, arith}
+use Rattle.std.proofs.Common.{sym, ap, ◌∙◌, length, refl, arith}
 use Rattle.std.proofs.lemmas.Bool.{ltb-false}
 use Rattle.std.proofs.lemmas.Option.{slice_get_read}
 use Rattle.sz_check.specs.Sorts.{sort_at}

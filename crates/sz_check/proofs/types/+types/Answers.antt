@@ -1,14 +1,12 @@
-use Rattle.std.proofs.Common.{◌≡◌, ◌∷◌, ◌++◌, map, sym, ap, ◌∙◌, refl, false, if◌then◌else◌, arith}
+use Rattle.std.proofs.Common.{map, ap, ◌∙◌, arith}
 use Rattle.std.proofs.lemmas.Result.{err_from_is_err_and}
-use Rattle.std.proofs.lemmas.Bool.{cond-false}
-use Rattle.sz_types.specs.Data.{Shape, fields_of}
 use Rattle.sz_tree.specs.View.{type_of}
 use Rattle.sz_tree.proofs.RowLemmas.{type_of_tuple, type_of_proto}
 use Rattle.sz_check.specs.Holding.{blocks_of}
 use Rattle.sz_check.specs.JudgingTypes.{judge_type}
 use Rattle.sz_check.specs.Written.{shape_in, field_in}
 use Rattle.sz_check.proofs.ListLemmas.{map_push, judged_as}
-use Rattle.sz_check.proofs.TypeLoops.{parts_fails, parts_goes, parts_ends, fields_fails, fields_goes, fields_ends, coding_free}
+use Rattle.sz_check.proofs.TypeLoops.{parts_fails, parts_goes, parts_ends, fields_fails, fields_goes, fields_ends}
 use Rattle.sz_check.proofs.types.+types.Goals as goal
 
 pub judge_parts-returns-in_err-part : goal.judge_parts-returns-in_err-part
@@ -60,13 +58,15 @@ judge_fields-returns t c = record {
 pub judge_written-returns-in-Tuple : goal.judge_written-returns-in-Tuple
 judge_written-returns-in-Tuple t c = record {
   value =
-      judged_as (shape_in c.args.known.now.outside.types) c.judge_tuple.result (judge_type (blocks_of c.args.known.now)) _ _ (ap type_of c.in-Tuple.is ∙ type_of_tuple _ _)
+      judged_as (shape_in c.args.known.now.outside.types) c.judge_tuple.result (judge_type (blocks_of c.args.known.now)) _ _
+      (ap type_of c.in-Tuple.is ∙ type_of_tuple _ _)
       (rw c.as_slice.ensures.value at c.judge_tuple.ensures.value);
 }
 
 pub judge_written-returns-in-Proto : goal.judge_written-returns-in-Proto
 judge_written-returns-in-Proto t c = record {
   value =
-      judged_as (shape_in c.args.known.now.outside.types) c.judge_proto.result (judge_type (blocks_of c.args.known.now)) _ _ (ap type_of c.in-Proto.is ∙ type_of_proto _ _)
+      judged_as (shape_in c.args.known.now.outside.types) c.judge_proto.result (judge_type (blocks_of c.args.known.now)) _ _
+      (ap type_of c.in-Proto.is ∙ type_of_proto _ _)
       (rw c.as_slice-in-Proto.ensures.value at c.judge_proto.ensures.value);
 }

@@ -27,7 +27,8 @@ pub write_out-returns-in_ok-write_out_fields-in-Tuple : goal.write_out-returns-i
 write_out-returns-in_ok-write_out_fields-in-Tuple t c =
     let types = shapes_of c.args.types.now in
     record {
-      value = seen_tuple c.in_ok-write_out_fields-in-Tuple.field-0 ∙ ap (λ fs. Shape.tuple (fields_of fs)) (c.in_ok-write_out_fields-in-Tuple.ensures.value ∙ ap (map (field_in types)) c.as_slice.ensures.value)
+      value = seen_tuple c.in_ok-write_out_fields-in-Tuple.field-0
+          ∙ ap (λ fs. Shape.tuple (fields_of fs)) (c.in_ok-write_out_fields-in-Tuple.ensures.value ∙ ap (map (field_in types)) c.as_slice.ensures.value)
           ∙ sym (ap (shape_in types) c.in-Tuple.is ∙ shape_in_tuple types c.in-Tuple.fields);
     }
 
@@ -35,6 +36,8 @@ pub write_out-returns-in_ok-write_out_fields-in-Proto : goal.write_out-returns-i
 write_out-returns-in_ok-write_out_fields-in-Proto t c =
     let types = shapes_of c.args.types.now in
     record {
-      value = seen_proto c.in_ok-write_out_fields-in-Proto.field-0 ∙ ap (λ fs. Shape.proto (fields_of fs)) (c.in_ok-write_out_fields-in-Proto.ensures.value ∙ ap (map (field_in types)) c.as_slice-in-Proto.ensures.value)
+      value = seen_proto c.in_ok-write_out_fields-in-Proto.field-0
+          ∙ ap (λ fs. Shape.proto (fields_of fs))
+          (c.in_ok-write_out_fields-in-Proto.ensures.value ∙ ap (map (field_in types)) c.as_slice-in-Proto.ensures.value)
           ∙ sym (ap (shape_in types) c.in-Proto.is ∙ shape_in_proto types c.in-Proto.fields);
     }

@@ -1,10 +1,9 @@
-use Rattle.std.proofs.Common.{◌≡◌, ap, sym, subst, ◌∙◌, IfSome, refl, Some, [], rules}
+use Rattle.std.proofs.Common.{ap, sym, subst, ◌∙◌, IfSome, refl, Some, [], rules}
 use Rattle.std.proofs.lemmas.Option.{slice_get_read}
 use Rattle.sz_scope.specs.Blocks.{found}
 use Rattle.sz_scope.specs.Sight.{seen_blocks}
 use Rattle.sz_check.specs.Names.{meaning_of}
 use Rattle.sz_check.specs.Holding.{maybe_means_of, IsOfTypes, blocks_for}
-use Rattle.sz_check.specs.Keeping.{place_of}
 use Rattle.sz_check.proofs.KeepingLemmas.{find_is, found_placed, place_within, place_means, record_means, types_are}
 use Rattle.sz_check.proofs.known.Known.find.Goals as goal
 
@@ -42,10 +41,12 @@ returns-in-Some c =
     let within = place_within k.types k.meanings.items c.in_ok-found.found.now h c.in-Some.place placed in
     let read = slice_get_read k.meanings.items _ c.in-Some.place c.index.result.now refl within c.index.ensures in
     record {
-      value = ap (λ m. Some m) (c.means.ensures.value ∙ place_means k.types k.meanings.items c.in_ok-found.found.now c.in-Some.place c.index.result.now placed read)
+      value = ap (λ m. Some m) (c.means.ensures.value
+          ∙ place_means k.types k.meanings.items c.in_ok-found.found.now c.in-Some.place c.index.result.now placed read)
           ∙ find_is k.types k.meanings.items c.args.name.now.text k.locals c.args.may_emit k.scopes k.sight c.self.invariant _ asked
           ∙ ap (λ held. meaning_of c.args.name.now.text (blocks_for held c.args.may_emit)) c.self.view_is;
-      types = subst (λ ts. IsOfTypes ts c.means.result) (types_are k.types k.meanings.items k.scopes k.sight k.locals c.args.self.now c.self.view_is) c.means.ensures.types;
+      types = subst (λ ts. IsOfTypes ts c.means.result)
+          (types_are k.types k.meanings.items k.scopes k.sight k.locals c.args.self.now c.self.view_is) c.means.ensures.types;
     }
 
 -- the record is kept without a place

@@ -1,4 +1,4 @@
-use Rattle.std.proofs.Common.{sym, ap, ◌∙◌, ◌∷◌, [], ◌++◌, length, rules}
+use Rattle.std.proofs.Common.{sym, ap, ◌∙◌, ◌∷◌, [], ◌++◌, rules}
 use Rattle.sz_check.specs.Written.{shapes_of, shape_in}
 use Rattle.sz_check.proofs.WrittenLemmas.{length_shapes, shapes_more}
 use Rattle.sz_check.proofs.written.NamedTypes.add.Goals as goal

@@ -1,4 +1,4 @@
-use Rattle.std.proofs.Common.{sym, ap, ◌∙◌, length, vec_len, rules, arith}
+use Rattle.std.proofs.Common.{sym, rules}
 use Rattle.sz_check.proofs.WrittenLemmas.{length_shapes}
 use Rattle.sz_check.proofs.written.NamedTypes.len.Goals as goal
 
