@@ -21,5 +21,7 @@ loop-step-preserved c =
     c.in_ok-next.ensures.value c.loop-step.invariant
 
 pub returns : goal.returns
-returns c = record { value = steps_end (scene_of c.args.known.now) c.args.place (target_seen c.loop-step.target) c.args.steps.now c.loop-step.step-index _
-    (omega arith) c.loop-step.invariant }
+returns c = record {
+  value = steps_end (scene_of c.args.known.now) c.args.place (target_seen c.loop-step.target) c.args.steps.now c.loop-step.step-index _
+      (omega arith) c.loop-step.invariant;
+}
