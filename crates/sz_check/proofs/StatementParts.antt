@@ -1,5 +1,5 @@
 -- Statements by their parts.
-use Rattle.std.proofs.Common.{◌≡◌, Bool, true, false, List, [], ◌∷◌, length, Option, Some, None, refl, sym, ap, ◌∙◌}
+use Rattle.std.proofs.Common.{◌≡◌, true, List, [], ◌∷◌, length, Option, Some, None, refl, sym, ap, ◌∙◌}
 use Rattle.std.proofs.Math.Path.{fun_ext}
 use Rattle.std.specs.Prelude.{Result, Ok, Err, is_some, if◌then◌else◌}
 use Rattle.sz_types.specs.declared.place.Place.{Place}
@@ -18,7 +18,7 @@ use Rattle.sz_check.specs.JudgingExpressions.{judge_exps}
 use Rattle.sz_check.specs.JudgingOperators.{test}
 use Rattle.sz_check.specs.Scenes.{Scene, Behind, AllBehind, opened, closed, judge, judge_if_some}
 use Rattle.sz_check.specs.JudgingStatements.{Around, in_block, in_loop, judge_stm, judge_stms}
-use Rattle.sz_check.specs.JudgingSimple.{Numbered, judge_first, judge_between, test_if_some, table_named, weight_agrees, judge_declaration, judge_initialised}
+use Rattle.sz_check.specs.JudgingSimple.{Numbered, judge_first, judge_between, test_if_some, table_named, weight_agrees}
 use Rattle.sz_check.specs.JudgingSimple.{judge_definition, judge_simple, judge_return, done, judge_emit, same_presence}
 use Rattle.sz_check.specs.Outcome.{Stops, Judges}
 use Rattle.sz_check.specs.declared.error.CheckError.{CheckError}
@@ -209,14 +209,6 @@ module _ (a : Around) (s : Scene) where
   pub empty_is : (p : Place) → judge_stm a s (trees.empty p) ≡ Ok (record { scene = s; stm = core.nothing })
   unfolding judge_stm
   empty_is p = refl
-
-  pub declare_is : (n : Ident) (t : Typ) → judge_stm a s (trees.declare n t None) ≡ judge_declaration s n t
-  unfolding judge_stm
-  declare_is n t = refl
-
-  pub initialised_is : (n : Ident) (t : Typ) (e : Exp) → judge_stm a s (trees.declare n t (Some e)) ≡ judge_initialised s n t e
-  unfolding judge_stm
-  initialised_is n t e = refl
 
   pub define_is : (n : Ident) (e : Exp) → judge_stm a s (trees.define n e) ≡ judge_definition s n e
   unfolding judge_stm

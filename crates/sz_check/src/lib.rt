@@ -5,6 +5,7 @@ mod agree;
 mod asks;
 mod call;
 mod composite;
+mod declared;
 mod emitted;
 mod emitting;
 mod error;

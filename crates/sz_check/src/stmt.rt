@@ -10,14 +10,15 @@ ghost use Rattle.sz_check.specs.Holding.{scene_of};
 ghost use Rattle.sz_check.specs.Behind.{behind_of, all_behind_of, around_of, judge_inside, judge_turns, judge_for};
 ghost use Rattle.sz_check.specs.Outcome.{Judges};
 
+use crate::declared::judge_declared;
 use crate::emitted::judge_emit;
 use crate::error::{CheckError, at};
 use crate::expr::judge_exp;
 use crate::known::Known;
 use crate::operator::test;
 use crate::simple::{
-    judge_between, judge_declaration, judge_definition, judge_first, judge_initialised,
-    judge_return, judge_simple, judge_test, nothing, test_if_some,
+    judge_between, judge_definition, judge_first, judge_return, judge_simple, judge_test, nothing,
+    test_if_some,
 };
 use std::alloc::{AllocError, Global};
 use sz_core::CoreStmt;
@@ -46,7 +47,7 @@ impl<'t> Around<'t> {
 
 // The statement.
 #[cycle(stmt)]
-#[tactic(auto, using(crate::proofs::StatementParts::for_is, crate::proofs::StatementParts::empty_is, crate::proofs::StatementParts::declare_is, crate::proofs::StatementParts::initialised_is, crate::proofs::StatementParts::define_is, crate::proofs::StatementParts::static_is, crate::proofs::StatementParts::typedef_is, crate::proofs::StatementParts::table_is, crate::proofs::StatementParts::nested_is, crate::proofs::StatementParts::simple_is, crate::proofs::StatementParts::break_is, crate::proofs::StatementParts::continue_is, crate::proofs::StatementParts::return_is, crate::proofs::StatementParts::emitting_is, crate::proofs::StatementParts::when_is, crate::proofs::StatementParts::done_is))]
+#[tactic(auto, using(crate::proofs::StatementParts::for_is, crate::proofs::StatementParts::empty_is, crate::proofs::StatementParts::define_is, crate::proofs::StatementParts::static_is, crate::proofs::StatementParts::typedef_is, crate::proofs::StatementParts::table_is, crate::proofs::StatementParts::nested_is, crate::proofs::StatementParts::simple_is, crate::proofs::StatementParts::break_is, crate::proofs::StatementParts::continue_is, crate::proofs::StatementParts::return_is, crate::proofs::StatementParts::emitting_is, crate::proofs::StatementParts::when_is, crate::proofs::StatementParts::done_is))]
 pub fn judge_stm(
     alloc: Global,
     known: &mut Known,
@@ -59,8 +60,7 @@ pub fn judge_stm(
     match tree {
         Stmt::Empty(_) => Ok(nothing(alloc)),
         Stmt::Block(place, trees) => { judge_block(alloc, known, around, *place, trees.as_slice()) }
-        Stmt::Declare(name, of, None) => judge_declaration(alloc, known, name, of),
-        Stmt::Declare(name, of, Some(value)) => judge_initialised(alloc, known, name, of, value),
+        Stmt::Declare(name, of, value) => judge_declared(alloc, known, name, of, value),
         Stmt::Define(name, value) => judge_definition(alloc, known, name, value),
         Stmt::Static(place, _, _, _) | Stmt::Type(place, _, _) => Err(at(15, *place)),
         Stmt::Table(name, _) | Stmt::Function(name, _, _, _) => Err(at(15, name.place())),

@@ -2,18 +2,15 @@ use Rattle.std.proofs.Common.{◌≡◌, ◌∷◌, ◌++◌, map, sym, ap, ◌�
 use Rattle.std.proofs.lemmas.Result.{err_from_is_err_and}
 use Rattle.sz_core.specs.View.{stm_of as core_stm_of}
 use Rattle.sz_tree.specs.Statements.{stms_of}
-use Rattle.sz_tree.specs.declared.stmt.Stmt.{Stmt}
-use Rattle.sz_tree.specs.View.{tree_of, type_of, stm_of}
+use Rattle.sz_tree.specs.View.{tree_of, stm_of}
 use Rattle.sz_tree.proofs.RowLemmas.{stm_of_block}
-use Rattle.sz_check.specs.Refusals.{Judged}
-use Rattle.sz_check.specs.Scenes.{Behind}
 use Rattle.sz_check.specs.JudgingStatements.{judge_stm}
 use Rattle.sz_check.specs.Holding.{Held, scene_of}
 use Rattle.sz_check.specs.Behind.{around_of, behind_of}
 use Rattle.sz_check.proofs.ListLemmas.{map_push, judged_as}
 use Rattle.sz_check.proofs.StatementLoops.{stms_fail, stms_go, stms_end}
 use Rattle.sz_check.proofs.StatementParts.{inside_made, inside_stops, block_made, block_stops, for_first_stops, for_turns_stop, for_made}
-use Rattle.sz_check.proofs.StatementParts.{if_stops, while_stops, declare_is, initialised_is}
+use Rattle.sz_check.proofs.StatementParts.{if_stops, while_stops}
 use Rattle.sz_check.proofs.stmt.+stmt.Goals as goal
 
 pub judge_stms-returns-in_err-statement-clause-value : goal.judge_stms-returns-in_err-statement-clause-value
@@ -124,20 +121,3 @@ judge_while-returns-in_err-test-clause-value t c =
     rw (p.1, p.2)
     (while_stops (around_of c.args.around) _ (scene_of c.args.known.now) c.args.place (tree_of c.args.condition.now) (stm_of c.args.body.now) _ _
     c.in_err-test.field-0.0 (ap around_of c.inside_loop.ensures.value) c.in_ok-node.ensures.value c.in_ok-body.ensures.value c.in_err-test.ensures.value)
-
--- ---- declarations
-
-pub judge_stm-returns-in-Declare-default-default-None-clause-value : goal.judge_stm-returns-in-Declare-default-default-None-clause-value
-judge_stm-returns-in-Declare-default-default-None-clause-value t c =
-    let declared = c.in-Declare-default-default-None in
-    judged_as (λ s. behind_of c.judge_declaration.new.known s) c.judge_declaration.result (λ (j : Judged Behind). j) _ _
-    (ap (λ (u : Stmt). judge_stm (around_of c.args.around) (scene_of c.args.known.now) (stm_of u)) declared.is
-    ∙ declare_is (around_of c.args.around) (scene_of c.args.known.now) declared.name (type_of declared.of)) c.judge_declaration.ensures.value
-
-pub judge_stm-returns-in-Declare-default-default-Some-clause-value : goal.judge_stm-returns-in-Declare-default-default-Some-clause-value
-judge_stm-returns-in-Declare-default-default-Some-clause-value t c =
-    let declared = c.in-Declare-default-default-Some in
-    judged_as (λ s. behind_of c.judge_initialised.new.known s) c.judge_initialised.result (λ (j : Judged Behind). j) _ _
-    (ap (λ (u : Stmt). judge_stm (around_of c.args.around) (scene_of c.args.known.now) (stm_of u)) declared.is
-    ∙ initialised_is (around_of c.args.around) (scene_of c.args.known.now) declared.name (type_of declared.of) (tree_of declared.value))
-    c.judge_initialised.ensures.value
