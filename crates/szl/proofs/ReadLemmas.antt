@@ -4,17 +4,19 @@ use Rattle.sz_types.specs.declared.place.Place.{Place}
 use Rattle.sz_lex.specs.declared.token.Token.{Token}
 use Rattle.sz_lex.specs.declared.token.Kind.{Kind}
 use Rattle.sz_lex.specs.Tokens.{IsLexeme, Tail, TokensThen}
+use Rattle.sz_lex.specs.Lexed.{lexeme_of}
 use Rattle.sz_lex.proofs.ItemLemmas.{no_empty}
 use Rattle.sz_tree.specs.Statements.{Stms, no_stms, stm, stms_of}
 use Rattle.sz_tree.specs.declared.stmt.Stmt.{Stmt}
 use Rattle.sz_tree.specs.View.{stm_of}
+use Rattle.sz_parse.specs.Tokens.{Spelling}
 use Rattle.sz_parse.specs.Statements.{ReadsStm, ReadsStms}
 use Rattle.sz_parse.specs.Program.{count_of}
 use Rattle.sz_parse.proofs.ForCallers.{stm_shorter}
 use Rattle.szl.specs.Judgement.{HasStatements, IsShort, most_program_bytes}
 
 -- each statement takes a token
-stms_count : (text : List ℕ) (ss : Stms) (ts rest : List Token) → ReadsStms text ss ts rest → count_of ss + length rest ≤ length ts
+stms_count : (text : Spelling) (ss : Stms) (ts rest : List Token) → ReadsStms text ss ts rest → count_of ss + length rest ≤ length ts
 unfolding ReadsStm
 stms_count text no_stms ts rest h = omega (arith, ap length h)
 stms_count text (stm s ss) ts rest h = omega (arith, stm_shorter text s ts h.0 h.1, stms_count text ss h.0 rest h.2)
@@ -36,7 +38,7 @@ tokens_count P (t ∷ ts) comment at p text h =
 -- a text has at least as many bytes as statements
 pub statements_count : (text : List ℕ) (ss : Stms) → HasStatements text ss → count_of ss ≤ length text
 statements_count text ss h =
-    omega (arith, stms_count text ss h.tokens [] h.spells.reads, tokens_count _ h.tokens _ _ _ text h.has.tokens)
+    omega (arith, stms_count (lexeme_of text) ss h.tokens [] h.spells.reads, tokens_count _ h.tokens _ _ _ text h.has.tokens)
 
 count_items : (items : List Stmt) → count_of (stms_of (map stm_of items)) ≡ length items
 count_items [] = refl

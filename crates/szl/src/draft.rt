@@ -42,8 +42,8 @@ impl<'t> Draft<'t> {
     fn add_table(&mut self, name: &'t Name, of: &Table) -> Result<(), Unfit>
         ensures value { Becomes result self.new (statement (seen_draft self.old) (table name.now (table_of of.now))) }
     {
-        if is_sum(of) && self.is_free(name.text()) && self.tables.len() < MOST_TABLES {
-            self.tables.push(name.text())?;
+        if is_sum(of) && self.is_free(name.text().as_bytes()) && self.tables.len() < MOST_TABLES {
+            self.tables.push(name.text().as_bytes())?;
             Ok(())
         } else {
             Err(Unfit::Form)
@@ -62,11 +62,11 @@ impl<'t> Draft<'t> {
         ensures value { Becomes result self.new
             (statement (seen_draft self.old) (declare name.now (type_of of.now) (Some (tree_of value.now)))) }
     {
-        if is_int(of) && self.is_free(name.text()) {
+        if is_int(of) && self.is_free(name.text().as_bytes()) {
             let value = declared_value(alloc, &self.variables, value)?;
             self.body
                 .push(Stmt::Declare(self.variables.len() as u32, value))?;
-            self.variables.push(name.text())?;
+            self.variables.push(name.text().as_bytes())?;
             Ok(())
         } else {
             Err(Unfit::Form)
@@ -89,7 +89,7 @@ impl<'t> Draft<'t> {
         match indexes {
             [] => match weight {
                 None => {
-                    let Some(table) = place_of(name.text(), &self.tables) else {
+                    let Some(table) = place_of(name.text().as_bytes(), &self.tables) else {
                         return Err(Unfit::Form);
                     };
                     let value = value_of(alloc, &self.variables, value)?;

@@ -34,7 +34,7 @@ fn is_plain_int(part: &Elem) -> bool
 pub fn is_sum(table: &Table) -> bool
     ensures value { result ≡ is_sum (table_of table.now) }
 {
-    table.kind.text() == b"sum".as_slice()
+    table.kind.text().as_str() == "sum"
         && table.argument.is_none()
         && table.indexes.is_empty()
         && is_plain_int(&table.of)

@@ -46,7 +46,7 @@ pub fn value_of(alloc: Global, variables: &[&[u8]], tree: &Tree) -> Result<Expr,
 {
     match tree {
         Tree::Literal(_, Literal::Number(number)) => Ok(Expr::Number(*number)),
-        Tree::Named(name) => match place_of(name.text(), variables) {
+        Tree::Named(name) => match place_of(name.text().as_bytes(), variables) {
             Some(place) => Ok(Expr::Variable(place as u32)),
             None => Err(Unfit::Form),
         },
@@ -92,7 +92,7 @@ fn is_input(tree: &Tree) -> bool
     ensures value { result ≡ is_input (tree_of tree.now) }
 {
     match tree {
-        Tree::Named(name) => name.text() == b"input".as_slice(),
+        Tree::Named(name) => name.text().as_str() == "input",
         _ => false,
     }
 }
