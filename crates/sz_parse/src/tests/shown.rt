@@ -23,7 +23,7 @@ fn close(out: &mut String) -> Result<(), Fail> {
 }
 
 fn name(out: &mut String, name: &Name) -> Result<(), Fail> {
-    word(out, text_of(name.text()))
+    word(out, name.text().as_str())
 }
 
 fn maybe_name(out: &mut String, part: &Option<Name>) -> Result<(), Fail> {
@@ -36,7 +36,7 @@ fn maybe_name(out: &mut String, part: &Option<Name>) -> Result<(), Fail> {
 fn literal(out: &mut String, literal: &Literal) -> Result<(), Fail> {
     match literal {
         Literal::Number(n) => Ok(write!(out, " {n}")?),
-        Literal::Str(bytes) => Ok(write!(out, " \"{}\"", text_of(bytes))?),
+        Literal::Str(text) => Ok(write!(out, " \"{}\"", text.as_str())?),
         Literal::Bytes(bytes) => Ok(write!(out, " B\"{}\"", text_of(bytes))?),
         Literal::Character(c) => Ok(write!(out, " '{c}'")?),
         Literal::Bool(b) => Ok(write!(out, " {b}")?),
@@ -48,7 +48,7 @@ fn kind(out: &mut String, tree: &Expr) -> Result<(), Fail> {
     match tree {
         Expr::Literal(_, value) => literal(out, value),
         Expr::Named(part) => name(out, part),
-        Expr::Call(part, _) => Ok(write!(out, " (call {}", text_of(part.text()))?),
+        Expr::Call(part, _) => Ok(write!(out, " (call {}", part.text().as_str())?),
         Expr::Def(_, _) => open(out, "def"),
         Expr::Paren(_, _) => open(out, "paren"),
         Expr::Convert(_, basic, _) => Ok(write!(out, " ({basic:?}")?),
@@ -56,7 +56,7 @@ fn kind(out: &mut String, tree: &Expr) -> Result<(), Fail> {
         Expr::Map(_, _) => open(out, "map"),
         Expr::Index(_, _, _) => open(out, "index"),
         Expr::Slice(_, _, _, _) => open(out, "slice"),
-        Expr::Field(_, _, part) => Ok(write!(out, " (field {}", text_of(part.text()))?),
+        Expr::Field(_, _, part) => Ok(write!(out, " (field {}", part.text().as_str())?),
         Expr::Unary(_, op, _) => Ok(write!(out, " ({op:?}")?),
         Expr::Binary(_, op, _, _) => Ok(write!(out, " ({op:?}")?),
     }
@@ -190,7 +190,7 @@ fn steps(out: &mut String, steps: &Vec<Step>) -> Result<(), Fail> {
     for step in steps {
         match step {
             Step::Index(at) => expr(out, at)?,
-            Step::Field(part) => write!(out, " .{}", text_of(part.text()))?,
+            Step::Field(part) => write!(out, " .{}", part.text().as_str())?,
         }
     }
     Ok(())
