@@ -146,7 +146,8 @@ program_answers the_files text name old new ss p answer short has is a = record 
 
 module _ {F : Type 0} (the_files : files.Ghosts F) (text name : List ℕ) (old : F) where
   -- a failure before the input is opened
-  answers_unopened : (outcome_on : List ℕ → Answer) (f : Failure) → ((input : List ℕ) → Decides (Err f) (outcome_on input) (Rose (the_files.faults old) (the_files.faults old)))
+  answers_unopened : (outcome_on : List ℕ → Answer) (f : Failure)
+      → ((input : List ℕ) → Decides (Err f) (outcome_on input) (Rose (the_files.faults old) (the_files.faults old)))
       → AnswersOn the_files outcome_on name old old (Err f)
   answers_unopened outcome_on f decides = record {
     input = unwrap_or (the_files.held old name) [];

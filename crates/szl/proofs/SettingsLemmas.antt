@@ -219,7 +219,8 @@ module _ {F : Type 0} (the_files : files.Ghosts F) (program : List ℕ) (old : F
   one_read new names r = record {
     all_opened = names;
     none_left = λ file fresh given. subst (λ f. IsAtEnd (the_files.left new f)) (sym (the_one file fresh (r.no_other file given))) r.none_left;
-    told = λ file fresh given. subst (λ f. IfSome (the_files.held old program) (λ _. IsSome (the_files.left new f))) (sym (the_one file fresh (r.no_other file given))) r.told;
+    told = λ file fresh given. subst (λ f. IfSome (the_files.held old program) (λ _. IsSome (the_files.left new f)))
+        (sym (the_one file fresh (r.no_other file given))) r.told;
   }
     where
       the_one : (file : ℕ) → (IsTrue (the_files.given old file) → ⊥) → (file ≡ r.file) ⊎ IsTrue (the_files.given old file) → file ≡ r.file

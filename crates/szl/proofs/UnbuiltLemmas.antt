@@ -69,25 +69,25 @@ function_behind n ps t v head is none =
     ap (λ b. b || are_unbuilt (stms_of (map stm_of v.items))) (sym none ∙ is) ∙ sym (function_has n ps t v)
 
 -- one of the statements from here on isn't built: this one, or one behind it
-statements_turn : (ss : List Stmt) (i : ℕ) (s : Stmt) → i < length ss → s ≡ get_or ss i s
+stms_turn : (ss : List Stmt) (i : ℕ) (s : Stmt) → i < length ss → s ≡ get_or ss i s
     → are_unbuilt (stms_of (map stm_of (drop i ss))) ≡ (is_unbuilt (stm_of s) || are_unbuilt (stms_of (map stm_of (drop (i + 1) ss))))
 unfolding are_unbuilt
-statements_turn ss i s within is = rw (rest_more stm_of ss i s within is) refl
+stms_turn ss i s within is = rw (rest_more stm_of ss i s within is) refl
 
-pub statements_here : (ss : List Stmt) (i : ℕ) (s : Stmt) (whole : Bool) → i < length ss → s ≡ get_or ss i s
+pub stms_here : (ss : List Stmt) (i : ℕ) (s : Stmt) (whole : Bool) → i < length ss → s ≡ get_or ss i s
     → are_unbuilt (stms_of (map stm_of (drop i ss))) ≡ whole → is_unbuilt (stm_of s) ≡ true → true ≡ whole
-statements_here ss i s whole within is same h =
-    ap (λ b. b || are_unbuilt (stms_of (map stm_of (drop (i + 1) ss)))) (sym h) ∙ sym (statements_turn ss i s within is) ∙ same
+stms_here ss i s whole within is same h =
+    ap (λ b. b || are_unbuilt (stms_of (map stm_of (drop (i + 1) ss)))) (sym h) ∙ sym (stms_turn ss i s within is) ∙ same
 
-pub statements_behind : (ss : List Stmt) (i : ℕ) (s : Stmt) (whole : Bool) → i < length ss → s ≡ get_or ss i s
+pub stms_behind : (ss : List Stmt) (i : ℕ) (s : Stmt) (whole : Bool) → i < length ss → s ≡ get_or ss i s
     → are_unbuilt (stms_of (map stm_of (drop i ss))) ≡ whole → is_unbuilt (stm_of s) ≡ false
     → are_unbuilt (stms_of (map stm_of (drop (i + 1) ss))) ≡ whole
-statements_behind ss i s whole within is same h =
-    ap (λ b. b || are_unbuilt (stms_of (map stm_of (drop (i + 1) ss)))) (sym h) ∙ sym (statements_turn ss i s within is) ∙ same
+stms_behind ss i s whole within is same h =
+    ap (λ b. b || are_unbuilt (stms_of (map stm_of (drop (i + 1) ss)))) (sym h) ∙ sym (stms_turn ss i s within is) ∙ same
 
-pub statements_over : (ss : List Stmt) (i : ℕ) → length ss ≤ i → are_unbuilt (stms_of (map stm_of (drop i ss))) ≡ false
+pub stms_over : (ss : List Stmt) (i : ℕ) → length ss ≤ i → are_unbuilt (stms_of (map stm_of (drop i ss))) ≡ false
 unfolding are_unbuilt
-statements_over ss i over = rw (rest_none stm_of ss i over) refl
+stms_over ss i over = rw (rest_none stm_of ss i over) refl
 
 -- the first is this one, or stands behind it, or is none
 first_turn : (ss : List Stmt) (i : ℕ) (s : Stmt) → i < length ss → s ≡ get_or ss i s

@@ -64,7 +64,8 @@ fn answer_settings<F: Files>(
 /// The text of the program under a name.
 fn read_program<F: Files>(alloc: Global, name: &str, files: &mut F) -> Result<Vec<u8>, Failure>
     requires few { length (F.names files.old) < 128 }
-    ensures text { ReadsText (F.held files.old name.now) most_program_bytes past_program (Rose (F.faults files.old) (F.faults files.new)) (vec_items_of result) }
+    ensures text { ReadsText (F.held files.old name.now) most_program_bytes past_program
+        (Rose (F.faults files.old) (F.faults files.new)) (vec_items_of result) }
     ensures names { GainsName (F.names files.old) (F.names files.new) name.now (vec_items_of result) }
     ensures end { OnOk result (ReadToEnd F.Files files.old files.new name.now) }
     ensures kept { KeepsFiles F.held F.left F.given F.faults files.old files.new }

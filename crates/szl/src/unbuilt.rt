@@ -89,7 +89,7 @@ fn is_unbuilt(statement: &Stmt) -> bool
 
 /// Whether it stands in one of the statements.
 #[cycle(statements)]
-#[tactic(auto, using(crate::proofs::UnbuiltLemmas::statements_here, crate::proofs::UnbuiltLemmas::statements_behind, crate::proofs::UnbuiltLemmas::statements_over))]
+#[tactic(auto, using(crate::proofs::UnbuiltLemmas::stms_here, crate::proofs::UnbuiltLemmas::stms_behind, crate::proofs::UnbuiltLemmas::stms_over))]
 fn are_unbuilt(statements: &[Stmt]) -> bool
     ensures value { result ≡ are_unbuilt (stms_of (each stm_of statements.now)) }
 {

@@ -18,7 +18,8 @@ is_unbuilt-returns-in-Block t c = record {
 pub is_unbuilt-returns-else-head_has_proto : goal.is_unbuilt-returns-else-head_has_proto
 is_unbuilt-returns-else-head_has_proto t c =
     let of = c.in-Function.of in
-    let head = c.head_has_proto.ensures.value ∙ ap (λ ps. have_proto (params_of (map param_of ps)) || has_proto (type_of of)) c.as_slice-in-Function.ensures.value in
+    let head = c.head_has_proto.ensures.value
+    ∙ ap (λ ps. have_proto (params_of (map param_of ps)) || has_proto (type_of of)) c.as_slice-in-Function.ensures.value in
     record {
       value = c.are_unbuilt-else-head_has_proto.ensures.value ∙ ap (λ ss. are_unbuilt (stms_of (map stm_of ss))) c.as_slice-else-head_has_proto.ensures.value
           ∙ function_behind c.in-Function.field-0 c.in-Function.parameters of c.in-Function.body _ head c.if-head_has_proto.false
