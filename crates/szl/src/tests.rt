@@ -1,4 +1,6 @@
 //! Whole command lines over files and sinks in memory.
+mod checking;
+
 ghost use Rattle.std.specs.Prelude.{◌≡◌, ◌≤◌, [], IfOk};
 ghost use Rattle.sz_io.specs.MemFiles.{names_opened};
 
@@ -373,57 +375,11 @@ fn words_that_are_no_command_line_have_a_status_of_their_own(rt: HostRuntime) ->
     Ok(())
 }
 
-/// In each line of the table a program stands before `=>`, and behind it the line of its refusal, or nothing.
-fn check_holds<R: Threads + Sync + Abort>(rt: &R, alloc: Global, table: &str) -> Result<(), Fail> {
-    for line in table.lines() {
-        let (program, expected) = line.split_once(" => ").ok_or("no arrow")?;
-        let program = program_of(alloc, program)?;
-        let case = Case {
-            program: &program,
-            ..sound_case("", "")
-        };
-        let left = run(rt, alloc, "check p", &case)?;
-        let status = if expected.is_empty() {
-            Status::Done
-        } else {
-            Status::Program
-        };
-        assert_eq!(rt; left.status, status, "at {line}");
-        assert!(rt; left.out.bytes().is_empty(), "at {line}");
-        let found = std::str::from_utf8(left.err.bytes()).or(Err("not UTF-8"))?;
-        assert_eq!(rt; found.trim_end(), expected, "at {line}");
-    }
-    Ok(())
-}
-
-#[test]
-fn a_check_answers_the_first_refusal(rt: HostRuntime) -> Result<(), Fail> {
-    let table = "\
-x: int = y; => program: unknown name: y at 1:10
-x: int = 1;|x: int = 2; => program: declared twice: x at 2:1
-input = B\"a\"; => program: not assignable: input at 1:1
-break; => program: misplaced statement at 1:1
-x: int = 07; => program: bad literal at 1:10
-c: table sum of int;|emit c <- ; => program: syntax at 2:1";
-    check_holds(&rt, rt.alloc(), table)
-}
-
 #[test]
 fn a_check_of_a_fine_program_answers_nothing(rt: HostRuntime) -> Result<(), Fail> {
     let ran = run(&rt, rt.alloc(), "check p", &sound_case(FIRST, ""))?;
     assert!(&rt; has_left(&ran, Status::Done, "", ""));
     Ok(())
-}
-
-#[test]
-fn what_is_not_built_is_refused_before_the_rest(rt: HostRuntime) -> Result<(), Fail> {
-    let table = "\
-when (i: some int; true) ; => program: not built yet at 1:1
-f: function(m: array of proto {a: int @ 1}): int {return 1;} => program: not built yet at 1:1
-t: table maximum(3) of int; => program: not built yet at 1:1
-x: int = y;|t: table maximum(3) of int; => program: not built yet at 2:1
-x: int = y;|{ ; when (i: some int; true) ; } => program: not built yet at 2:1";
-    check_holds(&rt, rt.alloc(), table)
 }
 
 #[test]
