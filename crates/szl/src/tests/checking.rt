@@ -2,15 +2,15 @@
 use super::{Case, has_left, run, sound_case};
 use crate::judge::{checked, tree_in};
 use crate::status::Status;
-use std::alloc::Global;
+use itoa::Buffer;
+use std::alloc::{AllocError, Global};
 use std::fmt::Write;
 use std::process::Abort;
 use std::test::Fail;
 use std::thread::{Builder, Threads};
-use sz_io::NoMemory;
 
 /// The program that a line of a table stands for: `$` stands for the end of a line.
-fn program_of(alloc: Global, line: &str) -> Result<Vec<u8>, NoMemory> {
+fn program_of(alloc: Global, line: &str) -> Result<Vec<u8>, AllocError> {
     let mut program = Vec::with_capacity(alloc, line.len())?;
     for byte in line.bytes() {
         program.push(if byte == b'$' { b'\n' } else { byte })?;
@@ -425,22 +425,36 @@ fn a_65th_table_is_refused(rt: HostRuntime) -> Result<(), Fail> {
     Ok(())
 }
 
+/// Appends words with a number behind each but the last.
+fn push(text: &mut String, words: &[&str], numbers: &[u32]) -> Result<(), AllocError> {
+    for (word, number) in words.iter().zip(numbers) {
+        let mut digits = Buffer::new();
+        text.push_str(word)?;
+        text.push_str(digits.format(*number))?;
+    }
+    text.push_str(";\n")
+}
+
 /// A chain of this many types, each an array of the one before, and a variable of the last.
-fn chain(alloc: Global, count: usize) -> Result<String, Fail> {
+fn chain(alloc: Global, count: u32) -> Result<String, AllocError> {
     let mut program = String::new(alloc);
     program.push_str("type A0 = int;\n")?;
     for number in 1..count {
-        write!(program, "type A{number} = array of A{};\n", number - 1)?;
+        push(
+            &mut program,
+            &["type A", " = array of A"],
+            &[number, number - 1],
+        )?;
     }
-    write!(program, "x: A{};\n", count.saturating_sub(1))?;
+    push(&mut program, &["x: A"], &[count.saturating_sub(1)])?;
     Ok(program)
 }
 
-/// This many variables of tuple types, each 200 levels high.
-fn nested(alloc: Global, count: usize) -> Result<String, Fail> {
+/// This many variables of a tuple type that is 200 levels high.
+fn nested(alloc: Global, count: u32) -> Result<String, AllocError> {
     let mut program = String::new(alloc);
     for number in 0..count {
-        write!(program, "x{number}: ")?;
+        program.push_str("{ x: ")?;
         for _ in 0..200 {
             program.push_str("{a:")?;
         }
@@ -448,17 +462,18 @@ fn nested(alloc: Global, count: usize) -> Result<String, Fail> {
         for _ in 0..200 {
             program.push_str("}")?;
         }
-        program.push_str(";\n")?;
+        push(&mut program, &["; y: int = "], &[number])?;
+        program.push_str("}\n")?;
     }
     Ok(program)
 }
 
 /// This many variables, each with the value of the one before.
-fn declarations(alloc: Global, count: usize) -> Result<String, Fail> {
+fn declarations(alloc: Global, count: u32) -> Result<String, AllocError> {
     let mut program = String::new(alloc);
     program.push_str("x0: int = 1;\n")?;
     for number in 1..count {
-        write!(program, "x{number}: int = x{};\n", number - 1)?;
+        push(&mut program, &["x", ": int = x"], &[number, number - 1])?;
     }
     Ok(program)
 }
@@ -475,7 +490,7 @@ fn is_fine(alloc: Global, text: &str) -> bool {
 }
 
 /// Whether nothing is refused of large programs.
-fn large_are_fine(alloc: Global) -> Result<bool, Fail> {
+fn large_are_fine(alloc: Global) -> Result<bool, AllocError> {
     let chain = chain(alloc, 30_000)?;
     let nested = nested(alloc, 1_000)?;
     let declarations = declarations(alloc, 45_000)?;
@@ -487,7 +502,7 @@ fn large_programs_are_judged_on_a_stack_of_256_mebibytes(rt: HostRuntime) -> Res
     let alloc = rt.alloc();
     let thread = Builder::new()
         .stack_size(256 << 20)
-        .spawn(&rt, move || large_are_fine(alloc).unwrap_or(false))?;
-    assert!(&rt; thread.join(&rt));
+        .spawn(&rt, move || large_are_fine(alloc))?;
+    assert_eq!(&rt; thread.join(&rt), Ok(true));
     Ok(())
 }
