@@ -13,7 +13,7 @@ use Rattle.sz_core.specs.Statements.{stms_of, Step, at_index, at_field}
 use Rattle.sz_core.specs.Programs.{Signature}
 use Rattle.sz_core.specs.View.{node_of, form_of, pairing_of, step_of, stm_of}
 use Rattle.sz_core.specs.Emitting.{is_emitting, node_emits, form_emits, nodes_emit, pairings_emit, steps_emit, stm_emits, stms_emit}
-use Rattle.sz_check.proofs.ListLemmas.{rest_more, rest_none}
+use Rattle.sz_known.proofs.TurnLemmas.{rest_more, rest_none}
 
 or_false : (b : Bool) → (b || false) ≡ b
 or_false true = refl

@@ -13,19 +13,19 @@ use Rattle.sz_tree.specs.Statements.{Stms}
 use Rattle.sz_tree.specs.Types.{Typ, Params, no_params, param, params_of}
 use Rattle.sz_tree.specs.View.{param_of}
 use Rattle.sz_core.specs.Programs.{Signature}
-use Rattle.sz_check.specs.Refusals.{Judged, ◌>>=◌, declared_twice}
-use Rattle.sz_check.specs.Names.{Meaning, Named, Block, has, only, is_seen_by_functions}
-use Rattle.sz_check.specs.Names as names
-use Rattle.sz_check.specs.JudgingTypes.{judge_type}
-use Rattle.sz_check.specs.Scenes.{Scene, with_variable}
+use Rattle.sz_known.specs.Refusals.{Judged, ◌>>=◌, declared_twice}
+use Rattle.sz_known.specs.Names.{Meaning, Named, Block, has, only, is_seen_by_functions}
+use Rattle.sz_known.specs.Names as names
+use Rattle.sz_known.specs.JudgingTypes.{judge_type}
+use Rattle.sz_known.specs.Scene.{Scene, with_variable}
 use Rattle.sz_check.specs.JudgingStatements.{judge_stms}
 use Rattle.sz_check.specs.JudgingPrograms.{Known, Found, blocks_of, judge_parameters, innermost_on, in_function, judge_function}
 use Rattle.sz_check.specs.Functions.{front_of, judge_header, declare_parameters, Body, judge_body, finished, judge_function_by_parts}
-use Rattle.sz_check.specs.Holding.{Held, blocks_of as seen_of}
-use Rattle.sz_check.specs.Outcome.{Stops, Judges}
-use Rattle.sz_check.specs.declared.error.CheckError.{CheckError}
-use Rattle.sz_check.proofs.Holds.{good, good_is}
-use Rattle.sz_check.proofs.ListLemmas.{rest_more, stops_then, goes_on}
+use Rattle.sz_known.specs.Holding.{Held, blocks_of as seen_of}
+use Rattle.sz_known.specs.Outcome.{Stops, Judges}
+use Rattle.sz_known.specs.declared.error.CheckError.{CheckError}
+use Rattle.sz_known.proofs.Holds.{good, good_is}
+use Rattle.sz_known.proofs.TurnLemmas.{rest_more, stops_then, goes_on}
 use Rattle.sz_check.proofs.ProgramLemmas.{declared_is}
 use Rattle.sz_check.proofs.StatementLoops.{assoc}
 

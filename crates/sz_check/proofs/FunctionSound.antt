@@ -10,16 +10,17 @@ use Rattle.sz_core.specs.Programs as items
 use Rattle.sz_core.specs.Emitting.{body_emits}
 use Rattle.sz_core.specs.Typing.{Sight}
 use Rattle.sz_core.specs.Sound.{BeginsWith, Declared, record_sight, first_numbers, IsFunction, AreItems}
-use Rattle.sz_check.specs.Names.{Block, Meaning, only, is_seen_by_functions}
-use Rattle.sz_check.specs.Names as names
-use Rattle.sz_check.specs.JudgingTypes.{judge_type}
-use Rattle.sz_check.specs.Scenes.{Scene, AllBehind}
+use Rattle.sz_known.specs.Names.{Block, Meaning, only, is_seen_by_functions}
+use Rattle.sz_known.specs.Names as names
+use Rattle.sz_known.specs.JudgingTypes.{judge_type}
+use Rattle.sz_known.specs.Scene.{Scene}
+use Rattle.sz_check.specs.Scenes.{AllBehind}
 use Rattle.sz_check.specs.JudgingStatements.{judge_stms}
 use Rattle.sz_check.specs.JudgingPrograms.{Known, blocks_of, with_blocks, innermost_on, in_function, judge_function}
-use Rattle.sz_check.proofs.Holds.{Holds, good, ok_holds, bind_holds, known}
-use Rattle.sz_check.proofs.Meanings.{Mean, declared, kept_only, all_follow}
-use Rattle.sz_check.proofs.Sights.{IsFormed, AreFormed, IsCalled, Fits, AllFit}
-use Rattle.sz_check.proofs.TypeSound.{type_formed}
+use Rattle.sz_known.proofs.Holds.{Holds, good, ok_holds, bind_holds, known}
+use Rattle.sz_known.proofs.Meanings.{Mean, declared, kept_only, all_follow}
+use Rattle.sz_known.proofs.Sights.{IsFormed, AreFormed, IsCalled, Fits, AllFit}
+use Rattle.sz_known.proofs.TypeSound.{type_formed}
 use Rattle.sz_check.proofs.SceneLemmas.{Sees, begins_itself, get_before}
 use Rattle.sz_check.proofs.ItemLemmas.{IsKnown, AreParameters, parameters_hold, innermost_fit, first_are_seen, first_are_below}
 use Rattle.sz_check.proofs.StatementSound.{statements_sound}

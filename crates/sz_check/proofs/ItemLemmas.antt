@@ -15,15 +15,15 @@ use Rattle.sz_tree.specs.Types.{Typ, Params, no_params, param}
 use Rattle.sz_core.specs.WellFormed.{is_allowed}
 use Rattle.sz_core.specs.Typing.{Sight}
 use Rattle.sz_core.specs.Sound.{BeginsWith, first_numbers}
-use Rattle.sz_check.specs.Names.{Block}
-use Rattle.sz_check.specs.Names as names
-use Rattle.sz_check.specs.JudgingTypes.{judge_type}
-use Rattle.sz_check.specs.Scenes.{Scene}
+use Rattle.sz_known.specs.Names.{Block}
+use Rattle.sz_known.specs.Names as names
+use Rattle.sz_known.specs.JudgingTypes.{judge_type}
+use Rattle.sz_known.specs.Scene.{Scene}
 use Rattle.sz_check.specs.JudgingPrograms.{judge_elems, judge_weight, declaration_of, judge_parameters, innermost_on}
-use Rattle.sz_check.proofs.Holds.{Holds, good, ok_holds, err_holds, bind_holds, known, weaker, if_holds}
-use Rattle.sz_check.proofs.Meanings.{declared}
-use Rattle.sz_check.proofs.Sights.{IsFormed, AreFormed, IsVariable, Fits, AllFit}
-use Rattle.sz_check.proofs.TypeSound.{type_formed}
+use Rattle.sz_known.proofs.Holds.{Holds, good, ok_holds, err_holds, bind_holds, known, weaker, if_holds}
+use Rattle.sz_known.proofs.Meanings.{declared}
+use Rattle.sz_known.proofs.Sights.{IsFormed, AreFormed, IsVariable, Fits, AllFit}
+use Rattle.sz_known.proofs.TypeSound.{type_formed}
 use Rattle.sz_check.proofs.SceneLemmas.{begins_itself, begins_more, begins_on, begins_length, get_next, formed_more, AreBelow, below_more, HasVariable}
 
 -- ---- tables

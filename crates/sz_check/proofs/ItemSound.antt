@@ -15,19 +15,19 @@ use Rattle.sz_core.specs.Programs.{Signature, Function, Static, Item, Core}
 use Rattle.sz_core.specs.Programs as items
 use Rattle.sz_core.specs.Typing.{Sight}
 use Rattle.sz_core.specs.Sound.{seen_behind, Declared, record_sight, static_sight, IsTable, IsStatic, AreItems}
-use Rattle.sz_check.specs.Names.{Block, Meaning, only, is_seen_by_functions, is_seen_by_statics}
-use Rattle.sz_check.specs.Names as names
-use Rattle.sz_check.specs.Agreeing.{converted}
-use Rattle.sz_check.specs.JudgingTypes.{judge_type}
-use Rattle.sz_check.specs.JudgingExpressions.{judge_exp}
+use Rattle.sz_known.specs.Names.{Block, Meaning, only, is_seen_by_functions, is_seen_by_statics}
+use Rattle.sz_known.specs.Names as names
+use Rattle.sz_check_expr.specs.Agreeing.{converted}
+use Rattle.sz_known.specs.JudgingTypes.{judge_type}
+use Rattle.sz_check_expr.specs.JudgingExpressions.{judge_exp}
 use Rattle.sz_check.specs.JudgingPrograms.{Known, blocks_of, with_blocks, kind_of, limit_of, judge_elems, judge_weight, most_tables, judge_table, judge_static}
 use Rattle.sz_check.specs.JudgingPrograms.{judge_typedef, judge_statement}
-use Rattle.sz_check.proofs.Holds.{Holds, good, ok_holds, bind_holds, known, unless_holds}
-use Rattle.sz_check.proofs.Meanings.{kept_only}
-use Rattle.sz_check.proofs.Sights.{IsFormed, AreFormed, IsTableOf, Fits, AllFit}
-use Rattle.sz_check.proofs.TypeSound.{type_formed}
-use Rattle.sz_check.proofs.AgreeLemmas.{converted_holds}
-use Rattle.sz_check.proofs.ExpressionSound.{expression_typed}
+use Rattle.sz_known.proofs.Holds.{Holds, good, ok_holds, bind_holds, known, unless_holds}
+use Rattle.sz_known.proofs.Meanings.{kept_only}
+use Rattle.sz_known.proofs.Sights.{IsFormed, AreFormed, IsTableOf, Fits, AllFit}
+use Rattle.sz_known.proofs.TypeSound.{type_formed}
+use Rattle.sz_check_expr.proofs.AgreeLemmas.{converted_holds}
+use Rattle.sz_check_expr.proofs.ExpressionSound.{expression_typed}
 use Rattle.sz_check.proofs.SceneLemmas.{Sees, begins_itself}
 use Rattle.sz_check.proofs.ItemLemmas.{elems_formed, weight_formed, IsDeclared, declaration_holds}
 use Rattle.sz_check.proofs.StatementSound.{statement_sound}

@@ -1,16 +1,3 @@
-mod Holds
-mod KeepingLemmas
-mod WrittenLemmas
-mod TakenLemmas
-mod SortLemmas
-mod Tests
-mod Meanings
-mod Sights
-mod TypeSound
-mod RowLemmas
-mod AgreeLemmas
-mod NodeLemmas
-mod ExpressionSound
 mod SceneLemmas
 mod PathLemmas
 mod StatementLemmas
@@ -21,12 +8,6 @@ mod ItemSound
 mod FunctionSound
 mod ProgramSound
 mod StandardFacts
--- what the proofs of the code rest on
-mod TypeLemmas
-mod ListLemmas
-mod CallLemmas
-mod ExpLemmas
-mod TypeLoops
 mod StatementParts
 mod StatementLoops
 mod FunctionLemmas

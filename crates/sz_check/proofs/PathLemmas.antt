@@ -17,19 +17,19 @@ use Rattle.sz_core.specs.Statements.{Step, at_index, at_field}
 use Rattle.sz_core.specs.Statements as core
 use Rattle.sz_core.specs.Typing.{Sight, field_types, IsNode, IsForm}
 use Rattle.sz_core.specs.Sound.{LeadTo, IsStm, Around}
-use Rattle.sz_check.specs.Refusals.{wrong_type}
-use Rattle.sz_check.specs.Names.{Meaning, look_up}
-use Rattle.sz_check.specs.Names as names
-use Rattle.sz_check.specs.Agreeing.{Found}
-use Rattle.sz_check.specs.Scenes.{Scene}
+use Rattle.sz_known.specs.Refusals.{wrong_type}
+use Rattle.sz_known.specs.Names.{Meaning, look_up}
+use Rattle.sz_known.specs.Names as names
+use Rattle.sz_check_expr.specs.Agreeing.{Found}
+use Rattle.sz_known.specs.Scene.{Scene}
 use Rattle.sz_check.specs.JudgingPaths.{Target, target_of, stepped, indexed, judge_steps, judge_path}
 use Rattle.sz_check.specs.JudgingSimple.{judge_assignment, judge_change}
-use Rattle.sz_check.proofs.Holds.{Holds, good, by_option, ok_holds, err_holds, bind_holds, unless_holds, option_holds, some_has}
-use Rattle.sz_check.proofs.Meanings.{looked_up}
-use Rattle.sz_check.proofs.Sights.{IsFormed, IsVariable, Fits}
-use Rattle.sz_check.proofs.RowLemmas.{element_formed, value_formed, int_formed, bytes_formed}
-use Rattle.sz_check.proofs.AgreeLemmas.{IsTyped, agrees_holds}
-use Rattle.sz_check.proofs.NodeLemmas.{IsPart, part_found, whole_holds}
+use Rattle.sz_known.proofs.Holds.{Holds, good, by_option, ok_holds, err_holds, bind_holds, unless_holds, option_holds, some_has}
+use Rattle.sz_known.proofs.Meanings.{looked_up}
+use Rattle.sz_known.proofs.Sights.{IsFormed, IsVariable, Fits}
+use Rattle.sz_check_expr.proofs.RowLemmas.{element_formed, value_formed, int_formed, bytes_formed}
+use Rattle.sz_check_expr.proofs.AgreeLemmas.{IsTyped, agrees_holds}
+use Rattle.sz_check_expr.proofs.NodeLemmas.{IsPart, part_found, whole_holds}
 use Rattle.sz_check.proofs.SceneLemmas.{Sees, judged, IsSimple}
 
 -- a step more

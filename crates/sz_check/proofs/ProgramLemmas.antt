@@ -14,14 +14,14 @@ use Rattle.sz_tree.specs.Statements.{stms_of}
 use Rattle.sz_tree.specs.View.{stm_of, param_of, type_of}
 use Rattle.sz_tree.proofs.RowLemmas.{stm_of_function}
 use Rattle.sz_core.specs.Programs.{Item}
-use Rattle.sz_check.specs.Refusals.{Judged, ◌>>=◌, declared_twice}
-use Rattle.sz_check.specs.Names.{Meaning, Named, Block, has, declare}
+use Rattle.sz_known.specs.Refusals.{Judged, ◌>>=◌, declared_twice}
+use Rattle.sz_known.specs.Names.{Meaning, Named, Block, has, declare}
 use Rattle.sz_check.specs.JudgingPrograms.{Known, Found, judge_function, judge_top, judge_all}
 use Rattle.sz_check.specs.Top.{with_items}
-use Rattle.sz_check.specs.Outcome.{Stops}
-use Rattle.sz_check.specs.declared.error.CheckError.{CheckError}
-use Rattle.sz_check.specs.declared.error.CheckError.TheVariants as errors
-use Rattle.sz_check.proofs.ListLemmas.{rest_more, rest_none}
+use Rattle.sz_known.specs.Outcome.{Stops}
+use Rattle.sz_known.specs.declared.error.CheckError.{CheckError}
+use Rattle.sz_known.specs.declared.error.CheckError.TheVariants as errors
+use Rattle.sz_known.proofs.TurnLemmas.{rest_more, rest_none}
 
 -- the statements behind the first, with what the first is
 abbrev behind : List Stmt → Found → Judged Found

@@ -5,7 +5,7 @@ use Rattle.sz_tree.specs.Statements.{Stm, static, typedef, table, function, Stms
 use Rattle.sz_types.specs.Data.{Shape}
 use Rattle.sz_core.specs.Sound.{nothing_declared, AreItems, IsSound}
 use Rattle.sz_check.specs.JudgingPrograms.{Known, judge_top, judge_all, known_at_first, judge_program}
-use Rattle.sz_check.proofs.Holds.{Holds, ok_holds, bind_holds}
+use Rattle.sz_known.proofs.Holds.{Holds, ok_holds, bind_holds}
 use Rattle.sz_check.proofs.SceneLemmas.{begins_itself, begins_on}
 use Rattle.sz_check.proofs.TopLemmas.{Knows, IsFoundBehind}
 use Rattle.sz_check.proofs.ItemSound.{table_sound, static_sound, typedef_sound, for_record_sound}

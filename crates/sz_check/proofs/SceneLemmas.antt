@@ -13,14 +13,15 @@ use Rattle.sz_core.specs.Statements.{Stm, clear, keep, block, store, evaluate, n
 use Rattle.sz_core.specs.WellFormed.{is_well_formed, are_well_formed}
 use Rattle.sz_core.specs.Typing.{Sight, IsCall}
 use Rattle.sz_core.specs.Sound.{seen_behind, BeginsWith, Around, IsStm, AreStms, IsFree, IsBetweenTurns}
-use Rattle.sz_check.specs.Names.{variable, declare}
-use Rattle.sz_check.specs.JudgingExpressions.{judge_exp}
-use Rattle.sz_check.specs.Scenes.{Scene, Behind, AllBehind, opened, closed, with_variable, judge}
-use Rattle.sz_check.proofs.Holds.{Holds, good, ok_holds, bind_holds, known}
-use Rattle.sz_check.proofs.Meanings.{declared}
-use Rattle.sz_check.proofs.Sights.{IsFormed, AreFormed, IsVariable, Fits, AllFit, IsWider, all_fit_wider}
-use Rattle.sz_check.proofs.AgreeLemmas.{IsTyped}
-use Rattle.sz_check.proofs.ExpressionSound.{expression_typed, call_is_made}
+use Rattle.sz_known.specs.Names.{variable, declare}
+use Rattle.sz_check_expr.specs.JudgingExpressions.{judge_exp}
+use Rattle.sz_known.specs.Scene.{Scene, opened, closed, with_variable}
+use Rattle.sz_check.specs.Scenes.{Behind, AllBehind, judge}
+use Rattle.sz_known.proofs.Holds.{Holds, good, ok_holds, bind_holds, known}
+use Rattle.sz_known.proofs.Meanings.{declared}
+use Rattle.sz_known.proofs.Sights.{IsFormed, AreFormed, IsVariable, Fits, AllFit, IsWider, all_fit_wider}
+use Rattle.sz_check_expr.proofs.AgreeLemmas.{IsTyped}
+use Rattle.sz_check_expr.proofs.ExpressionSound.{expression_typed, call_is_made}
 
 -- ---- lists that go on
 

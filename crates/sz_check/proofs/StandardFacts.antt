@@ -9,10 +9,10 @@ use Rattle.sz_core.specs.Programs.{core_of}
 use Rattle.sz_core.specs.Example.{column, small_items}
 use Rattle.sz_core.specs.WellFormed.{is_well_formed}
 use Rattle.sz_core.specs.Emitting.{stm_emits, node_emits}
-use Rattle.sz_check.specs.Refusals.{refused_at, refused_for}
-use Rattle.sz_check.specs.Agreeing.{agree}
-use Rattle.sz_check.specs.JudgingTypes.{judge_type}
-use Rattle.sz_check.specs.JudgingExpressions.{judge_exp}
+use Rattle.sz_known.specs.Refusals.{refused_at, refused_for}
+use Rattle.sz_check_expr.specs.Agreeing.{agree}
+use Rattle.sz_known.specs.JudgingTypes.{judge_type}
+use Rattle.sz_check_expr.specs.JudgingExpressions.{judge_exp}
 use Rattle.sz_check.specs.JudgingStatements.{judge_stm}
 use Rattle.sz_check.specs.JudgingPaths.{judge_steps}
 use Rattle.sz_check.specs.JudgingPrograms.{judge_program, judge_all, judge_elems, judge_parameters}

@@ -15,24 +15,25 @@ use Rattle.sz_core.specs.Nodes.{Node, type_of}
 use Rattle.sz_core.specs.Statements as core
 use Rattle.sz_core.specs.Typing.{Sight}
 use Rattle.sz_core.specs.Sound.{BeginsWith, IsStm, AreStms, IsTest, IsWeightOf}
-use Rattle.sz_check.specs.Refusals.{Judged}
-use Rattle.sz_check.specs.Names.{Meaning, look_up}
-use Rattle.sz_check.specs.Names as names
-use Rattle.sz_check.specs.Agreeing.{in_turn, converted}
-use Rattle.sz_check.specs.JudgingTypes.{judge_type}
-use Rattle.sz_check.specs.JudgingExpressions.{judge_exps}
-use Rattle.sz_check.specs.Scenes.{Scene, judge, judge_if_some}
+use Rattle.sz_known.specs.Refusals.{Judged}
+use Rattle.sz_known.specs.Names.{Meaning, look_up}
+use Rattle.sz_known.specs.Names as names
+use Rattle.sz_check_expr.specs.Agreeing.{in_turn, converted}
+use Rattle.sz_known.specs.JudgingTypes.{judge_type}
+use Rattle.sz_check_expr.specs.JudgingExpressions.{judge_exps}
+use Rattle.sz_known.specs.Scene.{Scene}
+use Rattle.sz_check.specs.Scenes.{judge, judge_if_some}
 use Rattle.sz_check.specs.JudgingStatements.{Around}
 use Rattle.sz_check.specs.JudgingSimple.{judge_declaration, judge_initialised, judge_definition, judge_simple, judge_first, judge_between, test_if_some}
 use Rattle.sz_check.specs.JudgingSimple.{judge_return, Numbered, table_named, weight_agrees, judge_emit, done}
-use Rattle.sz_check.proofs.Holds.{Holds, ok_holds, err_holds, bind_holds, known, weaker, both_hold, unless_holds}
-use Rattle.sz_check.proofs.Meanings.{looked_up}
-use Rattle.sz_check.proofs.Sights.{IsFormed, IsTableOf, Fits}
-use Rattle.sz_check.proofs.TypeSound.{type_formed}
-use Rattle.sz_check.proofs.RowLemmas.{sum_keeps, difference_keeps}
-use Rattle.sz_check.proofs.AgreeLemmas.{IsTyped, AreTyped, HasType, all_nodes, agrees_holds, counted_holds, agree_in_turn, converted_holds}
-use Rattle.sz_check.proofs.NodeLemmas.{test_holds}
-use Rattle.sz_check.proofs.ExpressionSound.{expressions_typed}
+use Rattle.sz_known.proofs.Holds.{Holds, ok_holds, err_holds, bind_holds, known, weaker, both_hold, unless_holds}
+use Rattle.sz_known.proofs.Meanings.{looked_up}
+use Rattle.sz_known.proofs.Sights.{IsFormed, IsTableOf, Fits}
+use Rattle.sz_known.proofs.TypeSound.{type_formed}
+use Rattle.sz_check_expr.proofs.RowLemmas.{sum_keeps, difference_keeps}
+use Rattle.sz_check_expr.proofs.AgreeLemmas.{IsTyped, AreTyped, HasType, all_nodes, agrees_holds, counted_holds, agree_in_turn, converted_holds}
+use Rattle.sz_check_expr.proofs.NodeLemmas.{test_holds}
+use Rattle.sz_check_expr.proofs.ExpressionSound.{expressions_typed}
 use Rattle.sz_check.proofs.SceneLemmas.{Sees, judged, begins_itself, begins_more, HasVariable, variable_added, added, IsSoundHere, IsBehind, IsDone, IsSimple}
 use Rattle.sz_check.proofs.SceneLemmas.{simple_done, call_judged}
 use Rattle.sz_check.proofs.PathLemmas.{assignment_sound, change_sound}

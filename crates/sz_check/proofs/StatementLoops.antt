@@ -14,20 +14,21 @@ use Rattle.sz_tree.specs.Types.{params_of}
 use Rattle.sz_tree.specs.View.{step_of, stm_of, param_of, type_of}
 use Rattle.sz_core.specs.Statements.{Stm, with_stm}
 use Rattle.sz_core.specs.Statements as core
-use Rattle.sz_check.specs.Refusals.{Judged, ◌>>=◌}
-use Rattle.sz_check.specs.Names as names
-use Rattle.sz_check.specs.JudgingTypes.{judge_type}
-use Rattle.sz_check.specs.JudgingParts.{field_in}
-use Rattle.sz_check.specs.Scenes.{Scene, Behind, AllBehind, judge, with_variable}
+use Rattle.sz_known.specs.Refusals.{Judged, ◌>>=◌}
+use Rattle.sz_known.specs.Names as names
+use Rattle.sz_known.specs.JudgingTypes.{judge_type}
+use Rattle.sz_check_expr.specs.JudgingParts.{field_in}
+use Rattle.sz_known.specs.Scene.{Scene, with_variable}
+use Rattle.sz_check.specs.Scenes.{Behind, AllBehind, judge}
 use Rattle.sz_check.specs.JudgingStatements.{Around, judge_stm, judge_stms}
 use Rattle.sz_check.specs.JudgingPaths.{Target, stepped, indexed, judge_steps}
 use Rattle.sz_check.specs.JudgingPrograms.{judge_parameters}
-use Rattle.sz_check.specs.Lists.{behind, put_all}
+use Rattle.sz_known.specs.Turns.{behind, put_all}
 use Rattle.sz_check.specs.Targets.{judge_step}
 use Rattle.sz_check.specs.Behind.{in_front}
-use Rattle.sz_check.specs.Outcome.{Stops}
-use Rattle.sz_check.specs.declared.error.CheckError.{CheckError}
-use Rattle.sz_check.proofs.ListLemmas.{rest_more, rest_none, behind_next, behind_ends, turn_fails, stops_then, goes_on}
+use Rattle.sz_known.specs.Outcome.{Stops}
+use Rattle.sz_known.specs.declared.error.CheckError.{CheckError}
+use Rattle.sz_known.proofs.TurnLemmas.{rest_more, rest_none, behind_next, behind_ends, turn_fails, stops_then, goes_on}
 
 -- what goes on from a judgement that goes on from another
 pub assoc : {A B C : Type 0} (j : Judged A) (f : A → Judged B) (g : B → Judged C) → (j >>= λ x. f x >>= g) ≡ ((j >>= f) >>= g)

@@ -11,21 +11,22 @@ use Rattle.sz_tree.specs.Types.{Typ, Params}
 use Rattle.sz_core.specs.Nodes.{Node, Nodes}
 use Rattle.sz_core.specs.Statements.{Stm, Stms, stms_of}
 use Rattle.sz_core.specs.Statements as core
-use Rattle.sz_check.specs.Refusals.{Judged, ◌>>=◌, unless, wrong_weight, misplaced, not_built}
-use Rattle.sz_check.specs.Names.{look_up, Meaning}
-use Rattle.sz_check.specs.Agreeing.{in_turn, agree, agrees, counted}
-use Rattle.sz_check.specs.JudgingExpressions.{judge_exps}
-use Rattle.sz_check.specs.JudgingOperators.{test}
-use Rattle.sz_check.specs.Scenes.{Scene, Behind, AllBehind, opened, closed, judge, judge_if_some}
+use Rattle.sz_known.specs.Refusals.{Judged, ◌>>=◌, unless, wrong_weight, misplaced, not_built}
+use Rattle.sz_known.specs.Names.{look_up, Meaning}
+use Rattle.sz_check_expr.specs.Agreeing.{in_turn, agree, agrees, counted}
+use Rattle.sz_check_expr.specs.JudgingExpressions.{judge_exps}
+use Rattle.sz_check_expr.specs.JudgingOperators.{test}
+use Rattle.sz_known.specs.Scene.{Scene, opened, closed}
+use Rattle.sz_check.specs.Scenes.{Behind, AllBehind, judge, judge_if_some}
 use Rattle.sz_check.specs.JudgingStatements.{Around, in_block, in_loop, judge_stm, judge_stms}
 use Rattle.sz_check.specs.JudgingSimple.{Numbered, judge_first, judge_between, test_if_some, table_named, weight_agrees}
 use Rattle.sz_check.specs.JudgingSimple.{judge_definition, judge_simple, judge_return, done, judge_emit, same_presence}
-use Rattle.sz_check.specs.Outcome.{Stops, Judges}
-use Rattle.sz_check.specs.declared.error.CheckError.{CheckError}
-use Rattle.sz_check.proofs.ListLemmas.{stops_then, goes_on}
+use Rattle.sz_known.specs.Outcome.{Stops, Judges}
+use Rattle.sz_known.specs.declared.error.CheckError.{CheckError}
+use Rattle.sz_known.proofs.TurnLemmas.{stops_then, goes_on}
 use Rattle.sz_core.specs.declared.stmt.CoreStmt.{CoreStmt}
 use Rattle.sz_core.specs.View.{stm_of}
-use Rattle.sz_check.specs.Holding.{Held, outside_of, scene_of}
+use Rattle.sz_known.specs.Holding.{Held, outside_of, scene_of}
 use Rattle.sz_check.specs.Behind.{behind_of, judge_inside, judge_turns, judge_for, Emitted, judge_emitted, emitted_fits, judge_emit_by_parts}
 
 tested : {A B : Type 0} (u : Judged Unit) (x : A) (f : A → B) → (u >>= λ _. Ok (f x)) ≡ ((u >>= λ _. Ok x) >>= λ y. Ok (f y))

@@ -8,14 +8,15 @@ use Rattle.sz_core.specs.Nodes.{Node}
 use Rattle.sz_core.specs.Statements as core
 use Rattle.sz_core.specs.Typing.{Sight}
 use Rattle.sz_core.specs.Sound.{BeginsWith, IsStm, AreStms, IsTest, seen_behind}
-use Rattle.sz_check.specs.Refusals.{Judged}
-use Rattle.sz_check.specs.JudgingOperators.{test}
-use Rattle.sz_check.specs.Scenes.{Scene, Behind, opened, closed, judge, judge_if_some}
+use Rattle.sz_known.specs.Refusals.{Judged}
+use Rattle.sz_check_expr.specs.JudgingOperators.{test}
+use Rattle.sz_known.specs.Scene.{Scene, opened, closed}
+use Rattle.sz_check.specs.Scenes.{Behind, judge, judge_if_some}
 use Rattle.sz_check.specs.JudgingStatements.{Around, in_loop, in_block, judge_stm, judge_stms}
 use Rattle.sz_check.specs.JudgingSimple.{judge_between, judge_return, judge_emit, test_if_some}
-use Rattle.sz_check.proofs.Holds.{Holds, good, ok_holds, err_holds, bind_holds, known, if_holds}
-use Rattle.sz_check.proofs.Sights.{IsFormed}
-use Rattle.sz_check.proofs.NodeLemmas.{test_holds}
+use Rattle.sz_known.proofs.Holds.{Holds, good, ok_holds, err_holds, bind_holds, known, if_holds}
+use Rattle.sz_known.proofs.Sights.{IsFormed}
+use Rattle.sz_check_expr.proofs.NodeLemmas.{test_holds}
 use Rattle.sz_check.proofs.SceneLemmas.{Sees, sees_opened, sees_closed, locals_behind, judged, begins_itself, begins_on, IsDone, IsBehind, IsInside, AreBehind}
 use Rattle.sz_check.proofs.StatementLemmas.{declaration_sound, initialised_sound, definition_sound, done_sound, simple_behind, between_sound, maybe_judged}
 use Rattle.sz_check.proofs.StatementLemmas.{maybe_test, return_sound, emit_sound, first_sound}

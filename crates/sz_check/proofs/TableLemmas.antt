@@ -14,15 +14,15 @@ use Rattle.sz_tree.specs.declared.stmt.Elem.{Elem}
 use Rattle.sz_tree.specs.Names.{Ident}
 use Rattle.sz_tree.specs.View.{elem_of, type_of}
 use Rattle.sz_core.specs.WellFormed.{is_allowed, kind_allows, has_sum, has_no_weight, are_whole_numbers}
-use Rattle.sz_check.specs.Refusals.{Judged, ◌>>=◌, bad_table}
-use Rattle.sz_check.specs.Names.{Block}
-use Rattle.sz_check.specs.JudgingTypes.{judge_type}
+use Rattle.sz_known.specs.Refusals.{Judged, ◌>>=◌, bad_table}
+use Rattle.sz_known.specs.Names.{Block}
+use Rattle.sz_known.specs.JudgingTypes.{judge_type}
 use Rattle.sz_check.specs.JudgingPrograms.{judge_elems, allowed, declaration_of}
-use Rattle.sz_check.specs.Lists.{behind, put_all}
+use Rattle.sz_known.specs.Turns.{behind, put_all}
 use Rattle.sz_check.specs.Tabling.{is_int, with_type}
-use Rattle.sz_check.specs.Outcome.{Stops}
-use Rattle.sz_check.specs.declared.error.CheckError.{CheckError}
-use Rattle.sz_check.proofs.ListLemmas.{rest_more, rest_none, turn_fails, turn_goes, turn_ends}
+use Rattle.sz_known.specs.Outcome.{Stops}
+use Rattle.sz_known.specs.declared.error.CheckError.{CheckError}
+use Rattle.sz_known.proofs.TurnLemmas.{rest_more, rest_none, turn_fails, turn_goes, turn_ends}
 
 second_fails : (a b : Bool) → b ≡ false → (a && b) ≡ false
 second_fails true b h = h

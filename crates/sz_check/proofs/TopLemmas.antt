@@ -7,13 +7,13 @@ use Rattle.sz_tree.specs.Names.{Ident}
 use Rattle.sz_core.specs.Programs.{Signature, Item}
 use Rattle.sz_core.specs.Typing.{Sight}
 use Rattle.sz_core.specs.Sound.{BeginsWith, Declared, record_sight, AreItems}
-use Rattle.sz_check.specs.Names.{Block, Meaning, only, is_seen_by_functions, is_seen_by_statics}
-use Rattle.sz_check.specs.Names as names
-use Rattle.sz_check.specs.Scenes.{Scene}
+use Rattle.sz_known.specs.Names.{Block, Meaning, only, is_seen_by_functions, is_seen_by_statics}
+use Rattle.sz_known.specs.Names as names
+use Rattle.sz_known.specs.Scene.{Scene}
 use Rattle.sz_check.specs.JudgingPrograms.{Known, Found, blocks_of, with_blocks}
-use Rattle.sz_check.proofs.Holds.{good}
-use Rattle.sz_check.proofs.Meanings.{declared}
-use Rattle.sz_check.proofs.Sights.{Fits, IsWider, all_fit_wider}
+use Rattle.sz_known.proofs.Holds.{good}
+use Rattle.sz_known.proofs.Meanings.{declared}
+use Rattle.sz_known.proofs.Sights.{Fits, IsWider, all_fit_wider}
 use Rattle.sz_check.proofs.SceneLemmas.{Sees, get_behind, get_before}
 
 -- what is known in front of a statement at the top level is true of what is declared before it, and of what is seen there

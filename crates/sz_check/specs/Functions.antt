@@ -8,11 +8,11 @@ use Rattle.sz_core.specs.Statements.{Stms}
 use Rattle.sz_core.specs.Programs.{Signature}
 use Rattle.sz_core.specs.Programs as items
 use Rattle.sz_core.specs.Emitting.{body_emits}
-use Rattle.sz_check.specs.Refusals.{Judged, ◌>>=◌}
-use Rattle.sz_check.specs.Names.{Block, only, is_seen_by_functions}
-use Rattle.sz_check.specs.Names as names
-use Rattle.sz_check.specs.JudgingTypes.{judge_type}
-use Rattle.sz_check.specs.Scenes.{Scene, with_variable}
+use Rattle.sz_known.specs.Refusals.{Judged, ◌>>=◌}
+use Rattle.sz_known.specs.Names.{Block, only, is_seen_by_functions}
+use Rattle.sz_known.specs.Names as names
+use Rattle.sz_known.specs.JudgingTypes.{judge_type}
+use Rattle.sz_known.specs.Scene.{Scene, with_variable}
 use Rattle.sz_check.specs.JudgingStatements.{judge_stms}
 use Rattle.sz_check.specs.JudgingPrograms.{Known, Found, blocks_of, with_blocks, judge_parameters, in_function}
 

@@ -8,12 +8,13 @@ use Rattle.sz_tree.specs.Statements.{StepForm, PathForm}
 use Rattle.sz_tree.specs.Statements as trees
 use Rattle.sz_core.specs.Nodes.{Node}
 use Rattle.sz_core.specs.Statements.{Step, at_index, at_field}
-use Rattle.sz_check.specs.Refusals.{Judged, ◌>>=◌, unless, wrong_kind, wrong_type, not_assignable}
-use Rattle.sz_check.specs.Names.{Meaning, look_up}
-use Rattle.sz_check.specs.Names as names
-use Rattle.sz_check.specs.Agreeing.{agrees}
-use Rattle.sz_check.specs.JudgingParts.{whole, field_in}
-use Rattle.sz_check.specs.Scenes.{Scene, judge}
+use Rattle.sz_known.specs.Refusals.{Judged, ◌>>=◌, unless, wrong_kind, wrong_type, not_assignable}
+use Rattle.sz_known.specs.Names.{Meaning, look_up}
+use Rattle.sz_known.specs.Names as names
+use Rattle.sz_check_expr.specs.Agreeing.{agrees}
+use Rattle.sz_check_expr.specs.JudgingParts.{whole, field_in}
+use Rattle.sz_known.specs.Scene.{Scene}
+use Rattle.sz_check.specs.Scenes.{judge}
 
 -- where a path has come to: the number of its variable, the steps so far, the type of what is there, and whether it can be
 -- assigned to

@@ -14,13 +14,13 @@ use Rattle.sz_core.specs.Programs.{Signature, Function, Item, Core}
 use Rattle.sz_core.specs.Programs as items
 use Rattle.sz_core.specs.Emitting.{body_emits}
 use Rattle.sz_core.specs.WellFormed.{is_allowed}
-use Rattle.sz_check.specs.Refusals.{Judged, ◌>>=◌, unless, no_kind, bad_table, too_many}
-use Rattle.sz_check.specs.Names.{Block, Meaning, only, is_seen_by_functions, is_seen_by_statics, predeclared_names}
-use Rattle.sz_check.specs.Names as names
-use Rattle.sz_check.specs.JudgingTypes.{judge_type}
-use Rattle.sz_check.specs.JudgingExpressions.{judge_exp}
-use Rattle.sz_check.specs.Agreeing.{converted}
-use Rattle.sz_check.specs.Scenes.{Scene}
+use Rattle.sz_known.specs.Refusals.{Judged, ◌>>=◌, unless, no_kind, bad_table, too_many}
+use Rattle.sz_known.specs.Names.{Block, Meaning, only, is_seen_by_functions, is_seen_by_statics, predeclared_names}
+use Rattle.sz_known.specs.Names as names
+use Rattle.sz_known.specs.JudgingTypes.{judge_type}
+use Rattle.sz_check_expr.specs.JudgingExpressions.{judge_exp}
+use Rattle.sz_check_expr.specs.Agreeing.{converted}
+use Rattle.sz_known.specs.Scene.{Scene}
 use Rattle.sz_check.specs.JudgingStatements.{Around, judge_stm, judge_stms}
 
 -- what is known in front of a statement at the top level: the scene, and how much of each kind is declared

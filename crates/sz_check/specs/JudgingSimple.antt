@@ -15,14 +15,15 @@ use Rattle.sz_tree.specs.Types.{Typ}
 use Rattle.sz_core.specs.Nodes.{Node, node, type_of}
 use Rattle.sz_core.specs.Nodes as forms
 use Rattle.sz_core.specs.Statements as core
-use Rattle.sz_check.specs.Refusals.{Judged, ◌>>=◌, unless, wrong_kind, wrong_type, wrong_weight, misplaced}
-use Rattle.sz_check.specs.Names.{Meaning, look_up}
-use Rattle.sz_check.specs.Names as names
-use Rattle.sz_check.specs.JudgingTypes.{judge_type}
-use Rattle.sz_check.specs.Agreeing.{in_turn, agree, agrees, counted, converted}
-use Rattle.sz_check.specs.JudgingExpressions.{judge_exps}
-use Rattle.sz_check.specs.JudgingOperators.{test}
-use Rattle.sz_check.specs.Scenes.{Scene, Behind, with_variable, judge, judge_if_some}
+use Rattle.sz_known.specs.Refusals.{Judged, ◌>>=◌, unless, wrong_kind, wrong_type, wrong_weight, misplaced}
+use Rattle.sz_known.specs.Names.{Meaning, look_up}
+use Rattle.sz_known.specs.Names as names
+use Rattle.sz_known.specs.JudgingTypes.{judge_type}
+use Rattle.sz_check_expr.specs.Agreeing.{in_turn, agree, agrees, counted, converted}
+use Rattle.sz_check_expr.specs.JudgingExpressions.{judge_exps}
+use Rattle.sz_check_expr.specs.JudgingOperators.{test}
+use Rattle.sz_known.specs.Scene.{Scene, with_variable}
+use Rattle.sz_check.specs.Scenes.{Behind, judge, judge_if_some}
 use Rattle.sz_check.specs.JudgingPaths.{judge_path}
 
 -- `name: type;`

@@ -1,32 +1,11 @@
 -- what the public contracts rest on
-pub mod Refusals
-pub mod Names
-pub mod JudgingTypes
-pub mod Agreeing
-pub mod JudgingCalls
-pub mod JudgingComposites
-pub mod JudgingParts
-pub mod JudgingOperators
-pub mod JudgingExpressions
 pub mod Scenes
 pub mod JudgingPaths
 pub mod JudgingSimple
 pub mod JudgingStatements
 pub mod JudgingPrograms
 pub mod Example
-pub mod Outcome
 -- what the functions inside the crate promise each other
-pub mod Kinds
-pub mod Written
-pub mod Sorts
-pub mod Holding
-pub mod KnownCode
-pub mod Keeping
-pub mod Asking
-pub mod Lists
-pub mod Calling
-pub mod Operating
-pub mod Parts
 pub mod Targets
 pub mod Behind
 pub mod Top

@@ -10,9 +10,10 @@ use Rattle.sz_core.specs.Nodes.{Node}
 use Rattle.sz_core.specs.Statements.{at_index, at_field}
 use Rattle.sz_core.specs.View.{step_of}
 use Rattle.sz_check.specs.declared.target.Target.{Target as Reached}
-use Rattle.sz_check.specs.Refusals.{Judged, ◌>>=◌, unless, not_assignable}
-use Rattle.sz_check.specs.JudgingParts.{field_in}
-use Rattle.sz_check.specs.Scenes.{Scene, judge}
+use Rattle.sz_known.specs.Refusals.{Judged, ◌>>=◌, unless, not_assignable}
+use Rattle.sz_check_expr.specs.JudgingParts.{field_in}
+use Rattle.sz_known.specs.Scene.{Scene}
+use Rattle.sz_check.specs.Scenes.{judge}
 use Rattle.sz_check.specs.JudgingPaths.{Target, stepped, indexed}
 
 -- where a path has come to

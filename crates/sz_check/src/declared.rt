@@ -4,15 +4,14 @@ ghost use Rattle.std.specs.Option.{option_map};
 ghost use Rattle.sz_tree.specs.Statements.{declare};
 ghost use Rattle.sz_tree.specs.View.{tree_of, type_of};
 ghost use Rattle.sz_check.specs.JudgingStatements.{Around, judge_stm};
-ghost use Rattle.sz_check.specs.Holding.{scene_of};
+ghost use Rattle.sz_known.specs.Holding.{scene_of};
 ghost use Rattle.sz_check.specs.Behind.{behind_of};
-ghost use Rattle.sz_check.specs.Outcome.{Judges};
+ghost use Rattle.sz_known.specs.Outcome.{Judges};
 
-use crate::error::CheckError;
-use crate::known::Known;
 use crate::simple::{judge_declaration, judge_initialised};
 use std::alloc::Global;
 use sz_core::CoreStmt;
+use sz_known::{CheckError, Known};
 use sz_tree::{Expr, Name, TypeTree};
 
 // `name: type;`, or `name: type = e;`, wherever it stands.

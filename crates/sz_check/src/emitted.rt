@@ -8,18 +8,14 @@ ghost use Rattle.sz_tree.specs.View.{tree_of};
 ghost use Rattle.sz_core.specs.View.{node_of, stm_of};
 ghost use Rattle.sz_check.specs.Scenes.{judge_if_some};
 ghost use Rattle.sz_check.specs.JudgingSimple.{table_named, weight_agrees};
-ghost use Rattle.sz_check.specs.Holding.{means_of, scene_of};
+ghost use Rattle.sz_known.specs.Holding.{means_of, scene_of};
 ghost use Rattle.sz_check.specs.Behind.{numbered_of, emitted_of, judge_emitted, emitted_fits, judge_emit_by_parts};
-ghost use Rattle.sz_check.specs.Outcome.{Judges};
+ghost use Rattle.sz_known.specs.Outcome.{Judges};
 
-use crate::agree::{agree, agrees, counted};
-use crate::asks::Asks;
-use crate::error::{CheckError, at, of};
-use crate::expr::{judge_exp, judge_exps};
-use crate::known::Known;
-use crate::meaning::Means;
 use std::alloc::Global;
+use sz_check_expr::{Asks, agree, agrees, counted, judge_exp, judge_exps};
 use sz_core::{CoreExpr, CoreStmt};
+use sz_known::{CheckError, Known, Means};
 use sz_tree::{Expr, Name};
 use sz_types::{Place, TableDecl, Ty};
 
@@ -41,7 +37,7 @@ fn table_named<'k>(
 {
     match means {
         Means::Table(number, table) => Ok((number, table)),
-        _ => Err(of(alloc, 8, name)),
+        _ => Err(CheckError::of(alloc, 8, name)),
     }
 }
 
@@ -116,7 +112,7 @@ fn parts_fit(
     if table.weight.is_some() == weight.is_some() {
         Ok(())
     } else {
-        Err(at(13, place))
+        Err(CheckError::at(13, place))
     }
 }
 

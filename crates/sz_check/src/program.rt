@@ -5,20 +5,16 @@ ghost use Rattle.sz_tree.specs.View.{tree_of, type_of, stm_of, program_of};
 ghost use Rattle.sz_core.specs.View.{item_of};
 ghost use Rattle.sz_check.specs.JudgingPrograms.{judge_static, judge_typedef, judge_statement, judge_top, judge_all, known_at_first, judge_program};
 ghost use Rattle.sz_check.specs.Top.{found_all, found_one, found_with, items_in, top_of, core_seen};
-ghost use Rattle.sz_check.specs.Outcome.{Judges};
+ghost use Rattle.sz_known.specs.Outcome.{Judges};
 
-use crate::agree::converted;
-use crate::error::CheckError;
-use crate::expr::judge_exp;
 use crate::function::judge_function;
-use crate::known::Known;
-use crate::meaning::Meaning;
 use crate::stmt::{Around, judge_stm};
 use crate::table::judge_table;
 use crate::top::Top;
-use crate::types::{judge_type, judge_written};
 use std::alloc::{AllocError, Global};
+use sz_check_expr::{converted, judge_exp};
 use sz_core::{Item, Program, Static};
+use sz_known::{CheckError, Known, Meaning, judge_type, judge_written};
 use sz_tree::{Expr, Name, Stmt, Tree, TypeTree};
 use sz_types::{Place, Tys, copy_ty};
 

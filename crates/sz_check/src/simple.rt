@@ -9,21 +9,16 @@ ghost use Rattle.sz_core.specs.View.{node_of, stm_of};
 ghost use Rattle.sz_check.specs.Scenes.{judge_if_some};
 ghost use Rattle.sz_check.specs.JudgingSimple.{judge_declaration, judge_initialised, judge_definition, judge_assignment, judge_change, judge_simple};
 ghost use Rattle.sz_check.specs.JudgingSimple.{judge_first, judge_between, test_if_some, judge_return};
-ghost use Rattle.sz_check.specs.Asking.{asked_of};
-ghost use Rattle.sz_check.specs.Holding.{scene_of};
+ghost use Rattle.sz_check_expr.specs.Asking.{asked_of};
+ghost use Rattle.sz_known.specs.Holding.{scene_of};
 ghost use Rattle.sz_check.specs.Behind.{behind_of, change_row};
-ghost use Rattle.sz_check.specs.Outcome.{Judges};
+ghost use Rattle.sz_known.specs.Outcome.{Judges};
 
-use crate::agree::{agrees, converted};
-use crate::error::{CheckError, at};
-use crate::expr::{judge_call, judge_exp};
-use crate::known::Known;
-use crate::operator::test;
-use crate::rows::{difference_row, sum_row};
 use crate::target::{judge_path, judge_variable};
-use crate::types::judge_type;
 use std::alloc::{AllocError, Global};
+use sz_check_expr::{agrees, converted, difference_row, judge_call, judge_exp, sum_row, test};
 use sz_core::{CoreExpr, CoreStmt, Form};
+use sz_known::{CheckError, Known, judge_type};
 use sz_tree::{Expr, First, Name, Path, Simple, TypeTree};
 use sz_types::{BinOp, Place, Ty, copy_ty};
 use sz_value::Value;
@@ -115,7 +110,7 @@ fn judge_change(
     let place = name.place();
     let target = judge_variable(alloc, known, name)?;
     let Some(ty) = changed_type(alloc, op, &target.ty)? else {
-        return Err(at(9, place));
+        return Err(CheckError::at(9, place));
     };
     let variable = CoreExpr {
         place,
@@ -228,6 +223,6 @@ pub fn judge_return(
             agrees(Some(ty), tree, &node)?;
             Ok(CoreStmt::Return(place, node))
         }
-        _ => Err(at(15, place)),
+        _ => Err(CheckError::at(15, place)),
     }
 }

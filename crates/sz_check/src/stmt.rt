@@ -6,22 +6,20 @@ ghost use Rattle.sz_tree.specs.View.{tree_of, stm_of, simple_of, first_of};
 ghost use Rattle.sz_core.specs.Statements.{block as core_block, stms_of as core_stms_of};
 ghost use Rattle.sz_core.specs.View.{stm_of as core_stm_of};
 ghost use Rattle.sz_check.specs.JudgingStatements.{judge_stm, judge_stms};
-ghost use Rattle.sz_check.specs.Holding.{scene_of};
+ghost use Rattle.sz_known.specs.Holding.{scene_of};
 ghost use Rattle.sz_check.specs.Behind.{behind_of, all_behind_of, around_of, judge_inside, judge_turns, judge_for};
-ghost use Rattle.sz_check.specs.Outcome.{Judges};
+ghost use Rattle.sz_known.specs.Outcome.{Judges};
 
 use crate::declared::judge_declared;
 use crate::emitted::judge_emit;
-use crate::error::{CheckError, at};
-use crate::expr::judge_exp;
-use crate::known::Known;
-use crate::operator::test;
 use crate::simple::{
     judge_between, judge_definition, judge_first, judge_return, judge_simple, judge_test, nothing,
     test_if_some,
 };
 use std::alloc::{AllocError, Global};
+use sz_check_expr::{judge_exp, test};
 use sz_core::CoreStmt;
+use sz_known::{CheckError, Known};
 use sz_tree::{Expr, First, Simple, Stmt};
 use sz_types::{Place, Ty};
 
@@ -62,8 +60,8 @@ pub fn judge_stm(
         Stmt::Block(place, trees) => { judge_block(alloc, known, around, *place, trees.as_slice()) }
         Stmt::Declare(name, of, value) => judge_declared(alloc, known, name, of, value),
         Stmt::Define(name, value) => judge_definition(alloc, known, name, value),
-        Stmt::Static(place, _, _, _) | Stmt::Type(place, _, _) => Err(at(15, *place)),
-        Stmt::Table(name, _) | Stmt::Function(name, _, _, _) => Err(at(15, name.place())),
+        Stmt::Static(place, _, _, _) | Stmt::Type(place, _, _) => Err(CheckError::at(15, *place)),
+        Stmt::Table(name, _) | Stmt::Function(name, _, _, _) => Err(CheckError::at(15, name.place())),
         Stmt::Simple(tree) => judge_simple(alloc, known, tree),
         Stmt::If(place, test, taken, None) => {
             judge_if_only(alloc, known, around, *place, taken, test)
@@ -76,8 +74,8 @@ pub fn judge_stm(
         Stmt::For(place, first, test, between, body) => {
             judge_for(alloc, known, around, *place, body, first, test, between)
         }
-        Stmt::Break(place) if !around.in_loop => Err(at(15, *place)),
-        Stmt::Continue(place) if !around.in_loop => Err(at(15, *place)),
+        Stmt::Break(place) if !around.in_loop => Err(CheckError::at(15, *place)),
+        Stmt::Continue(place) if !around.in_loop => Err(CheckError::at(15, *place)),
         Stmt::Break(_) => Ok(CoreStmt::Break),
         Stmt::Continue(_) => Ok(CoreStmt::Continue),
         Stmt::Return(place, value) => judge_return(alloc, known, *place, around.result, value),
@@ -92,7 +90,7 @@ pub fn judge_stm(
                 weight,
             )
         }
-        Stmt::When(place, _, _, _) => Err(at(23, *place)),
+        Stmt::When(place, _, _, _) => Err(CheckError::at(23, *place)),
     }
 }
 

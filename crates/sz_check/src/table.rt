@@ -8,20 +8,17 @@ ghost use Rattle.sz_tree.specs.View.{elem_of, table_of};
 ghost use Rattle.sz_core.specs.View.{item_of};
 ghost use Rattle.sz_core.specs.WellFormed.{are_whole_numbers, has_sum, is_weight, has_no_weight, is_between, is_allowed};
 ghost use Rattle.sz_check.specs.JudgingPrograms.{kind_of, has_limit, limit_of, judge_elems, judge_weight, allowed, declaration_of, judge_table};
-ghost use Rattle.sz_check.specs.Refusals.{no_kind};
+ghost use Rattle.sz_known.specs.Refusals.{no_kind};
 ghost use Rattle.sz_check.specs.Tabling.{is_int};
-ghost use Rattle.sz_check.specs.Holding.{blocks_of};
+ghost use Rattle.sz_known.specs.Holding.{blocks_of};
 ghost use Rattle.sz_check.specs.Top.{found_one, top_of};
-ghost use Rattle.sz_check.specs.Outcome.{Judges, Stops};
+ghost use Rattle.sz_known.specs.Outcome.{Judges, Stops};
 
-use crate::error::{CheckError, at, of};
-use crate::kind::{Kind, type_kind};
-use crate::known::Known;
-use crate::meaning::Meaning;
 use crate::top::Top;
-use crate::types::judge_type;
 use std::alloc::Global;
+use sz_check_expr::{Kind, type_kind};
 use sz_core::Item;
+use sz_known::{CheckError, Known, Meaning, judge_type};
 use sz_tree::{Elem, Name, Table};
 use sz_types::{Field, TableDecl, TableKind, Text, Ty, Tys, copy_table};
 
@@ -40,7 +37,7 @@ fn no_kind(alloc: Global, name: &Name) -> CheckError
         || word == b"text".as_slice()
         || word == b"recordio".as_slice()
         || word == b"mrcounter".as_slice();
-    of(alloc, if is_left_out { 16 } else { 6 }, name)
+    CheckError::of(alloc, if is_left_out { 16 } else { 6 }, name)
 }
 
 // The kind of table that a word is.
@@ -187,11 +184,11 @@ fn declaration_of(
     ensures value { Judges seen_table result (declaration_of name.now word.now kind limit indexes (seen element) (option_map seen weight)) }
 {
     let Some(limit) = limit else {
-        return Err(at(17, word.place()));
+        return Err(CheckError::at(17, word.place()));
     };
     // No kind has a limit that is too large for its field.
     let Ok(limit) = u32::try_from(limit) else {
-        return Err(at(17, word.place()));
+        return Err(CheckError::at(17, word.place()));
     };
     let name = Text::from_str(alloc, name.text().as_str())?;
     let table = TableDecl {
@@ -205,7 +202,7 @@ fn declaration_of(
     if is_allowed(&table) {
         Ok(table)
     } else {
-        Err(at(17, word.place()))
+        Err(CheckError::at(17, word.place()))
     }
 }
 
@@ -231,7 +228,7 @@ pub fn judge_table(
         alloc, name, &tree.kind, kind, limit, indexes, element, weight,
     )?;
     if top.tables >= MOST_TABLES {
-        return Err(at(21, name.place()));
+        return Err(CheckError::at(21, name.place()));
     }
     let meaning = Meaning::Table(top.tables, copy_table(alloc, &table)?);
     top.known.declare(alloc, name, meaning)?;

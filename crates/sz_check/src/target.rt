@@ -4,20 +4,14 @@ ghost use Rattle.sz_types.specs.Seen.{seen};
 ghost use Rattle.sz_tree.specs.View.{tree_of, step_of};
 ghost use Rattle.sz_core.specs.View.{node_of, step_of as core_step_of};
 ghost use Rattle.sz_check.specs.JudgingPaths.{target_of, stepped, indexed, judge_steps, judge_path};
-ghost use Rattle.sz_check.specs.Holding.{means_of, scene_of};
+ghost use Rattle.sz_known.specs.Holding.{means_of, scene_of};
 ghost use Rattle.sz_check.specs.Targets.{target_seen, into_string, judge_step, path_form, assignable};
-ghost use Rattle.sz_check.specs.Outcome.{Judges};
+ghost use Rattle.sz_known.specs.Outcome.{Judges};
 
-use crate::agree::agrees;
-use crate::error::{CheckError, at, of};
-use crate::expr::judge_exp;
-use crate::kind::{Kind, type_kind};
-use crate::known::Known;
-use crate::meaning::Means;
-use crate::number::small;
-use crate::path::{field_in, whole};
 use std::alloc::{AllocError, Global};
+use sz_check_expr::{Kind, agrees, field_in, judge_exp, type_kind, whole};
 use sz_core::{CoreExpr, CoreStep};
+use sz_known::{CheckError, Known, Means, small};
 use sz_tree::{Expr, Name, Step};
 use sz_types::{Place, Ty, copy_ty};
 
@@ -39,7 +33,7 @@ fn target_of(alloc: Global, name: &Name, means: Means<'_>) -> Result<Target, Che
         Means::Variable(number, ty) => (number, copy_ty(alloc, ty)?, true),
         Means::Static(number, ty) => (number, copy_ty(alloc, ty)?, false),
         Means::Input => (0, Ty::Bytes, false),
-        _ => return Err(of(alloc, 8, name)),
+        _ => return Err(CheckError::of(alloc, 8, name)),
     };
     Ok(Target {
         local,
@@ -97,7 +91,7 @@ fn indexed(
             whole(tree, &node)?;
             Ok(into_string(target, node)?)
         }
-        _ => Err(at(9, place)),
+        _ => Err(CheckError::at(9, place)),
     }
 }
 
@@ -149,7 +143,7 @@ fn assignable(alloc: Global, name: &Name, target: Target) -> Result<Target, Chec
     if target.assignable {
         Ok(target)
     } else {
-        Err(of(alloc, 14, name))
+        Err(CheckError::of(alloc, 14, name))
     }
 }
 

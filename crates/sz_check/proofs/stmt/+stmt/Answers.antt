@@ -5,9 +5,9 @@ use Rattle.sz_tree.specs.Statements.{stms_of}
 use Rattle.sz_tree.specs.View.{tree_of, stm_of}
 use Rattle.sz_tree.proofs.RowLemmas.{stm_of_block}
 use Rattle.sz_check.specs.JudgingStatements.{judge_stm}
-use Rattle.sz_check.specs.Holding.{Held, scene_of}
+use Rattle.sz_known.specs.Holding.{Held, scene_of}
 use Rattle.sz_check.specs.Behind.{around_of, behind_of}
-use Rattle.sz_check.proofs.ListLemmas.{map_push, judged_as}
+use Rattle.sz_known.proofs.TurnLemmas.{map_push, judged_as}
 use Rattle.sz_check.proofs.StatementLoops.{stms_fail, stms_go, stms_end}
 use Rattle.sz_check.proofs.StatementParts.{inside_made, inside_stops, block_made, block_stops, for_first_stops, for_turns_stop, for_made}
 use Rattle.sz_check.proofs.StatementParts.{if_stops, while_stops}

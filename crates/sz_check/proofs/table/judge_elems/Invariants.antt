@@ -3,8 +3,8 @@ use Rattle.std.proofs.Common.{◌≡◌, map, drop}
 use Rattle.sz_types.specs.Seen.{seen}
 use Rattle.sz_tree.specs.View.{elem_of}
 use Rattle.sz_check.specs.JudgingPrograms.{judge_elems}
-use Rattle.sz_check.specs.Holding.{blocks_of}
-use Rattle.sz_check.specs.Lists.{behind}
+use Rattle.sz_known.specs.Holding.{blocks_of}
+use Rattle.sz_known.specs.Turns.{behind}
 use Rattle.sz_check.specs.Tabling.{with_type}
 use Rattle.sz_check.proofs.table.judge_elems.Given as goal
 

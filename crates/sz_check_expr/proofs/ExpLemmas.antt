@@ -1,0 +1,103 @@
+-- Turns of the loops over expressions.
+use Rattle.std.proofs.Common.{◌≡◌, ℕ, ◌+◌, ◌<◌, ◌≤◌, Bool, List, [], ◌∷◌, ◌++◌, length, get_or, drop, map, Option, refl, ap, ◌∙◌}
+use Rattle.std.specs.Prelude.{Ok, Err}
+use Rattle.sz_types.specs.Data.{Shape}
+use Rattle.sz_tree.specs.declared.expr.Expr.{Expr}
+use Rattle.sz_tree.specs.declared.expr.Pair.{Pair}
+use Rattle.sz_types.specs.declared.place.Place.{Place}
+use Rattle.sz_tree.specs.Expressions.{Lit, Exp, literal, paren, exps_of, pairs_of}
+use Rattle.sz_tree.specs.View.{tree_of, pair_of}
+use Rattle.sz_core.specs.Nodes.{Node, Nodes, no_nodes, with_node, nodes_of, Pairings, no_pairings, with_pairing, pairings_of}
+use Rattle.sz_known.specs.Refusals.{Judged, ◌>>=◌}
+use Rattle.sz_known.specs.Names.{Block}
+use Rattle.sz_check_expr.specs.Agreeing.{Asks, asked_first, asked_behind}
+use Rattle.sz_check_expr.specs.JudgingExpressions.{literal_node, judge_exp, judge_exps, judge_pairs}
+use Rattle.sz_known.specs.Turns.{behind, put_all}
+use Rattle.sz_check_expr.specs.Lists.{with_pair, judge_pair}
+use Rattle.sz_known.specs.Outcome.{Stops}
+use Rattle.sz_known.specs.declared.error.CheckError.{CheckError}
+use Rattle.sz_known.proofs.TurnLemmas.{rest_more, rest_none, turn_fails, turn_goes, turn_ends}
+
+-- nodes put in front of none are these nodes
+pub put_nodes : (ns : List Node) → put_all with_node ns no_nodes ≡ nodes_of ns
+put_nodes [] = refl
+put_nodes (n ∷ ns) = ap (with_node n) (put_nodes ns)
+
+pub put_pairs : (ps : List (Node × Node)) → put_all with_pair ps no_pairings ≡ pairings_of ps
+put_pairs [] = refl
+put_pairs (p ∷ ps) = ap (with_pairing p.0 p.1) (put_pairs ps)
+
+module _ (blocks : List Block) (may_emit : Bool) where
+  -- what is in parentheses is judged as it is, and a literal is its node
+  pub paren_is : (asked : Option Shape) (p : Place) (e : Exp) → judge_exp blocks may_emit asked (paren p e) ≡ judge_exp blocks may_emit asked e
+  unfolding judge_exp
+  paren_is asked p e = refl
+
+  pub literal_is : (asked : Option Shape) (p : Place) (l : Lit) → judge_exp blocks may_emit asked (literal p l) ≡ Ok (literal_node p l)
+  unfolding judge_exp
+  literal_is asked p l = refl
+
+  -- the judgement of the expressions from a place on, and of keys and values
+  abbrev pub exps_from : Asks → List Expr → ℕ → Judged Nodes
+  exps_from asks es i = judge_exps blocks may_emit asks (exps_of (map tree_of (drop i es)))
+
+  abbrev pub pairs_from : Option Shape → Option Shape → List Pair → ℕ → Judged Pairings
+  pairs_from k v ps i = judge_pairs blocks may_emit k v (pairs_of (map pair_of (drop i ps)))
+
+  -- the judgement of what is left begins with that of the first
+  exps_turn : (asks : Asks) (es : List Expr) (i : ℕ) (e : Expr) → i < length es → e ≡ get_or es i e
+      → exps_from asks es i
+      ≡ (judge_exp blocks may_emit (asked_first asks) (tree_of e) >>= λ n. exps_from (asked_behind asks) es (i + 1) >>= λ ns. Ok (with_node n ns))
+  unfolding judge_exps
+  exps_turn asks es i e within is = rw (rest_more tree_of es i e within is) refl
+
+  exps_over : (asks : Asks) (es : List Expr) (i : ℕ) → length es ≤ i → exps_from asks es i ≡ Ok no_nodes
+  unfolding judge_exps
+  exps_over asks es i over = rw (rest_none tree_of es i over) refl
+
+  pub exps_fails : (front : List Node) (asks : Asks) (es : List Expr) (i : ℕ) (e : Expr) (r : CheckError) (whole : Judged Nodes) → i < length es
+      → e ≡ get_or es i e → Stops r (judge_exp blocks may_emit (asked_first asks) (tree_of e)) → behind with_node front (exps_from asks es i) ≡ whole
+      → Stops r whole
+  exps_fails front asks es i e r whole within is h so_far = turn_fails with_node front r _ _ _ whole (exps_turn asks es i e within is) h so_far
+
+  pub exps_goes : (front : List Node) (asks : Asks) (es : List Expr) (i : ℕ) (e : Expr) (n : Node) (whole : Judged Nodes) → i < length es
+      → e ≡ get_or es i e → judge_exp blocks may_emit (asked_first asks) (tree_of e) ≡ Ok n → behind with_node front (exps_from asks es i) ≡ whole
+      → behind with_node (front ++ n ∷ []) (exps_from (asked_behind asks) es (i + 1)) ≡ whole
+  exps_goes front asks es i e n whole within is h so_far =
+      turn_goes with_node front n _ (λ _. exps_from (asked_behind asks) es (i + 1)) _ whole (exps_turn asks es i e within is) h so_far
+
+  pub exps_ends : (front : List Node) (asks : Asks) (es : List Expr) (i : ℕ) (whole : Judged Nodes) → length es ≤ i
+      → behind with_node front (exps_from asks es i) ≡ whole → whole ≡ Ok (nodes_of front)
+  exps_ends front asks es i whole over so_far =
+      turn_ends with_node front no_nodes _ whole (exps_over asks es i over) so_far ∙ ap (λ (ns : Nodes). Ok ns) (put_nodes front)
+
+  both_then : (j l : Judged Node) (rest : Judged Pairings)
+      → (j >>= λ n. l >>= λ m. rest >>= λ ns. Ok (with_pairing n m ns)) ≡ ((j >>= λ n. l >>= λ m. Ok (n, m)) >>= λ b. rest >>= λ ns. Ok (with_pair b ns))
+  both_then (Ok n) (Ok m) rest = refl
+  both_then (Ok n) (Err r) rest = refl
+  both_then (Err r) l rest = refl
+
+  pairs_turn : (k v : Option Shape) (ps : List Pair) (i : ℕ) (p : Pair) → i < length ps → p ≡ get_or ps i p
+      → pairs_from k v ps i ≡ (judge_pair blocks may_emit k v (pair_of p) >>= λ b. pairs_from k v ps (i + 1) >>= λ ns. Ok (with_pair b ns))
+  unfolding judge_pairs
+  pairs_turn k v ps i p within is = rw (rest_more pair_of ps i p within is) (both_then _ _ _)
+
+  pairs_over : (k v : Option Shape) (ps : List Pair) (i : ℕ) → length ps ≤ i → pairs_from k v ps i ≡ Ok no_pairings
+  unfolding judge_pairs
+  pairs_over k v ps i over = rw (rest_none pair_of ps i over) refl
+
+  pub pairs_fails : (front : List (Node × Node)) (k v : Option Shape) (ps : List Pair) (i : ℕ) (p : Pair) (r : CheckError) (whole : Judged Pairings)
+      → i < length ps → p ≡ get_or ps i p → Stops r (judge_pair blocks may_emit k v (pair_of p))
+      → behind with_pair front (pairs_from k v ps i) ≡ whole → Stops r whole
+  pairs_fails front k v ps i p r whole within is h so_far = turn_fails with_pair front r _ _ _ whole (pairs_turn k v ps i p within is) h so_far
+
+  pub pairs_goes : (front : List (Node × Node)) (k v : Option Shape) (ps : List Pair) (i : ℕ) (p : Pair) (b : Node × Node) (whole : Judged Pairings)
+      → i < length ps → p ≡ get_or ps i p → judge_pair blocks may_emit k v (pair_of p) ≡ Ok b
+      → behind with_pair front (pairs_from k v ps i) ≡ whole → behind with_pair (front ++ b ∷ []) (pairs_from k v ps (i + 1)) ≡ whole
+  pairs_goes front k v ps i p b whole within is h so_far =
+      turn_goes with_pair front b _ (λ _. pairs_from k v ps (i + 1)) _ whole (pairs_turn k v ps i p within is) h so_far
+
+  pub pairs_ends : (front : List (Node × Node)) (k v : Option Shape) (ps : List Pair) (i : ℕ) (whole : Judged Pairings) → length ps ≤ i
+      → behind with_pair front (pairs_from k v ps i) ≡ whole → whole ≡ Ok (pairings_of front)
+  pairs_ends front k v ps i whole over so_far =
+      turn_ends with_pair front no_pairings _ whole (pairs_over k v ps i over) so_far ∙ ap (λ (ns : Pairings). Ok ns) (put_pairs front)

@@ -1,0 +1,211 @@
+-- What operators, indexes, slices, fields and predeclared functions give is well formed where their operands are.
+use Rattle.std.proofs.Common.{◌≡◌, ℕ, zero, suc, ◌+◌, Bool, true, false, List, [], ◌∷◌, Option, Some, None, refl, sym, ap, ◌∙◌, subst, true≢false, arith}
+use Rattle.std.specs.Prelude.{◌&&◌, if◌then◌else◌, is_some, slice_get, IfSome, bytes_eq}
+use Rattle.std.specs.Cmp.{first_so, second_so}
+use Rattle.sz_types.specs.Data.{Shape, FieldShapes, no_fields, with_field, field}
+use Rattle.sz_types.specs.Same.{alike}
+use Rattle.sz_types.specs.Rows.{unary_row, binary_row, sum_row, difference_row, index_row, slice_row, builtin_row, len_row, keys_row, haskey_row, strfind_row}
+use Rattle.sz_types.specs.declared.operator.UnOp.{UnOp}
+use Rattle.sz_types.specs.declared.operator.UnOp.TheVariants as unary
+use Rattle.sz_types.specs.declared.operator.BinOp.{BinOp}
+use Rattle.sz_types.specs.declared.operator.BinOp.TheVariants as binary
+use Rattle.sz_types.specs.declared.operator.Builtin.{Builtin}
+use Rattle.sz_types.specs.declared.operator.Builtin.TheVariants.{Len, Keys, HasKey, StrFind}
+use Rattle.sz_core.specs.WellFormed.{is_well_formed, are_well_formed, are_parts, are_message_fields, are_distinct_texts, are_distinct_numbers, names_of}
+use Rattle.sz_core.specs.WellFormed.{numbers_of}
+use Rattle.sz_core.specs.Typing.{HasFields, field_types}
+use Rattle.sz_check_expr.specs.Agreeing.{Found, field_named}
+use Rattle.sz_check_expr.specs.JudgingParts.{fields_in}
+use Rattle.sz_known.proofs.Sights.{IsFormed, AreFormed}
+
+-- a type that is there by a test
+if_formed : (b : Bool) (t : Shape) → IsFormed t → IfSome (if b then Some t else None) IsFormed
+if_formed true t h = h
+if_formed false t h = tt
+
+-- the types that are in a well-formed one
+pub element_formed : (t : Shape) → IsFormed (Shape.array t) → IsFormed t
+unfolding is_well_formed
+element_formed t h = h
+
+pub array_formed : (t : Shape) → IsFormed t → IsFormed (Shape.array t)
+unfolding is_well_formed
+array_formed t h = h
+
+pub key_formed : (k v : Shape) → IsFormed (Shape.mapping k v) → IsFormed k
+unfolding is_well_formed
+key_formed k v h = first_so _ (is_well_formed v) h
+
+pub value_formed : (k v : Shape) → IsFormed (Shape.mapping k v) → IsFormed v
+unfolding is_well_formed
+value_formed k v h = second_so (is_well_formed k) _ h
+
+part_types : (fs : FieldShapes) → are_parts fs ≡ true → AreFormed (field_types fs)
+unfolding are_parts
+part_types no_fields h = refl
+part_types (with_field (field name t number code) fs) h =
+    λ i. second_so _ (is_well_formed t) (first_so _ (are_parts fs) h) i && part_types fs (second_so _ (are_parts fs) h) i
+
+message_types : (fs : FieldShapes) → are_message_fields fs ≡ true → AreFormed (field_types fs)
+unfolding are_message_fields
+message_types no_fields h = refl
+message_types (with_field (field name t number code) fs) h =
+    λ i. second_so _ (is_well_formed t) (first_so _ (are_message_fields fs) h) i && message_types fs (second_so _ (are_message_fields fs) h) i
+
+-- the types of fields of a well-formed type
+pub fields_formed : (t : Shape) (fs : FieldShapes) → HasFields t fs → IsFormed t → AreFormed (field_types fs)
+unfolding is_well_formed
+fields_formed (Shape.tuple gs) fs same h =
+    subst (λ x. AreFormed (field_types x)) (sym same) (part_types gs (second_so (are_distinct_texts (names_of gs)) (are_parts gs) h))
+fields_formed (Shape.proto gs) fs same h =
+    subst (λ x. AreFormed (field_types x)) (sym same)
+    (message_types gs (second_so (are_distinct_texts (names_of gs) && are_distinct_numbers (numbers_of gs)) (are_message_fields gs) h))
+fields_formed _ fs same h = absurd same
+
+-- a type of a list of well-formed ones
+pub formed_at : (ts : List Shape) (k : ℕ) → AreFormed ts → IfSome (slice_get ts k) IsFormed
+formed_at [] k h = tt
+formed_at (t ∷ ts) zero h = first_so _ (are_well_formed ts) h
+formed_at (t ∷ ts) (suc k) h = formed_at ts k (second_so (is_well_formed t) _ h)
+
+-- where a field with this name is, if it is there
+record IsNamed (at : ℕ) (fs : FieldShapes) (x : Found) : Type 0 where
+  behind : ℕ
+  place : x.place ≡ at + behind
+  here : slice_get (field_types fs) behind ≡ Some x.type
+
+named_at : (name : List ℕ) (at : ℕ) (fs : FieldShapes) → IfSome (field_named name at fs) (IsNamed at fs)
+named_at name at no_fields = tt
+named_at name at (with_field (field other t number code) fs) = next (bytes_eq name other) (field_named name (1 + at) fs) (named_at name (1 + at) fs)
+  where
+    whole : FieldShapes
+    whole = with_field (field other t number code) fs
+
+    later : (o : Option Found) → IfSome o (IsNamed (1 + at) fs) → IfSome o (IsNamed at whole)
+    later None h = tt
+    later (Some x) h = record { behind = suc h.behind; place = h.place ∙ omega arith; here = h.here }
+
+    next : (b : Bool) (o : Option Found) → IfSome o (IsNamed (1 + at) fs) → IfSome (if b then Some (record { place = at; type = t }) else o) (IsNamed at whole)
+    next true o h = record { behind = 0; place = omega arith; here = refl }
+    next false o h = later o h
+
+-- a field with its place and type
+pub record IsFieldOf (fs : FieldShapes) (x : Found) : Type 0 where
+  pub here : slice_get (field_types fs) x.place ≡ Some x.type
+
+-- a field that is found by its name
+pub named_field : (name : List ℕ) (fs : FieldShapes) → IfSome (field_named name 0 fs) (IsFieldOf fs)
+named_field name fs = from (field_named name 0 fs) (named_at name 0 fs)
+  where
+    from : (o : Option Found) → IfSome o (IsNamed 0 fs) → IfSome o (IsFieldOf fs)
+    from None h = tt
+    from (Some x) h =
+        let same : x.place ≡ h.behind = omega (arith, h.place) in
+        record { here = ap (λ k. slice_get (field_types fs) k) same ∙ h.here }
+
+-- the fields that are found are those of the type
+pub has_fields : (t : Shape) → IfSome (fields_in t) (HasFields t)
+has_fields (Shape.tuple fs) = refl
+has_fields (Shape.proto fs) = refl
+has_fields _ = tt
+
+-- the rows
+pub sum_formed : (s t : Shape) → IsFormed s → IfSome (sum_row s t) IsFormed
+unfolding is_well_formed
+sum_formed Shape.int Shape.int h = refl
+sum_formed Shape.time Shape.int h = refl
+sum_formed Shape.str Shape.str h = refl
+sum_formed Shape.bytes Shape.bytes h = refl
+sum_formed (Shape.array s) (Shape.array t) h = if_formed (alike s t) (Shape.array s) h
+sum_formed _ _ h = tt
+
+pub difference_formed : (s t : Shape) → IfSome (difference_row s t) IsFormed
+unfolding is_well_formed
+difference_formed Shape.int Shape.int = refl
+difference_formed Shape.time Shape.int = refl
+difference_formed Shape.time Shape.time = refl
+difference_formed _ _ = tt
+
+-- basic types
+pub truth_formed : IsFormed Shape.truth
+unfolding is_well_formed
+truth_formed = refl
+
+pub int_formed : IsFormed Shape.int
+unfolding is_well_formed
+int_formed = refl
+
+pub bytes_formed : IsFormed Shape.bytes
+unfolding is_well_formed
+bytes_formed = refl
+
+pub unary_formed : (o : UnOp) (t : Shape) → IfSome (unary_row o t) IsFormed
+unary_formed unary.Not Shape.truth = truth_formed
+unary_formed unary.Negate Shape.int = int_formed
+unary_formed unary.Plus Shape.int = int_formed
+unary_formed unary.Flip Shape.int = int_formed
+unary_formed _ _ = tt
+
+pub binary_formed : (o : BinOp) (s t : Shape) → IsFormed s → IfSome (binary_row o s t) IsFormed
+binary_formed binary.Add s t h = sum_formed s t h
+binary_formed binary.Sub s t h = difference_formed s t
+binary_formed binary.Equal s t h = if_formed _ _ truth_formed
+binary_formed binary.NotEqual s t h = if_formed _ _ truth_formed
+binary_formed binary.Less s t h = if_formed _ _ truth_formed
+binary_formed binary.LessEqual s t h = if_formed _ _ truth_formed
+binary_formed binary.Greater s t h = if_formed _ _ truth_formed
+binary_formed binary.GreaterEqual s t h = if_formed _ _ truth_formed
+binary_formed _ s t h = if_formed _ _ int_formed
+
+pub index_formed : (s t : Shape) → IsFormed s → IfSome (index_row s t) IsFormed
+index_formed (Shape.array s) Shape.int h = element_formed s h
+index_formed Shape.str Shape.int h = int_formed
+index_formed Shape.bytes Shape.int h = int_formed
+index_formed (Shape.mapping k v) t h = if_formed (alike k t) v (value_formed k v h)
+index_formed _ _ h = tt
+
+-- a slice has the type of what it is cut from
+pub slice_same : (s : Shape) → is_some (slice_row s) ≡ true → slice_row s ≡ Some s
+slice_same Shape.str h = refl
+slice_same Shape.bytes h = refl
+slice_same (Shape.array t) h = refl
+slice_same _ h = absurd (true≢false (sym h))
+
+len_formed : (s : Shape) → IfSome (len_row s) IsFormed
+len_formed Shape.str = int_formed
+len_formed Shape.bytes = int_formed
+len_formed (Shape.array t) = int_formed
+len_formed (Shape.mapping k v) = int_formed
+len_formed _ = tt
+
+keys_formed : (s : Shape) → IsFormed s → IfSome (keys_row s) IsFormed
+keys_formed (Shape.mapping k v) h = array_formed k (key_formed k v h)
+keys_formed _ h = tt
+
+haskey_formed : (s t : Shape) → IfSome (haskey_row s t) IsFormed
+haskey_formed (Shape.mapping k v) t = if_formed _ _ truth_formed
+haskey_formed _ t = tt
+
+strfind_formed : (s t : Shape) → IfSome (strfind_row s t) IsFormed
+strfind_formed Shape.str Shape.str = int_formed
+strfind_formed Shape.bytes Shape.bytes = int_formed
+strfind_formed _ _ = tt
+
+-- what a predeclared function gives
+pub builtin_formed : (b : Builtin) (ts : List Shape) → AreFormed ts → IfSome (builtin_row b ts) IsFormed
+builtin_formed Len (s ∷ []) h = len_formed s
+builtin_formed Keys (s ∷ []) h = keys_formed s (first_so _ true h)
+builtin_formed HasKey (s ∷ t ∷ []) h = haskey_formed s t
+builtin_formed StrFind (s ∷ t ∷ []) h = strfind_formed s t
+builtin_formed _ _ h = tt
+
+-- a row for a change by one gives the type that it takes
+pub sum_keeps : (t : Shape) → IfSome (sum_row t Shape.int) (λ u. u ≡ t)
+sum_keeps Shape.int = refl
+sum_keeps Shape.time = refl
+sum_keeps _ = tt
+
+pub difference_keeps : (t : Shape) → IfSome (difference_row t Shape.int) (λ u. u ≡ t)
+difference_keeps Shape.int = refl
+difference_keeps Shape.time = refl
+difference_keeps _ = tt

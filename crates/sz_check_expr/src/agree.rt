@@ -1,0 +1,98 @@
+//! Whether expressions have the types that a place asks of them.
+ghost use Rattle.std.specs.Prelude.{map as each};
+ghost use Rattle.sz_types.specs.Seen.{seen};
+ghost use Rattle.sz_tree.specs.Expressions.{exps_of, pairs_of};
+ghost use Rattle.sz_tree.specs.View.{tree_of, pair_of};
+ghost use Rattle.sz_core.specs.Nodes.{nodes_of, pairings_of};
+ghost use Rattle.sz_core.specs.View.{node_of, pairing_of};
+ghost use Rattle.sz_check_expr.specs.Agreeing.{agrees, agree, pairs_agree, counted, converted};
+ghost use Rattle.sz_check_expr.specs.Asking.{asks_of, asked_of};
+ghost use Rattle.sz_check_expr.specs.Calling.{fits};
+ghost use Rattle.sz_known.specs.Outcome.{Judges};
+
+use crate::asks::Asks;
+use crate::path::conversion_node;
+use crate::rows::alike;
+use std::alloc::Global;
+use sz_core::{CoreExpr, CorePair};
+use sz_known::CheckError;
+use sz_tree::{Expr, Pair};
+use sz_types::{Place, Ty, copy_ty};
+
+// Nothing is refused where the test holds; else the expression has the wrong type.
+pub fn fits(holds: bool, tree: &Expr) -> Result<(), CheckError>
+    ensures value { Judges (λ x. x) result (fits holds (tree_of tree.now)) }
+{
+    if holds {
+        Ok(())
+    } else {
+        Err(CheckError::at(9, tree.place()))
+    }
+}
+
+// The expression has the type that is asked, if one is; else it is the wrong one.
+pub fn agrees(asked: Option<&Ty>, tree: &Expr, node: &CoreExpr) -> Result<(), CheckError>
+    ensures value { Judges (λ x. x) result (agrees (asked_of asked.entry) (tree_of tree.now) (node_of node.now)) }
+{
+    match asked {
+        Some(ty) => fits(alike(&node.ty, ty), tree),
+        None => Ok(()),
+    }
+}
+
+// Each expression has the type that is asked of it, as far as types are asked; else the first that hasn't is the wrong one.
+pub fn agree(asks: Asks<'_>, trees: &[Expr], nodes: &[CoreExpr]) -> Result<(), CheckError>
+    ensures value { Judges (λ x. x) result (agree (asks_of asks.entry) (exps_of (each tree_of trees.now)) (nodes_of (each node_of nodes.now))) }
+{
+    let mut asks = asks;
+    for i in 0..trees.len().min(nodes.len()) {
+        agrees(asks.first(), &trees[i], &nodes[i])?;
+        asks = asks.behind();
+    }
+    Ok(())
+}
+
+// The same of keys and values.
+pub fn pairs_agree(
+    key: &Ty,
+    value: &Ty,
+    trees: &[Pair],
+    nodes: &[CorePair],
+) -> Result<(), CheckError>
+    ensures value { Judges (λ x. x) result (pairs_agree (seen key.now) (seen value.now) (pairs_of (each pair_of trees.now)) (pairings_of (each pairing_of nodes.now))) }
+{
+    for i in 0..trees.len().min(nodes.len()) {
+        let (tree, node) = (&trees[i], &nodes[i]);
+        agrees(Some(key), &tree.key, &node.key)?;
+        agrees(Some(value), &tree.value, &node.value)?;
+    }
+    Ok(())
+}
+
+// There are just so many expressions, or the count at the place is wrong.
+#[tactic(auto, using(crate::proofs::ListLemmas::count_is))]
+pub fn counted(count: usize, trees: &[Expr], place: Place) -> Result<(), CheckError>
+    ensures value { Judges (λ x. x) result (counted count (exps_of (each tree_of trees.now)) place) }
+{
+    if trees.len() == count {
+        Ok(())
+    } else {
+        Err(CheckError::at(12, place))
+    }
+}
+
+// A value of the type that a declaration has: as it is, or converted, or of the wrong type.
+pub fn converted(
+    alloc: Global,
+    ty: &Ty,
+    tree: &Expr,
+    node: CoreExpr,
+) -> Result<CoreExpr, CheckError>
+    ensures value { Judges node_of result (converted (seen ty.now) (tree_of tree.now) (node_of node)) }
+{
+    if alike(&node.ty, ty) {
+        Ok(node)
+    } else {
+        conversion_node(alloc, tree.place(), copy_ty(alloc, ty)?, tree, node)
+    }
+}

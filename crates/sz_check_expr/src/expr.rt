@@ -1,0 +1,313 @@
+//! Expressions.
+ghost use Rattle.std.specs.Prelude.{Option, map as each};
+ghost use Rattle.sz_types.specs.Data.{Shape};
+ghost use Rattle.sz_tree.specs.Expressions.{exps_of, pairs_of, named, call, def, convert, list, mapping, field, unary};
+ghost use Rattle.sz_tree.specs.View.{tree_of, pair_of};
+ghost use Rattle.sz_core.specs.Nodes.{nodes_of, pairings_of};
+ghost use Rattle.sz_core.specs.View.{node_of, pairing_of};
+ghost use Rattle.sz_check_expr.specs.JudgingExpressions.{judge_exp, judge_exps, judge_pairs};
+ghost use Rattle.sz_check_expr.specs.Asking.{asks_of, asked_of};
+ghost use Rattle.sz_known.specs.Holding.{blocks_for};
+ghost use Rattle.sz_check_expr.specs.Lists.{judge_pair};
+ghost use Rattle.sz_known.specs.Outcome.{Judges};
+
+use crate::asks::Asks;
+use crate::call::{asks_of_callee, callee_of, made_call, variable_node};
+use crate::composite::{asked_of_keys, asked_of_values, asks_of_list, made_list, made_mapping};
+use crate::literal::literal_node;
+use crate::operator::{asked_of_right, made_binary, made_unary};
+use crate::path::{conversion_node, made_field, made_index, made_slice};
+use std::alloc::Global;
+use sz_core::{CoreExpr, CorePair, Form};
+use sz_known::{CheckError, Known, basic_type};
+use sz_tree::{BasicType, Expr, Name, Pair, UnaryOp};
+use sz_types::{Place, Ty};
+
+// The expression, where its place asks for a type or for none; only composites take that type.
+#[cycle(expr)]
+#[tactic(auto, using(crate::proofs::ExpLemmas::paren_is, crate::proofs::ExpLemmas::literal_is))]
+pub fn judge_exp(
+    alloc: Global,
+    known: &Known,
+    may_emit: bool,
+    asked: Option<&Ty>,
+    tree: &Expr,
+) -> Result<CoreExpr, CheckError>
+    ensures value { Judges node_of result (judge_exp (blocks_for known.now may_emit) may_emit (asked_of asked.entry) (tree_of tree.now)) }
+{
+    match tree {
+        Expr::Literal(place, literal) => Ok(literal_node(alloc, *place, literal)?),
+        Expr::Named(name) => judge_named(alloc, known, may_emit, name),
+        Expr::Call(name, items) => judge_call(alloc, known, may_emit, name, items.as_slice()),
+        Expr::Def(place, part) => judge_def(alloc, known, may_emit, *place, part),
+        Expr::Paren(_, inner) => judge_exp(alloc, known, may_emit, asked, inner),
+        Expr::Convert(place, basic, part) => {
+            judge_conversion(alloc, known, may_emit, *place, *basic, part)
+        }
+        Expr::List(place, items) => {
+            judge_list(alloc, known, may_emit, asked, *place, items.as_slice())
+        }
+        Expr::Map(place, pairs) => {
+            judge_mapping(alloc, known, may_emit, asked, *place, pairs.as_slice())
+        }
+        Expr::Index(_, _, _) => judge_index(alloc, known, may_emit, tree),
+        Expr::Slice(_, _, _, _) => judge_slice(alloc, known, may_emit, tree),
+        Expr::Field(place, part, name) => judge_field(alloc, known, may_emit, *place, part, name),
+        Expr::Unary(place, op, part) => judge_unary(alloc, known, may_emit, *place, *op, part),
+        Expr::Binary(_, _, _, _) => judge_binary(alloc, known, may_emit, tree),
+    }
+}
+
+// A name as a value.
+#[tactic(auto, unfolding(crate::specs::JudgingExpressions::judge_exp))]
+fn judge_named(
+    alloc: Global,
+    known: &Known,
+    may_emit: bool,
+    name: &Name,
+) -> Result<CoreExpr, CheckError>
+    ensures value { (asked : Option Shape) → Judges node_of result (judge_exp (blocks_for known.now may_emit) may_emit asked (named name.now)) }
+{
+    variable_node(alloc, name, known.look_up(alloc, may_emit, name)?)
+}
+
+// A call: what the name calls, the arguments, and then the call of them.
+#[cycle(expr)]
+#[tactic(auto, unfolding(crate::specs::JudgingExpressions::judge_exp))]
+pub fn judge_call(
+    alloc: Global,
+    known: &Known,
+    may_emit: bool,
+    name: &Name,
+    arguments: &[Expr],
+) -> Result<CoreExpr, CheckError>
+    ensures value { (asked : Option Shape) → Judges node_of result (judge_exp (blocks_for known.now may_emit) may_emit asked (call name.now (exps_of (each tree_of arguments.now)))) }
+{
+    let callee = callee_of(alloc, name, known.look_up(alloc, may_emit, name)?)?;
+    let nodes = judge_exps(alloc, known, may_emit, asks_of_callee(&callee), arguments)?;
+    made_call(alloc, may_emit, name, callee, arguments, nodes)
+}
+
+// `def(e)`.
+#[cycle(expr)]
+#[tactic(auto, unfolding(crate::specs::JudgingExpressions::judge_exp))]
+fn judge_def(
+    alloc: Global,
+    known: &Known,
+    may_emit: bool,
+    place: Place,
+    tree: &Expr,
+) -> Result<CoreExpr, CheckError>
+    ensures value { (asked : Option Shape) → Judges node_of result (judge_exp (blocks_for known.now may_emit) may_emit asked (def place (tree_of tree.now))) }
+{
+    let node = judge_exp(alloc, known, may_emit, None, tree)?;
+    let form = Form::Def(Box::new(alloc, node)?);
+    Ok(CoreExpr {
+        place,
+        ty: Ty::Bool,
+        form,
+    })
+}
+
+// A conversion to a type that is a word.
+#[cycle(expr)]
+#[tactic(auto, unfolding(crate::specs::JudgingExpressions::judge_exp))]
+fn judge_conversion(
+    alloc: Global,
+    known: &Known,
+    may_emit: bool,
+    place: Place,
+    basic: BasicType,
+    tree: &Expr,
+) -> Result<CoreExpr, CheckError>
+    ensures value { (asked : Option Shape) → Judges node_of result (judge_exp (blocks_for known.now may_emit) may_emit asked (convert place basic (tree_of tree.now))) }
+{
+    let node = judge_exp(alloc, known, may_emit, None, tree)?;
+    conversion_node(alloc, place, basic_type(basic), tree, node)
+}
+
+// `{e, ..}`.
+#[cycle(expr)]
+#[tactic(auto, unfolding(crate::specs::JudgingExpressions::judge_exp))]
+fn judge_list(
+    alloc: Global,
+    known: &Known,
+    may_emit: bool,
+    asked: Option<&Ty>,
+    place: Place,
+    trees: &[Expr],
+) -> Result<CoreExpr, CheckError>
+    ensures value { Judges node_of result (judge_exp (blocks_for known.now may_emit) may_emit (asked_of asked.entry) (list place (exps_of (each tree_of trees.now)))) }
+{
+    let nodes = judge_exps(alloc, known, may_emit, asks_of_list(asked, trees), trees)?;
+    made_list(alloc, place, asked, trees, nodes)
+}
+
+// `{k: v, ..}`.
+#[cycle(expr)]
+#[tactic(auto, unfolding(crate::specs::JudgingExpressions::judge_exp))]
+fn judge_mapping(
+    alloc: Global,
+    known: &Known,
+    may_emit: bool,
+    asked: Option<&Ty>,
+    place: Place,
+    trees: &[Pair],
+) -> Result<CoreExpr, CheckError>
+    ensures value { Judges node_of result (judge_exp (blocks_for known.now may_emit) may_emit (asked_of asked.entry) (mapping place (pairs_of (each pair_of trees.now)))) }
+{
+    let (key, value) = (asked_of_keys(asked), asked_of_values(asked));
+    let nodes = judge_pairs(alloc, known, may_emit, key, value, trees)?;
+    made_mapping(alloc, place, asked, trees, nodes)
+}
+
+// `e[i]`. An expression with several parts is handed on whole: its height bounds the depth of the calls. No other tree comes here.
+#[cycle(expr)]
+#[tactic(auto, unfolding(crate::specs::JudgingExpressions::judge_exp))]
+fn judge_index(
+    alloc: Global,
+    known: &Known,
+    may_emit: bool,
+    tree: &Expr,
+) -> Result<CoreExpr, CheckError>
+    ensures value { (asked : Option Shape) → Judges node_of result (judge_exp (blocks_for known.now may_emit) may_emit asked (tree_of tree.now)) }
+{
+    let Expr::Index(place, part, key) = tree else {
+        return Err(CheckError::NoMemory);
+    };
+    let node = judge_exp(alloc, known, may_emit, None, part)?;
+    let at = judge_exp(alloc, known, may_emit, None, key)?;
+    made_index(alloc, *place, part, key, node, at)
+}
+
+// `e[i: j]`, handed on as for an index.
+#[cycle(expr)]
+#[tactic(auto, unfolding(crate::specs::JudgingExpressions::judge_exp))]
+fn judge_slice(
+    alloc: Global,
+    known: &Known,
+    may_emit: bool,
+    tree: &Expr,
+) -> Result<CoreExpr, CheckError>
+    ensures value { (asked : Option Shape) → Judges node_of result (judge_exp (blocks_for known.now may_emit) may_emit asked (tree_of tree.now)) }
+{
+    let Expr::Slice(place, part, from, to) = tree else {
+        return Err(CheckError::NoMemory);
+    };
+    let node = judge_exp(alloc, known, may_emit, None, part)?;
+    let first = judge_exp(alloc, known, may_emit, None, from)?;
+    let last = judge_exp(alloc, known, may_emit, None, to)?;
+    made_slice(alloc, *place, part, from, to, node, first, last)
+}
+
+// `e.name`.
+#[cycle(expr)]
+#[tactic(auto, unfolding(crate::specs::JudgingExpressions::judge_exp))]
+fn judge_field(
+    alloc: Global,
+    known: &Known,
+    may_emit: bool,
+    place: Place,
+    tree: &Expr,
+    name: &Name,
+) -> Result<CoreExpr, CheckError>
+    ensures value { (asked : Option Shape) → Judges node_of result (judge_exp (blocks_for known.now may_emit) may_emit asked (field place (tree_of tree.now) name.now)) }
+{
+    let node = judge_exp(alloc, known, may_emit, None, tree)?;
+    made_field(alloc, place, tree, node, name)
+}
+
+// An operator before its operand.
+#[cycle(expr)]
+#[tactic(auto, unfolding(crate::specs::JudgingExpressions::judge_exp))]
+fn judge_unary(
+    alloc: Global,
+    known: &Known,
+    may_emit: bool,
+    place: Place,
+    op: UnaryOp,
+    tree: &Expr,
+) -> Result<CoreExpr, CheckError>
+    ensures value { (asked : Option Shape) → Judges node_of result (judge_exp (blocks_for known.now may_emit) may_emit asked (unary place op (tree_of tree.now))) }
+{
+    let node = judge_exp(alloc, known, may_emit, None, tree)?;
+    made_unary(alloc, place, op, tree, node)
+}
+
+// An operator between its operands, handed on as for an index.
+#[cycle(expr)]
+#[tactic(auto, unfolding(crate::specs::JudgingExpressions::judge_exp))]
+fn judge_binary(
+    alloc: Global,
+    known: &Known,
+    may_emit: bool,
+    tree: &Expr,
+) -> Result<CoreExpr, CheckError>
+    ensures value { (asked : Option Shape) → Judges node_of result (judge_exp (blocks_for known.now may_emit) may_emit asked (tree_of tree.now)) }
+{
+    let Expr::Binary(place, op, left, right) = tree else {
+        return Err(CheckError::NoMemory);
+    };
+    let first = judge_exp(alloc, known, may_emit, None, left)?;
+    let asked = asked_of_right(*op, &first.ty);
+    let second = judge_exp(alloc, known, may_emit, asked, right)?;
+    made_binary(alloc, *place, *op, left, right, first, second)
+}
+
+// Expressions in order, of which these types are asked.
+#[cycle(expr)]
+pub fn judge_exps(
+    alloc: Global,
+    known: &Known,
+    may_emit: bool,
+    asks: Asks<'_>,
+    trees: &[Expr],
+) -> Result<Vec<CoreExpr>, CheckError>
+    ensures value { Judges (λ made. nodes_of (each node_of made.items)) result (judge_exps (blocks_for known.now may_emit) may_emit (asks_of asks.entry) (exps_of (each tree_of trees.now))) }
+{
+    let mut nodes = Vec::new(alloc);
+    let mut asks = asks;
+    for tree in trees {
+        let node = judge_exp(alloc, known, may_emit, asks.first(), tree)?;
+        nodes.push(node)?;
+        asks = asks.behind();
+    }
+    Ok(nodes)
+}
+
+// A key and its value, of which these two types are asked.
+#[cycle(expr)]
+fn judge_pair(
+    alloc: Global,
+    known: &Known,
+    may_emit: bool,
+    key: Option<&Ty>,
+    value: Option<&Ty>,
+    tree: &Pair,
+) -> Result<CorePair, CheckError>
+    ensures value { Judges pairing_of result (judge_pair (blocks_for known.now may_emit) may_emit (asked_of key.entry) (asked_of value.entry) (pair_of tree.now)) }
+{
+    let key = judge_exp(alloc, known, may_emit, key, &tree.key)?;
+    let value = judge_exp(alloc, known, may_emit, value, &tree.value)?;
+    Ok(CorePair { key, value })
+}
+
+// Keys and values in order, of which these two types are asked.
+#[cycle(expr)]
+fn judge_pairs(
+    alloc: Global,
+    known: &Known,
+    may_emit: bool,
+    key: Option<&Ty>,
+    value: Option<&Ty>,
+    trees: &[Pair],
+) -> Result<Vec<CorePair>, CheckError>
+    ensures value { Judges (λ made. pairings_of (each pairing_of made.items)) result (judge_pairs (blocks_for known.now may_emit) may_emit (asked_of key.entry) (asked_of value.entry) (pairs_of (each pair_of trees.now))) }
+{
+    let mut nodes = Vec::new(alloc);
+    for tree in trees {
+        let pair = judge_pair(alloc, known, may_emit, key, value, tree)?;
+        nodes.push(pair)?;
+    }
+    Ok(nodes)
+}

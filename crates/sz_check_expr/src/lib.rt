@@ -1,0 +1,21 @@
+//! From the syntax tree of an expression to the checked one, or to the first refusal in it.
+#![tactic(auto)]
+
+mod agree;
+mod asks;
+mod call;
+mod composite;
+mod expr;
+mod kind;
+mod literal;
+mod operator;
+mod path;
+mod rows;
+
+pub use agree::{agree, agrees, converted, counted};
+pub use asks::Asks;
+pub use expr::{judge_call, judge_exp, judge_exps};
+pub use kind::{Kind, type_kind};
+pub use operator::test;
+pub use path::{field_in, whole};
+pub use rows::{difference_row, sum_row};

@@ -1,0 +1,54 @@
+use Rattle.std.proofs.Common.{◌≡◌, sym, subst, IfOk, OnErr, not, length, if◌then◌else◌, rules}
+use Rattle.sz_known.specs.Names.{has}
+use Rattle.sz_known.specs.Holding.{meaning_of}
+use Rattle.sz_known.specs.Keeping.{held_of, blocks_by, with_name, IsTyped}
+use Rattle.sz_known.proofs.KeepingLemmas.{kept_by_put, put_new, put_ok, put_err, types_are}
+use Rattle.sz_known.proofs.known.Known.put.Goals as goal
+
+-- a type's number was tested
+typed : (c : goal.After-is_new) → IsTyped (length c.self.inside.types) c.args.meaning
+typed c = subst (λ n. IsTyped n c.args.meaning) c.len.ensures.value (c.is_typed.ensures.value.0 c.if-not-is_typed.false)
+
+-- the meaning stands at the end of the list
+at_end : (c : goal.After-is_new) → c.in_ok-small.field-0 ≡ length c.self.inside.meanings.items
+at_end c = let same = c.in_ok-small.ensures.value in search (rules, same)
+
+pub invariant_of-self-2 : goal.invariant_of-self-2
+invariant_of-self-2 c =
+    let k = c.self.inside in
+    kept_by_put k.types k.meanings.items c.push.new.self.items c.args.meaning c.args.name.now k.scopes c.declare.new.self k.sight c.in_ok-small.field-0
+    c.placed-what.result
+    c.self.invariant (typed c) (c.in_ok-push.ensures.items) (at_end c) c.placed-what.ensures.value c.declare.result c.declare.ensures.ok c.declare.ensures.err
+
+pub returns-clause-new : goal.returns-clause-new
+returns-clause-new c =
+    let k = c.self.inside in
+    subst (λ r. IfOk r (λ new. new ≡ not (has c.args.name.now c.args.self.now.innermost))) (sym c.is_new.ensures.value)
+    (put_new k.types k.meanings.items c.push.new.self.items c.args.meaning c.args.name.now k.scopes c.declare.new.self k.sight c.in_ok-small.field-0
+    c.placed-what.result
+    c.self.invariant (typed c) (c.in_ok-push.ensures.items) (at_end c) c.placed-what.ensures.value c.declare.result c.declare.ensures.ok c.declare.ensures.err
+    k.locals c.args.self.now c.self.view_is c.declare.ensures.twice)
+
+pub returns-clause-ok : goal.returns-clause-ok
+returns-clause-ok c =
+    let k = c.self.inside in
+    let types = types_are k.types k.meanings.items k.scopes k.sight k.locals c.args.self.now c.self.view_is in
+    let after = held_of (blocks_by k.types c.push.new.self.items c.declare.new.self) k.sight k.types k.locals in
+    subst (λ ts. IfOk c.is_new.result
+    (λ new. after ≡ (if new then with_name c.args.name.now (meaning_of ts c.args.meaning) c.args.self.now else c.args.self.now))) types
+    (subst (λ r. IfOk r (λ new. after
+    ≡ (if new then with_name c.args.name.now (meaning_of k.types c.args.meaning) c.args.self.now else c.args.self.now))) (sym c.is_new.ensures.value)
+    (put_ok k.types k.meanings.items c.push.new.self.items c.args.meaning c.args.name.now k.scopes c.declare.new.self k.sight c.in_ok-small.field-0
+    c.placed-what.result
+    c.self.invariant (typed c) (c.in_ok-push.ensures.items) (at_end c) c.placed-what.ensures.value c.declare.result c.declare.ensures.ok c.declare.ensures.err
+    k.locals c.args.self.now c.self.view_is c.declare.ensures.twice))
+
+pub returns-clause-err : goal.returns-clause-err
+returns-clause-err c =
+    let k = c.self.inside in
+    let after = held_of (blocks_by k.types c.push.new.self.items c.declare.new.self) k.sight k.types k.locals in
+    subst (λ r. OnErr r (after ≡ c.args.self.now)) (sym c.is_new.ensures.value)
+    (put_err k.types k.meanings.items c.push.new.self.items c.args.meaning c.args.name.now k.scopes c.declare.new.self k.sight c.in_ok-small.field-0
+    c.placed-what.result
+    c.self.invariant (typed c) (c.in_ok-push.ensures.items) (at_end c) c.placed-what.ensures.value c.declare.result c.declare.ensures.ok c.declare.ensures.err
+    k.locals c.args.self.now c.self.view_is c.declare.ensures.twice)

@@ -1,0 +1,15 @@
+-- what the public contracts rest on
+pub mod Refusals
+pub mod Outcome
+pub mod Names
+pub mod JudgingTypes
+pub mod Scene
+pub mod Written
+pub mod Holding
+-- what the functions inside the crate promise each other
+pub mod Sorts
+pub mod Parts
+pub mod KnownCode
+pub mod Keeping
+-- how whole lists are judged, for the crates above as well
+pub mod Turns

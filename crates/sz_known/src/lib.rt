@@ -1,0 +1,19 @@
+//! What is known in front of a statement while a program is judged: names with their meanings, and the types that are
+//! written with them.
+#![tactic(auto)]
+
+mod error;
+mod known;
+mod meaning;
+mod number;
+mod sort;
+mod taken;
+mod types;
+mod written;
+
+pub use error::CheckError;
+pub use known::{Aside, Known};
+pub use meaning::{Meaning, Means};
+pub use number::small;
+pub use types::{basic_type, judge_type, judge_written};
+pub use written::{NamedType, NamedTypes, Written, WrittenField};

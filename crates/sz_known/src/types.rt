@@ -1,0 +1,295 @@
+//! Types as they are written.
+ghost use Rattle.std.specs.Prelude.{◌≡◌, ◌∷◌, [], List, IfOk, OnOk, map as each};
+ghost use Rattle.std.specs.Option.{option_map};
+ghost use Rattle.sz_types.specs.Data.{Shape, fields_of};
+ghost use Rattle.sz_types.specs.Seen.{seen};
+ghost use Rattle.sz_tree.specs.Types.{tuple, proto, params_of, fields_of as trees_of};
+ghost use Rattle.sz_tree.specs.View.{type_of, param_of, field_of};
+ghost use Rattle.sz_known.specs.JudgingTypes.{shape_of, type_named, field_number, encoding_of, coding_of, judge_type, judge_parts, judge_fields};
+ghost use Rattle.sz_known.specs.Holding.{means_of, blocks_of, IsOfTypes};
+ghost use Rattle.sz_known.specs.Parts.{free_name, free_coding, coding_seen, judge_part, judge_field};
+ghost use Rattle.sz_known.specs.Written.{shape_in, field_in};
+ghost use Rattle.sz_known.specs.Outcome.{Judges};
+
+use crate::error::CheckError;
+use crate::known::Known;
+use crate::meaning::Means;
+use crate::taken::{TakenNames, TakenNumbers};
+use crate::written::{NamedTypes, Written, WrittenField};
+use std::alloc::Global;
+use sz_tree::{BasicType, Name, Param, ProtoField, TypeTree};
+use sz_types::{Encoding, Place, Text, Ty};
+
+// The type that a word stands for.
+pub fn basic_type(basic: BasicType) -> Ty
+    ensures value { seen result ≡ shape_of basic }
+{
+    match basic {
+        BasicType::Bool => Ty::Bool,
+        BasicType::Int => Ty::Int,
+        BasicType::String => Ty::Str,
+        BasicType::Bytes => Ty::Bytes,
+        BasicType::Time => Ty::Time,
+    }
+}
+
+// The same as it is written.
+fn basic_written(basic: BasicType) -> Written
+    ensures value { (types : List Shape) → shape_in types result ≡ shape_of basic }
+{
+    match basic {
+        BasicType::Bool => Written::Bool,
+        BasicType::Int => Written::Int,
+        BasicType::String => Written::Str,
+        BasicType::Bytes => Written::Bytes,
+        BasicType::Time => Written::Time,
+    }
+}
+
+// The type that a name stands for, which is one of these types.
+fn type_named(
+    alloc: Global,
+    types: &NamedTypes,
+    name: &Name,
+    means: Means<'_>,
+) -> Result<Written, CheckError>
+    requires types { IsOfTypes types.now means }
+    ensures value { Judges (shape_in types.now) result (type_named name.now (means_of means.entry)) }
+{
+    match means {
+        Means::Type(ty) => Ok(Written::Named(ty.number)),
+        _ => Err(CheckError::of(alloc, 8, name)),
+    }
+}
+
+// The most that the number of a field can be.
+const MOST_FIELD_NUMBER: i64 = 536_870_911;
+
+// The number of a message's field, if it can be one.
+fn field_number(number: i64) -> Option<u32>
+    ensures value { result ≡ field_number number }
+{
+    if 1 <= number && number <= MOST_FIELD_NUMBER {
+        Some(number as u32)
+    } else {
+        None
+    }
+}
+
+// The encoding that a word stands for; no word is the plain one.
+fn encoding_of(label: &Option<Name>) -> Option<Encoding>
+    ensures value { result ≡ encoding_of label.now }
+{
+    let Some(name) = label else {
+        return Some(Encoding::Plain);
+    };
+    let word = name.text().as_bytes();
+    if word == b"zigzag".as_slice() {
+        return Some(Encoding::Zigzag);
+    }
+    if word == b"fixed32".as_slice() {
+        return Some(Encoding::Fixed32);
+    }
+    if word == b"fixed64".as_slice() {
+        return Some(Encoding::Fixed64);
+    }
+    None
+}
+
+// How a field of this type is coded, if its number is free and in range, and its encoding word fits the type.
+#[tactic(auto, using(crate::proofs::SortLemmas::sort_is_field, crate::proofs::SortLemmas::sort_encodes))]
+fn coding_of(
+    used: &TakenNumbers,
+    types: &NamedTypes,
+    ty: &Written,
+    number: Option<u32>,
+    code: Option<Encoding>,
+) -> Option<(u32, Encoding)>
+    ensures value { option_map coding_seen result ≡ coding_of used.now (shape_in types.now ty.now) number code }
+{
+    let (Some(number), Some(code)) = (number, code) else {
+        return None;
+    };
+    let sort = types.sort_of(ty);
+    if !used.has(number) && sort.is_field() && sort.takes(code) {
+        Some((number, code))
+    } else {
+        None
+    }
+}
+
+// A name of a part or a field, which must be free, and is taken now.
+fn take_name(alloc: Global, name: &Name, taken: &mut TakenNames) -> Result<Text, CheckError>
+    ensures value { Judges (λ text. text) result (free_name name.now taken.old) }
+    ensures taken { OnOk result (taken.new ≡ name.now.text ∷ taken.old) }
+{
+    let text = name.text().as_str();
+    if taken.has(text) {
+        return Err(CheckError::of(alloc, 18, name));
+    }
+    let copy = Text::from_str(alloc, text)?;
+    taken.add(text)?;
+    Ok(copy)
+}
+
+// The number and the encoding of a field, which it must have.
+fn judge_coding(
+    alloc: Global,
+    types: &NamedTypes,
+    tree: &ProtoField,
+    ty: &Written,
+    used: &TakenNumbers,
+) -> Result<(u32, Encoding), CheckError>
+    ensures value { Judges coding_seen result (free_coding tree.now.name (coding_of used.now (shape_in types.now ty.now) (field_number tree.now.number) (encoding_of tree.now.label))) }
+{
+    let number = field_number(tree.number);
+    match coding_of(used, types, ty, number, encoding_of(&tree.label)) {
+        Some(coding) => Ok(coding),
+        None => Err(CheckError::of(alloc, 18, &tree.name)),
+    }
+}
+
+// The type of a tree, as it is written.
+#[cycle(types)]
+#[tactic(auto, unfolding(crate::specs::JudgingTypes::judge_type))]
+pub fn judge_written(alloc: Global, known: &Known, tree: &TypeTree) -> Result<Written, CheckError>
+    ensures value { Judges (shape_in known.now.outside.types) result (judge_type (blocks_of known.now) (type_of tree.now)) }
+{
+    match tree {
+        TypeTree::Basic(_, basic) => Ok(basic_written(*basic)),
+        TypeTree::Named(name) => {
+            let means = known.look_up(alloc, true, name)?;
+            type_named(alloc, known.types(), name, means)
+        }
+        TypeTree::Array(_, element) => {
+            let element = judge_written(alloc, known, element)?;
+            Ok(Written::Array(Box::new(alloc, element)?))
+        }
+        TypeTree::Map(_, _, key, value) => {
+            let key = judge_written(alloc, known, key)?;
+            let value = judge_written(alloc, known, value)?;
+            Ok(Written::Map(Box::new(alloc, key)?, Box::new(alloc, value)?))
+        }
+        TypeTree::Tuple(place, parts) => judge_tuple(alloc, known, *place, parts.as_slice()),
+        TypeTree::Proto(place, fields) => judge_proto(alloc, known, *place, fields.as_slice()),
+    }
+}
+
+// The type of a tree, with all names written out.
+pub fn judge_type(alloc: Global, known: &Known, tree: &TypeTree) -> Result<Ty, CheckError>
+    ensures value { Judges seen result (judge_type (blocks_of known.now) (type_of tree.now)) }
+{
+    let written = judge_written(alloc, known, tree)?;
+    Ok(known.types().write_out(alloc, &written)?)
+}
+
+// A tuple type.
+#[cycle(types)]
+#[tactic(auto, using(crate::proofs::WrittenLemmas::shape_in_tuple), unfolding(crate::specs::JudgingTypes::judge_type))]
+fn judge_tuple(
+    alloc: Global,
+    known: &Known,
+    place: Place,
+    trees: &[Param],
+) -> Result<Written, CheckError>
+    ensures value { Judges (shape_in known.now.outside.types) result (judge_type (blocks_of known.now) (tuple place (params_of (each param_of trees.now)))) }
+{
+    Ok(Written::Tuple(judge_parts(alloc, known, trees)?))
+}
+
+// A proto type.
+#[cycle(types)]
+#[tactic(auto, using(crate::proofs::WrittenLemmas::shape_in_proto), unfolding(crate::specs::JudgingTypes::judge_type))]
+fn judge_proto(
+    alloc: Global,
+    known: &Known,
+    place: Place,
+    trees: &[ProtoField],
+) -> Result<Written, CheckError>
+    ensures value { Judges (shape_in known.now.outside.types) result (judge_type (blocks_of known.now) (proto place (trees_of (each field_of trees.now)))) }
+{
+    Ok(Written::Proto(judge_fields(alloc, known, trees)?))
+}
+
+// The next part of a tuple, whose name must be free.
+#[cycle(types)]
+fn judge_part(
+    alloc: Global,
+    known: &Known,
+    tree: &Param,
+    taken: &mut TakenNames,
+) -> Result<WrittenField, CheckError>
+    ensures value { Judges (field_in known.now.outside.types) result (judge_part (blocks_of known.now) taken.old tree.now.name (type_of tree.now.of)) }
+    ensures taken { IfOk result (λ made. taken.new ≡ made.name ∷ taken.old) }
+{
+    let ty = judge_written(alloc, known, &tree.of)?;
+    let name = take_name(alloc, &tree.name, taken)?;
+    Ok(WrittenField {
+        name,
+        ty,
+        number: 0,
+        code: Encoding::Plain,
+    })
+}
+
+// The parts of a tuple: each is judged whole before the next.
+#[cycle(types)]
+fn judge_parts(
+    alloc: Global,
+    known: &Known,
+    trees: &[Param],
+) -> Result<Vec<WrittenField>, CheckError>
+    ensures value { Judges (λ made. fields_of (each (field_in known.now.outside.types) made.items)) result (judge_parts (blocks_of known.now) [] (params_of (each param_of trees.now))) }
+{
+    let mut taken = TakenNames::new(alloc)?;
+    let mut parts = Vec::new(alloc);
+    for tree in trees {
+        let part = judge_part(alloc, known, tree, &mut taken)?;
+        parts.push(part)?;
+    }
+    Ok(parts)
+}
+
+// The next field of a message, whose name and number must be free.
+#[cycle(types)]
+fn judge_field(
+    alloc: Global,
+    known: &Known,
+    tree: &ProtoField,
+    taken: &mut TakenNames,
+    used: &mut TakenNumbers,
+) -> Result<WrittenField, CheckError>
+    ensures value { Judges (field_in known.now.outside.types) result (judge_field (blocks_of known.now) taken.old used.old (field_of tree.now)) }
+    ensures taken { IfOk result (λ made. taken.new ≡ made.name ∷ taken.old) }
+    ensures used { IfOk result (λ made. used.new ≡ made.number ∷ used.old) }
+{
+    let ty = judge_written(alloc, known, &tree.of)?;
+    let (number, code) = judge_coding(alloc, known.types(), tree, &ty, used)?;
+    let name = take_name(alloc, &tree.name, taken)?;
+    used.add(number)?;
+    Ok(WrittenField {
+        name,
+        ty,
+        number,
+        code,
+    })
+}
+
+// The fields of a message.
+#[cycle(types)]
+fn judge_fields(
+    alloc: Global,
+    known: &Known,
+    trees: &[ProtoField],
+) -> Result<Vec<WrittenField>, CheckError>
+    ensures value { Judges (λ made. fields_of (each (field_in known.now.outside.types) made.items)) result (judge_fields (blocks_of known.now) [] [] (trees_of (each field_of trees.now))) }
+{
+    let mut taken = TakenNames::new(alloc)?;
+    let mut used = TakenNumbers::new(alloc);
+    let mut fields = Vec::new(alloc);
+    for tree in trees {
+        let field = judge_field(alloc, known, tree, &mut taken, &mut used)?;
+        fields.push(field)?;
+    }
+    Ok(fields)
+}
