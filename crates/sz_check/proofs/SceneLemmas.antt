@@ -15,8 +15,8 @@ use Rattle.sz_core.specs.Typing.{Sight, IsCall}
 use Rattle.sz_core.specs.Sound.{seen_behind, BeginsWith, Around, IsStm, AreStms, IsFree, IsBetweenTurns}
 use Rattle.sz_known.specs.Names.{variable, declare}
 use Rattle.sz_check_expr.specs.JudgingExpressions.{judge_exp}
-use Rattle.sz_known.specs.Scene.{Scene, opened, closed, with_variable}
-use Rattle.sz_check.specs.Scenes.{Behind, AllBehind, judge}
+use Rattle.sz_known.specs.Scene.{Scene, opened, with_variable}
+use Rattle.sz_check.specs.Scenes.{Behind, AllBehind, judge, closed}
 use Rattle.sz_known.proofs.Holds.{Holds, good, ok_holds, bind_holds, known}
 use Rattle.sz_known.proofs.Meanings.{declared}
 use Rattle.sz_known.proofs.Sights.{IsFormed, AreFormed, IsVariable, Fits, AllFit, IsWider, all_fit_wider}

@@ -16,8 +16,8 @@ use Rattle.sz_known.specs.Names.{look_up, Meaning}
 use Rattle.sz_check_expr.specs.Agreeing.{in_turn, agree, agrees, counted}
 use Rattle.sz_check_expr.specs.JudgingExpressions.{judge_exps}
 use Rattle.sz_check_expr.specs.JudgingOperators.{test}
-use Rattle.sz_known.specs.Scene.{Scene, opened, closed}
-use Rattle.sz_check.specs.Scenes.{Behind, AllBehind, judge, judge_if_some}
+use Rattle.sz_known.specs.Scene.{Scene, opened}
+use Rattle.sz_check.specs.Scenes.{Behind, AllBehind, judge, judge_if_some, closed}
 use Rattle.sz_check.specs.JudgingStatements.{Around, in_block, in_loop, judge_stm, judge_stms}
 use Rattle.sz_check.specs.JudgingSimple.{Numbered, judge_first, judge_between, test_if_some, table_named, weight_agrees}
 use Rattle.sz_check.specs.JudgingSimple.{judge_definition, judge_simple, judge_return, done, judge_emit, same_presence}
@@ -154,18 +154,10 @@ tested_stops j k x y u f e h g stop =
     stops_then e (u x) (λ _. Ok (f x y)) _ stop
     (goes_on k (λ b. u x >>= λ _. Ok (f x b)) _ y g (goes_on j (λ n. k >>= λ b. u n >>= λ _. Ok (f n b)) _ x h refl))
 
-abbrev if_end : Place → Node → Behind → Behind
-if_end p n taken = record { scene = taken.scene; stm = core.branch p n taken.stm core.nothing }
-
 abbrev while_end : Place → Node → Behind → Behind
 while_end p n body = record { scene = body.scene; stm = core.while p n body.stm }
 
 -- a test that is refused behind a part statement that is judged
-pub if_stops : (a : Around) (s : Scene) (p : Place) (c : Exp) (t : Tree) (n : Node) (b : Behind) (e : CheckError)
-    → judge s None c ≡ Ok n → judge_inside a s t ≡ Ok b → Stops e (test c n) → Stops e (judge_stm a s (trees.if_only p c t))
-unfolding judge_stm
-if_stops a s p c t n b e h g stop = tested_stops (judge s None c) (judge_inside a s t) n b (test c) (if_end p) e h g stop
-
 pub while_stops : (a in_body : Around) (s : Scene) (p : Place) (c : Exp) (t : Tree) (n : Node) (b : Behind) (e : CheckError) → in_body ≡ in_loop a
     → judge s None c ≡ Ok n → judge_inside in_body s t ≡ Ok b → Stops e (test c n) → Stops e (judge_stm a s (trees.while p c t))
 unfolding judge_stm
@@ -203,6 +195,27 @@ module _ (a : Around) (k inner start : Held) (p : Place) (f : Option FirstForm) 
       sym (behind_start x opening h)
       ∙ ap (λ (j : Judged Behind). j >>= λ turns. Ok (record { scene = closed (scene_of k) turns.scene; stm = core.block (stms_of (x ∷ turns.stm ∷ [])) })) g
       ∙ ap (λ (u : Held). Ok (record { scene = scene_of u; stm = core.block (stms_of (x ∷ y ∷ [])) })) (sym ending)
+
+-- ---- branches
+
+branched : (u : Judged Unit) (s : Scene) (x : Stm) → (u >>= λ _. Ok (record { scene = s; stm = x })) ≡ done s (u >>= λ _. Ok x)
+branched (Ok t) s x = refl
+branched (Err r) s x = refl
+
+module _ (a : Around) (s : Scene) (p : Place) (c : Exp) where
+  -- an `if` is its test, its parts, and then a branch over the test
+  pub if_only_is : (t : Tree)
+      → judge_stm a s (trees.if_only p c t)
+      ≡ (judge s None c >>= λ n. judge_inside a s t >>= λ b. done b.scene (branch_of p c n b.stm core.nothing))
+  unfolding judge_stm
+  if_only_is t = λ i. judge s None c >>= λ n. judge_inside a s t >>= λ b. branched (test c n) b.scene (core.branch p n b.stm core.nothing) i
+
+  pub if_else_is : (t e : Tree)
+      → judge_stm a s (trees.if_else p c t e)
+      ≡ (judge s None c >>= λ n. judge_inside a s t >>= λ b. judge_inside a b.scene e >>= λ o. done o.scene (branch_of p c n b.stm o.stm))
+  unfolding judge_stm
+  if_else_is t e = λ i. judge s None c >>= λ n. judge_inside a s t >>= λ b. judge_inside a b.scene e >>= λ o.
+      branched (test c n) o.scene (core.branch p n b.stm o.stm) i
 
 -- ---- each statement by its own judgement
 

@@ -10,8 +10,8 @@ use Rattle.sz_core.specs.Typing.{Sight}
 use Rattle.sz_core.specs.Sound.{BeginsWith, IsStm, AreStms, IsTest, seen_behind}
 use Rattle.sz_known.specs.Refusals.{Judged}
 use Rattle.sz_check_expr.specs.JudgingOperators.{test}
-use Rattle.sz_known.specs.Scene.{Scene, opened, closed}
-use Rattle.sz_check.specs.Scenes.{Behind, judge, judge_if_some}
+use Rattle.sz_known.specs.Scene.{Scene, opened}
+use Rattle.sz_check.specs.Scenes.{Behind, judge, judge_if_some, closed}
 use Rattle.sz_check.specs.JudgingStatements.{Around, in_loop, in_block, judge_stm, judge_stms}
 use Rattle.sz_check.specs.JudgingSimple.{judge_between, judge_return, judge_emit, test_if_some}
 use Rattle.sz_known.proofs.Holds.{Holds, good, ok_holds, err_holds, bind_holds, known, if_holds}

@@ -24,8 +24,9 @@ use Rattle.sz_known.specs.Refusals.{Judged, ◌>>=◌, unless, wrong_weight}
 use Rattle.sz_known.specs.Names.{look_up}
 use Rattle.sz_check_expr.specs.Agreeing.{in_turn, agree, agrees, counted}
 use Rattle.sz_check_expr.specs.JudgingExpressions.{judge_exps}
-use Rattle.sz_known.specs.Scene.{Scene, opened, closed}
-use Rattle.sz_check.specs.Scenes.{Behind, AllBehind, judge, judge_if_some}
+use Rattle.sz_check_expr.specs.JudgingOperators.{test}
+use Rattle.sz_known.specs.Scene.{Scene, opened}
+use Rattle.sz_check.specs.Scenes.{Behind, AllBehind, judge, judge_if_some, closed}
 use Rattle.sz_check.specs.JudgingSimple.{Numbered, judge_first, judge_between, test_if_some, table_named, weight_agrees, same_presence}
 use Rattle.sz_check.specs.JudgingStatements.{Around, in_block, in_loop, judge_stm}
 use Rattle.sz_check_expr.specs.Asking.{asked_of}
@@ -59,6 +60,12 @@ around_of a = record { result = asked_of a.result; loop = a.in_loop }
 -- a part statement, which is judged in a block of its own
 abbrev pub judge_inside : Around → Scene → Tree → Judged Behind
 judge_inside a s t = in_block s (judge_stm a (opened s) t)
+
+-- a branch over a test, which must be a truth value
+abbrev pub branch_of : Place → Exp → Node → Stm → Stm → Judged Stm
+branch_of p c n taken other = do
+  _ ← test c n
+  Ok (core.branch p n taken other)
 
 -- what a `for` does behind its first part
 abbrev pub judge_turns : Around → Scene → Place → Option Exp → Option SimpleForm → Tree → Judged Behind

@@ -6,8 +6,8 @@ use Rattle.sz_core.specs.Statements as core
 pub use Rattle.sz_core.specs.Sound.{Around, in_loop}
 use Rattle.sz_known.specs.Refusals.{Judged, ◌>>=◌, misplaced, not_built}
 use Rattle.sz_check_expr.specs.JudgingOperators.{test}
-use Rattle.sz_known.specs.Scene.{Scene, opened, closed}
-use Rattle.sz_check.specs.Scenes.{Behind, AllBehind, judge, judge_if_some}
+use Rattle.sz_known.specs.Scene.{Scene, opened}
+use Rattle.sz_check.specs.Scenes.{Behind, AllBehind, judge, judge_if_some, closed}
 use Rattle.sz_check.specs.JudgingSimple.{judge_declaration, judge_initialised, judge_definition, judge_simple, judge_first, judge_between, test_if_some}
 use Rattle.sz_check.specs.JudgingSimple.{judge_return, judge_emit, done}
 

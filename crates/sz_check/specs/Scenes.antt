@@ -18,6 +18,10 @@ pub record AllBehind : Type 0 where
   pub scene : Scene
   pub stms : core.Stms
 
+-- the scene behind a block that was opened in the first: the variables inside keep their numbers, and are seen no more
+abbrev pub closed : Scene → Scene → Scene
+closed outside inside = record { blocks = outside.blocks; locals = inside.locals }
+
 -- an expression in a statement
 abbrev pub judge : Scene → Option Shape → Exp → Judged Node
 judge s asked e = judge_exp s.blocks true asked e

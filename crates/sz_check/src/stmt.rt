@@ -4,10 +4,10 @@ ghost use Rattle.std.specs.Option.{option_map};
 ghost use Rattle.sz_tree.specs.Statements.{stms_of, block, if_only, while, do_while};
 ghost use Rattle.sz_tree.specs.View.{tree_of, stm_of, simple_of, first_of};
 ghost use Rattle.sz_core.specs.Statements.{block as core_block, stms_of as core_stms_of};
-ghost use Rattle.sz_core.specs.View.{stm_of as core_stm_of};
+ghost use Rattle.sz_core.specs.View.{node_of, stm_of as core_stm_of};
 ghost use Rattle.sz_check.specs.JudgingStatements.{judge_stm, judge_stms};
 ghost use Rattle.sz_known.specs.Holding.{scene_of};
-ghost use Rattle.sz_check.specs.Behind.{behind_of, all_behind_of, around_of, judge_inside, judge_turns, judge_for};
+ghost use Rattle.sz_check.specs.Behind.{behind_of, all_behind_of, around_of, branch_of, judge_inside, judge_turns, judge_for};
 ghost use Rattle.sz_known.specs.Outcome.{Judges};
 
 use crate::declared::judge_declared;
@@ -18,7 +18,7 @@ use crate::simple::{
 };
 use std::alloc::{AllocError, Global};
 use sz_check_expr::{judge_exp, test};
-use sz_core::CoreStmt;
+use sz_core::{CoreExpr, CoreStmt};
 use sz_known::{CheckError, Known};
 use sz_tree::{Expr, First, Simple, Stmt};
 use sz_types::{Place, Ty};
@@ -45,7 +45,7 @@ impl<'t> Around<'t> {
 
 // The statement.
 #[cycle(stmt)]
-#[tactic(auto, using(crate::proofs::StatementParts::for_is, crate::proofs::StatementParts::empty_is, crate::proofs::StatementParts::define_is, crate::proofs::StatementParts::static_is, crate::proofs::StatementParts::typedef_is, crate::proofs::StatementParts::table_is, crate::proofs::StatementParts::nested_is, crate::proofs::StatementParts::simple_is, crate::proofs::StatementParts::break_is, crate::proofs::StatementParts::continue_is, crate::proofs::StatementParts::return_is, crate::proofs::StatementParts::emitting_is, crate::proofs::StatementParts::when_is, crate::proofs::StatementParts::done_is))]
+#[tactic(auto, using(crate::proofs::StatementParts::for_is, crate::proofs::StatementParts::empty_is, crate::proofs::StatementParts::define_is, crate::proofs::StatementParts::static_is, crate::proofs::StatementParts::typedef_is, crate::proofs::StatementParts::table_is, crate::proofs::StatementParts::nested_is, crate::proofs::StatementParts::simple_is, crate::proofs::StatementParts::break_is, crate::proofs::StatementParts::continue_is, crate::proofs::StatementParts::return_is, crate::proofs::StatementParts::emitting_is, crate::proofs::StatementParts::when_is, crate::proofs::StatementParts::done_is, crate::proofs::StatementParts::if_else_is))]
 pub fn judge_stm(
     alloc: Global,
     known: &mut Known,
@@ -66,7 +66,12 @@ pub fn judge_stm(
         Stmt::If(place, test, taken, None) => {
             judge_if_only(alloc, known, around, *place, taken, test)
         }
-        Stmt::If(_, _, _, Some(_)) => judge_if_else(alloc, known, around, tree),
+        Stmt::If(place, test, taken, Some(other)) => {
+            let node = judge_exp(alloc, known, true, None, test)?;
+            let taken = judge_inside(alloc, known, around, taken)?;
+            let other = judge_inside(alloc, known, around, other)?;
+            branch(alloc, *place, test, node, taken, other)
+        }
         Stmt::While(place, test, body) => judge_while(alloc, known, around, *place, body, test),
         Stmt::DoWhile(place, body, test) => {
             judge_do_while(alloc, known, around, *place, body, test)
@@ -92,6 +97,22 @@ pub fn judge_stm(
         }
         Stmt::When(place, _, _, _) => Err(CheckError::at(23, *place)),
     }
+}
+
+// A branch over a test, which must be a truth value.
+fn branch(
+    alloc: Global,
+    place: Place,
+    condition: &Expr,
+    node: CoreExpr,
+    taken: CoreStmt,
+    other: CoreStmt,
+) -> Result<CoreStmt, CheckError>
+    ensures value { Judges core_stm_of result (branch_of place (tree_of condition.now) (node_of node) (core_stm_of taken) (core_stm_of other)) }
+{
+    test(condition, &node)?;
+    let (taken, other) = (Box::new(alloc, taken)?, Box::new(alloc, other)?);
+    Ok(CoreStmt::Branch(place, node, taken, other))
 }
 
 // A part statement, which is judged in a block of its own.
@@ -149,7 +170,7 @@ pub fn judge_stms(
 }
 
 #[cycle(stmt)]
-#[tactic(auto, unfolding(crate::specs::JudgingStatements::judge_stm))]
+#[tactic(auto, using(crate::proofs::StatementParts::if_only_is, crate::proofs::StatementParts::done_is))]
 fn judge_if_only(
     alloc: Global,
     known: &mut Known,
@@ -163,32 +184,7 @@ fn judge_if_only(
 {
     let node = judge_exp(alloc, known, true, None, condition)?;
     let taken = judge_inside(alloc, known, around, taken)?;
-    test(condition, &node)?;
-    let (taken, other) = (Box::new(alloc, taken)?, Box::new(alloc, nothing(alloc))?);
-    Ok(CoreStmt::Branch(place, node, taken, other))
-}
-
-// A statement with several parts is handed on whole: its height bounds the depth of the calls. No other tree comes here.
-#[cycle(stmt)]
-#[tactic(auto, unfolding(crate::specs::JudgingStatements::judge_stm))]
-fn judge_if_else(
-    alloc: Global,
-    known: &mut Known,
-    around: Around<'_>,
-    tree: &Stmt,
-) -> Result<CoreStmt, CheckError>
-    ensures value { Judges (λ s. behind_of known.new s) result (judge_stm (around_of around.entry) (scene_of known.old) (stm_of tree.now)) }
-    ensures outside { IfOk result (λ _. known.new.outside ≡ known.old.outside) }
-{
-    let Stmt::If(place, condition, taken, Some(other)) = tree else {
-        return Err(CheckError::NoMemory);
-    };
-    let node = judge_exp(alloc, known, true, None, condition)?;
-    let taken = judge_inside(alloc, known, around, taken)?;
-    let other = judge_inside(alloc, known, around, other)?;
-    test(condition, &node)?;
-    let (taken, other) = (Box::new(alloc, taken)?, Box::new(alloc, other)?);
-    Ok(CoreStmt::Branch(*place, node, taken, other))
+    branch(alloc, place, condition, node, taken, nothing(alloc))
 }
 
 #[cycle(stmt)]

@@ -1,16 +1,19 @@
 -- Turns of the loops over expressions.
-use Rattle.std.proofs.Common.{◌≡◌, ℕ, ◌+◌, ◌<◌, ◌≤◌, Bool, List, [], ◌∷◌, ◌++◌, length, get_or, drop, map, Option, refl, ap, ◌∙◌}
+use Rattle.std.proofs.Common.{◌≡◌, ℕ, ◌+◌, ◌<◌, ◌≤◌, Bool, List, [], ◌∷◌, ◌++◌, length, get_or, drop, map, Option, None, refl, ap, ◌∙◌}
 use Rattle.std.specs.Prelude.{Ok, Err}
 use Rattle.sz_types.specs.Data.{Shape}
 use Rattle.sz_tree.specs.declared.expr.Expr.{Expr}
 use Rattle.sz_tree.specs.declared.expr.Pair.{Pair}
 use Rattle.sz_types.specs.declared.place.Place.{Place}
-use Rattle.sz_tree.specs.Expressions.{Lit, Exp, literal, paren, exps_of, pairs_of}
+use Rattle.sz_tree.specs.declared.operator.BinaryOp.{BinaryOp}
+use Rattle.sz_tree.specs.Expressions.{Lit, Exp, literal, paren, index, slice, binary, exps_of, pairs_of}
 use Rattle.sz_tree.specs.View.{tree_of, pair_of}
-use Rattle.sz_core.specs.Nodes.{Node, Nodes, no_nodes, with_node, nodes_of, Pairings, no_pairings, with_pairing, pairings_of}
+use Rattle.sz_core.specs.Nodes.{Node, type_of, Nodes, no_nodes, with_node, nodes_of, Pairings, no_pairings, with_pairing, pairings_of}
 use Rattle.sz_known.specs.Refusals.{Judged, ◌>>=◌}
 use Rattle.sz_known.specs.Names.{Block}
 use Rattle.sz_check_expr.specs.Agreeing.{Asks, asked_first, asked_behind}
+use Rattle.sz_check_expr.specs.JudgingParts.{made_index, made_slice}
+use Rattle.sz_check_expr.specs.JudgingOperators.{operation_of, asked_of_right, made_binary}
 use Rattle.sz_check_expr.specs.JudgingExpressions.{literal_node, judge_exp, judge_exps, judge_pairs}
 use Rattle.sz_known.specs.Turns.{behind, put_all}
 use Rattle.sz_check_expr.specs.Lists.{with_pair, judge_pair}
@@ -36,6 +39,24 @@ module _ (blocks : List Block) (may_emit : Bool) where
   pub literal_is : (asked : Option Shape) (p : Place) (l : Lit) → judge_exp blocks may_emit asked (literal p l) ≡ Ok (literal_node p l)
   unfolding judge_exp
   literal_is asked p l = refl
+
+  -- an element, a slice and an operator between two operands, part by part
+  pub index_is : (asked : Option Shape) (p : Place) (e i : Exp) → judge_exp blocks may_emit asked (index p e i)
+      ≡ (judge_exp blocks may_emit None e >>= λ n. judge_exp blocks may_emit None i >>= λ m. made_index p e i n m)
+  unfolding judge_exp
+  index_is asked p e i = refl
+
+  pub slice_is : (asked : Option Shape) (p : Place) (e i j : Exp) → judge_exp blocks may_emit asked (slice p e i j)
+      ≡ (judge_exp blocks may_emit None e >>= λ n. judge_exp blocks may_emit None i >>= λ m. judge_exp blocks may_emit None j >>= λ o.
+      made_slice p e i j n m o)
+  unfolding judge_exp
+  slice_is asked p e i j = refl
+
+  pub binary_is : (asked : Option Shape) (p : Place) (o : BinaryOp) (l r : Exp) → judge_exp blocks may_emit asked (binary p o l r)
+      ≡ (judge_exp blocks may_emit None l >>= λ n. judge_exp blocks may_emit (asked_of_right (operation_of o) (type_of n)) r >>= λ m.
+      made_binary p (operation_of o) l r n m)
+  unfolding judge_exp
+  binary_is asked p o l r = refl
 
   -- the judgement of the expressions from a place on, and of keys and values
   abbrev pub exps_from : Asks → List Expr → ℕ → Judged Nodes

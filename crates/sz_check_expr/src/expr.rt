@@ -25,7 +25,7 @@ use sz_types::{Place, Ty};
 
 // The expression, where its place asks for a type or for none; only composites take that type.
 #[cycle(expr)]
-#[tactic(auto, using(crate::proofs::ExpLemmas::paren_is, crate::proofs::ExpLemmas::literal_is))]
+#[tactic(auto, using(crate::proofs::ExpLemmas::paren_is, crate::proofs::ExpLemmas::literal_is, crate::proofs::ExpLemmas::index_is, crate::proofs::ExpLemmas::slice_is, crate::proofs::ExpLemmas::binary_is))]
 pub fn judge_exp(
     alloc: Global,
     known: &Known,
@@ -50,11 +50,25 @@ pub fn judge_exp(
         Expr::Map(place, pairs) => {
             judge_mapping(alloc, known, may_emit, asked, *place, pairs.as_slice())
         }
-        Expr::Index(_, _, _) => judge_index(alloc, known, may_emit, tree),
-        Expr::Slice(_, _, _, _) => judge_slice(alloc, known, may_emit, tree),
+        Expr::Index(place, part, key) => {
+            let node = judge_exp(alloc, known, may_emit, None, part)?;
+            let at = judge_exp(alloc, known, may_emit, None, key)?;
+            made_index(alloc, *place, part, key, node, at)
+        }
+        Expr::Slice(place, part, from, to) => {
+            let node = judge_exp(alloc, known, may_emit, None, part)?;
+            let first = judge_exp(alloc, known, may_emit, None, from)?;
+            let last = judge_exp(alloc, known, may_emit, None, to)?;
+            made_slice(alloc, *place, part, from, to, node, first, last)
+        }
         Expr::Field(place, part, name) => judge_field(alloc, known, may_emit, *place, part, name),
         Expr::Unary(place, op, part) => judge_unary(alloc, known, may_emit, *place, *op, part),
-        Expr::Binary(_, _, _, _) => judge_binary(alloc, known, may_emit, tree),
+        Expr::Binary(place, op, left, right) => {
+            let first = judge_exp(alloc, known, may_emit, None, left)?;
+            let asked = asked_of_right(*op, &first.ty);
+            let second = judge_exp(alloc, known, may_emit, asked, right)?;
+            made_binary(alloc, *place, *op, left, right, first, second)
+        }
     }
 }
 
@@ -161,45 +175,6 @@ fn judge_mapping(
     made_mapping(alloc, place, asked, trees, nodes)
 }
 
-// `e[i]`. An expression with several parts is handed on whole: its height bounds the depth of the calls. No other tree comes here.
-#[cycle(expr)]
-#[tactic(auto, unfolding(crate::specs::JudgingExpressions::judge_exp))]
-fn judge_index(
-    alloc: Global,
-    known: &Known,
-    may_emit: bool,
-    tree: &Expr,
-) -> Result<CoreExpr, CheckError>
-    ensures value { (asked : Option Shape) → Judges node_of result (judge_exp (blocks_for known.now may_emit) may_emit asked (tree_of tree.now)) }
-{
-    let Expr::Index(place, part, key) = tree else {
-        return Err(CheckError::NoMemory);
-    };
-    let node = judge_exp(alloc, known, may_emit, None, part)?;
-    let at = judge_exp(alloc, known, may_emit, None, key)?;
-    made_index(alloc, *place, part, key, node, at)
-}
-
-// `e[i: j]`, handed on as for an index.
-#[cycle(expr)]
-#[tactic(auto, unfolding(crate::specs::JudgingExpressions::judge_exp))]
-fn judge_slice(
-    alloc: Global,
-    known: &Known,
-    may_emit: bool,
-    tree: &Expr,
-) -> Result<CoreExpr, CheckError>
-    ensures value { (asked : Option Shape) → Judges node_of result (judge_exp (blocks_for known.now may_emit) may_emit asked (tree_of tree.now)) }
-{
-    let Expr::Slice(place, part, from, to) = tree else {
-        return Err(CheckError::NoMemory);
-    };
-    let node = judge_exp(alloc, known, may_emit, None, part)?;
-    let first = judge_exp(alloc, known, may_emit, None, from)?;
-    let last = judge_exp(alloc, known, may_emit, None, to)?;
-    made_slice(alloc, *place, part, from, to, node, first, last)
-}
-
 // `e.name`.
 #[cycle(expr)]
 #[tactic(auto, unfolding(crate::specs::JudgingExpressions::judge_exp))]
@@ -232,26 +207,6 @@ fn judge_unary(
 {
     let node = judge_exp(alloc, known, may_emit, None, tree)?;
     made_unary(alloc, place, op, tree, node)
-}
-
-// An operator between its operands, handed on as for an index.
-#[cycle(expr)]
-#[tactic(auto, unfolding(crate::specs::JudgingExpressions::judge_exp))]
-fn judge_binary(
-    alloc: Global,
-    known: &Known,
-    may_emit: bool,
-    tree: &Expr,
-) -> Result<CoreExpr, CheckError>
-    ensures value { (asked : Option Shape) → Judges node_of result (judge_exp (blocks_for known.now may_emit) may_emit asked (tree_of tree.now)) }
-{
-    let Expr::Binary(place, op, left, right) = tree else {
-        return Err(CheckError::NoMemory);
-    };
-    let first = judge_exp(alloc, known, may_emit, None, left)?;
-    let asked = asked_of_right(*op, &first.ty);
-    let second = judge_exp(alloc, known, may_emit, asked, right)?;
-    made_binary(alloc, *place, *op, left, right, first, second)
 }
 
 // Expressions in order, of which these types are asked.

@@ -496,6 +496,16 @@ module _ (types more : List Shape) (t : Shape) (meanings : List Kept) (blocks : 
           ∙ ap (with_type t) view
       by (Err e) p = tt
 
+-- a name was new unless it is said to be there twice
+pub new_is : (result : Result (Unit {0}) ScopeError) (b : Bool) → (result ≡ Err Twice) ↔ IsTrue b → IfOk (is_new result) (λ new. new ≡ not b)
+new_is (Ok u) false w = refl
+new_is (Ok u) true w = absurd (ok_err (w.1 refl))
+  where
+    ok_err : Ok u ≡ Err Twice → ⊥
+    ok_err p = cc
+new_is (Err Twice) b w = ap not (sym (w.0 refl))
+new_is (Err NoMemory) b w = tt
+
 -- a name is put in the innermost block, or the block has it
 module _ (types : List Shape) (meanings others : List Kept) (m : Kept) (name : List ℕ) (blocks new : List scopes.Block) (sight : Sight) (place : ℕ)
     (what : Place)
@@ -529,19 +539,7 @@ module _ (types : List Shape) (meanings others : List Kept) (m : Kept) (name : L
     has_it = has_is types meanings name blocks sight locals ∙ ap (λ h. has name h.innermost) view
 
     pub put_new : IfOk (is_new result) (λ new. new ≡ not (has name before.innermost))
-    put_new = by result twice
-      where
-        by : (r : Result Unit ScopeError) → (r ≡ Err Twice) ↔ IsTrue (is_declared name blocks) → IfOk (is_new r) (λ new. new ≡ not (has name before.innermost))
-        by (Ok u) w = new_one (is_declared name blocks) refl ∙ ap not has_it
-          where
-            new_one : (b : Bool) → is_declared name blocks ≡ b → true ≡ not b
-            new_one false e = refl
-            new_one true e = absurd (ok_err (w.1 e))
-              where
-                ok_err : Ok u ≡ Err Twice → ⊥
-                ok_err p = cc
-        by (Err Twice) w = ap not (sym (w.0 refl)) ∙ ap not has_it
-        by (Err NoMemory) w = tt
+    put_new = subst (λ b. IfOk (is_new result) (λ new. new ≡ not b)) has_it (new_is result (is_declared name blocks) twice)
 
     pub put_ok : IfOk (is_new result)
         (λ new_one. held_of (blocks_by types others new) sight types locals ≡ (if new_one then with_name name (meaning_of types m) before else before))

@@ -1,25 +1,24 @@
 -- Laws of names and numbers that are taken.
-use Rattle.std.proofs.Common.{◌≡◌, ℕ, Bool, true, false, ◌||◌, List, [], ◌∷◌, ◌++◌, length, map, reverse, Option, Some, None, is_some, bytes_eq, nat_eq}
-use Rattle.std.proofs.Common.{Bor, refl, sym, ap, ◌∙◌, if◌then◌else◌, arith}
-use Rattle.std.specs.Option.{option_or, option_copied}
+use Rattle.std.proofs.Common.{◌≡◌, ℕ, Bool, true, false, ◌||◌, List, [], ◌∷◌, ◌++◌, length, map, reverse, Some, is_some, bytes_eq, nat_eq, not}
+use Rattle.std.proofs.Common.{refl, sym, ap, subst, ◌∙◌, ◌↔◌, IsTrue, IfOk, OnOk, OnErr, Result, Ok, Err, if◌then◌else◌, arith}
 use Rattle.std.specs.List.{list_any}
 use Rattle.std.proofs.lemmas.List.{reverse-append}
 use Rattle.std.proofs.lemmas.List.Folds.{list_any-append}
 use Rattle.sz_scope.specs.Blocks as scopes
-use Rattle.sz_scope.specs.Blocks.{found, found_in, with_declared}
+use Rattle.sz_scope.specs.Blocks.{found_in, is_declared, with_declared}
+use Rattle.sz_scope.specs.declared.meaning.Meaning.{Meaning}
+use Rattle.sz_scope.specs.declared.error.ScopeError.{ScopeError}
+use Rattle.sz_scope.specs.declared.error.ScopeError.TheVariants.{Twice, NoMemory}
 use Rattle.sz_known.specs.Refusals.{has_name}
 use Rattle.sz_known.specs.Parts.{names_in, has_number}
+use Rattle.sz_known.specs.Keeping.{is_new}
+use Rattle.sz_known.proofs.KeepingLemmas.{new_is}
 
--- a name is found where it is taken
-pub taken_has : (name : List ℕ) (blocks : List scopes.Block) → length blocks ≡ 1 → is_some (found name blocks) ≡ has_name name (names_in blocks)
-taken_has name [] one = absurd (omega (arith, one))
-taken_has name (block ∷ (other ∷ blocks)) one = absurd (omega (arith, one))
-taken_has name (block ∷ []) one = alone (found_in name block) ∙ in_block block
+-- a name is declared where it is taken
+pub declared_has : (name : List ℕ) (blocks : List scopes.Block) → length blocks ≡ 1 → is_declared name blocks ≡ has_name name (names_in blocks)
+declared_has name [] one = absurd (omega (arith, one))
+declared_has name (block ∷ blocks) one = in_block block
   where
-    alone : (o : Option _) → is_some (option_or o (found name [])) ≡ is_some o
-    alone (Some w) = refl
-    alone None = refl
-
     in_block : (block : scopes.Block) → is_some (found_in name block) ≡ has_name name (map (λ (d : scopes.Declaration). d.name) block)
     in_block [] = refl
     in_block (d ∷ block) = by (bytes_eq name d.name) (in_block block)
@@ -33,6 +32,22 @@ taken_has name (block ∷ []) one = alone (found_in name block) ∙ in_block blo
 pub taken_more : (d : scopes.Declaration) (blocks : List scopes.Block) → length blocks ≡ 1 → names_in (with_declared d blocks) ≡ d.name ∷ names_in blocks
 taken_more d [] one = absurd (omega (arith, one))
 taken_more d (block ∷ blocks) one = refl
+
+-- a name joins the others if it is free, and else nothing changes
+module _ (name : List ℕ) (what : Meaning) (before after : List scopes.Block) (result : Result (Unit {0}) ScopeError) (one : length before ≡ 1) where
+  pub taken_free : (result ≡ Err Twice) ↔ IsTrue (is_declared name before) → IfOk (is_new result) (λ free. free ≡ not (has_name name (names_in before)))
+  taken_free twice = subst (λ b. IfOk (is_new result) (λ free. free ≡ not b)) (declared_has name before one)
+      (new_is result (is_declared name before) twice)
+
+  pub taken_ok : OnOk result (after ≡ with_declared (record { name = name; what = what }) before) → OnErr result (after ≡ before)
+      → IfOk (is_new result) (λ free. names_in after ≡ (if free then name ∷ names_in before else names_in before))
+  taken_ok ok err = by result ok err
+    where
+      by : (r : Result (Unit {0}) ScopeError) → OnOk r (after ≡ with_declared (record { name = name; what = what }) before) → OnErr r (after ≡ before)
+          → IfOk (is_new r) (λ free. names_in after ≡ (if free then name ∷ names_in before else names_in before))
+      by (Ok u) p q = ap names_in p ∙ taken_more _ before one
+      by (Err Twice) p q = ap names_in q
+      by (Err NoMemory) p q = tt
 
 pub length_declared : (d : scopes.Declaration) (blocks : List scopes.Block) → length (with_declared d blocks) ≡ length blocks
 length_declared d [] = refl
@@ -61,8 +76,3 @@ numbers_with number keys = by (list_any (nat_eq number) keys) ∙ ap (λ b. if b
     by : (b : Bool) → reverse (if b then keys else keys ++ number ∷ []) ≡ (if b then reverse keys else number ∷ reverse keys)
     by true = refl
     by false = reverse-append keys (number ∷ [])
-
--- whether there is something behind a reference
-pub copied_is_some : {X : Type 0} (o : Option (Bor X)) → is_some o ≡ is_some (option_copied o)
-copied_is_some None = refl
-copied_is_some (Some x) = refl

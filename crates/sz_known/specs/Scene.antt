@@ -15,10 +15,6 @@ pub record Scene : Type 0 where
 abbrev pub opened : Scene → Scene
 opened s = record s { blocks = [] ∷ s.blocks }
 
--- the scene behind a block that was opened in the first: the variables inside keep their numbers, and are seen no more
-abbrev pub closed : Scene → Scene → Scene
-closed outside inside = record { blocks = outside.blocks; locals = inside.locals }
-
 -- the scene with a variable more, which has the next number
 abbrev pub with_variable : Ident → Shape → Scene → Judged Scene
 with_variable n t s = do

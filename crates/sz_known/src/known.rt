@@ -1,30 +1,31 @@
 //! What is known in front of a statement.
-ghost use Rattle.std.specs.Prelude.{◌≡◌, ◌∷◌, ◌++◌, ◌-◌, ◌<◌, ◌↔◌, [], length, not, Bool, IfOk, IfSome, OnErr, IsTrue, codes, if◌then◌else◌};
+ghost use Rattle.std.specs.Prelude.{◌≡◌, ◌∷◌, ◌++◌, ◌-◌, ◌<◌, [], length, not, Bool, IfOk, IfSome, OnErr, codes, if◌then◌else◌};
 ghost use Rattle.sz_types.specs.Data.{Shape};
 ghost use Rattle.sz_types.specs.Seen.{seen};
 ghost use Rattle.sz_known.specs.Names.{Block, Named, has, look_up, declare, type_name};
 ghost use Rattle.sz_known.specs.Names as names;
 ghost use Rattle.sz_known.specs.Outcome.{Judges, Stops};
 ghost use Rattle.sz_known.specs.Refusals.{unseen, has_name, left_out_names};
-ghost use Rattle.sz_known.specs.Scene.{opened, with_variable};
+ghost use Rattle.sz_known.specs.Scene.{with_variable};
 ghost use Rattle.sz_known.specs.Holding.{at_first, meaning_of, means_of, maybe_means_of, IsOfTypes, Held, blocks_of, blocks_for, scene_of, outside_of, in_function, IsRoundFunction};
-ghost use Rattle.sz_known.specs.Keeping.{floor_of, sits_in, place_of, placed, is_new, sight_for, fitting, with_name, with_type, IsBySight, IsTyped, without_innermost, at_no_name};
+ghost use Rattle.sz_known.specs.Keeping.{floor_of, sits_in, place_of, placed, sight_for, fitting, with_name, with_type, IsBySight, IsTyped, without_innermost, at_no_name};
 ghost use Rattle.sz_known.specs.Written.{shape_in};
 ghost use Rattle.sz_scope.specs.declared.sight.Sight.TheVariants.{Static as for_static};
 
 use crate::error::CheckError;
 use crate::meaning::{Meaning, Means};
 use crate::number::small;
+use crate::taken::is_new;
 use crate::written::{NamedTypes, Written};
 use std::alloc::{AllocError, Global};
 use std::marker::Model;
 use std::mem;
-use sz_scope::{ScopeError, Scopes, Sight};
+use sz_scope::{Scopes, Sight};
 use sz_tree::Name;
 use sz_types::{Builtin, Ty, Tys, copy_ty};
 
-// What is known in front of a statement: the blocks that are open, what each name in them means, and the types of the routine's
-// variables by number.
+/// What is known in front of a statement: the blocks that are open, what each name in them means, and the types of the routine's
+/// variables by number.
 #[derive(Drop)]
 pub struct Known {
     // A name's meaning goes by its place among all meanings.
@@ -35,7 +36,7 @@ pub struct Known {
     locals: Tys,
 }
 
-// What a function leaves aside of what is known outside it.
+/// What a function leaves aside of what is known outside it, to be put back behind it.
 #[derive(Drop)]
 pub struct Aside {
     sight: Sight,
@@ -100,27 +101,6 @@ fn placed(place: u32, meaning: &Meaning) -> sz_scope::Meaning
     }
 }
 
-// Whether the number of a type is one of so many.
-fn is_typed(count: usize, meaning: &Meaning) -> bool
-    ensures value { IsTrue result ↔ IsTyped count meaning.now }
-{
-    match meaning {
-        Meaning::Type(number) => (*number as usize) < count,
-        _ => true,
-    }
-}
-
-// Whether a name was new in its block.
-fn is_new(declared: Result<(), ScopeError>) -> Result<bool, AllocError>
-    ensures value { result ≡ is_new declared }
-{
-    match declared {
-        Ok(()) => Ok(true),
-        Err(ScopeError::Twice) => Ok(false),
-        Err(ScopeError::NoMemory) => Err(AllocError),
-    }
-}
-
 // Closes the innermost block, if there are more than `outside` round it.
 fn close_innermost(scopes: &mut Scopes, outside: usize)
     ensures value { scopes.new ≡ without_innermost outside scopes.old }
@@ -168,7 +148,7 @@ impl Model for Known {
 }
 
 impl Known {
-    // The predeclared names, in a block round the program's own, which is empty.
+    /// The predeclared names, in a block round the program's own, which is empty.
     pub fn predeclared(alloc: Global) -> Result<Known, AllocError>
         ensures value { IfOk result (λ made. scene_of made ≡ at_first) }
     {
@@ -199,13 +179,11 @@ impl Known {
 
     // A name more in the innermost block, if the block doesn't have it: so it says.
     fn put(&mut self, name: &str, meaning: Meaning) -> Result<bool, AllocError>
+        requires typed { IsTyped (length self.old.outside.types) meaning }
         ensures new { IfOk result (λ is_new. is_new ≡ not (has name.now self.old.innermost)) }
         ensures ok { IfOk result (λ is_new. self.new ≡ (if is_new then with_name name.now (meaning_of self.old.outside.types meaning) self.old else self.old)) }
         ensures err { OnErr result (self.new ≡ self.old) }
     {
-        if !is_typed(self.types.len(), &meaning) {
-            return Err(AllocError);
-        }
         let what = placed(small(self.meanings.len())?, &meaning);
         self.meanings.push(meaning)?;
         is_new(self.scopes.declare(name, what))
@@ -233,8 +211,8 @@ impl Known {
         }
     }
 
-    // What the name stands for, if anything that is seen has it. The value of a static, which may call nothing that emits, sees
-    // less than a statement.
+    /// What the name stands for, or the refusal 6 (or 16, for a name that is left out of the language) where nothing that is seen
+    /// has it. The value of a static, which may call nothing that emits, sees less than a statement.
     pub fn look_up(
         &self,
         alloc: Global,
@@ -250,13 +228,14 @@ impl Known {
         }
     }
 
-    // A name more in the innermost block, which must not have it already.
+    /// A name more in the innermost block, or the refusal 7 where the block has it already.
     pub fn declare(
         &mut self,
         alloc: Global,
         name: &Name,
         meaning: Meaning,
     ) -> Result<(), CheckError>
+        requires typed { IsTyped (length self.old.outside.types) meaning }
         ensures value { Judges (λ _. blocks_of self.new) result (declare name.now (meaning_of self.old.outside.types meaning) (blocks_of self.old)) }
         ensures outside { self.new.outside ≡ self.old.outside }
         ensures locals { self.new.locals ≡ self.old.locals }
@@ -268,7 +247,7 @@ impl Known {
         }
     }
 
-    // A type by its name, as it is written.
+    /// A type by its name, as it is written, or the refusal 7 where the innermost block has the name already.
     pub fn declare_type(
         &mut self,
         alloc: Global,
@@ -279,13 +258,13 @@ impl Known {
         ensures locals { self.new.locals ≡ self.old.locals }
     {
         let number = match written {
-            Written::Named(number) => number,
+            Written::Named(number) if (number as usize) < self.types.len() => number,
             written => self.add_type(written)?,
         };
         self.declare(alloc, name, Meaning::Type(number))
     }
 
-    // A variable more, which has the next number.
+    /// A variable more, which has the next number of its routine, counted from 0; or the refusal 7.
     pub fn declare_variable(
         &mut self,
         alloc: Global,
@@ -303,21 +282,21 @@ impl Known {
         Ok(number)
     }
 
-    // Takes the newest name out of the innermost block.
+    /// Takes the newest name out of the innermost block.
     pub fn undeclare(&mut self)
         ensures value { (n : Named) (b : Block) → self.old.innermost ≡ n ∷ b → self.new ≡ record self.old { innermost = b } }
     {
         self.scopes.undeclare();
     }
 
-    // An empty block more, inside.
+    /// An empty block more, inside.
     pub fn open(&mut self) -> Result<(), AllocError>
         ensures value { IfOk result (λ _. self.new ≡ record self.old { innermost = []; outside = outside_of self.old }) }
     {
         self.scopes.push()
     }
 
-    // The end of the innermost block, if the routine opened it. The variables inside keep their numbers.
+    /// The end of the innermost block, if the routine opened it. The variables inside keep their numbers.
     pub fn close(&mut self)
         ensures value { (k : Held) → self.old.outside ≡ outside_of k → self.new ≡ record k { locals = self.old.locals } }
     {
@@ -325,7 +304,7 @@ impl Known {
         close_innermost(&mut self.scopes, outside);
     }
 
-    // The block of a function inside the innermost one, with no variables yet; and what is to be put back behind the function.
+    /// The block of a function inside the innermost one, with no variables yet; and what is to be put back behind the function.
     pub fn enter_function(&mut self, alloc: Global) -> Result<Aside, AllocError>
         ensures value { IfOk result (λ _. self.new ≡ in_function self.old) }
         ensures aside { IfOk result (λ aside. (aside.sight ≡ self.old.outside.sight) × (aside.locals ≡ self.old.locals)) }
@@ -339,7 +318,7 @@ impl Known {
         })
     }
 
-    // The end of a function's block, with the types of the function's variables.
+    /// The end of a function's block, with the types of the function's variables by number.
     pub fn leave_function(&mut self, aside: Aside) -> Tys
         ensures value { (k : Held) → IsBySight k → aside.sight ≡ k.outside.sight → aside.locals ≡ k.locals → IsRoundFunction k self.old → self.new ≡ k }
         ensures locals { result ≡ self.old.locals }
@@ -349,21 +328,21 @@ impl Known {
         mem::replace(&mut self.locals, aside.locals)
     }
 
-    // The types of the routine's variables.
+    /// The types of the routine's variables by number.
     pub fn locals(&self) -> &Tys
         ensures value { result.now ≡ self.now.locals }
     {
         &self.locals
     }
 
-    // The named types.
+    /// The named types by number.
     pub fn types(&self) -> &NamedTypes
         ensures value { result.now ≡ self.now.outside.types }
     {
         &self.types
     }
 
-    // The types of the record's variables.
+    /// The types of the record's variables by number.
     pub fn into_locals(self) -> Tys
         ensures value { result ≡ self.locals }
     {

@@ -6,7 +6,7 @@ use crate::written::{NamedType, NamedTypes};
 use sz_core::Signature;
 use sz_types::{Builtin, TableDecl, Ty};
 
-// What a name stands for, with its number among those of its kind.
+/// What a name stands for, with its number among those of its kind, counted from 0.
 #[derive(Drop)]
 pub enum Meaning {
     Variable(u32, Ty),
@@ -18,7 +18,7 @@ pub enum Meaning {
     Input,
 }
 
-// The same, lent.
+/// The same, lent.
 #[derive(Clone, Copy)]
 pub enum Means<'k> {
     Variable(u32, &'k Ty),
@@ -31,7 +31,7 @@ pub enum Means<'k> {
 }
 
 impl Meaning {
-    // Lends it, with the types by which the numbers of types go.
+    /// Lends it, with the types by which the numbers of types go.
     pub fn means<'k>(&'k self, types: &'k NamedTypes) -> Means<'k>
         ensures value { means_of result ≡ meaning_of types.now self.now }
         ensures types { IsOfTypes types.now result }

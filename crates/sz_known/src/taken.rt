@@ -1,7 +1,8 @@
 //! Names and numbers that are taken, found by hashing.
-ghost use Rattle.std.specs.Prelude.{◌≡◌, ◌∷◌, [], Ok, IfOk, OnOk, if◌then◌else◌};
+ghost use Rattle.std.specs.Prelude.{◌≡◌, ◌∷◌, [], not, IfOk, OnOk, if◌then◌else◌};
 ghost use Rattle.sz_known.specs.Refusals.{has_name};
 ghost use Rattle.sz_known.specs.Parts.{has_number};
+ghost use Rattle.sz_known.specs.Keeping.{is_new};
 
 use indexmap::IndexSet;
 use std::alloc::{AllocError, Global};
@@ -25,13 +26,14 @@ impl Model for TakenNames {
     ghost invariant = { λ t. length t.held ≡ 1 };
 }
 
-// Whether a name could be declared.
-fn noted(declared: Result<(), ScopeError>) -> Result<(), AllocError>
-    ensures value { OnOk result (declared ≡ Ok tt) }
+// Whether a name was new in its block.
+pub fn is_new(declared: Result<(), ScopeError>) -> Result<bool, AllocError>
+    ensures value { result ≡ is_new declared }
 {
     match declared {
-        Ok(()) => Ok(()),
-        Err(_) => Err(AllocError),
+        Ok(()) => Ok(true),
+        Err(ScopeError::Twice) => Ok(false),
+        Err(ScopeError::NoMemory) => Err(AllocError),
     }
 }
 
@@ -45,18 +47,12 @@ impl TakenNames {
         Ok(TakenNames { held })
     }
 
-    // Whether the name is taken.
-    pub fn has(&self, name: &str) -> bool
-        ensures value { result ≡ has_name name.now self.now }
+    // Takes a name, and says whether it was free.
+    pub fn add(&mut self, name: &str) -> Result<bool, AllocError>
+        ensures free { IfOk result (λ free. free ≡ not (has_name name.now self.old)) }
+        ensures ok { IfOk result (λ free. self.new ≡ (if free then name.now ∷ self.old else self.old)) }
     {
-        self.held.find(name).is_some()
-    }
-
-    // Takes a name that is free.
-    pub fn add(&mut self, name: &str) -> Result<(), AllocError>
-        ensures ok { OnOk result (self.new ≡ name.now ∷ self.old) }
-    {
-        noted(self.held.declare(name, Meaning::Input))
+        is_new(self.held.declare(name, Meaning::Input))
     }
 }
 

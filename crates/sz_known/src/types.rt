@@ -20,7 +20,7 @@ use std::alloc::Global;
 use sz_tree::{BasicType, Name, Param, ProtoField, TypeTree};
 use sz_types::{Encoding, Place, Text, Ty};
 
-// The type that a word stands for.
+/// The type that a word stands for.
 pub fn basic_type(basic: BasicType) -> Ty
     ensures value { seen result ≡ shape_of basic }
 {
@@ -124,12 +124,10 @@ fn take_name(alloc: Global, name: &Name, taken: &mut TakenNames) -> Result<Text,
     ensures taken { OnOk result (taken.new ≡ name.now.text ∷ taken.old) }
 {
     let text = name.text().as_str();
-    if taken.has(text) {
+    if !taken.add(text)? {
         return Err(CheckError::of(alloc, 18, name));
     }
-    let copy = Text::from_str(alloc, text)?;
-    taken.add(text)?;
-    Ok(copy)
+    Ok(Text::from_str(alloc, text)?)
 }
 
 // The number and the encoding of a field, which it must have.
@@ -149,7 +147,7 @@ fn judge_coding(
     }
 }
 
-// The type of a tree, as it is written.
+/// The type of a tree, as it is written, or its first refusal: 6, 8, 16 at a name, 18 at a field or a part.
 #[cycle(types)]
 #[tactic(auto, unfolding(crate::specs::JudgingTypes::judge_type))]
 pub fn judge_written(alloc: Global, known: &Known, tree: &TypeTree) -> Result<Written, CheckError>
@@ -175,7 +173,7 @@ pub fn judge_written(alloc: Global, known: &Known, tree: &TypeTree) -> Result<Wr
     }
 }
 
-// The type of a tree, with all names written out.
+/// The type of a tree, with all names written out, or its first refusal: 6, 8, 16 at a name, 18 at a field or a part.
 pub fn judge_type(alloc: Global, known: &Known, tree: &TypeTree) -> Result<Ty, CheckError>
     ensures value { Judges seen result (judge_type (blocks_of known.now) (type_of tree.now)) }
 {

