@@ -15,7 +15,7 @@ ghost use Rattle.sz_check_expr.specs.Calling.{callee_seen, first_node, conversio
 ghost use Rattle.sz_known.specs.Holding.{means_of};
 ghost use Rattle.sz_known.specs.Outcome.{Judges};
 
-use crate::agree::{agree, counted, fits};
+use crate::agreement::{agree, counted, fits};
 use crate::asks::Asks;
 use crate::path::conversion_node;
 use crate::rows::{builtin_row, has_elements, has_keys_of, is_found_in, is_map, is_searched_for};

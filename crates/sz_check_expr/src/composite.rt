@@ -11,7 +11,7 @@ ghost use Rattle.sz_check_expr.specs.Asking.{asks_of, asked_of};
 ghost use Rattle.sz_check_expr.specs.Calling.{made_array, tuple_of};
 ghost use Rattle.sz_known.specs.Outcome.{Judges};
 
-use crate::agree::{agree, counted, pairs_agree};
+use crate::agreement::{agree, counted, pairs_agree};
 use crate::asks::Asks;
 use crate::kind::{Kind, type_kind};
 use std::alloc::Global;

@@ -1,7 +1,7 @@
 //! From the syntax tree of an expression to the checked one, or to the first refusal in it.
 #![tactic(auto)]
 
-mod agree;
+mod agreement;
 mod asks;
 mod call;
 mod composite;
@@ -12,7 +12,7 @@ mod operator;
 mod path;
 mod rows;
 
-pub use agree::{agree, agrees, converted, counted};
+pub use agreement::{agree, agrees, converted, counted};
 pub use asks::Asks;
 pub use expr::{judge_call, judge_exp, judge_exps};
 pub use kind::{Kind, type_kind};

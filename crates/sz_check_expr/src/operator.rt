@@ -9,7 +9,7 @@ ghost use Rattle.sz_check_expr.specs.Asking.{asked_of};
 ghost use Rattle.sz_check_expr.specs.Operating.{operation_seen};
 ghost use Rattle.sz_known.specs.Outcome.{Judges};
 
-use crate::agree::fits;
+use crate::agreement::fits;
 use crate::kind::{Kind, type_kind};
 use crate::rows::{alike, binary_row, unary_row};
 use std::alloc::Global;

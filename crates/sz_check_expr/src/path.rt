@@ -13,7 +13,7 @@ ghost use Rattle.sz_check_expr.specs.Asking.{found_of};
 ghost use Rattle.sz_check_expr.specs.Calling.{slice_node};
 ghost use Rattle.sz_known.specs.Outcome.{Judges};
 
-use crate::agree::fits;
+use crate::agreement::fits;
 use crate::kind::{Kind, type_kind};
 use crate::rows::{alike, has_elements, has_slices, index_row};
 use std::alloc::{AllocError, Global};

@@ -51,7 +51,7 @@ fits_failure : (answer : Answer) (f : Failure) (made : Result (List ℕ) Failure
 fits_failure answer f (Err g) rose old new decides printed =
     subst (λ x. Fits answer (status_of x) old new) (sym printed.0) (fits_error answer g rose old new decides printed.1)
 fits_failure answer WriteFailed (Ok output) rose old new decides printed =
-    subst (λ a. Fits a status.WriteFailed old new) (sym decides) (record { status_is = refl; output = printed })
+    subst (λ a. Fits a status.WriteFailed old new) (sym decides) (record { status_is = (refl, printed.0); output = printed.1 })
 fits_failure answer NoMemory (Ok output) rose old new decides printed =
     subst (λ a. Fits a status.NoMemory old new) (sym decides) (record { status_is = tt; output = printed })
 fits_failure answer Usage (Ok output) rose old new decides printed = absurd printed
@@ -86,7 +86,7 @@ fits_no_memory : (answer : Answer) (f : Failure) (made : Result (List ℕ) Failu
     → Prints {T = Unit {0}} old new made (Err f) → Fits answer status.NoMemory old new
 fits_no_memory answer f (Err g) rose old new decides printed = record { status_is = tt; output = prefix_none old answer.output new printed.1 }
 fits_no_memory answer WriteFailed (Ok output) rose old new decides printed =
-    subst (λ a. Fits a status.NoMemory old new) (sym decides) (record { status_is = tt; output = printed })
+    subst (λ a. Fits a status.NoMemory old new) (sym decides) (record { status_is = tt; output = printed.1 })
 fits_no_memory answer NoMemory (Ok output) rose old new decides printed =
     subst (λ a. Fits a status.NoMemory old new) (sym decides) (record { status_is = tt; output = printed })
 fits_no_memory answer Usage (Ok output) rose old new decides printed = absurd printed

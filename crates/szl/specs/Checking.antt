@@ -4,8 +4,8 @@ use Rattle.sz_types.specs.declared.place.Place.{Place}
 use Rattle.sz_tree.specs.Statements.{Stms}
 use Rattle.sz_mean.specs.Tree.{Prog}
 use Rattle.sz_core.specs.Programs.{Core}
-use Rattle.sz_check.specs.Refusals.{Judged}
-use Rattle.sz_check.specs.Refusals as judging
+use Rattle.sz_known.specs.Refusals.{Judged}
+use Rattle.sz_known.specs.Refusals as judging
 use Rattle.sz_check.specs.JudgingPrograms.{judge_program}
 use Rattle.szl.specs.declared.refusal.Cause.{Cause}
 use Rattle.szl.specs.declared.refusal.Cause.TheVariants.{BadChar, BadLiteral, NotUtf8, TooLong, Syntax, UnknownName, Redeclared, WrongKind, WrongType, NoType, NoField, WrongCount, WrongWeight, NotAssignable}

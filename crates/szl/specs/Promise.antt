@@ -11,11 +11,11 @@ use Rattle.szl.specs.Settings.{Settings, run, check, settings_in}
 use Rattle.szl.specs.Outcome.{Answer, outcome}
 
 -- The status is the outcome's, or one of the three that a device or want of memory brings: reading can fail only where
--- the words ask for files, and writing only where there is output.
+-- the words ask for files, and writing only where there are bytes to write.
 abbrev pub IsStatusOf : Answer → Status → Type 0
 IsStatusOf answer NoMemory = ⊤
 IsStatusOf answer ReadFailed = answer.status ≢ Usage
-IsStatusOf answer WriteFailed = answer.status ≡ Done
+IsStatusOf answer WriteFailed = (answer.status ≡ Done) × (answer.output ≢ [])
 IsStatusOf answer status = status ≡ answer.status
 
 -- what a sink has taken grew by a prefix of the bytes

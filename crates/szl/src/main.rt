@@ -26,27 +26,35 @@ mod unfit;
 mod values;
 mod words;
 
-use std::alloc::Global;
+use status::Status;
+use std::alloc::{AllocError, Global};
 use std::fs::Files;
-use std::io::{Input, Stderr, Stdout};
+use std::io::{self, Input, Stderr, Stdout};
 use std::process::ExitCode;
 use std::thread::{Builder, Threads};
 use std::{env, thread};
-use sz_io::{NoGate, OsFiles, OsSink};
+use sz_io::{NoGate, OsFiles, OsSink, write_whole};
 use top::szl_main;
 
-/// The words of the command line without the program's name. Words that the system can't tell, as those that are not
-/// UTF-8, are no command line.
-fn given_words(rt: &HostRuntime) -> Vec<String> {
+/// The words of the command line without the program's name. Words that aren't UTF-8 are no command line.
+fn given_words(rt: &HostRuntime) -> Result<Vec<String>, AllocError> {
     let mut words = Vec::new(rt.alloc());
-    if let Ok(given) = env::args(rt) {
-        for word in given.skip(1) {
-            if words.push(word).is_err() {
-                return Vec::new(rt.alloc());
+    match env::args(rt) {
+        Ok(given) => {
+            for word in given.skip(1) {
+                words.push(word)?;
             }
         }
+        Err(error) if error.kind() == io::ErrorKind::OutOfMemory => return Err(AllocError),
+        Err(_) => {}
     }
-    words
+    Ok(words)
+}
+
+/// Tells that there is no memory for the words of the command line.
+fn tell_no_memory(err: Stderr) -> ExitCode {
+    let _ = write_whole(&mut OsSink::new(err), b"out of memory\n");
+    ExitCode::from(Status::NoMemory.code())
 }
 
 /// Runs the command line of these words over real files and streams, and gives the exit status.
@@ -71,7 +79,9 @@ const STACK_BYTES: usize = 256 << 20;
 // Where no thread can be started, this one does the work itself.
 fn main(rt: HostRuntime) -> ExitCode {
     let alloc: Global = rt.alloc();
-    let words = given_words(&rt);
+    let Ok(words) = given_words(&rt) else {
+        return tell_no_memory(rt.stderr());
+    };
     let code = thread::scope(thread::scope_env(), &rt, |scope| {
         match Builder::new()
             .stack_size(STACK_BYTES)

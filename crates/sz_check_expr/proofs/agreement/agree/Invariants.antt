@@ -6,7 +6,7 @@ use Rattle.sz_core.specs.Nodes.{nodes_of}
 use Rattle.sz_core.specs.View.{node_of}
 use Rattle.sz_check_expr.specs.Agreeing.{agree}
 use Rattle.sz_check_expr.specs.Asking.{asks_of}
-use Rattle.sz_check_expr.proofs.agree.agree.Given as goal
+use Rattle.sz_check_expr.proofs.agreement.agree.Given as goal
 
 abbrev pub invariant-loop-i : goal.invariant-loop-i
 invariant-loop-i l =

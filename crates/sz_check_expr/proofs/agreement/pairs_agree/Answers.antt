@@ -3,7 +3,7 @@ use Rattle.std.proofs.lemmas.Result.{err_from_is_err_and}
 use Rattle.sz_types.specs.Seen.{seen}
 use Rattle.sz_known.proofs.TurnLemmas.{stops_then, goes_on}
 use Rattle.sz_check_expr.proofs.ListLemmas.{pairs_turn, pairs_over}
-use Rattle.sz_check_expr.proofs.agree.pairs_agree.Goals as goal
+use Rattle.sz_check_expr.proofs.agreement.pairs_agree.Goals as goal
 
 pub returns-in_err-agrees : goal.returns-in_err-agrees
 returns-in_err-agrees c =

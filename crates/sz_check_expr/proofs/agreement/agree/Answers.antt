@@ -3,7 +3,7 @@ use Rattle.std.proofs.lemmas.Result.{err_from_is_err_and}
 use Rattle.sz_check_expr.specs.Asking.{asks_of}
 use Rattle.sz_known.proofs.TurnLemmas.{stops_then, goes_on}
 use Rattle.sz_check_expr.proofs.ListLemmas.{agree_turn, agree_over}
-use Rattle.sz_check_expr.proofs.agree.agree.Goals as goal
+use Rattle.sz_check_expr.proofs.agreement.agree.Goals as goal
 
 pub returns-in_err-agrees : goal.returns-in_err-agrees
 returns-in_err-agrees c =
