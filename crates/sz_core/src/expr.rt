@@ -25,11 +25,13 @@ pub enum Form {
     Constant(Value),
     /// A variable of the routine that the expression stands in.
     Local(u32),
+    /// A static of the program.
     Static(u32),
     /// The record.
     Input,
     /// `f(e, ..)`, of a function that the program declares.
     Call(u32, Vec<CoreExpr>),
+    /// A call of a predeclared function.
     Builtin(Builtin, Vec<CoreExpr>),
     /// `def(e)`.
     Def(Box<CoreExpr>),
@@ -47,11 +49,13 @@ pub enum Form {
     Slice(Box<CoreExpr>, Box<CoreExpr>, Box<CoreExpr>),
     /// `e.name`, by the place of the field, counted from 0.
     Field(Box<CoreExpr>, u32),
+    /// An operator before its operand.
     Unary(UnOp, Box<CoreExpr>),
+    /// An operator between its operands, both of which are evaluated.
     Binary(BinOp, Box<CoreExpr>, Box<CoreExpr>),
-    /// `a && b`.
+    /// `a && b`: the right one is evaluated only where the left one is true.
     And(Box<CoreExpr>, Box<CoreExpr>),
-    /// `a || b`.
+    /// `a || b`: the right one is evaluated only where the left one is false.
     Or(Box<CoreExpr>, Box<CoreExpr>),
 }
 

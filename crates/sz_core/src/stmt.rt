@@ -15,10 +15,11 @@ pub enum CoreStep {
     Field(u32),
 }
 
-/// A statement. Variables and tables go by their numbers, each kind from 0. Contracts see it by `stm_of` of
-/// `specs/View.antt`.
+/// A statement. Variables and tables go by their numbers, each kind from 0. A `Place` is where the statement begins: its first
+/// token, which for a declaration or an assignment is the name. Contracts see it by `stm_of` of `specs/View.antt`.
 #[derive(Drop)]
 pub enum CoreStmt {
+    /// These statements in order. An empty statement is a block of none.
     Block(Vec<CoreStmt>),
     /// The variable is undefined from here on.
     Clear(u32),
@@ -26,15 +27,21 @@ pub enum CoreStmt {
     Keep(Place, u32, CoreExpr),
     /// The value goes into the variable, or where the steps lead in it.
     Store(Place, u32, Vec<CoreStep>, CoreExpr),
+    /// A call whose value is let go.
     Evaluate(Place, CoreExpr),
     /// The test, what is done where it is true, and what is done where it isn't.
     Branch(Place, CoreExpr, Box<CoreStmt>, Box<CoreStmt>),
+    /// The test, and what is done as long as it is true.
     While(Place, CoreExpr, Box<CoreStmt>),
+    /// What is done, and the test: again as long as it is true.
     DoWhile(Place, Box<CoreStmt>, CoreExpr),
     /// The test, which is true where it is missing; what is done between turns; what is done in each turn.
     For(Place, Option<CoreExpr>, Box<CoreStmt>, Box<CoreStmt>),
+    /// The end of the innermost loop.
     Break,
+    /// The end of this turn of the innermost loop.
     Continue,
+    /// The end of the function, with its result.
     Return(Place, CoreExpr),
     /// The end of the record, before its statements are.
     EndRecord(Place),

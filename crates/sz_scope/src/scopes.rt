@@ -91,7 +91,8 @@ impl Scopes {
         true
     }
 
-    /// Declares a name in the innermost block.
+    /// Declares a name in the innermost block. A block must be open. `Twice` exactly where the innermost block has the name already;
+    /// then, and where there is no memory, the blocks stay as they were.
     pub fn declare(&mut self, name: &str, what: Meaning) -> Result<(), ScopeError>
         requires within { 0 < length self.old }
         ensures ok { OnOk result (self.new ≡ with_declared (record { name = name.now; what = what }) self.old) }

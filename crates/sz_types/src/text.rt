@@ -50,12 +50,14 @@ impl Text {
         }
     }
 
+    /// Lends the text.
     pub fn as_str(&self) -> &str
         ensures value { result.now ≡ self.now }
     {
         self.string.as_str()
     }
 
+    /// Lends the bytes of the text, which are UTF-8.
     pub fn as_bytes(&self) -> &[u8]
         ensures value { result.now ≡ self.now }
         ensures utf8 { IsUtf8 result.now }
@@ -63,12 +65,14 @@ impl Text {
         self.string.as_str().as_bytes()
     }
 
+    /// Gives the text as a string, and takes no memory.
     pub fn into_string(self) -> String
         ensures value { string_bytes result ≡ self }
     {
         self.string
     }
 
+    /// Gives the bytes of the text, which are UTF-8, and takes no memory.
     pub fn into_bytes(self) -> Vec<u8>
         ensures value { result.items ≡ self }
         ensures utf8 { IsUtf8 result.items }
