@@ -1,5 +1,6 @@
 //! What `check` says of programs: a table of cases for each refusal, each with near twins that are fine.
 use super::{Case, has_left, run, sound_case};
+use crate::STACK_BYTES;
 use crate::judge::{checked, tree_in};
 use crate::status::Status;
 use itoa::Buffer;
@@ -468,6 +469,33 @@ fn nested(alloc: Global, count: u32) -> Result<String, AllocError> {
     Ok(program)
 }
 
+/// A chain of this many types, each with 254 tuples round the one before, and two variables of the last. No text has a type that is
+/// much higher than that of 1,000.
+fn tower(alloc: Global, count: u32) -> Result<String, AllocError> {
+    let mut program = String::new(alloc);
+    program.push_str("type T0 = int;\n")?;
+    for number in 1..count {
+        let mut digits = Buffer::new();
+        program.push_str("type T")?;
+        program.push_str(digits.format(number))?;
+        program.push_str(" = ")?;
+        for _ in 0..254 {
+            program.push_str("{a:")?;
+        }
+        program.push_str("T")?;
+        program.push_str(digits.format(number - 1))?;
+        for _ in 0..254 {
+            program.push_str("}")?;
+        }
+        program.push_str(";\n")?;
+    }
+    let last = count.saturating_sub(1);
+    push(&mut program, &["x: T"], &[last])?;
+    push(&mut program, &["{ z: T"], &[last])?;
+    program.push_str("z = x; }\n")?;
+    Ok(program)
+}
+
 /// This many variables, each with the value of the one before.
 fn declarations(alloc: Global, count: u32) -> Result<String, AllocError> {
     let mut program = String::new(alloc);
@@ -493,15 +521,17 @@ fn is_fine(alloc: Global, text: &str) -> bool {
 fn large_are_fine(alloc: Global) -> Result<bool, AllocError> {
     let chain = chain(alloc, 30_000)?;
     let nested = nested(alloc, 1_000)?;
+    let tower = tower(alloc, 1_000)?;
     let declarations = declarations(alloc, 45_000)?;
-    Ok(is_fine(alloc, &chain) && is_fine(alloc, &nested) && is_fine(alloc, &declarations))
+    let is_deep_fine = is_fine(alloc, &chain) && is_fine(alloc, &nested) && is_fine(alloc, &tower);
+    Ok(is_deep_fine && is_fine(alloc, &declarations))
 }
 
 #[test]
-fn large_programs_are_judged_on_a_stack_of_256_mebibytes(rt: HostRuntime) -> Result<(), Fail> {
+fn large_programs_are_judged_on_the_stack_of_the_command_line(rt: HostRuntime) -> Result<(), Fail> {
     let alloc = rt.alloc();
     let thread = Builder::new()
-        .stack_size(256 << 20)
+        .stack_size(STACK_BYTES)
         .spawn(&rt, move || large_are_fine(alloc))?;
     assert_eq!(&rt; thread.join(&rt), Ok(true));
     Ok(())
