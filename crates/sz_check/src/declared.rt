@@ -23,7 +23,8 @@ pub fn judge_declared(
     tree: &TypeTree,
     value: &Option<Expr>,
 ) -> Result<CoreStmt, CheckError>
-    ensures value { (a : Around) → Judges (λ s. behind_of known.new s) result (judge_stm a (scene_of known.old) (declare name.now (type_of tree.now) (option_map tree_of value.now))) }
+    ensures value { (a : Around) → Judges (λ s. behind_of known.new s) result
+        (judge_stm a (scene_of known.old) (declare name.now (type_of tree.now) (option_map tree_of value.now))) }
     ensures outside { known.new.outside ≡ known.old.outside }
 {
     match value {

@@ -48,7 +48,8 @@ fn judge_weight(
     asked: &Option<Ty>,
     tree: &Option<Expr>,
 ) -> Result<Option<CoreExpr>, CheckError>
-    ensures value { Judges (option_map node_of) result (judge_if_some (scene_of known.now) (option_map seen asked.now) (option_map tree_of tree.now)) }
+    ensures value { Judges (option_map node_of) result
+        (judge_if_some (scene_of known.now) (option_map seen asked.now) (option_map tree_of tree.now)) }
 {
     match tree {
         Some(tree) => Ok(Some(judge_exp(alloc, known, true, asked.as_ref(), tree)?)),
@@ -62,7 +63,8 @@ fn weight_agrees(
     tree: &Option<Expr>,
     node: &Option<CoreExpr>,
 ) -> Result<(), CheckError>
-    ensures value { Judges (λ x. x) result (weight_agrees (option_map seen asked.now) (option_map tree_of tree.now) (option_map node_of node.now)) }
+    ensures value { Judges (λ x. x) result
+        (weight_agrees (option_map seen asked.now) (option_map tree_of tree.now) (option_map node_of node.now)) }
 {
     match (asked, tree, node) {
         (Some(ty), Some(tree), Some(node)) => agrees(Some(ty), tree, node),
@@ -79,7 +81,9 @@ fn judge_parts(
     value: &Expr,
     weight: &Option<Expr>,
 ) -> Result<Parts, CheckError>
-    ensures value { Judges emitted_of result (judge_emitted (scene_of known.now) (seen_table table.now) (exps_of (each tree_of indexes.now)) (tree_of value.now) (option_map tree_of weight.now)) }
+    ensures value { Judges emitted_of result
+        (judge_emitted (scene_of known.now) (seen_table table.now) (exps_of (each tree_of indexes.now)) (tree_of value.now)
+        (option_map tree_of weight.now)) }
 {
     let asks = Asks::Types(table.indexes.as_slice());
     let indexes = judge_exps(alloc, known, true, asks, indexes)?;
@@ -102,7 +106,9 @@ fn parts_fit(
     weight: &Option<Expr>,
     parts: &Parts,
 ) -> Result<(), CheckError>
-    ensures value { Judges (λ x. x) result (emitted_fits (seen_table table.now) place name_place (exps_of (each tree_of indexes.now)) (tree_of value.now) (option_map tree_of weight.now) (emitted_of parts.now)) }
+    ensures value { Judges (λ x. x) result
+        (emitted_fits (seen_table table.now) place name_place (exps_of (each tree_of indexes.now)) (tree_of value.now)
+        (option_map tree_of weight.now) (emitted_of parts.now)) }
 {
     let asks = Asks::Types(table.indexes.as_slice());
     agree(asks, indexes, parts.indexes.as_slice())?;
@@ -126,7 +132,9 @@ pub fn judge_emit(
     value: &Expr,
     weight: &Option<Expr>,
 ) -> Result<CoreStmt, CheckError>
-    ensures value { Judges stm_of result (judge_emit_by_parts (scene_of known.now) place name.now (exps_of (each tree_of indexes.now)) (tree_of value.now) (option_map tree_of weight.now)) }
+    ensures value { Judges stm_of result
+        (judge_emit_by_parts (scene_of known.now) place name.now (exps_of (each tree_of indexes.now)) (tree_of value.now)
+        (option_map tree_of weight.now)) }
 {
     let (number, table) = table_named(alloc, name, known.look_up(alloc, true, name)?)?;
     let parts = judge_parts(alloc, known, table, indexes, value, weight)?;

@@ -37,7 +37,8 @@ fn copy_signature(alloc: Global, signature: &Signature) -> Result<Signature, All
 
 // The parameters of a function, each a variable of it; a parameter is declared before the next one is judged.
 fn judge_parameters(alloc: Global, known: &mut Known, trees: &[Param]) -> Result<(), CheckError>
-    ensures value { Judges (λ _. scene_of known.new) result (judge_parameters (scene_of known.old) (params_of (each param_of trees.now))) }
+    ensures value { Judges (λ _. scene_of known.new) result
+        (judge_parameters (scene_of known.old) (params_of (each param_of trees.now))) }
     ensures outside { IfOk result (λ _. known.new.outside ≡ known.old.outside) }
 {
     for tree in trees {
@@ -54,7 +55,8 @@ fn declare_parameters(
     trees: &[Param],
     types: &[Ty],
 ) -> Result<(), CheckError>
-    ensures value { Judges (λ _. scene_of known.new) result (declare_parameters (scene_of known.old) (params_of (each param_of trees.now)) (each seen types.now)) }
+    ensures value { Judges (λ _. scene_of known.new) result
+        (declare_parameters (scene_of known.old) (params_of (each param_of trees.now)) (each seen types.now)) }
     ensures outside { IfOk result (λ _. known.new.outside ≡ known.old.outside) }
 {
     for i in 0..trees.len().min(types.len()) {
@@ -71,7 +73,8 @@ fn judge_header(
     params: &[Param],
     of: &TypeTree,
 ) -> Result<Signature, CheckError>
-    ensures value { Judges signature_of result (judge_header (blocks_of known.old) (params_of (each param_of params.now)) (type_of of.now)) }
+    ensures value { Judges signature_of result
+        (judge_header (blocks_of known.old) (params_of (each param_of params.now)) (type_of of.now)) }
     ensures kept { IfOk result (λ _. known.new ≡ known.old) }
 {
     let aside = known.enter_function(alloc)?;
@@ -92,7 +95,8 @@ fn declare_function(
     name: &Name,
     signature: &Signature,
 ) -> Result<(), CheckError>
-    ensures value { Judges (λ _. blocks_of top.new.known) result (declare name.now (function (length top.old.functions.items) (signature_of signature.now)) (blocks_of top.old.known)) }
+    ensures value { Judges (λ _. blocks_of top.new.known) result
+        (declare name.now (function (length top.old.functions.items) (signature_of signature.now)) (blocks_of top.old.known)) }
     ensures outside { top.new.known.outside ≡ top.old.known.outside }
     ensures locals { top.new.known.locals ≡ top.old.known.locals }
     ensures tables { top.new.tables ≡ top.old.tables }
@@ -119,7 +123,9 @@ fn judge_body(
     signature: &Signature,
     trees: &[Stmt],
 ) -> Result<Body, CheckError>
-    ensures value { Judges body_of result (judge_body (blocks_of known.old) (params_of (each param_of params.now)) (signature_of signature.now) (stms_of (each stm_of trees.now))) }
+    ensures value { Judges body_of result
+        (judge_body (blocks_of known.old) (params_of (each param_of params.now)) (signature_of signature.now)
+        (stms_of (each stm_of trees.now))) }
     ensures kept { IfOk result (λ _. known.new ≡ known.old) }
 {
     let aside = known.enter_function(alloc)?;
@@ -141,7 +147,8 @@ fn finished(
     unknown: Signature,
     body: Body,
 ) -> Result<Item, CheckError>
-    ensures value { Judges (λ i. found_one top.new i) result (finished (top_of top.old) name.now (signature_of unknown) (body_of body)) }
+    ensures value { Judges (λ i. found_one top.new i) result
+        (finished (top_of top.old) name.now (signature_of unknown) (body_of body)) }
 {
     let emits = stms_emit(top.functions.as_slice(), body.statements.as_slice());
     let signature = Signature {
@@ -168,7 +175,9 @@ pub fn judge_function(
     of: &TypeTree,
     trees: &[Stmt],
 ) -> Result<Item, CheckError>
-    ensures value { Judges (λ i. found_one top.new i) result (judge_function (top_of top.old) name.now (params_of (each param_of params.now)) (type_of of.now) (stms_of (each stm_of trees.now))) }
+    ensures value { Judges (λ i. found_one top.new i) result
+        (judge_function (top_of top.old) name.now (params_of (each param_of params.now)) (type_of of.now)
+        (stms_of (each stm_of trees.now))) }
 {
     let unknown = judge_header(alloc, &mut top.known, params, of)?;
     declare_function(alloc, top, name, &unknown)?;

@@ -27,7 +27,8 @@ fn judge_static(
     of: &TypeTree,
     tree: &Expr,
 ) -> Result<Item, CheckError>
-    ensures value { Judges (λ i. found_one top.new i) result (judge_static (top_of top.old) place name.now (type_of of.now) (tree_of tree.now)) }
+    ensures value { Judges (λ i. found_one top.new i) result
+        (judge_static (top_of top.old) place name.now (type_of of.now) (tree_of tree.now)) }
 {
     let ty = judge_type(alloc, &top.known, of)?;
     let node = judge_exp(alloc, &top.known, false, Some(&ty), tree)?;
@@ -94,7 +95,8 @@ fn push_found(items: &mut Vec<Item>, found: Option<Item>) -> Result<(), AllocErr
 
 // Statements at the top level, in order.
 fn judge_all(alloc: Global, top: &mut Top, trees: &[Stmt]) -> Result<Vec<Item>, CheckError>
-    ensures value { Judges (λ items. found_all top.new items.items) result (judge_all (top_of top.old) (stms_of (each stm_of trees.now))) }
+    ensures value { Judges (λ items. found_all top.new items.items) result
+        (judge_all (top_of top.old) (stms_of (each stm_of trees.now))) }
 {
     let mut items = Vec::new(alloc);
     for tree in trees {

@@ -30,7 +30,8 @@ pub fn judge_declaration(
     name: &Name,
     tree: &TypeTree,
 ) -> Result<CoreStmt, CheckError>
-    ensures value { Judges (λ s. behind_of known.new s) result (judge_declaration (scene_of known.old) name.now (type_of tree.now)) }
+    ensures value { Judges (λ s. behind_of known.new s) result
+        (judge_declaration (scene_of known.old) name.now (type_of tree.now)) }
     ensures outside { known.new.outside ≡ known.old.outside }
 {
     let ty = judge_type(alloc, known, tree)?;
@@ -46,7 +47,8 @@ pub fn judge_initialised(
     tree: &TypeTree,
     value: &Expr,
 ) -> Result<CoreStmt, CheckError>
-    ensures value { Judges (λ s. behind_of known.new s) result (judge_initialised (scene_of known.old) name.now (type_of tree.now) (tree_of value.now)) }
+    ensures value { Judges (λ s. behind_of known.new s) result
+        (judge_initialised (scene_of known.old) name.now (type_of tree.now) (tree_of value.now)) }
     ensures outside { known.new.outside ≡ known.old.outside }
 {
     let ty = judge_type(alloc, known, tree)?;
@@ -63,7 +65,8 @@ pub fn judge_definition(
     name: &Name,
     value: &Expr,
 ) -> Result<CoreStmt, CheckError>
-    ensures value { Judges (λ s. behind_of known.new s) result (judge_definition (scene_of known.old) name.now (tree_of value.now)) }
+    ensures value { Judges (λ s. behind_of known.new s) result
+        (judge_definition (scene_of known.old) name.now (tree_of value.now)) }
     ensures outside { known.new.outside ≡ known.old.outside }
 {
     let node = judge_exp(alloc, known, true, None, value)?;
@@ -155,7 +158,8 @@ pub fn judge_first(
     known: &mut Known,
     first: &Option<First>,
 ) -> Result<CoreStmt, CheckError>
-    ensures value { Judges (λ s. behind_of known.new s) result (judge_first (scene_of known.old) (option_map first_of first.now)) }
+    ensures value { Judges (λ s. behind_of known.new s) result
+        (judge_first (scene_of known.old) (option_map first_of first.now)) }
     ensures outside { known.new.outside ≡ known.old.outside }
 {
     match first {
@@ -188,7 +192,8 @@ pub fn judge_test(
     known: &Known,
     tree: &Option<Expr>,
 ) -> Result<Option<CoreExpr>, CheckError>
-    ensures value { Judges (option_map node_of) result (judge_if_some (scene_of known.now) Nothing (option_map tree_of tree.now)) }
+    ensures value { Judges (option_map node_of) result
+        (judge_if_some (scene_of known.now) Nothing (option_map tree_of tree.now)) }
 {
     match tree {
         Some(tree) => Ok(Some(judge_exp(alloc, known, true, None, tree)?)),
@@ -214,7 +219,8 @@ pub fn judge_return(
     result_type: Option<&Ty>,
     tree: &Option<Expr>,
 ) -> Result<CoreStmt, CheckError>
-    ensures value { Judges stm_of result (judge_return (scene_of known.now) place (asked_of result_type.entry) (option_map tree_of tree.now)) }
+    ensures value { Judges stm_of result
+        (judge_return (scene_of known.now) place (asked_of result_type.entry) (option_map tree_of tree.now)) }
 {
     match (result_type, tree) {
         (None, None) => Ok(CoreStmt::EndRecord(place)),

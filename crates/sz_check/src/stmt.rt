@@ -52,7 +52,8 @@ pub fn judge_stm(
     around: Around<'_>,
     tree: &Stmt,
 ) -> Result<CoreStmt, CheckError>
-    ensures value { Judges (λ s. behind_of known.new s) result (judge_stm (around_of around.entry) (scene_of known.old) (stm_of tree.now)) }
+    ensures value { Judges (λ s. behind_of known.new s) result
+        (judge_stm (around_of around.entry) (scene_of known.old) (stm_of tree.now)) }
     ensures outside { IfOk result (λ _. known.new.outside ≡ known.old.outside) }
 {
     match tree {
@@ -61,7 +62,10 @@ pub fn judge_stm(
         Stmt::Declare(name, of, value) => judge_declared(alloc, known, name, of, value),
         Stmt::Define(name, value) => judge_definition(alloc, known, name, value),
         Stmt::Static(place, _, _, _) | Stmt::Type(place, _, _) => Err(CheckError::at(15, *place)),
-        Stmt::Table(name, _) | Stmt::Function(name, _, _, _) => Err(CheckError::at(15, name.place())),
+        Stmt::Table(name, _) | Stmt::Function(name, _, _, _) => Err(CheckError::at(
+            15,
+            name.place(),
+        )),
         Stmt::Simple(tree) => judge_simple(alloc, known, tree),
         Stmt::If(place, test, taken, None) => {
             judge_if_only(alloc, known, around, *place, taken, test)
@@ -108,7 +112,8 @@ fn branch(
     taken: CoreStmt,
     other: CoreStmt,
 ) -> Result<CoreStmt, CheckError>
-    ensures value { Judges core_stm_of result (branch_of place (tree_of condition.now) (node_of node) (core_stm_of taken) (core_stm_of other)) }
+    ensures value { Judges core_stm_of result
+        (branch_of place (tree_of condition.now) (node_of node) (core_stm_of taken) (core_stm_of other)) }
 {
     test(condition, &node)?;
     let (taken, other) = (Box::new(alloc, taken)?, Box::new(alloc, other)?);
@@ -123,7 +128,8 @@ fn judge_inside(
     around: Around<'_>,
     tree: &Stmt,
 ) -> Result<CoreStmt, CheckError>
-    ensures value { Judges (λ s. behind_of known.new s) result (judge_inside (around_of around.entry) (scene_of known.old) (stm_of tree.now)) }
+    ensures value { Judges (λ s. behind_of known.new s) result
+        (judge_inside (around_of around.entry) (scene_of known.old) (stm_of tree.now)) }
     ensures outside { IfOk result (λ _. known.new.outside ≡ known.old.outside) }
 {
     known.open()?;
@@ -141,7 +147,8 @@ fn judge_block(
     place: Place,
     trees: &[Stmt],
 ) -> Result<CoreStmt, CheckError>
-    ensures value { Judges (λ s. behind_of known.new s) result (judge_stm (around_of around.entry) (scene_of known.old) (block place (stms_of (each stm_of trees.now)))) }
+    ensures value { Judges (λ s. behind_of known.new s) result
+        (judge_stm (around_of around.entry) (scene_of known.old) (block place (stms_of (each stm_of trees.now)))) }
     ensures outside { IfOk result (λ _. known.new.outside ≡ known.old.outside) }
 {
     known.open()?;
@@ -158,7 +165,8 @@ pub fn judge_stms(
     around: Around<'_>,
     trees: &[Stmt],
 ) -> Result<Vec<CoreStmt>, CheckError>
-    ensures value { Judges (λ ss. all_behind_of known.new ss.items) result (judge_stms (around_of around.entry) (scene_of known.old) (stms_of (each stm_of trees.now))) }
+    ensures value { Judges (λ ss. all_behind_of known.new ss.items) result
+        (judge_stms (around_of around.entry) (scene_of known.old) (stms_of (each stm_of trees.now))) }
     ensures outside { IfOk result (λ _. known.new.outside ≡ known.old.outside) }
 {
     let mut statements = Vec::new(alloc);
@@ -179,7 +187,8 @@ fn judge_if_only(
     taken: &Stmt,
     condition: &Expr,
 ) -> Result<CoreStmt, CheckError>
-    ensures value { Judges (λ s. behind_of known.new s) result (judge_stm (around_of around.entry) (scene_of known.old) (if_only place (tree_of condition.now) (stm_of taken.now))) }
+    ensures value { Judges (λ s. behind_of known.new s) result
+        (judge_stm (around_of around.entry) (scene_of known.old) (if_only place (tree_of condition.now) (stm_of taken.now))) }
     ensures outside { IfOk result (λ _. known.new.outside ≡ known.old.outside) }
 {
     let node = judge_exp(alloc, known, true, None, condition)?;
@@ -197,7 +206,8 @@ fn judge_while(
     body: &Stmt,
     condition: &Expr,
 ) -> Result<CoreStmt, CheckError>
-    ensures value { Judges (λ s. behind_of known.new s) result (judge_stm (around_of around.entry) (scene_of known.old) (while place (tree_of condition.now) (stm_of body.now))) }
+    ensures value { Judges (λ s. behind_of known.new s) result
+        (judge_stm (around_of around.entry) (scene_of known.old) (while place (tree_of condition.now) (stm_of body.now))) }
     ensures outside { IfOk result (λ _. known.new.outside ≡ known.old.outside) }
 {
     let node = judge_exp(alloc, known, true, None, condition)?;
@@ -216,7 +226,8 @@ fn judge_do_while(
     body: &Stmt,
     condition: &Expr,
 ) -> Result<CoreStmt, CheckError>
-    ensures value { Judges (λ s. behind_of known.new s) result (judge_stm (around_of around.entry) (scene_of known.old) (do_while place (stm_of body.now) (tree_of condition.now))) }
+    ensures value { Judges (λ s. behind_of known.new s) result
+        (judge_stm (around_of around.entry) (scene_of known.old) (do_while place (stm_of body.now) (tree_of condition.now))) }
     ensures outside { IfOk result (λ _. known.new.outside ≡ known.old.outside) }
 {
     let body = judge_inside(alloc, known, around.inside_loop(), body)?;
@@ -227,7 +238,8 @@ fn judge_do_while(
 
 // Two statements in a block.
 fn joined(alloc: Global, first: CoreStmt, second: CoreStmt) -> Result<CoreStmt, AllocError>
-    ensures value { IfOk result (λ made. core_stm_of made ≡ core_block (core_stms_of (core_stm_of first ∷ core_stm_of second ∷ []))) }
+    ensures value { IfOk result
+        (λ made. core_stm_of made ≡ core_block (core_stms_of (core_stm_of first ∷ core_stm_of second ∷ []))) }
 {
     let mut statements = Vec::new(alloc);
     statements.push(first)?;
@@ -246,7 +258,9 @@ fn judge_turns(
     condition: &Option<Expr>,
     between: &Option<Simple>,
 ) -> Result<CoreStmt, CheckError>
-    ensures value { Judges (λ s. behind_of known.new s) result (judge_turns (around_of around.entry) (scene_of known.old) place (option_map tree_of condition.now) (option_map simple_of between.now) (stm_of body.now)) }
+    ensures value { Judges (λ s. behind_of known.new s) result
+        (judge_turns (around_of around.entry) (scene_of known.old) place (option_map tree_of condition.now)
+        (option_map simple_of between.now) (stm_of body.now)) }
     ensures outside { IfOk result (λ _. known.new.outside ≡ known.old.outside) }
 {
     let node = judge_test(alloc, known, condition)?;
@@ -268,7 +282,9 @@ fn judge_for(
     condition: &Option<Expr>,
     between: &Option<Simple>,
 ) -> Result<CoreStmt, CheckError>
-    ensures value { Judges (λ s. behind_of known.new s) result (judge_for (around_of around.entry) (scene_of known.old) place (option_map first_of first.now) (option_map tree_of condition.now) (option_map simple_of between.now) (stm_of body.now)) }
+    ensures value { Judges (λ s. behind_of known.new s) result
+        (judge_for (around_of around.entry) (scene_of known.old) place (option_map first_of first.now)
+        (option_map tree_of condition.now) (option_map simple_of between.now) (stm_of body.now)) }
     ensures outside { IfOk result (λ _. known.new.outside ≡ known.old.outside) }
 {
     known.open()?;

@@ -181,7 +181,8 @@ fn declaration_of(
     element: Ty,
     weight: Option<Ty>,
 ) -> Result<TableDecl, CheckError>
-    ensures value { Judges seen_table result (declaration_of name.now word.now kind limit indexes (seen element) (option_map seen weight)) }
+    ensures value { Judges seen_table result
+        (declaration_of name.now word.now kind limit indexes (seen element) (option_map seen weight)) }
 {
     let Some(limit) = limit else {
         return Err(CheckError::at(17, word.place()));

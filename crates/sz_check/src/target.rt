@@ -74,7 +74,8 @@ fn indexed(
     tree: &Expr,
     node: CoreExpr,
 ) -> Result<Target, CheckError>
-    ensures value { Judges target_seen result (indexed place (target_seen target) (seen target.ty) (tree_of tree.now) (node_of node)) }
+    ensures value { Judges target_seen result
+        (indexed place (target_seen target) (seen target.ty) (tree_of tree.now) (node_of node)) }
 {
     match type_kind(&target.ty) {
         Kind::Array(element) => {
@@ -126,7 +127,8 @@ fn judge_steps(
     first: Target,
     steps: &[Step],
 ) -> Result<Target, CheckError>
-    ensures value { Judges target_seen result (judge_steps (scene_of known.now) place (target_seen first) (each step_of steps.now)) }
+    ensures value { Judges target_seen result
+        (judge_steps (scene_of known.now) place (target_seen first) (each step_of steps.now)) }
 {
     let mut target = first;
     for step in steps {

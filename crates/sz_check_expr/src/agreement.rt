@@ -42,7 +42,8 @@ pub fn agrees(asked: Option<&Ty>, tree: &Expr, node: &CoreExpr) -> Result<(), Ch
 
 // Each expression has the type that is asked of it, as far as types are asked; else the first that hasn't is the wrong one.
 pub fn agree(asks: Asks<'_>, trees: &[Expr], nodes: &[CoreExpr]) -> Result<(), CheckError>
-    ensures value { Judges (λ x. x) result (agree (asks_of asks.entry) (exps_of (each tree_of trees.now)) (nodes_of (each node_of nodes.now))) }
+    ensures value { Judges (λ x. x) result
+        (agree (asks_of asks.entry) (exps_of (each tree_of trees.now)) (nodes_of (each node_of nodes.now))) }
 {
     let mut asks = asks;
     for i in 0..trees.len().min(nodes.len()) {
@@ -59,7 +60,9 @@ pub fn pairs_agree(
     trees: &[Pair],
     nodes: &[CorePair],
 ) -> Result<(), CheckError>
-    ensures value { Judges (λ x. x) result (pairs_agree (seen key.now) (seen value.now) (pairs_of (each pair_of trees.now)) (pairings_of (each pairing_of nodes.now))) }
+    ensures value { Judges (λ x. x) result
+        (pairs_agree (seen key.now) (seen value.now) (pairs_of (each pair_of trees.now))
+        (pairings_of (each pairing_of nodes.now))) }
 {
     for i in 0..trees.len().min(nodes.len()) {
         let (tree, node) = (&trees[i], &nodes[i]);

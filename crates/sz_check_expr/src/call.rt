@@ -86,7 +86,9 @@ fn key_fits(
     node: &CoreExpr,
     nodes: &[CoreExpr],
 ) -> Result<(), CheckError>
-    ensures value { Judges (λ x. x) result (arguments_fit HasKey (more (tree_of tree.now) (exps_of (each tree_of trees.now))) (with_node (node_of node.now) (nodes_of (each node_of nodes.now)))) }
+    ensures value { Judges (λ x. x) result
+        (arguments_fit HasKey (more (tree_of tree.now) (exps_of (each tree_of trees.now)))
+        (with_node (node_of node.now) (nodes_of (each node_of nodes.now)))) }
 {
     let [second, ..] = trees else {
         return fits(is_map(&node.ty), tree);
@@ -105,7 +107,9 @@ fn part_fits(
     node: &CoreExpr,
     nodes: &[CoreExpr],
 ) -> Result<(), CheckError>
-    ensures value { Judges (λ x. x) result (arguments_fit StrFind (more (tree_of tree.now) (exps_of (each tree_of trees.now))) (with_node (node_of node.now) (nodes_of (each node_of nodes.now)))) }
+    ensures value { Judges (λ x. x) result
+        (arguments_fit StrFind (more (tree_of tree.now) (exps_of (each tree_of trees.now)))
+        (with_node (node_of node.now) (nodes_of (each node_of nodes.now)))) }
 {
     let [second, ..] = trees else {
         return fits(is_searched_for(&node.ty), tree);
@@ -119,7 +123,8 @@ fn part_fits(
 
 // The arguments of a predeclared function have types that it takes, as far as they are there.
 fn arguments_fit(function: Builtin, trees: &[Expr], nodes: &[CoreExpr]) -> Result<(), CheckError>
-    ensures value { Judges (λ x. x) result (arguments_fit function (exps_of (each tree_of trees.now)) (nodes_of (each node_of nodes.now))) }
+    ensures value { Judges (λ x. x) result
+        (arguments_fit function (exps_of (each tree_of trees.now)) (nodes_of (each node_of nodes.now))) }
 {
     let [tree, trees @ ..] = trees else {
         return Ok(());
@@ -145,7 +150,9 @@ fn declared_call(
     trees: &[Expr],
     nodes: Vec<CoreExpr>,
 ) -> Result<CoreExpr, CheckError>
-    ensures value { Judges node_of result (declared_call may_emit name.now number (signature_of signature.now) (exps_of (each tree_of trees.now)) (nodes_of (each node_of nodes.items))) }
+    ensures value { Judges node_of result
+        (declared_call may_emit name.now number (signature_of signature.now) (exps_of (each tree_of trees.now))
+        (nodes_of (each node_of nodes.items))) }
 {
     let place = name.place();
     let parameters = signature.parameters.as_slice();
@@ -167,7 +174,8 @@ fn predeclared_call(
     trees: &[Expr],
     nodes: Vec<CoreExpr>,
 ) -> Result<CoreExpr, CheckError>
-    ensures value { Judges node_of result (predeclared_call name.now function (exps_of (each tree_of trees.now)) (nodes_of (each node_of nodes.items))) }
+    ensures value { Judges node_of result
+        (predeclared_call name.now function (exps_of (each tree_of trees.now)) (nodes_of (each node_of nodes.items))) }
 {
     let place = name.place();
     arguments_fit(function, trees, nodes.as_slice())?;
@@ -197,7 +205,8 @@ fn conversion_of_first(
     node: Option<CoreExpr>,
     is_single: bool,
 ) -> Result<CoreExpr, CheckError>
-    ensures value { Judges node_of result (conversion_of_first name.now (seen ty) (exps_of (each tree_of trees.now)) (option_map node_of node) is_single) }
+    ensures value { Judges node_of result
+        (conversion_of_first name.now (seen ty) (exps_of (each tree_of trees.now)) (option_map node_of node) is_single) }
 {
     let place = name.place();
     let ([tree, ..], Some(node)) = (trees, node) else {
@@ -220,7 +229,8 @@ fn conversion_call(
     trees: &[Expr],
     nodes: Vec<CoreExpr>,
 ) -> Result<CoreExpr, CheckError>
-    ensures value { Judges node_of result (conversion_call name.now (seen ty) (exps_of (each tree_of trees.now)) (nodes_of (each node_of nodes.items))) }
+    ensures value { Judges node_of result
+        (conversion_call name.now (seen ty) (exps_of (each tree_of trees.now)) (nodes_of (each node_of nodes.items))) }
 {
     let is_single = trees.len() == 1 && nodes.len() == 1;
     conversion_of_first(alloc, name, ty, trees, first_of(nodes), is_single)
@@ -235,7 +245,9 @@ pub fn made_call(
     trees: &[Expr],
     nodes: Vec<CoreExpr>,
 ) -> Result<CoreExpr, CheckError>
-    ensures value { Judges node_of result (made_call may_emit name.now (callee_seen callee.entry) (exps_of (each tree_of trees.now)) (nodes_of (each node_of nodes.items))) }
+    ensures value { Judges node_of result
+        (made_call may_emit name.now (callee_seen callee.entry) (exps_of (each tree_of trees.now))
+        (nodes_of (each node_of nodes.items))) }
 {
     match callee {
         Callee::Declared(number, signature) => {

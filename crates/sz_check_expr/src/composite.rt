@@ -45,7 +45,9 @@ fn tuple_of(
     trees: &[Expr],
     nodes: Vec<CoreExpr>,
 ) -> Result<CoreExpr, CheckError>
-    ensures value { Judges node_of result (tuple_of place (seen ty.now) (fields_of (each seen_field fields.now)) (exps_of (each tree_of trees.now)) (nodes_of (each node_of nodes.items))) }
+    ensures value { Judges node_of result
+        (tuple_of place (seen ty.now) (fields_of (each seen_field fields.now)) (exps_of (each tree_of trees.now))
+        (nodes_of (each node_of nodes.items))) }
 {
     agree(Asks::Fields(fields), trees, nodes.as_slice())?;
     counted(fields.len(), trees, place)?;
@@ -64,7 +66,9 @@ fn made_tuple(
     trees: &[Expr],
     nodes: Vec<CoreExpr>,
 ) -> Result<CoreExpr, CheckError>
-    ensures value { Judges node_of result (made_tuple place (seen ty.now) (fields_of (each seen_field fields.now)) (exps_of (each tree_of trees.now)) (nodes_of (each node_of nodes.items))) }
+    ensures value { Judges node_of result
+        (made_tuple place (seen ty.now) (fields_of (each seen_field fields.now)) (exps_of (each tree_of trees.now))
+        (nodes_of (each node_of nodes.items))) }
 {
     if trees.is_empty() {
         Err(CheckError::at(9, place))
@@ -81,7 +85,8 @@ fn made_array(
     trees: &[Expr],
     nodes: Vec<CoreExpr>,
 ) -> Result<CoreExpr, CheckError>
-    ensures value { Judges node_of result (made_array place (seen element.now) (exps_of (each tree_of trees.now)) (nodes_of (each node_of nodes.items))) }
+    ensures value { Judges node_of result
+        (made_array place (seen element.now) (exps_of (each tree_of trees.now)) (nodes_of (each node_of nodes.items))) }
 {
     agree(Asks::Each(element), trees, nodes.as_slice())?;
     let ty = Ty::Array(Box::new(alloc, copy_ty(alloc, element)?)?);
@@ -97,7 +102,8 @@ pub fn made_list(
     trees: &[Expr],
     nodes: Vec<CoreExpr>,
 ) -> Result<CoreExpr, CheckError>
-    ensures value { Judges node_of result (made_list place (asked_of asked.entry) (exps_of (each tree_of trees.now)) (nodes_of (each node_of nodes.items))) }
+    ensures value { Judges node_of result
+        (made_list place (asked_of asked.entry) (exps_of (each tree_of trees.now)) (nodes_of (each node_of nodes.items))) }
 {
     let Some(ty) = asked else {
         return Err(CheckError::at(10, place));
@@ -139,7 +145,9 @@ pub fn made_mapping(
     trees: &[Pair],
     nodes: Vec<CorePair>,
 ) -> Result<CoreExpr, CheckError>
-    ensures value { Judges node_of result (made_mapping place (asked_of asked.entry) (pairs_of (each pair_of trees.now)) (pairings_of (each pairing_of nodes.items))) }
+    ensures value { Judges node_of result
+        (made_mapping place (asked_of asked.entry) (pairs_of (each pair_of trees.now))
+        (pairings_of (each pairing_of nodes.items))) }
 {
     let Some(ty) = asked else {
         return Err(CheckError::at(10, place));

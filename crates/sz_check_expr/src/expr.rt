@@ -33,7 +33,8 @@ pub fn judge_exp(
     asked: Option<&Ty>,
     tree: &Expr,
 ) -> Result<CoreExpr, CheckError>
-    ensures value { Judges node_of result (judge_exp (blocks_for known.now may_emit) may_emit (asked_of asked.entry) (tree_of tree.now)) }
+    ensures value { Judges node_of result
+        (judge_exp (blocks_for known.now may_emit) may_emit (asked_of asked.entry) (tree_of tree.now)) }
 {
     match tree {
         Expr::Literal(place, literal) => Ok(literal_node(alloc, *place, literal)?),
@@ -80,7 +81,8 @@ fn judge_named(
     may_emit: bool,
     name: &Name,
 ) -> Result<CoreExpr, CheckError>
-    ensures value { (asked : Option Shape) → Judges node_of result (judge_exp (blocks_for known.now may_emit) may_emit asked (named name.now)) }
+    ensures value { (asked : Option Shape) → Judges node_of result
+        (judge_exp (blocks_for known.now may_emit) may_emit asked (named name.now)) }
 {
     variable_node(alloc, name, known.look_up(alloc, may_emit, name)?)
 }
@@ -95,7 +97,8 @@ pub fn judge_call(
     name: &Name,
     arguments: &[Expr],
 ) -> Result<CoreExpr, CheckError>
-    ensures value { (asked : Option Shape) → Judges node_of result (judge_exp (blocks_for known.now may_emit) may_emit asked (call name.now (exps_of (each tree_of arguments.now)))) }
+    ensures value { (asked : Option Shape) → Judges node_of result
+        (judge_exp (blocks_for known.now may_emit) may_emit asked (call name.now (exps_of (each tree_of arguments.now)))) }
 {
     let callee = callee_of(alloc, name, known.look_up(alloc, may_emit, name)?)?;
     let nodes = judge_exps(alloc, known, may_emit, asks_of_callee(&callee), arguments)?;
@@ -112,7 +115,8 @@ fn judge_def(
     place: Place,
     tree: &Expr,
 ) -> Result<CoreExpr, CheckError>
-    ensures value { (asked : Option Shape) → Judges node_of result (judge_exp (blocks_for known.now may_emit) may_emit asked (def place (tree_of tree.now))) }
+    ensures value { (asked : Option Shape) → Judges node_of result
+        (judge_exp (blocks_for known.now may_emit) may_emit asked (def place (tree_of tree.now))) }
 {
     let node = judge_exp(alloc, known, may_emit, None, tree)?;
     let form = Form::Def(Box::new(alloc, node)?);
@@ -134,7 +138,8 @@ fn judge_conversion(
     basic: BasicType,
     tree: &Expr,
 ) -> Result<CoreExpr, CheckError>
-    ensures value { (asked : Option Shape) → Judges node_of result (judge_exp (blocks_for known.now may_emit) may_emit asked (convert place basic (tree_of tree.now))) }
+    ensures value { (asked : Option Shape) → Judges node_of result
+        (judge_exp (blocks_for known.now may_emit) may_emit asked (convert place basic (tree_of tree.now))) }
 {
     let node = judge_exp(alloc, known, may_emit, None, tree)?;
     conversion_node(alloc, place, basic_type(basic), tree, node)
@@ -151,7 +156,9 @@ fn judge_list(
     place: Place,
     trees: &[Expr],
 ) -> Result<CoreExpr, CheckError>
-    ensures value { Judges node_of result (judge_exp (blocks_for known.now may_emit) may_emit (asked_of asked.entry) (list place (exps_of (each tree_of trees.now)))) }
+    ensures value { Judges node_of result
+        (judge_exp (blocks_for known.now may_emit) may_emit (asked_of asked.entry)
+        (list place (exps_of (each tree_of trees.now)))) }
 {
     let nodes = judge_exps(alloc, known, may_emit, asks_of_list(asked, trees), trees)?;
     made_list(alloc, place, asked, trees, nodes)
@@ -168,7 +175,9 @@ fn judge_mapping(
     place: Place,
     trees: &[Pair],
 ) -> Result<CoreExpr, CheckError>
-    ensures value { Judges node_of result (judge_exp (blocks_for known.now may_emit) may_emit (asked_of asked.entry) (mapping place (pairs_of (each pair_of trees.now)))) }
+    ensures value { Judges node_of result
+        (judge_exp (blocks_for known.now may_emit) may_emit (asked_of asked.entry)
+        (mapping place (pairs_of (each pair_of trees.now)))) }
 {
     let (key, value) = (asked_of_keys(asked), asked_of_values(asked));
     let nodes = judge_pairs(alloc, known, may_emit, key, value, trees)?;
@@ -186,7 +195,8 @@ fn judge_field(
     tree: &Expr,
     name: &Name,
 ) -> Result<CoreExpr, CheckError>
-    ensures value { (asked : Option Shape) → Judges node_of result (judge_exp (blocks_for known.now may_emit) may_emit asked (field place (tree_of tree.now) name.now)) }
+    ensures value { (asked : Option Shape) → Judges node_of result
+        (judge_exp (blocks_for known.now may_emit) may_emit asked (field place (tree_of tree.now) name.now)) }
 {
     let node = judge_exp(alloc, known, may_emit, None, tree)?;
     made_field(alloc, place, tree, node, name)
@@ -203,7 +213,8 @@ fn judge_unary(
     op: UnaryOp,
     tree: &Expr,
 ) -> Result<CoreExpr, CheckError>
-    ensures value { (asked : Option Shape) → Judges node_of result (judge_exp (blocks_for known.now may_emit) may_emit asked (unary place op (tree_of tree.now))) }
+    ensures value { (asked : Option Shape) → Judges node_of result
+        (judge_exp (blocks_for known.now may_emit) may_emit asked (unary place op (tree_of tree.now))) }
 {
     let node = judge_exp(alloc, known, may_emit, None, tree)?;
     made_unary(alloc, place, op, tree, node)
@@ -218,7 +229,8 @@ pub fn judge_exps(
     asks: Asks<'_>,
     trees: &[Expr],
 ) -> Result<Vec<CoreExpr>, CheckError>
-    ensures value { Judges (λ made. nodes_of (each node_of made.items)) result (judge_exps (blocks_for known.now may_emit) may_emit (asks_of asks.entry) (exps_of (each tree_of trees.now))) }
+    ensures value { Judges (λ made. nodes_of (each node_of made.items)) result
+        (judge_exps (blocks_for known.now may_emit) may_emit (asks_of asks.entry) (exps_of (each tree_of trees.now))) }
 {
     let mut nodes = Vec::new(alloc);
     let mut asks = asks;
@@ -240,7 +252,8 @@ fn judge_pair(
     value: Option<&Ty>,
     tree: &Pair,
 ) -> Result<CorePair, CheckError>
-    ensures value { Judges pairing_of result (judge_pair (blocks_for known.now may_emit) may_emit (asked_of key.entry) (asked_of value.entry) (pair_of tree.now)) }
+    ensures value { Judges pairing_of result
+        (judge_pair (blocks_for known.now may_emit) may_emit (asked_of key.entry) (asked_of value.entry) (pair_of tree.now)) }
 {
     let key = judge_exp(alloc, known, may_emit, key, &tree.key)?;
     let value = judge_exp(alloc, known, may_emit, value, &tree.value)?;
@@ -257,7 +270,9 @@ fn judge_pairs(
     value: Option<&Ty>,
     trees: &[Pair],
 ) -> Result<Vec<CorePair>, CheckError>
-    ensures value { Judges (λ made. pairings_of (each pairing_of made.items)) result (judge_pairs (blocks_for known.now may_emit) may_emit (asked_of key.entry) (asked_of value.entry) (pairs_of (each pair_of trees.now))) }
+    ensures value { Judges (λ made. pairings_of (each pairing_of made.items)) result
+        (judge_pairs (blocks_for known.now may_emit) may_emit (asked_of key.entry) (asked_of value.entry)
+        (pairs_of (each pair_of trees.now))) }
 {
     let mut nodes = Vec::new(alloc);
     for tree in trees {

@@ -138,7 +138,8 @@ fn made_operator(
     first: CoreExpr,
     second: CoreExpr,
 ) -> Result<CoreExpr, CheckError>
-    ensures value { Judges node_of result (made_operator place op (tree_of left.now) (tree_of right.now) (node_of first) (node_of second)) }
+    ensures value { Judges node_of result
+        (made_operator place op (tree_of left.now) (tree_of right.now) (node_of first) (node_of second)) }
 {
     if !takes_left(op, &first.ty) {
         return Err(CheckError::at(9, left.place()));
@@ -169,7 +170,8 @@ pub fn made_binary(
     first: CoreExpr,
     second: CoreExpr,
 ) -> Result<CoreExpr, CheckError>
-    ensures value { Judges node_of result (made_binary place (operation_of op) (tree_of left.now) (tree_of right.now) (node_of first) (node_of second)) }
+    ensures value { Judges node_of result
+        (made_binary place (operation_of op) (tree_of left.now) (tree_of right.now) (node_of first) (node_of second)) }
 {
     let operation = operation_of(op);
     if let Operation::Of(op) = operation {

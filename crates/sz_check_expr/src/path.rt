@@ -48,7 +48,8 @@ pub fn made_index(
     node: CoreExpr,
     at_node: CoreExpr,
 ) -> Result<CoreExpr, CheckError>
-    ensures value { Judges node_of result (made_index place (tree_of tree.now) (tree_of index.now) (node_of node) (node_of at_node)) }
+    ensures value { Judges node_of result
+        (made_index place (tree_of tree.now) (tree_of index.now) (node_of node) (node_of at_node)) }
 {
     if !has_elements(&node.ty) {
         return Err(CheckError::at(9, tree.place()));
@@ -109,7 +110,8 @@ pub fn made_slice(
     first: CoreExpr,
     last: CoreExpr,
 ) -> Result<CoreExpr, CheckError>
-    ensures value { Judges node_of result (made_slice place (tree_of tree.now) (tree_of from.now) (tree_of to.now) (node_of node) (node_of first) (node_of last)) }
+    ensures value { Judges node_of result
+        (made_slice place (tree_of tree.now) (tree_of from.now) (tree_of to.now) (node_of node) (node_of first) (node_of last)) }
 {
     if !has_slices(&node.ty) {
         return Err(CheckError::at(9, tree.place()));

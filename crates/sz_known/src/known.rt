@@ -181,7 +181,9 @@ impl Known {
     fn put(&mut self, name: &str, meaning: Meaning) -> Result<bool, AllocError>
         requires typed { IsTyped (length self.old.outside.types) meaning }
         ensures new { IfOk result (λ is_new. is_new ≡ not (has name.now self.old.innermost)) }
-        ensures ok { IfOk result (λ is_new. self.new ≡ (if is_new then with_name name.now (meaning_of self.old.outside.types meaning) self.old else self.old)) }
+        ensures ok { IfOk result
+            (λ is_new. self.new ≡ (if is_new then with_name name.now (meaning_of self.old.outside.types meaning) self.old else
+            self.old)) }
         ensures err { OnErr result (self.new ≡ self.old) }
     {
         let what = placed(small(self.meanings.len())?, &meaning);
@@ -236,7 +238,8 @@ impl Known {
         meaning: Meaning,
     ) -> Result<(), CheckError>
         requires typed { IsTyped (length self.old.outside.types) meaning }
-        ensures value { Judges (λ _. blocks_of self.new) result (declare name.now (meaning_of self.old.outside.types meaning) (blocks_of self.old)) }
+        ensures value { Judges (λ _. blocks_of self.new) result
+            (declare name.now (meaning_of self.old.outside.types meaning) (blocks_of self.old)) }
         ensures outside { self.new.outside ≡ self.old.outside }
         ensures locals { self.new.locals ≡ self.old.locals }
     {
@@ -254,7 +257,8 @@ impl Known {
         name: &Name,
         written: Written,
     ) -> Result<(), CheckError>
-        ensures value { Judges (λ _. blocks_of self.new) result (declare name.now (type_name (shape_in self.old.outside.types written)) (blocks_of self.old)) }
+        ensures value { Judges (λ _. blocks_of self.new) result
+            (declare name.now (type_name (shape_in self.old.outside.types written)) (blocks_of self.old)) }
         ensures locals { self.new.locals ≡ self.old.locals }
     {
         let number = match written {
@@ -320,7 +324,8 @@ impl Known {
 
     /// The end of a function's block, with the types of the function's variables by number.
     pub fn leave_function(&mut self, aside: Aside) -> Tys
-        ensures value { (k : Held) → IsBySight k → aside.sight ≡ k.outside.sight → aside.locals ≡ k.locals → IsRoundFunction k self.old → self.new ≡ k }
+        ensures value { (k : Held) → IsBySight k → aside.sight ≡ k.outside.sight → aside.locals ≡ k.locals → IsRoundFunction k
+            self.old → self.new ≡ k }
         ensures locals { result ≡ self.old.locals }
     {
         close_innermost(&mut self.scopes, 0);

@@ -138,7 +138,9 @@ fn judge_coding(
     ty: &Written,
     used: &TakenNumbers,
 ) -> Result<(u32, Encoding), CheckError>
-    ensures value { Judges coding_seen result (free_coding tree.now.name (coding_of used.now (shape_in types.now ty.now) (field_number tree.now.number) (encoding_of tree.now.label))) }
+    ensures value { Judges coding_seen result
+        (free_coding tree.now.name (coding_of used.now (shape_in types.now ty.now) (field_number tree.now.number)
+        (encoding_of tree.now.label))) }
 {
     let number = field_number(tree.number);
     match coding_of(used, types, ty, number, encoding_of(&tree.label)) {
@@ -190,7 +192,8 @@ fn judge_tuple(
     place: Place,
     trees: &[Param],
 ) -> Result<Written, CheckError>
-    ensures value { Judges (shape_in known.now.outside.types) result (judge_type (blocks_of known.now) (tuple place (params_of (each param_of trees.now)))) }
+    ensures value { Judges (shape_in known.now.outside.types) result
+        (judge_type (blocks_of known.now) (tuple place (params_of (each param_of trees.now)))) }
 {
     Ok(Written::Tuple(judge_parts(alloc, known, trees)?))
 }
@@ -204,7 +207,8 @@ fn judge_proto(
     place: Place,
     trees: &[ProtoField],
 ) -> Result<Written, CheckError>
-    ensures value { Judges (shape_in known.now.outside.types) result (judge_type (blocks_of known.now) (proto place (trees_of (each field_of trees.now)))) }
+    ensures value { Judges (shape_in known.now.outside.types) result
+        (judge_type (blocks_of known.now) (proto place (trees_of (each field_of trees.now)))) }
 {
     Ok(Written::Proto(judge_fields(alloc, known, trees)?))
 }
@@ -217,7 +221,8 @@ fn judge_part(
     tree: &Param,
     taken: &mut TakenNames,
 ) -> Result<WrittenField, CheckError>
-    ensures value { Judges (field_in known.now.outside.types) result (judge_part (blocks_of known.now) taken.old tree.now.name (type_of tree.now.of)) }
+    ensures value { Judges (field_in known.now.outside.types) result
+        (judge_part (blocks_of known.now) taken.old tree.now.name (type_of tree.now.of)) }
     ensures taken { IfOk result (λ made. taken.new ≡ made.name ∷ taken.old) }
 {
     let ty = judge_written(alloc, known, &tree.of)?;
@@ -237,7 +242,8 @@ fn judge_parts(
     known: &Known,
     trees: &[Param],
 ) -> Result<Vec<WrittenField>, CheckError>
-    ensures value { Judges (λ made. fields_of (each (field_in known.now.outside.types) made.items)) result (judge_parts (blocks_of known.now) [] (params_of (each param_of trees.now))) }
+    ensures value { Judges (λ made. fields_of (each (field_in known.now.outside.types) made.items)) result
+        (judge_parts (blocks_of known.now) [] (params_of (each param_of trees.now))) }
 {
     let mut taken = TakenNames::new(alloc)?;
     let mut parts = Vec::new(alloc);
@@ -257,7 +263,8 @@ fn judge_field(
     taken: &mut TakenNames,
     used: &mut TakenNumbers,
 ) -> Result<WrittenField, CheckError>
-    ensures value { Judges (field_in known.now.outside.types) result (judge_field (blocks_of known.now) taken.old used.old (field_of tree.now)) }
+    ensures value { Judges (field_in known.now.outside.types) result
+        (judge_field (blocks_of known.now) taken.old used.old (field_of tree.now)) }
     ensures taken { IfOk result (λ made. taken.new ≡ made.name ∷ taken.old) }
     ensures used { IfOk result (λ made. used.new ≡ made.number ∷ used.old) }
 {
@@ -280,7 +287,8 @@ fn judge_fields(
     known: &Known,
     trees: &[ProtoField],
 ) -> Result<Vec<WrittenField>, CheckError>
-    ensures value { Judges (λ made. fields_of (each (field_in known.now.outside.types) made.items)) result (judge_fields (blocks_of known.now) [] [] (trees_of (each field_of trees.now))) }
+    ensures value { Judges (λ made. fields_of (each (field_in known.now.outside.types) made.items)) result
+        (judge_fields (blocks_of known.now) [] [] (trees_of (each field_of trees.now))) }
 {
     let mut taken = TakenNames::new(alloc)?;
     let mut used = TakenNumbers::new(alloc);
