@@ -19,7 +19,7 @@ use Rattle.sz_known.specs.Names as names
 use Rattle.sz_known.specs.JudgingTypes.{judge_type}
 use Rattle.sz_known.specs.Scene.{Scene, with_variable}
 use Rattle.sz_check.specs.JudgingStatements.{judge_stms}
-use Rattle.sz_check.specs.JudgingPrograms.{Known, Found, blocks_of, judge_parameters, innermost_on, in_function, judge_function}
+use Rattle.sz_check.specs.JudgingPrograms.{TopScene, Found, blocks_of, judge_parameters, innermost_on, in_function, judge_function}
 use Rattle.sz_check.specs.Functions.{front_of, judge_header, declare_parameters, Body, judge_body, finished, judge_function_by_parts}
 use Rattle.sz_known.specs.Holding.{Held, blocks_of as seen_of}
 use Rattle.sz_known.specs.Outcome.{Stops, Judges}
@@ -88,7 +88,7 @@ declared_again ps blocks own front h =
     let are = all_declare ps [] (only is_seen_by_functions blocks) [] front h in
     ap (declare_parameters (front_of own) ps) are.grown ∙ are.declared (only is_seen_by_functions own)
 
-module _ (k : Known) (n : Ident) (ps : Params) (t : Typ) (ss : Stms) where
+module _ (k : TopScene) (n : Ident) (ps : Params) (t : Typ) (ss : Stms) where
   -- the signature, as long as it isn't known whether the function emits
   abbrev unknown : Scene → Shape → Signature
   unknown front u = record { parameters = front.locals; result = u; emits = false }
@@ -122,12 +122,12 @@ module _ (k : Known) (n : Ident) (ps : Params) (t : Typ) (ss : Stms) where
   by_front (Err r) h = refl
 
 -- a function is judged by its parts
-function_is : (k : Known) (n : Ident) (ps : Params) (t : Typ) (ss : Stms) → judge_function k n ps t ss ≡ judge_function_by_parts k n ps t ss
+function_is : (k : TopScene) (n : Ident) (ps : Params) (t : Typ) (ss : Stms) → judge_function k n ps t ss ≡ judge_function_by_parts k n ps t ss
 function_is k n ps t ss = by_front k n ps t ss (judge_parameters (front_of (blocks_of k)) ps) refl
 
 -- ---- a function whose header is judged and whose own name is declared
 
-module _ (k : Known) (n : Ident) (ps : Params) (t : Typ) (ss : Stms) (unknown : Signature) (number : ℕ) (blocks own : List Block)
+module _ (k : TopScene) (n : Ident) (ps : Params) (t : Typ) (ss : Stms) (unknown : Signature) (number : ℕ) (blocks own : List Block)
     (header : judge_header (blocks_of k) ps t ≡ Ok unknown) (next : number ≡ length k.functions) (same : blocks ≡ blocks_of k)
     (is : names.declare n (names.function number unknown) blocks ≡ Ok own) where
   -- its statements are left
@@ -145,11 +145,11 @@ module _ (k : Known) (n : Ident) (ps : Params) (t : Typ) (ss : Stms) (unknown : 
   body_fails e h = stops_then e (judge_body own ps unknown ss) (finished k n unknown) (judge_function k n ps t ss) h left
 
   -- what its statements make of it is the function
-  pub body_makes : {X : Type 0} (view : X → Found) (r : Result X CheckError) (body : Body) (j : Known) → judge_body own ps unknown ss ≡ Ok body → j ≡ k
+  pub body_makes : {X : Type 0} (view : X → Found) (r : Result X CheckError) (body : Body) (j : TopScene) → judge_body own ps unknown ss ≡ Ok body → j ≡ k
       → Judges view r (finished j n unknown body) → Judges view r (judge_function k n ps t ss)
   body_makes view r body j made again h =
       subst (Judges view r)
-      (ap (λ (i : Known). finished i n unknown body) again
+      (ap (λ (i : TopScene). finished i n unknown body) again
       ∙ goes_on (judge_body own ps unknown ss) (finished k n unknown) (judge_function k n ps t ss) body made left)
       h
 

@@ -16,7 +16,7 @@ use Rattle.sz_known.specs.JudgingTypes.{judge_type}
 use Rattle.sz_known.specs.Scene.{Scene}
 use Rattle.sz_check.specs.Scenes.{AllBehind}
 use Rattle.sz_check.specs.JudgingStatements.{judge_stms}
-use Rattle.sz_check.specs.JudgingPrograms.{Known, blocks_of, with_blocks, innermost_on, in_function, judge_function}
+use Rattle.sz_check.specs.JudgingPrograms.{TopScene, blocks_of, with_blocks, innermost_on, in_function, judge_function}
 use Rattle.sz_known.proofs.Holds.{Holds, good, ok_holds, bind_holds, known}
 use Rattle.sz_known.proofs.Meanings.{Mean, declared, kept_only, all_follow}
 use Rattle.sz_known.proofs.Sights.{IsFormed, AreFormed, IsCalled, Fits, AllFit}
@@ -66,14 +66,14 @@ kept_fits : (h : Sight) (blocks : List Block) → Mean (InFunction h) blocks →
 kept_fits h blocks fits = kept_only is_seen_by_functions (InFunction h) (Fits h) (λ m kept f. f kept) blocks fits
 
 -- where a function's parameters begin
-abbrev start : Known → Scene
+abbrev start : TopScene → Scene
 start k = record { blocks = [] ∷ only is_seen_by_functions (blocks_of k); locals = [] }
 
 -- its signature while it isn't known whether it emits, and then
 abbrev unknown : Scene → Shape → Signature
 unknown front u = record { parameters = front.locals; result = u; emits = false }
 
-abbrev signature_of : Known → Scene → Shape → AllBehind → Signature
+abbrev signature_of : TopScene → Scene → Shape → AllBehind → Signature
 signature_of k front u body = record { parameters = front.locals; result = u; emits = body_emits k.functions body.stms }
 
 -- where its statements begin
@@ -81,7 +81,7 @@ abbrev within : Scene → List Block → Scene
 within front own = record { blocks = innermost_on front.blocks (only is_seen_by_functions own); locals = front.locals }
 
 -- how a function was judged
-record IsJudged (k : Known) (n : Ident) (t : Typ) (ss : Stms) (front : Scene) (u : Shape) (own : List Block) (body : AllBehind) : Type 0 where
+record IsJudged (k : TopScene) (n : Ident) (t : Typ) (ss : Stms) (front : Scene) (u : Shape) (own : List Block) (body : AllBehind) : Type 0 where
   parameters : AreParameters (start k) front
   result : judge_type front.blocks t ≡ good u
   named : names.declare n (names.function (length k.functions) (unknown front u)) (blocks_of k) ≡ good own
@@ -92,7 +92,7 @@ record IsFormedFunction (front : Scene) (u : Shape) : Type 0 where
   takes : AreFormed front.locals
   gives : IsFormed u
 
-module _ (k : Known) (n : Ident) (t : Typ) (ss : Stms) (front : Scene) (u : Shape) (own : List Block) (body : AllBehind)
+module _ (k : TopScene) (n : Ident) (t : Typ) (ss : Stms) (front : Scene) (u : Shape) (own : List Block) (body : AllBehind)
     (is : IsJudged k n t ss front u own body) (locals : List Shape) (seen : List ℕ) (d : Declared) (knows : Knows locals seen d k) where
   abbrev sight : List Shape → Sight
   sight variables = inside d (signature_of k front u body) variables (length front.locals)
@@ -150,7 +150,7 @@ module _ (k : Known) (n : Ident) (t : Typ) (ss : Stms) (front : Scene) (u : Shap
       }
 
 -- a function that is judged is sound
-pub function_sound : (k : Known) (n : Ident) (ps : Params) (t : Typ) (ss : Stms) → Holds (judge_function k n ps t ss) (IsFoundBehind k)
+pub function_sound : (k : TopScene) (n : Ident) (ps : Params) (t : Typ) (ss : Stms) → Holds (judge_function k n ps t ss) (IsFoundBehind k)
 unfolding AreItems
 function_sound k n ps t ss = bind_holds (parameters_hold (start k) ps) (λ front parameters.
     bind_holds (known (judge_type front.blocks t)) (λ u is_type.
@@ -159,7 +159,7 @@ function_sound k n ps t ss = bind_holds (parameters_hold (start k) ps) (λ front
     bind_holds (known (names.declare n (names.function (length k.functions) (signature_of k front u body)) (blocks_of k))) (λ blocks is_blocks.
     let signature = signature_of k front u body in
     let item : Function = record { signature = signature; locals = body.scene.locals; body = body.stms } in
-    let behind : Known = record (with_blocks k blocks) { functions = k.functions ++ signature ∷ [] } in
+    let behind : TopScene = record (with_blocks k blocks) { functions = k.functions ++ signature ∷ [] } in
     ok_holds (IsFoundBehind k) (record { known = behind; items = items.function item ∷ [] }) (record {
       grows = begins_itself k.scene.locals;
       carries = λ locals seen d knows final.

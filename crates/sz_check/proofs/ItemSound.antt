@@ -20,7 +20,7 @@ use Rattle.sz_known.specs.Names as names
 use Rattle.sz_check_expr.specs.Agreeing.{converted}
 use Rattle.sz_known.specs.JudgingTypes.{judge_type}
 use Rattle.sz_check_expr.specs.JudgingExpressions.{judge_exp}
-use Rattle.sz_check.specs.JudgingPrograms.{Known, blocks_of, with_blocks, kind_of, limit_of, judge_elems, judge_weight, most_tables, judge_table, judge_static}
+use Rattle.sz_check.specs.JudgingPrograms.{TopScene, blocks_of, with_blocks, kind_of, limit_of, judge_elems, judge_weight, most_tables, judge_table, judge_static}
 use Rattle.sz_check.specs.JudgingPrograms.{judge_typedef, judge_statement}
 use Rattle.sz_known.proofs.Holds.{Holds, good, ok_holds, bind_holds, known, unless_holds}
 use Rattle.sz_known.proofs.Meanings.{kept_only}
@@ -57,7 +57,7 @@ table_formed g blocks f indexes element weight d fit is = record {
 }
 
 -- a table that is judged is sound
-pub table_sound : (k : Known) (n : Ident) (f : TableForm) → Holds (judge_table k n f) (IsFoundBehind k)
+pub table_sound : (k : TopScene) (n : Ident) (f : TableForm) → Holds (judge_table k n f) (IsFoundBehind k)
 unfolding AreItems
 table_sound k n f = bind_holds (known (kind_of f.kind)) (λ kind is_kind.
     bind_holds (known (judge_elems (blocks_of k) f.indexes)) (λ indexes is_indexes.
@@ -122,7 +122,7 @@ seen_by_static locals seen d (names.predeclared b) is f = tt
 seen_by_static locals seen d names.input is f = absurd (true≢false (sym is))
 
 -- a static that is judged is sound
-pub static_sound : (k : Known) (p : Place) (n : Ident) (t : Typ) (e : Exp) → Holds (judge_static k p n t e) (IsFoundBehind k)
+pub static_sound : (k : TopScene) (p : Place) (n : Ident) (t : Typ) (e : Exp) → Holds (judge_static k p n t e) (IsFoundBehind k)
 unfolding AreItems
 static_sound k p n t e = bind_holds (known (judge_type (blocks_of k) t)) (λ u is_type.
     bind_holds (known (judge_exp (only is_seen_by_statics (blocks_of k)) false (Some u) e)) (λ m is_value.
@@ -156,7 +156,7 @@ static_sound k p n t e = bind_holds (known (judge_type (blocks_of k) t)) (λ u i
 -- ---- names of types
 
 -- a name of a type adds no item
-pub typedef_sound : (k : Known) (n : Ident) (t : Typ) → Holds (judge_typedef k n t) (IsFoundBehind k)
+pub typedef_sound : (k : TopScene) (n : Ident) (t : Typ) → Holds (judge_typedef k n t) (IsFoundBehind k)
 typedef_sound k n t = bind_holds (known (judge_type (blocks_of k) t)) (λ u is_type.
     bind_holds (known (names.declare n (names.type_name u) (blocks_of k))) (λ blocks is_blocks.
     ok_holds (IsFoundBehind k) (record { known = with_blocks k blocks; items = [] }) (record {
@@ -187,7 +187,7 @@ only_seen locals seen d (core.keep p n e) = refl
 only_seen locals seen d _ = refl
 
 -- a statement at the top level that is judged is sound
-pub for_record_sound : (k : Known) (s : Stm) → Holds (judge_statement k s) (IsFoundBehind k)
+pub for_record_sound : (k : TopScene) (s : Stm) → Holds (judge_statement k s) (IsFoundBehind k)
 unfolding AreItems
 for_record_sound k s = bind_holds (statement_sound (record { result = None; loop = false }) k.scene s tt) (λ m is.
     ok_holds (IsFoundBehind k) (record { known = record k { scene = m.scene }; items = items.statement m.stm ∷ [] }) (record {

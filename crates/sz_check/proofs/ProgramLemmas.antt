@@ -16,7 +16,7 @@ use Rattle.sz_tree.proofs.RowLemmas.{stm_of_function}
 use Rattle.sz_core.specs.Programs.{Item}
 use Rattle.sz_known.specs.Refusals.{Judged, ◌>>=◌, declared_twice}
 use Rattle.sz_known.specs.Names.{Meaning, Named, Block, has, declare}
-use Rattle.sz_check.specs.JudgingPrograms.{Known, Found, judge_function, judge_top, judge_all}
+use Rattle.sz_check.specs.JudgingPrograms.{TopScene, Found, judge_function, judge_top, judge_all}
 use Rattle.sz_check.specs.Top.{with_items}
 use Rattle.sz_known.specs.Outcome.{Stops}
 use Rattle.sz_known.specs.declared.error.CheckError.{CheckError}
@@ -27,12 +27,12 @@ use Rattle.sz_known.proofs.TurnLemmas.{rest_more, rest_none}
 abbrev behind : List Stmt → Found → Judged Found
 behind ts first = judge_all first.known (stms_of (map stm_of ts)) >>= λ rest. Ok (record { known = rest.known; items = first.items ++ rest.items })
 
-all_turn : (k : Known) (ts : List Stmt) (i : ℕ) (t : Stmt) → i < length ts → t ≡ get_or ts i t
+all_turn : (k : TopScene) (ts : List Stmt) (i : ℕ) (t : Stmt) → i < length ts → t ≡ get_or ts i t
     → judge_all k (stms_of (map stm_of (drop i ts))) ≡ (judge_top k (stm_of t) >>= behind (drop (i + 1) ts))
 unfolding judge_all
 all_turn k ts i t within is = rw (rest_more stm_of ts i t within is) refl
 
-pub all_fails : (front : List Item) (k : Known) (ts : List Stmt) (i : ℕ) (t : Stmt) (e : CheckError) (whole : Judged Found) → i < length ts → t ≡ get_or ts i t
+pub all_fails : (front : List Item) (k : TopScene) (ts : List Stmt) (i : ℕ) (t : Stmt) (e : CheckError) (whole : Judged Found) → i < length ts → t ≡ get_or ts i t
     → Stops e (judge_top k (stm_of t)) → with_items front (judge_all k (stms_of (map stm_of (drop i ts)))) ≡ whole → Stops e whole
 all_fails front k ts i t errors.NoMemory whole within is h so_far = tt
 all_fails front k ts i t (errors.Refused n p name) whole within is h so_far =
@@ -43,7 +43,7 @@ joined : (front items : List Item) (j : Judged Found)
 joined front items (Err r) = refl
 joined front items (Ok rest) = ap (λ (is : List Item). Ok (record { known = rest.known; items = is })) (sym (append_assoc front items rest.items))
 
-pub all_go : (front : List Item) (k : Known) (ts : List Stmt) (i : ℕ) (t : Stmt) (first : Found) (whole : Judged Found) → i < length ts → t ≡ get_or ts i t
+pub all_go : (front : List Item) (k : TopScene) (ts : List Stmt) (i : ℕ) (t : Stmt) (first : Found) (whole : Judged Found) → i < length ts → t ≡ get_or ts i t
     → judge_top k (stm_of t) ≡ Ok first → with_items front (judge_all k (stms_of (map stm_of (drop i ts)))) ≡ whole
     → with_items (front ++ first.items) (judge_all first.known (stms_of (map stm_of (drop (i + 1) ts)))) ≡ whole
 all_go front k ts i t first whole within is h so_far =
@@ -51,7 +51,7 @@ all_go front k ts i t first whole within is h so_far =
     ∙ ap (with_items front) (ap (λ (j : Judged Found). j >>= behind (drop (i + 1) ts)) (sym h) ∙ sym (all_turn k ts i t within is))
     ∙ so_far
 
-pub all_end : (front : List Item) (k : Known) (ts : List Stmt) (i : ℕ) (whole : Judged Found) → length ts ≤ i
+pub all_end : (front : List Item) (k : TopScene) (ts : List Stmt) (i : ℕ) (whole : Judged Found) → length ts ≤ i
     → with_items front (judge_all k (stms_of (map stm_of (drop i ts)))) ≡ whole → whole ≡ Ok (record { known = k; items = front })
 unfolding judge_all
 all_end front k ts i whole over so_far =
@@ -59,7 +59,7 @@ all_end front k ts i whole over so_far =
     ∙ ap (λ (is : List Item). Ok (record { known = k; items = is })) (append-nil front)
 
 -- a declaration of a function, as it stands in a tree
-pub of_function : (k : Known) (s : Stmt) (n : Ident) (params : Vec Param) (t : TypeTree) (body : Vec Stmt) (ps : List Param) (ss : List Stmt)
+pub of_function : (k : TopScene) (s : Stmt) (n : Ident) (params : Vec Param) (t : TypeTree) (body : Vec Stmt) (ps : List Param) (ss : List Stmt)
     → s ≡ stmts.Function n params t body → ps ≡ params.items → ss ≡ body.items
     → judge_top k (stm_of s) ≡ judge_function k n (params_of (map param_of ps)) (type_of t) (stms_of (map stm_of ss))
 of_function k s n params t body ps ss is ps_are ss_are =

@@ -4,21 +4,21 @@ use Rattle.std.proofs.lemmas.List.{append-nil}
 use Rattle.sz_tree.specs.Statements.{Stm, static, typedef, table, function, Stms, no_stms, stm}
 use Rattle.sz_types.specs.Data.{Shape}
 use Rattle.sz_core.specs.Sound.{nothing_declared, AreItems, IsSound}
-use Rattle.sz_check.specs.JudgingPrograms.{Known, judge_top, judge_all, known_at_first, judge_program}
+use Rattle.sz_check.specs.JudgingPrograms.{TopScene, judge_top, judge_all, known_at_first, judge_program}
 use Rattle.sz_known.proofs.Holds.{Holds, ok_holds, bind_holds}
 use Rattle.sz_check.proofs.SceneLemmas.{begins_itself, begins_on}
 use Rattle.sz_check.proofs.TopLemmas.{Knows, IsFoundBehind}
 use Rattle.sz_check.proofs.ItemSound.{table_sound, static_sound, typedef_sound, for_record_sound}
 use Rattle.sz_check.proofs.FunctionSound.{function_sound}
 
-top_sound : (k : Known) (s : Stm) → Holds (judge_top k s) (IsFoundBehind k)
+top_sound : (k : TopScene) (s : Stm) → Holds (judge_top k s) (IsFoundBehind k)
 top_sound k (static p n t e) = static_sound k p n t e
 top_sound k (typedef p n t) = typedef_sound k n t
 top_sound k (table n f) = table_sound k n f
 top_sound k (function n ps t ss) = function_sound k n ps t ss
 top_sound k s = for_record_sound k s
 
-all_sound : (k : Known) (ss : Stms) → Holds (judge_all k ss) (IsFoundBehind k)
+all_sound : (k : TopScene) (ss : Stms) → Holds (judge_all k ss) (IsFoundBehind k)
 unfolding judge_all
 all_sound k no_stms = ok_holds (IsFoundBehind k) (record { known = k; items = [] }) (record {
   grows = begins_itself k.scene.locals;

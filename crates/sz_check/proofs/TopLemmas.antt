@@ -10,14 +10,14 @@ use Rattle.sz_core.specs.Sound.{BeginsWith, Declared, record_sight, AreItems}
 use Rattle.sz_known.specs.Names.{Block, Meaning, only, is_seen_by_functions, is_seen_by_statics}
 use Rattle.sz_known.specs.Names as names
 use Rattle.sz_known.specs.Scene.{Scene}
-use Rattle.sz_check.specs.JudgingPrograms.{Known, Found, blocks_of, with_blocks}
+use Rattle.sz_check.specs.JudgingPrograms.{TopScene, Found, blocks_of, with_blocks}
 use Rattle.sz_known.proofs.Holds.{good}
 use Rattle.sz_known.proofs.Meanings.{declared}
 use Rattle.sz_known.proofs.Sights.{Fits, IsWider, all_fit_wider}
 use Rattle.sz_check.proofs.SceneLemmas.{Sees, get_behind, get_before}
 
 -- what is known in front of a statement at the top level is true of what is declared before it, and of what is seen there
-pub record Knows (locals : List Shape) (seen : List ℕ) (d : Declared) (k : Known) : Type 0 where
+pub record Knows (locals : List Shape) (seen : List ℕ) (d : Declared) (k : TopScene) : Type 0 where
   pub sees : Sees (record_sight locals seen d) k.scene
   pub tables : k.tables ≡ length d.tables
   pub statics : k.statics ≡ length d.statics
@@ -31,7 +31,7 @@ pub record Carries (locals : List Shape) (seen : List ℕ) (d : Declared) (found
   pub items : (rest : List Item) → AreItems locals seen_there there rest → AreItems locals seen d (found.items ++ rest)
 
 -- what is known in front goes on behind the statement, and its items are sound
-pub record IsFoundBehind (k : Known) (found : Found) : Type 0 where
+pub record IsFoundBehind (k : TopScene) (found : Found) : Type 0 where
   pub grows : BeginsWith k.scene.locals found.known.scene.locals
   pub carries : (locals : List Shape) (seen : List ℕ) (d : Declared) → Knows locals seen d k → BeginsWith found.known.scene.locals locals
       → Carries locals seen d found
@@ -91,7 +91,7 @@ pub last_is : {A : Type 0} (xs : List A) (x : A) (n : ℕ) → n ≡ length xs �
 last_is xs x n is = ap (λ k. slice_get (xs ++ x ∷ []) k) is ∙ get_behind xs [] x
 
 -- a name more at the top level
-pub declares : (g : Sight) (n : Ident) (m : Meaning) (k : Known) (blocks : List Block) → names.declare n m (blocks_of k) ≡ good blocks → Fits g m
+pub declares : (g : Sight) (n : Ident) (m : Meaning) (k : TopScene) (blocks : List Block) → names.declare n m (blocks_of k) ≡ good blocks → Fits g m
     → Sees g k.scene → Sees g (with_blocks k blocks).scene
 declares g n m k blocks is fits h = record {
   fit = (declared (Fits g) n m (blocks_of k) fits h.fit).holds blocks is;

@@ -14,7 +14,7 @@ use Rattle.sz_known.specs.Names as names
 use Rattle.sz_known.specs.JudgingTypes.{judge_type}
 use Rattle.sz_known.specs.Scene.{Scene, with_variable}
 use Rattle.sz_check.specs.JudgingStatements.{judge_stms}
-use Rattle.sz_check.specs.JudgingPrograms.{Known, Found, blocks_of, with_blocks, judge_parameters, in_function}
+use Rattle.sz_check.specs.JudgingPrograms.{TopScene, Found, blocks_of, with_blocks, judge_parameters, in_function}
 
 -- what a function sees at first, with these blocks round it
 abbrev pub front_of : List Block → Scene
@@ -47,7 +47,7 @@ judge_body blocks ps s ss = do
   Ok (record { locals = body.scene.locals; statements = body.stms })
 
 -- what the statements of a function make of it
-abbrev pub finished : Known → Ident → Signature → Body → Judged Found
+abbrev pub finished : TopScene → Ident → Signature → Body → Judged Found
 finished k n unknown body = do
   let signature : Signature = record unknown { emits = body_emits k.functions body.statements }
   blocks ← names.declare n (names.function (length k.functions) signature) (blocks_of k)
@@ -57,7 +57,7 @@ finished k n unknown body = do
   })
 
 -- a function, by its parts
-abbrev pub judge_function_by_parts : Known → Ident → Params → Typ → Trees → Judged Found
+abbrev pub judge_function_by_parts : TopScene → Ident → Params → Typ → Trees → Judged Found
 judge_function_by_parts k n ps t ss = do
   unknown ← judge_header (blocks_of k) ps t
   own ← names.declare n (names.function (length k.functions) unknown) (blocks_of k)

@@ -24,7 +24,7 @@ use Rattle.sz_known.specs.Scene.{Scene}
 use Rattle.sz_check.specs.JudgingStatements.{Around, judge_stm, judge_stms}
 
 -- what is known in front of a statement at the top level: the scene, and how much of each kind is declared
-pub record Known : Type 0 where
+pub record TopScene : Type 0 where
   pub scene : Scene
   pub tables : ℕ
   pub statics : ℕ
@@ -32,15 +32,15 @@ pub record Known : Type 0 where
 
 -- the items that a statement at the top level is, and what is known behind it
 pub record Found : Type 0 where
-  pub known : Known
+  pub known : TopScene
   pub items : List Item
 
 -- the blocks in front of a statement at the top level
-abbrev pub blocks_of : Known → List Block
+abbrev pub blocks_of : TopScene → List Block
 blocks_of k = k.scene.blocks
 
 -- what is known, with other blocks
-abbrev pub with_blocks : Known → List Block → Known
+abbrev pub with_blocks : TopScene → List Block → TopScene
 with_blocks k blocks = record k { scene = record { blocks = blocks; locals = k.scene.locals } }
 
 -- the kind of table that a word is
@@ -94,7 +94,7 @@ abbrev pub most_tables : ℕ
 most_tables = 64
 
 -- `name: table kind (limit) [index].. of element weight weight;`
-abbrev pub judge_table : Known → Ident → TableForm → Judged Found
+abbrev pub judge_table : TopScene → Ident → TableForm → Judged Found
 judge_table k n f = do
   kind ← kind_of f.kind
   indexes ← judge_elems (blocks_of k) f.indexes
@@ -124,7 +124,7 @@ in_function t = record { result = Some t; loop = false }
 
 -- `name: function(parameters): type {statements}`: the parameters and the type of the result, then the function's own name,
 -- and then its statements, which see it
-abbrev pub judge_function : Known → Ident → Params → Typ → Stms → Judged Found
+abbrev pub judge_function : TopScene → Ident → Params → Typ → Stms → Judged Found
 judge_function k n ps t ss = do
   front ← judge_parameters (record { blocks = [] ∷ only is_seen_by_functions (blocks_of k); locals = [] }) ps
   u ← judge_type front.blocks t
@@ -140,7 +140,7 @@ judge_function k n ps t ss = do
   })
 
 -- `static name: type = e;`
-abbrev pub judge_static : Known → Place → Ident → Typ → Exp → Judged Found
+abbrev pub judge_static : TopScene → Place → Ident → Typ → Exp → Judged Found
 judge_static k p n t e = do
   u ← judge_type (blocks_of k) t
   m ← judge_exp (only is_seen_by_statics (blocks_of k)) false (Some u) e
@@ -152,20 +152,20 @@ judge_static k p n t e = do
   })
 
 -- `type name = type;`
-abbrev pub judge_typedef : Known → Ident → Typ → Judged Found
+abbrev pub judge_typedef : TopScene → Ident → Typ → Judged Found
 judge_typedef k n t = do
   u ← judge_type (blocks_of k) t
   blocks ← names.declare n (names.type_name u) (blocks_of k)
   Ok (record { known = with_blocks k blocks; items = [] })
 
 -- a statement that runs for each record
-abbrev pub judge_statement : Known → Stm → Judged Found
+abbrev pub judge_statement : TopScene → Stm → Judged Found
 judge_statement k s = do
   m ← judge_stm (record { result = None; loop = false }) k.scene s
   Ok (record { known = record k { scene = m.scene }; items = items.statement m.stm ∷ [] })
 
 -- a statement at the top level
-abbrev pub judge_top : Known → Stm → Judged Found
+abbrev pub judge_top : TopScene → Stm → Judged Found
 judge_top k (static p n t e) = judge_static k p n t e
 judge_top k (typedef p n t) = judge_typedef k n t
 judge_top k (table n f) = judge_table k n f
@@ -173,7 +173,7 @@ judge_top k (function n ps t ss) = judge_function k n ps t ss
 judge_top k s = judge_statement k s
 
 -- statements at the top level, in order
-unfoldable pub judge_all : Known → Stms → Judged Found
+unfoldable pub judge_all : TopScene → Stms → Judged Found
 judge_all k no_stms = Ok (record { known = k; items = [] })
 judge_all k (stm s ss) = do
   first ← judge_top k s
@@ -181,7 +181,7 @@ judge_all k (stm s ss) = do
   Ok (record { known = rest.known; items = first.items ++ rest.items })
 
 -- what is known at first: the predeclared names, in a block round the program's own
-abbrev pub known_at_first : Known
+abbrev pub known_at_first : TopScene
 known_at_first = record {
   scene = record { blocks = [] ∷ predeclared_names ∷ []; locals = [] };
   tables = 0;

@@ -7,11 +7,11 @@ use Rattle.sz_core.specs.Programs.{Item, Core, core_of}
 use Rattle.sz_core.specs.declared.program.Item.{Item as HeldItem}
 use Rattle.sz_check.specs.declared.top.Top.{Top}
 use Rattle.sz_known.specs.Refusals.{Judged, ◌>>=◌}
-use Rattle.sz_check.specs.JudgingPrograms.{Known, Found}
+use Rattle.sz_check.specs.JudgingPrograms.{TopScene, Found}
 use Rattle.sz_known.specs.Holding.{scene_of}
 
 -- what is known at the top level
-abbrev pub top_of : Top → Known
+abbrev pub top_of : Top → TopScene
 top_of t = record { scene = scene_of t.known; tables = t.tables; statics = t.statics; functions = map signature_of t.functions.items }
 
 -- the items that a statement is
