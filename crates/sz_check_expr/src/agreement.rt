@@ -30,7 +30,7 @@ pub fn fits(holds: bool, tree: &Expr) -> Result<(), CheckError>
     }
 }
 
-// The expression has the type that is asked, if one is; else it is the wrong one.
+/// The expression has the type that is asked, if one is; else refusal 9, at the expression.
 pub fn agrees(asked: Option<&Ty>, tree: &Expr, node: &CoreExpr) -> Result<(), CheckError>
     ensures value { Judges (λ x. x) result (agrees (asked_of asked.entry) (tree_of tree.now) (node_of node.now)) }
 {
@@ -40,7 +40,7 @@ pub fn agrees(asked: Option<&Ty>, tree: &Expr, node: &CoreExpr) -> Result<(), Ch
     }
 }
 
-// Each expression has the type that is asked of it, as far as types are asked; else the first that hasn't is the wrong one.
+/// Each expression has the type that is asked of it, as far as types are asked; else refusal 9, at the first that hasn't.
 pub fn agree(asks: Asks<'_>, trees: &[Expr], nodes: &[CoreExpr]) -> Result<(), CheckError>
     ensures value { Judges (λ x. x) result
         (agree (asks_of asks.entry) (exps_of (each tree_of trees.now)) (nodes_of (each node_of nodes.now))) }
@@ -72,7 +72,7 @@ pub fn pairs_agree(
     Ok(())
 }
 
-// There are just so many expressions, or the count at the place is wrong.
+/// There are just so many expressions; else refusal 12, at the place.
 #[tactic(auto, using(crate::proofs::ListLemmas::count_is))]
 pub fn counted(count: usize, trees: &[Expr], place: Place) -> Result<(), CheckError>
     ensures value { Judges (λ x. x) result (counted count (exps_of (each tree_of trees.now)) place) }
@@ -84,7 +84,7 @@ pub fn counted(count: usize, trees: &[Expr], place: Place) -> Result<(), CheckEr
     }
 }
 
-// A value of the type that a declaration has: as it is, or converted, or of the wrong type.
+/// A value of the type that a declaration has: as it is, or converted; else refusal 9, at the value.
 pub fn converted(
     alloc: Global,
     ty: &Ty,

@@ -5,7 +5,7 @@ ghost use Rattle.sz_check_expr.specs.Asking.{asks_of, asked_of};
 
 use sz_types::{Field, Ty};
 
-// The types that a place asks for: none, the same of each expression, or these in turn and then none.
+/// The types that a place asks for: none, the same of each expression, or these in turn and then none.
 #[derive(Clone, Copy)]
 pub enum Asks<'t> {
     Nothing,
@@ -15,7 +15,7 @@ pub enum Asks<'t> {
 }
 
 impl<'t> Asks<'t> {
-    // What is asked of the first expression.
+    /// What is asked of the first expression.
     pub fn first(self) -> Option<&'t Ty>
         ensures value { asked_of result ≡ asked_first (asks_of self.entry) }
     {
@@ -26,7 +26,7 @@ impl<'t> Asks<'t> {
         }
     }
 
-    // What is asked of those behind it.
+    /// What is asked of those behind it.
     pub fn behind(self) -> Asks<'t>
         ensures value { asks_of result ≡ asked_behind (asks_of self.entry) }
     {

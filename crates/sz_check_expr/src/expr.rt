@@ -23,7 +23,7 @@ use sz_known::{CheckError, Known, basic_type};
 use sz_tree::{BasicType, Expr, Name, Pair, UnaryOp};
 use sz_types::{Place, Ty};
 
-// The expression, where its place asks for a type or for none; only composites take that type.
+/// The checked expression, or its first refusal, where its place asks for a type or for none; only composites take that type.
 #[cycle(expr)]
 #[tactic(auto, using(crate::proofs::ExpLemmas::paren_is, crate::proofs::ExpLemmas::literal_is, crate::proofs::ExpLemmas::index_is, crate::proofs::ExpLemmas::slice_is, crate::proofs::ExpLemmas::binary_is))]
 pub fn judge_exp(
@@ -87,7 +87,7 @@ fn judge_named(
     variable_node(alloc, name, known.look_up(alloc, may_emit, name)?)
 }
 
-// A call: what the name calls, the arguments, and then the call of them.
+/// A checked call, or its first refusal: what the name calls, the arguments, and then the call of them.
 #[cycle(expr)]
 #[tactic(auto, unfolding(crate::specs::JudgingExpressions::judge_exp))]
 pub fn judge_call(
@@ -220,7 +220,7 @@ fn judge_unary(
     made_unary(alloc, place, op, tree, node)
 }
 
-// Expressions in order, of which these types are asked.
+/// Checked expressions in order, of which these types are asked, or the first refusal in them.
 #[cycle(expr)]
 pub fn judge_exps(
     alloc: Global,

@@ -5,7 +5,7 @@ ghost use Rattle.sz_check_expr.specs.Kinds.{shape_of_kind};
 
 use sz_types::{Field, Ty};
 
-// What a type is, with the types inside it.
+/// What a type is, with the types inside it.
 #[derive(Clone, Copy)]
 pub enum Kind<'t> {
     Bool,
@@ -19,7 +19,7 @@ pub enum Kind<'t> {
     Proto(&'t [Field]),
 }
 
-// What this type is.
+/// What this type is.
 pub fn type_kind(ty: &Ty) -> Kind<'_>
     ensures value { seen ty.now ≡ shape_of_kind result }
 {

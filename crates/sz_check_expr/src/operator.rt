@@ -153,7 +153,7 @@ fn made_operator(
     }
 }
 
-// An expression that has to be a truth value.
+/// An expression that has to be a truth value; else refusal 9, at the expression.
 pub fn test(tree: &Expr, node: &CoreExpr) -> Result<(), CheckError>
     ensures value { Judges (λ x. x) result (test (tree_of tree.now) (node_of node.now)) }
 {

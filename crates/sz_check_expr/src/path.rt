@@ -63,7 +63,7 @@ pub fn made_index(
     }
 }
 
-// An expression that has to be a whole number.
+/// An expression that has to be a whole number; else refusal 9, at the expression.
 pub fn whole(tree: &Expr, node: &CoreExpr) -> Result<(), CheckError>
     ensures value { Judges (λ x. x) result (whole (tree_of tree.now) (node_of node.now)) }
 {
@@ -133,7 +133,8 @@ fn field_named<'t>(name: &[u8], fields: &'t [Field]) -> Option<(usize, &'t Ty)>
     None
 }
 
-// The field with a name in a value of this type; the place is that of the value.
+/// The field with a name in a value of this type, with its place among the fields, counted from 0; else refusal 9, at the value's place,
+/// or 11, at the name.
 pub fn field_in<'t>(
     alloc: Global,
     place: Place,

@@ -55,7 +55,7 @@ pub fn ordered(a: &Ty, b: &Ty) -> bool
     }
 }
 
-// The type of `a + b`.
+/// The type of `a + b`, if there is one.
 pub fn sum_row(alloc: Global, a: &Ty, b: &Ty) -> Result<Option<Ty>, AllocError>
     ensures value { IfOk result (λ row. option_map seen row ≡ sum_row (seen a.now) (seen b.now)) }
 {
@@ -69,7 +69,7 @@ pub fn sum_row(alloc: Global, a: &Ty, b: &Ty) -> Result<Option<Ty>, AllocError>
     }
 }
 
-// The type of `a - b`.
+/// The type of `a - b`, if there is one.
 pub fn difference_row(a: &Ty, b: &Ty) -> Option<Ty>
     ensures value { option_map seen result ≡ difference_row (seen a.now) (seen b.now) }
 {
