@@ -27,7 +27,8 @@ unfolding height
 heights_push [] x = omega arith
 heights_push (y ∷ xs) x = omega (arith, heights_push xs x)
 
-pub pair_heights_push : (xs : List (Exp × Exp)) (x : Exp × Exp) → pair_heights (pairs_of (xs ++ x ∷ [])) ≡ max (pair_heights (pairs_of xs)) (pair_heights (pairs_of (x ∷ [])))
+pub pair_heights_push : (xs : List (Exp × Exp)) (x : Exp × Exp)
+    → pair_heights (pairs_of (xs ++ x ∷ [])) ≡ max (pair_heights (pairs_of xs)) (pair_heights (pairs_of (x ∷ [])))
 unfolding height
 pair_heights_push [] x = omega arith
 pair_heights_push (y ∷ xs) x = omega (arith, pair_heights_push xs x)

@@ -1,5 +1,6 @@
 -- Single tokens: what is read is there, and what is there is read.
-use Rattle.std.proofs.Common.{◌≡◌, ℕ, suc, Bool, true, false, eqb, List, [], ◌∷◌, ◌++◌, length, take, drop, Option, Some, None, refl, sym, ap, subst, ◌∙◌}
+use Rattle.std.proofs.Common.{◌≡◌, ℕ, suc, Bool, true, false, eqb, List, [], ◌∷◌, ◌++◌, length, take, drop, Option, Some, None}
+use Rattle.std.proofs.Common.{refl, sym, ap, subst, ◌∙◌}
 use Rattle.std.specs.Prelude.{IsUtf8}
 use Rattle.std.specs.Str.{bytes_eq, is_utf8}
 use Rattle.std.proofs.lemmas.List.{append-nil, take_at, take-append-drop, drop_at}
@@ -25,14 +26,20 @@ use Rattle.sz_lex.proofs.DecodeLemmas.{whole_found}
 use Rattle.sz_lex.proofs.Utf8Lemmas.{strings_are_utf8}
 use Rattle.sz_tree.specs.Names.{Ident}
 use Rattle.sz_parse.specs.Tokens.{Spelling, token, At, Is, IsSign, IsWord, AtName}
-use Rattle.sz_parse.specs.Reading.{sign_here, after_sign, word_here, after_word, name_here, name_at, utf8_in, decoded}
+use Rattle.sz_parse.specs.Reading.{sign_here, after_sign, word_here, after_word, name_here, name_at, ident_of, utf8_in, decoded}
 use Rattle.sz_parse.proofs.Holds.{Holds, some_holds, none_holds, if_holds}
 
 -- ---- what is read is there
 
 sign_here_sound : (s : Sign) (t : Token) (k : Kind) (ts : List Token) → t.kind ≡ k → Holds (sign_here s k ts) (λ r. IsSign s (t ∷ ts) r)
 sign_here_sound s t (kinds.Sign r) ts e =
-    if_holds _ _ _ (λ q. record { place = t.place; start = t.start; len = t.len; is = ap (λ (k : Kind). token k t.place t.start t.len ∷ ts) (e ∙ ap kinds.Sign (same_true sign_type tt r s q)) })
+    if_holds _ _ _ (λ q. record {
+      place = t.place;
+      start = t.start;
+      len = t.len;
+      is = ap (λ (k : Kind). token k t.place t.start t.len ∷ ts)
+          (e ∙ ap kinds.Sign (same_true sign_type tt r s q));
+    })
 sign_here_sound s t _ ts e = none_holds _
 
 pub after_sign_sound : (s : Sign) (ts : List Token) → Holds (after_sign s ts) (λ r. IsSign s ts r)
@@ -42,7 +49,13 @@ after_sign_sound s (t ∷ ts) = sign_here_sound s t t.kind ts refl
 
 word_here_sound : (w : Word) (t : Token) (k : Kind) (ts : List Token) → t.kind ≡ k → Holds (word_here w k ts) (λ r. IsWord w (t ∷ ts) r)
 word_here_sound w t (kinds.Word v) ts e =
-    if_holds _ _ _ (λ q. record { place = t.place; start = t.start; len = t.len; is = ap (λ (k : Kind). token k t.place t.start t.len ∷ ts) (e ∙ ap kinds.Word (same_true word_type tt v w q)) })
+    if_holds _ _ _ (λ q. record {
+      place = t.place;
+      start = t.start;
+      len = t.len;
+      is = ap (λ (k : Kind). token k t.place t.start t.len ∷ ts)
+          (e ∙ ap kinds.Word (same_true word_type tt v w q));
+    })
 word_here_sound w t _ ts e = none_holds _
 
 pub after_word_sound : (w : Word) (ts : List Token) → Holds (after_word w ts) (λ r. IsWord w ts r)
@@ -50,9 +63,18 @@ unfolding after_word
 after_word_sound w [] = none_holds _
 after_word_sound w (t ∷ ts) = word_here_sound w t t.kind ts refl
 
+-- a token that is a name, with what it spells
+pub here_is_name : (text : Spelling) (t : Token) (ts : List Token) → t.kind ≡ kinds.Name → AtName text (ident_of text t) (t ∷ ts) ts
+here_is_name text t ts e = record {
+  start = t.start;
+  len = t.len;
+  is = ap (λ (k : Kind). token k t.place t.start t.len ∷ ts) e;
+  spelled = ap (λ (k : Kind). text (token k t.place t.start t.len)) e;
+}
+
 name_here_sound : (text : Spelling) (t : Token) (k : Kind) (ts : List Token) → t.kind ≡ k → Holds (name_here text t k ts) (λ r. AtName text r.0 (t ∷ ts) r.1)
 name_here_sound text t kinds.Name ts e =
-    some_holds _ _ (record { start = t.start; len = t.len; is = ap (λ (k : Kind). token k t.place t.start t.len ∷ ts) e; spelled = ap (λ (k : Kind). text (token k t.place t.start t.len)) e })
+    some_holds _ _ (here_is_name text t ts e)
 name_here_sound text t _ ts e = none_holds _
 
 pub name_sound : (text : Spelling) (ts : List Token) → Holds (name_at text ts) (λ r. AtName text r.0 ts r.1)

@@ -12,15 +12,18 @@ use Rattle.sz_lex.specs.contracts.sign.Sign.{the_type as sign_type}
 use Rattle.sz_tree.specs.declared.types.BasicType.{BasicType}
 use Rattle.sz_tree.specs.declared.types.BasicType.TheVariants as basics
 use Rattle.sz_tree.specs.Names.{Ident}
-use Rattle.sz_tree.specs.Types.{Typ, basic, type_name, array, map_type, tuple, proto, Params, no_params, param, Fields, no_fields, proto_field, FieldForm, params_of, fields_of, type_height, param_heights, field_heights}
-use Rattle.sz_parse.specs.Tokens.{Spelling, token, At, Is, IsSign, AtName, Many}
+use Rattle.sz_tree.specs.Types.{Typ, basic, type_name, array, map_type, tuple, proto, Params, no_params, param, Fields, no_fields}
+use Rattle.sz_tree.specs.Types.{proto_field, FieldForm, params_of, fields_of, type_height, param_heights, field_heights}
+use Rattle.sz_parse.specs.Tokens.{Spelling, At, Is, IsSign, AtName, Many}
 use Rattle.sz_parse.specs.Expressions.{basic_word}
 use Rattle.sz_parse.specs.Types.{ReadsLabel, ReadsName, ReadsType, ReadsParams, ReadsMoreParams, ReadsFields, ReadsMoreFields}
 use Rattle.sz_parse.specs.Reading.{Read, after_sign, name_here, name_at, ident_of}
-use Rattle.sz_parse.specs.ReadingTypes.{SubType, number_at, label_at, maybe_name_at, elem_at, param_at, param_step, params_behind, params_at, proto_field_at, proto_field_step, proto_fields_behind, proto_fields_at, array_at, map_type_at, tuple_at, proto_at, type_step, type_at}
+use Rattle.sz_parse.specs.ReadingTypes.{SubType, number_at, label_at, maybe_name_at, elem_at, param_at, param_step, params_behind}
+use Rattle.sz_parse.specs.ReadingTypes.{params_at, proto_field_at, proto_field_step, proto_fields_behind, proto_fields_at, array_at}
+use Rattle.sz_parse.specs.ReadingTypes.{map_type_at, tuple_at, proto_at, type_step, type_at}
 use Rattle.sz_parse.proofs.Steps.{bind_step, choose_some, choose_none, bind_none}
 use Rattle.sz_parse.proofs.Items.{IsFound, all_complete}
-use Rattle.sz_parse.proofs.TokenLemmas.{after_sign_is, other_sign, after_word_is, name_is}
+use Rattle.sz_parse.proofs.TokenLemmas.{after_sign_is, other_sign, after_word_is, name_is, here_is_name}
 use Rattle.sz_parse.proofs.TypeSound.{IsSoundType, ReadsParam, ParamItem, ReadsField, FieldItem, param_item, field_item, type_sound}
 
 abbrev pub IsCompleteType : Spelling → SubType → ℕ → Type 0
@@ -34,8 +37,10 @@ pub number_is : (n : ℤ) (ts rest : List Token) → Is (kinds.Number n) ts rest
 unfolding number_at
 number_is n ts rest h = rw h.is refl
 
-no_name_here : (text : Spelling) (t : Token) (k : Kind) (ts : List Token) → t.kind ≡ k → ((n : Ident) (a : List Token) → AtName text n (t ∷ ts) a → ⊥) → name_here text t k ts ≡ None
-no_name_here text t kinds.Name ts e h = absurd (h (ident_of text t) ts (record { start = t.start; len = t.len; is = ap (λ (k : Kind). token k t.place t.start t.len ∷ ts) e; spelled = ap (λ (k : Kind). text (token k t.place t.start t.len)) e }))
+no_name_here : (text : Spelling) (t : Token) (k : Kind) (ts : List Token) → t.kind ≡ k → ((n : Ident) (a : List Token) → AtName text n (t ∷ ts) a → ⊥)
+    → name_here text t k ts ≡ None
+no_name_here text t kinds.Name ts e h =
+    absurd (h (ident_of text t) ts (here_is_name text t ts e))
 no_name_here text t (kinds.Word w) ts e h = refl
 no_name_here text t (kinds.Number n) ts e h = refl
 no_name_here text t (kinds.Character c) ts e h = refl
@@ -81,7 +86,8 @@ fields_list no_fields = refl
 fields_list (proto_field n t k l fs) = ap (proto_field n t k l) (fields_list fs)
 
 module _ (text : Spelling) (sub : SubType) (d : ℕ) (s : IsSoundType text sub d) (h : IsCompleteType text sub d) where
-  pub elem_complete : (n : Option Ident) (t : Typ) (ts a rest : List Token) → ReadsLabel text n ts a → ReadsType text t a rest → type_height t ≤ d → after_sign signs.Colon rest ≡ None → elem_at text sub ts ≡ Some (record { name = n; of = t }, rest)
+  pub elem_complete : (n : Option Ident) (t : Typ) (ts a rest : List Token) → ReadsLabel text n ts a → ReadsType text t a rest → type_height t ≤ d
+      → after_sign signs.Colon rest ≡ None → elem_at text sub ts ≡ Some (record { name = n; of = t }, rest)
   unfolding elem_at
   elem_complete None t ts a rest l re low none = rw l (choose_none _ _ _ _ (no_label text t a rest re none) (bind_step _ _ _ _ (h t a rest re low) refl))
   elem_complete (Some n) t ts a rest l re low none = choose_some _ _ _ _ _ (label_is text n ts l.0 a l.1 l.2) (bind_step _ _ _ _ (h t a rest re low) refl)
@@ -93,34 +99,56 @@ module _ (text : Spelling) (sub : SubType) (d : ℕ) (s : IsSoundType text sub d
   field_complete : (f : FieldForm) (ts rest : List Token) → ReadsField text d f ts rest → proto_field_at text sub ts ≡ Some (f, rest)
   unfolding proto_field_at
   field_complete f ts rest i =
-      bind_step _ _ _ _ (param_complete (f.name, f.of) ts i.a i.param) (bind_step _ _ _ _ (after_sign_is signs.At i.a i.b i.at) (bind_step _ _ _ _ (number_is f.number i.b i.c i.number)
+      bind_step _ _ _ _ (param_complete (f.name, f.of) ts i.a i.param)
+      (bind_step _ _ _ _ (after_sign_is signs.At i.a i.b i.at) (bind_step _ _ _ _ (number_is f.number i.b i.c i.number)
       (bind_step _ _ _ _ (maybe_name_is text f.label i.c rest i.label) refl)))
 
   param_found : IsFound (param_step text sub) (ParamItem text d) (λ ts. Unit {0})
   unfolding param_step
   param_found = record {
-    found = λ x ts rest i g. choose_some _ _ _ _ _ (after_sign_is signs.Comma ts i.behind i.comma) (ap (λ (r : Read (Ident × Typ)). Some r) (param_complete x i.behind rest i.item));
+    found = λ x ts rest i g. choose_some _ _ _ _ _ (after_sign_is signs.Comma ts i.behind i.comma)
+        (ap (λ (r : Read (Ident × Typ)). Some r) (param_complete x i.behind rest i.item));
     begins = λ x ts rest i. tt;
   }
 
   field_found : IsFound (proto_field_step text sub) (FieldItem text d) (λ ts. Unit {0})
   unfolding proto_field_step
   field_found = record {
-    found = λ x ts rest i g. choose_some _ _ _ _ _ (after_sign_is signs.Comma ts i.behind i.comma) (ap (λ (r : Read FieldForm). Some r) (field_complete x i.behind rest i.item));
+    found = λ x ts rest i g. choose_some _ _ _ _ _ (after_sign_is signs.Comma ts i.behind i.comma)
+        (ap (λ (r : Read FieldForm). Some r) (field_complete x i.behind rest i.item));
     begins = λ x ts rest i. tt;
   }
 
   param_items : (ps : Params) (ts rest : List Token) → ReadsMoreParams text ps ts rest → param_heights ps ≤ d → Many (ParamItem text d) (param_list ps) ts rest
   unfolding Many ReadsType type_height
   param_items no_params ts rest re low = re
-  param_items (param n t ps) ts rest re low =
-      (re.3, record { behind = re.0; comma = re.4; item = record { a = re.1; b = re.2; name = re.5; colon = re.6; reads = re.7; low = omega arith } }, param_items ps re.3 rest re.8 (omega arith))
+  param_items (param n t ps) ts rest re low = (
+    re.3,
+    record { behind = re.0; comma = re.4; item = record { a = re.1; b = re.2; name = re.5; colon = re.6; reads = re.7; low = omega arith } },
+    param_items ps re.3 rest re.8 (omega arith),
+  )
 
   field_items : (fs : Fields) (ts rest : List Token) → ReadsMoreFields text fs ts rest → field_heights fs ≤ d → Many (FieldItem text d) (field_list fs) ts rest
   unfolding Many ReadsType type_height
   field_items no_fields ts rest re low = re
-  field_items (proto_field n t k l fs) ts rest re low =
-      (re.6, record { behind = re.0; comma = re.7; item = record { a = re.3; b = re.4; c = re.5; param = record { a = re.1; b = re.2; name = re.8; colon = re.9; reads = re.10; low = omega arith }; at = re.11; number = re.12; label = re.13 } }, field_items fs re.6 rest re.14 (omega arith))
+  field_items (proto_field n t k l fs) ts rest re low = (
+    re.6,
+    record {
+      behind = re.0;
+      comma = re.7;
+      item = record {
+        a = re.3;
+        b = re.4;
+        c = re.5;
+        param = record { a = re.1; b = re.2; name = re.8; colon = re.9; reads = re.10; low = omega arith };
+        at =
+            re.11;
+        number = re.12;
+        label = re.13;
+      };
+    },
+    field_items fs re.6 rest re.14 (omega arith),
+  )
 
   no_param : (r : Sign) (ts rest : List Token) → IsSign r ts rest → sameb sign_type r signs.Comma ≡ false → param_step text sub ts ≡ None
   unfolding param_step
@@ -131,13 +159,15 @@ module _ (text : Spelling) (sub : SubType) (d : ℕ) (s : IsSoundType text sub d
   no_field r ts rest c e = choose_none _ _ _ _ (other_sign signs.Comma r ts rest c e) refl
 
   -- names with their types, before a sign that is no comma
-  pub params_complete : (r : Sign) (ps : Params) (ts rest after : List Token) → ReadsParams text ps ts rest → param_heights ps ≤ d → IsSign r rest after → sameb sign_type r signs.Comma ≡ false
+  pub params_complete : (r : Sign) (ps : Params) (ts rest after : List Token) → ReadsParams text ps ts rest → param_heights ps ≤ d
+      → IsSign r rest after → sameb sign_type r signs.Comma ≡ false
       → (x : List (Ident × Typ)) × (params_at text sub ts ≡ Some (x, rest)) × (params_of x ≡ ps)
   unfolding params_at params_behind ReadsType type_height
   params_complete r no_params ts rest after re low c other = absurd re
   params_complete r (param n t ps) ts rest after re low c other =
       let first = param_complete (n, t) ts re.2 (record { a = re.0; b = re.1; name = re.3; colon = re.4; reads = re.5; low = omega arith }) in
-      let m = all_complete (param_item text sub d s) param_found (param_list ps) re.2 rest (param_items ps re.2 rest re.6 (omega arith)) tt (no_param r rest after c other) in
+      let m = all_complete (param_item text sub d s) param_found (param_list ps) re.2 rest (param_items ps re.2 rest re.6 (omega arith)) tt
+      (no_param r rest after c other) in
       ((n, t) ∷ param_list ps, bind_step _ _ _ _ first (bind_step _ _ _ _ m refl), ap (param n t) (params_list ps))
 
   fields_complete : (fs : Fields) (ts rest after : List Token) → ReadsFields text fs ts rest → field_heights fs ≤ d → IsSign signs.CloseBrace rest after
@@ -145,11 +175,26 @@ module _ (text : Spelling) (sub : SubType) (d : ℕ) (s : IsSoundType text sub d
   unfolding proto_fields_at proto_fields_behind ReadsType type_height
   fields_complete no_fields ts rest after re low c = absurd re
   fields_complete (proto_field n t k l fs) ts rest after re low c =
-      let first = field_complete (record { name = n; of = t; number = k; label = l }) ts re.5 (record { a = re.2; b = re.3; c = re.4; param = record { a = re.0; b = re.1; name = re.6; colon = re.7; reads = re.8; low = omega arith }; at = re.9; number = re.10; label = re.11 }) in
-      let m = all_complete (field_item text sub d s) field_found (field_list fs) re.5 rest (field_items fs re.5 rest re.12 (omega arith)) tt (no_field signs.CloseBrace rest after c refl) in
-      (record { name = n; of = t; number = k; label = l } ∷ field_list fs, bind_step _ _ _ _ first (bind_step _ _ _ _ m refl), ap (proto_field n t k l) (fields_list fs))
+      let first = field_complete (record { name = n; of = t; number = k; label = l }) ts re.5
+      (record {
+        a = re.2;
+        b = re.3;
+        c = re.4;
+        param = record { a = re.0; b = re.1; name = re.6; colon = re.7; reads = re.8; low = omega arith };
+        at =
+            re.9;
+        number = re.10;
+        label = re.11;
+      }) in
+      let m = all_complete (field_item text sub d s) field_found (field_list fs) re.5 rest (field_items fs re.5 rest re.12 (omega arith)) tt
+      (no_field signs.CloseBrace rest after c refl) in (
+        record { name = n; of = t; number = k; label = l } ∷ field_list fs,
+        bind_step _ _ _ _ first (bind_step _ _ _ _ m refl),
+        ap (proto_field n t k l) (fields_list fs),
+      )
 
-  basic_complete : (p : Place) (b : BasicType) (ts rest : List Token) → At p (kinds.Word (basic_word b)) ts rest → type_step text sub ts ≡ Some (basic p b, rest)
+  basic_complete : (p : Place) (b : BasicType) (ts rest : List Token) → At p (kinds.Word (basic_word b)) ts rest
+      → type_step text sub ts ≡ Some (basic p b, rest)
   unfolding type_step
   basic_complete p basics.Bool ts rest h = rw h.is refl
   basic_complete p basics.Int ts rest h = rw h.is refl
@@ -174,7 +219,8 @@ module _ (text : Spelling) (sub : SubType) (d : ℕ) (s : IsSoundType text sub d
       rw re.2.is (bind_step _ _ _ _ m.1 (bind_step _ _ _ _ (after_sign_is signs.CloseBrace re.1 rest re.4) (ap (λ (ps : Params). Some (tuple p ps, rest)) m.2)))
   step_complete (proto p fs) ts rest re low =
       let m = fields_complete fs re.1 re.2 rest re.5 (omega arith) re.6 in
-      rw re.3.is (bind_step _ _ _ _ (after_sign_is signs.OpenBrace re.0 re.1 re.4) (bind_step _ _ _ _ m.1 (bind_step _ _ _ _ (after_sign_is signs.CloseBrace re.2 rest re.6) (ap (λ (fs : Fields). Some (proto p fs, rest)) m.2))))
+      rw re.3.is (bind_step _ _ _ _ (after_sign_is signs.OpenBrace re.0 re.1 re.4)
+      (bind_step _ _ _ _ m.1 (bind_step _ _ _ _ (after_sign_is signs.CloseBrace re.2 rest re.6) (ap (λ (fs : Fields). Some (proto p fs, rest)) m.2))))
 
 type_height_positive : (t : Typ) → 0 < type_height t
 unfolding type_height

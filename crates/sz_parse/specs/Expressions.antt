@@ -12,7 +12,8 @@ use Rattle.sz_tree.specs.declared.operator.BinaryOp.{BinaryOp}
 use Rattle.sz_tree.specs.declared.operator.BinaryOp.TheVariants as ops
 use Rattle.sz_tree.specs.declared.types.BasicType.{BasicType}
 use Rattle.sz_tree.specs.declared.types.BasicType.TheVariants as basics
-use Rattle.sz_tree.specs.Expressions.{Exp, literal, named, call, def, paren, convert, list, mapping, index, slice, field, unary, binary, Exps, end, more, Pairs, no_pairs, pair, place_of, loose_of, left_loose, loose, IsPostfix}
+use Rattle.sz_tree.specs.Expressions.{Exp, literal, named, call, def, paren, convert, list, mapping, index, slice, field, unary, binary}
+use Rattle.sz_tree.specs.Expressions.{Exps, end, more, Pairs, no_pairs, pair, place_of, loose_of, left_loose, loose, IsPostfix}
 use Rattle.sz_parse.specs.Tokens.{Spelling, At, IsSign, AtName, AtLiteral}
 
 -- how operators are spelled
@@ -62,16 +63,21 @@ module _ (text : Spelling) where
     Reads (literal p l) ts rest = AtLiteral text p l ts rest
     Reads (named n) ts rest = AtName text n ts rest
     Reads (call n es) ts rest = (a b c : List Token) × AtName text n ts a × IsSign signs.OpenParen a b × ReadsArgs es b c × IsSign signs.CloseParen c rest
-    Reads (def p e) ts rest = (a b c : List Token) × At p (kinds.Word words.Def) ts a × IsSign signs.OpenParen a b × Reads e b c × IsSign signs.CloseParen c rest
+    Reads (def p e) ts rest =
+        (a b c : List Token) × At p (kinds.Word words.Def) ts a × IsSign signs.OpenParen a b × Reads e b c × IsSign signs.CloseParen c rest
     Reads (paren p e) ts rest = (a b : List Token) × At p (kinds.Sign signs.OpenParen) ts a × Reads e a b × IsSign signs.CloseParen b rest
-    Reads (convert p t e) ts rest = (a b c : List Token) × Converts t × At p (kinds.Word (basic_word t)) ts a × IsSign signs.OpenParen a b × Reads e b c × IsSign signs.CloseParen c rest
+    Reads (convert p t e) ts rest =
+        (a b c : List Token) × Converts t × At p (kinds.Word (basic_word t)) ts a × IsSign signs.OpenParen a b × Reads e b c × IsSign signs.CloseParen c rest
     Reads (list p es) ts rest = (a b : List Token) × At p (kinds.Sign signs.OpenBrace) ts a × ReadsArgs es a b × IsSign signs.CloseBrace b rest
     Reads (mapping p ps) ts rest = (a b : List Token) × At p (kinds.Sign signs.OpenBrace) ts a × ReadsEntries ps a b × IsSign signs.CloseBrace b rest
-    Reads (index p e i) ts rest = (a b c : List Token) × (p ≡ place_of e) × IsPostfix e × Reads e ts a × IsSign signs.OpenBracket a b × Reads i b c × IsSign signs.CloseBracket c rest
-    Reads (slice p e i j) ts rest = (a b c d f : List Token) × (p ≡ place_of e) × IsPostfix e × Reads e ts a × IsSign signs.OpenBracket a b × Reads i b c × IsSign signs.Colon c d × Reads j d f × IsSign signs.CloseBracket f rest
+    Reads (index p e i) ts rest =
+        (a b c : List Token) × (p ≡ place_of e) × IsPostfix e × Reads e ts a × IsSign signs.OpenBracket a b × Reads i b c × IsSign signs.CloseBracket c rest
+    Reads (slice p e i j) ts rest = (a b c d f : List Token) × (p ≡ place_of e) × IsPostfix e × Reads e ts a × IsSign signs.OpenBracket a b
+        × Reads i b c × IsSign signs.Colon c d × Reads j d f × IsSign signs.CloseBracket f rest
     Reads (field p e n) ts rest = (a b : List Token) × (p ≡ place_of e) × IsPostfix e × Reads e ts a × IsSign signs.Dot a b × AtName text n b rest
     Reads (unary p o e) ts rest = (a : List Token) × At p (kinds.Sign (unary_sign o)) ts a × (loose e ≤ 0) × Reads e a rest
-    Reads (binary p o l r) ts rest = (a b : List Token) × (p ≡ place_of l) × (loose l ≤ left_loose o) × Reads l ts a × IsSign (sign_of o) a b × (loose r < loose_of o) × Reads r b rest
+    Reads (binary p o l r) ts rest =
+        (a b : List Token) × (p ≡ place_of l) × (loose l ≤ left_loose o) × Reads l ts a × IsSign (sign_of o) a b × (loose r < loose_of o) × Reads r b rest
 
     -- nothing, or expressions with commas between them
     pub ReadsArgs : Exps → List Token → List Token → Type 0
@@ -91,4 +97,5 @@ module _ (text : Spelling) where
     -- pairs with a comma before each
     pub ReadsPairs : Pairs → List Token → List Token → Type 0
     ReadsPairs no_pairs ts rest = ts ≡ rest
-    ReadsPairs (pair k v ps) ts rest = (a b c d : List Token) × IsSign signs.Comma ts a × Reads k a b × IsSign signs.Colon b c × Reads v c d × ReadsPairs ps d rest
+    ReadsPairs (pair k v ps) ts rest =
+        (a b c d : List Token) × IsSign signs.Comma ts a × Reads k a b × IsSign signs.Colon b c × Reads v c d × ReadsPairs ps d rest

@@ -9,5 +9,6 @@ pub mod Parsed
 pub mod Reading
 pub mod ReadingExpressions
 pub mod ReadingTypes
+pub mod ReadingTables
 pub mod ReadingStatements
 pub mod Outcome

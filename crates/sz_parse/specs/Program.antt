@@ -26,7 +26,8 @@ pub record IsStuck (tokens : Lexed) (p : Place) : Type 0 where
   pub low : stm_heights front ≤ MAX_HEIGHT
   pub place : here.place ≡ p
   pub none : (s : Stm) (after : List Token) → ReadsStm (lexeme_of tokens.text) s (here ∷ rest) after → stm_height s ≤ MAX_HEIGHT → ⊥
-  pub longest : (ss : Stms) (after : List Token) → ReadsStms (lexeme_of tokens.text) ss tokens.tokens after → stm_heights ss ≤ MAX_HEIGHT → count_of ss ≤ count_of front
+  pub longest : (ss : Stms) (after : List Token) → ReadsStms (lexeme_of tokens.text) ss tokens.tokens after → stm_heights ss ≤ MAX_HEIGHT
+      → count_of ss ≤ count_of front
 
 -- a list of tokens spells one tree at most
 abbrev pub SpellsOneTree : Type 0

@@ -16,7 +16,9 @@ use Rattle.sz_tree.specs.declared.operator.BinaryOp.TheVariants as ops
 use Rattle.sz_tree.specs.declared.types.BasicType.{BasicType}
 use Rattle.sz_tree.specs.declared.types.BasicType.TheVariants as basics
 use Rattle.sz_tree.specs.Names.{Ident}
-use Rattle.sz_tree.specs.Expressions.{number, string, bytes, character, boolean, Exp, literal, named, call, def, paren, convert, list, mapping, index, slice, field, unary, binary, Exps, exps_of, pairs_of, place_of, loose_of, left_loose, loose, height}
+use Rattle.sz_tree.specs.Expressions.{number, string, bytes, character, boolean, Exp, literal, named, call, def, paren, convert, list}
+use Rattle.sz_tree.specs.Expressions.{mapping, index, slice, field, unary, binary, Exps, exps_of, pairs_of, place_of, loose_of, left_loose}
+use Rattle.sz_tree.specs.Expressions.{loose, height}
 use Rattle.sz_parse.specs.Tokens.{Spelling}
 use Rattle.sz_parse.specs.Reading.{Read, ◌>>=◌, choose, guard, after_sign, ident_of, name_at, decoded, all_at}
 
@@ -183,7 +185,8 @@ field_at text e ts = name_at text ts >>= λ n. Some (field (place_of e) e n.0, n
 
 -- an index, a slice or a field of e; nothing where none begins
 unfoldable pub part_step : Spelling → Sub → Exp → List Token → Option (Read Exp)
-part_step text sub e ts = choose (after_sign signs.OpenBracket ts) (choose (after_sign signs.Dot ts) None (λ a. Some (field_at text e a))) (λ a. Some (bracket_at sub e a))
+part_step text sub e ts =
+    choose (after_sign signs.OpenBracket ts) (choose (after_sign signs.Dot ts) None (λ a. Some (field_at text e a))) (λ a. Some (bracket_at sub e a))
 
 -- an index, a slice or a field of e if one stands there, and whether one does
 unfoldable pub part_at : Spelling → Sub → ℕ → Exp → List Token → Read (Exp × Bool)
@@ -209,7 +212,9 @@ prefix_at text sub d (t ∷ ts) = choose (unary_of t.kind) (postfix_at text sub 
 unfoldable pub chain_at : Sub → ℕ → ℕ → ℕ → Exp → List Token → Read Exp
 chain_at sub d l zero e ts = Some (e, ts)
 chain_at sub d l (suc k) e ts =
-    choose (operator_at (suc l) ts) (Some (e, ts)) (λ o. guard (nat_le (loose e) (left_loose o.0)) (guard (nat_le (height e) d) (sub l o.1 >>= λ x. chain_at sub d l k (binary (place_of e) o.0 e x.0) x.1)))
+    choose (operator_at (suc l) ts) (Some (e, ts))
+    (λ o. guard (nat_le (loose e) (left_loose o.0))
+    (guard (nat_le (height e) d) (sub l o.1 >>= λ x. chain_at sub d l k (binary (place_of e) o.0 e x.0) x.1)))
 
 unfoldable pub level_at : Spelling → Sub → ℕ → ℕ → List Token → Read Exp
 level_at text sub d zero ts = prefix_at text sub d ts

@@ -16,7 +16,7 @@ mod token;
 mod types;
 
 pub use error::ParseError;
-pub use laws::{every_list_is_read, refusal_is_unique, trees_are_unique};
+pub use laws::{every_list_is_read, greatest_height_is_256, refusal_is_unique, trees_are_unique};
 pub use limit::MAX_HEIGHT;
 pub use program::parse;
 

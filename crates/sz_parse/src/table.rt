@@ -4,7 +4,7 @@ ghost use Rattle.sz_tree.specs.View.{elem_of, table_of, quantifier_of};
 ghost use Rattle.std.specs.Option.{option_map};
 ghost use Rattle.sz_parse.specs.Reading.{utf8_in, all_at};
 ghost use Rattle.sz_parse.specs.ReadingTypes.{type_at};
-ghost use Rattle.sz_parse.specs.ReadingStatements.{argument_at, table_index_at, table_index_step, table_weight_at, table_at, name_step, names_behind, names_at, quantity_of, quantity_at, quantifier_at, begins_quantifier, quantifier_step, quantifiers_behind, quantifiers_at};
+ghost use Rattle.sz_parse.specs.ReadingTables.{argument_at, table_index_at, table_index_step, table_weight_at, table_at, name_step, names_behind, names_at, quantity_of, quantity_at, quantifier_at, begins_quantifier, quantifier_step, quantifiers_behind, quantifiers_at};
 ghost use Rattle.sz_parse.specs.Outcome.{Gives, Sees};
 
 use crate::failed::Failed;
@@ -16,7 +16,7 @@ use sz_lex::{Kind, Sign, Token, Word};
 use sz_tree::{Elem, Name, Quantifier, Quantity, Table};
 
 // A number in parentheses, if one stands there.
-#[tactic(auto, unfolding(crate::specs::ReadingStatements::argument_at, crate::specs::Reading::bind, crate::specs::Reading::choose))]
+#[tactic(auto, unfolding(crate::specs::ReadingTables::argument_at, crate::specs::Reading::bind, crate::specs::Reading::choose))]
 fn argument(tokens: &[Token]) -> Result<(Option<i64>, &[Token]), Failed>
     ensures read { Gives (λ x. (x.0, x.1.now)) result (argument_at tokens.now) }
 {
@@ -31,7 +31,7 @@ fn argument(tokens: &[Token]) -> Result<(Option<i64>, &[Token]), Failed>
 }
 
 // An index of a table, behind its opening bracket.
-#[tactic(auto, unfolding(crate::specs::ReadingStatements::table_index_at, crate::specs::Reading::bind))]
+#[tactic(auto, unfolding(crate::specs::ReadingTables::table_index_at, crate::specs::Reading::bind))]
 fn table_index<'t>(
     alloc: Global,
     text: &[u8],
@@ -67,7 +67,7 @@ fn table_indexes<'t>(
 }
 
 // What `weight` begins, if it stands there.
-#[tactic(auto, unfolding(crate::specs::ReadingStatements::table_weight_at, crate::specs::Reading::bind, crate::specs::Reading::choose))]
+#[tactic(auto, unfolding(crate::specs::ReadingTables::table_weight_at, crate::specs::Reading::bind, crate::specs::Reading::choose))]
 fn table_weight<'t>(
     alloc: Global,
     text: &[u8],
@@ -87,7 +87,7 @@ fn table_weight<'t>(
 }
 
 // What stands behind `table`, up to the semicolon.
-#[tactic(auto, unfolding(crate::specs::ReadingStatements::table_at, crate::specs::Reading::bind))]
+#[tactic(auto, unfolding(crate::specs::ReadingTables::table_at, crate::specs::Reading::bind))]
 pub fn table<'t>(
     alloc: Global,
     text: &[u8],
@@ -115,7 +115,7 @@ pub fn table<'t>(
 }
 
 // A name, and those that follow it with a comma before each.
-#[tactic(auto, unfolding(crate::specs::ReadingStatements::names_at, crate::specs::Reading::bind))]
+#[tactic(auto, unfolding(crate::specs::ReadingTables::names_at, crate::specs::Reading::bind))]
 fn names<'t>(
     alloc: Global,
     text: &[u8],
@@ -159,7 +159,7 @@ fn quantity_of(word: Word) -> Option<Quantity>
 }
 
 // How many values a quantifier speaks of.
-#[tactic(auto, unfolding(crate::specs::ReadingStatements::quantity_at, crate::specs::Reading::bind))]
+#[tactic(auto, unfolding(crate::specs::ReadingTables::quantity_at, crate::specs::Reading::bind))]
 fn quantity(tokens: &[Token]) -> Result<(Quantity, &[Token]), Failed>
     ensures read { Gives (λ x. (x.0, x.1.now)) result (quantity_at tokens.now) }
 {
@@ -180,7 +180,7 @@ fn quantity(tokens: &[Token]) -> Result<(Quantity, &[Token]), Failed>
 }
 
 // What follows a name and a comma or a colon.
-#[tactic(auto, unfolding(crate::specs::ReadingStatements::begins_quantifier, crate::specs::Reading::name_at, crate::specs::Reading::bind, crate::specs::Reading::choose))]
+#[tactic(auto, unfolding(crate::specs::ReadingTables::begins_quantifier, crate::specs::Reading::name_at, crate::specs::Reading::bind, crate::specs::Reading::choose))]
 fn begins_quantifier<'t>(text: &[u8], tokens: &'t [Token]) -> Option<&'t [Token]>
     ensures value { Sees (λ r. r.now) result (begins_quantifier (utf8_in text.now) tokens.now) }
 {
@@ -202,7 +202,7 @@ fn begins_quantifier<'t>(text: &[u8], tokens: &'t [Token]) -> Option<&'t [Token]
 }
 
 // A quantifier with its semicolon.
-#[tactic(auto, unfolding(crate::specs::ReadingStatements::quantifier_at, crate::specs::Reading::bind))]
+#[tactic(auto, unfolding(crate::specs::ReadingTables::quantifier_at, crate::specs::Reading::bind))]
 fn quantifier<'t>(
     alloc: Global,
     text: &[u8],
@@ -226,7 +226,7 @@ fn quantifier<'t>(
 }
 
 // One or more quantifiers.
-#[tactic(auto, unfolding(crate::specs::ReadingStatements::quantifiers_at, crate::specs::Reading::bind))]
+#[tactic(auto, unfolding(crate::specs::ReadingTables::quantifiers_at, crate::specs::Reading::bind))]
 pub fn quantifiers<'t>(
     alloc: Global,
     text: &[u8],

@@ -77,14 +77,16 @@ decreases-chain l = 32 * l.inner + 5
 -- the turns that are left, from here, give what all of them give
 abbrev pub invariant-chain-loop : goal.invariant-chain-loop
 invariant-chain-loop l = record {
-  read : chain_at (expr_at (utf8_in l.text) l.inner) l.inner l.below (l.end - l.counter) (tree_of l.left) l.rest ≡ chain_at (expr_at (utf8_in l.text) l.inner) l.inner l.below (l.inner + 1) (tree_of l.fn.first) l.fn.tokens;
+  read : chain_at (expr_at (utf8_in l.text) l.inner) l.inner l.below (l.end - l.counter) (tree_of l.left) l.rest
+      ≡ chain_at (expr_at (utf8_in l.text) l.inner) l.inner l.below (l.inner + 1) (tree_of l.fn.first) l.fn.tokens;
   measured : l.height ≡ height (tree_of l.left);
   low : l.height ≤ l.inner + 1;
 }
 
 abbrev pub invariant-parts-loop : goal.invariant-parts-loop
 invariant-parts-loop l = record {
-  read : tail_at (utf8_in l.text) (expr_at (utf8_in l.text) l.inner) l.inner (l.end - l.counter) (tree_of l.left) l.rest ≡ tail_at (utf8_in l.text) (expr_at (utf8_in l.text) l.inner) l.inner (l.inner + 1) (tree_of l.fn.first) l.fn.tokens;
+  read : tail_at (utf8_in l.text) (expr_at (utf8_in l.text) l.inner) l.inner (l.end - l.counter) (tree_of l.left) l.rest
+      ≡ tail_at (utf8_in l.text) (expr_at (utf8_in l.text) l.inner) l.inner (l.inner + 1) (tree_of l.fn.first) l.fn.tokens;
   measured : l.height ≡ height (tree_of l.left);
   low : l.height ≤ l.inner + 1;
 }
@@ -92,7 +94,8 @@ invariant-parts-loop l = record {
 -- the items so far, and those that are read from here, are all of them
 abbrev pub invariant-items-loop-after : goal.invariant-items-loop-after
 invariant-items-loop-after l = record {
-  read : with_items (map tree_of l.items.items) (all_at (comma_step (expr_at (utf8_in l.text) l.inner)) l.rest) ≡ items_behind (expr_at (utf8_in l.text) l.inner) (tree_of l.fn.first) l.fn.tokens;
+  read : with_items (map tree_of l.items.items) (all_at (comma_step (expr_at (utf8_in l.text) l.inner)) l.rest)
+      ≡ items_behind (expr_at (utf8_in l.text) l.inner) (tree_of l.fn.first) l.fn.tokens;
   measured : l.height ≡ heights (exps_of (map tree_of l.items.items));
   low : l.height ≤ l.inner;
 }
@@ -102,7 +105,8 @@ decreases-items-loop-after l = length l.rest
 
 abbrev pub invariant-pairs-loop-after : goal.invariant-pairs-loop-after
 invariant-pairs-loop-after l = record {
-  read : with_items (map pair_of l.pairs.items) (all_at (pair_step (expr_at (utf8_in l.text) l.inner)) l.rest) ≡ pairs_behind (expr_at (utf8_in l.text) l.inner) (pair_of l.fn.first) l.fn.tokens;
+  read : with_items (map pair_of l.pairs.items) (all_at (pair_step (expr_at (utf8_in l.text) l.inner)) l.rest)
+      ≡ pairs_behind (expr_at (utf8_in l.text) l.inner) (pair_of l.fn.first) l.fn.tokens;
   measured : l.height ≡ pair_heights (pairs_of (map pair_of l.pairs.items));
   low : l.height ≤ l.inner;
 }

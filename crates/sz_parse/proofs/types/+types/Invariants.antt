@@ -51,13 +51,17 @@ decreases-field l = 16 * l.inner + 5
 
 -- the items so far, and those that are read from here, are all of them
 abbrev pub invariant-params_behind-loop-after : goal.invariant-params_behind-loop-after
-invariant-params_behind-loop-after l = with_items (map param_of l.params.items) (all_at (param_step (utf8_in l.text) (type_at (utf8_in l.text) l.inner)) l.rest) ≡ params_behind (utf8_in l.text) (type_at (utf8_in l.text) l.inner) (param_of l.fn.first) l.fn.tokens
+invariant-params_behind-loop-after l =
+    with_items (map param_of l.params.items) (all_at (param_step (utf8_in l.text) (type_at (utf8_in l.text) l.inner)) l.rest)
+    ≡ params_behind (utf8_in l.text) (type_at (utf8_in l.text) l.inner) (param_of l.fn.first) l.fn.tokens
 
 abbrev pub decreases-params_behind-loop-after : goal.decreases-params_behind-loop-after
 decreases-params_behind-loop-after l = length l.rest
 
 abbrev pub invariant-fields_behind-loop-after : goal.invariant-fields_behind-loop-after
-invariant-fields_behind-loop-after l = with_items (map field_of l.fields.items) (all_at (proto_field_step (utf8_in l.text) (type_at (utf8_in l.text) l.inner)) l.rest) ≡ proto_fields_behind (utf8_in l.text) (type_at (utf8_in l.text) l.inner) (field_of l.fn.first) l.fn.tokens
+invariant-fields_behind-loop-after l =
+    with_items (map field_of l.fields.items) (all_at (proto_field_step (utf8_in l.text) (type_at (utf8_in l.text) l.inner)) l.rest)
+    ≡ proto_fields_behind (utf8_in l.text) (type_at (utf8_in l.text) l.inner) (field_of l.fn.first) l.fn.tokens
 
 abbrev pub decreases-fields_behind-loop-after : goal.decreases-fields_behind-loop-after
 decreases-fields_behind-loop-after l = length l.rest
