@@ -158,7 +158,8 @@ fn parts<'t>(
     requires depth { inner < MAX_HEIGHT }
     requires low { first_height ≤ inner + 1 }
     requires measured { first_height ≡ height (tree_of first) }
-    ensures read { Gives (λ x. (tree_of x.0, x.2.now)) result (tail_at (utf8_in text.now) (expr_at (utf8_in text.now) inner) inner (inner + 1) (tree_of first) tokens.now) }
+    ensures read { Gives (λ x. (tree_of x.0, x.2.now)) result
+        (tail_at (utf8_in text.now) (expr_at (utf8_in text.now) inner) inner (inner + 1) (tree_of first) tokens.now) }
     ensures measured { IfOk result (λ x. x.1 ≡ height (tree_of x.0)) }
     ensures low { IfOk result (λ x. x.1 ≤ inner + 1) }
 {
@@ -192,7 +193,8 @@ fn part<'t>(
     requires depth { inner < MAX_HEIGHT }
     requires low { left_height ≤ inner + 1 }
     requires measured { left_height ≡ height (tree_of left) }
-    ensures read { Gives (λ x. ((tree_of x.0.0, x.0.1), x.2.now)) result (part_at (utf8_in text.now) (expr_at (utf8_in text.now) inner) inner (tree_of left) tokens.now) }
+    ensures read { Gives (λ x. ((tree_of x.0.0, x.0.1), x.2.now)) result
+        (part_at (utf8_in text.now) (expr_at (utf8_in text.now) inner) inner (tree_of left) tokens.now) }
     ensures measured { IfOk result (λ x. x.1 ≡ height (tree_of x.0.0)) }
     ensures low { IfOk result (λ x. x.1 ≤ inner + 1) }
 {
@@ -270,7 +272,8 @@ fn primary<'t>(
     tokens: &'t [Token],
 ) -> Result<(Expr, u32, &'t [Token]), Failed>
     requires depth { inner < MAX_HEIGHT }
-    ensures read { Gives (λ x. (tree_of x.0, x.2.now)) result (primary_here (utf8_in text.now) (expr_at (utf8_in text.now) inner) inner token.now token.now.kind tokens.now) }
+    ensures read { Gives (λ x. (tree_of x.0, x.2.now)) result
+        (primary_here (utf8_in text.now) (expr_at (utf8_in text.now) inner) inner token.now token.now.kind tokens.now) }
     ensures measured { IfOk result (λ x. x.1 ≡ height (tree_of x.0)) }
     ensures low { IfOk result (λ x. x.1 ≤ inner + 1) }
 {

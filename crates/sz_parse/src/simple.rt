@@ -189,7 +189,8 @@ fn first_behind<'t>(
     tokens: &'t [Token],
 ) -> Result<(First, &'t [Token]), Failed>
     requires depth { inner < MAX_HEIGHT }
-    ensures read { Gives (λ x. (first_of x.0, x.1.now)) result (first_behind (utf8_in text.now) (expr_at (utf8_in text.now) inner) (type_at (utf8_in text.now) inner) inner name tokens.now) }
+    ensures read { Gives (λ x. (first_of x.0, x.1.now)) result
+        (first_behind (utf8_in text.now) (expr_at (utf8_in text.now) inner) (type_at (utf8_in text.now) inner) inner name tokens.now) }
 {
     if let Some(rest) = skip(Sign::Colon, tokens) {
         let (of, rest) = type_tree(alloc, text, inner, rest)?;

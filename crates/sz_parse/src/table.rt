@@ -54,7 +54,8 @@ fn table_indexes<'t>(
     tokens: &'t [Token],
 ) -> Result<(Vec<Elem>, &'t [Token]), Failed>
     requires depth { inner < MAX_HEIGHT }
-    ensures read { Gives (λ x. (each elem_of x.0.items, x.1.now)) result (all_at (table_index_step (utf8_in text.now) (type_at (utf8_in text.now) inner)) tokens.now) }
+    ensures read { Gives (λ x. (each elem_of x.0.items, x.1.now)) result
+        (all_at (table_index_step (utf8_in text.now) (type_at (utf8_in text.now) inner)) tokens.now) }
 {
     let mut items = Vec::new(alloc);
     let mut rest = tokens;
@@ -234,7 +235,8 @@ pub fn quantifiers<'t>(
     tokens: &'t [Token],
 ) -> Result<(Vec<Quantifier>, &'t [Token]), Failed>
     requires depth { inner < MAX_HEIGHT }
-    ensures read { Gives (λ x. (each quantifier_of x.0.items, x.1.now)) result (quantifiers_at (utf8_in text.now) (type_at (utf8_in text.now) inner) tokens.now) }
+    ensures read { Gives (λ x. (each quantifier_of x.0.items, x.1.now)) result
+        (quantifiers_at (utf8_in text.now) (type_at (utf8_in text.now) inner) tokens.now) }
 {
     let (first, rest) = quantifier(alloc, text, inner, tokens)?;
     quantifiers_behind(alloc, text, inner, first, rest)
@@ -248,7 +250,8 @@ fn quantifiers_behind<'t>(
     tokens: &'t [Token],
 ) -> Result<(Vec<Quantifier>, &'t [Token]), Failed>
     requires depth { inner < MAX_HEIGHT }
-    ensures read { Gives (λ x. (each quantifier_of x.0.items, x.1.now)) result (quantifiers_behind (utf8_in text.now) (type_at (utf8_in text.now) inner) (quantifier_of first) tokens.now) }
+    ensures read { Gives (λ x. (each quantifier_of x.0.items, x.1.now)) result
+        (quantifiers_behind (utf8_in text.now) (type_at (utf8_in text.now) inner) (quantifier_of first) tokens.now) }
 {
     let mut items = Vec::new(alloc);
     items.push(first)?;

@@ -278,7 +278,8 @@ fn params_behind<'t>(
     tokens: &'t [Token],
 ) -> Result<(Vec<Param>, &'t [Token]), Failed>
     requires depth { inner < MAX_HEIGHT }
-    ensures read { Gives (λ x. (each param_of x.0.items, x.1.now)) result (params_behind (utf8_in text.now) (type_at (utf8_in text.now) inner) (param_of first) tokens.now) }
+    ensures read { Gives (λ x. (each param_of x.0.items, x.1.now)) result
+        (params_behind (utf8_in text.now) (type_at (utf8_in text.now) inner) (param_of first) tokens.now) }
 {
     let mut params = Vec::new(alloc);
     params.push(first)?;
@@ -341,7 +342,8 @@ fn fields_behind<'t>(
     tokens: &'t [Token],
 ) -> Result<(Vec<ProtoField>, &'t [Token]), Failed>
     requires depth { inner < MAX_HEIGHT }
-    ensures read { Gives (λ x. (each field_of x.0.items, x.1.now)) result (proto_fields_behind (utf8_in text.now) (type_at (utf8_in text.now) inner) (field_of first) tokens.now) }
+    ensures read { Gives (λ x. (each field_of x.0.items, x.1.now)) result
+        (proto_fields_behind (utf8_in text.now) (type_at (utf8_in text.now) inner) (field_of first) tokens.now) }
 {
     let mut fields = Vec::new(alloc);
     fields.push(first)?;
