@@ -7,14 +7,14 @@ use Rattle.sz_lex.specs.Tokens.{HasTokens}
 use Rattle.sz_lex.specs.Lexed.{lexeme_of, Lexed}
 use Rattle.sz_lex.proofs.Utf8Lemmas.{lexemes_are_utf8}
 use Rattle.sz_tree.specs.Statements.{Stm, Stms, stms_of, stm_height, stm_heights}
-use Rattle.sz_parse.specs.Tokens.{Spelling}
-use Rattle.sz_parse.specs.declared.limit.TheConstants.{MAX_HEIGHT}
+use Rattle.sz_parse_expr.specs.Tokens.{Spelling}
+use Rattle.sz_parse_expr.specs.declared.limit.TheConstants.{MAX_HEIGHT}
 use Rattle.sz_parse.specs.Statements.{ReadsStm, ReadsStms}
 use Rattle.sz_parse.specs.Program.{Spells, IsStuck}
-use Rattle.sz_parse.specs.Reading.{utf8_in}
+use Rattle.sz_parse_expr.specs.Reading.{utf8_in}
 use Rattle.sz_parse.specs.ReadingStatements.{stm_at}
-use Rattle.sz_parse.proofs.TokenLemmas.{utf8_in_is}
-use Rattle.sz_parse.proofs.ExpressionAlike.{Agree}
+use Rattle.sz_parse_expr.proofs.TokenLemmas.{utf8_in_is}
+use Rattle.sz_parse_expr.proofs.ExpressionAlike.{Agree}
 use Rattle.sz_parse.proofs.SimpleSound.{stm_shorter}
 use Rattle.sz_parse.proofs.StatementSound.{stm_sound}
 use Rattle.sz_parse.proofs.StatementComplete.{stm_complete}

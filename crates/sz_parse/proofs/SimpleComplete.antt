@@ -17,24 +17,24 @@ use Rattle.sz_tree.specs.Statements.{StepForm, at_index, at_field, SimpleForm, a
 use Rattle.sz_tree.specs.Statements.{first_declare, first_define, first_simple}
 use Rattle.sz_tree.specs.Statements.{part_height, step_height, simple_height}
 use Rattle.sz_tree.specs.Statements.{first_height}
-use Rattle.sz_parse.specs.Tokens.{Spelling, token, IsSign, IsWord, AtName, Many}
-use Rattle.sz_parse.specs.Expressions.{Reads}
+use Rattle.sz_parse_expr.specs.Tokens.{Spelling, token, IsSign, IsWord, AtName, Many}
+use Rattle.sz_parse_expr.specs.Expressions.{Reads}
 use Rattle.sz_parse.specs.Statements.{Perhaps, NotElse, ReadsBehind, ReadsWeight, ReadsIndex, ReadsStep, ReadsSimple}
 use Rattle.sz_parse.specs.Statements.{ReadsFirst}
-use Rattle.sz_parse.specs.Reading.{Read, after_sign, word_here, after_word}
-use Rattle.sz_parse.specs.ReadingExpressions.{Sub, expr_at}
-use Rattle.sz_parse.specs.ReadingTypes.{SubType, type_at}
+use Rattle.sz_parse_expr.specs.Reading.{Read, after_sign, word_here, after_word}
+use Rattle.sz_parse_expr.specs.ReadingExpressions.{Sub, expr_at}
+use Rattle.sz_parse_expr.specs.ReadingTypes.{SubType, type_at}
 use Rattle.sz_parse.specs.ReadingStatements.{init_at, weight_at, index_at, index_step, path_step, assign_at, simple_behind}
 use Rattle.sz_parse.specs.ReadingStatements.{simple_at, first_behind, first_at}
-use Rattle.sz_parse.proofs.Steps.{bind_step, choose_some, choose_none, guard_step}
-use Rattle.sz_parse.proofs.Items.{IsFound, Low, all_complete, many_join}
-use Rattle.sz_parse.proofs.TokenLemmas.{after_sign_is, other_sign, after_word_is, name_is}
-use Rattle.sz_parse.proofs.PostfixSound.{IsSound}
-use Rattle.sz_parse.proofs.ExpressionSound.{expr_sound}
-use Rattle.sz_parse.proofs.OperatorLemmas.{grip}
-use Rattle.sz_parse.proofs.PostfixComplete.{IsComplete, ends_at, whole, call_complete}
-use Rattle.sz_parse.proofs.ExpressionComplete.{expr_complete}
-use Rattle.sz_parse.proofs.TypeComplete.{IsCompleteType, type_complete}
+use Rattle.sz_parse_expr.proofs.Steps.{bind_step, choose_some, choose_none, guard_step}
+use Rattle.sz_parse_expr.proofs.Items.{IsFound, Low, all_complete, many_join}
+use Rattle.sz_parse_expr.proofs.TokenLemmas.{after_sign_is, other_sign, after_word_is, name_is}
+use Rattle.sz_parse_expr.proofs.PostfixSound.{IsSound}
+use Rattle.sz_parse_expr.proofs.ExpressionSound.{expr_sound}
+use Rattle.sz_parse_expr.proofs.OperatorLemmas.{grip}
+use Rattle.sz_parse_expr.proofs.PostfixComplete.{IsComplete, ends_at, whole, call_complete}
+use Rattle.sz_parse_expr.proofs.ExpressionComplete.{expr_complete}
+use Rattle.sz_parse_expr.proofs.TypeComplete.{IsCompleteType, type_complete}
 use Rattle.sz_parse.proofs.SimpleSound.{path_item}
 
 -- ---- one token

@@ -13,24 +13,24 @@ use Rattle.sz_tree.specs.Statements.{first_declare, first_define, first_simple, 
 use Rattle.sz_tree.specs.Statements.{part_height, step_height, simple_height}
 use Rattle.sz_tree.specs.Statements.{first_height, stm_height}
 use Rattle.sz_tree.specs.Statements as forms
-use Rattle.sz_parse.specs.Tokens.{Spelling, IsSign, AtName}
-use Rattle.sz_parse.specs.Expressions.{Reads}
-use Rattle.sz_parse.specs.Types.{ReadsElem}
+use Rattle.sz_parse_expr.specs.Tokens.{Spelling, IsSign, AtName}
+use Rattle.sz_parse_expr.specs.Expressions.{Reads}
+use Rattle.sz_parse_expr.specs.Types.{ReadsElem}
 use Rattle.sz_parse.specs.Statements.{Perhaps, ReadsBehind, ReadsWeight, ReadsIndex, ReadsStep, ReadsSimple}
 use Rattle.sz_parse.specs.Statements.{ReadsFirst, ReadsTableIndex, ReadsTableWeight, ReadsArgument, ReadsTable, ReadsNextName, ReadsNames}
 use Rattle.sz_parse.specs.Statements.{ReadsQuantifier, ReadsQuantifiers, ReadsDeclared, ReadsCondition, ReadsStm, ReadsStms}
-use Rattle.sz_parse.specs.Reading.{Read}
-use Rattle.sz_parse.specs.ReadingExpressions.{Sub, expr_at}
-use Rattle.sz_parse.specs.ReadingTypes.{SubType, type_at}
+use Rattle.sz_parse_expr.specs.Reading.{Read}
+use Rattle.sz_parse_expr.specs.ReadingExpressions.{Sub, expr_at}
+use Rattle.sz_parse_expr.specs.ReadingTypes.{SubType, type_at}
 use Rattle.sz_parse.specs.ReadingStatements.{unless_at, init_at, weight_at, index_at, index_step, path_step, assign_at, simple_behind}
 use Rattle.sz_parse.specs.ReadingStatements.{simple_at, first_behind, first_at}
-use Rattle.sz_parse.proofs.Holds.{Holds, some_holds, none_holds, bind_holds, choose_holds, guard_holds, weaker}
-use Rattle.sz_parse.proofs.Items.{IsItem, Low, all_sound, many_split, many_fewer}
-use Rattle.sz_parse.proofs.TokenLemmas.{after_sign_sound, after_word_sound, name_sound, at_length, is_length, name_length}
-use Rattle.sz_parse.proofs.PostfixSound.{IsSound, shorter, args_shorter, call_sound}
-use Rattle.sz_parse.proofs.ExpressionSound.{expr_sound}
-use Rattle.sz_parse.proofs.TypeSound.{IsSoundType}
-use Rattle.sz_parse.proofs.TypeSound.{label_shorter, type_shorter, params_shorter, type_sound}
+use Rattle.sz_parse_expr.proofs.Holds.{Holds, some_holds, none_holds, bind_holds, choose_holds, guard_holds, weaker}
+use Rattle.sz_parse_expr.proofs.Items.{IsItem, Low, all_sound, many_split, many_fewer}
+use Rattle.sz_parse_expr.proofs.TokenLemmas.{after_sign_sound, after_word_sound, name_sound, at_length, is_length, name_length}
+use Rattle.sz_parse_expr.proofs.PostfixSound.{IsSound, shorter, args_shorter, call_sound}
+use Rattle.sz_parse_expr.proofs.ExpressionSound.{expr_sound}
+use Rattle.sz_parse_expr.proofs.TypeSound.{IsSoundType}
+use Rattle.sz_parse_expr.proofs.TypeSound.{label_shorter, type_shorter, params_shorter, type_sound}
 
 -- ---- statements take tokens
 

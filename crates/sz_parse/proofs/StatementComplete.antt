@@ -12,28 +12,28 @@ use Rattle.sz_tree.specs.Statements.{Stm, Stms, stms_of}
 use Rattle.sz_tree.specs.Statements.{part_height, greatest, simple_height}
 use Rattle.sz_tree.specs.Statements.{first_height, stm_height, stm_heights}
 use Rattle.sz_tree.specs.Statements as forms
-use Rattle.sz_parse.specs.Tokens.{Spelling, IsSign, AtName, Many}
-use Rattle.sz_parse.specs.Expressions.{Reads}
+use Rattle.sz_parse_expr.specs.Tokens.{Spelling, IsSign, AtName, Many}
+use Rattle.sz_parse_expr.specs.Expressions.{Reads}
 use Rattle.sz_parse.specs.Statements.{Perhaps, ReadsIndex, ReadsSimple}
 use Rattle.sz_parse.specs.Statements.{ReadsFirst}
 use Rattle.sz_parse.specs.Statements.{ReadsCondition, ReadsStm, ReadsStms}
-use Rattle.sz_parse.specs.Reading.{Read, sign_here, after_sign}
-use Rattle.sz_parse.specs.ReadingExpressions.{condition_at}
+use Rattle.sz_parse_expr.specs.Reading.{Read, sign_here, after_sign}
+use Rattle.sz_parse_expr.specs.ReadingExpressions.{condition_at}
 use Rattle.sz_parse.specs.ReadingStatements.{unless_at, index_step}
 use Rattle.sz_parse.specs.ReadingStatements.{Readers, begins_stm}
 use Rattle.sz_parse.specs.ReadingStatements.{stm_step, body_at, block_at, declare_at, function_at, table_stm_at, colon_at}
 use Rattle.sz_parse.specs.ReadingStatements.{define_at, simple_stm_at, named_stm_at, static_at, typedef_at, if_at, while_at, do_at, for_at}
 use Rattle.sz_parse.specs.ReadingStatements.{break_at, continue_at, return_at, emit_at, when_at, step_at, stm_at}
-use Rattle.sz_parse.proofs.Steps.{bind_step, choose_some, choose_none}
-use Rattle.sz_parse.proofs.Items.{IsFound, Low, all_complete, many_join}
-use Rattle.sz_parse.proofs.TokenLemmas.{after_sign_is, other_sign, after_word_is, other_word, name_is}
-use Rattle.sz_parse.proofs.ExpressionSound.{expr_sound}
-use Rattle.sz_parse.proofs.OperatorLemmas.{grip, sign_grip, starts, reads_starts, no_start}
-use Rattle.sz_parse.proofs.PostfixComplete.{IsComplete, ends_at, whole}
-use Rattle.sz_parse.proofs.PostfixComplete.{condition_complete}
-use Rattle.sz_parse.proofs.ExpressionComplete.{expr_complete}
-use Rattle.sz_parse.proofs.TypeSound.{type_sound}
-use Rattle.sz_parse.proofs.TypeComplete.{IsCompleteType, label_is, type_complete}
+use Rattle.sz_parse_expr.proofs.Steps.{bind_step, choose_some, choose_none}
+use Rattle.sz_parse_expr.proofs.Items.{IsFound, Low, all_complete, many_join}
+use Rattle.sz_parse_expr.proofs.TokenLemmas.{after_sign_is, other_sign, after_word_is, other_word, name_is}
+use Rattle.sz_parse_expr.proofs.ExpressionSound.{expr_sound}
+use Rattle.sz_parse_expr.proofs.OperatorLemmas.{grip, sign_grip, starts, reads_starts, no_start}
+use Rattle.sz_parse_expr.proofs.PostfixComplete.{IsComplete, ends_at, whole}
+use Rattle.sz_parse_expr.proofs.PostfixComplete.{condition_complete}
+use Rattle.sz_parse_expr.proofs.ExpressionComplete.{expr_complete}
+use Rattle.sz_parse_expr.proofs.TypeSound.{type_sound}
+use Rattle.sz_parse_expr.proofs.TypeComplete.{IsCompleteType, label_is, type_complete}
 use Rattle.sz_parse.proofs.SimpleSound.{index_item}
 use Rattle.sz_parse.proofs.StatementSound.{AreSound, stm_item}
 use Rattle.sz_parse.proofs.SimpleSound.{simple_at_sound, first_at_sound}

@@ -13,23 +13,23 @@ use Rattle.sz_tree.specs.Expressions.{Exp, exps_of, height, heights}
 use Rattle.sz_tree.specs.Statements.{Stm, stms_of}
 use Rattle.sz_tree.specs.Statements.{greatest, simple_height}
 use Rattle.sz_tree.specs.Statements.{first_height, stm_height, stm_heights}
-use Rattle.sz_parse.specs.Tokens.{Spelling, token, At, IsSign, IsWord, AtName, Many}
-use Rattle.sz_parse.specs.Expressions.{Reads}
+use Rattle.sz_parse_expr.specs.Tokens.{Spelling, token, At, IsSign, IsWord, AtName, Many}
+use Rattle.sz_parse_expr.specs.Expressions.{Reads}
 use Rattle.sz_parse.specs.Statements.{NotElse, ReadsIndex, ReadsSimple}
 use Rattle.sz_parse.specs.Statements.{ReadsFirst}
 use Rattle.sz_parse.specs.Statements.{ReadsStm, ReadsStms}
-use Rattle.sz_parse.specs.Reading.{after_sign, after_word, ident_of}
+use Rattle.sz_parse_expr.specs.Reading.{after_sign, after_word, ident_of}
 use Rattle.sz_parse.specs.ReadingStatements.{Readers, begins_stm, stm_step, body_at, block_at, declare_at}
 use Rattle.sz_parse.specs.ReadingStatements.{function_at, table_stm_at, colon_at, define_at, simple_stm_at, named_stm_at, static_at}
 use Rattle.sz_parse.specs.ReadingStatements.{typedef_at, if_at, while_at, do_at, for_at, break_at, continue_at, return_at, emit_at, when_at}
 use Rattle.sz_parse.specs.ReadingStatements.{stm_bracketed, stm_worded, stm_here, step_at, stm_at, readers_at}
-use Rattle.sz_parse.proofs.Holds.{Holds, some_holds, none_holds, bind_holds, choose_holds, chosen_holds, weaker}
-use Rattle.sz_parse.proofs.Items.{IsItem, Low, all_sound, many_split, known}
-use Rattle.sz_parse.proofs.TokenLemmas.{after_sign_sound, after_word_sound, after_word_is, name_sound, here_is_name}
-use Rattle.sz_parse.proofs.PostfixSound.{IsSound, condition_sound}
-use Rattle.sz_parse.proofs.ExpressionSound.{expr_sound}
-use Rattle.sz_parse.proofs.TypeSound.{IsSoundType, label_sound}
-use Rattle.sz_parse.proofs.TypeSound.{type_sound}
+use Rattle.sz_parse_expr.proofs.Holds.{Holds, some_holds, none_holds, bind_holds, choose_holds, chosen_holds, weaker}
+use Rattle.sz_parse_expr.proofs.Items.{IsItem, Low, all_sound, many_split, known}
+use Rattle.sz_parse_expr.proofs.TokenLemmas.{after_sign_sound, after_word_sound, after_word_is, name_sound, here_is_name}
+use Rattle.sz_parse_expr.proofs.PostfixSound.{IsSound, condition_sound}
+use Rattle.sz_parse_expr.proofs.ExpressionSound.{expr_sound}
+use Rattle.sz_parse_expr.proofs.TypeSound.{IsSoundType, label_sound}
+use Rattle.sz_parse_expr.proofs.TypeSound.{type_sound}
 use Rattle.sz_parse.proofs.SimpleSound.{stm_shorter, ParsedSimple, ParsedFirst, ParsedStm, IsSoundStm, unless_sound, init_sound}
 use Rattle.sz_parse.proofs.SimpleSound.{weight_sound, index_item, simple_sound, simple_at_sound, first_at_sound}
 use Rattle.sz_parse.proofs.TableSound.{table_sound, quantifiers_sound, declared_sound}

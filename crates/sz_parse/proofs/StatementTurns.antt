@@ -4,15 +4,15 @@ use Rattle.sz_lex.specs.declared.token.Token.{Token}
 use Rattle.sz_lex.specs.declared.sign.Sign.TheVariants as signs
 use Rattle.sz_tree.specs.Names.{Ident}
 use Rattle.sz_tree.specs.Statements.{StepForm, at_index, at_field, QuantifierForm, Stm}
-use Rattle.sz_parse.specs.Tokens.{Spelling}
-use Rattle.sz_parse.specs.Reading.{Read, bind, choose, after_sign, name_at, all_at, with_items}
-use Rattle.sz_parse.specs.ReadingExpressions.{Sub}
-use Rattle.sz_parse.specs.ReadingTypes.{SubType}
+use Rattle.sz_parse_expr.specs.Tokens.{Spelling}
+use Rattle.sz_parse_expr.specs.Reading.{Read, bind, choose, after_sign, name_at, all_at, with_items}
+use Rattle.sz_parse_expr.specs.ReadingExpressions.{Sub}
+use Rattle.sz_parse_expr.specs.ReadingTypes.{SubType}
 use Rattle.sz_parse.specs.ReadingTables.{table_index_at, table_index_step}
 use Rattle.sz_parse.specs.ReadingStatements.{index_at, index_step, begins_step, step_item, path_step}
 use Rattle.sz_parse.specs.ReadingTables.{name_step, names_behind, begins_quantifier, quantifier_at, quantifier_step, quantifiers_behind}
 use Rattle.sz_parse.specs.ReadingStatements.{begins_stm, stm_step}
-use Rattle.sz_parse.proofs.Steps.{choose_some, choose_none}
+use Rattle.sz_parse_expr.proofs.Steps.{choose_some, choose_none}
 
 same_read : {A : Type 0} (read : Read (List A)) → bind read (λ y. Some ([] ++ y.0, y.1)) ≡ read
 unfolding bind

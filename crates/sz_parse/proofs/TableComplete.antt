@@ -18,25 +18,25 @@ use Rattle.sz_tree.specs.Types.{Typ, Params, no_params, param, params_of, param_
 use Rattle.sz_tree.specs.Types as types
 use Rattle.sz_tree.specs.Statements.{ElemForm, TableForm, QuantifierForm}
 use Rattle.sz_tree.specs.Statements.{part_height, greatest, elem_height, quantifier_height, table_height}
-use Rattle.sz_parse.specs.Tokens.{Spelling, IsSign, IsWord, IsLiteral, Many}
-use Rattle.sz_parse.specs.Expressions.{sign_of, Reads}
-use Rattle.sz_parse.specs.Types.{ReadsType, ReadsElem}
+use Rattle.sz_parse_expr.specs.Tokens.{Spelling, IsSign, IsWord, IsLiteral, Many}
+use Rattle.sz_parse_expr.specs.Expressions.{sign_of, Reads}
+use Rattle.sz_parse_expr.specs.Types.{ReadsType, ReadsElem}
 use Rattle.sz_parse.specs.Statements.{quantity_word, Perhaps}
 use Rattle.sz_parse.specs.Statements.{ReadsTableIndex, ReadsTableWeight, ReadsArgument, ReadsTable, ReadsNextName, ReadsNames}
 use Rattle.sz_parse.specs.Statements.{ReadsQuantifier, ReadsQuantifiers, ReadsDeclared}
-use Rattle.sz_parse.specs.Reading.{Read, after_sign, after_word, name_here, name_at}
-use Rattle.sz_parse.specs.ReadingTypes.{SubType, elem_at}
+use Rattle.sz_parse_expr.specs.Reading.{Read, after_sign, after_word, name_here, name_at}
+use Rattle.sz_parse_expr.specs.ReadingTypes.{SubType, elem_at}
 use Rattle.sz_parse.specs.ReadingTables.{argument_at, table_index_at, table_index_step}
 use Rattle.sz_parse.specs.ReadingTables.{table_weight_at, table_at, name_step, names_behind, names_at, quantity_at, quantifier_at}
 use Rattle.sz_parse.specs.ReadingTables.{begins_quantifier, quantifier_step, quantifiers_behind, quantifiers_at}
 use Rattle.sz_parse.specs.ReadingStatements.{declared_at}
-use Rattle.sz_parse.proofs.Steps.{bind_step, bind_none, choose_some, choose_none}
-use Rattle.sz_parse.proofs.Items.{IsFound, Low, all_complete, many_join}
-use Rattle.sz_parse.proofs.TokenLemmas.{after_sign_is, other_sign, after_word_is, name_is}
-use Rattle.sz_parse.proofs.OperatorLemmas.{sign_grip}
-use Rattle.sz_parse.proofs.OperatorLemmas.{looseness}
-use Rattle.sz_parse.proofs.TypeSound.{IsSoundType}
-use Rattle.sz_parse.proofs.TypeComplete.{IsCompleteType, number_is, elem_complete, params_complete}
+use Rattle.sz_parse_expr.proofs.Steps.{bind_step, bind_none, choose_some, choose_none}
+use Rattle.sz_parse_expr.proofs.Items.{IsFound, Low, all_complete, many_join}
+use Rattle.sz_parse_expr.proofs.TokenLemmas.{after_sign_is, other_sign, after_word_is, name_is}
+use Rattle.sz_parse_expr.proofs.OperatorLemmas.{sign_grip}
+use Rattle.sz_parse_expr.proofs.OperatorLemmas.{looseness}
+use Rattle.sz_parse_expr.proofs.TypeSound.{IsSoundType}
+use Rattle.sz_parse_expr.proofs.TypeComplete.{IsCompleteType, number_is, elem_complete, params_complete}
 use Rattle.sz_parse.proofs.TableSound.{table_index_item, name_item, quantifier_item}
 use Rattle.sz_parse.proofs.SimpleComplete.{word_at_sign, sign_at_word, sign_at_name}
 

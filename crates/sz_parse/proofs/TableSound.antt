@@ -10,22 +10,22 @@ use Rattle.sz_tree.specs.Names.{Ident}
 use Rattle.sz_tree.specs.Types.{Typ, params_of, type_height, param_heights}
 use Rattle.sz_tree.specs.Statements.{ElemForm}
 use Rattle.sz_tree.specs.Statements.{greatest, elem_height, quantifier_height, table_height}
-use Rattle.sz_parse.specs.Tokens.{Spelling, token, IsWord}
-use Rattle.sz_parse.specs.Types.{ReadsType, ReadsElem, ReadsParams}
+use Rattle.sz_parse_expr.specs.Tokens.{Spelling, token, IsWord}
+use Rattle.sz_parse_expr.specs.Types.{ReadsType, ReadsElem, ReadsParams}
 use Rattle.sz_parse.specs.Statements.{quantity_word, Perhaps}
 use Rattle.sz_parse.specs.Statements.{ReadsTableIndex, ReadsTableWeight, ReadsArgument, ReadsTable, ReadsNextName, ReadsNames}
 use Rattle.sz_parse.specs.Statements.{ReadsQuantifier, ReadsQuantifiers, ReadsDeclared}
-use Rattle.sz_parse.specs.ReadingTypes.{SubType}
+use Rattle.sz_parse_expr.specs.ReadingTypes.{SubType}
 use Rattle.sz_parse.specs.ReadingTables.{argument_at, table_index_at, table_index_step}
 use Rattle.sz_parse.specs.ReadingTables.{table_weight_at, table_at, name_step, names_behind, names_at, quantity_of, quantity_here}
 use Rattle.sz_parse.specs.ReadingTables.{quantity_at, quantifier_at, begins_quantifier, quantifier_step, quantifiers_behind}
 use Rattle.sz_parse.specs.ReadingTables.{quantifiers_at}
 use Rattle.sz_parse.specs.ReadingStatements.{declared_at}
-use Rattle.sz_parse.proofs.Holds.{Holds, some_holds, none_holds, bind_holds, choose_holds, chosen_holds, weaker}
-use Rattle.sz_parse.proofs.Items.{IsItem, Low, all_sound, many_split, known}
-use Rattle.sz_parse.proofs.TokenLemmas.{after_sign_sound, after_word_sound, name_sound, is_length, name_length}
-use Rattle.sz_parse.proofs.TypeSound.{IsSoundType, number_sound, elem_sound, params_sound}
-use Rattle.sz_parse.proofs.TypeSound.{label_shorter, type_shorter}
+use Rattle.sz_parse_expr.proofs.Holds.{Holds, some_holds, none_holds, bind_holds, choose_holds, chosen_holds, weaker}
+use Rattle.sz_parse_expr.proofs.Items.{IsItem, Low, all_sound, many_split, known}
+use Rattle.sz_parse_expr.proofs.TokenLemmas.{after_sign_sound, after_word_sound, name_sound, is_length, name_length}
+use Rattle.sz_parse_expr.proofs.TypeSound.{IsSoundType, number_sound, elem_sound, params_sound}
+use Rattle.sz_parse_expr.proofs.TypeSound.{label_shorter, type_shorter}
 use Rattle.sz_parse.proofs.SimpleSound.{one_quantifier_shorter, ParsedPart}
 
 -- ---- tables and quantifiers

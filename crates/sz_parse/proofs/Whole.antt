@@ -4,11 +4,11 @@ use Rattle.sz_types.specs.declared.place.Place.{Place}
 use Rattle.sz_lex.specs.declared.token.Token.{Token}
 use Rattle.sz_lex.specs.Lexed.{lexeme_of, Lexed}
 use Rattle.sz_tree.specs.Statements.{Stm, Stms, no_stms, stm, stm_height, stm_heights}
-use Rattle.sz_parse.specs.Tokens.{Spelling}
-use Rattle.sz_parse.specs.declared.limit.TheConstants.{MAX_HEIGHT}
+use Rattle.sz_parse_expr.specs.Tokens.{Spelling}
+use Rattle.sz_parse_expr.specs.declared.limit.TheConstants.{MAX_HEIGHT}
 use Rattle.sz_parse.specs.Statements.{ReadsStm, ReadsStms}
 use Rattle.sz_parse.specs.Program.{Spells, IsStuck, count_of}
-use Rattle.sz_parse.proofs.Holds.{some_is}
+use Rattle.sz_parse_expr.proofs.Holds.{some_is}
 use Rattle.sz_parse.proofs.SimpleSound.{stm_shorter, stms_shorter}
 use Rattle.sz_parse.proofs.StatementComplete.{stm_complete}
 

@@ -15,10 +15,10 @@ use Rattle.sz_tree.specs.Statements.{StepForm, at_index, at_field, SimpleForm, a
 use Rattle.sz_tree.specs.Statements.{first_declare, first_define, first_simple, Stm, empty, block}
 use Rattle.sz_tree.specs.Statements.{declare, define, static, typedef, table, function, simple, if_only, if_else, while, do_while, for_loop}
 use Rattle.sz_tree.specs.Statements.{break, continue, return, emit, when, stms_of}
-use Rattle.sz_parse.specs.Tokens.{Spelling}
-use Rattle.sz_parse.specs.Reading.{Read, ◌>>=◌, choose, guard, after_sign, after_word, ident_of, name_at, all_at}
-use Rattle.sz_parse.specs.ReadingExpressions.{Sub, call_at, condition_at, expr_at}
-use Rattle.sz_parse.specs.ReadingTypes.{SubType, label_at, params_at, type_at}
+use Rattle.sz_parse_expr.specs.Tokens.{Spelling}
+use Rattle.sz_parse_expr.specs.Reading.{Read, ◌>>=◌, choose, guard, after_sign, after_word, ident_of, name_at, all_at}
+use Rattle.sz_parse_expr.specs.ReadingExpressions.{Sub, call_at, condition_at, expr_at}
+use Rattle.sz_parse_expr.specs.ReadingTypes.{SubType, label_at, params_at, type_at}
 use Rattle.sz_parse.specs.ReadingTables.{table_at, quantifiers_at}
 
 -- what read gives, unless this sign stands there

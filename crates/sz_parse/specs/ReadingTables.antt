@@ -10,9 +10,9 @@ use Rattle.sz_tree.specs.declared.stmt.Quantity.{Quantity}
 use Rattle.sz_tree.specs.declared.stmt.Quantity.TheVariants as quantities
 use Rattle.sz_tree.specs.Names.{Ident}
 use Rattle.sz_tree.specs.Statements.{ElemForm, TableForm, QuantifierForm}
-use Rattle.sz_parse.specs.Tokens.{Spelling}
-use Rattle.sz_parse.specs.Reading.{Read, ◌>>=◌, choose, after_sign, after_word, name_at, all_at}
-use Rattle.sz_parse.specs.ReadingTypes.{SubType, number_at, elem_at}
+use Rattle.sz_parse_expr.specs.Tokens.{Spelling}
+use Rattle.sz_parse_expr.specs.Reading.{Read, ◌>>=◌, choose, after_sign, after_word, name_at, all_at}
+use Rattle.sz_parse_expr.specs.ReadingTypes.{SubType, number_at, elem_at}
 
 -- the parts of a table
 unfoldable pub argument_at : List Token → Read (Option ℤ)

@@ -15,9 +15,9 @@ use Rattle.sz_tree.specs.Statements.{StepForm, at_index, at_field, SimpleForm, a
 use Rattle.sz_tree.specs.Statements.{first_declare, first_define, first_simple, ElemForm, TableForm, QuantifierForm, Stm, empty, block}
 use Rattle.sz_tree.specs.Statements.{declare, define, static, typedef, table, function, simple, if_only, if_else, while, do_while, for_loop}
 use Rattle.sz_tree.specs.Statements.{break, continue, return, emit, when, Stms, no_stms, stm}
-use Rattle.sz_parse.specs.Tokens.{Spelling, At, Is, IsSign, IsWord, AtName, Many}
-use Rattle.sz_parse.specs.Expressions.{Reads, ReadsArgs}
-use Rattle.sz_parse.specs.Types.{ReadsType, ReadsParams, ReadsElem}
+use Rattle.sz_parse_expr.specs.Tokens.{Spelling, At, Is, IsSign, IsWord, AtName, Many}
+use Rattle.sz_parse_expr.specs.Expressions.{Reads, ReadsArgs}
+use Rattle.sz_parse_expr.specs.Types.{ReadsType, ReadsParams, ReadsElem}
 
 -- how quantities are spelled
 abbrev pub quantity_word : Quantity → Word

@@ -2,7 +2,7 @@
 ghost use Rattle.std.specs.Prelude.{◌≡◌};
 ghost use Rattle.sz_parse.specs.Program.{SpellsOneTree, IsNotStuck, IsStuckOnce, EveryListIsRead};
 
-use crate::limit::MAX_HEIGHT;
+use sz_parse_expr::MAX_HEIGHT;
 
 /// A list of tokens spells at most one tree.
 pub fn trees_are_unique()

@@ -3,10 +3,10 @@ use Rattle.std.specs.Prelude.{map}
 use Rattle.sz_lex.specs.Lexed.{lexeme_of}
 use Rattle.sz_tree.specs.Statements.{stms_of, stm_heights}
 use Rattle.sz_tree.specs.View.{stm_of}
-use Rattle.sz_parse.specs.declared.limit.TheConstants.{MAX_HEIGHT}
+use Rattle.sz_parse_expr.specs.declared.limit.TheConstants.{MAX_HEIGHT}
 use Rattle.sz_parse.specs.Statements.{ReadsStm}
-use Rattle.sz_parse.specs.Reading.{utf8_in}
-use Rattle.sz_parse.proofs.ExpressionRows.{map_push}
+use Rattle.sz_parse_expr.specs.Reading.{utf8_in}
+use Rattle.sz_parse_expr.proofs.ExpressionRows.{map_push}
 use Rattle.sz_parse.proofs.Whole.{one_tree, one_place, not_both}
 use Rattle.sz_parse.proofs.StatementAlike.{some_alike, none_alike}
 use Rattle.sz_parse.proofs.ProgramTurns.{goes, stuck_at, spelled_all, tokens_agree}

@@ -2,13 +2,13 @@ use Rattle.std.proofs.Common.{◌≡◌, [], ◌∷◌, ◌++◌, refl, ap, ◌�
 use Rattle.std.specs.Prelude.{map}
 use Rattle.std.proofs.lemmas.Result.{err_from_is_err_and}
 use Rattle.sz_tree.specs.View.{step_of}
-use Rattle.sz_parse.specs.ReadingExpressions.{expr_at}
+use Rattle.sz_parse_expr.specs.ReadingExpressions.{expr_at}
 use Rattle.sz_parse.specs.ReadingStatements.{path_step}
-use Rattle.sz_parse.specs.Reading.{utf8_in}
-use Rattle.sz_parse.proofs.ExpressionSound.{expr_sound}
+use Rattle.sz_parse_expr.specs.Reading.{utf8_in}
+use Rattle.sz_parse_expr.proofs.ExpressionSound.{expr_sound}
 use Rattle.sz_parse.proofs.SimpleSound.{path_item}
-use Rattle.sz_parse.proofs.Loops.{all_goes_on, all_fails, all_ends, item_shorter}
-use Rattle.sz_parse.proofs.ExpressionRows.{just, map_push}
+use Rattle.sz_parse_expr.proofs.Loops.{all_goes_on, all_fails, all_ends, item_shorter}
+use Rattle.sz_parse_expr.proofs.ExpressionRows.{just, map_push}
 use Rattle.sz_parse.proofs.StatementTurns.{all_start, step_here, step_gone, no_step_at_end}
 use Rattle.sz_parse.proofs.simple.steps.Goals as goal
 

@@ -1,8 +1,8 @@
 use Rattle.std.proofs.Common.{◌≡◌, length}
 use Rattle.std.specs.Prelude.{map}
 use Rattle.sz_tree.specs.View.{step_of}
-use Rattle.sz_parse.specs.Reading.{utf8_in, all_at, with_items}
-use Rattle.sz_parse.specs.ReadingExpressions.{expr_at}
+use Rattle.sz_parse_expr.specs.Reading.{utf8_in, all_at, with_items}
+use Rattle.sz_parse_expr.specs.ReadingExpressions.{expr_at}
 use Rattle.sz_parse.specs.ReadingStatements.{path_step}
 use Rattle.sz_parse.proofs.simple.steps.Given as goal
 

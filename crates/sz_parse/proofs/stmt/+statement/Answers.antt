@@ -2,11 +2,11 @@ use Rattle.std.proofs.Common.{◌≡◌, [], ◌∷◌, ◌++◌, refl, ap, ◌�
 use Rattle.std.specs.Prelude.{map}
 use Rattle.std.proofs.lemmas.Result.{err_from_is_err_and}
 use Rattle.sz_tree.specs.View.{stm_of}
-use Rattle.sz_parse.specs.Reading.{utf8_in}
+use Rattle.sz_parse_expr.specs.Reading.{utf8_in}
 use Rattle.sz_parse.specs.ReadingStatements.{stm_at, stm_step}
 use Rattle.sz_parse.proofs.StatementSound.{stms_item}
-use Rattle.sz_parse.proofs.Loops.{all_goes_on, all_fails, all_ends, item_shorter}
-use Rattle.sz_parse.proofs.ExpressionRows.{just, map_push}
+use Rattle.sz_parse_expr.proofs.Loops.{all_goes_on, all_fails, all_ends, item_shorter}
+use Rattle.sz_parse_expr.proofs.ExpressionRows.{just, map_push}
 use Rattle.sz_parse.proofs.StatementTurns.{all_start, stm_is_here, stm_gone, no_stm_at_end}
 use Rattle.sz_parse.proofs.stmt.+statement.Goals as goal
 

@@ -2,7 +2,7 @@
 use Rattle.std.proofs.Common.{◌≡◌, ◌+◌, ◌*◌, length}
 use Rattle.std.specs.Prelude.{map}
 use Rattle.sz_tree.specs.View.{stm_of}
-use Rattle.sz_parse.specs.Reading.{utf8_in, all_at, with_items}
+use Rattle.sz_parse_expr.specs.Reading.{utf8_in, all_at, with_items}
 use Rattle.sz_parse.specs.ReadingStatements.{stm_at, stm_step}
 use Rattle.sz_parse.proofs.stmt.+statement.Given as goal
 

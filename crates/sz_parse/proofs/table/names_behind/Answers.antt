@@ -1,12 +1,12 @@
 use Rattle.std.proofs.Common.{◌≡◌, [], ◌∷◌, ◌++◌, refl, ap, ◌∙◌}
 use Rattle.std.proofs.lemmas.Result.{err_from_is_err_and}
 use Rattle.sz_parse.specs.ReadingTables.{name_step}
-use Rattle.sz_parse.specs.Reading.{utf8_in}
-use Rattle.sz_parse.specs.ReadingTypes.{type_at}
-use Rattle.sz_parse.proofs.TypeSound.{type_sound}
+use Rattle.sz_parse_expr.specs.Reading.{utf8_in}
+use Rattle.sz_parse_expr.specs.ReadingTypes.{type_at}
+use Rattle.sz_parse_expr.proofs.TypeSound.{type_sound}
 use Rattle.sz_parse.proofs.TableSound.{name_item}
-use Rattle.sz_parse.proofs.Loops.{all_goes_on, all_fails, all_ends, item_shorter}
-use Rattle.sz_parse.proofs.ExpressionRows.{just}
+use Rattle.sz_parse_expr.proofs.Loops.{all_goes_on, all_fails, all_ends, item_shorter}
+use Rattle.sz_parse_expr.proofs.ExpressionRows.{just}
 use Rattle.sz_parse.proofs.StatementTurns.{name_here, name_gone, no_name_at_end}
 use Rattle.sz_parse.proofs.StatementTurns.{names_start}
 use Rattle.sz_parse.proofs.table.names_behind.Goals as goal

@@ -1,5 +1,5 @@
 use Rattle.std.proofs.Common.{◌≡◌, length}
-use Rattle.sz_parse.specs.Reading.{utf8_in, all_at, with_items}
+use Rattle.sz_parse_expr.specs.Reading.{utf8_in, all_at, with_items}
 use Rattle.sz_parse.specs.ReadingTables.{name_step, names_behind}
 use Rattle.sz_parse.proofs.table.names_behind.Given as goal
 

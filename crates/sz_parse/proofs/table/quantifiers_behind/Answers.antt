@@ -2,13 +2,13 @@ use Rattle.std.proofs.Common.{◌≡◌, [], ◌∷◌, ◌++◌, refl, ap, ◌�
 use Rattle.std.specs.Prelude.{map}
 use Rattle.std.proofs.lemmas.Result.{err_from_is_err_and}
 use Rattle.sz_tree.specs.View.{quantifier_of}
-use Rattle.sz_parse.specs.ReadingTypes.{type_at}
+use Rattle.sz_parse_expr.specs.ReadingTypes.{type_at}
 use Rattle.sz_parse.specs.ReadingTables.{quantifier_step}
-use Rattle.sz_parse.specs.Reading.{utf8_in}
-use Rattle.sz_parse.proofs.TypeSound.{type_sound}
+use Rattle.sz_parse_expr.specs.Reading.{utf8_in}
+use Rattle.sz_parse_expr.proofs.TypeSound.{type_sound}
 use Rattle.sz_parse.proofs.TableSound.{quantifier_item}
-use Rattle.sz_parse.proofs.Loops.{all_goes_on, all_fails, all_ends, item_shorter}
-use Rattle.sz_parse.proofs.ExpressionRows.{just, map_push}
+use Rattle.sz_parse_expr.proofs.Loops.{all_goes_on, all_fails, all_ends, item_shorter}
+use Rattle.sz_parse_expr.proofs.ExpressionRows.{just, map_push}
 use Rattle.sz_parse.proofs.StatementTurns.{quantifier_here, quantifier_gone, no_quantifier_at_end, quantifiers_start}
 use Rattle.sz_parse.proofs.table.quantifiers_behind.Goals as goal
 

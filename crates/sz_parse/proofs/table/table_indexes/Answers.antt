@@ -2,13 +2,13 @@ use Rattle.std.proofs.Common.{◌≡◌, [], ◌∷◌, ◌++◌, refl, ap, ◌�
 use Rattle.std.specs.Prelude.{map}
 use Rattle.std.proofs.lemmas.Result.{err_from_is_err_and}
 use Rattle.sz_tree.specs.View.{elem_of}
-use Rattle.sz_parse.specs.ReadingTypes.{type_at}
+use Rattle.sz_parse_expr.specs.ReadingTypes.{type_at}
 use Rattle.sz_parse.specs.ReadingTables.{table_index_step}
-use Rattle.sz_parse.specs.Reading.{utf8_in}
-use Rattle.sz_parse.proofs.TypeSound.{type_sound}
+use Rattle.sz_parse_expr.specs.Reading.{utf8_in}
+use Rattle.sz_parse_expr.proofs.TypeSound.{type_sound}
 use Rattle.sz_parse.proofs.TableSound.{table_index_item}
-use Rattle.sz_parse.proofs.Loops.{all_goes_on, all_fails, all_ends, item_shorter}
-use Rattle.sz_parse.proofs.ExpressionRows.{just, map_push}
+use Rattle.sz_parse_expr.proofs.Loops.{all_goes_on, all_fails, all_ends, item_shorter}
+use Rattle.sz_parse_expr.proofs.ExpressionRows.{just, map_push}
 use Rattle.sz_parse.proofs.StatementTurns.{all_start}
 use Rattle.sz_parse.proofs.StatementTurns.{table_index_here, table_index_gone, no_table_index_at_end}
 use Rattle.sz_parse.proofs.table.table_indexes.Goals as goal

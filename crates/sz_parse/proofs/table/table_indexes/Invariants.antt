@@ -1,8 +1,8 @@
 use Rattle.std.proofs.Common.{◌≡◌, length}
 use Rattle.std.specs.Prelude.{map}
 use Rattle.sz_tree.specs.View.{elem_of}
-use Rattle.sz_parse.specs.Reading.{utf8_in, all_at, with_items}
-use Rattle.sz_parse.specs.ReadingTypes.{type_at}
+use Rattle.sz_parse_expr.specs.Reading.{utf8_in, all_at, with_items}
+use Rattle.sz_parse_expr.specs.ReadingTypes.{type_at}
 use Rattle.sz_parse.specs.ReadingTables.{table_index_step}
 use Rattle.sz_parse.proofs.table.table_indexes.Given as goal
 
