@@ -2,4 +2,4 @@
 -- statement takes a token at least.
 pub use Rattle.sz_parse.proofs.Whole.{one_tree, one_place, not_both}
 pub use Rattle.sz_parse.proofs.Total.{every_list_is_read}
-pub use Rattle.sz_parse.proofs.StatementSound.{stm_shorter}
+pub use Rattle.sz_parse.proofs.SimpleSound.{stm_shorter}

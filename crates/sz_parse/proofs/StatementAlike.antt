@@ -4,13 +4,16 @@ use Rattle.sz_lex.specs.declared.token.Token.{Token}
 use Rattle.sz_lex.specs.declared.sign.Sign.{Sign}
 use Rattle.sz_tree.specs.Types.{no_params, param}
 use Rattle.sz_tree.specs.Statements.{at_index, at_field, assign, increment, decrement, call_of, first_declare, first_define, first_simple}
-use Rattle.sz_tree.specs.Statements.{Stm, empty, block, declare, define, static, typedef, table, function, simple, if_only, if_else, while, do_while, for_loop, break, continue, return, emit, when, Stms, no_stms, stm}
-use Rattle.sz_parse.specs.Tokens.{Spelling, Many}
-use Rattle.sz_parse.specs.Expressions.{Reads}
-use Rattle.sz_parse.specs.Statements.{Perhaps, ReadsArgument, ReadsBehind, ReadsWeight, ReadsIndex, ReadsStep, ReadsSimple, ReadsFirst, ReadsTableIndex, ReadsTableWeight, ReadsTable, ReadsNextName, ReadsNames, ReadsQuantifier, ReadsQuantifiers, ReadsDeclared, ReadsCondition, ReadsStm, ReadsStms}
+use Rattle.sz_tree.specs.Statements.{Stm, empty, block, declare, define, static, typedef, table, function, simple, if_only, if_else, while}
+use Rattle.sz_tree.specs.Statements.{do_while, for_loop, break, continue, return, emit, when, Stms, no_stms, stm}
+use Rattle.sz_parse_expr.specs.Tokens.{Spelling, Many}
+use Rattle.sz_parse_expr.specs.Expressions.{Reads}
+use Rattle.sz_parse.specs.Statements.{Perhaps, ReadsArgument, ReadsBehind, ReadsWeight, ReadsIndex, ReadsStep, ReadsSimple, ReadsFirst, ReadsTableIndex}
+use Rattle.sz_parse.specs.Statements.{ReadsTableWeight, ReadsTable, ReadsNextName, ReadsNames, ReadsQuantifier, ReadsQuantifiers}
+use Rattle.sz_parse.specs.Statements.{ReadsDeclared, ReadsCondition, ReadsStm, ReadsStms}
 use Rattle.sz_parse.specs.ReadingStatements.{stm_at}
-use Rattle.sz_parse.proofs.ExpressionAlike.{Agree, Alike, agree_back, on_end, on_at, on_is, on_name, exp_alike, args_alike}
-use Rattle.sz_parse.proofs.TypeAlike.{type_alike, params_alike, elem_alike}
+use Rattle.sz_parse_expr.proofs.ExpressionAlike.{Agree, Alike, agree_back, on_end, on_at, on_is, on_name, exp_alike, args_alike}
+use Rattle.sz_parse_expr.proofs.TypeAlike.{type_alike, params_alike, elem_alike}
 use Rattle.sz_parse.proofs.StatementSound.{stm_sound}
 use Rattle.sz_parse.proofs.StatementComplete.{stm_complete}
 

@@ -4,12 +4,15 @@ use Rattle.sz_lex.specs.declared.token.Token.{Token}
 use Rattle.sz_lex.specs.declared.sign.Sign.TheVariants as signs
 use Rattle.sz_tree.specs.Names.{Ident}
 use Rattle.sz_tree.specs.Statements.{StepForm, at_index, at_field, QuantifierForm, Stm}
-use Rattle.sz_parse.specs.Tokens.{Spelling}
-use Rattle.sz_parse.specs.Reading.{Read, bind, choose, after_sign, name_at, all_at, with_items}
-use Rattle.sz_parse.specs.ReadingExpressions.{Sub}
-use Rattle.sz_parse.specs.ReadingTypes.{SubType}
-use Rattle.sz_parse.specs.ReadingStatements.{index_at, index_step, begins_step, step_item, path_step, table_index_at, table_index_step, name_step, names_behind, begins_quantifier, quantifier_at, quantifier_step, quantifiers_behind, begins_stm, stm_step}
-use Rattle.sz_parse.proofs.Steps.{choose_some, choose_none}
+use Rattle.sz_parse_expr.specs.Tokens.{Spelling}
+use Rattle.sz_parse_expr.specs.Reading.{Read, bind, choose, after_sign, name_at, all_at, with_items}
+use Rattle.sz_parse_expr.specs.ReadingExpressions.{Sub}
+use Rattle.sz_parse_expr.specs.ReadingTypes.{SubType}
+use Rattle.sz_parse.specs.ReadingTables.{table_index_at, table_index_step}
+use Rattle.sz_parse.specs.ReadingStatements.{index_at, index_step, begins_step, step_item, path_step}
+use Rattle.sz_parse.specs.ReadingTables.{name_step, names_behind, begins_quantifier, quantifier_at, quantifier_step, quantifiers_behind}
+use Rattle.sz_parse.specs.ReadingStatements.{begins_stm, stm_step}
+use Rattle.sz_parse_expr.proofs.Steps.{choose_some, choose_none}
 
 same_read : {A : Type 0} (read : Read (List A)) → bind read (λ y. Some ([] ++ y.0, y.1)) ≡ read
 unfolding bind
@@ -22,13 +25,15 @@ unfolding with_items
 all_start step ts = same_read (all_at step ts)
 
 -- what stands behind one of two tokens
-pick_here : {A : Type 0} (f g : List Token → Option A) (o p : Option (List Token)) (r : List Token) → choose o p (λ r. Some r) ≡ Some r → choose o (choose p None (λ a. Some (f a))) (λ a. Some (g a)) ≡ Some (choose o (bind p f) g)
+pick_here : {A : Type 0} (f g : List Token → Option A) (o p : Option (List Token)) (r : List Token) → choose o p (λ r. Some r) ≡ Some r
+    → choose o (choose p None (λ a. Some (f a))) (λ a. Some (g a)) ≡ Some (choose o (bind p f) g)
 unfolding choose bind
 pick_here f g (Some x) p r e = refl
 pick_here f g None (Some y) r e = refl
 pick_here f g None None r e = absurd cc
 
-pick_gone : {A : Type 0} (f g : List Token → Option A) (o p : Option (List Token)) → choose o p (λ r. Some r) ≡ None → choose o (choose p None (λ a. Some (f a))) (λ a. Some (g a)) ≡ None
+pick_gone : {A : Type 0} (f g : List Token → Option A) (o p : Option (List Token)) → choose o p (λ r. Some r) ≡ None
+    → choose o (choose p None (λ a. Some (f a))) (λ a. Some (g a)) ≡ None
 unfolding choose
 pick_gone f g (Some x) p e = absurd cc
 pick_gone f g None (Some y) e = absurd cc
@@ -66,7 +71,8 @@ module _ (text : Spelling) (sub : Sub) where
   no_step_at_end = refl
 
 module _ (text : Spelling) (ty : SubType) where
-  pub table_index_here : (ts after : List Token) → after_sign signs.OpenBracket ts ≡ Some after → table_index_step text ty ts ≡ Some (table_index_at text ty after)
+  pub table_index_here : (ts after : List Token) → after_sign signs.OpenBracket ts ≡ Some after
+      → table_index_step text ty ts ≡ Some (table_index_at text ty after)
   unfolding table_index_step
   table_index_here ts after c = choose_some _ _ _ _ _ c refl
 

@@ -4,7 +4,7 @@ use Rattle.sz_types.specs.declared.place.Place.{Place}
 use Rattle.sz_lex.specs.declared.token.Token.{Token}
 use Rattle.sz_lex.specs.Lexed.{lexeme_of, Lexed}
 use Rattle.sz_tree.specs.Statements.{Stm, Stms, stms_of, stm_height, stm_heights}
-use Rattle.sz_parse.specs.declared.limit.TheConstants.{MAX_HEIGHT}
+use Rattle.sz_parse_expr.specs.declared.limit.TheConstants.{MAX_HEIGHT}
 use Rattle.sz_parse.specs.Statements.{ReadsStm, ReadsStms}
 use Rattle.sz_parse.specs.Program.{Spells, IsStuck, EveryListIsRead}
 use Rattle.sz_parse.specs.ReadingStatements.{stm_at}

@@ -4,7 +4,7 @@ use Rattle.sz_types.specs.declared.place.Place.{Place}
 use Rattle.sz_lex.specs.declared.token.Token.{Token}
 use Rattle.sz_lex.specs.Lexed.{lexeme_of, Lexed}
 use Rattle.sz_tree.specs.Statements.{Stm, Stms, no_stms, stm, stm_height, stm_heights}
-use Rattle.sz_parse.specs.declared.limit.TheConstants.{MAX_HEIGHT}
+use Rattle.sz_parse_expr.specs.declared.limit.TheConstants.{MAX_HEIGHT}
 use Rattle.sz_parse.specs.Statements.{ReadsStm, ReadsStms}
 
 -- the tokens are these statements, one after the other, none of them too high
@@ -26,7 +26,8 @@ pub record IsStuck (tokens : Lexed) (p : Place) : Type 0 where
   pub low : stm_heights front ≤ MAX_HEIGHT
   pub place : here.place ≡ p
   pub none : (s : Stm) (after : List Token) → ReadsStm (lexeme_of tokens.text) s (here ∷ rest) after → stm_height s ≤ MAX_HEIGHT → ⊥
-  pub longest : (ss : Stms) (after : List Token) → ReadsStms (lexeme_of tokens.text) ss tokens.tokens after → stm_heights ss ≤ MAX_HEIGHT → count_of ss ≤ count_of front
+  pub longest : (ss : Stms) (after : List Token) → ReadsStms (lexeme_of tokens.text) ss tokens.tokens after → stm_heights ss ≤ MAX_HEIGHT
+      → count_of ss ≤ count_of front
 
 -- a list of tokens spells one tree at most
 abbrev pub SpellsOneTree : Type 0

@@ -1,5 +1,5 @@
 -- Reading statements. Each rule is over readers of its parts.
-use Rattle.std.specs.Prelude.{ℕ, zero, suc, ℤ, List, [], ◌∷◌, Option, Some, None, nat_le}
+use Rattle.std.specs.Prelude.{ℕ, zero, suc, List, [], ◌∷◌, Option, Some, None, nat_le}
 use Rattle.sz_types.specs.declared.place.Place.{Place}
 use Rattle.sz_lex.specs.declared.token.Token.{Token}
 use Rattle.sz_lex.specs.declared.token.Kind.{Kind}
@@ -8,16 +8,18 @@ use Rattle.sz_lex.specs.declared.sign.Sign.{Sign}
 use Rattle.sz_lex.specs.declared.sign.Sign.TheVariants as signs
 use Rattle.sz_lex.specs.declared.word.Word.{Word}
 use Rattle.sz_lex.specs.declared.word.Word.TheVariants as words
-use Rattle.sz_tree.specs.declared.stmt.Quantity.{Quantity}
-use Rattle.sz_tree.specs.declared.stmt.Quantity.TheVariants as quantities
 use Rattle.sz_tree.specs.Names.{Ident}
 use Rattle.sz_tree.specs.Expressions.{Exp, exps_of}
 use Rattle.sz_tree.specs.Types.{Typ, params_of}
-use Rattle.sz_tree.specs.Statements.{StepForm, at_index, at_field, SimpleForm, assign, increment, decrement, call_of, FirstForm, first_declare, first_define, first_simple, ElemForm, TableForm, QuantifierForm, Stm, empty, block, declare, define, static, typedef, table, function, simple, if_only, if_else, while, do_while, for_loop, break, continue, return, emit, when, stms_of}
-use Rattle.sz_parse.specs.Tokens.{Spelling}
-use Rattle.sz_parse.specs.Reading.{Read, ◌>>=◌, choose, guard, after_sign, after_word, ident_of, name_at, all_at}
-use Rattle.sz_parse.specs.ReadingExpressions.{Sub, call_at, condition_at, expr_at}
-use Rattle.sz_parse.specs.ReadingTypes.{SubType, number_at, label_at, elem_at, params_at, type_at}
+use Rattle.sz_tree.specs.Statements.{StepForm, at_index, at_field, SimpleForm, assign, increment, decrement, call_of, FirstForm}
+use Rattle.sz_tree.specs.Statements.{first_declare, first_define, first_simple, Stm, empty, block}
+use Rattle.sz_tree.specs.Statements.{declare, define, static, typedef, table, function, simple, if_only, if_else, while, do_while, for_loop}
+use Rattle.sz_tree.specs.Statements.{break, continue, return, emit, when, stms_of}
+use Rattle.sz_parse_expr.specs.Tokens.{Spelling}
+use Rattle.sz_parse_expr.specs.Reading.{Read, ◌>>=◌, choose, guard, after_sign, after_word, ident_of, name_at, all_at}
+use Rattle.sz_parse_expr.specs.ReadingExpressions.{Sub, call_at, condition_at, expr_at}
+use Rattle.sz_parse_expr.specs.ReadingTypes.{SubType, label_at, params_at, type_at}
+use Rattle.sz_parse.specs.ReadingTables.{table_at, quantifiers_at}
 
 -- what read gives, unless this sign stands there
 unfoldable pub unless_at : {A : Type 0} → Sign → (List Token → Read A) → List Token → Read (Option A)
@@ -55,7 +57,8 @@ step_item text sub ts =
 
 -- an assignment, a step up or down, or a call, behind its name; d is how high its parts may be
 unfoldable pub assign_at : Spelling → Sub → Ident → List Token → Read SimpleForm
-assign_at text sub n ts = all_at (path_step text sub) ts >>= λ y. after_sign signs.Assign y.1 >>= λ a. sub 5 a >>= λ x. Some (assign (record { name = n; steps = y.0 }) x.0, x.1)
+assign_at text sub n ts =
+    all_at (path_step text sub) ts >>= λ y. after_sign signs.Assign y.1 >>= λ a. sub 5 a >>= λ x. Some (assign (record { name = n; steps = y.0 }) x.0, x.1)
 
 unfoldable pub simple_behind : Spelling → Sub → ℕ → Ident → List Token → Read SimpleForm
 simple_behind text sub d n ts =
@@ -81,70 +84,6 @@ first_behind text sub ty d n ts =
 unfoldable pub first_at : Spelling → ℕ → List Token → Read FirstForm
 first_at text zero ts = None
 first_at text (suc d) ts = name_at text ts >>= λ n. first_behind text (expr_at text d) (type_at text d) d n.0 n.1
-
--- the parts of a table
-unfoldable pub argument_at : List Token → Read (Option ℤ)
-argument_at ts = choose (after_sign signs.OpenParen ts) (Some (None, ts)) (λ a. number_at a >>= λ n. after_sign signs.CloseParen n.1 >>= λ r. Some (Some n.0, r))
-
-unfoldable pub table_index_at : Spelling → SubType → List Token → Read ElemForm
-table_index_at text ty ts = elem_at text ty ts >>= λ e. after_sign signs.CloseBracket e.1 >>= λ r. Some (e.0, r)
-
-unfoldable pub table_index_step : Spelling → SubType → List Token → Option (Read ElemForm)
-table_index_step text ty ts = choose (after_sign signs.OpenBracket ts) None (λ a. Some (table_index_at text ty a))
-
-unfoldable pub table_weight_at : Spelling → SubType → List Token → Read (Option ElemForm)
-table_weight_at text ty ts = choose (after_word words.Weight ts) (Some (None, ts)) (λ a. elem_at text ty a >>= λ e. Some (Some e.0, e.1))
-
--- what stands behind `table`, up to the semicolon
-unfoldable pub table_at : Spelling → SubType → List Token → Read TableForm
-table_at text ty ts =
-    name_at text ts >>= λ k. argument_at k.1 >>= λ a. all_at (table_index_step text ty) a.1 >>= λ i. after_word words.Of i.1 >>= λ o.
-    elem_at text ty o >>= λ e. table_weight_at text ty e.1 >>= λ w. after_sign signs.Semicolon w.1 >>= λ r.
-    Some (record { kind = k.0; argument = a.0; indexes = i.0; of = e.0; weight = w.0 }, r)
-
--- a comma and a name
-unfoldable pub name_step : Spelling → List Token → Option (Read Ident)
-name_step text ts = choose (after_sign signs.Comma ts) None (λ a. Some (name_at text a))
-
-unfoldable pub names_behind : Spelling → Ident → List Token → Read (List Ident)
-names_behind text n ts = all_at (name_step text) ts >>= λ y. Some (n ∷ y.0, y.1)
-
-unfoldable pub names_at : Spelling → List Token → Read (List Ident)
-names_at text ts = name_at text ts >>= λ n. names_behind text n.0 n.1
-
-abbrev pub quantity_of : Word → Option Quantity
-quantity_of words.Some = Some quantities.Some
-quantity_of words.Each = Some quantities.Each
-quantity_of words.All = Some quantities.All
-quantity_of _ = None
-
-abbrev pub quantity_here : Kind → List Token → Read Quantity
-quantity_here (kinds.Word w) ts = quantity_of w >>= λ q. Some (q, ts)
-quantity_here _ ts = None
-
--- how many values a quantifier speaks of
-unfoldable pub quantity_at : List Token → Read Quantity
-quantity_at [] = None
-quantity_at (t ∷ ts) = quantity_here t.kind ts
-
--- a quantifier with its semicolon
-unfoldable pub quantifier_at : Spelling → SubType → List Token → Read QuantifierForm
-quantifier_at text ty ts =
-    names_at text ts >>= λ n. after_sign signs.Colon n.1 >>= λ a. quantity_at a >>= λ q. ty q.1 >>= λ t. after_sign signs.Semicolon t.1 >>= λ r.
-    Some (record { names = n.0; quantity = q.0; of = t.0 }, r)
-
--- a name and a comma or a colon behind it
-unfoldable pub begins_quantifier : Spelling → List Token → Option (List Token)
-begins_quantifier text ts = name_at text ts >>= λ n. choose (after_sign signs.Comma n.1) (after_sign signs.Colon n.1) (λ r. Some r)
-
-unfoldable pub quantifier_step : Spelling → SubType → List Token → Option (Read QuantifierForm)
-quantifier_step text ty ts = choose (begins_quantifier text ts) None (λ _. Some (quantifier_at text ty ts))
-
-unfoldable pub quantifiers_behind : Spelling → SubType → QuantifierForm → List Token → Read (List QuantifierForm)
-quantifiers_behind text ty q ts = all_at (quantifier_step text ty) ts >>= λ y. Some (q ∷ y.0, y.1)
-
-unfoldable pub quantifiers_at : Spelling → SubType → List Token → Read (List QuantifierForm)
-quantifiers_at text ty ts = quantifier_at text ty ts >>= λ q. quantifiers_behind text ty q.0 q.1
 
 -- readers of the parts of a statement
 pub record Readers : Type 0 where
@@ -186,7 +125,8 @@ unfoldable pub table_stm_at : Spelling → Readers → Ident → List Token → 
 table_stm_at text r n ts = table_at text r.type ts >>= λ t. Some (table n t.0, t.1)
 
 unfoldable pub colon_at : Spelling → Readers → Ident → List Token → Read Stm
-colon_at text r n ts = choose (after_word words.Table ts) (choose (after_word words.Function ts) (declare_at r n ts) (λ a. function_at text r n a)) (λ a. table_stm_at text r n a)
+colon_at text r n ts =
+    choose (after_word words.Table ts) (choose (after_word words.Function ts) (declare_at r n ts) (λ a. function_at text r n a)) (λ a. table_stm_at text r n a)
 
 unfoldable pub define_at : Readers → Ident → List Token → Read Stm
 define_at r n ts = r.expr 5 ts >>= λ x. after_sign signs.Semicolon x.1 >>= λ z. Some (define n x.0, z)
@@ -202,10 +142,12 @@ named_stm_at text r d n ts =
 -- the statements behind their first word
 unfoldable pub static_at : Spelling → Readers → Place → List Token → Read Stm
 static_at text r p ts =
-    label_at text ts >>= λ n. r.type n.1 >>= λ t. after_sign signs.Assign t.1 >>= λ a. r.expr 5 a >>= λ x. after_sign signs.Semicolon x.1 >>= λ z. Some (static p n.0 t.0 x.0, z)
+    label_at text ts >>= λ n. r.type n.1 >>= λ t. after_sign signs.Assign t.1 >>= λ a. r.expr 5 a >>= λ x. after_sign signs.Semicolon x.1
+    >>= λ z. Some (static p n.0 t.0 x.0, z)
 
 unfoldable pub typedef_at : Spelling → Readers → Place → List Token → Read Stm
-typedef_at text r p ts = name_at text ts >>= λ n. after_sign signs.Assign n.1 >>= λ a. r.type a >>= λ t. after_sign signs.Semicolon t.1 >>= λ z. Some (typedef p n.0 t.0, z)
+typedef_at text r p ts =
+    name_at text ts >>= λ n. after_sign signs.Assign n.1 >>= λ a. r.type a >>= λ t. after_sign signs.Semicolon t.1 >>= λ z. Some (typedef p n.0 t.0, z)
 
 unfoldable pub if_at : Readers → Place → List Token → Read Stm
 if_at r p ts =
@@ -217,12 +159,15 @@ unfoldable pub while_at : Readers → Place → List Token → Read Stm
 while_at r p ts = condition_at r.expr ts >>= λ c. r.stm c.1 >>= λ s. Some (while p c.0 s.0, s.1)
 
 unfoldable pub do_at : Readers → Place → List Token → Read Stm
-do_at r p ts = r.stm ts >>= λ s. after_word words.While s.1 >>= λ a. condition_at r.expr a >>= λ c. after_sign signs.Semicolon c.1 >>= λ z. Some (do_while p s.0 c.0, z)
+do_at r p ts =
+    r.stm ts >>= λ s. after_word words.While s.1 >>= λ a. condition_at r.expr a >>= λ c. after_sign signs.Semicolon c.1 >>= λ z. Some (do_while p s.0 c.0, z)
 
 unfoldable pub for_at : Readers → Place → List Token → Read Stm
 for_at r p ts =
-    after_sign signs.OpenParen ts >>= λ a. unless_at signs.Semicolon r.first a >>= λ f. after_sign signs.Semicolon f.1 >>= λ b. unless_at signs.Semicolon (r.expr 5) b >>= λ c.
-    after_sign signs.Semicolon c.1 >>= λ g. unless_at signs.CloseParen r.simple g >>= λ t. after_sign signs.CloseParen t.1 >>= λ k. r.stm k >>= λ s. Some (for_loop p f.0 c.0 t.0 s.0, s.1)
+    after_sign signs.OpenParen ts >>= λ a. unless_at signs.Semicolon r.first a >>= λ f. after_sign signs.Semicolon f.1
+    >>= λ b. unless_at signs.Semicolon (r.expr 5) b >>= λ c.
+    after_sign signs.Semicolon c.1 >>= λ g. unless_at signs.CloseParen r.simple g >>= λ t. after_sign signs.CloseParen t.1 >>= λ k. r.stm k
+    >>= λ s. Some (for_loop p f.0 c.0 t.0 s.0, s.1)
 
 unfoldable pub break_at : Place → List Token → Read Stm
 break_at p ts = after_sign signs.Semicolon ts >>= λ z. Some (break p, z)
@@ -276,7 +221,8 @@ step_at text r d (t ∷ ts) = stm_here text r d t t.kind ts
 -- a statement of at most this height
 unfoldable pub stm_at : Spelling → ℕ → List Token → Read Stm
 stm_at text zero ts = None
-stm_at text (suc d) ts = step_at text (record { expr = expr_at text d; type = type_at text d; simple = simple_at text d; first = first_at text d; stm = stm_at text d }) d ts
+stm_at text (suc d) ts =
+    step_at text (record { expr = expr_at text d; type = type_at text d; simple = simple_at text d; first = first_at text d; stm = stm_at text d }) d ts
 
 -- the readers of the parts of a statement whose parts are at most this high
 abbrev pub readers_at : Spelling → ℕ → Readers

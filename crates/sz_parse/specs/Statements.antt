@@ -11,10 +11,13 @@ use Rattle.sz_tree.specs.declared.stmt.Quantity.TheVariants as quantities
 use Rattle.sz_tree.specs.Names.{Ident}
 use Rattle.sz_tree.specs.Expressions.{Exp, exps_of}
 use Rattle.sz_tree.specs.Types.{Params, no_params, param}
-use Rattle.sz_tree.specs.Statements.{StepForm, at_index, at_field, SimpleForm, assign, increment, decrement, call_of, FirstForm, first_declare, first_define, first_simple, ElemForm, TableForm, QuantifierForm, Stm, empty, block, declare, define, static, typedef, table, function, simple, if_only, if_else, while, do_while, for_loop, break, continue, return, emit, when, Stms, no_stms, stm}
-use Rattle.sz_parse.specs.Tokens.{Spelling, At, Is, IsSign, IsWord, AtName, Many}
-use Rattle.sz_parse.specs.Expressions.{Reads, ReadsArgs}
-use Rattle.sz_parse.specs.Types.{ReadsType, ReadsParams, ReadsElem}
+use Rattle.sz_tree.specs.Statements.{StepForm, at_index, at_field, SimpleForm, assign, increment, decrement, call_of, FirstForm}
+use Rattle.sz_tree.specs.Statements.{first_declare, first_define, first_simple, ElemForm, TableForm, QuantifierForm, Stm, empty, block}
+use Rattle.sz_tree.specs.Statements.{declare, define, static, typedef, table, function, simple, if_only, if_else, while, do_while, for_loop}
+use Rattle.sz_tree.specs.Statements.{break, continue, return, emit, when, Stms, no_stms, stm}
+use Rattle.sz_parse_expr.specs.Tokens.{Spelling, At, Is, IsSign, IsWord, AtName, Many}
+use Rattle.sz_parse_expr.specs.Expressions.{Reads, ReadsArgs}
+use Rattle.sz_parse_expr.specs.Types.{ReadsType, ReadsParams, ReadsElem}
 
 -- how quantities are spelled
 abbrev pub quantity_word : Quantity → Word
@@ -57,11 +60,13 @@ module _ (text : Spelling) where
   ReadsSimple (assign p e) ts rest = (a b c : List Token) × AtName text p.name ts a × Many ReadsStep p.steps a b × IsSign signs.Assign b c × Reads text e c rest
   ReadsSimple (increment n) ts rest = (a : List Token) × AtName text n ts a × IsSign signs.Increment a rest
   ReadsSimple (decrement n) ts rest = (a : List Token) × AtName text n ts a × IsSign signs.Decrement a rest
-  ReadsSimple (call_of n es) ts rest = (a b c : List Token) × AtName text n ts a × IsSign signs.OpenParen a b × ReadsArgs text es b c × IsSign signs.CloseParen c rest
+  ReadsSimple (call_of n es) ts rest =
+      (a b c : List Token) × AtName text n ts a × IsSign signs.OpenParen a b × ReadsArgs text es b c × IsSign signs.CloseParen c rest
 
   -- the first part of a `for`
   unfoldable pub ReadsFirst : FirstForm → List Token → List Token → Type 0
-  ReadsFirst (first_declare n t e) ts rest = (a b c d : List Token) × AtName text n ts a × IsSign signs.Colon a b × ReadsType text t b c × IsSign signs.Assign c d × Reads text e d rest
+  ReadsFirst (first_declare n t e) ts rest =
+      (a b c d : List Token) × AtName text n ts a × IsSign signs.Colon a b × ReadsType text t b c × IsSign signs.Assign c d × Reads text e d rest
   ReadsFirst (first_define n e) ts rest = (a b : List Token) × AtName text n ts a × IsSign signs.Define a b × Reads text e b rest
   ReadsFirst (first_simple s) ts rest = ReadsSimple s ts rest
 
@@ -74,7 +79,8 @@ module _ (text : Spelling) where
 
   -- what stands behind `table`, up to the semicolon
   unfoldable pub ReadsTable : TableForm → List Token → List Token → Type 0
-  ReadsTable t ts rest = (a b c d f g : List Token) × AtName text t.kind ts a × Perhaps ReadsArgument t.argument a b × Many ReadsTableIndex t.indexes b c × IsWord words.Of c d
+  ReadsTable t ts rest =
+      (a b c d f g : List Token) × AtName text t.kind ts a × Perhaps ReadsArgument t.argument a b × Many ReadsTableIndex t.indexes b c × IsWord words.Of c d
       × ReadsElem text t.of d f × Perhaps ReadsTableWeight t.weight f g × IsSign signs.Semicolon g rest
 
   -- a comma and a name
@@ -88,7 +94,8 @@ module _ (text : Spelling) where
 
   -- a quantifier with its semicolon
   unfoldable pub ReadsQuantifier : QuantifierForm → List Token → List Token → Type 0
-  ReadsQuantifier q ts rest = (a b c d : List Token) × ReadsNames q.names ts a × IsSign signs.Colon a b × IsWord (quantity_word q.quantity) b c × ReadsType text q.of c d × IsSign signs.Semicolon d rest
+  ReadsQuantifier q ts rest = (a b c d : List Token) × ReadsNames q.names ts a × IsSign signs.Colon a b × IsWord (quantity_word q.quantity) b c
+      × ReadsType text q.of c d × IsSign signs.Semicolon d rest
 
   -- one or more quantifiers
   abbrev pub ReadsQuantifiers : List QuantifierForm → List Token → List Token → Type 0
@@ -109,23 +116,34 @@ module _ (text : Spelling) where
     pub ReadsStm : Stm → List Token → List Token → Type 0
     ReadsStm (empty p) ts rest = At p (kinds.Sign signs.Semicolon) ts rest
     ReadsStm (block p ss) ts rest = (a b : List Token) × At p (kinds.Sign signs.OpenBrace) ts a × ReadsStms ss a b × IsSign signs.CloseBrace b rest
-    ReadsStm (declare n t e) ts rest = (a b c d : List Token) × AtName text n ts a × IsSign signs.Colon a b × ReadsType text t b c × Perhaps (ReadsBehind signs.Assign) e c d × IsSign signs.Semicolon d rest
+    ReadsStm (declare n t e) ts rest = (a b c d : List Token) × AtName text n ts a × IsSign signs.Colon a b × ReadsType text t b c
+        × Perhaps (ReadsBehind signs.Assign) e c d × IsSign signs.Semicolon d rest
     ReadsStm (define n e) ts rest = (a b c : List Token) × AtName text n ts a × IsSign signs.Define a b × Reads text e b c × IsSign signs.Semicolon c rest
-    ReadsStm (static p n t e) ts rest = (a b c d f g : List Token) × At p (kinds.Word words.Static) ts a × AtName text n a b × IsSign signs.Colon b c × ReadsType text t c d × IsSign signs.Assign d f × Reads text e f g × IsSign signs.Semicolon g rest
-    ReadsStm (typedef p n t) ts rest = (a b c d : List Token) × At p (kinds.Word words.Type) ts a × AtName text n a b × IsSign signs.Assign b c × ReadsType text t c d × IsSign signs.Semicolon d rest
+    ReadsStm (static p n t e) ts rest = (a b c d f g : List Token) × At p (kinds.Word words.Static) ts a × AtName text n a b × IsSign signs.Colon b c
+        × ReadsType text t c d × IsSign signs.Assign d f × Reads text e f g × IsSign signs.Semicolon g rest
+    ReadsStm (typedef p n t) ts rest = (a b c d : List Token) × At p (kinds.Word words.Type) ts a × AtName text n a b × IsSign signs.Assign b c
+        × ReadsType text t c d × IsSign signs.Semicolon d rest
     ReadsStm (table n t) ts rest = (a b c : List Token) × AtName text n ts a × IsSign signs.Colon a b × IsWord words.Table b c × ReadsTable t c rest
-    ReadsStm (function n ps t ss) ts rest = (a b c d f g h i j k : List Token) × AtName text n ts a × IsSign signs.Colon a b × IsWord words.Function b c × IsSign signs.OpenParen c d × ReadsDeclared ps d f × IsSign signs.CloseParen f g × IsSign signs.Colon g h × ReadsType text t h i × IsSign signs.OpenBrace i j × ReadsStms ss j k × IsSign signs.CloseBrace k rest
+    ReadsStm (function n ps t ss) ts rest = (a b c d f g h i j k : List Token) × AtName text n ts a × IsSign signs.Colon a b
+        × IsWord words.Function b c × IsSign signs.OpenParen c d × ReadsDeclared ps d f × IsSign signs.CloseParen f g × IsSign signs.Colon g h
+        × ReadsType text t h i × IsSign signs.OpenBrace i j × ReadsStms ss j k × IsSign signs.CloseBrace k rest
     ReadsStm (simple s) ts rest = (a : List Token) × ReadsSimple s ts a × IsSign signs.Semicolon a rest
     ReadsStm (if_only p c s) ts rest = (a b : List Token) × At p (kinds.Word words.If) ts a × ReadsCondition c a b × ReadsStm s b rest × NotElse rest
-    ReadsStm (if_else p c s t) ts rest = (a b d f : List Token) × At p (kinds.Word words.If) ts a × ReadsCondition c a b × ReadsStm s b d × IsWord words.Else d f × ReadsStm t f rest
+    ReadsStm (if_else p c s t) ts rest =
+        (a b d f : List Token) × At p (kinds.Word words.If) ts a × ReadsCondition c a b × ReadsStm s b d × IsWord words.Else d f × ReadsStm t f rest
     ReadsStm (while p c s) ts rest = (a b : List Token) × At p (kinds.Word words.While) ts a × ReadsCondition c a b × ReadsStm s b rest
-    ReadsStm (do_while p s c) ts rest = (a b d f : List Token) × At p (kinds.Word words.Do) ts a × ReadsStm s a b × IsWord words.While b d × ReadsCondition c d f × IsSign signs.Semicolon f rest
-    ReadsStm (for_loop p f c t s) ts rest = (a b d g h i j k : List Token) × At p (kinds.Word words.For) ts a × IsSign signs.OpenParen a b × Perhaps ReadsFirst f b d × IsSign signs.Semicolon d g × Perhaps (Reads text) c g h × IsSign signs.Semicolon h i × Perhaps ReadsSimple t i j × IsSign signs.CloseParen j k × ReadsStm s k rest
+    ReadsStm (do_while p s c) ts rest = (a b d f : List Token) × At p (kinds.Word words.Do) ts a × ReadsStm s a b × IsWord words.While b d
+        × ReadsCondition c d f × IsSign signs.Semicolon f rest
+    ReadsStm (for_loop p f c t s) ts rest = (a b d g h i j k : List Token) × At p (kinds.Word words.For) ts a × IsSign signs.OpenParen a b
+        × Perhaps ReadsFirst f b d × IsSign signs.Semicolon d g × Perhaps (Reads text) c g h × IsSign signs.Semicolon h i × Perhaps ReadsSimple t i j
+        × IsSign signs.CloseParen j k × ReadsStm s k rest
     ReadsStm (break p) ts rest = (a : List Token) × At p (kinds.Word words.Break) ts a × IsSign signs.Semicolon a rest
     ReadsStm (continue p) ts rest = (a : List Token) × At p (kinds.Word words.Continue) ts a × IsSign signs.Semicolon a rest
     ReadsStm (return p e) ts rest = (a b : List Token) × At p (kinds.Word words.Return) ts a × Perhaps (Reads text) e a b × IsSign signs.Semicolon b rest
-    ReadsStm (emit p n es e w) ts rest = (is : List Exp) × (a b c d f g : List Token) × (es ≡ exps_of is) × At p (kinds.Word words.Emit) ts a × AtName text n a b × Many ReadsIndex is b c × IsSign signs.Arrow c d × Reads text e d f × Perhaps ReadsWeight w f g × IsSign signs.Semicolon g rest
-    ReadsStm (when p qs c s) ts rest = (a b d f g : List Token) × At p (kinds.Word words.When) ts a × IsSign signs.OpenParen a b × ReadsQuantifiers qs b d × Reads text c d f × IsSign signs.CloseParen f g × ReadsStm s g rest
+    ReadsStm (emit p n es e w) ts rest = (is : List Exp) × (a b c d f g : List Token) × (es ≡ exps_of is) × At p (kinds.Word words.Emit) ts a
+        × AtName text n a b × Many ReadsIndex is b c × IsSign signs.Arrow c d × Reads text e d f × Perhaps ReadsWeight w f g × IsSign signs.Semicolon g rest
+    ReadsStm (when p qs c s) ts rest = (a b d f g : List Token) × At p (kinds.Word words.When) ts a × IsSign signs.OpenParen a b
+        × ReadsQuantifiers qs b d × Reads text c d f × IsSign signs.CloseParen f g × ReadsStm s g rest
 
     -- statements, one after the other
     pub ReadsStms : Stms → List Token → List Token → Type 0

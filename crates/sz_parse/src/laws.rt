@@ -1,5 +1,8 @@
 //! What holds of all lists of tokens. The calls do nothing: each promises a law of `specs/Program.antt`.
+ghost use Rattle.std.specs.Prelude.{◌≡◌};
 ghost use Rattle.sz_parse.specs.Program.{SpellsOneTree, IsNotStuck, IsStuckOnce, EveryListIsRead};
+
+use sz_parse_expr::MAX_HEIGHT;
 
 /// A list of tokens spells at most one tree.
 pub fn trees_are_unique()
@@ -15,4 +18,9 @@ pub fn refusal_is_unique()
 /// A list of tokens spells a tree, or it is refused.
 pub fn every_list_is_read()
     ensures { EveryListIsRead }
+{}
+
+/// A tree of height 256 is read, and none that is higher.
+pub fn greatest_height_is_256()
+    ensures { MAX_HEIGHT ≡ 256 }
 {}

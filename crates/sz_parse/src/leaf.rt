@@ -3,26 +3,24 @@ ghost use Rattle.std.specs.Prelude.{◌≡◌, ◌<◌, map as each};
 ghost use Rattle.std.specs.Option.{option_map};
 ghost use Rattle.sz_lex.specs.declared.sign.Sign.TheVariants.{Semicolon, CloseParen};
 ghost use Rattle.sz_tree.specs.View.{tree_of, first_of, simple_of, param_of, stm_of};
-ghost use Rattle.sz_parse.specs.Reading.{utf8_in};
-ghost use Rattle.sz_parse.specs.ReadingExpressions.{expr_at};
-ghost use Rattle.sz_parse.specs.ReadingTypes.{type_at};
+ghost use Rattle.sz_parse_expr.specs.Reading.{utf8_in};
+ghost use Rattle.sz_parse_expr.specs.ReadingExpressions.{expr_at};
+ghost use Rattle.sz_parse_expr.specs.ReadingTypes.{type_at};
 ghost use Rattle.sz_parse.specs.ReadingStatements.{unless_at, init_at, weight_at, simple_at, first_at, declare_at, declared_at, table_stm_at, define_at, simple_stm_at, static_at, typedef_at, break_at, continue_at, return_at, emit_at, readers_at};
-ghost use Rattle.sz_parse.specs.Outcome.{Gives};
+ghost use Rattle.sz_parse_expr.specs.Outcome.{Gives};
 
-use crate::expr::expr;
-use crate::failed::Failed;
-use crate::limit::MAX_HEIGHT;
 use crate::simple::{first, indexes, simple, simple_behind};
 use crate::table::table;
-use crate::token::{expect, name, skip, skip_word};
-use crate::types::{label, params, type_tree};
 use std::alloc::Global;
 use sz_lex::{Sign, Token, Word};
+use sz_parse_expr::{
+    Failed, MAX_HEIGHT, expect, expr, label, name, params, skip, skip_word, type_tree,
+};
 use sz_tree::{Expr, First, Name, Param, Simple, Stmt};
 use sz_types::Place;
 
 // An expression, unless this sign stands there.
-#[tactic(auto, unfolding(crate::specs::ReadingStatements::unless_at, crate::specs::Reading::bind, crate::specs::Reading::choose))]
+#[tactic(auto, unfolding(crate::specs::ReadingStatements::unless_at, sz_parse_expr::specs::Reading::bind, sz_parse_expr::specs::Reading::choose))]
 pub fn maybe_expr<'t>(
     alloc: Global,
     text: &[u8],
@@ -41,7 +39,7 @@ pub fn maybe_expr<'t>(
 }
 
 // The first part of a `for`, unless a semicolon stands there.
-#[tactic(auto, unfolding(crate::specs::ReadingStatements::unless_at, crate::specs::Reading::bind, crate::specs::Reading::choose))]
+#[tactic(auto, unfolding(crate::specs::ReadingStatements::unless_at, sz_parse_expr::specs::Reading::bind, sz_parse_expr::specs::Reading::choose))]
 pub fn maybe_first<'t>(
     alloc: Global,
     text: &[u8],
@@ -59,7 +57,7 @@ pub fn maybe_first<'t>(
 }
 
 // The step of a `for`, unless a closing parenthesis stands there.
-#[tactic(auto, unfolding(crate::specs::ReadingStatements::unless_at, crate::specs::Reading::bind, crate::specs::Reading::choose))]
+#[tactic(auto, unfolding(crate::specs::ReadingStatements::unless_at, sz_parse_expr::specs::Reading::bind, sz_parse_expr::specs::Reading::choose))]
 pub fn maybe_simple<'t>(
     alloc: Global,
     text: &[u8],
@@ -77,7 +75,7 @@ pub fn maybe_simple<'t>(
 }
 
 // The expression behind an equals sign, if one stands there.
-#[tactic(auto, unfolding(crate::specs::ReadingStatements::init_at, crate::specs::Reading::bind, crate::specs::Reading::choose))]
+#[tactic(auto, unfolding(crate::specs::ReadingStatements::init_at, sz_parse_expr::specs::Reading::bind, sz_parse_expr::specs::Reading::choose))]
 fn init<'t>(
     alloc: Global,
     text: &[u8],
@@ -97,7 +95,7 @@ fn init<'t>(
 }
 
 // The expression behind `weight`, if one stands there.
-#[tactic(auto, unfolding(crate::specs::ReadingStatements::weight_at, crate::specs::Reading::bind, crate::specs::Reading::choose))]
+#[tactic(auto, unfolding(crate::specs::ReadingStatements::weight_at, sz_parse_expr::specs::Reading::bind, sz_parse_expr::specs::Reading::choose))]
 fn weight<'t>(
     alloc: Global,
     text: &[u8],
@@ -117,7 +115,7 @@ fn weight<'t>(
 }
 
 // A declaration, behind its name and colon.
-#[tactic(auto, unfolding(crate::specs::ReadingStatements::declare_at, crate::specs::Reading::bind))]
+#[tactic(auto, unfolding(crate::specs::ReadingStatements::declare_at, sz_parse_expr::specs::Reading::bind))]
 pub fn declare<'t>(
     alloc: Global,
     text: &[u8],
@@ -135,7 +133,7 @@ pub fn declare<'t>(
 }
 
 // Parameters, up to the closing parenthesis.
-#[tactic(auto, unfolding(crate::specs::ReadingStatements::declared_at, crate::specs::Reading::choose))]
+#[tactic(auto, unfolding(crate::specs::ReadingStatements::declared_at, sz_parse_expr::specs::Reading::choose))]
 pub fn declared<'t>(
     alloc: Global,
     text: &[u8],
@@ -151,7 +149,7 @@ pub fn declared<'t>(
     params(alloc, text, inner, tokens)
 }
 
-#[tactic(auto, unfolding(crate::specs::ReadingStatements::define_at, crate::specs::Reading::bind))]
+#[tactic(auto, unfolding(crate::specs::ReadingStatements::define_at, sz_parse_expr::specs::Reading::bind))]
 pub fn define<'t>(
     alloc: Global,
     text: &[u8],
@@ -167,7 +165,7 @@ pub fn define<'t>(
     Ok((Stmt::Define(name, value), rest))
 }
 
-#[tactic(auto, unfolding(crate::specs::ReadingStatements::simple_stm_at, crate::specs::Reading::bind))]
+#[tactic(auto, unfolding(crate::specs::ReadingStatements::simple_stm_at, sz_parse_expr::specs::Reading::bind))]
 pub fn simple_statement<'t>(
     alloc: Global,
     text: &[u8],
@@ -183,7 +181,7 @@ pub fn simple_statement<'t>(
     Ok((Stmt::Simple(part), rest))
 }
 
-#[tactic(auto, unfolding(crate::specs::ReadingStatements::table_stm_at, crate::specs::Reading::bind))]
+#[tactic(auto, unfolding(crate::specs::ReadingStatements::table_stm_at, sz_parse_expr::specs::Reading::bind))]
 pub fn table_statement<'t>(
     alloc: Global,
     text: &[u8],
@@ -198,7 +196,7 @@ pub fn table_statement<'t>(
     Ok((Stmt::Table(name, part), rest))
 }
 
-#[tactic(auto, unfolding(crate::specs::ReadingStatements::static_at, crate::specs::Reading::bind))]
+#[tactic(auto, unfolding(crate::specs::ReadingStatements::static_at, sz_parse_expr::specs::Reading::bind))]
 pub fn static_statement<'t>(
     alloc: Global,
     text: &[u8],
@@ -217,7 +215,7 @@ pub fn static_statement<'t>(
     Ok((Stmt::Static(place, name, of, value), rest))
 }
 
-#[tactic(auto, unfolding(crate::specs::ReadingStatements::typedef_at, crate::specs::Reading::bind))]
+#[tactic(auto, unfolding(crate::specs::ReadingStatements::typedef_at, sz_parse_expr::specs::Reading::bind))]
 pub fn type_statement<'t>(
     alloc: Global,
     text: &[u8],
@@ -235,7 +233,7 @@ pub fn type_statement<'t>(
     Ok((Stmt::Type(place, name, of), rest))
 }
 
-#[tactic(auto, unfolding(crate::specs::ReadingStatements::return_at, crate::specs::Reading::bind))]
+#[tactic(auto, unfolding(crate::specs::ReadingStatements::return_at, sz_parse_expr::specs::Reading::bind))]
 pub fn return_statement<'t>(
     alloc: Global,
     text: &[u8],
@@ -251,7 +249,7 @@ pub fn return_statement<'t>(
     Ok((Stmt::Return(place, value), rest))
 }
 
-#[tactic(auto, unfolding(crate::specs::ReadingStatements::emit_at, crate::specs::Reading::bind))]
+#[tactic(auto, unfolding(crate::specs::ReadingStatements::emit_at, sz_parse_expr::specs::Reading::bind))]
 pub fn emit<'t>(
     alloc: Global,
     text: &[u8],
@@ -271,7 +269,7 @@ pub fn emit<'t>(
     Ok((Stmt::Emit(place, table, indexes, value, weight), rest))
 }
 
-#[tactic(auto, unfolding(crate::specs::ReadingStatements::break_at, crate::specs::Reading::bind))]
+#[tactic(auto, unfolding(crate::specs::ReadingStatements::break_at, sz_parse_expr::specs::Reading::bind))]
 pub fn break_statement(place: Place, tokens: &[Token]) -> Result<(Stmt, &[Token]), Failed>
     ensures read { Gives (λ x. (stm_of x.0, x.1.now)) result (break_at place tokens.now) }
 {
@@ -279,7 +277,7 @@ pub fn break_statement(place: Place, tokens: &[Token]) -> Result<(Stmt, &[Token]
     Ok((Stmt::Break(place), rest))
 }
 
-#[tactic(auto, unfolding(crate::specs::ReadingStatements::continue_at, crate::specs::Reading::bind))]
+#[tactic(auto, unfolding(crate::specs::ReadingStatements::continue_at, sz_parse_expr::specs::Reading::bind))]
 pub fn continue_statement(place: Place, tokens: &[Token]) -> Result<(Stmt, &[Token]), Failed>
     ensures read { Gives (λ x. (stm_of x.0, x.1.now)) result (continue_at place tokens.now) }
 {

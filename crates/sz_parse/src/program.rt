@@ -6,15 +6,14 @@ ghost use Rattle.sz_tree.specs.View.{program_of};
 ghost use Rattle.sz_parse.specs.Program.{Spells, IsStuck};
 ghost use Rattle.sz_parse.specs.Parsed.{OrNoMemory};
 
-use crate::error::ParseError;
-use crate::failed::Failed;
-use crate::limit::MAX_HEIGHT;
 use crate::stmt::statement;
 use std::alloc::Global;
 use sz_lex::Tokens;
+use sz_parse_expr::{Failed, MAX_HEIGHT, ParseError};
 use sz_tree::Tree;
 
-/// The tree that the tokens spell, of height at most `MAX_HEIGHT`.
+/// The tree that the tokens spell, of height at most `MAX_HEIGHT`. `Syntax` comes exactly where they spell none: at the first token
+/// of the first statement that can't be read.
 pub fn parse(alloc: Global, tokens: &Tokens) -> Result<Tree, ParseError>
     ensures found { IfOk result (λ t. Spells tokens.now (program_of t)) }
     ensures only_found { (ss : Stms) → Spells tokens.now ss → MatchResult result (λ t. program_of t ≡ ss) (λ e. OrNoMemory e (λ _. ⊥)) }

@@ -1,23 +1,19 @@
 //! Statements that may stand as a step of a `for`, and its first part.
 ghost use Rattle.std.specs.Prelude.{◌≡◌, ◌≤◌, ◌<◌, map as each};
 ghost use Rattle.sz_tree.specs.View.{tree_of, step_of, simple_of, first_of};
-ghost use Rattle.sz_parse.specs.Reading.{utf8_in, all_at};
-ghost use Rattle.sz_parse.specs.ReadingExpressions.{expr_at};
-ghost use Rattle.sz_parse.specs.ReadingTypes.{type_at};
+ghost use Rattle.sz_parse_expr.specs.Reading.{utf8_in, all_at};
+ghost use Rattle.sz_parse_expr.specs.ReadingExpressions.{expr_at};
+ghost use Rattle.sz_parse_expr.specs.ReadingTypes.{type_at};
 ghost use Rattle.sz_parse.specs.ReadingStatements.{index_at, index_step, begins_step, step_item, path_step, assign_at, simple_behind, simple_at, first_behind, first_at};
-ghost use Rattle.sz_parse.specs.Outcome.{Gives, Sees};
+ghost use Rattle.sz_parse_expr.specs.Outcome.{Gives, Sees};
 
-use crate::expr::{call, expr};
-use crate::failed::Failed;
-use crate::limit::MAX_HEIGHT;
-use crate::token::{expect, name, skip};
-use crate::types::type_tree;
 use std::alloc::Global;
 use sz_lex::{Sign, Token};
+use sz_parse_expr::{Failed, MAX_HEIGHT, call, expect, expr, name, skip, type_tree};
 use sz_tree::{Expr, First, Name, Path, Simple, Step};
 
 // An expression and a closing bracket.
-#[tactic(auto, unfolding(crate::specs::ReadingStatements::index_at, crate::specs::Reading::bind))]
+#[tactic(auto, unfolding(crate::specs::ReadingStatements::index_at, sz_parse_expr::specs::Reading::bind))]
 fn index<'t>(
     alloc: Global,
     text: &[u8],
@@ -53,7 +49,7 @@ pub fn indexes<'t>(
 }
 
 // What follows the bracket or dot with which a step of a path begins.
-#[tactic(auto, unfolding(crate::specs::ReadingStatements::begins_step, crate::specs::Reading::choose))]
+#[tactic(auto, unfolding(crate::specs::ReadingStatements::begins_step, sz_parse_expr::specs::Reading::choose))]
 fn begins_step(tokens: &[Token]) -> Option<&[Token]>
     ensures value { Sees (λ r. r.now) result (begins_step tokens.now) }
 {
@@ -64,7 +60,7 @@ fn begins_step(tokens: &[Token]) -> Option<&[Token]>
 }
 
 // A step of a path.
-#[tactic(auto, unfolding(crate::specs::ReadingStatements::step_item, crate::specs::Reading::bind, crate::specs::Reading::choose))]
+#[tactic(auto, unfolding(crate::specs::ReadingStatements::step_item, sz_parse_expr::specs::Reading::bind, sz_parse_expr::specs::Reading::choose))]
 fn step<'t>(
     alloc: Global,
     text: &[u8],
@@ -108,7 +104,7 @@ fn steps<'t>(
 }
 
 // An assignment, behind the name of its variable.
-#[tactic(auto, unfolding(crate::specs::ReadingStatements::assign_at, crate::specs::Reading::bind))]
+#[tactic(auto, unfolding(crate::specs::ReadingStatements::assign_at, sz_parse_expr::specs::Reading::bind))]
 fn assign<'t>(
     alloc: Global,
     text: &[u8],
@@ -126,7 +122,7 @@ fn assign<'t>(
 }
 
 // What a name begins; a step counts as an assignment of a sum, which is 3 high, and a call is at least 2 high.
-#[tactic(auto, unfolding(crate::specs::ReadingStatements::simple_behind, crate::specs::Reading::bind, crate::specs::Reading::choose, crate::specs::Reading::guard))]
+#[tactic(auto, unfolding(crate::specs::ReadingStatements::simple_behind, sz_parse_expr::specs::Reading::bind, sz_parse_expr::specs::Reading::choose, sz_parse_expr::specs::Reading::guard))]
 pub fn simple_behind<'t>(
     alloc: Global,
     text: &[u8],
@@ -162,7 +158,7 @@ pub fn simple_behind<'t>(
 }
 
 // A statement of at most this height that may stand as a step of a `for`.
-#[tactic(auto, unfolding(crate::specs::ReadingStatements::simple_at, crate::specs::Reading::bind))]
+#[tactic(auto, unfolding(crate::specs::ReadingStatements::simple_at, sz_parse_expr::specs::Reading::bind))]
 pub fn simple<'t>(
     alloc: Global,
     text: &[u8],
@@ -180,7 +176,7 @@ pub fn simple<'t>(
 }
 
 // The first part of a `for`, behind its name.
-#[tactic(auto, unfolding(crate::specs::ReadingStatements::first_behind, crate::specs::Reading::bind, crate::specs::Reading::choose))]
+#[tactic(auto, unfolding(crate::specs::ReadingStatements::first_behind, sz_parse_expr::specs::Reading::bind, sz_parse_expr::specs::Reading::choose))]
 fn first_behind<'t>(
     alloc: Global,
     text: &[u8],
@@ -189,7 +185,8 @@ fn first_behind<'t>(
     tokens: &'t [Token],
 ) -> Result<(First, &'t [Token]), Failed>
     requires depth { inner < MAX_HEIGHT }
-    ensures read { Gives (λ x. (first_of x.0, x.1.now)) result (first_behind (utf8_in text.now) (expr_at (utf8_in text.now) inner) (type_at (utf8_in text.now) inner) inner name tokens.now) }
+    ensures read { Gives (λ x. (first_of x.0, x.1.now)) result
+        (first_behind (utf8_in text.now) (expr_at (utf8_in text.now) inner) (type_at (utf8_in text.now) inner) inner name tokens.now) }
 {
     if let Some(rest) = skip(Sign::Colon, tokens) {
         let (of, rest) = type_tree(alloc, text, inner, rest)?;
@@ -206,7 +203,7 @@ fn first_behind<'t>(
 }
 
 // The first part of a `for`, at most this high.
-#[tactic(auto, unfolding(crate::specs::ReadingStatements::first_at, crate::specs::Reading::bind))]
+#[tactic(auto, unfolding(crate::specs::ReadingStatements::first_at, sz_parse_expr::specs::Reading::bind))]
 pub fn first<'t>(
     alloc: Global,
     text: &[u8],

@@ -1,28 +1,26 @@
 //! Statements.
 ghost use Rattle.std.specs.Prelude.{◌≡◌, ◌≤◌, ◌<◌, map as each};
 ghost use Rattle.sz_tree.specs.View.{stm_of};
-ghost use Rattle.sz_parse.specs.Reading.{utf8_in, all_at};
+ghost use Rattle.sz_parse_expr.specs.Reading.{utf8_in, all_at};
 ghost use Rattle.sz_parse.specs.ReadingStatements.{begins_stm, stm_step, body_at, block_at, function_at, colon_at, named_stm_at, if_at, while_at, do_at, for_at, when_at, stm_worded, step_at, stm_at, readers_at};
-ghost use Rattle.sz_parse.specs.Outcome.{Gives, Sees};
+ghost use Rattle.sz_parse_expr.specs.Outcome.{Gives, Sees};
 
-use crate::expr::{condition, expr};
-use crate::failed::Failed;
 use crate::leaf::{
     break_statement, continue_statement, declare, declared, define, emit, maybe_expr, maybe_first,
     maybe_simple, return_statement, simple_statement, static_statement, table_statement,
     type_statement,
 };
-use crate::limit::MAX_HEIGHT;
 use crate::table::quantifiers;
-use crate::token::{expect, expect_word, ident, skip, skip_word};
-use crate::types::type_tree;
 use std::alloc::Global;
 use sz_lex::{Kind, Sign, Token, Word};
+use sz_parse_expr::{
+    Failed, MAX_HEIGHT, condition, expect, expect_word, expr, ident, skip, skip_word, type_tree,
+};
 use sz_tree::{Name, Stmt};
 use sz_types::Place;
 
 // The tokens, where neither a closing brace nor the end stands.
-#[tactic(auto, unfolding(crate::specs::ReadingStatements::begins_stm, crate::specs::Reading::choose))]
+#[tactic(auto, unfolding(crate::specs::ReadingStatements::begins_stm, sz_parse_expr::specs::Reading::choose))]
 fn begins_statement(tokens: &[Token]) -> Option<&[Token]>
     ensures value { Sees (λ r. r.now) result (begins_stm tokens.now) }
 {
@@ -55,7 +53,7 @@ pub fn statement<'t>(
 
 // In what follows, the parts of a statement have at most the height `inner`.
 #[cycle(statement)]
-#[tactic(auto, unfolding(crate::specs::ReadingStatements::step_at, crate::specs::Reading::bind))]
+#[tactic(auto, unfolding(crate::specs::ReadingStatements::step_at, sz_parse_expr::specs::Reading::bind))]
 fn step<'t>(
     alloc: Global,
     text: &[u8],
@@ -82,7 +80,7 @@ fn step<'t>(
 
 // What a name begins.
 #[cycle(statement)]
-#[tactic(auto, unfolding(crate::specs::ReadingStatements::named_stm_at, crate::specs::Reading::choose))]
+#[tactic(auto, unfolding(crate::specs::ReadingStatements::named_stm_at, sz_parse_expr::specs::Reading::choose))]
 fn named<'t>(
     alloc: Global,
     text: &[u8],
@@ -104,7 +102,7 @@ fn named<'t>(
 
 // What a name and a colon begin.
 #[cycle(statement)]
-#[tactic(auto, unfolding(crate::specs::ReadingStatements::colon_at, crate::specs::Reading::choose))]
+#[tactic(auto, unfolding(crate::specs::ReadingStatements::colon_at, sz_parse_expr::specs::Reading::choose))]
 fn colon<'t>(
     alloc: Global,
     text: &[u8],
@@ -126,7 +124,7 @@ fn colon<'t>(
 
 // A function, behind its first word.
 #[cycle(statement)]
-#[tactic(auto, unfolding(crate::specs::ReadingStatements::function_at, crate::specs::Reading::bind))]
+#[tactic(auto, unfolding(crate::specs::ReadingStatements::function_at, sz_parse_expr::specs::Reading::bind))]
 fn function<'t>(
     alloc: Global,
     text: &[u8],
@@ -148,7 +146,7 @@ fn function<'t>(
 }
 
 #[cycle(statement)]
-#[tactic(auto, unfolding(crate::specs::ReadingStatements::block_at, crate::specs::Reading::bind))]
+#[tactic(auto, unfolding(crate::specs::ReadingStatements::block_at, sz_parse_expr::specs::Reading::bind))]
 fn block<'t>(
     alloc: Global,
     text: &[u8],
@@ -165,7 +163,7 @@ fn block<'t>(
 
 // Statements, and the closing brace.
 #[cycle(statement)]
-#[tactic(auto, unfolding(crate::specs::ReadingStatements::body_at, crate::specs::Reading::bind))]
+#[tactic(auto, unfolding(crate::specs::ReadingStatements::body_at, sz_parse_expr::specs::Reading::bind))]
 fn body<'t>(
     alloc: Global,
     text: &[u8],
@@ -231,7 +229,7 @@ fn worded<'t>(
 }
 
 #[cycle(statement)]
-#[tactic(auto, unfolding(crate::specs::ReadingStatements::if_at, crate::specs::Reading::bind, crate::specs::Reading::choose))]
+#[tactic(auto, unfolding(crate::specs::ReadingStatements::if_at, sz_parse_expr::specs::Reading::bind, sz_parse_expr::specs::Reading::choose))]
 fn choice<'t>(
     alloc: Global,
     text: &[u8],
@@ -259,7 +257,7 @@ fn choice<'t>(
 }
 
 #[cycle(statement)]
-#[tactic(auto, unfolding(crate::specs::ReadingStatements::while_at, crate::specs::Reading::bind))]
+#[tactic(auto, unfolding(crate::specs::ReadingStatements::while_at, sz_parse_expr::specs::Reading::bind))]
 fn repeat<'t>(
     alloc: Global,
     text: &[u8],
@@ -276,7 +274,7 @@ fn repeat<'t>(
 }
 
 #[cycle(statement)]
-#[tactic(auto, unfolding(crate::specs::ReadingStatements::do_at, crate::specs::Reading::bind))]
+#[tactic(auto, unfolding(crate::specs::ReadingStatements::do_at, sz_parse_expr::specs::Reading::bind))]
 fn repeat_until<'t>(
     alloc: Global,
     text: &[u8],
@@ -295,7 +293,7 @@ fn repeat_until<'t>(
 }
 
 #[cycle(statement)]
-#[tactic(auto, unfolding(crate::specs::ReadingStatements::for_at, crate::specs::Reading::bind))]
+#[tactic(auto, unfolding(crate::specs::ReadingStatements::for_at, sz_parse_expr::specs::Reading::bind))]
 fn for_loop<'t>(
     alloc: Global,
     text: &[u8],
@@ -319,7 +317,7 @@ fn for_loop<'t>(
 }
 
 #[cycle(statement)]
-#[tactic(auto, unfolding(crate::specs::ReadingStatements::when_at, crate::specs::Reading::bind))]
+#[tactic(auto, unfolding(crate::specs::ReadingStatements::when_at, sz_parse_expr::specs::Reading::bind))]
 fn when<'t>(
     alloc: Global,
     text: &[u8],

@@ -2,21 +2,20 @@
 ghost use Rattle.std.specs.Prelude.{◌≡◌, ◌<◌, map as each};
 ghost use Rattle.sz_tree.specs.View.{elem_of, table_of, quantifier_of};
 ghost use Rattle.std.specs.Option.{option_map};
-ghost use Rattle.sz_parse.specs.Reading.{utf8_in, all_at};
-ghost use Rattle.sz_parse.specs.ReadingTypes.{type_at};
-ghost use Rattle.sz_parse.specs.ReadingStatements.{argument_at, table_index_at, table_index_step, table_weight_at, table_at, name_step, names_behind, names_at, quantity_of, quantity_at, quantifier_at, begins_quantifier, quantifier_step, quantifiers_behind, quantifiers_at};
-ghost use Rattle.sz_parse.specs.Outcome.{Gives, Sees};
+ghost use Rattle.sz_parse_expr.specs.Reading.{utf8_in, all_at};
+ghost use Rattle.sz_parse_expr.specs.ReadingTypes.{type_at};
+ghost use Rattle.sz_parse.specs.ReadingTables.{argument_at, table_index_at, table_index_step, table_weight_at, table_at, name_step, names_behind, names_at, quantity_of, quantity_at, quantifier_at, begins_quantifier, quantifier_step, quantifiers_behind, quantifiers_at};
+ghost use Rattle.sz_parse_expr.specs.Outcome.{Gives, Sees};
 
-use crate::failed::Failed;
-use crate::limit::MAX_HEIGHT;
-use crate::token::{expect, expect_word, name, skip, skip_word};
-use crate::types::{elem, number, type_tree};
 use std::alloc::Global;
 use sz_lex::{Kind, Sign, Token, Word};
+use sz_parse_expr::{
+    Failed, MAX_HEIGHT, elem, expect, expect_word, name, number, skip, skip_word, type_tree,
+};
 use sz_tree::{Elem, Name, Quantifier, Quantity, Table};
 
 // A number in parentheses, if one stands there.
-#[tactic(auto, unfolding(crate::specs::ReadingStatements::argument_at, crate::specs::Reading::bind, crate::specs::Reading::choose))]
+#[tactic(auto, unfolding(crate::specs::ReadingTables::argument_at, sz_parse_expr::specs::Reading::bind, sz_parse_expr::specs::Reading::choose))]
 fn argument(tokens: &[Token]) -> Result<(Option<i64>, &[Token]), Failed>
     ensures read { Gives (λ x. (x.0, x.1.now)) result (argument_at tokens.now) }
 {
@@ -31,7 +30,7 @@ fn argument(tokens: &[Token]) -> Result<(Option<i64>, &[Token]), Failed>
 }
 
 // An index of a table, behind its opening bracket.
-#[tactic(auto, unfolding(crate::specs::ReadingStatements::table_index_at, crate::specs::Reading::bind))]
+#[tactic(auto, unfolding(crate::specs::ReadingTables::table_index_at, sz_parse_expr::specs::Reading::bind))]
 fn table_index<'t>(
     alloc: Global,
     text: &[u8],
@@ -54,7 +53,8 @@ fn table_indexes<'t>(
     tokens: &'t [Token],
 ) -> Result<(Vec<Elem>, &'t [Token]), Failed>
     requires depth { inner < MAX_HEIGHT }
-    ensures read { Gives (λ x. (each elem_of x.0.items, x.1.now)) result (all_at (table_index_step (utf8_in text.now) (type_at (utf8_in text.now) inner)) tokens.now) }
+    ensures read { Gives (λ x. (each elem_of x.0.items, x.1.now)) result
+        (all_at (table_index_step (utf8_in text.now) (type_at (utf8_in text.now) inner)) tokens.now) }
 {
     let mut items = Vec::new(alloc);
     let mut rest = tokens;
@@ -67,7 +67,7 @@ fn table_indexes<'t>(
 }
 
 // What `weight` begins, if it stands there.
-#[tactic(auto, unfolding(crate::specs::ReadingStatements::table_weight_at, crate::specs::Reading::bind, crate::specs::Reading::choose))]
+#[tactic(auto, unfolding(crate::specs::ReadingTables::table_weight_at, sz_parse_expr::specs::Reading::bind, sz_parse_expr::specs::Reading::choose))]
 fn table_weight<'t>(
     alloc: Global,
     text: &[u8],
@@ -87,7 +87,7 @@ fn table_weight<'t>(
 }
 
 // What stands behind `table`, up to the semicolon.
-#[tactic(auto, unfolding(crate::specs::ReadingStatements::table_at, crate::specs::Reading::bind))]
+#[tactic(auto, unfolding(crate::specs::ReadingTables::table_at, sz_parse_expr::specs::Reading::bind))]
 pub fn table<'t>(
     alloc: Global,
     text: &[u8],
@@ -115,7 +115,7 @@ pub fn table<'t>(
 }
 
 // A name, and those that follow it with a comma before each.
-#[tactic(auto, unfolding(crate::specs::ReadingStatements::names_at, crate::specs::Reading::bind))]
+#[tactic(auto, unfolding(crate::specs::ReadingTables::names_at, sz_parse_expr::specs::Reading::bind))]
 fn names<'t>(
     alloc: Global,
     text: &[u8],
@@ -159,7 +159,7 @@ fn quantity_of(word: Word) -> Option<Quantity>
 }
 
 // How many values a quantifier speaks of.
-#[tactic(auto, unfolding(crate::specs::ReadingStatements::quantity_at, crate::specs::Reading::bind))]
+#[tactic(auto, unfolding(crate::specs::ReadingTables::quantity_at, sz_parse_expr::specs::Reading::bind))]
 fn quantity(tokens: &[Token]) -> Result<(Quantity, &[Token]), Failed>
     ensures read { Gives (λ x. (x.0, x.1.now)) result (quantity_at tokens.now) }
 {
@@ -180,7 +180,7 @@ fn quantity(tokens: &[Token]) -> Result<(Quantity, &[Token]), Failed>
 }
 
 // What follows a name and a comma or a colon.
-#[tactic(auto, unfolding(crate::specs::ReadingStatements::begins_quantifier, crate::specs::Reading::name_at, crate::specs::Reading::bind, crate::specs::Reading::choose))]
+#[tactic(auto, unfolding(crate::specs::ReadingTables::begins_quantifier, sz_parse_expr::specs::Reading::name_at, sz_parse_expr::specs::Reading::bind, sz_parse_expr::specs::Reading::choose))]
 fn begins_quantifier<'t>(text: &[u8], tokens: &'t [Token]) -> Option<&'t [Token]>
     ensures value { Sees (λ r. r.now) result (begins_quantifier (utf8_in text.now) tokens.now) }
 {
@@ -202,7 +202,7 @@ fn begins_quantifier<'t>(text: &[u8], tokens: &'t [Token]) -> Option<&'t [Token]
 }
 
 // A quantifier with its semicolon.
-#[tactic(auto, unfolding(crate::specs::ReadingStatements::quantifier_at, crate::specs::Reading::bind))]
+#[tactic(auto, unfolding(crate::specs::ReadingTables::quantifier_at, sz_parse_expr::specs::Reading::bind))]
 fn quantifier<'t>(
     alloc: Global,
     text: &[u8],
@@ -226,7 +226,7 @@ fn quantifier<'t>(
 }
 
 // One or more quantifiers.
-#[tactic(auto, unfolding(crate::specs::ReadingStatements::quantifiers_at, crate::specs::Reading::bind))]
+#[tactic(auto, unfolding(crate::specs::ReadingTables::quantifiers_at, sz_parse_expr::specs::Reading::bind))]
 pub fn quantifiers<'t>(
     alloc: Global,
     text: &[u8],
@@ -234,7 +234,8 @@ pub fn quantifiers<'t>(
     tokens: &'t [Token],
 ) -> Result<(Vec<Quantifier>, &'t [Token]), Failed>
     requires depth { inner < MAX_HEIGHT }
-    ensures read { Gives (λ x. (each quantifier_of x.0.items, x.1.now)) result (quantifiers_at (utf8_in text.now) (type_at (utf8_in text.now) inner) tokens.now) }
+    ensures read { Gives (λ x. (each quantifier_of x.0.items, x.1.now)) result
+        (quantifiers_at (utf8_in text.now) (type_at (utf8_in text.now) inner) tokens.now) }
 {
     let (first, rest) = quantifier(alloc, text, inner, tokens)?;
     quantifiers_behind(alloc, text, inner, first, rest)
@@ -248,7 +249,8 @@ fn quantifiers_behind<'t>(
     tokens: &'t [Token],
 ) -> Result<(Vec<Quantifier>, &'t [Token]), Failed>
     requires depth { inner < MAX_HEIGHT }
-    ensures read { Gives (λ x. (each quantifier_of x.0.items, x.1.now)) result (quantifiers_behind (utf8_in text.now) (type_at (utf8_in text.now) inner) (quantifier_of first) tokens.now) }
+    ensures read { Gives (λ x. (each quantifier_of x.0.items, x.1.now)) result
+        (quantifiers_behind (utf8_in text.now) (type_at (utf8_in text.now) inner) (quantifier_of first) tokens.now) }
 {
     let mut items = Vec::new(alloc);
     items.push(first)?;

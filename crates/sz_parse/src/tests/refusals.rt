@@ -12,7 +12,16 @@ fn a_refusal_is_at_the_first_statement_that_is_not_whole(rt: HostRuntime) -> Res
 { x = 1; y = } z = 2; => 1:1
 x = 1; y = ; z = 3; => 1:8
 x: int; y: string = "a"; { x = 1; } } => 1:37
-if (a) ; x = ; => 1:10
+if (a) ; x = ; => 1:10"#;
+    holds(&rt, rt.alloc(), table)?;
+    let found = outcome(rt.alloc(), b"x = 1;\n  if (a) ;\n\ty = ;\n")?;
+    assert_eq!(rt; found.as_str(), " 3:2");
+    Ok(())
+}
+
+#[test]
+fn a_wrong_declaration_is_refused(rt: HostRuntime) -> Result<(), Fail> {
+    let table = "\
 x int; => 1:1
 x: ; => 1:1
 x:: int; => 1:1
@@ -48,7 +57,13 @@ type type t = int; => 1:1
 type t = = int; => 1:1
 type t = int int; => 1:1
 type t = 1; => 1:1
-type t := int; => 1:1
+type t := int; => 1:1";
+    holds(&rt, rt.alloc(), table)
+}
+
+#[test]
+fn a_wrong_table_is_refused(rt: HostRuntime) -> Result<(), Fail> {
+    let table = "\
 t: table; => 1:1
 t: table of int; => 1:1
 t: table sum int; => 1:1
@@ -72,7 +87,13 @@ t: table sum[int](1) of int; => 1:1
 t: table sum of int weight; => 1:1
 t: table sum of int weight weight int; => 1:1
 t: table sum of int int; => 1:1
-t: table sum of 1; => 1:1
+t: table sum of 1; => 1:1";
+    holds(&rt, rt.alloc(), table)
+}
+
+#[test]
+fn a_wrong_function_is_refused(rt: HostRuntime) -> Result<(), Fail> {
+    let table = "\
 f: function: int {} => 1:1
 f: function(): {} => 1:1
 f: function() int {} => 1:1
@@ -88,7 +109,13 @@ f: function(a: int,, b: int): int {} => 1:1
 f: function(1: int): int {} => 1:1
 f: function((a: int)): int {} => 1:1
 f: function function(): int {} => 1:1
-f: function(): int { x = ; } => 1:1
+f: function(): int { x = ; } => 1:1";
+    holds(&rt, rt.alloc(), table)
+}
+
+#[test]
+fn a_wrong_assignment_or_call_is_refused(rt: HostRuntime) -> Result<(), Fail> {
+    let table = "\
 x 1; => 1:1
 x = 1 => 1:1
 x = ; => 1:1
@@ -121,7 +148,13 @@ f()[0]; => 1:1
 1; => 1:1
 x; => 1:1
 x + 1; => 1:1
-int(1); => 1:1
+int(1); => 1:1";
+    holds(&rt, rt.alloc(), table)
+}
+
+#[test]
+fn a_wrong_if_or_loop_is_refused(rt: HostRuntime) -> Result<(), Fail> {
+    let table = "\
 if a) ; => 1:1
 if (a ; => 1:1
 if () ; => 1:1
@@ -157,7 +190,13 @@ for (; i = 1;) ; => 1:1
 for (;; i := 1) ; => 1:1
 for (;; i++,) ; => 1:1
 for (i = 0, j = 0;;) ; => 1:1
-for for (;;) ; => 1:1
+for for (;;) ; => 1:1";
+    holds(&rt, rt.alloc(), table)
+}
+
+#[test]
+fn a_wrong_jump_is_refused(rt: HostRuntime) -> Result<(), Fail> {
+    let table = "\
 break => 1:1
 break 1; => 1:1
 break break; => 1:1
@@ -168,7 +207,13 @@ return => 1:1
 return x => 1:1
 return return; => 1:1
 return x y; => 1:1
-return =; => 1:1
+return =; => 1:1";
+    holds(&rt, rt.alloc(), table)
+}
+
+#[test]
+fn a_wrong_emit_is_refused(rt: HostRuntime) -> Result<(), Fail> {
+    let table = "\
 emit <- 1; => 1:1
 emit t 1; => 1:1
 emit t <- ; => 1:1
@@ -183,7 +228,13 @@ emit t <- 1 weight; => 1:1
 emit t <- 1 weight weight 2; => 1:1
 emit t <- 1, 2; => 1:1
 emit 1 <- 1; => 1:1
-t <- 1; => 1:1
+t <- 1; => 1:1";
+    holds(&rt, rt.alloc(), table)
+}
+
+#[test]
+fn a_wrong_when_is_refused(rt: HostRuntime) -> Result<(), Fail> {
+    let table = "\
 when (i: some int; i ; => 1:1
 when i: some int; i) ; => 1:1
 when (i: some int;) ; => 1:1
@@ -201,7 +252,13 @@ when () ; => 1:1
 when (i: any int; i) ; => 1:1
 when (i: some int; i) => 1:1
 when (i: some int; i)) ; => 1:1
-when when (i: some int; i) ; => 1:1
+when when (i: some int; i) ; => 1:1";
+    holds(&rt, rt.alloc(), table)
+}
+
+#[test]
+fn a_wrong_type_is_refused(rt: HostRuntime) -> Result<(), Fail> {
+    let table = "\
 x: array int; => 1:1
 x: array of; => 1:1
 x: array of of int; => 1:1
@@ -238,7 +295,13 @@ x: proto {a: int @ 1 => 1:1
 x: proto proto {a: int @ 1}; => 1:1
 x: (int); => 1:1
 x: int[]; => 1:1
-x: function; => 1:1
+x: function; => 1:1";
+    holds(&rt, rt.alloc(), table)
+}
+
+#[test]
+fn a_wrong_operand_is_refused(rt: HostRuntime) -> Result<(), Fail> {
+    let table = "\
 x = (1; => 1:1
 x = 1); => 1:1
 x = (); => 1:1
@@ -267,6 +330,14 @@ x = int 1; => 1:1
 x = int(); => 1:1
 x = int(1, 2); => 1:1
 x = int int(1); => 1:1
+x = if; => 1:1
+x = weight; => 1:1";
+    holds(&rt, rt.alloc(), table)
+}
+
+#[test]
+fn a_wrong_list_or_map_is_refused(rt: HostRuntime) -> Result<(), Fail> {
+    let table = "\
 x = {; => 1:1
 x = {1; => 1:1
 x = {1,}; => 1:1
@@ -280,7 +351,13 @@ x = {1: 2,}; => 1:1
 x = {1: 2, 3}; => 1:1
 x = {1, 2: 3}; => 1:1
 x = {1: 2 3: 4}; => 1:1
-x = {1: 2: 3}; => 1:1
+x = {1: 2: 3}; => 1:1";
+    holds(&rt, rt.alloc(), table)
+}
+
+#[test]
+fn a_wrong_operator_is_refused(rt: HostRuntime) -> Result<(), Fail> {
+    let table = "\
 x = 1 +; => 1:1
 x = * 1; => 1:1
 x = 1 + * 2; => 1:1
@@ -295,14 +372,9 @@ x = a!b; => 1:1
 x = a ||; => 1:1
 x = && a; => 1:1
 x = a & & b; => 1:1
-x = if; => 1:1
 x = a @ b; => 1:1
 x = --a; => 1:1
 x = a = b; => 1:1
-x = a := b; => 1:1
-x = weight; => 1:1"#;
-    holds(&rt, rt.alloc(), table)?;
-    let found = outcome(rt.alloc(), b"x = 1;\n  if (a) ;\n\ty = ;\n")?;
-    assert_eq!(rt; found.as_str(), " 3:2");
-    Ok(())
+x = a := b; => 1:1";
+    holds(&rt, rt.alloc(), table)
 }

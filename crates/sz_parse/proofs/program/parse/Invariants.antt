@@ -3,10 +3,10 @@ use Rattle.std.specs.Prelude.{map}
 use Rattle.sz_lex.specs.Lexed.{lexeme_of}
 use Rattle.sz_tree.specs.Statements.{stms_of, stm_heights}
 use Rattle.sz_tree.specs.View.{stm_of}
-use Rattle.sz_parse.specs.declared.limit.TheConstants.{MAX_HEIGHT}
+use Rattle.sz_parse_expr.specs.declared.limit.TheConstants.{MAX_HEIGHT}
 use Rattle.sz_parse.specs.Statements.{ReadsStms}
-use Rattle.sz_parse.specs.Reading.{utf8_in}
-use Rattle.sz_parse.proofs.ExpressionAlike.{Agree}
+use Rattle.sz_parse_expr.specs.Reading.{utf8_in}
+use Rattle.sz_parse_expr.proofs.ExpressionAlike.{Agree}
 use Rattle.sz_parse.proofs.program.parse.Given as goal
 
 -- the statements so far stand before the rest, whose tokens are UTF-8

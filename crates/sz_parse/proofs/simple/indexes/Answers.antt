@@ -2,13 +2,13 @@ use Rattle.std.proofs.Common.{◌≡◌, [], ◌∷◌, ◌++◌, refl, ap, ◌�
 use Rattle.std.specs.Prelude.{map}
 use Rattle.std.proofs.lemmas.Result.{err_from_is_err_and}
 use Rattle.sz_tree.specs.View.{tree_of}
-use Rattle.sz_parse.specs.ReadingExpressions.{expr_at}
+use Rattle.sz_parse_expr.specs.ReadingExpressions.{expr_at}
 use Rattle.sz_parse.specs.ReadingStatements.{index_step}
-use Rattle.sz_parse.specs.Reading.{utf8_in}
-use Rattle.sz_parse.proofs.ExpressionSound.{expr_sound}
-use Rattle.sz_parse.proofs.StatementSound.{index_item}
-use Rattle.sz_parse.proofs.Loops.{all_goes_on, all_fails, all_ends, item_shorter}
-use Rattle.sz_parse.proofs.ExpressionRows.{just, map_push}
+use Rattle.sz_parse_expr.specs.Reading.{utf8_in}
+use Rattle.sz_parse_expr.proofs.ExpressionSound.{expr_sound}
+use Rattle.sz_parse.proofs.SimpleSound.{index_item}
+use Rattle.sz_parse_expr.proofs.Loops.{all_goes_on, all_fails, all_ends, item_shorter}
+use Rattle.sz_parse_expr.proofs.ExpressionRows.{just, map_push}
 use Rattle.sz_parse.proofs.StatementTurns.{all_start, index_here, index_gone, no_index_at_end}
 use Rattle.sz_parse.proofs.simple.indexes.Goals as goal
 
@@ -19,18 +19,37 @@ loop-after-init c =
 
 pub loop-after-smaller : goal.loop-after-smaller
 loop-after-smaller c =
-    item_shorter (index_item (utf8_in c.args.text.now) (expr_at (utf8_in c.args.text.now) c.args.inner) c.args.inner (expr_sound (utf8_in c.args.text.now) c.args.inner)) (tree_of c.in_ok-item.item) c.loop-after.rest.now c.in_ok-item.after.now ((index_here (expr_at (utf8_in c.args.text.now) c.args.inner) c.loop-after.rest.now c.in-Some.after.now c.in-Some.ensures.value ∙ ap just c.in_ok-item.ensures.read))
+    item_shorter (index_item (utf8_in c.args.text.now) (expr_at (utf8_in c.args.text.now) c.args.inner) c.args.inner
+    (expr_sound (utf8_in c.args.text.now) c.args.inner))
+    (tree_of c.in_ok-item.item) c.loop-after.rest.now c.in_ok-item.after.now
+    ((index_here (expr_at (utf8_in c.args.text.now) c.args.inner) c.loop-after.rest.now c.in-Some.after.now c.in-Some.ensures.value
+    ∙ ap just c.in_ok-item.ensures.read))
 
 pub returns-in_err-item : goal.returns-in_err-item
 returns-in_err-item c =
     let p = err_from_is_err_and c.from_residual.result c.from_residual.ensures.1 in
-    record { read = rw (p.1, p.2) (all_fails c.in_err-item.field-0.0 (index_step (expr_at (utf8_in c.args.text.now) c.args.inner)) (no_index_at_end (expr_at (utf8_in c.args.text.now) c.args.inner)) (map tree_of c.loop-after.items.items) c.loop-after.rest.now _ _ (index_here (expr_at (utf8_in c.args.text.now) c.args.inner) c.loop-after.rest.now c.in-Some.after.now c.in-Some.ensures.value) c.in_err-item.ensures.read c.loop-after.invariant) }
+    record {
+      read = rw (p.1, p.2)
+          (all_fails c.in_err-item.field-0.0 (index_step (expr_at (utf8_in c.args.text.now) c.args.inner))
+          (no_index_at_end (expr_at (utf8_in c.args.text.now) c.args.inner)) (map tree_of c.loop-after.items.items) c.loop-after.rest.now _ _
+          (index_here (expr_at (utf8_in c.args.text.now) c.args.inner) c.loop-after.rest.now c.in-Some.after.now c.in-Some.ensures.value)
+          c.in_err-item.ensures.read c.loop-after.invariant);
+    }
 
 pub loop-after-preserved : goal.loop-after-preserved
 loop-after-preserved c =
-    let made : (map tree_of c.push.new.self.items) ≡ (map tree_of c.loop-after.items.items) ++ (tree_of c.in_ok-item.item) ∷ [] = rw c.in_ok-push.ensures.items (map_push tree_of c.loop-after.items.items c.in_ok-item.item) in
-    rw made (all_goes_on (index_item (utf8_in c.args.text.now) (expr_at (utf8_in c.args.text.now) c.args.inner) c.args.inner (expr_sound (utf8_in c.args.text.now) c.args.inner)) (no_index_at_end (expr_at (utf8_in c.args.text.now) c.args.inner)) (map tree_of c.loop-after.items.items) (tree_of c.in_ok-item.item) c.loop-after.rest.now c.in_ok-item.after.now _ ((index_here (expr_at (utf8_in c.args.text.now) c.args.inner) c.loop-after.rest.now c.in-Some.after.now c.in-Some.ensures.value ∙ ap just c.in_ok-item.ensures.read)) c.loop-after.invariant)
+    let made : (map tree_of c.push.new.self.items) ≡ (map tree_of c.loop-after.items.items) ++ (tree_of c.in_ok-item.item) ∷ [] =
+    rw c.in_ok-push.ensures.items (map_push tree_of c.loop-after.items.items c.in_ok-item.item) in
+    rw made (all_goes_on (index_item (utf8_in c.args.text.now) (expr_at (utf8_in c.args.text.now) c.args.inner) c.args.inner
+    (expr_sound (utf8_in c.args.text.now) c.args.inner))
+    (no_index_at_end (expr_at (utf8_in c.args.text.now) c.args.inner)) (map tree_of c.loop-after.items.items)
+    (tree_of c.in_ok-item.item) c.loop-after.rest.now c.in_ok-item.after.now _
+    ((index_here (expr_at (utf8_in c.args.text.now) c.args.inner) c.loop-after.rest.now c.in-Some.after.now c.in-Some.ensures.value
+    ∙ ap just c.in_ok-item.ensures.read)) c.loop-after.invariant)
 
 pub returns : goal.returns
 returns c =
-    record { read = all_ends (index_step (expr_at (utf8_in c.args.text.now) c.args.inner)) (map tree_of c.loop-after.items.items) c.loop-after.rest.now _ (index_gone (expr_at (utf8_in c.args.text.now) c.args.inner) c.loop-after.rest.now c.in_default.ensures.value) c.loop-after.invariant }
+    record {
+      read = all_ends (index_step (expr_at (utf8_in c.args.text.now) c.args.inner)) (map tree_of c.loop-after.items.items) c.loop-after.rest.now _
+          (index_gone (expr_at (utf8_in c.args.text.now) c.args.inner) c.loop-after.rest.now c.in_default.ensures.value) c.loop-after.invariant;
+    }

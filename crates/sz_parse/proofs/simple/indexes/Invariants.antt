@@ -1,14 +1,16 @@
 use Rattle.std.proofs.Common.{◌≡◌, length}
 use Rattle.std.specs.Prelude.{map}
 use Rattle.sz_tree.specs.View.{tree_of}
-use Rattle.sz_parse.specs.Reading.{utf8_in, all_at, with_items}
-use Rattle.sz_parse.specs.ReadingExpressions.{expr_at}
+use Rattle.sz_parse_expr.specs.Reading.{utf8_in, all_at, with_items}
+use Rattle.sz_parse_expr.specs.ReadingExpressions.{expr_at}
 use Rattle.sz_parse.specs.ReadingStatements.{index_step}
 use Rattle.sz_parse.proofs.simple.indexes.Given as goal
 
 -- the items so far, and those that are read from here, are all of them
 abbrev pub invariant-loop-after : goal.invariant-loop-after
-invariant-loop-after l = with_items (map tree_of l.items.items) (all_at (index_step (expr_at (utf8_in l.text) l.inner)) l.rest) ≡ all_at (index_step (expr_at (utf8_in l.text) l.inner)) l.fn.tokens
+invariant-loop-after l =
+    with_items (map tree_of l.items.items) (all_at (index_step (expr_at (utf8_in l.text) l.inner)) l.rest)
+    ≡ all_at (index_step (expr_at (utf8_in l.text) l.inner)) l.fn.tokens
 
 abbrev pub decreases-loop-after : goal.decreases-loop-after
 decreases-loop-after l = length l.rest

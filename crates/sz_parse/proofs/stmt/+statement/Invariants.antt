@@ -2,7 +2,7 @@
 use Rattle.std.proofs.Common.{◌≡◌, ◌+◌, ◌*◌, length}
 use Rattle.std.specs.Prelude.{map}
 use Rattle.sz_tree.specs.View.{stm_of}
-use Rattle.sz_parse.specs.Reading.{utf8_in, all_at, with_items}
+use Rattle.sz_parse_expr.specs.Reading.{utf8_in, all_at, with_items}
 use Rattle.sz_parse.specs.ReadingStatements.{stm_at, stm_step}
 use Rattle.sz_parse.proofs.stmt.+statement.Given as goal
 
@@ -51,7 +51,9 @@ decreases-when l = 16 * l.inner + 3
 
 -- the statements so far, and those that are read from here, are all of them
 abbrev pub invariant-statements-loop-items : goal.invariant-statements-loop-items
-invariant-statements-loop-items l = with_items (map stm_of l.items.items) (all_at (stm_step (stm_at (utf8_in l.text) l.inner)) l.rest) ≡ all_at (stm_step (stm_at (utf8_in l.text) l.inner)) l.fn.tokens
+invariant-statements-loop-items l =
+    with_items (map stm_of l.items.items) (all_at (stm_step (stm_at (utf8_in l.text) l.inner)) l.rest)
+    ≡ all_at (stm_step (stm_at (utf8_in l.text) l.inner)) l.fn.tokens
 
 abbrev pub decreases-statements-loop-items : goal.decreases-statements-loop-items
 decreases-statements-loop-items l = length l.rest

@@ -1,6 +1,6 @@
 use Rattle.std.proofs.Common.{◌≡◌, length}
-use Rattle.sz_parse.specs.Reading.{utf8_in, all_at, with_items}
-use Rattle.sz_parse.specs.ReadingStatements.{name_step, names_behind}
+use Rattle.sz_parse_expr.specs.Reading.{utf8_in, all_at, with_items}
+use Rattle.sz_parse.specs.ReadingTables.{name_step, names_behind}
 use Rattle.sz_parse.proofs.table.names_behind.Given as goal
 
 -- the items so far, and those that are read from here, are all of them

@@ -2,35 +2,62 @@ use Rattle.std.proofs.Common.{◌≡◌, [], ◌∷◌, ◌++◌, refl, ap, ◌�
 use Rattle.std.specs.Prelude.{map}
 use Rattle.std.proofs.lemmas.Result.{err_from_is_err_and}
 use Rattle.sz_tree.specs.View.{quantifier_of}
-use Rattle.sz_parse.specs.ReadingTypes.{type_at}
-use Rattle.sz_parse.specs.ReadingStatements.{quantifier_step}
-use Rattle.sz_parse.specs.Reading.{utf8_in}
-use Rattle.sz_parse.proofs.TypeSound.{type_sound}
-use Rattle.sz_parse.proofs.StatementSound.{quantifier_item}
-use Rattle.sz_parse.proofs.Loops.{all_goes_on, all_fails, all_ends, item_shorter}
-use Rattle.sz_parse.proofs.ExpressionRows.{just, map_push}
+use Rattle.sz_parse_expr.specs.ReadingTypes.{type_at}
+use Rattle.sz_parse.specs.ReadingTables.{quantifier_step}
+use Rattle.sz_parse_expr.specs.Reading.{utf8_in}
+use Rattle.sz_parse_expr.proofs.TypeSound.{type_sound}
+use Rattle.sz_parse.proofs.TableSound.{quantifier_item}
+use Rattle.sz_parse_expr.proofs.Loops.{all_goes_on, all_fails, all_ends, item_shorter}
+use Rattle.sz_parse_expr.proofs.ExpressionRows.{just, map_push}
 use Rattle.sz_parse.proofs.StatementTurns.{quantifier_here, quantifier_gone, no_quantifier_at_end, quantifiers_start}
 use Rattle.sz_parse.proofs.table.quantifiers_behind.Goals as goal
 
 pub loop-items-init : goal.loop-items-init
 loop-items-init c =
-    let made : (map quantifier_of c.push.new.self.items) ≡ (quantifier_of c.args.first) ∷ [] = rw (c.in_ok-push.ensures.items, c.new-items.ensures.items) refl in
+    let made : (map quantifier_of c.push.new.self.items) ≡ (quantifier_of c.args.first) ∷ [] =
+    rw (c.in_ok-push.ensures.items, c.new-items.ensures.items) refl in
     rw made (quantifiers_start (utf8_in c.args.text.now) (type_at (utf8_in c.args.text.now) c.args.inner) (quantifier_of c.args.first) c.args.tokens.now)
 
 pub loop-items-smaller : goal.loop-items-smaller
 loop-items-smaller c =
-    item_shorter (quantifier_item (utf8_in c.args.text.now) (type_at (utf8_in c.args.text.now) c.args.inner) c.args.inner (type_sound (utf8_in c.args.text.now) c.args.inner)) (quantifier_of c.in_ok-item.item) c.loop-items.rest.now c.in_ok-item.after.now ((quantifier_here (utf8_in c.args.text.now) (type_at (utf8_in c.args.text.now) c.args.inner) c.loop-items.rest.now c.in-Some.field-0.now c.in-Some.ensures.value ∙ ap just c.in_ok-item.ensures.read))
+    item_shorter (quantifier_item (utf8_in c.args.text.now) (type_at (utf8_in c.args.text.now) c.args.inner) c.args.inner
+    (type_sound (utf8_in c.args.text.now) c.args.inner))
+    (quantifier_of c.in_ok-item.item) c.loop-items.rest.now c.in_ok-item.after.now
+    ((quantifier_here (utf8_in c.args.text.now) (type_at (utf8_in c.args.text.now) c.args.inner) c.loop-items.rest.now c.in-Some.field-0.now
+    c.in-Some.ensures.value
+    ∙ ap just c.in_ok-item.ensures.read))
 
 pub returns-in_err-item : goal.returns-in_err-item
 returns-in_err-item c =
     let p = err_from_is_err_and c.from_residual-in_err-item.result c.from_residual-in_err-item.ensures.1 in
-    record { read = rw (p.1, p.2) (all_fails c.in_err-item.field-0.0 (quantifier_step (utf8_in c.args.text.now) (type_at (utf8_in c.args.text.now) c.args.inner)) (no_quantifier_at_end (utf8_in c.args.text.now) (type_at (utf8_in c.args.text.now) c.args.inner)) (map quantifier_of c.loop-items.items.items) c.loop-items.rest.now _ _ (quantifier_here (utf8_in c.args.text.now) (type_at (utf8_in c.args.text.now) c.args.inner) c.loop-items.rest.now c.in-Some.field-0.now c.in-Some.ensures.value) c.in_err-item.ensures.read c.loop-items.invariant) }
+    record {
+      read = rw (p.1, p.2)
+          (all_fails c.in_err-item.field-0.0 (quantifier_step (utf8_in c.args.text.now) (type_at (utf8_in c.args.text.now) c.args.inner))
+          (no_quantifier_at_end (utf8_in c.args.text.now) (type_at (utf8_in c.args.text.now) c.args.inner))
+          (map quantifier_of c.loop-items.items.items) c.loop-items.rest.now _ _
+          (quantifier_here (utf8_in c.args.text.now)
+          (type_at (utf8_in c.args.text.now) c.args.inner) c.loop-items.rest.now c.in-Some.field-0.now c.in-Some.ensures.value) c.in_err-item.ensures.read
+          c.loop-items.invariant);
+    }
 
 pub loop-items-preserved : goal.loop-items-preserved
 loop-items-preserved c =
-    let made : (map quantifier_of c.push-in-Some.new.self.items) ≡ (map quantifier_of c.loop-items.items.items) ++ (quantifier_of c.in_ok-item.item) ∷ [] = rw c.in_ok-push-2.ensures.items (map_push quantifier_of c.loop-items.items.items c.in_ok-item.item) in
-    rw made (all_goes_on (quantifier_item (utf8_in c.args.text.now) (type_at (utf8_in c.args.text.now) c.args.inner) c.args.inner (type_sound (utf8_in c.args.text.now) c.args.inner)) (no_quantifier_at_end (utf8_in c.args.text.now) (type_at (utf8_in c.args.text.now) c.args.inner)) (map quantifier_of c.loop-items.items.items) (quantifier_of c.in_ok-item.item) c.loop-items.rest.now c.in_ok-item.after.now _ ((quantifier_here (utf8_in c.args.text.now) (type_at (utf8_in c.args.text.now) c.args.inner) c.loop-items.rest.now c.in-Some.field-0.now c.in-Some.ensures.value ∙ ap just c.in_ok-item.ensures.read)) c.loop-items.invariant)
+    let made : (map quantifier_of c.push-in-Some.new.self.items) ≡ (map quantifier_of c.loop-items.items.items) ++ (quantifier_of c.in_ok-item.item) ∷
+    [] = rw c.in_ok-push-2.ensures.items (map_push quantifier_of c.loop-items.items.items c.in_ok-item.item) in
+    rw made (all_goes_on
+    (quantifier_item (utf8_in c.args.text.now) (type_at (utf8_in c.args.text.now) c.args.inner) c.args.inner
+    (type_sound (utf8_in c.args.text.now) c.args.inner))
+    (no_quantifier_at_end (utf8_in c.args.text.now) (type_at (utf8_in c.args.text.now) c.args.inner)) (map quantifier_of c.loop-items.items.items)
+    (quantifier_of c.in_ok-item.item) c.loop-items.rest.now c.in_ok-item.after.now _
+    ((quantifier_here (utf8_in c.args.text.now) (type_at (utf8_in c.args.text.now) c.args.inner) c.loop-items.rest.now c.in-Some.field-0.now
+    c.in-Some.ensures.value
+    ∙ ap just c.in_ok-item.ensures.read)) c.loop-items.invariant)
 
 pub returns : goal.returns
 returns c =
-    record { read = all_ends (quantifier_step (utf8_in c.args.text.now) (type_at (utf8_in c.args.text.now) c.args.inner)) (map quantifier_of c.loop-items.items.items) c.loop-items.rest.now _ (quantifier_gone (utf8_in c.args.text.now) (type_at (utf8_in c.args.text.now) c.args.inner) c.loop-items.rest.now c.in_default.ensures.value) c.loop-items.invariant }
+    record {
+      read = all_ends (quantifier_step (utf8_in c.args.text.now) (type_at (utf8_in c.args.text.now) c.args.inner))
+          (map quantifier_of c.loop-items.items.items) c.loop-items.rest.now _
+          (quantifier_gone (utf8_in c.args.text.now) (type_at (utf8_in c.args.text.now) c.args.inner) c.loop-items.rest.now c.in_default.ensures.value)
+          c.loop-items.invariant;
+    }
