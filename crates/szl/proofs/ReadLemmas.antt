@@ -9,7 +9,7 @@ use Rattle.sz_lex.proofs.ItemLemmas.{no_empty}
 use Rattle.sz_tree.specs.Statements.{Stms, no_stms, stm, stms_of}
 use Rattle.sz_tree.specs.declared.stmt.Stmt.{Stmt}
 use Rattle.sz_tree.specs.View.{stm_of}
-use Rattle.sz_parse.specs.Tokens.{Spelling}
+use Rattle.sz_parse_expr.specs.Tokens.{Spelling}
 use Rattle.sz_parse.specs.Statements.{ReadsStm, ReadsStms}
 use Rattle.sz_parse.specs.Program.{count_of}
 use Rattle.sz_parse.proofs.ForCallers.{stm_shorter}
