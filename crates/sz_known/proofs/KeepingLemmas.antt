@@ -125,9 +125,9 @@ module _ (types : List Shape) (meanings : List Kept) where
       joined : (o p : Option Place) → option_map (meaning_by types meanings) o ≡ meaning_in name (block_by types meanings block)
           → option_map (meaning_by types meanings) p ≡ names.meaning_of name (blocks_by types meanings blocks)
           → option_map (meaning_by types meanings) (option_or o p)
-          ≡ names.first_of (meaning_in name (block_by types meanings block)) (names.meaning_of name (blocks_by types meanings blocks))
-      joined (Some w) p e f = ap (λ q. names.first_of q (names.meaning_of name (blocks_by types meanings blocks))) e
-      joined None p e f = f ∙ ap (λ q. names.first_of q (names.meaning_of name (blocks_by types meanings blocks))) e
+          ≡ option_or (meaning_in name (block_by types meanings block)) (names.meaning_of name (blocks_by types meanings blocks))
+      joined (Some w) p e f = ap (λ q. option_or q (names.meaning_of name (blocks_by types meanings blocks))) e
+      joined None p e f = f ∙ ap (λ q. option_or q (names.meaning_of name (blocks_by types meanings blocks))) e
 
   length_by : (blocks : List scopes.Block) → length (blocks_by types meanings blocks) ≡ length blocks
   length_by [] = refl

@@ -1,8 +1,9 @@
 -- What holds of each meaning that a list of blocks has.
 use Rattle.std.proofs.Common.{◌≡◌, ℕ, Bool, true, false, List, [], ◌∷◌, Option, Some, None, refl}
 use Rattle.std.specs.Prelude.{filter, IfSome, bytes_eq, if◌then◌else◌}
+use Rattle.std.specs.Option.{option_or}
 use Rattle.sz_tree.specs.Names.{Ident}
-use Rattle.sz_known.specs.Names.{Block, Named, Meaning, meaning_in, meaning_of, first_of, look_up, declare, only}
+use Rattle.sz_known.specs.Names.{Block, Named, Meaning, meaning_in, meaning_of, look_up, declare, only}
 use Rattle.sz_known.proofs.Holds.{Holds, ok_holds, err_holds, if_holds, option_holds, some_has}
 
 module _ (P : Meaning → Type 0) where
@@ -23,7 +24,7 @@ module _ (P : Meaning → Type 0) where
   found_in name [] h = tt
   found_in name (n ∷ block) h = found_next (bytes_eq name n.name) n.meaning (meaning_in name block) h.0 (found_in name block h.1)
 
-  either : (x y : Option Meaning) → IfSome x P → IfSome y P → IfSome (first_of x y) P
+  either : (x y : Option Meaning) → IfSome x P → IfSome y P → IfSome (option_or x y) P
   either (Some x) y h k = h
   either None y h k = k
 

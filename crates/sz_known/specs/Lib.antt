@@ -6,10 +6,10 @@ pub mod JudgingTypes
 pub mod Scene
 pub mod Written
 pub mod Holding
+pub mod Keeping
 -- what the functions inside the crate promise each other
 pub mod Sorts
 pub mod Parts
 pub mod KnownCode
-pub mod Keeping
 -- how whole lists are judged, for the crates above as well
 pub mod Turns

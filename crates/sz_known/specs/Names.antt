@@ -1,6 +1,7 @@
 -- Names while a program is judged: blocks, the innermost first, each with what it declares.
 use Rattle.std.specs.Prelude.{ℕ, List, [], ◌∷◌, map, filter, Bool, true, false, if◌then◌else◌, Option, Some, None, Ok, codes, bytes_eq}
 use Rattle.std.specs.List.{list_any}
+use Rattle.std.specs.Option.{option_or}
 use Rattle.sz_types.specs.Data.{Shape}
 use Rattle.sz_types.specs.Tables.{Declaration}
 use Rattle.sz_types.specs.declared.operator.Builtin.{Builtin}
@@ -33,15 +34,10 @@ abbrev pub meaning_in : List ℕ → Block → Option Meaning
 meaning_in name [] = None
 meaning_in name (n ∷ block) = if bytes_eq name n.name then Some n.meaning else meaning_in name block
 
--- the first, or else the second
-abbrev pub first_of : {A : Type 0} → Option A → Option A → Option A
-first_of (Some x) other = Some x
-first_of None other = other
-
 -- what the name stands for: the innermost block that has it decides
 abbrev pub meaning_of : List ℕ → List Block → Option Meaning
 meaning_of name [] = None
-meaning_of name (block ∷ blocks) = first_of (meaning_in name block) (meaning_of name blocks)
+meaning_of name (block ∷ blocks) = option_or (meaning_in name block) (meaning_of name blocks)
 
 -- whether a block has the name
 abbrev pub has : List ℕ → Block → Bool

@@ -72,9 +72,9 @@ fn run<R: Threads + Sync + Files + Input>(
     status.code()
 }
 
-/// How much stack the command line runs on: calls go down one level for each level of a type, and a type whose names are
-/// written out may have 30,000.
-const STACK_BYTES: usize = 256 << 20;
+/// How much stack the command line runs on: calls go down one level for each level of a type, and with all names written out
+/// the type of a program of a megabyte may have near 260,000.
+const STACK_BYTES: usize = 2 << 30;
 
 // Where no thread can be started, this one does the work itself.
 fn main(rt: HostRuntime) -> ExitCode {
