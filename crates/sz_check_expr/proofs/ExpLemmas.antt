@@ -1,5 +1,5 @@
 -- Turns of the loops over expressions.
-use Rattle.std.proofs.Common.{◌≡◌, ℕ, ◌+◌, ◌<◌, ◌≤◌, Bool, List, [], ◌∷◌, ◌++◌, length, get_or, drop, map, Option, None, refl, ap, ◌∙◌}
+use Rattle.std.proofs.Common.{◌≡◌, ℕ, ◌+◌, ◌<◌, ◌≤◌, Bool, List, [], ◌∷◌, ◌++◌, length, get_or, drop, map, Option, None, refl, sym, ap, ◌∙◌}
 use Rattle.std.specs.Prelude.{Ok, Err}
 use Rattle.sz_types.specs.Data.{Shape}
 use Rattle.sz_tree.specs.declared.expr.Expr.{Expr}
@@ -19,7 +19,7 @@ use Rattle.sz_known.specs.Turns.{behind, put_all}
 use Rattle.sz_check_expr.specs.Lists.{with_pair, judge_pair}
 use Rattle.sz_known.specs.Outcome.{Stops}
 use Rattle.sz_known.specs.declared.error.CheckError.{CheckError}
-use Rattle.sz_known.proofs.TurnLemmas.{rest_more, rest_none, turn_fails, turn_goes, turn_ends}
+use Rattle.sz_known.proofs.TurnLemmas.{rest_more, rest_none, stops_then, goes_on, turn_fails, turn_goes, turn_ends}
 
 -- nodes put in front of none are these nodes
 pub put_nodes : (ns : List Node) → put_all with_node ns no_nodes ≡ nodes_of ns
@@ -51,6 +51,15 @@ module _ (blocks : List Block) (may_emit : Bool) where
       made_slice p e i j n m o)
   unfolding judge_exp
   slice_is asked p e i j = refl
+
+  -- a slice whose last bound is refused
+  pub slice_stops : (asked : Option Shape) (p : Place) (e i j : Exp) (n m : Node) (r : CheckError) → judge_exp blocks may_emit None e ≡ Ok n
+      → judge_exp blocks may_emit None i ≡ Ok m → Stops r (judge_exp blocks may_emit None j) → Stops r (judge_exp blocks may_emit asked (slice p e i j))
+  slice_stops asked p e i j n m r h g stop =
+      stops_then r (judge_exp blocks may_emit None j) (λ o. made_slice p e i j n m o) _ stop
+      (goes_on (judge_exp blocks may_emit None i) (λ m. judge_exp blocks may_emit None j >>= λ o. made_slice p e i j n m o) _ m g
+      (goes_on (judge_exp blocks may_emit None e) (λ n. judge_exp blocks may_emit None i >>= λ m. judge_exp blocks may_emit None j >>= λ o.
+      made_slice p e i j n m o) _ n h (sym (slice_is asked p e i j))))
 
   pub binary_is : (asked : Option Shape) (p : Place) (o : BinaryOp) (l r : Exp) → judge_exp blocks may_emit asked (binary p o l r)
       ≡ (judge_exp blocks may_emit None l >>= λ n. judge_exp blocks may_emit (asked_of_right (operation_of o) (type_of n)) r >>= λ m.

@@ -25,7 +25,7 @@ use sz_types::{Place, Ty};
 
 /// The checked expression, or its first refusal, where its place asks for a type or for none; only composites take that type.
 #[cycle(expr)]
-#[tactic(auto, using(crate::proofs::ExpLemmas::paren_is, crate::proofs::ExpLemmas::literal_is, crate::proofs::ExpLemmas::index_is, crate::proofs::ExpLemmas::slice_is, crate::proofs::ExpLemmas::binary_is))]
+#[tactic(auto, using(crate::proofs::ExpLemmas::paren_is, crate::proofs::ExpLemmas::literal_is, crate::proofs::ExpLemmas::index_is, crate::proofs::ExpLemmas::slice_is, crate::proofs::ExpLemmas::binary_is, crate::proofs::ExpLemmas::slice_stops))]
 pub fn judge_exp(
     alloc: Global,
     known: &Known,

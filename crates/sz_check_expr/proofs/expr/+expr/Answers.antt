@@ -1,13 +1,14 @@
-use Rattle.std.proofs.Common.{map, ap, ◌∙◌, arith}
+use Rattle.std.proofs.Common.{map, ap, sym, subst, ◌∙◌, arith}
 use Rattle.std.proofs.lemmas.Result.{err_from_is_err_and}
 use Rattle.sz_core.specs.View.{node_of, pairing_of}
 use Rattle.sz_check_expr.specs.Asking.{asks_of, asked_of}
 use Rattle.sz_known.specs.Holding.{blocks_for}
+use Rattle.sz_known.specs.Outcome.{Stops}
 use Rattle.sz_tree.specs.View.{tree_of}
 use Rattle.sz_tree.proofs.RowLemmas.{tree_of_call, tree_of_list, tree_of_map}
 use Rattle.sz_check_expr.specs.JudgingExpressions.{judge_exp}
 use Rattle.sz_known.proofs.TurnLemmas.{map_push, judged_as}
-use Rattle.sz_check_expr.proofs.ExpLemmas.{exps_fails, exps_goes, exps_ends, pairs_fails, pairs_goes, pairs_ends}
+use Rattle.sz_check_expr.proofs.ExpLemmas.{slice_stops, exps_fails, exps_goes, exps_ends, pairs_fails, pairs_goes, pairs_ends}
 use Rattle.sz_check_expr.proofs.expr.+expr.Goals as goal
 
 pub judge_exps-returns-in_err-node : goal.judge_exps-returns-in_err-node
@@ -37,6 +38,21 @@ judge_exps-returns t c =
     record {
       value = exps_ends blocks c.args.may_emit front (asks_of c.loop-tree.asks) c.args.trees.now c.loop-tree.tree-index _ (omega arith)
           c.loop-tree.invariant;
+    }
+
+-- a slice whose last bound is refused
+pub judge_exp-returns-in_err-last-in-Slice : goal.judge_exp-returns-in_err-last-in-Slice
+judge_exp-returns-in_err-last-in-Slice t c =
+    let p = err_from_is_err_and c.from_residual-in_err-last-in-Slice.result c.from_residual-in_err-last-in-Slice.ensures.1 in
+    let blocks = blocks_for c.args.known.now c.args.may_emit in
+    let stopped = slice_stops blocks c.args.may_emit (asked_of c.args.asked) c.in-Slice.place (tree_of c.in-Slice.part.value) (tree_of c.in-Slice.from.value)
+        (tree_of c.in-Slice.to.value) (node_of c.in_ok-node-in-Slice.node) (node_of c.in_ok-first-in-Slice.first) c.in_err-last-in-Slice.field-0.0
+        (rw c.deref-in-Slice.ensures at c.in_ok-node-in-Slice.ensures.value) (rw c.deref-in-Slice-2.ensures at c.in_ok-first-in-Slice.ensures.value)
+        (rw c.deref-in-Slice-3.ensures at c.in_err-last-in-Slice.ensures.value) in
+    record {
+      value = rw (p.1, p.2)
+          (subst (λ (e : _). Stops c.in_err-last-in-Slice.field-0.0 (judge_exp blocks c.args.may_emit (asked_of c.args.asked) (tree_of e)))
+          (sym c.in-Slice.is) stopped);
     }
 
 -- ---- expressions whose parts stand in a vector
