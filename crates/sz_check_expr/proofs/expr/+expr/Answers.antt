@@ -46,9 +46,9 @@ judge_exp-returns-in_err-last-in-Slice t c =
     let p = err_from_is_err_and c.from_residual-in_err-last-in-Slice.result c.from_residual-in_err-last-in-Slice.ensures.1 in
     let blocks = blocks_for c.args.known.now c.args.may_emit in
     let stopped = slice_stops blocks c.args.may_emit (asked_of c.args.asked) c.in-Slice.place (tree_of c.in-Slice.part.value) (tree_of c.in-Slice.from.value)
-        (tree_of c.in-Slice.to.value) (node_of c.in_ok-node-in-Slice.node) (node_of c.in_ok-first-in-Slice.first) c.in_err-last-in-Slice.field-0.0
-        (rw c.deref-in-Slice.ensures at c.in_ok-node-in-Slice.ensures.value) (rw c.deref-in-Slice-2.ensures at c.in_ok-first-in-Slice.ensures.value)
-        (rw c.deref-in-Slice-3.ensures at c.in_err-last-in-Slice.ensures.value) in
+    (tree_of c.in-Slice.to.value) (node_of c.in_ok-node-in-Slice.node) (node_of c.in_ok-first-in-Slice.first) c.in_err-last-in-Slice.field-0.0
+    (rw c.deref-in-Slice.ensures at c.in_ok-node-in-Slice.ensures.value) (rw c.deref-in-Slice-2.ensures at c.in_ok-first-in-Slice.ensures.value)
+    (rw c.deref-in-Slice-3.ensures at c.in_err-last-in-Slice.ensures.value) in
     record {
       value = rw (p.1, p.2)
           (subst (λ (e : _). Stops c.in_err-last-in-Slice.field-0.0 (judge_exp blocks c.args.may_emit (asked_of c.args.asked) (tree_of e)))
