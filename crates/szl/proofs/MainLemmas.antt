@@ -1,5 +1,5 @@
 -- The promise of the top call, from the answer, what was printed of it, and the line.
-use Rattle.std.proofs.Common.{◌≡◌, ℕ, List, [], length, take, Option, refl, sym, ap, ◌∙◌, subst, arith, inl, inr, ◌⊎◌}
+use Rattle.std.proofs.Common.{◌≡◌, ◌≢◌, ℕ, ◌<◌, List, [], ◌∷◌, length, take, Option, refl, sym, ap, ◌∙◌, subst, arith, inl, inr, ◌⊎◌}
 use Rattle.std.specs.Prelude.{Result, Ok, Err, OnOk, IfErr}
 use Rattle.std.specs.Io.KnownBytes.{Appends}
 use Rattle.std.proofs.KnownBytes.{Appends-nil}
@@ -20,6 +20,14 @@ use Rattle.szl.specs.Outcome.{Answer, outcome, success}
 use Rattle.szl.specs.Printing.{Prints}
 use Rattle.szl.specs.Promise.{IsStatusOf, AppendsPrefix, GainsOutput, GainsLine, MeansSource, line_of}
 use Rattle.szl.specs.Settings.{settings_in}
+
+-- where a place is within the bytes, there are some
+pub some_bytes : (place : ℕ) (bytes : List ℕ) → place < length bytes → bytes ≢ []
+some_bytes place [] within = absurd (omega (arith, within))
+some_bytes place (b ∷ bytes) within = not_none
+  where
+    not_none : b ∷ bytes ≡ [] → ⊥
+    not_none p = cc
 
 -- what a status says of an answer, of the output and of the line
 record Fits (answer : Answer) (s : Status) (old new : Option (List ℕ)) : Type 0 where

@@ -61,6 +61,7 @@ fn print<O: Sink>(out: &mut O, answer: Result<Vec<u8>, Failure>) -> Result<(), F
 }
 
 /// Writes a text.
+#[tactic(auto, using(crate::proofs::MainLemmas::some_bytes))]
 fn print_text<O: Sink>(out: &mut O, text: &[u8]) -> Result<(), Failure>
     ensures value { Prints (O.taken out.old) (O.taken out.new) (Ok text.now) result }
     ensures failed { result ≡ Err Failure.WriteFailed → Rose (O.faults out.old) (O.faults out.new) }
