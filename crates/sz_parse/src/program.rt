@@ -6,10 +6,11 @@ ghost use Rattle.sz_tree.specs.View.{program_of};
 ghost use Rattle.sz_parse.specs.Program.{Spells, IsStuck};
 ghost use Rattle.sz_parse.specs.Parsed.{OrNoMemory};
 
+use crate::error::ParseError;
 use crate::stmt::statement;
 use std::alloc::Global;
 use sz_lex::Tokens;
-use sz_parse_expr::{Failed, MAX_HEIGHT, ParseError};
+use sz_parse_expr::{Failed, MAX_HEIGHT};
 use sz_tree::Tree;
 
 /// The tree that the tokens spell, of height at most `MAX_HEIGHT`. `Syntax` comes exactly where they spell none: at the first token
