@@ -1,0 +1,27 @@
+//! Code.
+
+use crate::line::Lines;
+use crate::routine::{Routine, Routines};
+use sz_types::{TableDecls, Tys};
+use sz_value::List;
+
+/// The code of a program: its lines, the routines that begin at some of them, and what instructions name by numbers from 0.
+///
+/// Contracts see the record of these lists, each as they see the list alone. Nothing is kept of how they belong together:
+/// that is what `well_formed` answers.
+#[derive(Drop)]
+pub struct Code {
+    pub lines: Lines,
+    /// The functions that the program declares, in the order of their declarations.
+    pub functions: Routines,
+    /// What computes the statics, each on its own, in the order of their declarations. It is entered without arguments.
+    pub statics: Routines,
+    /// What is done for each record. It is entered without arguments.
+    pub main: Routine,
+    /// The values that `Push` pushes.
+    pub constants: List,
+    /// The types that `Convert` converts to.
+    pub types: Tys,
+    /// The tables that `Emit` emits to, in the order of their declarations.
+    pub tables: TableDecls,
+}

@@ -1,0 +1,61 @@
+//! Instructions.
+
+use sz_types::{BinOp, Builtin, UnOp};
+
+/// An instruction of the machine, which works on a stack of slots. A slot is a value, or undefined.
+///
+/// All numbers count from 0. A place is that of a line in its code. A local is one of the routine that runs, and constants,
+/// statics, types and tables are those of the code. What is pushed is undefined where an operand or a part was undefined, or
+/// where the operation has no result.
+#[derive(Drop)]
+pub enum Instr {
+    /// Pushes the constant.
+    Push(u32),
+    /// Pushes a copy of the local.
+    Local(u32),
+    /// Pushes a copy of the static.
+    Static(u32),
+    /// Pushes the bytes of the record.
+    Input,
+    /// Pops a slot into the local, undefined too.
+    Keep(u32),
+    /// Pops a slot into the static, undefined too.
+    KeepStatic(u32),
+    /// Makes the local undefined.
+    Clear(u32),
+    /// Pops the operand and pushes what the operator makes of it.
+    Unary(UnOp),
+    /// Pops the right operand and then the left one, and pushes what the operator makes of them.
+    Binary(BinOp),
+    /// Pops the arguments, the last one first, and pushes what the function makes of them.
+    Apply(Builtin),
+    /// Pops a slot and pushes it converted to the type.
+    Convert(u32),
+    /// Pops this many elements, the last one first, and pushes the array of them.
+    MakeArray(u32),
+    /// Pops this many parts, the last one first, and pushes the tuple of them.
+    MakeTuple(u32),
+    /// Pops this many pairs, the last one first and of each the value before its key, and pushes the map of them.
+    MakeMap(u32),
+    /// Pops an index or a key, then what it leads into, and pushes the element.
+    Index,
+    /// Pops the end and then the beginning of a part, then what it is a part of, and pushes the part.
+    Slice,
+    /// Pops a tuple or a message and pushes its part at this place.
+    Field(u32),
+    /// Pops a slot and pushes whether it was defined.
+    Def,
+    /// Does nothing: the line has its charge alone.
+    Tick,
+    /// Goes to the place.
+    Jump(usize),
+    /// Goes to the place where the slot on top is false or undefined, and leaves it; else pops it.
+    AndTest(usize),
+    /// Goes to the place where the slot on top is true or undefined, and leaves it; else pops it.
+    OrTest(usize),
+    /// Ends the run.
+    EndRecord,
+    /// Of a table, how many indexes there are, and whether there is a weight: pops the weight if there is one, the value, and
+    /// the indexes, the last one first, and emits them to the table if all are defined.
+    Emit(u32, u32, bool),
+}
