@@ -1,0 +1,2 @@
+pub mod PermutationLemmas
+pub mod SortingLemmas
