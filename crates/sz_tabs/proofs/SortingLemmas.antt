@@ -1,5 +1,5 @@
 -- Sorting: that it sorts, that the order of the elements can't be seen in it, and that a stable sort gives it.
-use Rattle.std.proofs.Common.{◌≡◌, ◌∙◌, ℕ, zero, suc, ◌+◌, ◌<◌, Bool, true, false, not, ◌&&◌, cond, true≢false, List, [], ◌∷◌, map, filter, length, refl, sym, ap, subst, arith, add-one}
+use Rattle.std.proofs.Common.{◌≡◌, ◌∙◌, zero, suc, Bool, true, false, not, ◌&&◌, cond, true≢false, List, [], ◌∷◌, map, filter, refl, sym, ap, subst, arith, add-one}
 use Rattle.std.proofs.Common.{Ordering, Less, Equal, Greater, is_lt, is_gt, is_eq, IsPermutation, IsSorted}
 use Rattle.std.specs.List.{AllByRecursion, Contains}
 use Rattle.std.specs.List.Sorted.{IsStable, IsStrictlySortedBy}

@@ -1,10 +1,15 @@
--- How the logic stores emits and rows as plain data: what the models of their lists have to give.
-use Rattle.std.specs.Prelude.{◌≡◌, ◌⊎◌, ℕ, ℤ, List, Option, Some, None, refl}
+-- How the logic stores emits, rows and aggregators as plain data: what the models of their types have to give.
+use Rattle.std.specs.Prelude.{◌≡◌, ◌⊎◌, ℕ, ℤ, List, [], ◌∷◌, Option, Some, None, refl}
 use Rattle.std.specs.Coded.{Coded, code_by, coded×, coded⊎, coded_ℕ, coded_ℤ, coded_list, coded_option}
 use Rattle.std.proofs.Common.{inl, inr}
+use Rattle.sz_types.specs.Data.{Shape}
+use Rattle.sz_types.specs.Tables.{Declaration}
+use Rattle.sz_types.specs.Code.{declarations_code}
+use Rattle.sz_types.specs.declared.table.TableKind.TheVariants.{Sum}
 use Rattle.sz_value.specs.Data.{Datum}
 use Rattle.sz_value.specs.Code.{datum_code, parts_code}
-use Rattle.sz_tabs.specs.Data.{EmitDatum, Shown, one, sums, overflow, RowDatum}
+use Rattle.sz_tabs.specs.Data.{EmitDatum, Weighted, Shown, one, sums, overflow, RowDatum}
+use Rattle.sz_tabs.specs.Listing.{Listing}
 
 abbrev weight_code : Coded (Option ℤ)
 weight_code = coded_option coded_ℤ
@@ -53,3 +58,24 @@ row_code =
 -- how a list of rows is stored
 abbrev pub rows_code : Coded (List RowDatum)
 rows_code = coded_list row_code
+
+-- any declaration, where a list has none
+abbrev no_declaration : Declaration
+no_declaration = record { name = []; kind = Sum; limit = 0; indexes = []; element = Shape.int; weight = None }
+
+abbrev first_of : List Declaration → Declaration
+first_of [] = no_declaration
+first_of (d ∷ ds) = d
+
+-- how a declaration is stored
+abbrev pub declaration_code : Coded Declaration
+declaration_code = code_by (List Declaration) declarations_code (λ d. d ∷ []) first_of (λ _. refl)
+
+abbrev weighted_code : Coded Weighted
+weighted_code = code_by (Datum × Option ℤ) (coded× datum_code weight_code) (λ w. (w.value, w.weight)) (λ p. record { value = p.0; weight = p.1 }) (λ _. refl)
+
+-- how a plain aggregator is stored
+abbrev pub listing_code : Coded Listing
+listing_code =
+    code_by (Declaration × List Weighted) (coded× declaration_code (coded_list weighted_code))
+    (λ l. (l.table, l.emits)) (λ p. record { table = p.0; emits = p.1 }) (λ _. refl)

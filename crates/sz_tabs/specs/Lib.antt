@@ -4,5 +4,10 @@ pub mod Seen
 pub mod Sorting
 pub mod Rows
 pub mod Fitting
+pub mod Aggregating
+pub mod Listing
+pub mod Laws
 -- what the functions inside the crate promise each other
 pub mod Code
+pub mod SeenKept
+pub mod Bounds

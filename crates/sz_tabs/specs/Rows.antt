@@ -1,5 +1,5 @@
 -- Which rows a list of emits has, for each kind of table.
-use Rattle.std.specs.Prelude.{ℕ, ℤ, pos, ◌+ℤ◌, ◌&&◌, Bool, if◌then◌else◌, nat_eq, nat_lt, Option, Some, None, List, [], ◌∷◌, length, map, take, filter}
+use Rattle.std.specs.Prelude.{ℕ, ℤ, pos, ◌+ℤ◌, ◌&&◌, Bool, if◌then◌else◌, nat_eq, nat_lt, None, List, [], ◌∷◌, length, map, take, filter}
 use Rattle.std.specs.Ordering.{int_cmp, then_cmp, on, flip_args, is_eq}
 use Rattle.std.specs.Option.{option_cmp}
 use Rattle.std.specs.Cmp.Lexicographic.{slice_cmp}
@@ -9,7 +9,7 @@ use Rattle.sz_types.specs.declared.table.TableKind.{TableKind}
 use Rattle.sz_types.specs.declared.table.TableKind.TheVariants.{Sum, Maximum, Minimum, Set, Collection}
 use Rattle.sz_value.specs.Data.{Datum, int, tuple, parts_of}
 use Rattle.sz_value.specs.Order.{compare}
-use Rattle.sz_tabs.specs.Data.{EmitDatum, Weighted, Shown, one, sums, overflow, RowDatum}
+use Rattle.sz_tabs.specs.Data.{EmitDatum, Weighted, one, sums, overflow, RowDatum}
 use Rattle.sz_tabs.specs.Sorting.{sorted, distinct}
 
 -- how two index lists compare: by the first indexes that differ
@@ -75,10 +75,13 @@ abbrev pub sum_rows : List Datum → List RowDatum
 sum_rows [] = []
 sum_rows (v ∷ vs) = record { shown = sums (sums_of (v ∷ vs)); weight = None } ∷ []
 
+-- the row of a set that has more values than it can hold
+abbrev pub overflow_row : RowDatum
+overflow_row = record { shown = overflow; weight = None }
+
 -- a row for each of these distinct values, or one for all where there are more than the limit
 abbrev pub set_rows : ℕ → List Datum → List RowDatum
-set_rows limit values =
-    if nat_lt limit (length values) then record { shown = overflow; weight = None } ∷ [] else map value_row values
+set_rows limit values = if nat_lt limit (length values) then overflow_row ∷ [] else map value_row values
 
 -- the rows of a table of a kind and a limit, of what was brought to it under one index list
 abbrev pub rows_by : TableKind → ℕ → List Weighted → List RowDatum

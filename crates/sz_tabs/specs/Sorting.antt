@@ -1,5 +1,5 @@
 -- Lists in order, by any order of their elements.
-use Rattle.std.specs.Prelude.{if◌then◌else◌, List, [], ◌∷◌, IsPermutation, IsSorted}
+use Rattle.std.specs.Prelude.{if◌then◌else◌, List, [], ◌∷◌}
 use Rattle.std.specs.Ordering.{is_gt, eq_by_cmp}
 use Rattle.std.specs.List.{dedup}
 use Rattle.std.specs.declared.cmp.Ordering.{Ordering}
