@@ -1,0 +1,9 @@
+pub mod ForCallers
+pub mod PermutationLemmas
+pub mod SortingLemmas
+pub mod RowsLemmas
+pub mod PlainLemmas
+pub mod AddingLemmas
+pub mod JoiningLemmas
+pub mod TestLemmas
+pub mod StandardFacts

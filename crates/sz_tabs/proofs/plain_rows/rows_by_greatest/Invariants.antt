@@ -1,0 +1,8 @@
+-- There is a row for each value and weight so far.
+use Rattle.std.proofs.Common.{◌≡◌, map}
+use Rattle.sz_tabs.specs.Rows.{weighted_row}
+use Rattle.sz_tabs.specs.SeenKept.{seen_greatest}
+use Rattle.sz_tabs.proofs.plain_rows.rows_by_greatest.Given as goal
+
+abbrev pub invariant-loop-weight : goal.invariant-loop-weight
+invariant-loop-weight l = l.rows ≡ map weighted_row (map seen_greatest l.yielded)

@@ -1,0 +1,94 @@
+//! A plain aggregator, which keeps every emit and makes its rows when it is asked.
+ghost use Rattle.std.specs.Prelude.{◌≡◌, IfOk};
+ghost use Rattle.sz_types.specs.SeenTables.{seen_table};
+ghost use Rattle.sz_tabs.specs.Listing.{nothing_listed};
+
+use crate::NoMemory;
+use crate::aggregator::Aggregator;
+use crate::plain_rows::rows_of;
+use crate::row::Rows;
+use std::alloc::Global;
+use std::marker::Model;
+use sz_types::{TableDecl, copy_table};
+use sz_value::{Value, copy};
+
+// A value and its weight.
+#[derive(Debug, Drop)]
+pub(crate) struct Kept {
+    pub(crate) value: Value,
+    pub(crate) weight: Option<i64>,
+}
+
+/// An aggregator of any kind of table, which keeps every emit and makes its rows when it is asked. It is as slow and as
+/// large as that sounds: it shows that the trait's contract can be met, and tests hold other aggregators against it.
+///
+/// Contracts see the declaration and the list of the emits.
+#[derive(Debug, Drop)]
+pub struct PlainAggregator {
+    alloc: Global,
+    table: TableDecl,
+    held: Vec<Kept>,
+}
+
+impl Model for PlainAggregator {
+    ghost use Rattle.std.specs.Prelude.{map};
+    ghost use Rattle.sz_tabs.specs.Listing.{Listing};
+    ghost use Rattle.sz_tabs.specs.Code.{listing_code};
+
+    ghost Value = { Listing };
+
+    ghost coded = { listing_code };
+
+    ghost use Rattle.sz_types.specs.SeenTables.{seen_table};
+    ghost use Rattle.sz_tabs.specs.SeenKept.{seen_kept};
+
+    ghost view = { λ a. record { table = seen_table a.table; emits = map seen_kept a.held.items } };
+}
+
+impl PlainAggregator {
+    /// An aggregator of a table before any emit.
+    pub fn new(alloc: Global, table: &TableDecl) -> Result<PlainAggregator, NoMemory>
+        ensures value { IfOk result (λ made. made ≡ nothing_listed (seen_table table.now)) }
+    {
+        let table = copy_table(alloc, table)?;
+        Ok(PlainAggregator {
+            alloc,
+            table,
+            held: Vec::new(alloc),
+        })
+    }
+}
+
+impl Aggregator for PlainAggregator {
+    ghost use Rattle.std.specs.Prelude.{◌≡◌, length, refl};
+    ghost use Rattle.std.proofs.Common.{sym, ap};
+    ghost use Rattle.sz_tabs.specs.Rows.{rows_of};
+
+    ghost declaration = { λ a. a.table };
+
+    ghost count = { λ a. length a.emits };
+
+    ghost shown = { λ a. rows_of a.table a.emits };
+
+    ghost stands_for = { λ a emits. a.emits ≡ emits };
+
+    fn add(&mut self, value: &Value, weight: Option<i64>) -> Result<(), NoMemory> {
+        let value = copy(self.alloc, value)?;
+        self.held.push(Kept { value, weight })?;
+        Ok(())
+    }
+
+    fn merge(&mut self, other: Self) -> Result<(), Self> {
+        let mut other = other;
+        match self.held.append(&mut other.held) {
+            Ok(()) => Ok(()),
+            Err(_) => Err(other),
+        }
+    }
+
+    fn rows(&self) -> Result<Rows, NoMemory> {
+        rows_of(self.alloc, &self.table, &self.held)
+    }
+
+    ghost exact = { record { rows = λ a emits same. ap (rows_of a.table) same; counted = λ a emits same. ap length same } };
+}
