@@ -2,8 +2,9 @@
 use Rattle.std.specs.Prelude.{ℕ, List, [], ◌∷◌, ◌++◌, Bool, true, ◌&&◌, length, max, nat_lt, nat_le}
 use Rattle.std.specs.List.{list_all}
 use Rattle.sz_instr.specs.declared.instr.Instr.{Instr}
-use Rattle.sz_instr.specs.declared.instr.Instr.TheVariants.{Push, Local, Static, Input, Keep, KeepStatic, Clear, Unary, Binary, Apply, Convert}
-use Rattle.sz_instr.specs.declared.instr.Instr.TheVariants.{MakeArray, MakeTuple, MakeMap, Index, Slice, Field, Def, Tick, Jump, AndTest, OrTest, EndRecord, Emit}
+use Rattle.sz_instr.specs.declared.instr.Instr.TheVariants.{Push, Local, Static, Input, Keep, KeepStatic, Clear, Unary, Binary, Apply}
+use Rattle.sz_instr.specs.declared.instr.Instr.TheVariants.{Convert, MakeArray, MakeTuple, MakeMap, Index, Slice, Field, Def, Tick}
+use Rattle.sz_instr.specs.declared.instr.Instr.TheVariants.{Jump, AndTest, OrTest, EndRecord, Emit}
 use Rattle.sz_instr.specs.declared.routine.Routine.{Routine}
 use Rattle.sz_instr.specs.declared.code.Code.{Code}
 

@@ -262,51 +262,43 @@ fn any_routine_may_have_the_most_locals(rt: HostRuntime) -> Result<(), Fail> {
     Ok(())
 }
 
+// Whether code is well formed with this routine as its function, as its static, and as that of the record.
+fn are_formed(
+    alloc: Global,
+    entry: usize,
+    params: u32,
+    locals: u32,
+) -> Result<(bool, bool, bool), NoMemory> {
+    let made = routine(entry, params, locals);
+    let function = is_formed(alloc, Instr::Tick, made, routine(0, 0, 0), routine(0, 0, 0))?;
+    let made = routine(entry, params, locals);
+    let computes = is_formed(alloc, Instr::Tick, routine(0, 0, 0), made, routine(0, 0, 0))?;
+    let made = routine(entry, params, locals);
+    let main = is_formed(alloc, Instr::Tick, routine(0, 0, 0), routine(0, 0, 0), made)?;
+    Ok((function, computes, main))
+}
+
 #[test]
 fn routines_begin_at_lines_and_have_their_parameters(rt: HostRuntime) -> Result<(), Fail> {
-    let alloc = rt.alloc();
     for (entry, params, locals, expected) in [
         (0, 0, 0, true),
         (1, 2, 2, true),
         (2, 0, 0, false),
         (0, 3, 2, false),
     ] {
-        let made = routine(entry, params, locals);
-        let found = is_formed(
-            alloc,
-            Instr::EndRecord,
-            made,
-            routine(0, 0, 0),
-            routine(0, 0, 0),
-        )?;
+        let (function, computes, main) = are_formed(rt.alloc(), entry, params, locals)?;
         assert_eq!(rt;
-            found,
+            function,
             expected,
             "as a function, at {entry}, {params}, {locals}"
         );
-        let made = routine(entry, params, locals);
-        let found = is_formed(
-            alloc,
-            Instr::EndRecord,
-            routine(0, 0, 0),
-            made,
-            routine(0, 0, 0),
-        )?;
         assert_eq!(rt;
-            found,
+            computes,
             expected,
             "as a static, at {entry}, {params}, {locals}"
         );
-        let made = routine(entry, params, locals);
-        let found = is_formed(
-            alloc,
-            Instr::EndRecord,
-            routine(0, 0, 0),
-            routine(0, 0, 0),
-            made,
-        )?;
         assert_eq!(rt;
-            found,
+            main,
             expected,
             "for the record, at {entry}, {params}, {locals}"
         );
