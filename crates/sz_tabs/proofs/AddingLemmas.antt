@@ -136,8 +136,10 @@ pub added_place : (first now : List ℤ) (parts : List Value) (count : ℕ) → 
 added_place first now parts count h =
     omega (arith, ap length h.is, length_plus first (numbers_of (take count parts)), length_numbers parts count h.upto)
 
-pub added_within : (first now : List ℤ) (parts : List Value) (count : ℕ) → AreWithin (2 ^ 126) first → IsAdded first now parts count → AreWithin (2 ^ 126 + 2 ^ 63) now
-added_within first now parts count within h = subst (AreWithin (2 ^ 126 + 2 ^ 63)) (sym h.is) (within_plus (2 ^ 126) (2 ^ 63) first (numbers_of (take count parts)) within h.fit)
+pub added_within : (first now : List ℤ) (parts : List Value) (count : ℕ) → AreWithin (2 ^ 126) first → IsAdded first now parts count
+    → AreWithin (2 ^ 126 + 2 ^ 63) now
+added_within first now parts count within h =
+    subst (AreWithin (2 ^ 126 + 2 ^ 63)) (sym h.is) (within_plus (2 ^ 126) (2 ^ 63) first (numbers_of (take count parts)) within h.fit)
 
 pub added_more : (first now next : List ℤ) (parts : List Value) (count : ℕ) (part : Value) (n : ℤ) → count < length parts → part ≡ get_or parts count part
     → n ≡ number_of (seen part) → IsWithin (2 ^ 63) n → next ≡ added_at count n now → IsAdded first now parts count → IsAdded first next parts (count + 1)
@@ -181,10 +183,13 @@ summed_more sums next kept count one there is added fits h =
     ap (λ l. values_of (map seen_kept l)) (take_more kept count one there ∙ ap (λ k. so_far ++ k ∷ []) (sym is))
     ∙ ap values_of (map-append seen_kept so_far (one ∷ [])) ∙ map-append (λ w. w.value) (map seen_kept so_far) (seen_kept one ∷ []) in
     let wide : 2 ^ 63 * count + 2 ^ 63 ≡ 2 ^ 63 * (count + 1) = omega arith in
+    let within = within_plus (2 ^ 63 * count) (2 ^ 63) sums (components_of (seen one.value)) h.within fits in
     record {
-      is = added ∙ ap (λ l. plus l (components_of (seen one.value))) h.is ∙ sym (sums_of_one_more (values_of (map seen_kept so_far)) (seen one.value)) ∙ ap sums_of (sym behind);
-      within = subst (λ most. AreWithin most next) wide (subst (AreWithin (2 ^ 63 * count + 2 ^ 63)) (sym added) (within_plus (2 ^ 63 * count) (2 ^ 63) sums (components_of (seen one.value)) h.within fits));
+      is = added ∙ ap (λ l. plus l (components_of (seen one.value))) h.is
+          ∙ sym (sums_of_one_more (values_of (map seen_kept so_far)) (seen one.value)) ∙ ap sums_of (sym behind);
+      within = subst (λ most. AreWithin most next) wide (subst (AreWithin (2 ^ 63 * count + 2 ^ 63)) (sym added) within);
     }
 
-pub summed_all : (sums : List ℤ) (kept : List Kept) (count : ℕ) → length kept ≤ count → IsSummed sums kept count → sums ≡ sums_of (values_of (map seen_kept kept))
+pub summed_all : (sums : List ℤ) (kept : List Kept) (count : ℕ) → length kept ≤ count → IsSummed sums kept count
+    → sums ≡ sums_of (values_of (map seen_kept kept))
 summed_all sums kept count all h = h.is ∙ ap (λ l. sums_of (values_of (map seen_kept l))) (take_all count kept all)

@@ -140,7 +140,8 @@ module _ {X : Type 0} {cmp : X → X → Ordering} (total : IsTotalOrder cmp) (s
   entered_above k x (y ∷ ys) above up =
       by_found (cmp x y) refl (entered_above k x ys above (up.0.1, up.1.1)) (λ higher. entered_above y x ys higher up.1)
     where
-      in_run : (b : Bool) → once_from k (inserted cmp x ys) ≡ insert_key cmp (once_from k ys) x → once_from y (inserted cmp x ys) ≡ insert_key cmp (once_from y ys) x
+      in_run : (b : Bool) → once_from k (inserted cmp x ys) ≡ insert_key cmp (once_from k ys) x
+          → once_from y (inserted cmp x ys) ≡ insert_key cmp (once_from y ys) x
           → cond b (once_from k (inserted cmp x ys)) (k ∷ once_from y (inserted cmp x ys)) ≡ insert_key cmp (cond b (once_from k ys) (k ∷ once_from y ys)) x
       in_run true behind_k behind_y = behind_k
       in_run false behind_k behind_y = ap (λ l. k ∷ l) behind_y ∙ sym (entered_past x k (once_from y ys) above)
@@ -184,7 +185,8 @@ module _ {X : Type 0} {cmp : X → X → Ordering} (total : IsTotalOrder cmp) (s
       ap (dedup (eq_by_cmp cmp)) (sorted_in_any_order total same (xs ++ ys) (ys ++ xs) (IsPermutation-append_comm xs ys)) ∙ distinct_of_both ys xs
 
   -- the first n of both lists need only the first n of each
-  pub first_of_either : (n : ℕ) (xs ys zs : List X) → take n (sorted cmp xs) ≡ take n (sorted cmp ys) → take n (sorted cmp (xs ++ zs)) ≡ take n (sorted cmp (ys ++ zs))
+  pub first_of_either : (n : ℕ) (xs ys zs : List X) → take n (sorted cmp xs) ≡ take n (sorted cmp ys)
+      → take n (sorted cmp (xs ++ zs)) ≡ take n (sorted cmp (ys ++ zs))
   first_of_either n xs ys zs alike =
       ap (take n) (sorted_of_either xs zs) ∙ taken_of_all cmp n zs (sorted cmp xs) (sorted cmp ys) alike ∙ sym (ap (take n) (sorted_of_either ys zs))
 
@@ -247,7 +249,8 @@ no_value_overflows (e ∷ es) h =
     let first : overflow_row ≡ value_row e = cc in
     let shown : overflow ≡ one e = ap (λ (r : RowDatum). r.shown) first in cc
 
-set_decided : (limit : ℕ) (ds es more : List Datum) → set_rows limit ds ≡ set_rows limit es → set_rows limit (all_entered compare more ds) ≡ set_rows limit (all_entered compare more es)
+set_decided : (limit : ℕ) (ds es more : List Datum) → set_rows limit ds ≡ set_rows limit es
+    → set_rows limit (all_entered compare more ds) ≡ set_rows limit (all_entered compare more es)
 set_decided limit ds es more h = by_tests (nat_lt limit (length ds)) (nat_lt limit (length es)) refl refl h
   where
     by_tests : (p q : Bool) → nat_lt limit (length ds) ≡ p → nat_lt limit (length es) ≡ q

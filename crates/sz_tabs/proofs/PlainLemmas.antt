@@ -20,9 +20,10 @@ use Rattle.sz_tabs.proofs.SortingLemmas.{stable_sort_is_sorted, sorted_mapped}
 use Rattle.sz_tabs.proofs.RowsLemmas.{least_total, greatest_total}
 
 -- what a stable sort by what is seen of the elements leaves, as it is seen
-sorted_as_seen : {X Y : Type 0} (cmp : Y → Y → Ordering) → IsTotalOrder cmp → (f : X → Y) (old new : List X) → IsSorted (on f cmp) new → IsStable (on f cmp) old new
-    → map f new ≡ sorted cmp (map f old)
-sorted_as_seen cmp total f old new in_order stable = ap (map f) (stable_sort_is_sorted (on_total f total) old new in_order stable) ∙ sym (sorted_mapped cmp f old)
+sorted_as_seen : {X Y : Type 0} (cmp : Y → Y → Ordering) → IsTotalOrder cmp → (f : X → Y) (old new : List X) → IsSorted (on f cmp) new
+    → IsStable (on f cmp) old new → map f new ≡ sorted cmp (map f old)
+sorted_as_seen cmp total f old new in_order stable =
+    ap (map f) (stable_sort_is_sorted (on_total f total) old new in_order stable) ∙ sym (sorted_mapped cmp f old)
 
 pub values_sorted : (old new : List Value) → IsSorted (on seen compare) new → IsStable (on seen compare) old new → map seen new ≡ sorted compare (map seen old)
 values_sorted = sorted_as_seen compare compare_total seen
@@ -32,12 +33,15 @@ pub taken_as_seen : {X Y : Type 0} (f : X → Y) (n : ℕ) (xs : List X) (ys : L
 taken_as_seen f n xs ys are = sym (take-map f n xs) ∙ ap (take n) are
 
 -- a list without repeats of neighbours, through a function
-without_repeats_from : {X Y : Type 0} (same : Y → Y → Bool) (f : X → Y) (k : X) (xs : List X) → dedup_from same (f k) (map f xs) ≡ map f (dedup_from (on f same) k xs)
+without_repeats_from : {X Y : Type 0} (same : Y → Y → Bool) (f : X → Y) (k : X) (xs : List X)
+    → dedup_from same (f k) (map f xs) ≡ map f (dedup_from (on f same) k xs)
 without_repeats_from same f k [] = refl
 without_repeats_from same f k (x ∷ xs) = by_test (same (f x) (f k)) (without_repeats_from same f k xs) (without_repeats_from same f x xs)
   where
-    by_test : (b : Bool) → dedup_from same (f k) (map f xs) ≡ map f (dedup_from (on f same) k xs) → dedup_from same (f x) (map f xs) ≡ map f (dedup_from (on f same) x xs)
-        → cond b (dedup_from same (f k) (map f xs)) (f k ∷ dedup_from same (f x) (map f xs)) ≡ map f (cond b (dedup_from (on f same) k xs) (k ∷ dedup_from (on f same) x xs))
+    by_test : (b : Bool) → dedup_from same (f k) (map f xs) ≡ map f (dedup_from (on f same) k xs)
+        → dedup_from same (f x) (map f xs) ≡ map f (dedup_from (on f same) x xs)
+        → cond b (dedup_from same (f k) (map f xs)) (f k ∷ dedup_from same (f x) (map f xs))
+        ≡ map f (cond b (dedup_from (on f same) k xs) (k ∷ dedup_from (on f same) x xs))
     by_test true kept next = kept
     by_test false kept next = ap (λ l. f k ∷ l) next
 

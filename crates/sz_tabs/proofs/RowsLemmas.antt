@@ -25,7 +25,8 @@ pub least_total : IsTotalOrder least_first
 least_total = then_total (on_total (λ (w : Weighted). w.weight) (options_total int_cmp_total)) (on_total (λ (w : Weighted). w.value) compare_total)
 
 pub greatest_total : IsTotalOrder greatest_first
-greatest_total = then_total (on_total (λ (w : Weighted). w.weight) (back_total (options_total int_cmp_total))) (on_total (λ (w : Weighted). w.value) compare_total)
+greatest_total =
+    then_total (on_total (λ (w : Weighted). w.weight) (back_total (options_total int_cmp_total))) (on_total (λ (w : Weighted). w.value) compare_total)
 
 both_equal : (a b : Ordering) → ordering_then a b ≡ Equal → (a ≡ Equal) × (b ≡ Equal)
 both_equal Less b tied = absurd (true≢false (sym (ap is_eq tied)))
@@ -115,7 +116,8 @@ sum_rows_in_any_order (v ∷ vs) (w ∷ ws) moved =
     let row : List ℤ → RowDatum = λ ns. record { shown = sums ns; weight = None } in
     ap (λ ns. row ns ∷ []) (sums_in_any_order (v ∷ vs) (w ∷ ws) moved)
 
-rows_by_in_any_order : (kind : TableKind) (limit : ℕ) (first second : List Weighted) → IsPermutation first second → rows_by kind limit first ≡ rows_by kind limit second
+rows_by_in_any_order : (kind : TableKind) (limit : ℕ) (first second : List Weighted) → IsPermutation first second
+    → rows_by kind limit first ≡ rows_by kind limit second
 rows_by_in_any_order Sum limit first second moved =
     sum_rows_in_any_order (values_of first) (values_of second) (IsPermutation-map (λ (w : Weighted). w.value) first second moved)
 rows_by_in_any_order Maximum limit first second moved =

@@ -165,7 +165,8 @@ module _ {X : Type 0} {cmp : X → X → Ordering} (total : IsTotalOrder cmp) wh
   tails_alike : (y : X) (ys zs : List X) → TieAlike (y ∷ ys) (y ∷ zs) → TieAlike ys zs
   tails_alike y ys zs alike v = by_test (eq_by_cmp cmp v y) (alike v)
     where
-      by_test : (b : Bool) → cond b (y ∷ filter (eq_by_cmp cmp v) ys) (filter (eq_by_cmp cmp v) ys) ≡ cond b (y ∷ filter (eq_by_cmp cmp v) zs) (filter (eq_by_cmp cmp v) zs)
+      by_test : (b : Bool) → cond b (y ∷ filter (eq_by_cmp cmp v) ys) (filter (eq_by_cmp cmp v) ys)
+          ≡ cond b (y ∷ filter (eq_by_cmp cmp v) zs) (filter (eq_by_cmp cmp v) zs)
           → filter (eq_by_cmp cmp v) ys ≡ filter (eq_by_cmp cmp v) zs
       by_test true e = cc
       by_test false e = e
@@ -199,7 +200,8 @@ module _ {X : Type 0} {cmp : X → X → Ordering} (total : IsTotalOrder cmp) wh
   inserted_is_permutation x [] = IsPermutation-refl (x ∷ [])
   inserted_is_permutation x (y ∷ ys) =
       cond_both (is_gt (cmp x y)) (y ∷ inserted cmp x ys) (x ∷ y ∷ ys) (IsPermutation (x ∷ y ∷ ys))
-      (λ above. IsPermutation-trans _ _ _ (IsPermutation-sym _ _ (IsPermutation-middle (y ∷ []) x ys)) (IsPermutation-cons y _ _ (inserted_is_permutation x ys)))
+      (λ above. IsPermutation-trans _ _ _ (IsPermutation-sym _ _ (IsPermutation-middle (y ∷ []) x ys))
+      (IsPermutation-cons y _ _ (inserted_is_permutation x ys)))
       (λ below. IsPermutation-refl (x ∷ y ∷ ys))
 
   pub sorted_is_permutation : (xs : List X) → IsPermutation xs (sorted cmp xs)
@@ -258,7 +260,8 @@ module _ {X : Type 0} {cmp : X → X → Ordering} (total : IsTotalOrder cmp) wh
     -- and no other
     pub distinct_has_no_other : (xs : List X) (x : X) → Contains (distinct cmp xs) x → Contains xs x
     distinct_has_no_other xs x there =
-        Contains-permutation (sorted cmp xs) xs x (IsPermutation-sym _ _ (sorted_is_permutation xs)) (Contains-from_dedup (eq_by_cmp cmp) (sorted cmp xs) x there)
+        Contains-permutation (sorted cmp xs) xs x (IsPermutation-sym _ _ (sorted_is_permutation xs))
+        (Contains-from_dedup (eq_by_cmp cmp) (sorted cmp xs) x there)
 
 -- an insertion through a function
 inserted_mapped : {X Y : Type 0} (cmp : Y → Y → Ordering) (f : X → Y) (x : X) (ys : List X) → inserted cmp (f x) (map f ys) ≡ map f (inserted (on f cmp) x ys)

@@ -60,8 +60,8 @@ impl PlainAggregator {
 }
 
 impl Aggregator for PlainAggregator {
-    ghost use Rattle.std.specs.Prelude.{◌≡◌, length, refl};
-    ghost use Rattle.std.proofs.Common.{sym, ap};
+    ghost use Rattle.std.specs.Prelude.{◌≡◌, length};
+    ghost use Rattle.std.proofs.Common.{ap};
     ghost use Rattle.sz_tabs.specs.Rows.{rows_of};
 
     ghost declaration = { λ a. a.table };
@@ -78,8 +78,7 @@ impl Aggregator for PlainAggregator {
         Ok(())
     }
 
-    fn merge(&mut self, other: Self) -> Result<(), Self> {
-        let mut other = other;
+    fn merge(&mut self, mut other: Self) -> Result<(), Self> {
         match self.held.append(&mut other.held) {
             Ok(()) => Ok(()),
             Err(_) => Err(other),

@@ -17,7 +17,8 @@ returns-then-at-len c =
     let sum = passed (2 ^ 126 + 2 ^ 63) c.index.result.now (omega arith) within in
     let number = passed (2 ^ 63) c.args.number (omega arith) c.requires.fits in
     let more : c.more.result ≡ c.index.result.now +ℤ c.args.number = c.more.ensures.value ∙ (λ i. sum i +ℤ number i) in
-    let more_within = subst (IsWithin (2 ^ 126 + 2 ^ 63 + 2 ^ 63)) (sym more) (sum_within (2 ^ 126 + 2 ^ 63) (2 ^ 63) c.index.result.now c.args.number within c.requires.fits) in
+    let sum_is_within = sum_within (2 ^ 126 + 2 ^ 63) (2 ^ 63) c.index.result.now c.args.number within c.requires.fits in
+    let more_within = subst (IsWithin (2 ^ 126 + 2 ^ 63 + 2 ^ 63)) (sym more) sum_is_within in
     let written = passed (2 ^ 126 + 2 ^ 63 + 2 ^ 63) c.more.result (omega arith) more_within in
     let added = added_there c.args.sums.now.items c.args.at c.index.result.now c.more.result c.args.number there c.index.ensures more in
     record { value = ap (λ n. set c.args.sums.now.items c.args.at n) written ∙ added }
@@ -27,5 +28,6 @@ returns c =
     let behind : length c.args.sums.now.items ≤ c.args.at = search rules in
     let number = passed (2 ^ 63) c.args.number (omega arith) c.requires.fits in
     record {
-      value = rw c.in_ok-push.ensures.items (ap (λ n. c.args.sums.now.items ++ n ∷ []) number ∙ added_behind c.args.sums.now.items c.args.at c.args.number behind);
+      value = rw c.in_ok-push.ensures.items (ap (λ n. c.args.sums.now.items ++ n ∷ []) number
+          ∙ added_behind c.args.sums.now.items c.args.at c.args.number behind);
     }
