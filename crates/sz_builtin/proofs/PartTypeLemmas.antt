@@ -10,23 +10,21 @@ use Rattle.sz_types.specs.Same.{alike}
 use Rattle.sz_types.specs.Conversions.{converts_to}
 use Rattle.sz_types.proofs.ForCallers.{alike_equal}
 use Rattle.sz_types.specs.declared.operator.Builtin.TheVariants.{Len, Keys, HasKey, StrFind}
-use Rattle.sz_value.specs.Data.{Datum, truth, int, time, str, bytes, array, tuple, mapping, Data, no_data, datum, Entries, no_entries, entry, data_of, parts_of, pairs_of}
+use Rattle.sz_value.specs.Data.{Datum, truth, int, time, str, bytes, array, mapping, Data, no_data, datum, Entries, no_entries, entry, data_of, parts_of, pairs_of}
 use Rattle.sz_value.specs.Order.{compare}
 use Rattle.sz_value.specs.Maps.{value_at}
 use Rattle.sz_builtin.specs.Places.{at_place, code, span, cut, part}
 use Rattle.sz_builtin.specs.Predeclared.{len, keys, haskey, strfind, first_place, place}
 use Rattle.sz_builtin.specs.Conversions.{number_in, as_truth, as_int, as_time, as_str, as_bytes, convert}
 use Rattle.sz_types.specs.Rows.{index_row, slice_row, len_row, keys_row, haskey_row, strfind_row, convert_row}
-use Rattle.sz_builtin.specs.Types.{has_type, all_have, pairs_have, KeepsIndex, KeepsSlice, KeepsBuiltin, KeepsConvert}
-use Rattle.sz_builtin.proofs.TypeLemmas.{some_same, if_some, of_int, of_str, of_bytes, of_array, both, both_in, truth_keeps}
+use Rattle.sz_typed.specs.Types.{has_type, all_have, pairs_have}
+use Rattle.sz_typed.proofs.ForCallers.{of_int, of_str, of_bytes, of_array, of_mapping}
+use Rattle.sz_builtin.specs.Types.{KeepsIndex, KeepsSlice, KeepsBuiltin, KeepsConvert}
+use Rattle.sz_builtin.proofs.TypeLemmas.{some_same, if_some, both, both_in, truth_keeps}
 
 -- what a slot holds has the type
 abbrev Holds : Option Datum → Shape → Type 0
 Holds slot s = IfSome slot (λ d. has_type d s ≡ true)
-
-of_mapping : (es : Entries) (s : Shape) → has_type (mapping es) s ≡ true → (k : Shape) × (v : Shape) × (Shape.mapping k v ≡ s) × (pairs_have es k v ≡ true)
-of_mapping es (Shape.mapping k v) h = (k, v, refl, h)
-of_mapping es s h = absurd cc
 
 -- ---- elements
 

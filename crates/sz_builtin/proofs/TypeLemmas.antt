@@ -1,5 +1,5 @@
 -- Operators give values of the types of their rows.
-use Rattle.std.proofs.Common.{◌≡◌, ◌∙◌, ℕ, ℤ, Bool, true, false, ◌&&◌, Option, Some, None, IfSome, if◌then◌else◌, List, ◌++◌, refl, sym, ap, subst}
+use Rattle.std.proofs.Common.{◌≡◌, ◌∙◌, ℤ, Bool, true, false, ◌&&◌, Option, Some, None, IfSome, if◌then◌else◌, ◌++◌, refl, sym, ap, subst}
 use Rattle.std.specs.Option.{option_map}
 use Rattle.sz_types.specs.Data.{Shape}
 use Rattle.sz_types.specs.Same.{alike}
@@ -11,7 +11,9 @@ use Rattle.std.specs.Ordering.{is_eq, is_ne, is_lt, is_le, is_gt, is_ge}
 use Rattle.sz_value.specs.Order.{compare}
 use Rattle.sz_builtin.specs.Operators.{sum, difference, of_numbers, on_numbers}
 use Rattle.sz_types.specs.Rows.{sum_row, difference_row, unary_row, both_int, ordered}
-use Rattle.sz_builtin.specs.Types.{has_type, all_have, KeepsUnary, KeepsBinary}
+use Rattle.sz_typed.specs.Types.{has_type, all_have}
+use Rattle.sz_typed.proofs.ForCallers.{of_truth, of_int, of_time, of_str, of_bytes, of_array}
+use Rattle.sz_builtin.specs.Types.{KeepsUnary, KeepsBinary}
 
 pub some_same : {X : Type 0} (x y : X) → Some x ≡ Some y → x ≡ y
 some_same x y e = cc
@@ -19,31 +21,6 @@ some_same x y e = cc
 pub if_some : (b : Bool) (s u : Shape) → (if b then Some s else None) ≡ Some u → s ≡ u
 if_some true s u e = some_same s u e
 if_some false s u e = absurd cc
-
--- the types of a basic value
-pub of_int : (n : ℤ) (s : Shape) → has_type (int n) s ≡ true → Shape.int ≡ s
-of_int n Shape.int h = refl
-of_int n s h = absurd cc
-
-pub of_time : (n : ℤ) (s : Shape) → has_type (time n) s ≡ true → Shape.time ≡ s
-of_time n Shape.time h = refl
-of_time n s h = absurd cc
-
-pub of_str : (cs : List ℕ) (s : Shape) → has_type (str cs) s ≡ true → Shape.str ≡ s
-of_str cs Shape.str h = refl
-of_str cs s h = absurd cc
-
-pub of_bytes : (cs : List ℕ) (s : Shape) → has_type (bytes cs) s ≡ true → Shape.bytes ≡ s
-of_bytes cs Shape.bytes h = refl
-of_bytes cs s h = absurd cc
-
-pub of_truth : (b : Bool) (s : Shape) → has_type (truth b) s ≡ true → Shape.truth ≡ s
-of_truth b Shape.truth h = refl
-of_truth b s h = absurd cc
-
-pub of_array : (ds : Data) (s : Shape) → has_type (array ds) s ≡ true → (e : Shape) × (Shape.array e ≡ s) × (all_have ds e ≡ true)
-of_array ds (Shape.array e) h = (e, refl, h)
-of_array ds s h = absurd cc
 
 pub both : (a b : Bool) → (a && b) ≡ true → (a ≡ true) × (b ≡ true)
 both true b h = (refl, h)

@@ -121,25 +121,6 @@ fn the_code_of_the_example_is_well_formed(rt: HostRuntime) -> Result<(), Fail> {
     Ok(())
 }
 
-#[test]
-fn lists_hold_what_they_are_given(rt: HostRuntime) -> Result<(), Fail> {
-    let alloc = rt.alloc();
-    let mut lines = Lines::new(alloc);
-    assert!(rt; lines.is_empty());
-    lines.push(line(Instr::Tick, 1, 1, 1))?;
-    lines.set(0, line(Instr::Tick, 2, 1, 1));
-    assert_eq!(rt; lines.get(0).charge, 2);
-    assert_eq!(rt; lines.as_slice().len(), 1);
-    assert_eq!(rt; lines.into_vec().len(), 1);
-    let mut routines = Routines::new(alloc);
-    assert!(rt; routines.is_empty());
-    routines.push(routine(5, 1, 2))?;
-    assert_eq!(rt; routines.get(0).entry, 5);
-    assert_eq!(rt; routines.as_slice().len(), 1);
-    assert_eq!(rt; Routines::from_vec(routines.into_vec()).len(), 1);
-    Ok(())
-}
-
 // Whether code of two lines, the second with this instruction, is well formed with these routines: a function, a static, and that
 // of the record. It has one constant, one type and one table.
 fn is_formed(

@@ -8,6 +8,7 @@ use Rattle.std.specs.Ordering.{eq_by_cmp, match_ordering, ordering_reverse}
 use Rattle.std.specs.BTreeSet.{insert_key}
 use Rattle.std.proofs.lemmas.List.{map-append}
 use Rattle.std.proofs.lemmas.List.Sorted.{IsPermutation-append_comm}
+use Rattle.sz_types.specs.Tables.{Declaration}
 use Rattle.sz_types.specs.declared.table.TableKind.{TableKind}
 use Rattle.sz_types.specs.declared.table.TableKind.TheVariants.{Sum, Maximum, Minimum, Set, Collection}
 use Rattle.sz_value.specs.Data.{Datum}
@@ -15,10 +16,10 @@ use Rattle.sz_value.specs.Order.{compare}
 use Rattle.sz_value.specs.Total.{compare_total, compare_ties}
 use Rattle.sz_tabs.specs.Data.{Weighted, one, sums, overflow, RowDatum}
 use Rattle.sz_tabs.specs.Sorting.{inserted, sorted, distinct}
-use Rattle.sz_tabs.specs.Rows.{values_of, components_of, plus, sums_of, value_row, weighted_row, overflow_row, sum_rows, set_rows, rows_by}
-use Rattle.sz_tabs.specs.Laws.{DecidedByRows}
+use Rattle.sz_tabs.specs.Rows.{values_of, components_of, plus, sums_of, value_row, weighted_row, overflow_row, sum_rows, set_rows, rows_by, rows_of}
+use Rattle.sz_tabs.specs.Laws.{DecidedByRows, JoinedByRows}
 use Rattle.sz_tabs.proofs.SortingLemmas.{Ascends, sorted_ascends, sorted_in_any_order}
-use Rattle.sz_tabs.proofs.RowsLemmas.{least_total, least_ties, greatest_total, greatest_ties, plus_assoc}
+use Rattle.sz_tabs.proofs.RowsLemmas.{least_total, least_ties, greatest_total, greatest_ties, plus_assoc, rows_in_any_order}
 
 module _ {X : Type 0} (cmp : X → X → Ordering) where
   -- all elements of the first list inserted into the second
@@ -286,3 +287,12 @@ decided_by Collection limit front other behind h =
 
 pub rows_decide : DecidedByRows
 rows_decide table front other behind h = decided_by table.kind table.limit front other behind h
+
+-- what stands behind may be put in front
+turned_round : (table : Declaration) (front behind : List Weighted) → rows_of table (front ++ behind) ≡ rows_of table (behind ++ front)
+turned_round table front behind = rows_in_any_order table (front ++ behind) (behind ++ front) (IsPermutation-append_comm front behind)
+
+pub rows_join : JoinedByRows
+rows_join table front other behind beyond h k =
+    rows_decide table front other behind h ∙ turned_round table other behind
+    ∙ rows_decide table behind beyond other k ∙ turned_round table beyond other

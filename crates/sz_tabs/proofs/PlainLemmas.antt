@@ -1,23 +1,28 @@
 -- What a plain aggregator makes of the emits that it keeps.
-use Rattle.std.proofs.Common.{◌≡◌, ◌∙◌, ℕ, ◌<◌, ◌≤◌, ℤ, Bool, true, false, cond, Option, List, [], ◌∷◌, map, take, length, refl, sym, ap, arith, lt-ltb, le-ltb, Ordering, IsSorted}
+use Rattle.std.proofs.Common.{◌≡◌, ◌∙◌, ℕ, ◌+◌, ◌<◌, ◌≤◌, ℤ, Bool, true, false, cond, Option, List, [], ◌∷◌, ◌++◌, map, take, length, refl, sym, ap, subst, arith, lt-ltb, le-ltb, Ordering, IsSorted}
 use Rattle.std.specs.Ordering.{on, eq_by_cmp}
 use Rattle.std.specs.List.{dedup, dedup_from, take-map}
 use Rattle.std.specs.List.Sorted.{IsStable}
 use Rattle.std.specs.List.Retain.{IsFiltered, DiffersFromLast}
 use Rattle.std.specs.Cmp.{IsTotalOrder, on_total}
 use Rattle.std.specs.declared.cmp.Reverse.{Reverse}
-use Rattle.std.proofs.lemmas.List.{length-map}
+use Rattle.std.proofs.lemmas.List.{length-map, length-append}
 use Rattle.std.proofs.lemmas.List.Filters.{dedup_is}
+use Rattle.sz_types.specs.Tables.{Declaration}
 use Rattle.sz_value.specs.Data.{Datum}
 use Rattle.sz_value.specs.Order.{compare}
 use Rattle.sz_value.specs.Seen.{seen}
 use Rattle.sz_value.specs.Total.{compare_total}
 use Rattle.sz_value.specs.declared.value.Value.{Value}
+use Rattle.sz_tabs.specs.Data.{Weighted, RowDatum}
+use Rattle.sz_tabs.specs.Aggregating.{IsNew, Gains, Joins}
+use Rattle.sz_tabs.specs.Listing.{Listing}
 use Rattle.sz_tabs.specs.Sorting.{sorted, distinct}
-use Rattle.sz_tabs.specs.Rows.{least_first, greatest_first, value_row, overflow_row, set_rows}
+use Rattle.sz_tabs.specs.Rows.{least_first, greatest_first, value_row, overflow_row, set_rows, rows_of}
 use Rattle.sz_tabs.specs.SeenKept.{seen_least, seen_greatest}
 use Rattle.sz_tabs.proofs.SortingLemmas.{stable_sort_is_sorted, sorted_mapped}
 use Rattle.sz_tabs.proofs.RowsLemmas.{least_total, greatest_total}
+use Rattle.sz_tabs.proofs.JoiningLemmas.{rows_decide, rows_join}
 
 -- what a stable sort by what is seen of the elements leaves, as it is seen
 sorted_as_seen : {X Y : Type 0} (cmp : Y → Y → Ordering) → IsTotalOrder cmp → (f : X → Y) (old new : List X) → IsSorted (on f cmp) new
@@ -74,3 +79,41 @@ pub set_holds : (limit : ℕ) (left : List Value) (ds : List Datum) → map seen
 set_holds limit left ds is below =
     ap (λ b. cond b (overflow_row ∷ []) (map value_row ds)) (le-ltb limit (length ds) (omega (arith, below, ap length is, length-map left seen)))
     ∙ ap (map value_row) (sym is)
+
+-- A plain aggregator shows the rows of the emits that it keeps, so it stands for each list that has as many and the same rows.
+abbrev plain_declaration : Listing → Declaration
+plain_declaration a = a.table
+
+abbrev plain_count : Listing → ℕ
+plain_count a = length a.emits
+
+abbrev plain_shown : Listing → List RowDatum
+plain_shown a = rows_of a.table a.emits
+
+pub plain_is_new : (table : Declaration) → IsNew plain_declaration plain_count plain_shown table (record { table = table; emits = [] })
+plain_is_new table = record { declared = refl; empty = record { rows = refl; counted = refl } }
+
+module _ (old new : Listing) (same : new.table ≡ old.table) where
+  pub plain_gains : (emit : Weighted) → new.emits ≡ old.emits ++ emit ∷ [] → Gains plain_declaration plain_count plain_shown old new emit
+  plain_gains emit kept = record {
+    same_table = same;
+    one_more = ap length kept ∙ length-append old.emits (emit ∷ []);
+    appended = λ emits stands. record {
+      rows = (λ i. rows_of (same i) (kept i)) ∙ rows_decide old.table old.emits emits (emit ∷ []) stands.rows ∙ ap (λ t. rows_of t (emits ++ emit ∷ [])) (sym same);
+      counted = ap length kept ∙ length-append old.emits (emit ∷ []) ∙ ap (λ n. n + 1) stands.counted ∙ sym (length-append emits (emit ∷ []));
+    };
+  }
+
+  pub plain_joins : (other : Listing) → other.table ≡ old.table → new.emits ≡ old.emits ++ other.emits
+      → Joins plain_declaration plain_count plain_shown old other new
+  plain_joins other one_table kept = record {
+    same_table = same;
+    both_counts = ap length kept ∙ length-append old.emits other.emits;
+    joined = λ front behind stands beside. record {
+      rows =
+          (λ i. rows_of (same i) (kept i))
+          ∙ rows_join old.table old.emits front other.emits behind stands.rows (subst (λ t. rows_of t other.emits ≡ rows_of t behind) one_table beside.rows)
+          ∙ ap (λ t. rows_of t (front ++ behind)) (sym same);
+      counted = ap length kept ∙ length-append old.emits other.emits ∙ (λ i. stands.counted i + beside.counted i) ∙ sym (length-append front behind);
+    };
+  }

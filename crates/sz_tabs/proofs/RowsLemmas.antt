@@ -1,11 +1,11 @@
 -- Laws of the rows of emits.
-use Rattle.std.proofs.Common.{◌≡◌, ◌∙◌, ℕ, zero, suc, ◌+ℤ◌, ℤ, Option, Some, None, List, [], ◌∷◌, ◌++◌, map, take, refl, sym, ap, arith, Ordering, Less, Equal, Greater, is_eq, int_cmp, true≢false, le-ltb, IsPermutation}
+use Rattle.std.proofs.Common.{◌≡◌, ◌∙◌, ℕ, zero, suc, ◌+ℤ◌, ℤ, Option, Some, None, List, [], ◌∷◌, ◌++◌, map, take, refl, sym, ap, arith, true, false, cond, Ordering, Less, Equal, Greater, is_eq, int_cmp, true≢false, le-ltb, IsPermutation}
 use Rattle.std.specs.Option.{option_cmp}
 use Rattle.std.specs.Ordering.{ordering_then, flip_args}
 use Rattle.std.specs.Cmp.{IsTotalOrder, int_cmp_total, then_total, on_total, back_total, signed_Decides}
 use Rattle.std.specs.Cmp.Lexicographic.{options_total}
 use Rattle.std.proofs.lemmas.Int.{ints}
-use Rattle.std.proofs.lemmas.List.{map-append}
+use Rattle.std.proofs.lemmas.List.{map-append, append-nil}
 use Rattle.std.proofs.lemmas.List.Elements.{filter-append}
 use Rattle.std.proofs.lemmas.List.Sorted.{IsPermutation-map, length_permutation}
 use Rattle.sz_types.specs.Tables.{Declaration}
@@ -86,6 +86,18 @@ pub brought_by_both : (table : ℕ) (indexes : List Datum) (front behind : List 
     → brought_to table indexes (front ++ behind) ≡ brought_to table indexes front ++ brought_to table indexes behind
 brought_by_both table indexes front behind =
     ap (map brought_by) (filter-append (went_to table indexes) front behind) ∙ map-append brought_by _ _
+
+-- one emit more, to the table under the index list, and to another
+module _ (table : ℕ) (indexes : List Datum) (emits : List EmitDatum) (emit : EmitDatum) where
+  pub brought_there : went_to table indexes emit ≡ true → brought_to table indexes (emits ++ emit ∷ []) ≡ brought_to table indexes emits ++ brought_by emit ∷ []
+  brought_there went =
+      brought_by_both table indexes emits (emit ∷ [])
+      ∙ ap (λ b. brought_to table indexes emits ++ map brought_by (cond b (emit ∷ []) [])) went
+
+  pub brought_elsewhere : went_to table indexes emit ≡ false → brought_to table indexes (emits ++ emit ∷ []) ≡ brought_to table indexes emits
+  brought_elsewhere went =
+      brought_by_both table indexes emits (emit ∷ [])
+      ∙ ap (λ b. brought_to table indexes emits ++ map brought_by (cond b (emit ∷ []) [])) went ∙ append-nil _
 
 pub plus_comm : (ms ns : List ℤ) → plus ms ns ≡ plus ns ms
 plus_comm [] [] = refl

@@ -9,22 +9,26 @@ use Rattle.sz_tabs.specs.Rows.{rows_of}
 abbrev pub weighted : Datum → Option ℤ → Weighted
 weighted value weight = record { value = value; weight = weight }
 
--- What an aggregator shows are the rows of each list that it stands for, and its number of emits is the list's length.
-pub record IsExact {S : Type 0} (declaration : S → Declaration) (count : S → ℕ) (shown : S → List RowDatum)
-    (stands_for : S → List Weighted → Type 0) : Type 0 where
-  pub rows : (s : S) (emits : List Weighted) → stands_for s emits → shown s ≡ rows_of (declaration s) emits
-  pub counted : (s : S) (emits : List Weighted) → stands_for s emits → count s ≡ length emits
+-- A type of aggregators, by what is known of each: its table, its number of emits, and the rows that it shows.
+module _ {S : Type 0} (declaration : S → Declaration) (count : S → ℕ) (shown : S → List RowDatum) where
+  -- The aggregator stands for the list of emits: its rows are those of the list, and its number of emits is the list's length.
+  pub record StandsFor (s : S) (emits : List Weighted) : Type 0 where
+    pub rows : shown s ≡ rows_of (declaration s) emits
+    pub counted : count s ≡ length emits
 
--- The new aggregator stands for each list that the old one stands for, with this emit behind it.
-pub record Gains {S : Type 0} (declaration : S → Declaration) (count : S → ℕ) (stands_for : S → List Weighted → Type 0)
-    (old new : S) (emit : Weighted) : Type 0 where
-  pub same_table : declaration new ≡ declaration old
-  pub one_more : count new ≡ count old + 1
-  pub appended : (emits : List Weighted) → stands_for old emits → stands_for new (emits ++ emit ∷ [])
+  -- The aggregator is a new one of the table: it stands for the empty list.
+  pub record IsNew (table : Declaration) (s : S) : Type 0 where
+    pub declared : declaration s ≡ table
+    pub empty : StandsFor s []
 
--- The new aggregator stands for each list that the old one stands for, joined with each that the other stands for.
-pub record Joins {S : Type 0} (declaration : S → Declaration) (count : S → ℕ) (stands_for : S → List Weighted → Type 0)
-    (old other new : S) : Type 0 where
-  pub same_table : declaration new ≡ declaration old
-  pub both_counts : count new ≡ count old + count other
-  pub joined : (front behind : List Weighted) → stands_for old front → stands_for other behind → stands_for new (front ++ behind)
+  -- The new aggregator stands for each list that the old one stands for, with this emit behind it.
+  pub record Gains (old new : S) (emit : Weighted) : Type 0 where
+    pub same_table : declaration new ≡ declaration old
+    pub one_more : count new ≡ count old + 1
+    pub appended : (emits : List Weighted) → StandsFor old emits → StandsFor new (emits ++ emit ∷ [])
+
+  -- The new aggregator stands for each list that the old one stands for, joined with each that the other stands for.
+  pub record Joins (old other new : S) : Type 0 where
+    pub same_table : declaration new ≡ declaration old
+    pub both_counts : count new ≡ count old + count other
+    pub joined : (front behind : List Weighted) → StandsFor old front → StandsFor other behind → StandsFor new (front ++ behind)

@@ -18,16 +18,13 @@ weight_code = coded_option coded_ℤ
 abbrev Parts : Type 0
 Parts = ℕ × (List Datum × (Datum × Option ℤ))
 
-abbrev emit_code : Coded EmitDatum
+-- how an emit is stored
+abbrev pub emit_code : Coded EmitDatum
 emit_code =
     code_by Parts (coded× coded_ℕ (coded× parts_code (coded× datum_code weight_code)))
     (λ e. (e.table, (e.indexes, (e.value, e.weight))))
     (λ p. record { table = p.0; indexes = p.1.0; value = p.1.1.0; weight = p.1.1.1 })
     (λ _. refl)
-
--- how a list of emits is stored
-abbrev pub emits_code : Coded (List EmitDatum)
-emits_code = coded_list emit_code
 
 -- what a row shows as a choice
 abbrev Choice : Type 0
@@ -51,13 +48,10 @@ shown_again overflow = refl
 abbrev shown_code : Coded Shown
 shown_code = code_by Choice (coded⊎ datum_code (coded_option (coded_list coded_ℤ))) choice_of shown_of shown_again
 
-abbrev row_code : Coded RowDatum
+-- how a row is stored
+abbrev pub row_code : Coded RowDatum
 row_code =
     code_by (Shown × Option ℤ) (coded× shown_code weight_code) (λ r. (r.shown, r.weight)) (λ p. record { shown = p.0; weight = p.1 }) (λ _. refl)
-
--- how a list of rows is stored
-abbrev pub rows_code : Coded (List RowDatum)
-rows_code = coded_list row_code
 
 -- any declaration, where a list has none
 abbrev no_declaration : Declaration

@@ -29,3 +29,9 @@ abbrev pub DecidedByRows : Type 0
 DecidedByRows =
     (table : Declaration) (front other behind : List Weighted) → rows_of table front ≡ rows_of table other
     → rows_of table (front ++ behind) ≡ rows_of table (other ++ behind)
+
+-- joined lists have the rows that lists with the same rows have, joined
+abbrev pub JoinedByRows : Type 0
+JoinedByRows =
+    (table : Declaration) (front other behind beyond : List Weighted) → rows_of table front ≡ rows_of table other
+    → rows_of table behind ≡ rows_of table beyond → rows_of table (front ++ behind) ≡ rows_of table (other ++ beyond)

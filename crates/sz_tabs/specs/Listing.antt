@@ -1,5 +1,5 @@
 -- A declared table with what was brought to it under one index list: what contracts see of a plain aggregator.
-use Rattle.std.specs.Prelude.{List, []}
+use Rattle.std.specs.Prelude.{List}
 use Rattle.sz_types.specs.Tables.{Declaration}
 use Rattle.sz_tabs.specs.Data.{Weighted}
 
@@ -7,7 +7,3 @@ use Rattle.sz_tabs.specs.Data.{Weighted}
 pub record Listing : Type 0 where
   pub table : Declaration
   pub emits : List Weighted
-
--- no emits to this table yet
-abbrev pub nothing_listed : Declaration → Listing
-nothing_listed table = record { table = table; emits = [] }

@@ -6,7 +6,7 @@ ghost use Rattle.sz_value.specs.Order.{compare};
 ghost use Rattle.sz_tabs.specs.Data.{EmitDatum, Weighted};
 ghost use Rattle.sz_tabs.specs.Sorting.{distinct};
 ghost use Rattle.sz_tabs.specs.Rows.{brought_to, least_first, greatest_first, rows_of};
-ghost use Rattle.sz_tabs.specs.Laws.{Sorts, IsSetOf, ForgetsOrder, DecidedByRows};
+ghost use Rattle.sz_tabs.specs.Laws.{Sorts, IsSetOf, ForgetsOrder, DecidedByRows, JoinedByRows};
 
 /// What is sorted by value, or by weight and then by value, is in order and has just the elements that were there.
 pub fn sorting_sorts()
@@ -39,9 +39,10 @@ pub fn rows_forget_the_order()
     ensures same { ForgetsOrder }
 {}
 
-/// Lists with the same rows still have the same rows after the same further emits: an aggregator may forget all but what
-/// the rows need.
-#[tactic(auto, using(crate::proofs::JoiningLemmas::rows_decide))]
+/// Lists with the same rows still have the same rows after the same further emits, and so do lists that are joined with lists of
+/// the same rows: an aggregator may forget all but what the rows need.
+#[tactic(auto, using(crate::proofs::JoiningLemmas::rows_decide, crate::proofs::JoiningLemmas::rows_join))]
 pub fn rows_decide()
     ensures joined { DecidedByRows }
+    ensures both { JoinedByRows }
 {}

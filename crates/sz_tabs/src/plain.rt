@@ -1,7 +1,7 @@
 //! A plain aggregator, which keeps every emit and makes its rows when it is asked.
-ghost use Rattle.std.specs.Prelude.{◌≡◌, IfOk};
+ghost use Rattle.std.specs.Prelude.{IfOk};
 ghost use Rattle.sz_types.specs.SeenTables.{seen_table};
-ghost use Rattle.sz_tabs.specs.Listing.{nothing_listed};
+ghost use Rattle.sz_tabs.specs.Aggregating.{IsNew};
 
 use crate::NoMemory;
 use crate::aggregator::Aggregator;
@@ -48,7 +48,8 @@ impl Model for PlainAggregator {
 impl PlainAggregator {
     /// An aggregator of a table before any emit.
     pub fn new(alloc: Global, table: &TableDecl) -> Result<PlainAggregator, NoMemory>
-        ensures value { IfOk result (λ made. made ≡ nothing_listed (seen_table table.now)) }
+        ensures empty { IfOk result (IsNew ⟦<PlainAggregator as Aggregator>⟧.declaration ⟦<PlainAggregator as Aggregator>⟧.count
+            ⟦<PlainAggregator as Aggregator>⟧.shown (seen_table table.now)) }
     {
         let table = copy_table(alloc, table)?;
         Ok(PlainAggregator {
@@ -60,8 +61,7 @@ impl PlainAggregator {
 }
 
 impl Aggregator for PlainAggregator {
-    ghost use Rattle.std.specs.Prelude.{◌≡◌, length};
-    ghost use Rattle.std.proofs.Common.{ap};
+    ghost use Rattle.std.specs.Prelude.{length};
     ghost use Rattle.sz_tabs.specs.Rows.{rows_of};
 
     ghost declaration = { λ a. a.table };
@@ -69,8 +69,6 @@ impl Aggregator for PlainAggregator {
     ghost count = { λ a. length a.emits };
 
     ghost shown = { λ a. rows_of a.table a.emits };
-
-    ghost stands_for = { λ a emits. a.emits ≡ emits };
 
     fn add(&mut self, value: &Value, weight: Option<i64>) -> Result<(), NoMemory> {
         let value = copy(self.alloc, value)?;
@@ -88,6 +86,4 @@ impl Aggregator for PlainAggregator {
     fn rows(&self) -> Result<Rows, NoMemory> {
         rows_of(self.alloc, &self.table, &self.held)
     }
-
-    ghost exact = { record { rows = λ a emits same. ap (rows_of a.table) same; counted = λ a emits same. ap length same } };
 }
