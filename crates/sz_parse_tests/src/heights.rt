@@ -34,24 +34,19 @@ fn count(alloc: Global, text: &str) -> String {
     out
 }
 
-// A row is a number, the parts of a text and its outcome.
-fn meets(rt: &impl Abort, alloc: Global, row: &str) {
-    let (text, expected) = row.split_once(" =>").unwrap_or((row, "no arrow"));
-    let (times, parts) = text.split_once('|').unwrap_or((text, "no parts"));
-    let text = nested(alloc, parts, times.parse().unwrap_or(0));
-    assert_eq!(rt; count(alloc, &text).as_str(), expected, "at {row}");
+// So often nested the parts have this outcome.
+fn comes_to(rt: &impl Abort, alloc: Global, parts: &str, times: u32, expected: &str) {
+    let text = nested(alloc, parts, times);
+    assert_eq!(rt; count(alloc, &text).as_str(), expected, "at {parts}");
+}
+
+// The number of times at the front of a row, and what follows it.
+fn times_of(row: &str) -> (u32, &str) {
+    let (times, parts) = row.split_once('|').unwrap_or((row, "no parts"));
+    (times.parse().unwrap_or(0), parts)
 }
 
 // So often nested the parts make a statement of height 256, which is read; once more, it is refused where it begins.
-fn reaches(rt: &impl Abort, alloc: Global, row: &str) {
-    let (times, parts) = row.split_once('|').unwrap_or((row, "no parts"));
-    let times: u32 = times.parse().unwrap_or(0);
-    let text = nested(alloc, parts, times);
-    assert_eq!(rt; count(alloc, &text).as_str(), " 2 read", "at {row}");
-    let text = nested(alloc, parts, times.saturating_add(1));
-    assert_eq!(rt; count(alloc, &text).as_str(), " 1:3", "at {row}");
-}
-
 // An assignment is one higher than its value, and a number has height 1; `{}` and `f()` have the heights 1 and 2. A declaration is
 // one higher than its type. `i++` is `i = i + 1`, of height 3; a call alone has height 2.
 const GREATEST: &str = "\
@@ -85,7 +80,9 @@ const GREATEST: &str = "\
 #[test]
 fn a_statement_has_height_256_at_most(rt: HostRuntime) {
     for row in GREATEST.lines() {
-        reaches(&rt, rt.alloc(), row);
+        let (times, parts) = times_of(row);
+        comes_to(&rt, rt.alloc(), parts, times, " 2 read");
+        comes_to(&rt, rt.alloc(), parts, times.saturating_add(1), " 1:3");
     }
 }
 
@@ -111,6 +108,8 @@ const LONG: &str = "\
 #[test]
 fn long_texts_come_to_an_outcome(rt: HostRuntime) {
     for row in LONG.split("\n\n") {
-        meets(&rt, rt.alloc(), row);
+        let (text, expected) = row.split_once(" =>").unwrap_or((row, "no arrow"));
+        let (times, parts) = times_of(text);
+        comes_to(&rt, rt.alloc(), parts, times, expected);
     }
 }

@@ -1,15 +1,14 @@
 //! A tree as text: a space before each part, and each node in parentheses behind its kind. Where memory runs out the text is
 //! another one than it should be.
-use std::fmt::Write;
+use std::fmt::{Debug, Write};
 use sz_tree::{
-    Elem, Expr, First, Literal, Name, Pair, Param, ProtoField, Quantifier, Simple, Step, Stmt,
-    Table, TypeTree,
+    Elem, Expr, First, Literal, Name, Pair, Param, Path, ProtoField, Quantifier, Simple, Step,
+    Stmt, Table, TypeTree,
 };
 
-// A node of this kind: each part is shown by the function before it.
+// A node: what opens it, and its parts, each shown by the function before it.
 macro_rules! node {
-    ($out:ident, $kind:expr $(, $show:ident $part:expr)*) => {{
-        open($out, $kind);
+    ($out:ident, $($show:ident $part:expr),*) => {{
         $($show($out, $part);)*
         close($out);
     }};
@@ -21,6 +20,10 @@ fn word(out: &mut String, text: &str) {
 
 fn open(out: &mut String, kind: &str) {
     let _ = write!(out, " ({kind}");
+}
+
+fn open_as<T: Debug>(out: &mut String, kind: &T) {
+    let _ = write!(out, " ({kind:?}");
 }
 
 fn close(out: &mut String) {
@@ -59,30 +62,17 @@ fn expr(out: &mut String, tree: &Expr) {
     match tree {
         Expr::Literal(_, value) => literal(out, value),
         Expr::Named(part) => name(out, part),
-        Expr::Call(part, parts) => node!(out, "call", name part, exprs parts),
-        Expr::Def(_, part) => node!(out, "def", expr part),
-        Expr::Paren(_, part) => node!(out, "paren", expr part),
-        Expr::Convert(_, basic, part) => {
-            let _ = write!(out, " ({basic:?}");
-            expr(out, part);
-            close(out);
-        }
-        Expr::List(_, parts) => node!(out, "list", exprs parts),
-        Expr::Map(_, parts) => node!(out, "map", pairs parts),
-        Expr::Index(_, of, at) => node!(out, "index", expr of, expr at),
-        Expr::Slice(_, of, from, to) => node!(out, "slice", expr of, expr from, expr to),
-        Expr::Field(_, of, part) => node!(out, "field", name part, expr of),
-        Expr::Unary(_, op, part) => {
-            let _ = write!(out, " ({op:?}");
-            expr(out, part);
-            close(out);
-        }
-        Expr::Binary(_, op, left, right) => {
-            let _ = write!(out, " ({op:?}");
-            expr(out, left);
-            expr(out, right);
-            close(out);
-        }
+        Expr::Call(part, parts) => node!(out, open "call", name part, exprs parts),
+        Expr::Def(_, part) => node!(out, open "def", expr part),
+        Expr::Paren(_, part) => node!(out, open "paren", expr part),
+        Expr::Convert(_, basic, part) => node!(out, open_as basic, expr part),
+        Expr::List(_, parts) => node!(out, open "list", exprs parts),
+        Expr::Map(_, parts) => node!(out, open "map", pairs parts),
+        Expr::Index(_, of, at) => node!(out, open "index", expr of, expr at),
+        Expr::Slice(_, of, from, to) => node!(out, open "slice", expr of, expr from, expr to),
+        Expr::Field(_, of, part) => node!(out, open "field", name part, expr of),
+        Expr::Unary(_, op, part) => node!(out, open_as op, expr part),
+        Expr::Binary(_, op, left, right) => node!(out, open_as op, expr left, expr right),
     }
 }
 
@@ -115,12 +105,12 @@ fn type_tree(out: &mut String, tree: &TypeTree) {
             let _ = write!(out, " {basic:?}");
         }
         TypeTree::Named(part) => name(out, part),
-        TypeTree::Array(_, of) => node!(out, "array", type_tree of),
+        TypeTree::Array(_, of) => node!(out, open "array", type_tree of),
         TypeTree::Map(_, label, key, value) => {
-            node!(out, "map", maybe_name label, type_tree key, type_tree value)
+            node!(out, open "map", maybe_name label, type_tree key, type_tree value)
         }
-        TypeTree::Tuple(_, parts) => node!(out, "tuple", params parts),
-        TypeTree::Proto(_, fields) => node!(out, "proto", proto_fields fields),
+        TypeTree::Tuple(_, parts) => node!(out, open "tuple", params parts),
+        TypeTree::Proto(_, fields) => node!(out, open "proto", proto_fields fields),
     }
 }
 
@@ -170,11 +160,18 @@ fn maybe_elem(out: &mut String, part: &Option<Elem>) {
 }
 
 fn table(out: &mut String, part: &Table) {
-    name(out, &part.kind);
-    number(out, part.argument);
-    node!(out, "of", elem & part.of);
-    elems(out, &part.indexes);
-    maybe_elem(out, &part.weight);
+    let Table {
+        kind,
+        argument,
+        indexes,
+        of,
+        weight,
+    } = part;
+    name(out, kind);
+    number(out, *argument);
+    node!(out, open "of", elem of);
+    elems(out, indexes);
+    maybe_elem(out, weight);
 }
 
 fn steps(out: &mut String, parts: &Vec<Step>) {
@@ -191,11 +188,15 @@ fn steps(out: &mut String, parts: &Vec<Step>) {
 fn simple(out: &mut String, part: &Simple) {
     match part {
         Simple::Assign(path, value) => {
-            node!(out, "assign", name &path.name, steps &path.steps, expr value)
+            let Path {
+                name: to,
+                steps: at,
+            } = path;
+            node!(out, open "assign", name to, steps at, expr value)
         }
-        Simple::Increment(part) => node!(out, "increment", name part),
-        Simple::Decrement(part) => node!(out, "decrement", name part),
-        Simple::Call(part, parts) => node!(out, "do", name part, exprs parts),
+        Simple::Increment(part) => node!(out, open "increment", name part),
+        Simple::Decrement(part) => node!(out, open "decrement", name part),
+        Simple::Call(part, parts) => node!(out, open "do", name part, exprs parts),
     }
 }
 
@@ -209,20 +210,21 @@ fn maybe_simple(out: &mut String, part: &Option<Simple>) {
 fn maybe_first(out: &mut String, part: &Option<First>) {
     match part {
         Some(First::Declare(part, of, value)) => {
-            node!(out, "declare", name part, type_tree of, expr value)
+            node!(out, open "declare", name part, type_tree of, expr value)
         }
-        Some(First::Define(part, value)) => node!(out, "define", name part, expr value),
+        Some(First::Define(part, value)) => node!(out, open "define", name part, expr value),
         Some(First::Simple(part)) => simple(out, part),
         None => word(out, "-"),
     }
 }
 
 fn quantifiers(out: &mut String, parts: &Vec<Quantifier>) {
-    for part in parts {
-        let _ = write!(out, " ({:?}", part.quantity);
-        names(out, &part.names);
-        type_tree(out, &part.of);
-        close(out);
+    for Quantifier {
+        names: bound,
+        quantity,
+        of,
+    } in parts {
+        node!(out, open_as quantity, names bound, type_tree of);
     }
 }
 
@@ -230,21 +232,21 @@ fn quantifiers(out: &mut String, parts: &Vec<Quantifier>) {
 fn leaf(out: &mut String, tree: &Stmt) {
     match tree {
         Stmt::Declare(part, of, value) => {
-            node!(out, "declare", name part, type_tree of, maybe_expr value)
+            node!(out, open "declare", name part, type_tree of, maybe_expr value)
         }
-        Stmt::Define(part, value) => node!(out, "define", name part, expr value),
+        Stmt::Define(part, value) => node!(out, open "define", name part, expr value),
         Stmt::Static(_, part, of, value) => {
-            node!(out, "static", name part, type_tree of, expr value)
+            node!(out, open "static", name part, type_tree of, expr value)
         }
-        Stmt::Type(_, part, of) => node!(out, "type", name part, type_tree of),
-        Stmt::Table(part, of) => node!(out, "table", name part, table of),
-        Stmt::Return(_, value) => node!(out, "return", maybe_expr value),
+        Stmt::Type(_, part, of) => node!(out, open "type", name part, type_tree of),
+        Stmt::Table(part, of) => node!(out, open "table", name part, table of),
+        Stmt::Return(_, value) => node!(out, open "return", maybe_expr value),
         Stmt::Emit(_, to, at, value, weight) => {
-            node!(out, "emit", name to, exprs at, word "<-", expr value, maybe_expr weight)
+            node!(out, open "emit", name to, exprs at, word "<-", expr value, maybe_expr weight)
         }
-        Stmt::Break(_) => node!(out, "break"),
-        Stmt::Continue(_) => node!(out, "continue"),
-        _ => node!(out, "empty"),
+        Stmt::Break(_) => node!(out, open "break"),
+        Stmt::Continue(_) => node!(out, open "continue"),
+        _ => node!(out, open "empty"),
     }
 }
 
@@ -252,18 +254,19 @@ fn leaf(out: &mut String, tree: &Stmt) {
 fn stmt(out: &mut String, tree: &Stmt) {
     match tree {
         Stmt::Simple(part) => simple(out, part),
-        Stmt::Block(_, parts) => node!(out, "block", stmts parts),
+        Stmt::Block(_, parts) => node!(out, open "block", stmts parts),
         Stmt::Function(part, given, of, body) => {
-            node!(out, "function", name part, params given, word ":", type_tree of, stmts body)
+            node!(out, open "function", name part, params given, word ":", type_tree of, stmts body)
         }
-        Stmt::If(_, test, part, other) => node!(out, "if", expr test, stmt part, maybe_stmt other),
-        Stmt::While(_, test, part) => node!(out, "while", expr test, stmt part),
-        Stmt::DoWhile(_, part, test) => node!(out, "do", stmt part, expr test),
+        Stmt::If(_, test, part, other) =>
+            node!(out, open "if", expr test, stmt part, maybe_stmt other),
+        Stmt::While(_, test, part) => node!(out, open "while", expr test, stmt part),
+        Stmt::DoWhile(_, part, test) => node!(out, open "do", stmt part, expr test),
         Stmt::For(_, first, test, next, part) => {
-            node!(out, "for", maybe_first first, maybe_expr test, maybe_simple next, stmt part)
+            node!(out, open "for", maybe_first first, maybe_expr test, maybe_simple next, stmt part)
         }
         Stmt::When(_, parts, test, part) => {
-            node!(out, "when", quantifiers parts, expr test, stmt part)
+            node!(out, open "when", quantifiers parts, expr test, stmt part)
         }
         _ => leaf(out, tree),
     }
