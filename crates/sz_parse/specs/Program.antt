@@ -4,13 +4,16 @@ use Rattle.sz_types.specs.declared.place.Place.{Place}
 use Rattle.sz_lex.specs.declared.token.Token.{Token}
 use Rattle.sz_lex.specs.Lexed.{lexeme_of, Lexed}
 use Rattle.sz_tree.specs.Statements.{Stm, Stms, no_stms, stm, stm_height, stm_heights}
-use Rattle.sz_parse_expr.specs.declared.limit.TheConstants.{MAX_HEIGHT}
 use Rattle.sz_parse.specs.Statements.{ReadsStm, ReadsStms}
+
+-- how high a statement may be: a part is one lower than the whole, and what has no parts has height 1
+abbrev pub greatest_height : ℕ
+greatest_height = 256
 
 -- the tokens are these statements, one after the other, none of them too high
 pub record Spells (tokens : Lexed) (ss : Stms) : Type 0 where
   pub reads : ReadsStms (lexeme_of tokens.text) ss tokens.tokens []
-  pub low : stm_heights ss ≤ MAX_HEIGHT
+  pub low : stm_heights ss ≤ greatest_height
 
 -- how many statements there are
 abbrev pub count_of : Stms → ℕ
@@ -23,10 +26,10 @@ pub record IsStuck (tokens : Lexed) (p : Place) : Type 0 where
   pub here : Token
   pub rest : List Token
   pub reads : ReadsStms (lexeme_of tokens.text) front tokens.tokens (here ∷ rest)
-  pub low : stm_heights front ≤ MAX_HEIGHT
+  pub low : stm_heights front ≤ greatest_height
   pub place : here.place ≡ p
-  pub none : (s : Stm) (after : List Token) → ReadsStm (lexeme_of tokens.text) s (here ∷ rest) after → stm_height s ≤ MAX_HEIGHT → ⊥
-  pub longest : (ss : Stms) (after : List Token) → ReadsStms (lexeme_of tokens.text) ss tokens.tokens after → stm_heights ss ≤ MAX_HEIGHT
+  pub none : (s : Stm) (after : List Token) → ReadsStm (lexeme_of tokens.text) s (here ∷ rest) after → stm_height s ≤ greatest_height → ⊥
+  pub longest : (ss : Stms) (after : List Token) → ReadsStms (lexeme_of tokens.text) ss tokens.tokens after → stm_heights ss ≤ greatest_height
       → count_of ss ≤ count_of front
 
 -- a list of tokens spells one tree at most

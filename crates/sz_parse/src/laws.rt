@@ -1,6 +1,6 @@
 //! What holds of all lists of tokens. The calls do nothing: each promises a law of `specs/Program.antt`.
 ghost use Rattle.std.specs.Prelude.{◌≡◌};
-ghost use Rattle.sz_parse.specs.Program.{SpellsOneTree, IsNotStuck, IsStuckOnce, EveryListIsRead};
+ghost use Rattle.sz_parse.specs.Program.{greatest_height, SpellsOneTree, IsNotStuck, IsStuckOnce, EveryListIsRead};
 
 use sz_parse_expr::MAX_HEIGHT;
 
@@ -22,5 +22,6 @@ pub fn every_list_is_read()
 
 /// A tree of height 256 is read, and none that is higher.
 pub fn greatest_height_is_256()
-    ensures { MAX_HEIGHT ≡ 256 }
+    ensures value { MAX_HEIGHT ≡ 256 }
+    ensures defined { MAX_HEIGHT ≡ greatest_height }
 {}

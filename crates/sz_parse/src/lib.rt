@@ -8,8 +8,6 @@ mod program;
 mod simple;
 mod stmt;
 mod table;
-#[cfg(test)]
-mod tests;
 
 pub use error::ParseError;
 pub use laws::{every_list_is_read, greatest_height_is_256, refusal_is_unique, trees_are_unique};

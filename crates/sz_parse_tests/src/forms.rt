@@ -1,56 +1,8 @@
-//! What no contract says: that calls succeed where there is memory, and that the definition is the one that was meant.
-mod heights;
-mod refusals;
-mod shown;
-
-use super::*;
-use std::alloc::Global;
-use std::process::Abort;
-use std::test::Fail;
-use sz_lex::lex;
-use sz_tree::Tree;
-
-// The tree of a text, or the place of its refusal.
-fn parsed(alloc: Global, text: &[u8]) -> Result<Result<Tree, String>, Fail> {
-    if text.len() > 1_048_576 {
-        return Ok(Err(format!(in alloc; "too long")?));
-    }
-    let Ok(tokens) = lex(alloc, text) else {
-        return Ok(Err(format!(in alloc; "no tokens")?));
-    };
-    match parse(alloc, &tokens) {
-        Ok(tree) => Ok(Ok(tree)),
-        Err(ParseError::Syntax(place)) => {
-            Ok(Err(format!(in alloc; " {}:{}", place.line, place.column)?))
-        }
-        Err(ParseError::NoMemory) => Ok(Err(format!(in alloc; "no memory")?)),
-    }
-}
-
-// The statements of a text, each in parentheses, or the place of its refusal.
-fn outcome(alloc: Global, text: &[u8]) -> Result<String, Fail> {
-    match parsed(alloc, text)? {
-        Ok(tree) => {
-            let mut out = String::new(alloc);
-            shown::stmts(&mut out, &tree.statements)?;
-            Ok(out)
-        }
-        Err(refusal) => Ok(refusal),
-    }
-}
-
-// In each line of the table a text stands before `=>`, and its outcome behind it.
-fn holds(rt: &impl Abort, alloc: Global, table: &str) -> Result<(), Fail> {
-    for line in table.lines() {
-        let (text, expected) = line.split_once(" =>").ok_or("no arrow")?;
-        let found = outcome(alloc, text.as_bytes())?;
-        assert_eq!(rt; found.as_str(), expected, "at {text}");
-    }
-    Ok(())
-}
+//! Each form of the grammar, and its tree.
+use crate::outcome::holds;
 
 #[test]
-fn each_form_of_expression_is_read(rt: HostRuntime) -> Result<(), Fail> {
+fn each_form_of_expression_is_read(rt: HostRuntime) {
     let table =
         r#"x = 1; x = "a"; x = B"b"; x = 'c'; => (assign x 1) (assign x "a") (assign x B"b") (assign x 'c')
 x = true; x = false; x = y; => (assign x true) (assign x false) (assign x y)
@@ -68,12 +20,13 @@ x = -1; x = +a; x = !a; x = ~a; => (assign x (Negate 1)) (assign x (Plus a)) (as
 x = -+!~a; x = - -a; => (assign x (Negate (Plus (Not (Complement a))))) (assign x (Negate (Negate a)))
 x = -a[1]; x = -a.b; => (assign x (Negate (index a 1))) (assign x (Negate (field b a)))
 x = -f(1); x = (-a)[1]; => (assign x (Negate (call f 1))) (assign x (index (paren (Negate a)) 1))"#;
-    holds(&rt, rt.alloc(), table)
+    holds(&rt, rt.alloc(), table);
 }
 
 #[test]
-fn operators_bind_by_their_level_and_group_to_the_left(rt: HostRuntime) -> Result<(), Fail> {
+fn operators_bind_by_their_level_and_group_to_the_left(rt: HostRuntime) {
     let table = "\
+x = 1 + 1; => (assign x (Add 1 1))
 x = a || b; x = a && b; => (assign x (Or a b)) (assign x (And a b))
 x = a == b; x = a != b; => (assign x (Equal a b)) (assign x (NotEqual a b))
 x = a < b; x = a <= b; => (assign x (Less a b)) (assign x (LessEqual a b))
@@ -95,11 +48,11 @@ x = a || b || c; x = a && b && c; => (assign x (Or (Or a b) c)) (assign x (And (
 x = a - (b - c); x = (a + b) * c; => (assign x (Subtract a (paren (Subtract b c)))) (assign x (Multiply (paren (Add a b)) c))
 x = (a < b) == (c < d); => (assign x (Equal (paren (Less a b)) (paren (Less c d))))
 x = a < b && c < d || e == f; => (assign x (Or (And (Less a b) (Less c d)) (Equal e f)))";
-    holds(&rt, rt.alloc(), table)
+    holds(&rt, rt.alloc(), table);
 }
 
 #[test]
-fn each_form_of_type_is_read(rt: HostRuntime) -> Result<(), Fail> {
+fn each_form_of_type_is_read(rt: HostRuntime) {
     let table = "\
 a: bool; b: int; c: string; => (declare a Bool -) (declare b Int -) (declare c String -)
 d: bytes; e: time; f: t; => (declare d Bytes -) (declare e Time -) (declare f t -)
@@ -108,13 +61,14 @@ a: map [int] of string; a: map [k: int] of map [t] of u; => (declare a (map - In
 a: {x: int}; a: {x: int, y: {z: t}}; => (declare a (tuple x Int) -) (declare a (tuple x Int y (tuple z t)) -)
 a: proto {x: int @ 1}; => (declare a (proto x Int 1 -) -)
 a: proto {x: int @ 1 fixed32, y: array of t @ 0x10}; => (declare a (proto x Int 1 fixed32 y (array t) 16 -) -)";
-    holds(&rt, rt.alloc(), table)
+    holds(&rt, rt.alloc(), table);
 }
 
 #[test]
-fn each_form_of_statement_is_read(rt: HostRuntime) -> Result<(), Fail> {
+fn each_form_of_statement_is_read(rt: HostRuntime) {
     let table = "\
 # a comment =>
+ =>
 ; {} {;} {{} x = 1;} => (empty) (block) (block (empty)) (block (block) (assign x 1))
 x: int; x: int = 1; x := 1; => (declare x Int -) (declare x Int 1) (define x 1)
 static x: int = 1; type t = int; type t = {a: u}; => (static x Int 1) (type t Int) (type t (tuple a u))
@@ -138,13 +92,11 @@ emit t <- 1; emit t[1][a] <- x weight 2; => (emit t <- 1 -) (emit t 1 a <- x 2)
 when (i: some int; a[i]) ; => (when (Some i Int) (index a i) (empty))
 when (i, j: each t; k: all string; m: some int; i < j) x++; => (when (Each i j t) (All k String) (Some m Int) (Less i j) (increment x))
 when (i: some int; f(i, j)) ; => (when (Some i Int) (call f i j) (empty))";
-    holds(&rt, rt.alloc(), table)?;
-    assert_eq!(rt; outcome(rt.alloc(), b"")?.as_str(), "");
-    Ok(())
+    holds(&rt, rt.alloc(), table);
 }
 
 #[test]
-fn an_else_belongs_to_the_if_whose_part_it_follows(rt: HostRuntime) -> Result<(), Fail> {
+fn an_else_belongs_to_the_if_whose_part_it_follows(rt: HostRuntime) {
     let table = "\
 if (a) if (b) x++; else y++; => (if a (if b (increment x) (increment y)) -)
 if (a) {if (b) x++;} else y++; => (if a (block (if b (increment x) -)) (increment y))
@@ -156,5 +108,5 @@ if (a) ; else if (b) ; => (if a (empty) (if b (empty) -))
 if (a) ; ; else ; => 1:12
 if (a) ; else => 1:1
 if (a) ; else ; else ; => 1:17";
-    holds(&rt, rt.alloc(), table)
+    holds(&rt, rt.alloc(), table);
 }
