@@ -1,0 +1,3 @@
+pub mod VarintLemmas
+pub mod PlainLemmas
+pub mod GroupLemmas

@@ -1,0 +1,4 @@
+-- what the public contracts rest on
+pub mod Varint
+pub mod Key
+pub mod Field
