@@ -1,5 +1,6 @@
 -- Which checked expressions have their types: each name is seen where it stands, each operator, predeclared function and
--- conversion has a row for its operands in the tables of types, and each composite is of a well-formed type.
+-- conversion has a row for its operands in the tables of types, and each composite is of a well-formed type and stands where a
+-- type is asked of it.
 use Rattle.std.specs.Prelude.{◌≡◌, ℕ, List, [], ◌∷◌, slice_get, Bool, true, Some}
 use Rattle.std.specs.List.{Contains}
 use Rattle.sz_types.specs.Data.{Shape, FieldShapes, no_fields, with_field, field}
@@ -48,6 +49,24 @@ abbrev pub AreAll : Shape → List Shape → Type 0
 AreAll t [] = Unit {0}
 AreAll t (s ∷ ss) = (s ≡ t) × AreAll t ss
 
+-- the expression has a type by itself. A composite has none: it takes the one that its place asks for, so it can't stand where
+-- none is asked
+abbrev pub HasOwnType : Node → Type 0
+HasOwnType (node p t (array es)) = ⊥
+HasOwnType (node p t (tuple es)) = ⊥
+HasOwnType (node p t (mapping ps)) = ⊥
+HasOwnType _ = Unit {0}
+
+-- so has each of the expressions
+abbrev pub HaveOwnTypes : Nodes → Type 0
+HaveOwnTypes no_nodes = Unit {0}
+HaveOwnTypes (with_node e es) = HasOwnType e × HaveOwnTypes es
+
+-- there is an expression: a composite without parts is an array or a map
+abbrev pub HasPart : Nodes → Type 0
+HasPart no_nodes = ⊥
+HasPart _ = Unit {0}
+
 unfoldable mutual
   -- the expression has its type
   pub IsNode : Sight → Node → Type 0
@@ -62,17 +81,21 @@ unfoldable mutual
   IsForm g t (call f es) =
       AreNodes g es × ((s : Signature) × (slice_get g.functions f ≡ Some s) × (types_of es ≡ s.parameters) × (t ≡ s.result)
       × ((s.emits ≡ true) → g.may_emit ≡ true))
-  IsForm g t (builtin b es) = AreNodes g es × (builtin_row b (types_of es) ≡ Some t)
-  IsForm g t (def e) = IsNode g e × (t ≡ Shape.truth)
-  IsForm g t (convert e) = IsNode g e × (is_well_formed t ≡ true) × (converts_to (type_of e) t ≡ true)
+  IsForm g t (builtin b es) = AreNodes g es × (builtin_row b (types_of es) ≡ Some t) × HaveOwnTypes es
+  IsForm g t (def e) = IsNode g e × (t ≡ Shape.truth) × HasOwnType e
+  IsForm g t (convert e) = IsNode g e × (is_well_formed t ≡ true) × (converts_to (type_of e) t ≡ true) × HasOwnType e
   IsForm g t (array es) = AreNodes g es × (is_well_formed t ≡ true) × ((u : Shape) × (t ≡ Shape.array u) × AreAll u (types_of es))
-  IsForm g t (tuple es) = AreNodes g es × (is_well_formed t ≡ true) × ((fs : FieldShapes) × HasFields t fs × (types_of es ≡ field_types fs))
+  IsForm g t (tuple es) =
+      AreNodes g es × (is_well_formed t ≡ true) × ((fs : FieldShapes) × HasFields t fs × (types_of es ≡ field_types fs)) × HasPart es
   IsForm g t (mapping ps) = (is_well_formed t ≡ true) × ((k v : Shape) × (t ≡ Shape.mapping k v) × ArePairings g k v ps)
-  IsForm g t (index e i) = IsNode g e × IsNode g i × (index_row (type_of e) (type_of i) ≡ Some t)
-  IsForm g t (slice e i j) = IsNode g e × IsNode g i × IsNode g j × (slice_row (type_of e) ≡ Some t) × (type_of i ≡ Shape.int) × (type_of j ≡ Shape.int)
-  IsForm g t (part e n) = IsNode g e × ((fs : FieldShapes) × HasFields (type_of e) fs × (slice_get (field_types fs) n ≡ Some t))
+  IsForm g t (index e i) = IsNode g e × IsNode g i × (index_row (type_of e) (type_of i) ≡ Some t) × HasOwnType e × HasOwnType i
+  IsForm g t (slice e i j) =
+      IsNode g e × IsNode g i × IsNode g j × (slice_row (type_of e) ≡ Some t) × (type_of i ≡ Shape.int) × (type_of j ≡ Shape.int)
+      × HasOwnType e
+  IsForm g t (part e n) =
+      IsNode g e × ((fs : FieldShapes) × HasFields (type_of e) fs × (slice_get (field_types fs) n ≡ Some t)) × HasOwnType e
   IsForm g t (unary o e) = IsNode g e × (unary_row o (type_of e) ≡ Some t)
-  IsForm g t (binary o a b) = IsNode g a × IsNode g b × (binary_row o (type_of a) (type_of b) ≡ Some t)
+  IsForm g t (binary o a b) = IsNode g a × IsNode g b × (binary_row o (type_of a) (type_of b) ≡ Some t) × HasOwnType a
   IsForm g t (both a b) = IsNode g a × IsNode g b × (type_of a ≡ Shape.truth) × (type_of b ≡ Shape.truth) × (t ≡ Shape.truth)
   IsForm g t (either a b) = IsNode g a × IsNode g b × (type_of a ≡ Shape.truth) × (type_of b ≡ Shape.truth) × (t ≡ Shape.truth)
 
