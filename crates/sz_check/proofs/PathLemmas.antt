@@ -27,7 +27,7 @@ use Rattle.sz_check.specs.JudgingSimple.{judge_assignment, judge_change}
 use Rattle.sz_known.proofs.Holds.{Holds, good, by_option, ok_holds, err_holds, bind_holds, both_hold, unless_holds, option_holds, some_has}
 use Rattle.sz_known.proofs.Meanings.{looked_up}
 use Rattle.sz_known.proofs.Sights.{IsFormed, IsVariable, Fits}
-use Rattle.sz_check_expr.proofs.RowLemmas.{element_formed, value_formed, int_formed, bytes_formed}
+use Rattle.sz_core.proofs.ForCallers.{element_formed, value_formed, int_formed, bytes_formed}
 use Rattle.sz_check_expr.proofs.OwnTypes.{takes_own}
 use Rattle.sz_check_expr.proofs.AgreeLemmas.{IsTyped, agrees_holds}
 use Rattle.sz_check_expr.proofs.NodeLemmas.{IsPart, part_found, whole_holds}

@@ -21,7 +21,7 @@ use Rattle.sz_known.proofs.Holds.{Holds, ok_holds, bind_holds, both_hold}
 use Rattle.sz_known.proofs.Meanings.{looked_up}
 use Rattle.sz_known.proofs.Sights.{IsFormed, Fits, AllFit}
 use Rattle.sz_known.proofs.TypeSound.{basic_formed}
-use Rattle.sz_check_expr.proofs.RowLemmas.{truth_formed}
+use Rattle.sz_core.proofs.ForCallers.{truth_formed}
 use Rattle.sz_check_expr.proofs.OwnTypes.{takes_own, arguments_own}
 use Rattle.sz_check_expr.proofs.AgreeLemmas.{IsTyped, AreTyped, PairsTyped}
 use Rattle.sz_check_expr.proofs.NodeLemmas.{AskFormed, literal_typed, variable_typed, callee_fits, callee_asks, call_typed, conversion_typed, list_typed}

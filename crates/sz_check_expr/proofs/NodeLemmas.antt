@@ -28,8 +28,9 @@ use Rattle.sz_check_expr.specs.JudgingParts.{made_index, whole, made_slice, fiel
 use Rattle.sz_check_expr.specs.JudgingOperators.{unary_of, made_unary, Operation, both, either, of, hands_type_on, asked_of_right, made_operator, test, made_binary}
 use Rattle.sz_known.proofs.Holds.{Holds, good, by_option, ok_holds, err_holds, bind_holds, known, weaker, unless_holds, if_holds, option_holds, some_has}
 use Rattle.sz_known.proofs.Sights.{IsFormed, AreFormed, Fits, IsCalled}
-use Rattle.sz_check_expr.proofs.RowLemmas.{element_formed, key_formed, value_formed, fields_formed, formed_at, IsFieldOf, named_field, has_fields, unary_formed}
-use Rattle.sz_check_expr.proofs.RowLemmas.{binary_formed, index_formed, slice_same, builtin_formed}
+use Rattle.sz_core.proofs.ForCallers.{element_formed, key_formed, value_formed, fields_formed, formed_at, unary_formed}
+use Rattle.sz_check_expr.proofs.RowLemmas.{IsFieldOf, named_field, has_fields}
+use Rattle.sz_core.proofs.ForCallers.{binary_formed, index_formed, slice_same, builtin_formed}
 use Rattle.sz_check_expr.proofs.OwnTypes.{ArgumentsOwn}
 use Rattle.sz_check_expr.proofs.AgreeLemmas.{IsTyped, AreTyped, PairsTyped, all_nodes, all_formed, counted_holds, agree_in_turn, agree_each, pairs_have}
 

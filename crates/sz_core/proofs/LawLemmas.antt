@@ -74,7 +74,7 @@ sound_behind_front program front rest sound is =
     front_declares program.locals [] nothing_declared front rest (subst (λ xs. AreItems program.locals [] nothing_declared xs) is sound.items)
 
 -- what more items declare
-declared_more : (front rest : List Item) → declared_by (front ++ rest) ≡ both_declared (declared_by front) (declared_by rest)
+pub declared_more : (front rest : List Item) → declared_by (front ++ rest) ≡ both_declared (declared_by front) (declared_by rest)
 declared_more [] rest = refl
 declared_more (items.table t ∷ front) rest = ap (λ d. both_declared (declared_by (items.table t ∷ [])) d) (declared_more front rest)
 declared_more (items.function f ∷ front) rest = ap (λ d. both_declared (declared_by (items.function f ∷ [])) d) (declared_more front rest)

@@ -1,7 +1,7 @@
 -- Which checked expressions have their types: each name is seen where it stands, each operator, predeclared function and
 -- conversion has a row for its operands in the tables of types, and each composite is of a well-formed type and stands where a
 -- type is asked of it.
-use Rattle.std.specs.Prelude.{◌≡◌, ℕ, List, [], ◌∷◌, slice_get, Bool, true, Some}
+use Rattle.std.specs.Prelude.{◌≡◌, ℕ, List, [], ◌∷◌, map, slice_get, Bool, true, Some}
 use Rattle.std.specs.List.{Contains}
 use Rattle.sz_types.specs.Data.{Shape, FieldShapes, no_fields, with_field, field}
 use Rattle.sz_types.specs.Conversions.{converts_to}
@@ -11,7 +11,7 @@ use Rattle.sz_value.specs.Data.{Datum}
 use Rattle.sz_core.specs.Nodes.{Node, node, Form, constant, local, static, input, call, builtin, def, convert, array, tuple, mapping, index, slice}
 use Rattle.sz_core.specs.Nodes.{field as part, unary, binary, both, either, Nodes, no_nodes, with_node, Pairings, no_pairings, with_pairing, type_of, types_of}
 use Rattle.sz_core.specs.Programs.{Signature}
-use Rattle.sz_core.specs.WellFormed.{is_well_formed}
+use Rattle.sz_core.specs.WellFormed.{is_well_formed, are_well_formed}
 
 -- what can be used at a place: the variables of the routine with their types, and the numbers of those that are seen; the
 -- statics, functions and tables that are declared before; whether the record is seen; and whether a function that emits may
@@ -43,6 +43,16 @@ HasFields _ fs = ⊥
 abbrev pub field_types : FieldShapes → List Shape
 field_types no_fields = []
 field_types (with_field (field name t number code) fields) = t ∷ field_types fields
+
+-- the types of the results of functions, in order
+abbrev pub results_of : List Signature → List Shape
+results_of fs = map (λ (f : Signature). f.result) fs
+
+-- what can be used at a place has well-formed types
+pub record HasFormedTypes (g : Sight) : Type 0 where
+  pub locals : are_well_formed g.locals ≡ true
+  pub statics : are_well_formed g.statics ≡ true
+  pub results : are_well_formed (results_of g.functions) ≡ true
 
 -- each type of the list is this one
 abbrev pub AreAll : Shape → List Shape → Type 0
