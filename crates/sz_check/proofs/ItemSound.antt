@@ -27,6 +27,7 @@ use Rattle.sz_known.proofs.Meanings.{kept_only}
 use Rattle.sz_known.proofs.Sights.{IsFormed, AreFormed, IsTableOf, Fits, AllFit}
 use Rattle.sz_known.proofs.TypeSound.{type_formed}
 use Rattle.sz_check_expr.proofs.AgreeLemmas.{converted_holds}
+use Rattle.sz_check_expr.proofs.OwnTypes.{own_or_asked}
 use Rattle.sz_check_expr.proofs.ExpressionSound.{expression_typed}
 use Rattle.sz_check.proofs.SceneLemmas.{Sees, begins_itself}
 use Rattle.sz_check.proofs.ItemLemmas.{elems_formed, weight_formed, IsDeclared, declaration_holds}
@@ -137,7 +138,8 @@ static_sound k p n t e = bind_holds (known (judge_type (blocks_of k) t)) (λ u i
           let formed = (type_formed g (blocks_of k) knows.sees.fit t).holds u is_type in
           let fit = kept_only is_seen_by_statics (Fits g) (Fits (static_sight d)) (seen_by_static locals seen d) (blocks_of k) knows.sees.fit in
           let typed = (expression_typed (static_sight d) (only is_seen_by_statics (blocks_of k)) fit (Some u) e formed).holds m is_value in
-          let has = (converted_holds (static_sight d) u e m formed typed).holds value is_converted in
+          let own = (own_or_asked (only is_seen_by_statics (blocks_of k)) false (Some u) e).holds m is_value in
+          let has = (converted_holds (static_sight d) u e m formed typed own).holds value is_converted in
           let static_here : IsStatic d item = record { well_formed = formed; value = has.typed; type = has.is } in
           record {
             seen_there = seen;

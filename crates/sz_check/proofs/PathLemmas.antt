@@ -15,7 +15,7 @@ use Rattle.sz_core.specs.Nodes.{Node, node, type_of}
 use Rattle.sz_core.specs.Nodes as forms
 use Rattle.sz_core.specs.Statements.{Step, at_index, at_field}
 use Rattle.sz_core.specs.Statements as core
-use Rattle.sz_core.specs.Typing.{Sight, field_types, IsNode, IsForm}
+use Rattle.sz_core.specs.Typing.{Sight, field_types, HasOwnType, IsNode, IsForm}
 use Rattle.sz_core.specs.Sound.{LeadTo, IsStm, Around}
 use Rattle.sz_known.specs.Refusals.{wrong_type}
 use Rattle.sz_known.specs.Names.{Meaning, look_up}
@@ -24,10 +24,11 @@ use Rattle.sz_check_expr.specs.Agreeing.{Found}
 use Rattle.sz_known.specs.Scene.{Scene}
 use Rattle.sz_check.specs.JudgingPaths.{Target, target_of, stepped, indexed, judge_steps, judge_path}
 use Rattle.sz_check.specs.JudgingSimple.{judge_assignment, judge_change}
-use Rattle.sz_known.proofs.Holds.{Holds, good, by_option, ok_holds, err_holds, bind_holds, unless_holds, option_holds, some_has}
+use Rattle.sz_known.proofs.Holds.{Holds, good, by_option, ok_holds, err_holds, bind_holds, both_hold, unless_holds, option_holds, some_has}
 use Rattle.sz_known.proofs.Meanings.{looked_up}
 use Rattle.sz_known.proofs.Sights.{IsFormed, IsVariable, Fits}
-use Rattle.sz_check_expr.proofs.RowLemmas.{element_formed, value_formed, int_formed, bytes_formed}
+use Rattle.sz_core.proofs.ForCallers.{element_formed, value_formed, int_formed, bytes_formed}
+use Rattle.sz_check_expr.proofs.OwnTypes.{takes_own}
 use Rattle.sz_check_expr.proofs.AgreeLemmas.{IsTyped, agrees_holds}
 use Rattle.sz_check_expr.proofs.NodeLemmas.{IsPart, part_found, whole_holds}
 use Rattle.sz_check.proofs.SceneLemmas.{Sees, judged, IsSimple}
@@ -37,7 +38,7 @@ lead_on : (g : Sight) (steps : List Step) (r s u : Shape) (step : Step) → Lead
 unfolding LeadTo
 lead_on g [] r s u step h k = subst (λ x. LeadTo g x (step ∷ []) u) h k
 lead_on g (at_index e ∷ steps) (Shape.array t) s u step h k = (h.0, h.1, lead_on g steps t s u step h.2 k)
-lead_on g (at_index e ∷ steps) (Shape.mapping l v) s u step h k = (h.0, h.1, lead_on g steps v s u step h.2 k)
+lead_on g (at_index e ∷ steps) (Shape.mapping l v) s u step h k = (h.0, h.1, h.2, lead_on g steps v s u step h.3 k)
 lead_on g (at_field n ∷ steps) (Shape.tuple fs) s u step h k = (h.0, h.1, lead_on g steps h.0 s u step h.2 k)
 lead_on g (at_field n ∷ steps) (Shape.proto fs) s u step h k = (h.0, h.1, lead_on g steps h.0 s u step h.2 k)
 lead_on g _ _ s u step h k = absurd h
@@ -100,22 +101,23 @@ module _ (g : Sight) where
       (never_assigned g target refl bytes_formed, λ may. absurd (true≢false (sym may)))
 
   -- a step by an index
-  indexed_target : (p : Place) (t : Target) (s : Shape) (e : Exp) (n : Node) → t.type ≡ s → IsTarget g t → IsTyped g n → Holds (indexed p t s e n) (IsTarget g)
+  indexed_target : (p : Place) (t : Target) (s : Shape) (e : Exp) (n : Node) → t.type ≡ s → IsTarget g t → IsTyped g n → HasOwnType n
+      → Holds (indexed p t s e n) (IsTarget g)
   unfolding LeadTo
-  indexed_target p t (Shape.array u) e n is h k = bind_holds (whole_holds g e n) (λ v whole. ok_holds (IsTarget g) (stepped t (at_index n) u)
+  indexed_target p t (Shape.array u) e n is h k own = bind_holds (whole_holds g e n) (λ v whole. ok_holds (IsTarget g) (stepped t (at_index n) u)
       (stepped_target g t (at_index n) (Shape.array u) u is h (k.typed, whole, refl) (element_formed u (subst IsFormed is h.formed))))
-  indexed_target p t (Shape.mapping l v) e n is h k = bind_holds (agrees_holds l e n) (λ w key. ok_holds (IsTarget g) (stepped t (at_index n) v)
-      (stepped_target g t (at_index n) (Shape.mapping l v) v is h (k.typed, key, refl) (value_formed l v (subst IsFormed is h.formed))))
-  indexed_target p t Shape.str e n is h k = bind_holds (whole_holds g e n) (λ v whole. ok_holds _ _ (never_assigned g _ refl int_formed))
-  indexed_target p t Shape.bytes e n is h k = bind_holds (whole_holds g e n) (λ v whole. ok_holds _ _ (never_assigned g _ refl int_formed))
-  indexed_target p t _ e n is h k = err_holds _ _
+  indexed_target p t (Shape.mapping l v) e n is h k own = bind_holds (agrees_holds l e n) (λ w key. ok_holds (IsTarget g) (stepped t (at_index n) v)
+      (stepped_target g t (at_index n) (Shape.mapping l v) v is h (k.typed, key, own, refl) (value_formed l v (subst IsFormed is h.formed))))
+  indexed_target p t Shape.str e n is h k own = bind_holds (whole_holds g e n) (λ v whole. ok_holds _ _ (never_assigned g _ refl int_formed))
+  indexed_target p t Shape.bytes e n is h k own = bind_holds (whole_holds g e n) (λ v whole. ok_holds _ _ (never_assigned g _ refl int_formed))
+  indexed_target p t _ e n is h k own = err_holds _ _
 
   module _ (s : Scene) (sees : Sees g s) where
     steps_target : (p : Place) (t : Target) (steps : List StepForm) → IsTarget g t → Holds (judge_steps s p t steps) (IsTarget g)
     unfolding judge_steps
     steps_target p t [] h = ok_holds (IsTarget g) t h
-    steps_target p t (trees.at_index e ∷ steps) h = bind_holds (judged g s sees None e tt) (λ n k.
-        bind_holds (indexed_target p t t.type e n refl h k) (λ next l. steps_target p next steps l))
+    steps_target p t (trees.at_index e ∷ steps) h = bind_holds (both_hold (judged g s sees None e tt) (takes_own s.blocks true e)) (λ n k.
+        bind_holds (indexed_target p t t.type e n refl h k.0 k.1) (λ next l. steps_target p next steps l))
     steps_target p t (trees.at_field f ∷ steps) h = bind_holds (part_found g p t.type f h.formed) (λ x part.
         steps_target p (stepped t (at_field x.place) x.type) steps
         (stepped_target g t (at_field x.place) t.type x.type refl h (field_leads g t.type x part) part.formed))
@@ -156,6 +158,6 @@ module _ (g : Sight) where
         λ t u. core.store n.place t.local [] (node n.place u (forms.binary o (node n.place t.type (forms.local t.local)) one)) in
         bind_holds {f = λ t. by_option (wrong_type n.place) (λ u. good (changed t u)) (row t.type Shape.int)} (root_path n) (λ t h.
         option_holds _ (λ none. err_holds _ _) (λ u is. ok_holds (IsSimple g a) (changed t u) (record {
-          stm = (h.seen, ((h.seen, h.here), refl, same t.type ∙ is), (t.type, h.here, some_has (λ v. v ≡ t.type) (keeps t.type) is));
+          stm = (h.seen, ((h.seen, h.here), refl, same t.type ∙ is, tt), (t.type, h.here, some_has (λ v. v ≡ t.type) (keeps t.type) is));
           between = tt;
         })))

@@ -21,7 +21,7 @@ use Rattle.sz_known.proofs.Holds.{Holds, good, ok_holds, bind_holds, known}
 use Rattle.sz_known.proofs.Meanings.{declared}
 use Rattle.sz_known.proofs.Sights.{IsFormed, AreFormed, IsVariable, Fits, AllFit, IsWider, all_fit_wider}
 use Rattle.sz_check_expr.proofs.AgreeLemmas.{IsTyped}
-use Rattle.sz_check_expr.proofs.ExpressionSound.{expression_typed, call_is_made}
+use Rattle.sz_check_expr.proofs.ExpressionSound.{expression_typed}
 
 -- ---- lists that go on
 
@@ -127,10 +127,6 @@ sees_closed g s inside h grows formed = record {
 -- an expression in a statement has its type
 pub judged : (g : Sight) (s : Scene) → Sees g s → (asked : Option Shape) (e : Exp) → IfSome asked IsFormed → Holds (judge s asked e) (IsTyped g)
 judged g s h asked e ask = subst (λ b. Holds (judge_exp s.blocks b asked e) (IsTyped g)) h.emits (expression_typed g s.blocks h.fit asked e ask)
-
--- a call in a statement is one
-pub call_judged : (g : Sight) (s : Scene) → Sees g s → (asked : Option Shape) (n : Ident) (es : Exps) → Holds (judge s asked (call n es)) IsCall
-call_judged g s h asked n es = subst (λ b. Holds (judge_exp s.blocks b asked (call n es)) IsCall) h.emits (call_is_made g s.blocks h.fit asked n es)
 
 -- ---- a variable more
 

@@ -33,9 +33,10 @@ use Rattle.sz_known.proofs.TypeSound.{type_formed}
 use Rattle.sz_check_expr.proofs.RowLemmas.{sum_keeps, difference_keeps}
 use Rattle.sz_check_expr.proofs.AgreeLemmas.{IsTyped, AreTyped, HasType, all_nodes, agrees_holds, counted_holds, agree_in_turn, converted_holds}
 use Rattle.sz_check_expr.proofs.NodeLemmas.{test_holds}
+use Rattle.sz_check_expr.proofs.OwnTypes.{own_or_asked, call_is_made}
 use Rattle.sz_check_expr.proofs.ExpressionSound.{expressions_typed}
 use Rattle.sz_check.proofs.SceneLemmas.{Sees, judged, begins_itself, begins_more, HasVariable, variable_added, added, IsSoundHere, IsBehind, IsDone, IsSimple}
-use Rattle.sz_check.proofs.SceneLemmas.{simple_done, call_judged}
+use Rattle.sz_check.proofs.SceneLemmas.{simple_done}
 use Rattle.sz_check.proofs.PathLemmas.{assignment_sound, change_sound}
 
 -- ---- declarations
@@ -71,7 +72,8 @@ initialised_sound a s n t e = bind_holds (known (judge_type s.blocks t)) (λ u j
       is_sound = λ g sees final.
           let formed = (type_formed g s.blocks sees.fit t).holds u judged_type in
           let typed = (judged g s sees (Some u) e formed).holds m judged_value in
-          kept_sound a g s after n u value h sees formed ((converted_holds g u e m formed typed).holds value judged_as) final;
+          let own = (own_or_asked s.blocks true (Some u) e).holds m judged_value in
+          kept_sound a g s after n u value h sees formed ((converted_holds g u e m formed typed own).holds value judged_as) final;
     })))))
 
 -- a definition
@@ -103,7 +105,7 @@ module _ (a : Around) (g : Sight) (s : Scene) (sees : Sees g s) where
   simple_sound (assign path e) = assignment_sound g s sees a path e
   simple_sound (increment n) = change_sound g s sees a n Add sum_row (λ t. refl) sum_keeps
   simple_sound (decrement n) = change_sound g s sees a n Sub difference_row (λ t. refl) difference_keeps
-  simple_sound (call_of n es) = bind_holds (both_hold (judged g s sees None (exps.call n es) tt) (call_judged g s sees None n es)) (λ m h.
+  simple_sound (call_of n es) = bind_holds (both_hold (judged g s sees None (exps.call n es) tt) (call_is_made s.blocks true None n es)) (λ m h.
       ok_holds (IsSimple g a) (core.evaluate n.place m) (record { stm = (h.0.typed, h.1); between = tt }))
 
   -- what is done between the turns of a `for`

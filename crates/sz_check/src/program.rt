@@ -14,7 +14,7 @@ use crate::top::Top;
 use std::alloc::{AllocError, Global};
 use sz_check_expr::{converted, judge_exp};
 use sz_core::{Item, Program, Static};
-use sz_known::{CheckError, Known, Meaning, judge_type, judge_written};
+use sz_known::{CheckError, Known, Meaning, judge_type, judge_written, small};
 use sz_tree::{Expr, Name, Stmt, Tree, TypeTree};
 use sz_types::{Place, Tys, copy_ty};
 
@@ -33,9 +33,7 @@ fn judge_static(
     let ty = judge_type(alloc, &top.known, of)?;
     let node = judge_exp(alloc, &top.known, false, Some(&ty), tree)?;
     let value = converted(alloc, &ty, tree, node)?;
-    let Some(statics) = top.statics.checked_add(1) else {
-        return Err(CheckError::NoMemory);
-    };
+    let statics = small(top.statics as usize + 1)?;
     let meaning = Meaning::Static(top.statics, copy_ty(alloc, &ty)?);
     top.known.declare(alloc, name, meaning)?;
     top.statics = statics;

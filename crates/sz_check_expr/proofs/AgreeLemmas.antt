@@ -1,16 +1,18 @@
 -- Where expressions agree with what their place asks, they have the types that it asks.
-use Rattle.std.proofs.Common.{◌≡◌, ℕ, List, [], ◌∷◌, length, Some, refl, arith}
+use Rattle.std.proofs.Common.{◌≡◌, ⊎_elim, ℕ, List, [], ◌∷◌, length, false, true≢false, Option, Some, refl, sym, ap, ◌∙◌, arith}
 use Rattle.std.specs.Prelude.{◌&&◌}
 use Rattle.std.proofs.lemmas.Bool.{eqb-true}
 use Rattle.sz_types.specs.Data.{Shape}
 use Rattle.sz_types.specs.declared.place.Place.{Place}
-use Rattle.sz_types.proofs.ForCallers.{alike_equal}
+use Rattle.sz_types.specs.Same.{alike}
+use Rattle.sz_types.proofs.ForCallers.{alike_equal, alike_itself}
 use Rattle.sz_tree.specs.Expressions.{Exp, Exps, end, more, Pairs, no_pairs, pair, place_of}
 use Rattle.sz_core.specs.Nodes.{Node, node, convert, Nodes, no_nodes, with_node, Pairings, no_pairings, with_pairing, type_of, types_of}
 use Rattle.sz_core.specs.Typing.{Sight, IsNode, IsForm, AreNodes, ArePairings, AreAll}
 use Rattle.sz_check_expr.specs.Agreeing.{each, in_turn, agrees, agree, pairs_agree, count_of, counted, converted}
 use Rattle.sz_known.proofs.Holds.{Holds, ok_holds, err_holds, bind_holds, weaker, unless_holds, if_holds}
 use Rattle.sz_known.proofs.Sights.{IsFormed, AreFormed}
+use Rattle.sz_check_expr.proofs.OwnTypes.{IsOwnOrAsked}
 
 -- the expression has its type, which is well formed
 pub record IsTyped (g : Sight) (n : Node) : Type 0 where
@@ -86,9 +88,17 @@ pub record HasType (g : Sight) (t : Shape) (n : Node) : Type 0 where
   pub is : type_of n ≡ t
 
 -- a value that is as it has to be, or converted, has the type
-pub converted_holds : (g : Sight) (t : Shape) (e : Exp) (n : Node) → IsFormed t → IsTyped g n → Holds (converted t e n) (HasType g t)
+pub converted_holds : (g : Sight) (t : Shape) (e : Exp) (n : Node) → IsFormed t → IsTyped g n → IsOwnOrAsked (Some t) n
+    → Holds (converted t e n) (HasType g t)
 unfolding IsNode IsForm
-converted_holds g t e n formed h =
+converted_holds g t e n formed h own =
     if_holds _ (λ same. ok_holds _ n (record { typed = h.typed; is = alike_equal (type_of n) t same }))
-    (λ differ. if_holds _
-    (λ row. ok_holds (HasType g t) (node (place_of e) t (convert n)) (record { typed = (h.typed, formed, row); is = refl })) (λ none. err_holds _ _))
+    (λ differ. if_holds _ (λ row. ok_holds (HasType g t) (node (place_of e) t (convert n)) (record {
+      typed = (h.typed, formed, row, ⊎_elim (λ o. o) (λ asked. absurd (not_asked differ asked)) own);
+      is = refl;
+    })) (λ none. err_holds _ _))
+  where
+    not_asked : alike (type_of n) t ≡ false → ◌≡◌ {A = Option Shape} (Some t) (Some (type_of n)) → ⊥
+    not_asked differ asked =
+        let same : t ≡ type_of n = cc in
+        true≢false (sym (alike_itself (type_of n)) ∙ ap (λ u. alike (type_of n) u) (sym same) ∙ differ)

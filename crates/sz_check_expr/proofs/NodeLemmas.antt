@@ -1,6 +1,6 @@
 -- What is made of parts that have their types has its type.
 use Rattle.std.proofs.Common.{◌≡◌, ℕ, Bool, true, false, Option, Some, None, refl, sym, ◌∙◌}
-use Rattle.std.specs.Prelude.{◌||◌, not, if◌then◌else◌, slice_get, IfSome}
+use Rattle.std.specs.Prelude.{if◌then◌else◌, slice_get, IfSome}
 use Rattle.sz_types.specs.Data.{Shape, FieldShapes}
 use Rattle.sz_types.specs.Rows.{binary_row, index_row, builtin_row}
 use Rattle.sz_types.specs.declared.place.Place.{Place}
@@ -15,11 +15,11 @@ use Rattle.sz_core.specs.Nodes.{Node, node, Nodes, no_nodes, with_node, Pairings
 use Rattle.sz_core.specs.Nodes as forms
 use Rattle.sz_core.specs.Programs.{Signature}
 use Rattle.sz_core.specs.WellFormed.{is_well_formed}
-use Rattle.sz_core.specs.Typing.{Sight, HasFields, field_types, IsNode, IsForm, IsCall}
+use Rattle.sz_core.specs.Typing.{Sight, HasFields, field_types, HasOwnType, HaveOwnTypes, IsNode, IsForm}
 use Rattle.sz_known.specs.Refusals.{Judged, ◌>>=◌, wrong_type, wrong_count}
 use Rattle.sz_known.specs.Names.{Block, Meaning}
 use Rattle.sz_known.specs.Names as names
-use Rattle.sz_check_expr.specs.Agreeing.{Asks, nothing, each, in_turn, Found, agree, counted, arguments_fit, arity}
+use Rattle.sz_check_expr.specs.Agreeing.{Asks, nothing, each, in_turn, Found, counted, arguments_fit, arity}
 use Rattle.sz_check_expr.specs.JudgingExpressions.{literal_node, variable_node}
 use Rattle.sz_check_expr.specs.JudgingCalls.{Callee, declared, predeclared, conversion, callee_of, asks_of_callee, declared_call, predeclared_call, conversion_node}
 use Rattle.sz_check_expr.specs.JudgingCalls.{conversion_call, made_call}
@@ -28,8 +28,10 @@ use Rattle.sz_check_expr.specs.JudgingParts.{made_index, whole, made_slice, fiel
 use Rattle.sz_check_expr.specs.JudgingOperators.{unary_of, made_unary, Operation, both, either, of, hands_type_on, asked_of_right, made_operator, test, made_binary}
 use Rattle.sz_known.proofs.Holds.{Holds, good, by_option, ok_holds, err_holds, bind_holds, known, weaker, unless_holds, if_holds, option_holds, some_has}
 use Rattle.sz_known.proofs.Sights.{IsFormed, AreFormed, Fits, IsCalled}
-use Rattle.sz_check_expr.proofs.RowLemmas.{element_formed, key_formed, value_formed, fields_formed, formed_at, IsFieldOf, named_field, has_fields, unary_formed}
-use Rattle.sz_check_expr.proofs.RowLemmas.{binary_formed, index_formed, slice_same, builtin_formed}
+use Rattle.sz_core.proofs.ForCallers.{element_formed, key_formed, value_formed, fields_formed, formed_at, unary_formed}
+use Rattle.sz_check_expr.proofs.RowLemmas.{IsFieldOf, named_field, has_fields}
+use Rattle.sz_core.proofs.ForCallers.{binary_formed, index_formed, slice_same, builtin_formed}
+use Rattle.sz_check_expr.proofs.OwnTypes.{ArgumentsOwn}
 use Rattle.sz_check_expr.proofs.AgreeLemmas.{IsTyped, AreTyped, PairsTyped, all_nodes, all_formed, counted_holds, agree_in_turn, agree_each, pairs_have}
 
 -- the types that a place asks are well formed
@@ -96,65 +98,49 @@ module _ (g : Sight) where
         formed = c.gives;
       }))))
 
-  predeclared_typed : (n : Ident) (b : Builtin) (es : Exps) (ns : Nodes) → AreTyped g es ns → Holds (predeclared_call n b es ns) (IsTyped g)
+  predeclared_typed : (n : Ident) (b : Builtin) (es : Exps) (ns : Nodes) → AreTyped g es ns → HaveOwnTypes ns → Holds (predeclared_call n b es ns) (IsTyped g)
   unfolding IsNode IsForm
-  predeclared_typed n b es ns h =
+  predeclared_typed n b es ns h own =
       let given : Judged Node = by_option (wrong_count n.place) (λ t. good (node n.place t (forms.builtin b ns))) (builtin_row b (types_of ns)) in
       bind_holds {f = λ u. counted (arity b) es n.place >>= (λ v. given)} (known (arguments_fit b es ns)) (λ u fit.
       bind_holds {f = λ v. given} (known (counted (arity b) es n.place)) (λ v count.
       option_holds _ (λ none. err_holds _ _) (λ t row. ok_holds (IsTyped g) (node n.place t (forms.builtin b ns)) (record {
-        typed = (all_nodes g es ns h, row);
+        typed = (all_nodes g es ns h, row, own);
         formed = some_has IsFormed (builtin_formed b (types_of ns) (all_formed g es ns h)) row;
       }))))
 
   -- what is converted has the type
-  pub conversion_typed : (p : Place) (t : Shape) (e : Exp) (n : Node) → IsFormed t → IsTyped g n → Holds (conversion_node p t e n) (IsTyped g)
+  pub conversion_typed : (p : Place) (t : Shape) (e : Exp) (n : Node) → IsFormed t → IsTyped g n → HasOwnType n
+      → Holds (conversion_node p t e n) (IsTyped g)
   unfolding IsNode IsForm
-  conversion_typed p t e n formed h = if_holds _
-      (λ row. ok_holds (IsTyped g) (node p t (forms.convert n)) (record { typed = (h.typed, formed, row); formed = formed })) (λ none. err_holds _ _)
+  conversion_typed p t e n formed h own = if_holds _
+      (λ row. ok_holds (IsTyped g) (node p t (forms.convert n)) (record { typed = (h.typed, formed, row, own); formed = formed })) (λ none. err_holds _ _)
 
-  conversion_call_typed : (n : Ident) (t : Shape) (es : Exps) (ns : Nodes) → IsFormed t → AreTyped g es ns → Holds (conversion_call n t es ns) (IsTyped g)
-  conversion_call_typed n t end no_nodes formed h = err_holds _ _
-  conversion_call_typed n t end (with_node m ms) formed h = absurd h
-  conversion_call_typed n t (more e es) no_nodes formed h = absurd h
-  conversion_call_typed n t (more e end) (with_node m no_nodes) formed h = conversion_typed n.place t e m formed h.0
-  conversion_call_typed n t (more e end) (with_node m (with_node k ms)) formed h = absurd h.1
-  conversion_call_typed n t (more e (more d es)) (with_node m ms) formed h = bind_holds (known _) (λ x is. err_holds _ _)
+  conversion_call_typed : (n : Ident) (t : Shape) (es : Exps) (ns : Nodes) → IsFormed t → AreTyped g es ns → HaveOwnTypes ns
+      → Holds (conversion_call n t es ns) (IsTyped g)
+  conversion_call_typed n t end no_nodes formed h own = err_holds _ _
+  conversion_call_typed n t end (with_node m ms) formed h own = absurd h
+  conversion_call_typed n t (more e es) no_nodes formed h own = absurd h
+  conversion_call_typed n t (more e end) (with_node m no_nodes) formed h own = conversion_typed n.place t e m formed h.0 own.0
+  conversion_call_typed n t (more e end) (with_node m (with_node k ms)) formed h own = absurd h.1
+  conversion_call_typed n t (more e (more d es)) (with_node m ms) formed h own = bind_holds (known _) (λ x is. err_holds _ _)
 
   -- a call has the type that it gives
-  pub call_typed : (n : Ident) (c : Callee) (es : Exps) (ns : Nodes) → CalleeFits c → AreTyped g es ns → Holds (made_call g.may_emit n c es ns) (IsTyped g)
-  call_typed n (declared k s) es ns c h = declared_typed n k s es ns c h
-  call_typed n (predeclared b) es ns c h = predeclared_typed n b es ns h
-  call_typed n (conversion t) es ns c h = conversion_call_typed n t es ns c h
-
-  -- a call is one, whatever is called
-  pub call_made : (n : Ident) (c : Callee) (es : Exps) (ns : Nodes) → Holds (made_call g.may_emit n c es ns) IsCall
-  call_made n (declared k s) es ns = bind_holds (known (agree (in_turn s.parameters) es ns)) (λ u same.
-      bind_holds (counted_holds _ es n.place) (λ v count. bind_holds (unless_holds (not s.emits || g.may_emit) _) (λ w may.
-      ok_holds IsCall (node n.place s.result (forms.call k ns)) tt)))
-  call_made n (predeclared b) es ns =
-      let given : Judged Node = by_option (wrong_count n.place) (λ t. good (node n.place t (forms.builtin b ns))) (builtin_row b (types_of ns)) in
-      bind_holds {f = λ u. counted (arity b) es n.place >>= (λ v. given)} (known (arguments_fit b es ns)) (λ u fit.
-      bind_holds {f = λ v. given} (known (counted (arity b) es n.place)) (λ v count.
-      option_holds _ (λ none. err_holds _ _) (λ t row. ok_holds IsCall (node n.place t (forms.builtin b ns)) tt)))
-  call_made n (conversion t) es ns = conversion_made es ns
-    where
-      conversion_made : (es : Exps) (ns : Nodes) → Holds (conversion_call n t es ns) IsCall
-      conversion_made end ns = err_holds _ _
-      conversion_made (more e end) no_nodes = err_holds _ _
-      conversion_made (more e end) (with_node m no_nodes) = if_holds _ (λ row. ok_holds IsCall (node n.place t (forms.convert m)) tt) (λ none. err_holds _ _)
-      conversion_made (more e end) (with_node m (with_node k ms)) = bind_holds (known _) (λ x is. err_holds _ _)
-      conversion_made (more e (more d es)) no_nodes = err_holds _ _
-      conversion_made (more e (more d es)) (with_node m ms) = bind_holds (known _) (λ x is. err_holds _ _)
+  pub call_typed : (n : Ident) (c : Callee) (es : Exps) (ns : Nodes) → CalleeFits c → AreTyped g es ns → ArgumentsOwn c ns
+      → Holds (made_call g.may_emit n c es ns) (IsTyped g)
+  call_typed n (declared k s) es ns c h own = declared_typed n k s es ns c h
+  call_typed n (predeclared b) es ns c h own = predeclared_typed n b es ns h own
+  call_typed n (conversion t) es ns c h own = conversion_call_typed n t es ns c h own
 
   tuple_typed : (p : Place) (t : Shape) (fields : FieldShapes) (es : Exps) (ns : Nodes) → HasFields t fields → IsFormed t → AreTyped g es ns
       → Holds (made_tuple p t fields es ns) (IsTyped g)
   unfolding IsNode IsForm
   tuple_typed p t fs end ns has formed h = err_holds _ _
-  tuple_typed p t fs (more e es) ns has formed h = bind_holds (agree_in_turn g _ (more e es) ns h) (λ u types.
+  tuple_typed p t fs (more e es) no_nodes has formed h = absurd h
+  tuple_typed p t fs (more e es) (with_node n ns) has formed h = bind_holds (agree_in_turn g _ (more e es) (with_node n ns) h) (λ u types.
       bind_holds (counted_holds _ (more e es) p) (λ v count.
-      ok_holds (IsTyped g) (node p t (forms.tuple ns)) (record {
-        typed = (all_nodes g (more e es) ns h, formed, (fs, has, types count));
+      ok_holds (IsTyped g) (node p t (forms.tuple (with_node n ns))) (record {
+        typed = (all_nodes g (more e es) (with_node n ns) h, formed, (fs, has, types count), tt);
         formed = formed;
       })))
 
@@ -196,13 +182,14 @@ module _ (g : Sight) where
   values_ask (Some _) h = tt
 
   -- an element has its type
-  pub index_typed : (p : Place) (e i : Exp) (n m : Node) → IsTyped g n → IsTyped g m → Holds (made_index p e i n m) (IsTyped g)
+  pub index_typed : (p : Place) (e i : Exp) (n m : Node) → IsTyped g n → IsTyped g m → HasOwnType n → HasOwnType m
+      → Holds (made_index p e i n m) (IsTyped g)
   unfolding IsNode IsForm
-  index_typed p e i n m h k =
+  index_typed p e i n m h k first second =
       bind_holds {f = λ u. by_option (wrong_type (place_of i)) (λ t. good (node p t (forms.index n m))) (index_row (type_of n) (type_of m))}
       (unless_holds _ _) (λ u has. option_holds _ (λ none. err_holds _ _) (λ t row.
       ok_holds (IsTyped g) (node p t (forms.index n m)) (record {
-        typed = (h.typed, k.typed, row);
+        typed = (h.typed, k.typed, row, first, second);
         formed = some_has IsFormed (index_formed (type_of n) (type_of m) h.formed) row;
       })))
 
@@ -214,11 +201,12 @@ module _ (g : Sight) where
   test_holds e n = weaker (unless_holds _ _) (λ u same. alike_equal (type_of n) Shape.truth same)
 
   -- a slice has the type of what it is cut from
-  pub slice_typed : (p : Place) (e i j : Exp) (n m o : Node) → IsTyped g n → IsTyped g m → IsTyped g o → Holds (made_slice p e i j n m o) (IsTyped g)
+  pub slice_typed : (p : Place) (e i j : Exp) (n m o : Node) → IsTyped g n → IsTyped g m → IsTyped g o → HasOwnType n
+      → Holds (made_slice p e i j n m o) (IsTyped g)
   unfolding IsNode IsForm
-  slice_typed p e i j n m o h k l = bind_holds (unless_holds _ _) (λ u row. bind_holds (whole_holds i m) (λ v first. bind_holds (whole_holds j o) (λ w second.
+  slice_typed p e i j n m o h k l own = bind_holds (unless_holds _ _) (λ u row. bind_holds (whole_holds i m) (λ v first. bind_holds (whole_holds j o) (λ w second.
       ok_holds (IsTyped g) (node p (type_of n) (forms.slice n m o)) (record {
-        typed = (h.typed, k.typed, l.typed, slice_same (type_of n) row, first, second);
+        typed = (h.typed, k.typed, l.typed, slice_same (type_of n) row, first, second, own);
         formed = h.formed;
       }))))
 
@@ -235,10 +223,13 @@ module _ (g : Sight) where
       })))
 
   -- a field has its type
-  pub field_typed : (p : Place) (e : Exp) (n : Node) (f : Ident) → IsTyped g n → Holds (made_field p e n f) (IsTyped g)
+  pub field_typed : (p : Place) (e : Exp) (n : Node) (f : Ident) → IsTyped g n → HasOwnType n → Holds (made_field p e n f) (IsTyped g)
   unfolding IsNode IsForm
-  field_typed p e n f h = bind_holds (part_found (place_of e) (type_of n) f h.formed) (λ x part.
-      ok_holds (IsTyped g) (node p x.type (forms.field n x.place)) (record { typed = (h.typed, (part.fields, part.has, part.here)); formed = part.formed }))
+  field_typed p e n f h own = bind_holds (part_found (place_of e) (type_of n) f h.formed) (λ x part.
+      ok_holds (IsTyped g) (node p x.type (forms.field n x.place)) (record {
+        typed = (h.typed, (part.fields, part.has, part.here), own);
+        formed = part.formed;
+      }))
 
   -- what an operator gives has the type of its row
   pub unary_typed : (p : Place) (o : UnaryOp) (e : Exp) (n : Node) → IsTyped g n → Holds (made_unary p o e n) (IsTyped g)
@@ -248,24 +239,26 @@ module _ (g : Sight) where
     formed = some_has IsFormed (unary_formed (unary_of o) (type_of n)) row;
   }))
 
-  operator_typed : (p : Place) (o : BinOp) (l r : Exp) (n m : Node) → IsTyped g n → IsTyped g m → Holds (made_operator p o l r n m) (IsTyped g)
+  operator_typed : (p : Place) (o : BinOp) (l r : Exp) (n m : Node) → IsTyped g n → IsTyped g m → HasOwnType n
+      → Holds (made_operator p o l r n m) (IsTyped g)
   unfolding IsNode IsForm
-  operator_typed p o l r n m h k =
+  operator_typed p o l r n m h k own =
       bind_holds {f = λ u. by_option (wrong_type (place_of r)) (λ t. good (node p t (forms.binary o n m))) (binary_row o (type_of n) (type_of m))}
       (unless_holds _ _) (λ u takes. option_holds _ (λ none. err_holds _ _) (λ t row.
       ok_holds (IsTyped g) (node p t (forms.binary o n m)) (record {
-        typed = (h.typed, k.typed, row);
+        typed = (h.typed, k.typed, row, own);
         formed = some_has IsFormed (binary_formed o (type_of n) (type_of m) h.formed) row;
       })))
 
   -- the same of two operands
-  pub binary_typed : (p : Place) (o : Operation) (l r : Exp) (n m : Node) → IsTyped g n → IsTyped g m → Holds (made_binary p o l r n m) (IsTyped g)
+  pub binary_typed : (p : Place) (o : Operation) (l r : Exp) (n m : Node) → IsTyped g n → IsTyped g m → HasOwnType n
+      → Holds (made_binary p o l r n m) (IsTyped g)
   unfolding IsNode IsForm is_well_formed
-  binary_typed p both l r n m h k = bind_holds (test_holds l n) (λ u first. bind_holds (test_holds r m) (λ v second.
+  binary_typed p both l r n m h k own = bind_holds (test_holds l n) (λ u first. bind_holds (test_holds r m) (λ v second.
       ok_holds (IsTyped g) (node p Shape.truth (forms.both n m)) (record { typed = (h.typed, k.typed, first, second, refl); formed = refl })))
-  binary_typed p either l r n m h k = bind_holds (test_holds l n) (λ u first. bind_holds (test_holds r m) (λ v second.
+  binary_typed p either l r n m h k own = bind_holds (test_holds l n) (λ u first. bind_holds (test_holds r m) (λ v second.
       ok_holds (IsTyped g) (node p Shape.truth (forms.either n m)) (record { typed = (h.typed, k.typed, first, second, refl); formed = refl })))
-  binary_typed p (of o) l r n m h k = operator_typed p o l r n m h k
+  binary_typed p (of o) l r n m h k own = operator_typed p o l r n m h k own
 
   pub right_asks : (o : Operation) (t : Shape) → IsFormed t → IfSome (asked_of_right o t) IsFormed
   right_asks both t h = tt

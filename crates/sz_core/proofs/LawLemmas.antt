@@ -1,13 +1,16 @@
 -- Laws of sound programs.
-use Rattle.std.proofs.Common.{◌≡◌, ◌≤◌, ◌+◌, ◌++◌, ℕ, List, [], ◌∷◌, length, Bool, true, false, ◌||◌, refl, arith, length-append, sym, ap, ◌∙◌}
-use Rattle.std.specs.Prelude.{Option, Some, slice_get}
+use Rattle.std.proofs.Common.{◌≡◌, ◌≤◌, ◌+◌, ◌++◌, ℕ, zero, suc, List, [], ◌∷◌, length, Bool, true, false, ◌||◌, true≢false, refl, arith, length-append, append_assoc, append-nil}
+use Rattle.std.proofs.Common.{sym, ap, subst, ◌∙◌}
+use Rattle.std.proofs.lemmas.List.Elements.{All-nil, All-cons}
+use Rattle.std.specs.List.{All}
+use Rattle.std.specs.Prelude.{Option, Some, is_some, slice_get}
 use Rattle.sz_types.specs.Data.{Shape}
 use Rattle.sz_core.specs.Nodes.{Node, node, Form, constant, local, static, input, call, builtin, def, convert, array, tuple, mapping, index, slice, field}
 use Rattle.sz_core.specs.Nodes.{unary, binary, both, either, Nodes, no_nodes, with_node, Pairings, no_pairings, with_pairing}
-use Rattle.sz_core.specs.Programs.{Signature, Function, Static, Item, Core, tables_of, core_of}
+use Rattle.sz_core.specs.Programs.{Signature, Function, Static, Item, Core, tables_of, statics_of, core_of}
 use Rattle.sz_core.specs.Programs as items
 use Rattle.sz_core.specs.Emitting.{node_emits, form_emits, nodes_emit, pairings_emit, is_emitting}
-use Rattle.sz_core.specs.Sound.{IsSound, AreItems, Declared, nothing_declared, seen_behind, record_sight, IsStatic, static_sight}
+use Rattle.sz_core.specs.Sound.{IsSound, AreItems, Declared, declared_by, nothing_declared, seen_behind, record_sight, IsStatic, static_sight, BeginsWith}
 use Rattle.sz_core.specs.Typing.{Sight, IsNode, IsForm, AreNodes, ArePairings}
 
 pub empty_is_sound : IsSound (core_of [] [])
@@ -35,6 +38,58 @@ at_most_64_tables program sound =
     let few = tables_are_few program.locals [] nothing_declared program.items (omega arith) sound.items in
     omega (arith, few)
 
+-- what two lists of items declare, one behind the other
+abbrev both_declared : Declared → Declared → Declared
+both_declared d e = record { statics = d.statics ++ e.statics; functions = d.functions ++ e.functions; tables = d.tables ++ e.tables }
+
+-- the items behind a front are sound behind what is declared before them
+front_declares : (locals : List Shape) (seen : List ℕ) (d : Declared) (front rest : List Item) → AreItems locals seen d (front ++ rest)
+    → (behind : List ℕ) × AreItems locals behind (both_declared d (declared_by front)) rest
+unfolding AreItems
+front_declares locals seen d [] rest sound =
+    let same : d ≡ both_declared d nothing_declared =
+        λ i. record { statics = sym (append-nil d.statics) i; functions = sym (append-nil d.functions) i; tables = sym (append-nil d.tables) i } in
+    (seen, subst (λ e. AreItems locals seen e rest) same sound)
+front_declares locals seen d (items.table t ∷ front) rest sound =
+    let h = front_declares locals seen (record d { tables = d.tables ++ t ∷ [] }) front rest sound.1 in
+    let e = declared_by front in
+    (h.0, subst (λ ts. AreItems locals h.0 (record { statics = d.statics ++ e.statics; functions = d.functions ++ e.functions; tables = ts }) rest)
+      (append_assoc d.tables (t ∷ []) e.tables) h.1)
+front_declares locals seen d (items.function f ∷ front) rest sound =
+    let h = front_declares locals seen (record d { functions = d.functions ++ f.signature ∷ [] }) front rest sound.1 in
+    let e = declared_by front in
+    (h.0, subst (λ fs. AreItems locals h.0 (record { statics = d.statics ++ e.statics; functions = fs; tables = d.tables ++ e.tables }) rest)
+      (append_assoc d.functions (f.signature ∷ []) e.functions) h.1)
+front_declares locals seen d (items.static s ∷ front) rest sound =
+    let h = front_declares locals seen (record d { statics = d.statics ++ s.type ∷ [] }) front rest sound.1 in
+    let e = declared_by front in
+    (h.0, subst (λ ss. AreItems locals h.0 (record { statics = ss; functions = d.functions ++ e.functions; tables = d.tables ++ e.tables }) rest)
+      (append_assoc d.statics (s.type ∷ []) e.statics) h.1)
+front_declares locals seen d (items.statement s ∷ front) rest sound =
+    front_declares locals (seen_behind (record_sight locals seen d) s).seen d front rest sound.1
+
+pub sound_behind_front : (program : Core) (front rest : List Item) → IsSound program → program.items ≡ front ++ rest
+    → (seen : List ℕ) × AreItems program.locals seen (declared_by front) rest
+sound_behind_front program front rest sound is =
+    front_declares program.locals [] nothing_declared front rest (subst (λ xs. AreItems program.locals [] nothing_declared xs) is sound.items)
+
+-- what more items declare
+pub declared_more : (front rest : List Item) → declared_by (front ++ rest) ≡ both_declared (declared_by front) (declared_by rest)
+declared_more [] rest = refl
+declared_more (items.table t ∷ front) rest = ap (λ d. both_declared (declared_by (items.table t ∷ [])) d) (declared_more front rest)
+declared_more (items.function f ∷ front) rest = ap (λ d. both_declared (declared_by (items.function f ∷ [])) d) (declared_more front rest)
+declared_more (items.static s ∷ front) rest = ap (λ d. both_declared (declared_by (items.static s ∷ [])) d) (declared_more front rest)
+declared_more (items.statement s ∷ front) rest = declared_more front rest
+
+pub statics_before : (front rest : List Item) → BeginsWith (declared_by front).statics (declared_by (front ++ rest)).statics
+statics_before front rest = ((declared_by rest).statics, ap (λ d. d.statics) (declared_more front rest))
+
+pub functions_before : (front rest : List Item) → BeginsWith (declared_by front).functions (declared_by (front ++ rest)).functions
+functions_before front rest = ((declared_by rest).functions, ap (λ d. d.functions) (declared_more front rest))
+
+pub tables_before : (front rest : List Item) → BeginsWith (declared_by front).tables (declared_by (front ++ rest)).tables
+tables_before front rest = ((declared_by rest).tables, ap (λ d. d.tables) (declared_more front rest))
+
 -- neither emits
 neither : {a b : Bool} → a ≡ false → b ≡ false → (a || b) ≡ false
 neither p q = λ i. p i || q i
@@ -47,20 +102,24 @@ call_is_quiet s x is quiet = ap is_emitting is ∙ not_true x.emits quiet
     not_true true h = sym (h refl)
     not_true false h = refl
 
-module _ (g : Sight) (quiet : g.may_emit ≡ false) where
+-- among the functions are those that are seen
+abbrev HasSeen : Sight → List Signature → Type 0
+HasSeen g fs = (n : ℕ) (s : Signature) → slice_get g.functions n ≡ Some s → slice_get fs n ≡ Some s
+
+module _ (g : Sight) (fs : List Signature) (quiet : g.may_emit ≡ false) (has : HasSeen g fs) where
   mutual
     unfolding IsNode IsForm AreNodes ArePairings node_emits form_emits nodes_emit pairings_emit
 
-    node_is_quiet : (e : Node) → IsNode g e → node_emits g.functions e ≡ false
+    node_is_quiet : (e : Node) → IsNode g e → node_emits fs e ≡ false
     node_is_quiet (node p t f) h = form_is_quiet t f h
 
-    form_is_quiet : (t : Shape) (f : Form) → IsForm g t f → form_emits g.functions f ≡ false
+    form_is_quiet : (t : Shape) (f : Form) → IsForm g t f → form_emits fs f ≡ false
     form_is_quiet t (constant d) h = refl
     form_is_quiet t (local n) h = refl
     form_is_quiet t (static n) h = refl
     form_is_quiet t input h = refl
     form_is_quiet t (call f es) h = neither
-        (call_is_quiet (slice_get g.functions f) h.1.0 h.1.1 (λ emits. sym quiet ∙ h.1.4 emits)) (nodes_are_quiet es h.0)
+        (call_is_quiet (slice_get fs f) h.1.0 (has f h.1.0 h.1.1) (λ emits. sym quiet ∙ h.1.4 emits)) (nodes_are_quiet es h.0)
     form_is_quiet t (builtin b es) h = nodes_are_quiet es h.0
     form_is_quiet t (def e) h = node_is_quiet e h.0
     form_is_quiet t (convert e) h = node_is_quiet e h.0
@@ -75,14 +134,43 @@ module _ (g : Sight) (quiet : g.may_emit ≡ false) where
     form_is_quiet t (both a b) h = neither (node_is_quiet a h.0) (node_is_quiet b h.1)
     form_is_quiet t (either a b) h = neither (node_is_quiet a h.0) (node_is_quiet b h.1)
 
-    nodes_are_quiet : (es : Nodes) → AreNodes g es → nodes_emit g.functions es ≡ false
+    nodes_are_quiet : (es : Nodes) → AreNodes g es → nodes_emit fs es ≡ false
     nodes_are_quiet no_nodes h = refl
     nodes_are_quiet (with_node e es) h = neither (node_is_quiet e h.0) (nodes_are_quiet es h.1)
 
-    pairings_are_quiet : (k v : Shape) (ps : Pairings) → ArePairings g k v ps → pairings_emit g.functions ps ≡ false
+    pairings_are_quiet : (k v : Shape) (ps : Pairings) → ArePairings g k v ps → pairings_emit fs ps ≡ false
     pairings_are_quiet k v no_pairings h = refl
     pairings_are_quiet k v (with_pairing a b ps) h =
         neither (neither (node_is_quiet a h.0) (node_is_quiet b h.1)) (pairings_are_quiet k v ps h.4)
 
-pub statics_are_quiet : (d : Declared) (s : Static) → IsStatic d s → node_emits d.functions s.value ≡ false
-statics_are_quiet d s sound = node_is_quiet (static_sight d) refl s.value sound.value
+-- what is in a front is in the whole
+get_in_front : (front rest : List Signature) (n : ℕ) (s : Signature) → slice_get front n ≡ Some s → slice_get (front ++ rest) n ≡ Some s
+get_in_front [] rest n s h = absurd (let some = ap is_some h in true≢false (sym some))
+get_in_front (f ∷ front) rest zero s h = h
+get_in_front (f ∷ front) rest (suc n) s h = get_in_front front rest n s h
+
+-- a static's value emits nothing, among the functions before it and any behind it
+static_is_quiet : (d : Declared) (rest : List Signature) (s : Static) → IsStatic d s → node_emits (d.functions ++ rest) s.value ≡ false
+static_is_quiet d rest s sound =
+    node_is_quiet (static_sight d) (d.functions ++ rest) refl (get_in_front d.functions rest) s.value sound.value
+
+-- each static's value emits nothing, among these functions
+abbrev AreQuiet : List Signature → List Static → Type 0
+AreQuiet fs ss = All (λ (s : Static). node_emits fs s.value ≡ false) ss
+
+quiet_items : (locals : List Shape) (seen : List ℕ) (d : Declared) (rest : List Item) → AreItems locals seen d rest
+    → AreQuiet (d.functions ++ (declared_by rest).functions) (statics_of rest)
+unfolding AreItems
+quiet_items locals seen d [] sound = All-nil (λ (s : Static). node_emits (d.functions ++ []) s.value ≡ false)
+quiet_items locals seen d (items.table t ∷ rest) sound = quiet_items locals seen (record d { tables = d.tables ++ t ∷ [] }) rest sound.1
+quiet_items locals seen d (items.function f ∷ rest) sound =
+    subst (λ fs. AreQuiet fs (statics_of rest)) (append_assoc d.functions (f.signature ∷ []) (declared_by rest).functions)
+    (quiet_items locals seen (record d { functions = d.functions ++ f.signature ∷ [] }) rest sound.1)
+quiet_items locals seen d (items.static s ∷ rest) sound =
+    let fs = (declared_by rest).functions in
+    All-cons (λ (x : Static). node_emits (d.functions ++ fs) x.value ≡ false) s (statics_of rest) (static_is_quiet d fs s sound.0)
+    (quiet_items locals seen (record d { statics = d.statics ++ s.type ∷ [] }) rest sound.1)
+quiet_items locals seen d (items.statement s ∷ rest) sound = quiet_items locals (seen_behind (record_sight locals seen d) s).seen d rest sound.1
+
+pub statics_are_quiet : (program : Core) → IsSound program → AreQuiet (declared_by program.items).functions (statics_of program.items)
+statics_are_quiet program sound = quiet_items program.locals [] nothing_declared program.items sound.items

@@ -1,23 +1,23 @@
 -- Which checked programs are sound: each name is seen where it stands, each expression has its type, and no rule of
 -- statements and declarations is broken.
-use Rattle.std.specs.Prelude.{◌≡◌, ℕ, zero, suc, ◌<◌, List, [], ◌∷◌, ◌++◌, length, slice_get, Bool, true, false, Option, Some, None, IfSome}
+use Rattle.std.specs.Prelude.{◌≡◌, ℕ, zero, suc, ◌<◌, List, [], ◌∷◌, ◌++◌, length, map, slice_get, Bool, true, false, Option, Some, None, IfSome}
 use Rattle.std.specs.List.{Contains}
 use Rattle.sz_types.specs.Data.{Shape}
 use Rattle.sz_types.specs.Tables.{Declaration}
 use Rattle.sz_core.specs.Nodes.{Node, type_of, types_of}
 use Rattle.sz_core.specs.Statements.{Step, at_index, at_field, Stm, block, clear, keep, store, evaluate, branch, while, do_while, for_loop, break, continue}
 use Rattle.sz_core.specs.Statements.{return_value, end_record, emit, Stms, no_stms, with_stm}
-use Rattle.sz_core.specs.Programs.{Signature, Function, Static, Item, Core}
+use Rattle.sz_core.specs.Programs.{Signature, Function, Static, Item, Core, tables_of, functions_of, statics_of}
 use Rattle.sz_core.specs.Programs as items
 use Rattle.sz_core.specs.Emitting.{body_emits}
 use Rattle.sz_core.specs.WellFormed.{is_well_formed, are_well_formed, is_allowed}
-use Rattle.sz_core.specs.Typing.{Sight, field_types, IsNode, AreNodes, IsCall}
+use Rattle.sz_core.specs.Typing.{Sight, field_types, HasOwnType, IsNode, AreNodes, IsCall}
 
 -- the steps lead from a value of the first type to one of the second; no step leads into a string or a byte string
 unfoldable pub LeadTo : Sight → Shape → List Step → Shape → Type 0
 LeadTo g t [] u = u ≡ t
 LeadTo g (Shape.array t) (at_index e ∷ steps) u = IsNode g e × (type_of e ≡ Shape.int) × LeadTo g t steps u
-LeadTo g (Shape.mapping k v) (at_index e ∷ steps) u = IsNode g e × (type_of e ≡ k) × LeadTo g v steps u
+LeadTo g (Shape.mapping k v) (at_index e ∷ steps) u = IsNode g e × (type_of e ≡ k) × HasOwnType e × LeadTo g v steps u
 LeadTo g (Shape.tuple fields) (at_field n ∷ steps) u = (t : Shape) × (slice_get (field_types fields) n ≡ Some t) × LeadTo g t steps u
 LeadTo g (Shape.proto fields) (at_field n ∷ steps) u = (t : Shape) × (slice_get (field_types fields) n ≡ Some t) × LeadTo g t steps u
 LeadTo g t (step ∷ steps) u = ⊥
@@ -95,6 +95,14 @@ pub record Declared : Type 0 where
   pub functions : List Signature
   pub tables : List Declaration
 
+-- what these items declare
+abbrev pub declared_by : List Item → Declared
+declared_by items = record {
+  statics = map (λ (s : Static). s.type) (statics_of items);
+  functions = map (λ (f : Function). f.signature) (functions_of items);
+  tables = tables_of items;
+}
+
 -- what a static's value sees: statics and functions, and no function that emits may be called
 abbrev pub static_sight : Declared → Sight
 static_sight d = record {
@@ -119,9 +127,9 @@ function_sight d f = record {
   may_emit = true;
 }
 
--- the parameters are the first variables
-abbrev pub BeginsWith : List Shape → List Shape → Type 0
-BeginsWith front whole = (rest : List Shape) × (whole ≡ front ++ rest)
+-- the list begins with these, as the variables of a function do with its parameters
+abbrev pub BeginsWith : {A : Type 0} → List A → List A → Type 0
+BeginsWith {A} front whole = (rest : List A) × (whole ≡ front ++ rest)
 
 -- the function is sound
 pub record IsFunction (d : Declared) (f : Function) : Type 0 where

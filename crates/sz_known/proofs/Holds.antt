@@ -1,7 +1,8 @@
 -- What holds of what a judgement gives, where nothing was refused.
 use Rattle.std.proofs.Common.{◌≡◌, Bool, true, false, refl, subst}
-use Rattle.std.specs.Prelude.{Ok, Err, Option, Some, None, IfSome, if◌then◌else◌}
+use Rattle.std.specs.Prelude.{Ok, Err, Option, Some, None, if◌then◌else◌}
 use Rattle.sz_known.specs.Refusals.{Refusal, Judged, ◌>>=◌, unless}
+pub use Rattle.sz_core.proofs.ForCallers.{some_has}
 
 -- P holds of what the judgement gives, if nothing is refused
 pub record Holds {A : Type 0} (m : Judged A) (P : A → Type 0) : Type 0 where
@@ -64,7 +65,3 @@ pub option_holds : {X A : Type 0} {r : Judged A} {k : X → Judged A} {P : A →
     → (o ≡ None → Holds r P) → ((x : X) → o ≡ Some x → Holds (k x) P) → Holds (by_option r k o) P
 option_holds None h g = h refl
 option_holds (Some x) h g = g x refl
-
--- what is known of what is there
-pub some_has : {A : Type 0} (P : A → Type 0) {o : Option A} {x : A} → IfSome o P → o ≡ Some x → P x
-some_has P h e = subst (λ o. IfSome o P) e h

@@ -5,17 +5,10 @@ use Rattle.std.specs.List.{Contains}
 use Rattle.sz_types.specs.Data.{Shape}
 use Rattle.sz_types.specs.Tables.{Declaration}
 use Rattle.sz_core.specs.Programs.{Signature}
-use Rattle.sz_core.specs.WellFormed.{is_well_formed, are_well_formed}
 use Rattle.sz_core.specs.Typing.{Sight}
+pub use Rattle.sz_core.proofs.ForCallers.{IsFormed, AreFormed}
 use Rattle.sz_known.specs.Names.{Block, Meaning, variable, static, type_name, table, function, predeclared, input}
 use Rattle.sz_known.proofs.Meanings.{Mean, all_follow}
-
--- the type is well formed, and each type is
-abbrev pub IsFormed : Shape → Type 0
-IsFormed t = is_well_formed t ≡ true
-
-abbrev pub AreFormed : List Shape → Type 0
-AreFormed ts = are_well_formed ts ≡ true
 
 -- a function with this number is seen, which is called with these types; where no function that emits may be called, it is
 -- known that this one doesn't; and outside functions, where the record is seen, it is known whether it does

@@ -1,0 +1,17 @@
+//! Laws of the definitions, each a function that does nothing and whose contract is the law.
+ghost use Rattle.std.specs.Prelude.{◌≡◌, ◌↔◌, IsTrue, Some};
+ghost use Rattle.sz_types.specs.Data.{Shape};
+ghost use Rattle.sz_types.specs.Rows.{binary_row, index_row, haskey_row, strfind_row};
+ghost use Rattle.sz_types.specs.declared.operator.BinOp.{BinOp};
+ghost use Rattle.sz_check_expr.specs.Agreeing.{is_map, is_searched_for};
+ghost use Rattle.sz_check_expr.specs.JudgingParts.{has_index};
+ghost use Rattle.sz_check_expr.specs.JudgingOperators.{takes_left};
+
+/// Which of two operands is blamed is decided by the table of types alone: a left type is taken exactly where it has a row
+/// with some right type. So it is with what is indexed, and with the first argument of a predeclared function of two.
+pub fn first_types_are_those_of_the_rows()
+    ensures operators { (o : BinOp) (s : Shape) → IsTrue (takes_left o s) ↔ ((t u : Shape) × (binary_row o s t ≡ Some u)) }
+    ensures indexes { (s : Shape) → IsTrue (has_index s) ↔ ((t u : Shape) × (index_row s t ≡ Some u)) }
+    ensures maps { (s : Shape) → IsTrue (is_map s) ↔ ((t u : Shape) × (haskey_row s t ≡ Some u)) }
+    ensures texts { (s : Shape) → IsTrue (is_searched_for s) ↔ ((t u : Shape) × (strfind_row s t ≡ Some u)) }
+{}
