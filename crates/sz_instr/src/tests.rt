@@ -131,6 +131,11 @@ fn lists_hold_what_they_are_given(rt: HostRuntime) -> Result<(), Fail> {
     assert_eq!(rt; lines.get(0).charge, 2);
     assert_eq!(rt; lines.as_slice().len(), 1);
     assert_eq!(rt; lines.into_vec().len(), 1);
+    let steps = path(alloc)?;
+    assert_eq!(rt; steps.len(), 2);
+    assert!(rt; !steps.is_empty());
+    let taken = Steps::from_vec(vec![in alloc; Step::Index]?);
+    assert_eq!(rt; taken.as_slice().len(), 1);
     let mut routines = Routines::new(alloc);
     assert!(rt; routines.is_empty());
     routines.push(routine(5, 1, 2))?;
@@ -138,6 +143,14 @@ fn lists_hold_what_they_are_given(rt: HostRuntime) -> Result<(), Fail> {
     assert_eq!(rt; routines.as_slice().len(), 1);
     assert_eq!(rt; Routines::from_vec(routines.into_vec()).len(), 1);
     Ok(())
+}
+
+// A path of two steps, whose indexes and parts are no numbers of the code's own.
+fn path(alloc: Global) -> Result<Steps, NoMemory> {
+    let mut steps = Steps::new(alloc);
+    steps.push(Step::Index)?;
+    steps.push(Step::Field(9))?;
+    Ok(steps)
 }
 
 // Whether code of two lines, the second with this instruction, is well formed with these routines: a function, a static, and that
@@ -192,6 +205,7 @@ fn numbers_are_in_range_up_to_the_last(rt: HostRuntime) -> Result<(), Fail> {
         Instr::Keep(2),
         Instr::KeepStatic(0),
         Instr::Clear(2),
+        Instr::Store(2, path(rt.alloc())?),
         Instr::Unary(UnOp::Not),
         Instr::Binary(BinOp::Add),
         Instr::Apply(Builtin::Len),
@@ -205,15 +219,24 @@ fn numbers_are_in_range_up_to_the_last(rt: HostRuntime) -> Result<(), Fail> {
         Instr::Def,
         Instr::Tick,
         Instr::Jump(1),
+        Instr::Test(1),
         Instr::AndTest(1),
         Instr::OrTest(1),
+        Instr::Call(0),
+        Instr::Return,
         Instr::EndRecord,
+        Instr::Discard,
         Instr::Emit(0, 9, true),
+        Instr::Enter(true),
+        Instr::Next(2, 1),
+        Instr::Leave,
+        Instr::Meets(1),
+        Instr::Fails(1),
     ] {
         assert!(rt; is_instr_in_range(rt.alloc(), instr)?, "at {count}");
         count = count.saturating_add(1);
     }
-    assert_eq!(rt; count, 24);
+    assert_eq!(rt; count, 34);
     Ok(())
 }
 
@@ -227,16 +250,23 @@ fn numbers_behind_the_last_are_out_of_range(rt: HostRuntime) -> Result<(), Fail>
         Instr::Keep(3),
         Instr::KeepStatic(1),
         Instr::Clear(3),
+        Instr::Store(3, path(rt.alloc())?),
         Instr::Convert(1),
         Instr::Jump(2),
+        Instr::Test(2),
         Instr::AndTest(2),
         Instr::OrTest(2),
+        Instr::Call(1),
         Instr::Emit(1, 0, false),
+        Instr::Next(3, 1),
+        Instr::Next(2, 2),
+        Instr::Meets(2),
+        Instr::Fails(2),
     ] {
         assert!(rt; !is_instr_in_range(rt.alloc(), instr)?, "at {count}");
         count = count.saturating_add(1);
     }
-    assert_eq!(rt; count, 11);
+    assert_eq!(rt; count, 18);
     Ok(())
 }
 
