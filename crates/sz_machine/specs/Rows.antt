@@ -1,5 +1,6 @@
 -- What each instruction does, its charge being taken.
-use Rattle.std.specs.Prelude.{ℕ, suc, ◌+◌, ◌*◌, List, [], ◌∷◌, map, take, drop, length, nat_lt, if◌then◌else◌, slice_get, slice_set, Bool, true, false, Option, Some, None}
+use Rattle.std.specs.Prelude.{ℕ, suc, ◌+◌, ◌*◌, nat_lt, if◌then◌else◌, Bool, true, false, Option, Some, None}
+use Rattle.std.specs.Prelude.{List, [], ◌∷◌, map, drop, length, slice_get, slice_set}
 use Rattle.sz_types.specs.Data.{Shape}
 use Rattle.sz_types.specs.declared.place.Place.{Place}
 use Rattle.sz_value.specs.Data.{Datum, truth}
@@ -13,7 +14,8 @@ use Rattle.sz_instr.specs.declared.routine.Routine.{Routine}
 use Rattle.sz_instr.specs.declared.code.Code.{Code}
 use Rattle.sz_world.specs.World.{undefined_used, store_outside, calls_too_deep, most_open_calls}
 use Rattle.sz_world.specs.Slots.{Slot, slot_at, all_defined, fresh}
-use Rattle.sz_world.specs.Operations.{unary_of, binary_of, arity, applied, plainly_converted, array_of, tuple_of, map_of, element_of, slice_of, part_of, definedness}
+use Rattle.sz_world.specs.Operations.{unary_of, binary_of, arity, applied, plainly_converted, array_of, tuple_of, map_of}
+use Rattle.sz_world.specs.Operations.{element_of, slice_of, part_of, definedness}
 use Rattle.sz_world.specs.Emits.{EmitParts, emit_of, with_emit}
 use Rattle.sz_world.specs.Candidates.{candidates}
 use Rattle.sz_world.specs.Stores.{by_index, by_field, Stored, Holds, Undefined, Outside, stored}

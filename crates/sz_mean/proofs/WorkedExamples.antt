@@ -15,7 +15,8 @@ use Rattle.sz_mean.specs.Statements.{exec}
 use Rattle.sz_mean.specs.Search.{Variable, some, exec_when}
 use Rattle.sz_mean.specs.Programs.{outer_setting, emits_given, mean}
 use Rattle.sz_mean.specs.Records.{Records, FaultedAt, mean_all}
-use Rattle.sz_mean.proofs.WorkedTrees.{at, variable, emits_sum, joins_texts, counts_down, counts_up, emits_if, stores_outside, calls_on, emits_without_weight, undefined_left, two_numbers, is_five, emits_place}
+use Rattle.sz_mean.proofs.WorkedTrees.{at, variable, emits_sum, joins_texts, counts_down, counts_up, emits_if, stores_outside, calls_on}
+use Rattle.sz_mean.proofs.WorkedTrees.{emits_without_weight, undefined_left, two_numbers, is_five, emits_place}
 
 module _ (decode : Decoding) where
   ends : Core → ℕ → List ℕ → Outcome (List EmitDatum)
@@ -108,7 +109,8 @@ module _ (decode : Decoding) where
   searches budget =
       let s = outer_setting decode [] [] None in
       let i : Variable = record { quantity = some; local = 1; slice = false; base = λ l. eval s l (variable (at 3 20) (Shape.array Shape.int) 0) } in
-      let all : Doing Ending = exec s two_numbers (undefined_slots 2) >>= λ ending. then_run ending (exec_when (at 3 1) (λ l. eval s l is_five) (exec s emits_place) (i ∷ [])) in
+      let whole = exec_when (at 3 1) (λ l. eval s l is_five) (exec s emits_place) (i ∷ []) in
+      let all : Doing Ending = exec s two_numbers (undefined_slots 2) >>= λ ending. then_run ending whole in
       emits_given (all (new_world budget))
 
   search_enough : searches 23 ≡ Done (of_number 1 ∷ [])

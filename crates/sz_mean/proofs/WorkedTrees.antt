@@ -39,7 +39,9 @@ emits_sum = core_of (sum_table ∷ statement (emit (at 2 1) 0 no_nodes (operated
 
 -- s: string = "ab" + "c";
 abbrev pub joins_texts : Core
-joins_texts = core_of (statement (keep (at 1 1) 0 (operated (at 1 13) Shape.str Add (text (at 1 13) (codes "ab")) (text (at 1 20) (codes "c")))) ∷ []) (Shape.str ∷ [])
+joins_texts = core_of
+    (statement (keep (at 1 1) 0 (operated (at 1 13) Shape.str Add (text (at 1 13) (codes "ab")) (text (at 1 20) (codes "c")))) ∷ [])
+    (Shape.str ∷ [])
 
 -- x: int = input;
 abbrev pub number_of_record : Stm
@@ -108,14 +110,17 @@ calls_on = core_of
 -- emit c <- 1 weight 1 / 0;
 abbrev pub emits_without_weight : Core
 emits_without_weight = core_of
-    (weighted_table ∷ statement (emit (at 2 1) 0 no_nodes (number (at 2 11) 1) (Some (operated (at 2 20) Shape.int Div (number (at 2 20) 1) (number (at 2 24) 0)))) ∷ []) []
+    (weighted_table
+    ∷ statement (emit (at 2 1) 0 no_nodes (number (at 2 11) 1)
+        (Some (operated (at 2 20) Shape.int Div (number (at 2 20) 1) (number (at 2 24) 0)))) ∷ []) []
 
 -- x: bool;
 -- y: bool = x && 1 == 1;
 abbrev pub undefined_left : Core
 undefined_left = core_of
     (statement (clear 0)
-    ∷ statement (keep (at 2 1) 1 (node (at 2 11) Shape.truth (both (variable (at 2 11) Shape.truth 0) (operated (at 2 16) Shape.truth Equal (number (at 2 16) 1) (number (at 2 21) 1))))) ∷ [])
+    ∷ statement (keep (at 2 1) 1 (node (at 2 11) Shape.truth (both (variable (at 2 11) Shape.truth 0)
+        (operated (at 2 16) Shape.truth Equal (number (at 2 16) 1) (number (at 2 21) 1))))) ∷ [])
     (Shape.truth ∷ Shape.truth ∷ [])
 
 -- a: array of int = {3, 5};
@@ -124,7 +129,9 @@ two_numbers = keep (at 2 1) 0 (node (at 2 19) (Shape.array Shape.int) (array (wi
 
 -- a[i] == 5
 abbrev pub is_five : Node
-is_five = operated (at 3 20) Shape.truth Equal (node (at 3 20) Shape.int (index (variable (at 3 20) (Shape.array Shape.int) 0) (variable (at 3 22) Shape.int 1))) (number (at 3 28) 5)
+is_five =
+    let element = node (at 3 20) Shape.int (index (variable (at 3 20) (Shape.array Shape.int) 0) (variable (at 3 22) Shape.int 1)) in
+    operated (at 3 20) Shape.truth Equal element (number (at 3 28) 5)
 
 -- emit c <- i;
 abbrev pub emits_place : Stm
