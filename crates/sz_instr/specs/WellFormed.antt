@@ -2,9 +2,10 @@
 use Rattle.std.specs.Prelude.{ℕ, List, [], ◌∷◌, ◌++◌, Bool, true, ◌&&◌, length, max, nat_lt, nat_le}
 use Rattle.std.specs.List.{list_all}
 use Rattle.sz_instr.specs.declared.instr.Instr.{Instr}
-use Rattle.sz_instr.specs.declared.instr.Instr.TheVariants.{Push, Local, Static, Input, Keep, KeepStatic, Clear, Unary, Binary, Apply}
+use Rattle.sz_instr.specs.declared.instr.Instr.TheVariants.{Push, Local, Static, Input, Keep, KeepStatic, Clear, Store, Unary, Binary, Apply}
 use Rattle.sz_instr.specs.declared.instr.Instr.TheVariants.{Convert, MakeArray, MakeTuple, MakeMap, Index, Slice, Field, Def, Tick}
-use Rattle.sz_instr.specs.declared.instr.Instr.TheVariants.{Jump, AndTest, OrTest, EndRecord, Emit}
+use Rattle.sz_instr.specs.declared.instr.Instr.TheVariants.{Jump, Test, AndTest, OrTest, Call, Return, EndRecord, Discard, Emit}
+use Rattle.sz_instr.specs.declared.instr.Instr.TheVariants.{Enter, Next, Leave, Meets, Fails}
 use Rattle.sz_instr.specs.declared.routine.Routine.{Routine}
 use Rattle.sz_instr.specs.declared.code.Code.{Code}
 
@@ -22,7 +23,7 @@ unfoldable pub most_locals : Code → ℕ
 most_locals code = most_of (routines_of code)
 
 -- whether each number of the instruction is in range: a place is that of a line, a local is one of some routine, and constants,
--- statics, types and tables are there. Counts of parts, and places of parts, are no numbers of the code's own.
+-- statics, types, functions and tables are there. Counts of parts, and places of parts, are no numbers of the code's own.
 abbrev pub is_in_range : Code → Instr → Bool
 is_in_range code (Push constant) = nat_lt constant (length code.constants)
 is_in_range code (Local n) = nat_lt n (most_locals code)
@@ -31,6 +32,7 @@ is_in_range code Input = true
 is_in_range code (Keep n) = nat_lt n (most_locals code)
 is_in_range code (KeepStatic n) = nat_lt n (length code.statics)
 is_in_range code (Clear n) = nat_lt n (most_locals code)
+is_in_range code (Store n path) = nat_lt n (most_locals code)
 is_in_range code (Unary op) = true
 is_in_range code (Binary op) = true
 is_in_range code (Apply builtin) = true
@@ -44,10 +46,19 @@ is_in_range code (Field part) = true
 is_in_range code Def = true
 is_in_range code Tick = true
 is_in_range code (Jump to) = nat_lt to (length code.lines)
+is_in_range code (Test to) = nat_lt to (length code.lines)
 is_in_range code (AndTest to) = nat_lt to (length code.lines)
 is_in_range code (OrTest to) = nat_lt to (length code.lines)
+is_in_range code (Call function) = nat_lt function (length code.functions)
+is_in_range code Return = true
 is_in_range code EndRecord = true
+is_in_range code Discard = true
 is_in_range code (Emit table indexes weighted) = nat_lt table (length code.tables)
+is_in_range code (Enter slice) = true
+is_in_range code (Next n to) = nat_lt n (most_locals code) && nat_lt to (length code.lines)
+is_in_range code Leave = true
+is_in_range code (Meets to) = nat_lt to (length code.lines)
+is_in_range code (Fails to) = nat_lt to (length code.lines)
 
 -- whether the routine begins at a line of the code, and its parameters are among its locals
 abbrev pub is_routine : Code → Routine → Bool

@@ -1,12 +1,13 @@
 //! Instructions.
 
+use crate::step::Steps;
 use sz_types::{BinOp, Builtin, UnOp};
 
 /// An instruction of the machine, which works on a stack of slots. A slot is a value, or undefined.
 ///
 /// All numbers count from 0. A place is that of a line in its code. A local is one of the routine that runs, and constants,
-/// statics, types and tables are those of the code. What is pushed is undefined where an operand or a part was undefined, or
-/// where the operation has no result.
+/// statics, types, functions and tables are those of the code. What is pushed is undefined where an operand or a part was
+/// undefined, or where the operation has no result. Candidate lists belong to the routine that runs, the innermost first.
 #[derive(Drop)]
 pub enum Instr {
     /// Pushes the constant.
@@ -23,6 +24,9 @@ pub enum Instr {
     KeepStatic(u32),
     /// Makes the local undefined.
     Clear(u32),
+    /// Pops a value, and then an index or key for each such step of the path, the last one first, and puts the value into the
+    /// local, or where the path leads in it. An undefined one of them is a fault, and so is a path that leads outside.
+    Store(u32, Steps),
     /// Pops the operand and pushes what the operator makes of it.
     Unary(UnOp),
     /// Pops the right operand and then the left one, and pushes what the operator makes of them.
@@ -49,13 +53,33 @@ pub enum Instr {
     Tick,
     /// Goes to the place.
     Jump(usize),
+    /// Pops a slot and goes to the place where it is false. An undefined one is a fault.
+    Test(usize),
     /// Goes to the place where the slot on top is false or undefined, and leaves it; else pops it.
     AndTest(usize),
     /// Goes to the place where the slot on top is true or undefined, and leaves it; else pops it.
     OrTest(usize),
+    /// Pops the arguments, the last one first, and enters the function, with locals of its own. Where an argument is undefined
+    /// it pushes undefined instead. A call while 128 are open is a fault.
+    Call(u32),
+    /// Pops a slot, leaves the function with its candidate lists, and pushes the slot for the routine that called it.
+    Return,
     /// Ends the run.
     EndRecord,
+    /// Pops a slot. An undefined one is a fault.
+    Discard,
     /// Of a table, how many indexes there are, and whether there is a weight: pops the weight if there is one, the value, and
     /// the indexes, the last one first, and emits them to the table if all are defined.
     Emit(u32, u32, bool),
+    /// Pops a base and adds the list of its candidates: the bounds of its slices if this is true, else its indexes or keys.
+    Enter(bool),
+    /// Takes the next candidate of the innermost list into the local. Where none is left it drops the list, without the charge
+    /// of its line, and goes to the place.
+    Next(u32, usize),
+    /// Drops the innermost candidate list.
+    Leave,
+    /// Pops a slot, and goes to the place unless it is true.
+    Meets(usize),
+    /// Pops a slot, and goes to the place where it is false.
+    Fails(usize),
 }

@@ -7,6 +7,7 @@ mod laws;
 mod line;
 mod range;
 mod routine;
+mod step;
 #[cfg(test)]
 mod tests;
 
@@ -18,3 +19,4 @@ pub use laws::{
 pub use line::{Line, Lines};
 pub use range::well_formed;
 pub use routine::{Routine, Routines};
+pub use step::{Step, Steps};

@@ -75,10 +75,15 @@ fn is_in_range(code: &Code, locals: u32, instr: &Instr) -> bool
 {
     match instr {
         Instr::Push(constant) => (*constant as usize) < code.constants.len(),
-        Instr::Local(n) | Instr::Keep(n) | Instr::Clear(n) => *n < locals,
+        Instr::Local(n) | Instr::Keep(n) | Instr::Clear(n) | Instr::Store(n, _) => *n < locals,
         Instr::Static(n) | Instr::KeepStatic(n) => (*n as usize) < code.statics.len(),
         Instr::Convert(ty) => (*ty as usize) < code.types.len(),
-        Instr::Jump(to) | Instr::AndTest(to) | Instr::OrTest(to) => *to < code.lines.len(),
+        Instr::Call(function) => (*function as usize) < code.functions.len(),
+        Instr::Next(n, to) => *n < locals && *to < code.lines.len(),
+        Instr::Jump(to) | Instr::Test(to) | Instr::Meets(to) | Instr::Fails(to) => {
+            *to < code.lines.len()
+        }
+        Instr::AndTest(to) | Instr::OrTest(to) => *to < code.lines.len(),
         Instr::Emit(table, _, _) => (*table as usize) < code.tables.len(),
         Instr::Input
         | Instr::Unary(_)
@@ -92,6 +97,10 @@ fn is_in_range(code: &Code, locals: u32, instr: &Instr) -> bool
         | Instr::Field(_)
         | Instr::Def
         | Instr::Tick
-        | Instr::EndRecord => true,
+        | Instr::Return
+        | Instr::EndRecord
+        | Instr::Discard
+        | Instr::Enter(_)
+        | Instr::Leave => true,
     }
 }

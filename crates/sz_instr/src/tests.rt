@@ -121,6 +121,14 @@ fn the_code_of_the_example_is_well_formed(rt: HostRuntime) -> Result<(), Fail> {
     Ok(())
 }
 
+// A path of two steps, whose indexes and parts are no numbers of the code's own.
+fn path(alloc: Global) -> Result<Steps, NoMemory> {
+    let mut steps = Steps::new(alloc);
+    steps.push(Step::Index)?;
+    steps.push(Step::Field(9))?;
+    Ok(steps)
+}
+
 // Whether code of two lines, the second with this instruction, is well formed with these routines: a function, a static, and that
 // of the record. It has one constant, one type and one table.
 fn is_formed(
@@ -173,6 +181,7 @@ fn numbers_are_in_range_up_to_the_last(rt: HostRuntime) -> Result<(), Fail> {
         Instr::Keep(2),
         Instr::KeepStatic(0),
         Instr::Clear(2),
+        Instr::Store(2, path(rt.alloc())?),
         Instr::Unary(UnOp::Not),
         Instr::Binary(BinOp::Add),
         Instr::Apply(Builtin::Len),
@@ -186,15 +195,36 @@ fn numbers_are_in_range_up_to_the_last(rt: HostRuntime) -> Result<(), Fail> {
         Instr::Def,
         Instr::Tick,
         Instr::Jump(1),
+        Instr::Test(1),
         Instr::AndTest(1),
         Instr::OrTest(1),
-        Instr::EndRecord,
-        Instr::Emit(0, 9, true),
     ] {
         assert!(rt; is_instr_in_range(rt.alloc(), instr)?, "at {count}");
         count = count.saturating_add(1);
     }
     assert_eq!(rt; count, 24);
+    Ok(())
+}
+
+#[test]
+fn numbers_of_calls_and_searches_are_in_range_up_to_the_last(rt: HostRuntime) -> Result<(), Fail> {
+    let mut count = 0usize;
+    for instr in [
+        Instr::Call(0),
+        Instr::Return,
+        Instr::EndRecord,
+        Instr::Discard,
+        Instr::Emit(0, 9, true),
+        Instr::Enter(true),
+        Instr::Next(2, 1),
+        Instr::Leave,
+        Instr::Meets(1),
+        Instr::Fails(1),
+    ] {
+        assert!(rt; is_instr_in_range(rt.alloc(), instr)?, "at {count}");
+        count = count.saturating_add(1);
+    }
+    assert_eq!(rt; count, 10);
     Ok(())
 }
 
@@ -208,16 +238,23 @@ fn numbers_behind_the_last_are_out_of_range(rt: HostRuntime) -> Result<(), Fail>
         Instr::Keep(3),
         Instr::KeepStatic(1),
         Instr::Clear(3),
+        Instr::Store(3, path(rt.alloc())?),
         Instr::Convert(1),
         Instr::Jump(2),
+        Instr::Test(2),
         Instr::AndTest(2),
         Instr::OrTest(2),
+        Instr::Call(1),
         Instr::Emit(1, 0, false),
+        Instr::Next(3, 1),
+        Instr::Next(2, 2),
+        Instr::Meets(2),
+        Instr::Fails(2),
     ] {
         assert!(rt; !is_instr_in_range(rt.alloc(), instr)?, "at {count}");
         count = count.saturating_add(1);
     }
-    assert_eq!(rt; count, 11);
+    assert_eq!(rt; count, 18);
     Ok(())
 }
 

@@ -6,3 +6,8 @@ pub mod Stored
 pub mod Operands
 pub mod Acting
 pub mod Going
+-- the machine of the whole language
+pub mod States
+pub mod Rows
+pub mod Covering
+pub mod Running

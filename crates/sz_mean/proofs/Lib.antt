@@ -1,2 +1,4 @@
 mod MeaningLemmas
 mod StandardFacts
+mod WorkedTrees
+mod WorkedExamples

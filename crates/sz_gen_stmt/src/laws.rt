@@ -1,0 +1,12 @@
+//! Laws of the definitions, each a function that does nothing and whose contract is the law.
+ghost use Rattle.std.specs.Prelude.{◌≡◌, [], ◌∷◌};
+ghost use Rattle.sz_core.specs.Programs.{core_of};
+ghost use Rattle.sz_instr.specs.declared.instr.Instr.TheVariants.{EndRecord};
+ghost use Rattle.sz_gen_expr.specs.Tables.{Tables};
+ghost use Rattle.sz_gen_stmt.specs.SearchCode.{free};
+ghost use Rattle.sz_gen_stmt.specs.ProgramCode.{record_code};
+
+/// The code of a record that nothing is done for is the end of the run alone.
+pub fn an_empty_program_has_code()
+    ensures value { (tables : Tables) → record_code tables (core_of [] []) 0 ≡ free EndRecord ∷ [] }
+{}

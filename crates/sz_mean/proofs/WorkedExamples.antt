@@ -1,0 +1,122 @@
+-- Worked examples: each program with the budget that is enough, and what it comes to with one tick less.
+use Rattle.std.specs.Prelude.{◌≡◌, ℕ, ◌^◌, pos, List, [], ◌∷◌, true, false, Some, None, codes, refl}
+use Rattle.std.specs.Int.{int_wrap}
+use Rattle.sz_types.specs.Data.{Shape}
+use Rattle.sz_types.specs.declared.place.Place.{Place}
+use Rattle.sz_value.specs.Data.{Datum}
+use Rattle.sz_tabs.specs.Data.{EmitDatum}
+use Rattle.sz_core.specs.Programs.{Core}
+use Rattle.sz_world.specs.World.{Fault, Doing, ◌>>=◌, new_world, Outcome, Done, Faulted, budget_passed, undefined_used, store_outside, calls_too_deep}
+use Rattle.sz_world.specs.Slots.{undefined_slots}
+use Rattle.sz_world.specs.Operations.{Decoding}
+use Rattle.sz_mean.specs.Expressions.{eval}
+use Rattle.sz_mean.specs.Endings.{Ending, then_run}
+use Rattle.sz_mean.specs.Statements.{exec}
+use Rattle.sz_mean.specs.Search.{Variable, some, exec_when}
+use Rattle.sz_mean.specs.Programs.{outer_setting, emits_given, mean}
+use Rattle.sz_mean.specs.Records.{Records, FaultedAt, mean_all}
+use Rattle.sz_mean.proofs.WorkedTrees.{at, variable, emits_sum, joins_texts, counts_down, counts_up, emits_if, stores_outside, calls_on}
+use Rattle.sz_mean.proofs.WorkedTrees.{emits_without_weight, undefined_left, two_numbers, is_five, emits_place}
+
+module _ (decode : Decoding) where
+  ends : Core → ℕ → List ℕ → Outcome (List EmitDatum)
+  ends core budget input = mean decode core [] budget input
+
+  fault : ℕ → Place → Outcome (List EmitDatum)
+  fault kind place = Faulted (record { kind = kind; place = place })
+
+  of_number : ℕ → EmitDatum
+  of_number n = record { table = 0; indexes = []; value = Datum.int (pos n); weight = None }
+
+  sum_enough : ends emits_sum 5 [] ≡ Done (of_number 3 ∷ [])
+  unfolding ends of_number int_wrap
+  sum_enough = refl
+
+  sum_less : ends emits_sum 4 [] ≡ fault budget_passed (at 2 1)
+  unfolding ends fault int_wrap
+  sum_less = refl
+
+  texts_enough : ends joins_texts 8 [] ≡ Done []
+  unfolding ends
+  texts_enough = refl
+
+  texts_less : ends joins_texts 7 [] ≡ fault budget_passed (at 1 1)
+  unfolding ends fault
+  texts_less = refl
+
+  texts_two_less : ends joins_texts 6 [] ≡ fault budget_passed (at 1 13)
+  unfolding ends fault
+  texts_two_less = refl
+
+  down_enough : ends counts_down 25 (codes "2") ≡ Done []
+  unfolding ends int_wrap
+  down_enough = refl
+
+  down_less : ends counts_down 24 (codes "2") ≡ fault budget_passed (at 2 1)
+  unfolding ends fault int_wrap
+  down_less = refl
+
+  up_enough : ends counts_up 42 [] ≡ Done (of_number 0 ∷ of_number 1 ∷ of_number 2 ∷ [])
+  unfolding ends of_number int_wrap
+  up_enough = refl
+
+  up_less : ends counts_up 41 [] ≡ fault budget_passed (at 2 1)
+  unfolding ends fault int_wrap
+  up_less = refl
+
+  -- an undefined left operand leaves the right one unseen: three ticks, one for each of `x`, `&&` and the declaration
+  left_enough : ends undefined_left 3 [] ≡ Done []
+  unfolding ends
+  left_enough = refl
+
+  left_less : ends undefined_left 2 [] ≡ fault budget_passed (at 2 1)
+  unfolding ends fault
+  left_less = refl
+
+  -- an emit with an undefined weight is ignored, and takes one tick behind those of its parts
+  weight_enough : ends emits_without_weight 5 [] ≡ Done []
+  unfolding ends int_wrap
+  weight_enough = refl
+
+  weight_less : ends emits_without_weight 4 [] ≡ fault budget_passed (at 2 1)
+  unfolding ends fault int_wrap
+  weight_less = refl
+
+  undefined_test : ends emits_if 100 [] ≡ fault undefined_used (at 3 1)
+  unfolding ends fault
+  undefined_test = refl
+
+  -- a fault is a fault of all records
+  second_faults : mean_all decode emits_if [] 100 (codes "1" ∷ [] ∷ codes "1" ∷ []) ≡ FaultedAt 2 (record { kind = undefined_used; place = at 3 1 })
+  second_faults = refl
+
+  -- the budget is asked before where a store leads
+  outside_enough : ends stores_outside 8 [] ≡ fault store_outside (at 2 1)
+  unfolding ends fault
+  outside_enough = refl
+
+  outside_less : ends stores_outside 7 [] ≡ fault budget_passed (at 2 1)
+  unfolding ends fault
+  outside_less = refl
+
+  too_deep : ends calls_on (2 ^ 24) [] ≡ fault calls_too_deep (at 1 35)
+  unfolding ends fault int_wrap
+  too_deep = refl
+
+  -- a: array of int = {3, 5};
+  -- when (i: some int; a[i] == 5) emit c <- i;
+  searches : ℕ → Outcome (List EmitDatum)
+  searches budget =
+      let s = outer_setting decode [] [] None in
+      let i : Variable = record { quantity = some; local = 1; slice = false; base = λ l. eval s l (variable (at 3 20) (Shape.array Shape.int) 0) } in
+      let whole = exec_when (at 3 1) (λ l. eval s l is_five) (exec s emits_place) (i ∷ []) in
+      let all : Doing Ending = exec s two_numbers (undefined_slots 2) >>= λ ending. then_run ending whole in
+      emits_given (all (new_world budget))
+
+  search_enough : searches 23 ≡ Done (of_number 1 ∷ [])
+  unfolding searches of_number int_wrap
+  search_enough = refl
+
+  search_less : searches 22 ≡ fault budget_passed (at 3 31)
+  unfolding searches fault int_wrap
+  search_less = refl

@@ -1,0 +1,70 @@
+-- How statements end, and what runs on from there: one statement behind another, and the turns of loops.
+use Rattle.std.specs.Prelude.{ℕ, zero, suc, List, true, false, Some, None}
+use Rattle.sz_types.specs.declared.place.Place.{Place}
+use Rattle.sz_value.specs.Data.{truth}
+use Rattle.sz_world.specs.World.{Doing, ◌>>=◌, ◌>>◌, give, pay, fails, undefined_used, budget_passed}
+use Rattle.sz_world.specs.Slots.{Slot}
+
+-- how a statement ends: at its end, by `break` or by `continue`, each with the variables as they are then, or by `return`
+pub data Ending : Type 0 where
+  Normal : (locals : List Slot) → Ending
+  Breaks : (locals : List Slot) → Ending
+  Continues : (locals : List Slot) → Ending
+  Returns : (result : Slot) → Ending
+
+-- what runs with the variables as they are
+abbrev pub Running : Type 0
+Running = List Slot → Doing Ending
+
+-- behind a statement the run goes on where it came to its end
+abbrev pub then_run : Ending → Running → Doing Ending
+then_run (Normal locals) next = next locals
+then_run (Breaks locals) next = give (Breaks locals)
+then_run (Continues locals) next = give (Continues locals)
+then_run (Returns result) next = give (Returns result)
+
+-- behind the body of a loop the loop goes on, unless the body left it by `break` or `return`
+abbrev pub then_loop : Ending → Running → Doing Ending
+then_loop (Normal locals) next = next locals
+then_loop (Breaks locals) next = give (Normal locals)
+then_loop (Continues locals) next = next locals
+then_loop (Returns result) next = give (Returns result)
+
+-- the first where the test is true, else the second; an undefined test is a fault
+abbrev pub chosen : Slot → Place → Doing Ending → Doing Ending → Doing Ending
+chosen None place first second = fails undefined_used place
+chosen (Some (truth true)) place first second = first
+chosen (Some _) place first second = second
+
+-- a loop that is tested before each turn: a test, a turn, and what is done between turns. Each return to the test takes a
+-- tick, so that there are fewer turns than one more than the ticks at the beginning, and the answer without turns never comes.
+module _ (place : Place) (test : List Slot → Doing Slot) (between body : Running) where
+  abbrev pub turns : ℕ → Running
+  turns zero locals = fails budget_passed place
+  turns (suc n) locals = do
+    x ← test locals
+    pay 1 place
+    chosen x place (turn (turns n) locals) (give (Normal locals))
+    where
+      turn : Running → Running
+      turn next locals = do
+        ending ← body locals
+        then_loop ending (λ after. do
+          stepped ← between after
+          then_run stepped (λ stepped_locals. do
+            pay 1 place
+            next stepped_locals))
+
+-- a loop that is tested behind each turn. Each return to the body takes a tick.
+module _ (place : Place) (body : Running) (test : List Slot → Doing Slot) where
+  abbrev pub turns_behind : ℕ → Running
+  turns_behind zero locals = fails budget_passed place
+  turns_behind (suc n) locals = do
+    ending ← body locals
+    then_loop ending (tested (turns_behind n))
+    where
+      tested : Running → Running
+      tested next locals = do
+        x ← test locals
+        pay 1 place
+        chosen x place (pay 1 place >> next locals) (give (Normal locals))

@@ -1,0 +1,33 @@
+-- What a program means for a list of records: all their emits, or the first record that faults.
+use Rattle.std.specs.Prelude.{ℕ, suc, List, [], ◌∷◌, ◌++◌}
+use Rattle.sz_tabs.specs.Data.{EmitDatum}
+use Rattle.sz_core.specs.Programs.{Core}
+use Rattle.sz_world.specs.World.{Fault, Outcome, Done, Faulted}
+use Rattle.sz_world.specs.Slots.{Slot}
+use Rattle.sz_world.specs.Operations.{Decoding}
+use Rattle.sz_mean.specs.Programs.{mean}
+
+-- what comes of records: the emits of all of them in order, or the number of the first that faults, and its fault
+pub data Records : Type 0 where
+  Emitted : (emits : List EmitDatum) → Records
+  FaultedAt : (number : ℕ) (fault : Fault) → Records
+
+-- the emits in front of what comes of the further records
+abbrev pub behind_emits : List EmitDatum → Records → Records
+behind_emits front (Emitted emits) = Emitted (front ++ emits)
+behind_emits front (FaultedAt number fault) = FaultedAt number fault
+
+-- what comes of the record with this number and of those behind it
+abbrev pub then_records : ℕ → Outcome (List EmitDatum) → Records → Records
+then_records number (Done emits) rest = behind_emits emits rest
+then_records number (Faulted fault) rest = FaultedAt number fault
+
+-- what a program means for records with these statics, of which the first has this number
+abbrev pub mean_from : Decoding → Core → List Slot → ℕ → ℕ → List (List ℕ) → Records
+mean_from decode core slots budget number [] = Emitted []
+mean_from decode core slots budget number (record_bytes ∷ rest) =
+    then_records number (mean decode core slots budget record_bytes) (mean_from decode core slots budget (suc number) rest)
+
+-- what a program means for all records, which are numbered from 1
+abbrev pub mean_all : Decoding → Core → List Slot → ℕ → List (List ℕ) → Records
+mean_all decode core slots budget records = mean_from decode core slots budget 1 records

@@ -1,0 +1,100 @@
+-- What statements do. At one statement the budget is asked first, then whether a value is undefined, then where a store leads.
+use Rattle.std.specs.Prelude.{ℕ, suc, ◌+◌, List, [], ◌∷◌, map, slice_set, true, Option, Some, None}
+use Rattle.sz_types.specs.declared.place.Place.{Place}
+use Rattle.sz_value.specs.Data.{truth}
+use Rattle.sz_core.specs.Nodes.{Node}
+use Rattle.sz_core.specs.Statements.{Step, at_index, at_field, Stm, block, clear, keep, store, evaluate, branch, while, do_while, for_loop, break, continue}
+use Rattle.sz_core.specs.Statements.{return_value, end_record, emit, Stms, no_stms, with_stm}
+use Rattle.sz_world.specs.World.{World, Given, Gives, Doing, ◌>>=◌, ◌>>◌, give, pay, fails, undefined_used, store_outside}
+use Rattle.sz_world.specs.Slots.{Slot, slot_at}
+use Rattle.sz_world.specs.Emits.{EmitParts, emit_of, emit_weight, with_emit}
+use Rattle.sz_world.specs.Stores.{by_index, by_field, Stored, Holds, Undefined, Outside, stored}
+use Rattle.sz_world.specs.Stores as stores
+use Rattle.sz_mean.specs.Expressions.{Setting, eval, eval_all, eval_indexes, eval_if_some}
+use Rattle.sz_mean.specs.Endings.{Ending, Normal, Breaks, Continues, Returns, Running, then_run, chosen, turns, turns_behind}
+
+-- the variables with one that holds a slot
+abbrev pub with_local : ℕ → Slot → List Slot → List Slot
+with_local n x locals = slice_set locals n x
+
+-- a step without its index
+abbrev pub bare : Step → stores.Step
+bare (at_index e) = by_index
+bare (at_field n) = by_field n
+
+-- the variables with what came of a store into one of them, or the store's fault
+abbrev pub assigned : Stored → Place → ℕ → Running
+assigned (Holds d) place n locals = give (Normal (with_local n (Some d) locals))
+assigned Undefined place n locals = fails undefined_used place
+assigned Outside place n locals = fails store_outside place
+
+-- the run goes on with a defined value; an undefined one is a fault
+abbrev pub if_defined : Slot → Place → Doing Ending → Doing Ending
+if_defined None place next = fails undefined_used place
+if_defined (Some d) place next = next
+
+-- the ticks of an emit are taken, and then it is added to the emits, unless a part is undefined
+abbrev pub emits : Place → ℕ → EmitParts → Running
+emits place table parts locals = do
+  pay (1 + emit_weight parts) place
+  λ w. Gives (Normal locals) (with_emit (emit_of table parts) w)
+
+-- the test of a loop: a missing one is true
+abbrev pub test_of : Setting → Option Node → List Slot → Doing Slot
+test_of s None locals = give (Some (truth true))
+test_of s (Some e) locals = eval s locals e
+
+-- nothing is done
+abbrev pub idle : Running
+idle locals = give (Normal locals)
+
+-- a loop with as many turns as the ticks that are left can be enough for
+abbrev pub while_ticks : (ℕ → Running) → Running
+while_ticks loop locals = λ w. loop (suc w.left) locals w
+
+module _ (s : Setting) where
+  abbrev mutual
+    -- what a statement does, in a setting
+    pub exec : Stm → Running
+    exec (block ss) locals = exec_all ss locals
+    exec (clear n) locals = give (Normal (with_local n None locals))
+    exec (keep place n e) locals = do
+      x ← eval s locals e
+      pay 1 place
+      give (Normal (with_local n x locals))
+    exec (store place n steps e) locals = do
+      indexes ← eval_indexes s locals steps
+      x ← eval s locals e
+      pay 1 place
+      assigned (stored (slot_at locals n) (map bare steps) indexes x) place n locals
+    exec (evaluate place e) locals = do
+      x ← eval s locals e
+      if_defined x place (idle locals)
+    exec (branch place e first second) locals = do
+      x ← eval s locals e
+      pay 1 place
+      chosen x place (exec first locals) (exec second locals)
+    exec (while place e body) locals = while_ticks (turns place (λ l. eval s l e) idle (exec body)) locals
+    exec (do_while place body e) locals = while_ticks (turns_behind place (exec body) (λ l. eval s l e)) locals
+    exec (for_loop place e between body) locals = while_ticks (turns place (test_of s e) (exec between) (exec body)) locals
+    exec break locals = give (Breaks locals)
+    exec continue locals = give (Continues locals)
+    exec (return_value place e) locals = do
+      x ← eval s locals e
+      pay 1 place
+      give (Returns x)
+    exec (end_record place) locals = do
+      pay 1 place
+      give (Returns None)
+    exec (emit place table es e w) locals = do
+      indexes ← eval_all s locals es
+      value ← eval s locals e
+      weight ← eval_if_some s locals w
+      emits place table (record { indexes = indexes; value = value; weight = weight }) locals
+
+    -- what statements do, one after the other
+    pub exec_all : Stms → Running
+    exec_all no_stms locals = give (Normal locals)
+    exec_all (with_stm first rest) locals = do
+      ending ← exec first locals
+      then_run ending (exec_all rest)
