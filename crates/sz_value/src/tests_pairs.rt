@@ -61,7 +61,7 @@ fn many_falling_keys_make_a_map(rt: HostRuntime) -> Result<(), Fail> {
     assert_eq!(rt; pairs.len(), 2000);
     assert!(rt;
         pairs
-            .get(&Value::Int(0))
+            .get(&Value::Int(-1999))
             .is_some_and(|value| number_in(value) == 1999)
     );
     Ok(())
