@@ -208,6 +208,10 @@ fn emits_stand_in_their_order(rt: HostRuntime) -> Result<(), Fail> {
             weight: None,
         })?;
     }
-    assert_eq!(rt; (emits.get(0).table, emits.get(1).table), (3, 1));
+    let mut tables = Vec::new(alloc);
+    for emit in emits.as_slice() {
+        tables.push(emit.table)?;
+    }
+    assert_eq!(rt; tables.as_slice(), [3u32, 1].as_slice());
     Ok(())
 }

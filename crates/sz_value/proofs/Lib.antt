@@ -1,6 +1,7 @@
 pub mod OrderLemmas
 pub mod WeightLemmas
 pub mod MapLemmas
+pub mod GatherLemmas
 pub mod PartLemmas
 pub mod HashLemmas
 pub mod TextLemmas

@@ -17,7 +17,7 @@ use Rattle.sz_value.specs.declared.value.Value.{Value}
 use Rattle.sz_value.specs.declared.value.Pair.{Pair}
 
 -- a comparison turned round
-turned : (d e : Datum) (found : Ordering) → compare d e ≡ found → compare e d ≡ ordering_reverse found
+pub turned : (d e : Datum) (found : Ordering) → compare d e ≡ found → compare e d ≡ ordering_reverse found
 turned d e found is = compare_total.antisymm e d ∙ ap ordering_reverse is
 
 -- what is less than the lesser stands no later against a third
@@ -93,12 +93,12 @@ module _ (k : Datum) where
   value_found (p ∷ ps) (suc i) d at = ap (λ o. cond (is_eq o) (Some (seen p.value)) (value_at k (map seen_pair ps))) at.0 ∙ value_found ps i d at.1
 
   -- what is less than all keys is none of them
-  value_below : (ps : List (Datum × Datum)) → AllByRecursion (λ q. compare k q ≡ Less) (keys_of ps) → value_at k ps ≡ None
+  pub value_below : (ps : List (Datum × Datum)) → AllByRecursion (λ q. compare k q ≡ Less) (keys_of ps) → value_at k ps ≡ None
   value_below [] all = refl
   value_below (p ∷ ps) all = ap (λ o. cond (is_eq o) (Some p.1) (value_at k ps)) all.0 ∙ value_below ps all.1
 
   -- what is less than a key is less than all behind it
-  below_all : (d : Datum) (ds : List Datum) → compare k d ≡ Less → AllByRecursion (λ q. compare d q ≡ Less) ds → AllByRecursion (λ q. compare k q ≡ Less) ds
+  pub below_all : (d : Datum) (ds : List Datum) → compare k d ≡ Less → AllByRecursion (λ q. compare d q ≡ Less) ds → AllByRecursion (λ q. compare k q ≡ Less) ds
   below_all d [] less all = tt
   below_all d (e ∷ es) less all = (compare_total.trans k d e less all.0, below_all d es less all.1)
 
@@ -173,7 +173,7 @@ put_between ps i p rise gap = puts ps (insert ps i p) p rise (map-insert seen_pa
 
 module _ (k v : Datum) where
   -- the first pair has the key, so the look-up ends there
-  first_hit : (key w : Datum) (ps : List (Datum × Datum)) → compare k key ≡ Equal → value_at k ((key, w) ∷ ps) ≡ Some w
+  pub first_hit : (key w : Datum) (ps : List (Datum × Datum)) → compare k key ≡ Equal → value_at k ((key, w) ∷ ps) ≡ Some w
   first_hit key w ps hit = ap (λ o. cond (is_eq o) (Some w) (value_at k ps)) hit
 
   found_chosen : (p : Datum × Datum) (ps : List (Datum × Datum)) (o : Ordering) → compare k p.0 ≡ o → value_at k (with_pair k v ps) ≡ Some v → value_at k (chosen k v p ps o) ≡ Some v
@@ -205,7 +205,7 @@ module _ (k v : Datum) where
     miss_by key w ps Greater is other = ap (λ o. cond (is_eq o) (Some w) (value_at j ps)) is
 
     -- the first pair has another key, so the look-up goes on
-    first_miss : (key w : Datum) (ps : List (Datum × Datum)) → j ≢ key → value_at j ((key, w) ∷ ps) ≡ value_at j ps
+    pub first_miss : (key w : Datum) (ps : List (Datum × Datum)) → j ≢ key → value_at j ((key, w) ∷ ps) ≡ value_at j ps
     first_miss key w ps other = miss_by key w ps (compare j key) refl other
 
     kept_chosen : (p : Datum × Datum) (ps : List (Datum × Datum)) (o : Ordering) → compare k p.0 ≡ o → j ≢ k → value_at j (with_pair k v ps) ≡ value_at j ps

@@ -12,6 +12,8 @@ mod pairs;
 mod slots;
 #[cfg(test)]
 mod tests;
+#[cfg(test)]
+mod tests_pairs;
 mod text;
 mod value;
 mod weighing;

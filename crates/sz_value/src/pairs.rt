@@ -4,7 +4,7 @@ ghost use Rattle.std.specs.List.Sorted.{IsSearchInRange};
 ghost use Rattle.std.specs.Option.{option_map};
 ghost use Rattle.sz_value.specs.Seen.{seen, seen_pairs};
 ghost use Rattle.sz_value.specs.Order.{KeysRise};
-ghost use Rattle.sz_value.specs.Maps.{value_at, with_pair};
+ghost use Rattle.sz_value.specs.Maps.{value_at, with_pair, with_pairs};
 ghost use Rattle.sz_value.specs.Places.{IsPlaceOf, IsGapFor};
 
 use crate::NoMemory;
@@ -21,6 +21,15 @@ impl Pairs {
         Pairs {
             held: Vec::new(alloc),
         }
+    }
+
+    /// The pairs of a map from pairs in any order: of equal keys the last one stands. They are sorted once, so falling keys
+    /// cost no more than rising ones.
+    pub fn from_pairs(alloc: Global, pairs: Vec<Pair>) -> Result<Pairs, NoMemory>
+        ensures value { IfOk result (λ made. made ≡ with_pairs [] (seen_pairs pairs.items)) }
+    {
+        let held = gathered(alloc, sorted(pairs)?)?;
+        Ok(Pairs { held })
     }
 
     /// The pairs, in ascending order of their keys.
@@ -96,6 +105,26 @@ fn place_of(pairs: &[Pair], key: &Value) -> Result<usize, usize>
     ensures none { IfErr result (λ place. IsGapFor (seen key.now) place (seen_pairs pairs.now)) }
 {
     pairs.binary_search_by(|pair| order(&pair.key, key))
+}
+
+// The pairs in ascending order of their keys, those of one key in the order in which they came.
+fn sorted(mut pairs: Vec<Pair>) -> Result<Vec<Pair>, NoMemory>
+    ensures value { IfOk result (λ sorted. with_pairs [] (seen_pairs sorted.items) ≡ with_pairs [] (seen_pairs pairs.items)) }
+{
+    pairs.sort_by(|one, two| order(&one.key, &two.key))?;
+    Ok(pairs)
+}
+
+// The pairs put in one after another, each at the end where their keys don't fall.
+fn gathered(alloc: Global, pairs: Vec<Pair>) -> Result<Vec<Pair>, NoMemory>
+    ensures value { IfOk result (λ made. seen_pairs made.items ≡ with_pairs [] (seen_pairs pairs.items)) }
+    ensures rising { IfOk result (λ made. KeysRise (seen_pairs made.items)) }
+{
+    let mut held = Vec::with_capacity(alloc, pairs.len())?;
+    for pair in pairs {
+        put_in(&mut held, pair.key, pair.value)?;
+    }
+    Ok(held)
 }
 
 // Puts the value at the key, as `Pairs::insert` does.

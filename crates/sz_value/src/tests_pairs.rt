@@ -1,0 +1,68 @@
+//! Tests that maps are made from pairs in any order where there is memory.
+use crate::{NoMemory, Pair, Pairs, Value};
+use std::alloc::Global;
+use std::test::Fail;
+
+// The pairs that are given, and those of the map.
+const ROWS: [(&[(i64, i64)], &[(i64, i64)]); 6] = [
+    (&[], &[]),
+    (&[(4, 1)], &[(4, 1)]),
+    (&[(1, 5), (2, 6), (3, 7)], &[(1, 5), (2, 6), (3, 7)]),
+    (&[(3, 7), (2, 6), (1, 5)], &[(1, 5), (2, 6), (3, 7)]),
+    (&[(2, 1), (1, 5), (2, 2), (2, 3)], &[(1, 5), (2, 3)]),
+    (&[(0, 9), (-1, 8), (0, 7), (-1, 6)], &[(-1, 6), (0, 7)]),
+];
+
+fn pairs_of(alloc: Global, given: &[(i64, i64)]) -> Result<Vec<Pair>, NoMemory> {
+    let mut pairs = Vec::new(alloc);
+    for (key, value) in given {
+        pairs.push(Pair {
+            key: Value::Int(*key),
+            value: Value::Int(*value),
+        })?;
+    }
+    Ok(pairs)
+}
+
+fn number_in(value: &Value) -> i64 {
+    match value {
+        Value::Int(number) => *number,
+        _ => 1000,
+    }
+}
+
+fn numbers_of(alloc: Global, pairs: &Pairs) -> Result<Vec<(i64, i64)>, NoMemory> {
+    let mut numbers = Vec::new(alloc);
+    for pair in pairs.as_slice() {
+        numbers.push((number_in(&pair.key), number_in(&pair.value)))?;
+    }
+    Ok(numbers)
+}
+
+#[test]
+fn of_equal_keys_the_last_pair_stands_in_any_order(rt: HostRuntime) -> Result<(), Fail> {
+    let alloc = rt.alloc();
+    for (given, want) in ROWS {
+        let pairs = Pairs::from_pairs(alloc, pairs_of(alloc, given)?)?;
+        let numbers = numbers_of(alloc, &pairs)?;
+        assert_eq!(rt; numbers.as_slice(), want);
+    }
+    Ok(())
+}
+
+#[test]
+fn many_falling_keys_make_a_map(rt: HostRuntime) -> Result<(), Fail> {
+    let alloc = rt.alloc();
+    let mut given = Vec::new(alloc);
+    for n in 0..2000i64 {
+        given.push((i64::wrapping_neg(n), n))?;
+    }
+    let pairs = Pairs::from_pairs(alloc, pairs_of(alloc, given.as_slice())?)?;
+    assert_eq!(rt; pairs.len(), 2000);
+    assert!(rt;
+        pairs
+            .get(&Value::Int(-1999))
+            .is_some_and(|value| number_in(value) == 1999)
+    );
+    Ok(())
+}
