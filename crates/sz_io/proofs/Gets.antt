@@ -38,3 +38,9 @@ slice_get-push_old (z ∷ xs) (suc j) x inside = slice_get-push_old xs j x (omeg
 pub slice_get-push_new : {X : Type 0} (xs : List X) (x : X) → slice_get (xs ++ x ∷ []) (length xs) ≡ Some x
 slice_get-push_new [] x = refl
 slice_get-push_new (z ∷ xs) x = slice_get-push_new xs x
+
+pub slice_get-push_other : {X : Type 0} (xs : List X) (j : ℕ) (x : X) → j ≢ length xs → slice_get (xs ++ x ∷ []) j ≡ slice_get xs j
+slice_get-push_other [] zero x apart = absurd (apart refl)
+slice_get-push_other [] (suc j) x apart = refl
+slice_get-push_other (z ∷ xs) zero x apart = refl
+slice_get-push_other (z ∷ xs) (suc j) x apart = slice_get-push_other xs j x (λ e. apart (ap suc e))

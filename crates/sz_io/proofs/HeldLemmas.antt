@@ -10,7 +10,7 @@ use Rattle.sz_io.specs.Listed.{listed_before, is_listed}
 use Rattle.std.proofs.lemmas.Option.{slice_get_within}
 use Rattle.sz_io.proofs.Gets.{slice_get-set_same, slice_get-set_other}
 use Rattle.sz_io.specs.HeldFiles.{file_plan, after_call, fails_next, or_else, place_in, bytes_at, faults_in, is_next_listed, CallsOneFile}
-use Rattle.sz_io.proofs.ListedLemmas.{listed_later, listed_more}
+use Rattle.sz_io.proofs.ListedLemmas.{listed_after}
 
 -- the same file, after one call more
 pub record IsCalled (old new : HeldFile) : Type 0 where
@@ -57,7 +57,7 @@ counted files i file new there fits called =
     let moved = faults_in-set files i file new there in
     let same : new.fails.items ≡ file.fails.items = ap (λ v. v.items) called.fails in
     let count : listed_before new.calls new.fails.items ≡ new_faults = cc (called.calls) in
-    let later : old_faults ≤ new_faults = listed_later file.fails.items file.calls (min (file.calls + 1) (2 ^ 64 - 1)) (omega arith) in
+    let after : new_faults ≡ old_faults + (if is_listed file.fails.items file.calls then 1 else 0) = listed_after file.fails.items file.calls fits in
     let next : is_next_listed files i ≡ is_listed file.fails.items file.calls =
     ap (λ o. option_map_or fails_next (option_map file_plan o) false) there in
     let written : slice_get (set files i new) i ≡ Some new = slice_get-set_same files i new (slice_get_within files i file there) in
@@ -68,10 +68,7 @@ counted files i file new there fits called =
       same_bytes = λ k. bytes_at-set files i k file new there called.bytes;
       counted = ap (option_map file_plan) written ∙ ap Some plan ∙ ap (λ o. option_map after_call (option_map file_plan o)) (sym there);
       others_same = λ k apart. ap (option_map file_plan) (slice_get-set_other files i k new apart);
-      faults_later = omega (arith, moved);
-      faults_rise = λ listed.
-          let more : old_faults + 1 ≤ new_faults = listed_more file.fails.items file.calls (sym next ∙ listed) in
-          omega (arith, moved, more);
+      faults_now = rw next (omega (arith, moved, count, after));
     }
 
 -- a file found behind the first i is found there

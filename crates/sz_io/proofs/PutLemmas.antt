@@ -1,6 +1,6 @@
 -- Where names stand, what they hold and how many faults there are, when a file is put.
 use Rattle.std.proofs.Common.{◌≡◌, ◌≢◌, ℕ, ◌+◌, ◌<◌, suc, Bool, true, false, if◌then◌else◌, List, [], ◌∷◌, ◌++◌, length}
-use Rattle.std.proofs.Common.{Option, Some, None, refl, ap, ◌∙◌, arith, tests, string_bytes}
+use Rattle.std.proofs.Common.{Option, Some, None, refl, ap, ◌∙◌, arith, string_bytes}
 use Rattle.std.proofs.lemmas.Slice.Eq.{bytes_eq-Decides}
 use Rattle.std.specs.Option.{option_map, option_map_or}
 use Rattle.std.specs.Str.{bytes_eq}
@@ -10,14 +10,10 @@ use Rattle.sz_io.specs.HeldFiles.{or_else, place_in, bytes_at, held_in, faults_i
 use Rattle.sz_io.proofs.Gets.{slice_get-push_new}
 use Rattle.sz_io.proofs.PlacedLemmas.{bytes_at-push_old}
 
-listed_before-none : (fails : List ℕ) → listed_before 0 fails ≡ 0
-listed_before-none [] = refl
-listed_before-none (k ∷ ks) = grind (arith, tests, listed_before-none ks)
-
 faults_in-more : (files : List HeldFile) (file : HeldFile) → file.calls ≡ 0 → faults_in (files ++ file ∷ []) ≡ faults_in files
 faults_in-more [] file fresh =
     let e : listed_before file.calls file.fails.items ≡ 0 =
-    ap (λ n. listed_before n file.fails.items) fresh ∙ listed_before-none file.fails.items in
+    ap (λ n. listed_before n file.fails.items) fresh in
     omega (arith, e)
 faults_in-more (f ∷ fs) file fresh = let rest = faults_in-more fs file fresh in omega (arith, rest)
 

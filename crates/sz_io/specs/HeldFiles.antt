@@ -1,5 +1,5 @@
 -- The files that a device in memory holds, the newest last, and the bytes that opened ones have left.
-use Rattle.std.specs.Prelude.{◌≡◌, ◌≢◌, ℕ, ◌+◌, ◌-◌, ◌^◌, ◌≤◌, min, Bool, false, IsTrue, if◌then◌else◌}
+use Rattle.std.specs.Prelude.{◌≡◌, ◌≢◌, ℕ, ◌+◌, ◌-◌, ◌^◌, min, Bool, false, if◌then◌else◌}
 use Rattle.std.specs.Prelude.{List, [], ◌∷◌, length, drop, string_bytes, Option, Some, None, option_and_then}
 use Rattle.std.specs.List.{slice_get}
 use Rattle.std.specs.Option.{option_map, option_map_or}
@@ -66,12 +66,11 @@ abbrev pub is_next_listed : List HeldFile → ℕ → Bool
 is_next_listed files i = option_map_or fails_next (plan_at files i) false
 
 -- A call on the file at a place was counted: the names and bytes of all files and the plans of the others are the same,
--- and where the call was to fail there is one fault more.
+-- and there is one fault more exactly where the call was to fail.
 pub record CallsOneFile (old new : List HeldFile) (i : ℕ) : Type 0 where
   pub same_length : length new ≡ length old
   pub same_places : (name : List ℕ) → place_in new name ≡ place_in old name
   pub same_bytes : (k : ℕ) → bytes_at new k ≡ bytes_at old k
   pub counted : plan_at new i ≡ option_map after_call (plan_at old i)
   pub others_same : (k : ℕ) → k ≢ i → plan_at new k ≡ plan_at old k
-  pub faults_later : faults_in old ≤ faults_in new
-  pub faults_rise : IsTrue (is_next_listed old i) → faults_in old + 1 ≤ faults_in new
+  pub faults_now : faults_in new ≡ faults_in old + (if is_next_listed old i then 1 else 0)

@@ -1,8 +1,9 @@
 -- Files in memory, as their callers see them.
-use Rattle.std.specs.Prelude.{◌≡◌, ◌≢◌, ℕ, ◌+◌, Bool, true, false, IsTrue, nat_lt, List, [], length, map, string_bytes}
-use Rattle.std.specs.Prelude.{Result, Ok, Err, is_err, Option, Some, None, option_and_then}
+use Rattle.std.specs.Prelude.{◌≡◌, ◌≢◌, ℕ, ◌+◌, ◌-◌, ◌^◌, ◌==◌, min, Bool, true, false, if◌then◌else◌, IsTrue, nat_lt}
+use Rattle.std.specs.Prelude.{List, [], length, map, string_bytes, Result, Ok, Err, Option, Some, None, option_and_then}
 use Rattle.std.specs.List.{slice_get}
 use Rattle.std.specs.Option.{option_map, option_map_or}
+use Rattle.sz_io.specs.Rose.{faults_after}
 use Rattle.sz_io.specs.HeldFiles.{Plan, place_in, held_in, left_in, faults_in, plan_at, after_call, fails_next}
 use Rattle.sz_io.specs.declared.error.OutsideError.{OutsideError}
 use Rattle.sz_io.specs.declared.error.OutsideError.TheVariants.{Failed, NoMemory}
@@ -26,27 +27,46 @@ names_opened files = map string_bytes files.names.items
 
 -- how many calls have failed: those that a list names, and those for a name that isn't there
 abbrev pub files_faults : MemFiles → ℕ
-files_faults files = files.misses + faults_in files.files.items
+files_faults files = min (files.misses + faults_in files.files.items) (2 ^ 64 - 1)
 
--- the plan of the file that a name stands for
-abbrev pub plan_of : MemFiles → List ℕ → Option Plan
-plan_of files name = option_and_then (plan_at files.files.items) (place_in files.files.items name)
+-- the file that a name stands for, by the number of files that were put before it
+abbrev pub file_of : MemFiles → List ℕ → Option ℕ
+file_of files name = place_in files.files.items name
 
--- the plan of the file that was opened under a number
-abbrev pub plan_behind : MemFiles → ℕ → Option Plan
-plan_behind files number = option_and_then (λ place. plan_at files.files.items place.file) (slice_get files.opened.items number)
+-- the file that was opened under a number
+abbrev pub file_behind : MemFiles → ℕ → Option ℕ
+file_behind files number = option_map (λ place. place.file) (slice_get files.opened.items number)
 
--- A call of `open_file` goes by the plan of its name: it fails where there is none or the plan says so, and it is counted,
--- unless memory ran out.
-abbrev pub OpensByPlan : Option Plan → Option Plan → Result ℕ OutsideError → Type 0
-OpensByPlan old new (Ok file) = (option_map_or fails_next old true ≡ false) × (new ≡ option_map after_call old)
-OpensByPlan old new (Err Failed) = (option_map_or fails_next old true ≡ true) × (new ≡ option_map after_call old)
-OpensByPlan old new (Err NoMemory) = new ≡ old
+-- the plan of a file, if there is one
+abbrev pub plan_of : MemFiles → Option ℕ → Option Plan
+plan_of files file = option_and_then (plan_at files.files.items) file
 
--- A read goes by the plan of its file: it fails exactly where the plan says so, and it is counted.
-pub record ReadsByPlan {E : Type 0} (old new : Option Plan) (result : Result ℕ E) : Type 0 where
-  pub fails : is_err result ≡ option_map_or fails_next old false
-  pub counted : new ≡ option_map after_call old
+-- A call was made on this file, or on none. It failed exactly where there is no file or the file's plan says so, it is
+-- counted in this plan and in no other, each name stands for the file that it stood for, and there is one fault more
+-- exactly where the call failed.
+pub record CallsFile (old new : MemFiles) (file : Option ℕ) (failed : Bool) : Type 0 where
+  pub fails : failed ≡ option_map_or fails_next (plan_of old file) true
+  pub counted : plan_of new file ≡ option_map after_call (plan_of old file)
+  pub others_same : (other : ℕ) → Some other ≢ file → plan_of new (Some other) ≡ plan_of old (Some other)
+  pub names_same : (name : List ℕ) → file_of new name ≡ file_of old name
+  pub faults_now : files_faults new ≡ faults_after (files_faults old) failed
+
+-- no call was made: each plan, the file of each name and the count of faults are the same
+pub record CallsNone (old new : MemFiles) : Type 0 where
+  pub plans_same : (file : ℕ) → plan_of new (Some file) ≡ plan_of old (Some file)
+  pub names_same : (name : List ℕ) → file_of new name ≡ file_of old name
+  pub faults_same : files_faults new ≡ files_faults old
+
+-- A call of `open_file` is one on the file of its name, and where memory ran out it is none.
+abbrev pub OpensByPlan : MemFiles → MemFiles → List ℕ → Result ℕ OutsideError → Type 0
+OpensByPlan old new name (Ok number) = CallsFile old new (file_of old name) false
+OpensByPlan old new name (Err Failed) = CallsFile old new (file_of old name) true
+OpensByPlan old new name (Err NoMemory) = CallsNone old new
+
+-- the file under a number after a call of `open_file` on this one: the number answered has it, and the others what they had
+abbrev pub behind_after : (ℕ → Option ℕ) → Option ℕ → Result ℕ OutsideError → ℕ → Option ℕ
+behind_after behind file (Ok answered) number = if number == answered then file else behind number
+behind_after behind file (Err error) number = behind number
 
 -- no file is there, and none was opened
 pub record IsEmpty (files : MemFiles) : Type 0 where
@@ -55,22 +75,29 @@ pub record IsEmpty (files : MemFiles) : Type 0 where
   pub opened_none : names_opened files ≡ []
   pub no_fault : files_faults files ≡ 0
 
--- every opened file has the same bytes left and the same plan, and the names opened and the count of faults are the same
+-- every number stands for the same file with the same bytes left, and the names opened and the count of faults are the same
 pub record SameOpened (old new : MemFiles) : Type 0 where
   pub left_same : (number : ℕ) → left_bytes new number ≡ left_bytes old number
-  pub plans_same : (number : ℕ) → plan_behind new number ≡ plan_behind old number
+  pub behind_same : (number : ℕ) → file_behind new number ≡ file_behind old number
+  pub plans_same : (number : ℕ) → plan_of new (file_behind new number) ≡ plan_of old (file_behind old number)
   pub given_same : (number : ℕ) → is_given new number ≡ is_given old number
   pub names_same : names_opened new ≡ names_opened old
   pub faults_same : files_faults new ≡ files_faults old
 
--- every name holds what it held, with the same plan
+-- every name stands for the same file and holds what it held, and every plan is the same
 pub record SameNames (old new : MemFiles) : Type 0 where
   pub held_same : (name : List ℕ) → held_bytes new name ≡ held_bytes old name
-  pub plans_same : (name : List ℕ) → plan_of new name ≡ plan_of old name
+  pub files_same : (name : List ℕ) → file_of new name ≡ file_of old name
+  pub plans_same : (file : ℕ) → plan_of new (Some file) ≡ plan_of old (Some file)
 
--- a file with these bytes and this list is put under the name, and every other name has what it had
+-- The name stands for a new file, which has these bytes and this list and on which no call was made. Every other name
+-- stands for the file that it stood for and holds what it held, and every other file has the plan that it had.
 pub record PutsFile (old new : MemFiles) (name bytes fails : List ℕ) : Type 0 where
+  pub file : ℕ
+  pub not_before : plan_of old (Some file) ≡ None
+  pub file_now : file_of new name ≡ Some file
+  pub plan_now : plan_of new (Some file) ≡ Some (record { calls = 0; fails = fails })
   pub held_now : held_bytes new name ≡ Some bytes
-  pub plan_now : plan_of new name ≡ Some (record { calls = 0; fails = fails })
   pub others_same : (other : List ℕ) → other ≢ name → held_bytes new other ≡ held_bytes old other
-  pub other_plans_same : (other : List ℕ) → other ≢ name → plan_of new other ≡ plan_of old other
+  pub other_files_same : (other : List ℕ) → other ≢ name → file_of new other ≡ file_of old other
+  pub other_plans_same : (other : ℕ) → other ≢ file → plan_of new (Some other) ≡ plan_of old (Some other)

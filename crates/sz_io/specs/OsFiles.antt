@@ -1,5 +1,5 @@
 -- The files of the system, as their callers see them.
-use Rattle.std.specs.Prelude.{ℕ, List, map, string_bytes}
+use Rattle.std.specs.Prelude.{ℕ, Bool, nat_lt, List, length, map, string_bytes, Option, None}
 use Rattle.std.specs.declared.io.traits.Read as Reading
 use Rattle.std.specs.declared.io.traits.Write as Writing
 use Rattle.std.specs.declared.io.traits.Seek as Seeking
@@ -16,3 +16,15 @@ module _ {R File Folder Input : Type 0} {reads : Reading.Ghosts File} {writes : 
   -- how many calls have failed
   abbrev pub system_faults : OsFiles R File Folder Input reads writes seeks lists buffers enters → ℕ
   system_faults files = files.faults
+
+  -- whether a file was opened under this number: they are given from 0 on
+  abbrev pub is_opened : OsFiles R File Folder Input reads writes seeks lists buffers enters → ℕ → Bool
+  is_opened files number = nat_lt number (length files.opened.items)
+
+  -- the bytes under a name are not told
+  abbrev pub told_held : OsFiles R File Folder Input reads writes seeks lists buffers enters → List ℕ → Option (List ℕ)
+  told_held files name = None
+
+  -- nor are the bytes that are left of an opened file
+  abbrev pub told_left : OsFiles R File Folder Input reads writes seeks lists buffers enters → ℕ → Option (List ℕ)
+  told_left files number = None

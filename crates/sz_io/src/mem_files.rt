@@ -1,5 +1,5 @@
 //! Files in memory, on which calls fail where lists say so.
-ghost use Rattle.std.specs.Prelude.{◌≡◌, ◌<◌, ◌≤◌, min, ℕ, List, length, vec_len, IsTrue, IfOk, OnOk, OnErr, IfSome, IsErrOf};
+ghost use Rattle.std.specs.Prelude.{◌≡◌, ◌<◌, ◌≤◌, min, ℕ, List, length, vec_len, IsTrue, IfOk, OnOk, OnErr, IfSome, IsErrOf, is_err};
 ghost use Rattle.std.specs.Io.KnownBytes.{ReadConsumes};
 ghost use Rattle.sz_io.specs.Rose.{Rose};
 ghost use Rattle.sz_io.specs.Opened.{names_after, given_after, KeepsFiles, KeepsOtherFiles};
@@ -8,6 +8,9 @@ ghost use Rattle.sz_io.specs.Placed.{ArePlaced};
 use crate::held_file::{HeldFile, Place, count_call, fails_next, find, read_at};
 use crate::{Failed, Files, NoMemory, OutsideError};
 use std::alloc::Global;
+
+/// How many files have room at first.
+const FIRST_ROOM: usize = 2;
 
 /// Files under names, each with a list of the calls on it that fail.
 #[derive(Drop)]
@@ -24,17 +27,17 @@ pub struct MemFiles {
 impl MemFiles {
     ghost use Rattle.sz_io.specs.MemFiles.{IsEmpty, SameNames, SameOpened, PutsFile};
 
-    /// No files.
-    pub fn new(alloc: Global) -> MemFiles
-        ensures empty { IsEmpty result }
+    /// No files. It takes the memory of the first few.
+    pub fn new(alloc: Global) -> Result<MemFiles, NoMemory>
+        ensures empty { IfOk result (λ files. IsEmpty files) }
     {
-        MemFiles {
+        Ok(MemFiles {
             alloc,
-            files: Vec::new(alloc),
-            opened: Vec::new(alloc),
-            names: Vec::new(alloc),
+            files: Vec::with_capacity(alloc, FIRST_ROOM)?,
+            opened: Vec::with_capacity(alloc, FIRST_ROOM)?,
+            names: Vec::with_capacity(alloc, FIRST_ROOM)?,
             misses: 0,
-        }
+        })
     }
 
     /// Adds a file, or replaces the one of this name. `fails` has the numbers of the calls on it that fail: each
@@ -58,7 +61,7 @@ impl MemFiles {
 
 impl Files for MemFiles {
     ghost use Rattle.sz_io.specs.MemFiles.{held_bytes, left_bytes, is_given, names_opened, files_faults};
-    ghost use Rattle.sz_io.specs.MemFiles.{plan_of, plan_behind, OpensByPlan, ReadsByPlan};
+    ghost use Rattle.sz_io.specs.MemFiles.{file_of, file_behind, behind_after, CallsFile, OpensByPlan};
 
     ghost held = { held_bytes };
 
@@ -81,7 +84,8 @@ impl Files for MemFiles {
         ensures failed { IsErrOf result OutsideError.Failed → Rose (files_faults self.old) (files_faults self.new) }
         ensures kept { KeepsFiles held_bytes left_bytes is_given files_faults self.old self.new }
 
-        ensures plan { OpensByPlan (plan_of self.old name.now) (plan_of self.new name.now) result }
+        ensures plan { OpensByPlan self.old self.new name.now result }
+        ensures behind { (number : ℕ) → file_behind self.new number ≡ behind_after (file_behind self.old) (file_of self.old name.now) result number }
     {
         let number = self.opened.len() as u32;
         let found = find(&self.files, name);
@@ -112,7 +116,8 @@ impl Files for MemFiles {
         ensures failed { OnErr result (Rose (files_faults self.old) (files_faults self.new)) }
         ensures kept { KeepsOtherFiles held_bytes left_bytes is_given names_opened files_faults file self.old self.new }
 
-        ensures plan { ReadsByPlan (plan_behind self.old file) (plan_behind self.new file) result }
+        ensures plan { CallsFile self.old self.new (file_behind self.old file) (is_err result) }
+        ensures behind { (number : ℕ) → file_behind self.new number ≡ file_behind self.old number }
         ensures moves { IfOk result (λ n. IfSome (left_bytes self.old file) (λ left. n ≡ min (length left) (length into.new))) }
     {
         read_at(&mut self.files, &mut self.opened[file as usize], into)

@@ -52,7 +52,7 @@ impl Sink for MemSink {
     ghost refusals = { sink_refusals };
 
     /// Takes the lesser of the step and the piece's length. It fails exactly where the list has the call's number.
-    #[tactic(auto, using(crate::proofs::ListedLemmas::listed_later, crate::proofs::ListedLemmas::listed_rises))]
+    #[tactic(auto, using(crate::proofs::ListedLemmas::listed_later, crate::proofs::ListedLemmas::listed_rises, crate::proofs::ListedLemmas::listed_stays))]
     fn write(&mut self, piece: &[u8]) -> Result<usize, OutsideError>
         ensures within { IfOk result (λ n. n ≤ length piece.now) }
         ensures some { IfOk result (λ n. 0 < length piece.now → 0 < n) }

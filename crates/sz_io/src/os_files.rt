@@ -1,5 +1,9 @@
 //! Real files and standard input. Nothing is proved of what they hold or give.
-ghost use Rattle.std.specs.Prelude.{◌≡◌, ◌≤◌, ℕ, [], None, length, map, nat_lt, vec_len, string_bytes};
+ghost use Rattle.std.specs.Prelude.{◌≡◌, ◌<◌, ◌≤◌, ℕ, [], None, length, map, nat_lt, vec_len, string_bytes};
+ghost use Rattle.std.specs.Prelude.{IsTrue, IfOk, OnErr, IsErrOf, is_err};
+ghost use Rattle.std.specs.Io.KnownBytes.{ReadConsumes};
+ghost use Rattle.sz_io.specs.Rose.{Rose, faults_after};
+ghost use Rattle.sz_io.specs.Opened.{names_after, given_after, faults_after_opening, KeepsFiles, KeepsOtherFiles};
 
 use crate::{Failed, Files, OutsideError};
 use std::alloc::Global;
@@ -43,19 +47,31 @@ impl<'a, R: fs::Files + Input> OsFiles<'a, R> {
 }
 
 impl<R: fs::Files + Input> Files for OsFiles<'_, R> {
-    ghost use Rattle.sz_io.specs.OsFiles.{system_names, system_faults};
+    ghost use Rattle.sz_io.specs.OsFiles.{system_names, system_faults, is_opened, told_held, told_left};
 
-    ghost held = { λ _ _. None };
+    ghost held = { told_held };
 
-    ghost left = { λ _ _. None };
+    ghost left = { told_left };
 
-    ghost given = { λ files number. nat_lt number (length files.opened.items) };
+    ghost given = { is_opened };
 
     ghost names = { system_names };
 
     ghost faults = { system_faults };
 
-    fn open_file(&mut self, name: &str) -> Result<u32, OutsideError> {
+    /// Counts a fault exactly where it answers `Failed`.
+    fn open_file(&mut self, name: &str) -> Result<u32, OutsideError>
+        requires { length (system_names self.old) < 128 }
+
+        ensures fresh { IfOk result (λ file. IsTrue (is_opened self.old file) → ⊥) }
+        ensures bytes { IfOk result (λ file. told_left self.new file ≡ told_held self.old name.now) }
+        ensures given { (file : ℕ) → is_opened self.new file ≡ given_after (is_opened self.old) result file }
+        ensures names { system_names self.new ≡ names_after (system_names self.old) name.now result }
+        ensures failed { IsErrOf result OutsideError.Failed → Rose (system_faults self.old) (system_faults self.new) }
+        ensures kept { KeepsFiles told_held told_left is_opened system_faults self.old self.new }
+
+        ensures count { system_faults self.new ≡ faults_after_opening (system_faults self.old) result }
+    {
         let number = self.opened.len() as u32;
         self.names.push(String::from_str(self.alloc, name)?)?;
         let source = if name == "-" {
@@ -76,7 +92,17 @@ impl<R: fs::Files + Input> Files for OsFiles<'_, R> {
         Ok(number)
     }
 
-    fn read(&mut self, file: u32, into: &mut [u8]) -> Result<usize, Failed> {
+    /// Counts a fault exactly where it fails.
+    fn read(&mut self, file: u32, into: &mut [u8]) -> Result<usize, Failed>
+        requires { IsTrue (is_opened self.old file) }
+
+        ensures within { IfOk result (λ n. n ≤ length into.new) }
+        ensures bytes { ReadConsumes (told_left self.old file) (told_left self.new file) result into.new }
+        ensures failed { OnErr result (Rose (system_faults self.old) (system_faults self.new)) }
+        ensures kept { KeepsOtherFiles told_held told_left is_opened system_names system_faults file self.old self.new }
+
+        ensures count { system_faults self.new ≡ faults_after (system_faults self.old) (is_err result) }
+    {
         let given = match &mut self.opened[file as usize] {
             Source::Standard(reader) => reader.read(into),
             Source::File(file) => file.read(into),

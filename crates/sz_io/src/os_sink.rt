@@ -1,6 +1,8 @@
 //! A sink over a real stream. Nothing is proved of what the stream keeps.
-ghost use Rattle.std.specs.Prelude.{◌≡◌, ℕ, ◌≤◌, length, None, IfOk};
+ghost use Rattle.std.specs.Prelude.{◌≡◌, ◌<◌, ◌≤◌, ℕ, length, None, IfOk, IsErrOf, is_err};
+ghost use Rattle.std.specs.Io.KnownBytes.{WriteAppends};
 ghost use Rattle.std.specs.Io.{WritesAtMost};
+ghost use Rattle.sz_io.specs.Rose.{Rose, DoNotFall, faults_after};
 
 use crate::{OutsideError, Sink};
 use std::io;
@@ -33,7 +35,17 @@ impl<W: Write + Drop> Sink for OsSink<W> {
 
     ghost refusals = { λ _. 0 };
 
-    fn write(&mut self, piece: &[u8]) -> Result<usize, OutsideError> {
+    /// Counts a fault exactly where it fails.
+    fn write(&mut self, piece: &[u8]) -> Result<usize, OutsideError>
+        ensures within { IfOk result (λ n. n ≤ length piece.now) }
+        ensures some { IfOk result (λ n. 0 < length piece.now → 0 < n) }
+        ensures bytes { WriteAppends None None result piece.now }
+        ensures failed { IsErrOf result OutsideError.Failed → Rose (stream_faults self.old) (stream_faults self.new) }
+        ensures refused { IsErrOf result OutsideError.NoMemory → ⊥ }
+        ensures kept { DoNotFall stream_faults (λ _. 0) self.old self.new }
+
+        ensures count { stream_faults self.new ≡ faults_after (stream_faults self.old) (is_err result) }
+    {
         match write_through(&mut self.stream, piece) {
             Ok(count) if count > 0 || piece.is_empty() => Ok(count),
             _ => {

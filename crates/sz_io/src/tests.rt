@@ -5,13 +5,14 @@ ghost use Rattle.sz_io.specs.MemFiles.{names_opened};
 use super::*;
 use std::alloc::Global;
 use std::fs;
+use std::io::{self, BufWriter, Read, Write};
 use std::test::Fail;
 
 /// Files of which one is under the name `p`.
 fn one_file(alloc: Global, bytes: &[u8], fails: &[u64]) -> Result<MemFiles, NoMemory>
     ensures { IfOk result (λ files. names_opened files ≡ []) }
 {
-    let mut files = MemFiles::new(alloc);
+    let mut files = MemFiles::new(alloc)?;
     files.put("p", bytes, fails)?;
     Ok(files)
 }
@@ -123,5 +124,20 @@ fn a_real_stream_takes_a_text(rt: HostRuntime) -> Result<(), Fail> {
     let mut sink = OsSink::new(rt.stdout());
     assert_eq!(rt; write_whole(&mut sink, b"a text\n"), Ok(()));
     NoGate.at(0, 0, 0);
+    Ok(())
+}
+
+#[test]
+fn a_stream_that_holds_bytes_back_passes_them_on_at_once(rt: HostRuntime) -> Result<(), Fail> {
+    let alloc = rt.alloc();
+    let (mut reader, writer) = io::pipe(&rt)?;
+    let mut mark = writer.try_clone()?;
+    let mut sink = OsSink::new(BufWriter::new(alloc, writer)?);
+    assert_eq!(rt; write_whole(&mut sink, b"a text"), Ok(()));
+    // What the sink still held back would come behind the mark.
+    assert_eq!(rt; mark.write(b"|")?, 1);
+    let mut room = [0u8; 8];
+    let count = reader.read(&mut room)?;
+    assert_eq!(rt; &room[..count], b"a text|".as_slice());
     Ok(())
 }

@@ -166,7 +166,7 @@ impl Known {
     fn in_one_block(alloc: Global) -> Result<Known, AllocError>
         ensures value { IfOk result (λ made. made ≡ at_no_name) }
     {
-        let mut scopes = Scopes::new(alloc);
+        let mut scopes = Scopes::new(alloc)?;
         scopes.push()?;
         Ok(Known {
             scopes,

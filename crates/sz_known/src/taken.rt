@@ -42,7 +42,7 @@ impl TakenNames {
     pub fn new(alloc: Global) -> Result<TakenNames, AllocError>
         ensures value { IfOk result (λ made. made ≡ []) }
     {
-        let mut held = Scopes::new(alloc);
+        let mut held = Scopes::new(alloc)?;
         held.push()?;
         Ok(TakenNames { held })
     }

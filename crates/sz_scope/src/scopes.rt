@@ -1,5 +1,5 @@
 //! The open blocks with their declarations.
-ghost use Rattle.std.specs.Prelude.{◌≡◌, ◌+◌, ◌-◌, ◌^◌, ◌<◌, ◌↔◌, [], ◌∷◌, drop, length, nat_lt, IsTrue, IsErr, Err, OnOk, OnErr};
+ghost use Rattle.std.specs.Prelude.{◌≡◌, ◌+◌, ◌-◌, ◌^◌, ◌<◌, ◌↔◌, [], ◌∷◌, drop, length, nat_lt, IsTrue, IsErr, Err, IfOk, OnOk, OnErr};
 ghost use Rattle.std.specs.Option.{option_copied};
 ghost use Rattle.sz_scope.specs.Blocks.{found, is_declared, with_declared, without_newest};
 ghost use Rattle.sz_scope.specs.Sight.{seen_blocks};
@@ -15,6 +15,9 @@ use crate::names::Names;
 use crate::sight::Sight;
 use std::alloc::{AllocError, Global};
 use std::marker::Model;
+
+/// How many declarations have room at first.
+const FIRST_ROOM: usize = 4;
 
 /// The blocks that are open, each with its declarations.
 ///
@@ -43,16 +46,16 @@ impl Model for Scopes {
 }
 
 impl Scopes {
-    /// No block is open. It takes no memory, and keeps the allocator for its calls.
-    pub fn new(alloc: Global) -> Scopes
-        ensures value { result ≡ [] }
+    /// No block is open. It takes the memory of the first few declarations, and keeps the allocator for its calls.
+    pub fn new(alloc: Global) -> Result<Scopes, NoMemory>
+        ensures value { IfOk result (λ scopes. scopes ≡ []) }
     {
-        Scopes {
+        Ok(Scopes {
             names: Names::new(alloc),
-            newest: Vec::new(alloc),
-            entries: Vec::new(alloc),
+            newest: Vec::with_capacity(alloc, FIRST_ROOM)?,
+            entries: Vec::with_capacity(alloc, FIRST_ROOM)?,
             depth: 0,
-        }
+        })
     }
 
     /// How many blocks are open.

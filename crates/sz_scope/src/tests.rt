@@ -31,7 +31,7 @@ fn is_seen_as(scopes: &Scopes, name: &str, sight: Sight, unbound: u32, what: Mea
 
 // Two blocks, of which the inner one hides `x` and has `y`.
 fn two_blocks(alloc: Global) -> Result<Scopes, Fail> {
-    let mut scopes = Scopes::new(alloc);
+    let mut scopes = Scopes::new(alloc)?;
     scopes.push()?;
     declare(&mut scopes, "x", Meaning::Var(1))?;
     declare(&mut scopes, "len", Meaning::Builtin(2))?;
@@ -120,7 +120,7 @@ fn declare_many(scopes: &mut Scopes, alloc: Global, count: u32) -> Result<(), Fa
 
 #[test]
 fn many_names_and_deep_blocks(rt: HostRuntime) -> Result<(), Fail> {
-    let mut scopes = Scopes::new(rt.alloc());
+    let mut scopes = Scopes::new(rt.alloc())?;
     scopes.push()?;
     declare_many(&mut scopes, rt.alloc(), 20_000)?;
     for depth in 1..256u32 {
