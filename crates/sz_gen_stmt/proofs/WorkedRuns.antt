@@ -1,16 +1,16 @@
 -- Worked examples: the code of small programs runs to what the programs mean, with the ticks that are enough and with one less.
-use Rattle.std.specs.Prelude.{◌≡◌, ℕ, zero, suc, ◌^◌, ◌+◌, pos, List, [], ◌∷◌, ◌++◌, length, slice_get, true, false, Option, Some, None, codes, refl}
+use Rattle.std.specs.Prelude.{◌≡◌, ℕ, zero, suc, ◌^◌, pos, List, [], ◌∷◌, ◌++◌, length, slice_get, true, false, Option, Some, None, codes, refl}
 use Rattle.std.specs.Int.{int_wrap}
 use Rattle.sz_types.specs.Data.{Shape}
-use Rattle.sz_value.specs.Data.{Datum, truth, int, bytes, str}
+use Rattle.sz_value.specs.Data.{truth, int, str}
 use Rattle.sz_tabs.specs.Data.{EmitDatum}
 use Rattle.sz_core.specs.Programs.{Core, functions_of, statics_of, tables_of}
 use Rattle.sz_instr.specs.declared.instr.Instr.TheVariants.{EndRecord}
 use Rattle.sz_instr.specs.declared.line.Line.{Line}
 use Rattle.sz_instr.specs.declared.code.Code.{Code}
-use Rattle.sz_world.specs.World.{Outcome, Done, Faulted, budget_passed, store_outside, calls_too_deep}
+use Rattle.sz_world.specs.World.{Outcome, Done, Faulted, budget_passed}
 use Rattle.sz_mean.specs.Programs.{mean}
-use Rattle.sz_mean.specs.Search.{some, each, all}
+use Rattle.sz_mean.specs.Search.{some}
 use Rattle.sz_mean.proofs.WorkedTrees.{at, variable, emits_sum, joins_texts, counts_down, counts_up, emits_if, stores_outside, calls_on}
 use Rattle.sz_mean.proofs.WorkedTrees.{emits_without_weight, undefined_left, two_numbers, is_five, emits_place}
 use Rattle.sz_machine.specs.States.{State, After, Goes, Halts, Faults, Stuck}
