@@ -1,6 +1,7 @@
 -- How the end of a run is found backward, one line at a time.
 use Rattle.std.proofs.Common.{◌≡◌, ℕ, zero, suc, ◌+◌, ◌-◌, ◌≤◌, List, [], ◌∷◌, ◌++◌, length, Bool, true, false, Option, Some, None, refl, sym, ap, subst, arith}
 use Rattle.std.specs.Prelude.{slice_get, nat_lt, if◌then◌else◌}
+use Rattle.std.proofs.lemmas.Bool.{ltb-true}
 use Rattle.sz_types.specs.Data.{Shape}
 use Rattle.sz_instr.specs.declared.line.Line.{Line}
 use Rattle.sz_instr.specs.declared.code.Code.{Code}
@@ -21,6 +22,24 @@ has_back lines at [] b h = let e : at ≡ at + 0 = omega arith in subst (λ n. H
 has_back lines at (l ∷ a) b h =
     let e : suc at + length a ≡ at + length (l ∷ a) = omega arith in
     subst (λ n. HasAt lines n b) e (has_back lines (suc at) a b h.1)
+
+-- the ticks that were there
+spent : (n : ℕ) (w after : World) (b : Bool) → nat_lt n w.left ≡ b
+    → (if b then Some (record w { left = w.left - suc n }) else None) ≡ Some after → after.left + suc n ≡ w.left
+spent n w after true t e =
+    let lt = ltb-true n w.left t in
+    let same : Some (record w { left = w.left - suc n }) ≡ Some after = e in
+    let l : (record w { left = w.left - suc n }) ≡ after = cc in
+    let m : w.left - suc n ≡ after.left = ap (λ (v : World). v.left) l in
+    omega arith
+spent n w after false t e = absurd (cc)
+
+pub spend_left : (n : ℕ) (w after : World) → spend n w ≡ Some after → after.left + n ≡ w.left
+spend_left zero w after e =
+    let l : w ≡ after = cc in
+    let m : w.left ≡ after.left = ap (λ (v : World). v.left) l in
+    omega arith
+spend_left (suc n) w after e = spent n w after (nat_lt n w.left) refl e
 
 module _ (code : Code) where
   -- a run that goes on from what one line leads to
@@ -46,7 +65,12 @@ module _ (code : Code) where
 
   -- the ticks of a line, and then what it does, or the fault of both sides
   pub after_pay : (t : Shape) (s s1 : State) (end : ℕ) (x : After) (l : Line) (go : Doing Slot) (n : ℕ) (m : Option World) → spend n s1.world ≡ m
-      → ((w : World) → spend n s1.world ≡ Some w → AfterEval code t s end x (go w) → NextComes code (act code l.instr l.place (record s1 { world = w })) x)
+      → ((w : World) → w.left ≤ s1.world.left → AfterEval code t s end x (go w) → NextComes code (act code l.instr l.place (record s1 { world = w })) x)
       → AfterEval code t s end x (and_then (paid l.place m) (λ _. go)) → NextComes code (charged code l s1 m) x
   after_pay t s s1 end x l go n None e next h = h
-  after_pay t s s1 end x l go n (Some w) e next h = next w e h
+  after_pay t s s1 end x l go n (Some w) e next h = let left = spend_left n s1.world w e in next w (omega arith) h
+
+  -- the slot that the last line of an expression leaves
+  pub leaves : (t : Shape) (s : State) (at end : ℕ) (x : After) (v : Slot) (w : World) → suc at ≡ end → Kept s.world t v w
+      → AfterEval code t s end x (Gives v w) → ComesTo code (record s { at = suc at; stack = v ∷ s.stack; world = w }) x
+  leaves t s at end x v w e kept h = subst (λ n. ComesTo code (record s { at = n; stack = v ∷ s.stack; world = w }) x) (sym e) (h kept)
