@@ -1,5 +1,6 @@
 -- what the public contracts rest on
 pub mod Tables
 pub mod ExpressionCode
+pub mod Runs
 -- what the functions inside the crate promise each other
 pub mod Example

@@ -3,7 +3,6 @@ use Rattle.std.specs.Prelude.{◌≡◌, ℕ, suc, ◌+◌, pos, List, [], ◌�
 use Rattle.sz_types.specs.declared.operator.BinOp.TheVariants.{Div}
 use Rattle.sz_value.specs.Data.{Datum}
 use Rattle.sz_core.specs.Programs.{Function, Static, Core, functions_of, statics_of, tables_of}
-use Rattle.sz_instr.specs.declared.instr.Instr.{Instr}
 use Rattle.sz_instr.specs.declared.instr.Instr.TheVariants.{Push, KeepStatic, Binary, Return, EndRecord}
 use Rattle.sz_instr.specs.declared.line.Line.{Line}
 use Rattle.sz_instr.specs.declared.routine.Routine.{Routine}
@@ -11,7 +10,7 @@ use Rattle.sz_instr.specs.declared.code.Code.{Code}
 use Rattle.sz_mean.specs.Programs.{body_of}
 use Rattle.sz_gen_expr.specs.Tables.{Tables, constant_number, line}
 use Rattle.sz_gen_expr.specs.ExpressionCode.{expression_code}
-use Rattle.sz_gen_stmt.specs.StatementCode.{no_place, no_exits, statements_code}
+use Rattle.sz_gen_stmt.specs.StatementCode.{no_exits, statements_code}
 use Rattle.sz_gen_stmt.specs.SearchCode.{free}
 
 module _ (tables : Tables) where

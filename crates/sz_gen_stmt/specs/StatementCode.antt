@@ -1,8 +1,7 @@
 -- The code of statements. Places in it are absolute. A loop begins with two jumps, so that `break` and `continue` lead to places
 -- that are known before the body.
-use Rattle.std.specs.Prelude.{ℕ, zero, suc, ◌+◌, List, [], ◌∷◌, ◌++◌, length, map, true, false, Option, Some, None, is_some}
+use Rattle.std.specs.Prelude.{ℕ, zero, suc, ◌+◌, List, [], ◌∷◌, ◌++◌, length, map, Option, Some, None, is_some}
 use Rattle.sz_types.specs.declared.place.Place.{Place}
-use Rattle.sz_value.specs.Data.{Datum}
 use Rattle.sz_core.specs.Nodes.{Node, Nodes}
 use Rattle.sz_core.specs.Statements.{at_index, at_field, Stm, block, clear, keep, store, evaluate, branch, while, do_while, for_loop, break, continue}
 use Rattle.sz_core.specs.Statements.{return_value, end_record, emit, Stms, no_stms, with_stm}
@@ -85,7 +84,7 @@ module _ (tables : Tables) where
   abbrev pub emit_code : Place → ℕ → Nodes → Node → Option Node → ℕ → List Line
   emit_code place table es e w at =
       closed (followed at (followed at (expressions_code tables es at) (expression_code tables e)) (code_if_some tables w))
-          (Emit table (count_of es) (is_some w)) place
+      (Emit table (count_of es) (is_some w)) place
 
   abbrev mutual
     -- the code of a statement that begins at a line, with the exits around it

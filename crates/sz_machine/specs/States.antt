@@ -1,5 +1,5 @@
 -- The states of the machine, and what one instruction leads to.
-use Rattle.std.specs.Prelude.{ℕ, suc, List, [], ◌∷◌, reverse, take, drop}
+use Rattle.std.specs.Prelude.{ℕ, suc, List, [], ◌∷◌, reverse, take}
 use Rattle.sz_types.specs.declared.place.Place.{Place}
 use Rattle.sz_value.specs.Data.{Datum}
 use Rattle.sz_instr.specs.declared.routine.Routine.{Routine}

@@ -1,4 +1,4 @@
 mod MeaningLemmas
 mod StandardFacts
-mod WorkedTrees
+pub mod WorkedTrees
 mod WorkedExamples

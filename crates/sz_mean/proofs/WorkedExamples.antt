@@ -1,12 +1,12 @@
 -- Worked examples: each program with the budget that is enough, and what it comes to with one tick less.
-use Rattle.std.specs.Prelude.{◌≡◌, ℕ, ◌^◌, pos, List, [], ◌∷◌, true, false, Some, None, codes, refl}
+use Rattle.std.specs.Prelude.{◌≡◌, ℕ, ◌^◌, pos, List, [], ◌∷◌, false, None, codes, refl}
 use Rattle.std.specs.Int.{int_wrap}
 use Rattle.sz_types.specs.Data.{Shape}
 use Rattle.sz_types.specs.declared.place.Place.{Place}
 use Rattle.sz_value.specs.Data.{Datum}
 use Rattle.sz_tabs.specs.Data.{EmitDatum}
 use Rattle.sz_core.specs.Programs.{Core}
-use Rattle.sz_world.specs.World.{Fault, Doing, ◌>>=◌, new_world, Outcome, Done, Faulted, budget_passed, undefined_used, store_outside, calls_too_deep}
+use Rattle.sz_world.specs.World.{Doing, ◌>>=◌, new_world, Outcome, Done, Faulted, budget_passed, undefined_used, store_outside, calls_too_deep}
 use Rattle.sz_world.specs.Slots.{undefined_slots}
 use Rattle.sz_world.specs.Operations.{Decoding}
 use Rattle.sz_mean.specs.Expressions.{eval}
@@ -14,7 +14,7 @@ use Rattle.sz_mean.specs.Endings.{Ending, then_run}
 use Rattle.sz_mean.specs.Statements.{exec}
 use Rattle.sz_mean.specs.Search.{Variable, some, exec_when}
 use Rattle.sz_mean.specs.Programs.{outer_setting, emits_given, mean}
-use Rattle.sz_mean.specs.Records.{Records, FaultedAt, mean_all}
+use Rattle.sz_mean.specs.Records.{FaultedAt, mean_all}
 use Rattle.sz_mean.proofs.WorkedTrees.{at, variable, emits_sum, joins_texts, counts_down, counts_up, emits_if, stores_outside, calls_on}
 use Rattle.sz_mean.proofs.WorkedTrees.{emits_without_weight, undefined_left, two_numbers, is_five, emits_place}
 

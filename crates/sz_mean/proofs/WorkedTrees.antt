@@ -1,7 +1,6 @@
 -- Small checked programs, written by hand, for the worked examples. Each place is a line and a column of the text above it.
-use Rattle.std.specs.Prelude.{ℕ, List, [], ◌∷◌, pos, false, true, None, Some, codes}
+use Rattle.std.specs.Prelude.{ℕ, List, [], ◌∷◌, pos, false, None, Some, codes}
 use Rattle.sz_types.specs.Data.{Shape}
-use Rattle.sz_types.specs.Tables.{Declaration}
 use Rattle.sz_types.specs.declared.place.Place.{Place}
 use Rattle.sz_types.specs.declared.table.TableKind.TheVariants.{Sum, Maximum}
 use Rattle.sz_types.specs.declared.operator.BinOp.{BinOp}
@@ -53,7 +52,7 @@ abbrev pub counts_down : Core
 counts_down = core_of
     (statement number_of_record
     ∷ statement (while (at 2 1) (operated (at 2 8) Shape.truth Greater (variable (at 2 8) Shape.int 0) (number (at 2 12) 0))
-        (store (at 2 15) 0 [] (operated (at 2 19) Shape.int Sub (variable (at 2 19) Shape.int 0) (number (at 2 23) 1)))) ∷ [])
+    (store (at 2 15) 0 [] (operated (at 2 19) Shape.int Sub (variable (at 2 19) Shape.int 0) (number (at 2 23) 1)))) ∷ [])
     (Shape.int ∷ [])
 
 -- c: table sum of int;
@@ -62,9 +61,9 @@ abbrev pub counts_up : Core
 counts_up = core_of
     (sum_table
     ∷ statement (block (stms_of (keep (at 2 6) 0 (number (at 2 15) 0)
-        ∷ for_loop (at 2 1) (Some (operated (at 2 18) Shape.truth Less (variable (at 2 18) Shape.int 0) (number (at 2 22) 3)))
-            (store (at 2 25) 0 [] (operated (at 2 25) Shape.int Add (variable (at 2 25) Shape.int 0) (number (at 2 25) 1)))
-            (emit (at 2 30) 0 no_nodes (variable (at 2 40) Shape.int 0) None) ∷ []))) ∷ [])
+    ∷ for_loop (at 2 1) (Some (operated (at 2 18) Shape.truth Less (variable (at 2 18) Shape.int 0) (number (at 2 22) 3)))
+    (store (at 2 25) 0 [] (operated (at 2 25) Shape.int Add (variable (at 2 25) Shape.int 0) (number (at 2 25) 1)))
+    (emit (at 2 30) 0 no_nodes (variable (at 2 40) Shape.int 0) None) ∷ []))) ∷ [])
     (Shape.int ∷ [])
 
 -- c: table sum of int;
@@ -75,7 +74,7 @@ emits_if = core_of
     (sum_table
     ∷ statement (keep (at 2 1) 0 (node (at 2 10) Shape.int (convert (node (at 2 10) Shape.bytes input))))
     ∷ statement (branch (at 3 1) (operated (at 3 5) Shape.truth Greater (variable (at 3 5) Shape.int 0) (number (at 3 9) 0))
-        (emit (at 3 12) 0 no_nodes (number (at 3 22) 1) None) (block (stms_of []))) ∷ [])
+    (emit (at 3 12) 0 no_nodes (number (at 3 22) 1) None) (block (stms_of []))) ∷ [])
     (Shape.int ∷ [])
 
 -- a: array of int = {1};
@@ -112,7 +111,7 @@ abbrev pub emits_without_weight : Core
 emits_without_weight = core_of
     (weighted_table
     ∷ statement (emit (at 2 1) 0 no_nodes (number (at 2 11) 1)
-        (Some (operated (at 2 20) Shape.int Div (number (at 2 20) 1) (number (at 2 24) 0)))) ∷ []) []
+    (Some (operated (at 2 20) Shape.int Div (number (at 2 20) 1) (number (at 2 24) 0)))) ∷ []) []
 
 -- x: bool;
 -- y: bool = x && 1 == 1;
@@ -120,7 +119,7 @@ abbrev pub undefined_left : Core
 undefined_left = core_of
     (statement (clear 0)
     ∷ statement (keep (at 2 1) 1 (node (at 2 11) Shape.truth (both (variable (at 2 11) Shape.truth 0)
-        (operated (at 2 16) Shape.truth Equal (number (at 2 16) 1) (number (at 2 21) 1))))) ∷ [])
+    (operated (at 2 16) Shape.truth Equal (number (at 2 16) 1) (number (at 2 21) 1))))) ∷ [])
     (Shape.truth ∷ Shape.truth ∷ [])
 
 -- a: array of int = {3, 5};

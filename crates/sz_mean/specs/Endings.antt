@@ -1,5 +1,5 @@
 -- How statements end, and what runs on from there: one statement behind another, and the turns of loops.
-use Rattle.std.specs.Prelude.{ℕ, zero, suc, List, true, false, Some, None}
+use Rattle.std.specs.Prelude.{ℕ, zero, suc, List, true, Some, None}
 use Rattle.sz_types.specs.declared.place.Place.{Place}
 use Rattle.sz_value.specs.Data.{truth}
 use Rattle.sz_world.specs.World.{Doing, ◌>>=◌, ◌>>◌, give, pay, fails, undefined_used, budget_passed}

@@ -1,6 +1,5 @@
 -- What a program means: its calls, its statics, and what it does for one record and for all records.
-use Rattle.std.specs.Prelude.{ℕ, zero, suc, List, [], ◌∷◌, ◌++◌, length, slice_get, slice_set, Option, Some, None}
-use Rattle.sz_types.specs.declared.place.Place.{Place}
+use Rattle.std.specs.Prelude.{ℕ, zero, suc, List, [], ◌∷◌, length, slice_get, slice_set, Option, Some, None}
 use Rattle.sz_value.specs.Data.{Datum, bytes}
 use Rattle.sz_tabs.specs.Data.{EmitDatum}
 use Rattle.sz_core.specs.Statements.{Stms, stms_of}
@@ -74,7 +73,7 @@ body_of core = stms_of (statements_of core.items)
 abbrev pub run_record : Decoding → Core → List Slot → ℕ → List ℕ → Given Ending
 run_record decode core slots budget input =
     exec_all (outer_setting decode (functions_of core.items) slots (Some (bytes input))) (body_of core)
-        (undefined_slots (length core.locals)) (new_world budget)
+    (undefined_slots (length core.locals)) (new_world budget)
 
 -- what a program means for a record, with these statics: its emits in order, or its fault
 abbrev pub mean : Decoding → Core → List Slot → ℕ → List ℕ → Outcome (List EmitDatum)

@@ -1,5 +1,5 @@
 -- What `when` does: the search over its variables in order, and the statement that runs where the condition holds.
-use Rattle.std.specs.Prelude.{ℕ, List, [], ◌∷◌, Bool, true, false, Some, None}
+use Rattle.std.specs.Prelude.{ℕ, List, [], ◌∷◌, Bool, true, false, Some}
 use Rattle.sz_types.specs.declared.place.Place.{Place}
 use Rattle.sz_value.specs.Data.{Datum, truth}
 use Rattle.sz_world.specs.World.{Doing, ◌>>=◌, ◌>>◌, give, pay}

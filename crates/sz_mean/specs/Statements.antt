@@ -1,11 +1,11 @@
 -- What statements do. At one statement the budget is asked first, then whether a value is undefined, then where a store leads.
-use Rattle.std.specs.Prelude.{ℕ, suc, ◌+◌, List, [], ◌∷◌, map, slice_set, true, Option, Some, None}
+use Rattle.std.specs.Prelude.{ℕ, suc, ◌+◌, List, map, slice_set, true, Option, Some, None}
 use Rattle.sz_types.specs.declared.place.Place.{Place}
 use Rattle.sz_value.specs.Data.{truth}
 use Rattle.sz_core.specs.Nodes.{Node}
 use Rattle.sz_core.specs.Statements.{Step, at_index, at_field, Stm, block, clear, keep, store, evaluate, branch, while, do_while, for_loop, break, continue}
 use Rattle.sz_core.specs.Statements.{return_value, end_record, emit, Stms, no_stms, with_stm}
-use Rattle.sz_world.specs.World.{World, Given, Gives, Doing, ◌>>=◌, ◌>>◌, give, pay, fails, undefined_used, store_outside}
+use Rattle.sz_world.specs.World.{Gives, Doing, ◌>>=◌, ◌>>◌, give, pay, fails, undefined_used, store_outside}
 use Rattle.sz_world.specs.Slots.{Slot, slot_at}
 use Rattle.sz_world.specs.Emits.{EmitParts, emit_of, emit_weight, with_emit}
 use Rattle.sz_world.specs.Stores.{by_index, by_field, Stored, Holds, Undefined, Outside, stored}

@@ -4,6 +4,4 @@
 
 mod laws;
 
-pub use laws::{
-    a_store_without_steps_is_the_value, what_is_spent_was_left,
-};
+pub use laws::{a_store_without_steps_is_the_value, what_is_spent_was_left};

@@ -1,0 +1,79 @@
+-- How the end of a run is found backward, one line at a time.
+use Rattle.std.proofs.Common.{◌≡◌, ℕ, zero, suc, ◌+◌, ◌-◌, ◌≤◌, List, [], ◌∷◌, ◌++◌, length, Bool, true, false, Option, Some, None, refl, sym, ap, subst, arith}
+use Rattle.std.specs.Prelude.{slice_get, nat_lt, if◌then◌else◌}
+use Rattle.std.proofs.lemmas.Bool.{ltb-true}
+use Rattle.sz_types.specs.Data.{Shape}
+use Rattle.sz_instr.specs.declared.line.Line.{Line}
+use Rattle.sz_instr.specs.declared.code.Code.{Code}
+use Rattle.sz_world.specs.World.{World, Given, Gives, Stops, Doing, and_then, spend, paid}
+use Rattle.sz_world.specs.Slots.{Slot}
+use Rattle.sz_machine.specs.States.{State, After, Goes, Halts, Faults, Stuck}
+use Rattle.sz_machine.specs.Rows.{act}
+use Rattle.sz_machine.specs.Covering.{Covers}
+use Rattle.sz_machine.specs.Running.{charged, does, LeadsBy, GoesOn, RunsFor, ComesTo}
+use Rattle.sz_gen_expr.specs.Runs.{Kept, NextComes, AfterEval, HasAt}
+
+pub has_front : (lines : List Line) (at : ℕ) (a b : List Line) → HasAt lines at (a ++ b) → HasAt lines at a
+has_front lines at [] b h = tt
+has_front lines at (l ∷ a) b h = (h.0, has_front lines (suc at) a b h.1)
+
+pub has_back : (lines : List Line) (at : ℕ) (a b : List Line) → HasAt lines at (a ++ b) → HasAt lines (at + length a) b
+has_back lines at [] b h = let e : at ≡ at + 0 = omega arith in subst (λ n. HasAt lines n b) e h
+has_back lines at (l ∷ a) b h =
+    let e : suc at + length a ≡ at + length (l ∷ a) = omega arith in
+    subst (λ n. HasAt lines n b) e (has_back lines (suc at) a b h.1)
+
+-- the ticks that were there
+spent : (n : ℕ) (w after : World) (b : Bool) → nat_lt n w.left ≡ b
+    → (if b then Some (record w { left = w.left - suc n }) else None) ≡ Some after → after.left + suc n ≡ w.left
+spent n w after true t e =
+    let lt = ltb-true n w.left t in
+    let same : Some (record w { left = w.left - suc n }) ≡ Some after = e in
+    let l : (record w { left = w.left - suc n }) ≡ after = cc in
+    let m : w.left - suc n ≡ after.left = ap (λ (v : World). v.left) l in
+    omega arith
+spent n w after false t e = absurd (cc)
+
+pub spend_left : (n : ℕ) (w after : World) → spend n w ≡ Some after → after.left + n ≡ w.left
+spend_left zero w after e =
+    let l : w ≡ after = cc in
+    let m : w.left ≡ after.left = ap (λ (v : World). v.left) l in
+    omega arith
+spend_left (suc n) w after e = spent n w after (nat_lt n w.left) refl e
+
+module _ (code : Code) where
+  -- a run that goes on from what one line leads to
+  goes_on_for : (y x : After) → NextComes code y x → (n : ℕ) × GoesOn y (λ next. RunsFor code n next x) x
+  goes_on_for (Goes s) x h = (h.steps, h.runs)
+  goes_on_for (Halts w statics) x h = (0, h)
+  goes_on_for (Faults fault) x h = (0, h)
+  goes_on_for Stuck x h = absurd h
+
+  -- the line at the state's place is what is done
+  pub at_line : (s : State) (l : Line) (x : After) → slice_get code.lines s.at ≡ Some l → Covers code l.instr s
+      → NextComes code (does code l s) x → ComesTo code s x
+  at_line s l x found covered h =
+      let on = goes_on_for (does code l s) x h in
+      let leads = subst (λ o. LeadsBy code o s (does code l s)) (sym found) (covered, refl) in
+      record { steps = suc on.0; runs = (does code l s, leads, on.1) }
+
+  -- what goes on from the first part of an expression, or its fault
+  pub after_first : (t u : Shape) (s s1 : State) (end end1 : ℕ) (x : After) (go : Slot → Doing Slot)
+      → ((v : Slot) (w : World) → Kept s1.world u v w → AfterEval code t s end x (go v w)
+          → ComesTo code (record s1 { at = end1; stack = v ∷ s1.stack; world = w }) x)
+      → (r : Given Slot) → AfterEval code t s end x (and_then r go) → AfterEval code u s1 end1 x r
+  after_first t u s s1 end end1 x go next (Gives v w) h = λ kept. next v w kept h
+  after_first t u s s1 end end1 x go next (Stops fault) h = h
+
+  -- the ticks of a line, and then what it does, or the fault of both sides
+  pub after_pay : (t : Shape) (s s1 : State) (end : ℕ) (x : After) (l : Line) (go : Doing Slot) (n : ℕ) (m : Option World) → spend n s1.world ≡ m
+      → ((w : World) → w.left ≤ s1.world.left → AfterEval code t s end x (go w)
+          → NextComes code (act code l.instr l.place (record s1 { world = w })) x)
+      → AfterEval code t s end x (and_then (paid l.place m) (λ _. go)) → NextComes code (charged code l s1 m) x
+  after_pay t s s1 end x l go n None e next h = h
+  after_pay t s s1 end x l go n (Some w) e next h = let left = spend_left n s1.world w e in next w (omega arith) h
+
+  -- the slot that the last line of an expression leaves
+  pub leaves : (t : Shape) (s : State) (at end : ℕ) (x : After) (v : Slot) (w : World) → suc at ≡ end → Kept s.world t v w
+      → AfterEval code t s end x (Gives v w) → ComesTo code (record s { at = suc at; stack = v ∷ s.stack; world = w }) x
+  leaves t s at end x v w e kept h = subst (λ n. ComesTo code (record s { at = n; stack = v ∷ s.stack; world = w }) x) (sym e) (h kept)
