@@ -10,8 +10,6 @@ mod octets;
 mod ordering;
 mod pairs;
 mod slots;
-#[cfg(test)]
-mod tests;
 mod text;
 mod value;
 mod weighing;
