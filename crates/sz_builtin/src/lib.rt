@@ -13,8 +13,6 @@ mod one_operand;
 mod predeclared;
 mod searching;
 mod slicing;
-#[cfg(test)]
-mod tests;
 mod two_operands;
 
 pub use calling::builtin;

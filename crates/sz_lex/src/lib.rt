@@ -26,5 +26,3 @@ pub use token::{Kind, Token};
 pub use tokens::Tokens;
 pub use word::Word;
 
-#[cfg(test)]
-mod tests;

@@ -8,8 +8,6 @@ mod meaning;
 mod names;
 mod scopes;
 mod sight;
-#[cfg(test)]
-mod tests;
 
 pub use error::ScopeError;
 pub use meaning::Meaning;

@@ -17,5 +17,3 @@ pub use stmt::{Elem, First, Path, Quantifier, Quantity, Simple, Step, Stmt, Tabl
 pub use tree::Tree;
 pub use types::{BasicType, Param, ProtoField, TypeTree};
 
-#[cfg(test)]
-mod tests;

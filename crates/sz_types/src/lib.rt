@@ -12,8 +12,6 @@ mod operator;
 mod place;
 mod table;
 mod tables;
-#[cfg(test)]
-mod tests;
 mod text;
 mod ty;
 mod tys;

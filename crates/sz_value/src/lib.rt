@@ -10,10 +10,6 @@ mod octets;
 mod ordering;
 mod pairs;
 mod slots;
-#[cfg(test)]
-mod tests;
-#[cfg(test)]
-mod tests_pairs;
 mod text;
 mod value;
 mod weighing;

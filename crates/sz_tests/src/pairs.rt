@@ -1,7 +1,7 @@
 //! Tests that maps are made from pairs in any order where there is memory.
-use crate::{NoMemory, Pair, Pairs, Value};
 use std::alloc::Global;
 use std::test::Fail;
+use sz_value::{NoMemory, Pair, Pairs, Value};
 
 // The pairs that are given, and those of the map.
 const ROWS: [(&[(i64, i64)], &[(i64, i64)]); 6] = [

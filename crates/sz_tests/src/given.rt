@@ -1,0 +1,87 @@
+//! Values as rows write them, and what they stand for.
+use std::alloc::Global;
+use sz_value::{List, NoMemory, Octets, Pairs, Slot, Text, Value};
+
+// A value, or that there is none.
+#[derive(Clone, Copy)]
+pub(crate) enum Given {
+    Nothing,
+    Bool(bool),
+    Int(i64),
+    Time(i64),
+    Str(&'static str),
+    Bytes(&'static [u8]),
+    // An array of whole numbers.
+    Array(&'static [i64]),
+    // An array of strings.
+    Texts(&'static [&'static str]),
+    // A tuple of whole numbers.
+    Tuple(&'static [i64]),
+    // The pairs from which a map is made, of whole numbers.
+    Map(&'static [(i64, i64)]),
+    // The pairs from which a map is made, of strings.
+    Names(&'static [(&'static str, &'static str)]),
+}
+
+// What a slot has that holds such a value.
+pub(crate) fn slot_of(alloc: Global, given: Given) -> Result<Slot, NoMemory> {
+    let value = match given {
+        Given::Nothing => return Ok(Slot::Undefined),
+        Given::Bool(truth) => Value::Bool(truth),
+        Given::Int(number) => Value::Int(number),
+        Given::Time(number) => Value::Time(number),
+        Given::Str(text) => Value::Str(Text::new(alloc, text)?),
+        Given::Bytes(held) => Value::Bytes(Octets::from_slice(alloc, held)?),
+        Given::Array(held) => Value::Array(numbers(alloc, held)?),
+        Given::Texts(held) => Value::Array(texts(alloc, held)?),
+        Given::Tuple(held) => Value::Tuple(numbers(alloc, held)?),
+        Given::Map(held) => Value::Map(map(alloc, held)?),
+        Given::Names(held) => Value::Map(names(alloc, held)?),
+    };
+    Ok(Slot::Defined(value))
+}
+
+// The values that there are, in order.
+pub(crate) fn list_of(alloc: Global, given: &[Given]) -> Result<List, NoMemory> {
+    let mut list = List::new(alloc);
+    for it in given {
+        if let Slot::Defined(value) = slot_of(alloc, *it)? {
+            list.push(value)?;
+        }
+    }
+    Ok(list)
+}
+
+fn numbers(alloc: Global, held: &[i64]) -> Result<List, NoMemory> {
+    let mut list = List::with_capacity(alloc, held.len())?;
+    for number in held {
+        list.push(Value::Int(*number))?;
+    }
+    Ok(list)
+}
+
+fn texts(alloc: Global, held: &[&str]) -> Result<List, NoMemory> {
+    let mut list = List::new(alloc);
+    for text in held {
+        list.push(Value::Str(Text::new(alloc, text)?))?;
+    }
+    Ok(list)
+}
+
+fn map(alloc: Global, held: &[(i64, i64)]) -> Result<Pairs, NoMemory> {
+    let mut pairs = Pairs::new(alloc);
+    for (key, value) in held {
+        pairs.insert(Value::Int(*key), Value::Int(*value))?;
+    }
+    Ok(pairs)
+}
+
+fn names(alloc: Global, held: &[(&str, &str)]) -> Result<Pairs, NoMemory> {
+    let mut pairs = Pairs::new(alloc);
+    for (key, value) in held {
+        let key = Text::new(alloc, key)?;
+        let value = Text::new(alloc, value)?;
+        pairs.insert(Value::Str(key), Value::Str(value))?;
+    }
+    Ok(pairs)
+}

@@ -1,0 +1,19 @@
+//! Tests of the crates that know no program: rows of data, each table of which one short loop runs.
+#![tactic(auto)]
+
+#[cfg(test)]
+mod given;
+#[cfg(test)]
+mod operations;
+#[cfg(test)]
+mod pairs;
+#[cfg(test)]
+mod scopes;
+#[cfg(test)]
+mod tokens;
+#[cfg(test)]
+mod trees;
+#[cfg(test)]
+mod types;
+#[cfg(test)]
+mod values;

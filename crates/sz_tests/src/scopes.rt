@@ -1,0 +1,188 @@
+//! What names mean while blocks are opened and closed, step by step.
+use crate::scopes::Step::{
+    Close, Declare, Depth, Means, Nothing, Open, Seen, TakeBack, Twice, Unseen,
+};
+use std::alloc::Global;
+use std::test::Fail;
+use sz_scope::{Meaning, ScopeError, Scopes, Sight};
+
+#[derive(Clone, Copy)]
+enum Step {
+    Open,
+    // Closes a block, or finds none to close.
+    Close(bool),
+    // Declares a name that the innermost block doesn't have.
+    Declare(&'static str, Meaning),
+    // A name that the innermost block has is refused.
+    Twice(&'static str),
+    TakeBack,
+    Depth(usize),
+    Means(&'static str, Meaning),
+    // The name is nowhere.
+    Nothing(&'static str),
+    // What a name means from a place, where the quantified variables 0 and this one aren't bound.
+    Seen(&'static str, Sight, u32, Meaning),
+    Unseen(&'static str, Sight),
+}
+
+// Each run begins with two blocks, of which the inner one hides `x` and has `y`.
+const BLOCKS: &[Step] = &[
+    Open,
+    Declare("x", Meaning::Var(1)),
+    Declare("len", Meaning::Builtin(2)),
+    Open,
+    Declare("x", Meaning::Table(3)),
+    Declare("y", Meaning::Static(4)),
+];
+
+const AN_INNER_BLOCK_HIDES_A_NAME_UNTIL_IT_IS_CLOSED: &[Step] = &[
+    Means("x", Meaning::Table(3)),
+    Means("y", Meaning::Static(4)),
+    Means("len", Meaning::Builtin(2)),
+    Nothing("z"),
+    Close(true),
+    Means("x", Meaning::Var(1)),
+    Nothing("y"),
+    Close(true),
+    Nothing("x"),
+    Close(false),
+    Depth(0),
+];
+
+const A_NAME_IS_DECLARED_ONCE_IN_A_BLOCK: &[Step] = &[
+    Twice("y"),
+    Means("y", Meaning::Static(4)),
+    Declare("len", Meaning::Var(5)),
+    Twice("len"),
+    Means("len", Meaning::Var(5)),
+    // What was declared in a block that is closed is forgotten.
+    Close(true),
+    Open,
+    Declare("y", Meaning::TypeName(7)),
+    Means("y", Meaning::TypeName(7)),
+];
+
+const A_NAME_THAT_IS_NOT_SEEN_IS_LOOKED_FOR_OUTSIDE: &[Step] = &[
+    Open,
+    Declare("x", Meaning::Quantified(8)),
+    Declare("len", Meaning::Var(9)),
+    Seen("x", Sight::Record, 9, Meaning::Quantified(8)),
+    Seen("x", Sight::Record, 8, Meaning::Table(3)),
+    Seen(
+        "x",
+        Sight::Function { outside: 2 },
+        9,
+        Meaning::Quantified(8),
+    ),
+    Seen("x", Sight::Function { outside: 3 }, 9, Meaning::Table(3)),
+    Unseen("x", Sight::Static),
+    Seen("len", Sight::Record, 9, Meaning::Var(9)),
+    Seen("len", Sight::Function { outside: 2 }, 9, Meaning::Var(9)),
+    Seen(
+        "len",
+        Sight::Function { outside: 3 },
+        9,
+        Meaning::Builtin(2),
+    ),
+    Seen("len", Sight::Static, 9, Meaning::Builtin(2)),
+    Seen("y", Sight::Static, 9, Meaning::Static(4)),
+];
+
+const A_DECLARATION_IS_TAKEN_BACK: &[Step] = &[
+    TakeBack,
+    Nothing("y"),
+    Means("x", Meaning::Table(3)),
+    TakeBack,
+    Means("x", Meaning::Var(1)),
+    TakeBack,
+    Means("x", Meaning::Var(1)),
+    Depth(2),
+];
+
+// The steps behind a call, so that no proof sees them: those of each run, behind the first two blocks.
+fn runs() -> [&'static [Step]; 4] {
+    [
+        AN_INNER_BLOCK_HIDES_A_NAME_UNTIL_IT_IS_CLOSED,
+        A_NAME_IS_DECLARED_ONCE_IN_A_BLOCK,
+        A_NAME_THAT_IS_NOT_SEEN_IS_LOOKED_FOR_OUTSIDE,
+        A_DECLARATION_IS_TAKEN_BACK,
+    ]
+}
+
+fn blocks() -> &'static [Step] {
+    BLOCKS
+}
+
+// What comes of a declaration in the innermost block. Where no block is open it is want of memory.
+fn declared(scopes: &mut Scopes, name: &str, what: Meaning) -> Result<(), ScopeError> {
+    if scopes.depth() == 0 {
+        return Err(ScopeError::NoMemory);
+    }
+    scopes.declare(name, what)
+}
+
+// Takes a step, and says whether it went as it says.
+fn goes(scopes: &mut Scopes, step: &Step) -> bool {
+    match step {
+        Step::Open => scopes.push().is_ok(),
+        Step::Close(was_open) => scopes.pop() == *was_open,
+        Step::Declare(name, what) => declared(scopes, name, *what).is_ok(),
+        Step::Twice(name) => declared(scopes, name, Meaning::Input) == Err(ScopeError::Twice),
+        Step::TakeBack => {
+            scopes.undeclare();
+            true
+        }
+        Step::Depth(depth) => scopes.depth() == *depth,
+        Step::Means(name, what) => scopes.find(name).copied() == Some(*what),
+        Step::Nothing(name) => scopes.find(name).is_none(),
+        Step::Seen(name, sight, unbound, what) => {
+            scopes.find_seen(name, *sight, &[0, *unbound]).copied() == Some(*what)
+        }
+        Step::Unseen(name, sight) => scopes.find_seen(name, *sight, &[]).is_none(),
+    }
+}
+
+#[test]
+fn blocks_and_names_go_as_the_steps_say(rt: HostRuntime) -> Result<(), Fail> {
+    for (run, steps) in runs().iter().enumerate() {
+        let mut scopes = Scopes::new(rt.alloc())?;
+        for (number, step) in blocks().iter().chain(*steps).enumerate() {
+            assert!(rt; goes(&mut scopes, step), "step {number} of run {run}");
+        }
+    }
+    Ok(())
+}
+
+// Declares a name for each number below `count`, with the number as what it means, and says whether each could be.
+fn declare_many(scopes: &mut Scopes, alloc: Global, count: u32) -> Result<bool, Fail> {
+    let mut all = true;
+    for number in 0..count {
+        let name = format!(in alloc; "name{number}")?;
+        all = all && declared(scopes, name.as_str(), Meaning::Var(number)).is_ok();
+    }
+    Ok(all)
+}
+
+#[test]
+fn many_names_and_deep_blocks(rt: HostRuntime) -> Result<(), Fail> {
+    let mut scopes = Scopes::new(rt.alloc())?;
+    assert!(rt; goes(&mut scopes, &Open));
+    assert!(rt; declare_many(&mut scopes, rt.alloc(), 20_000)?);
+    for depth in 1..256u32 {
+        assert!(rt; goes(&mut scopes, &Open));
+        assert!(rt; goes(&mut scopes, &Declare("name7", Meaning::Table(depth))));
+    }
+    for step in [
+        Depth(256),
+        Means("name19999", Meaning::Var(19_999)),
+        Means("name7", Meaning::Table(255)),
+        Unseen("name7", Sight::Static),
+    ] {
+        assert!(rt; goes(&mut scopes, &step));
+    }
+    for _ in 1..256u32 {
+        assert!(rt; goes(&mut scopes, &Close(true)));
+    }
+    assert!(rt; goes(&mut scopes, &Means("name7", Meaning::Var(7))));
+    Ok(())
+}
