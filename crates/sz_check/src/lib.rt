@@ -11,8 +11,6 @@ mod simple;
 mod stmt;
 mod table;
 mod target;
-#[cfg(test)]
-mod tests;
 mod top;
 
 pub use laws::{a_small_program_is_judged, judged_programs_are_sound};

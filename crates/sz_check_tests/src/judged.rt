@@ -1,15 +1,13 @@
 //! What no contract says: that `check` gives a program or its refusal where there is memory, on each of its arms, and that the
 //! definition is the one that was meant.
-mod declarations;
-mod programs;
 
-use super::*;
-use declarations::{EMITS, PROTO_TYPES, TABLES};
-use programs::{EXPRESSIONS, PROGRAMS, STATEMENTS};
+use crate::declarations::{EMITS, PROTO_TYPES, TABLES};
+use crate::programs::{EXPRESSIONS, PROGRAMS, STATEMENTS};
 use std::alloc::{AllocError, Global};
 use std::fmt::Write;
 use std::process::Abort;
 use std::test::Fail;
+use sz_check::{CheckError, check};
 use sz_lex::lex;
 use sz_parse::parse;
 use sz_tree::Tree;
