@@ -5,4 +5,5 @@ pub mod Types
 pub mod Reading
 pub mod ReadingExpressions
 pub mod ReadingTypes
+pub mod ReadingParts
 pub mod Outcome

@@ -1,14 +1,16 @@
 //! Expressions.
-ghost use Rattle.std.specs.Prelude.{◌≡◌, ◌+◌, ◌<◌, ◌≤◌, [], ◌∷◌, IfOk, map as each};
+ghost use Rattle.std.specs.Prelude.{◌≡◌, ◌+◌, ◌<◌, ◌≤◌, [], ◌∷◌, max, IfOk, map as each};
 ghost use Rattle.sz_tree.specs.Expressions.{exps_of, pairs_of, height, heights, pair_heights};
 ghost use Rattle.sz_tree.specs.View.{tree_of, pair_of};
 ghost use Rattle.sz_parse_expr.specs.Reading.{utf8_in};
 ghost use Rattle.sz_parse_expr.specs.ReadingExpressions.{pair_at, items_behind, pairs_behind, args_at, call_at, named_at, closed_at, condition_at, paren_at, list_at, map_at, composite_at, worded, primary_here, bracket_at, part_at, tail_at, prefix_at, postfix_at, chain_at, level_at, expr_at};
+ghost use Rattle.sz_parse_expr.specs.ReadingParts.{slice_at};
 ghost use Rattle.sz_parse_expr.specs.Outcome.{Gives};
 
 use crate::failed::Failed;
 use crate::limit::MAX_HEIGHT;
-use crate::operators::{conversion_of, joined, operator, quoted, string, unary_of};
+use crate::nodes::{field, indexed, joined, sliced};
+use crate::operators::{conversion_of, operator, quoted, string, unary_of};
 use crate::token::{expect, ident, name, skip, spelled};
 use std::alloc::Global;
 use sz_lex::{Kind, Quoted, Sign, Token, Word};
@@ -212,9 +214,7 @@ fn part<'t>(
                     return Err(Failed::Syntax);
                 }
                 let (name, rest) = name(alloc, text, rest)?;
-                let place = left.place();
-                let tree = Expr::Field(place, Box::new(alloc, left)?, name);
-                Ok(((tree, true), 1 + left_height, rest))
+                Ok(((field(alloc, left, name)?, true), 1 + left_height, rest))
             }
             None => Ok(((left, false), left_height, tokens)),
         },
@@ -240,25 +240,42 @@ fn bracket<'t>(
     ensures low { IfOk result (λ x. x.1 ≤ inner + 1) }
 {
     let (at, at_height, rest) = expr(alloc, text, inner, 5, tokens)?;
-    let place = left.place();
     match skip(Sign::Colon, rest) {
         None => {
             let rest = expect(Sign::CloseBracket, rest)?;
-            let tree = Expr::Index(place, Box::new(alloc, left)?, Box::new(alloc, at)?);
+            let tree = indexed(alloc, left, at)?;
             Ok((tree, 1 + left_height.max(at_height), rest))
         }
         Some(rest) => {
-            let (to, to_height, rest) = expr(alloc, text, inner, 5, rest)?;
-            let rest = expect(Sign::CloseBracket, rest)?;
-            let tree = Expr::Slice(
-                place,
-                Box::new(alloc, left)?,
-                Box::new(alloc, at)?,
-                Box::new(alloc, to)?,
-            );
-            Ok((tree, 1 + left_height.max(at_height).max(to_height), rest))
+            let front_height = left_height.max(at_height);
+            slice(alloc, text, inner, left, at, front_height, rest)
         }
     }
+}
+
+// A slice, behind its colon.
+#[cycle(expr)]
+#[tactic(auto, unfolding(crate::specs::Reading::bind, sz_tree::specs::Expressions::height))]
+fn slice<'t>(
+    alloc: Global,
+    text: &[u8],
+    inner: u32,
+    left: Expr,
+    from: Expr,
+    front_height: u32,
+    tokens: &'t [Token],
+) -> Result<(Expr, u32, &'t [Token]), Failed>
+    requires depth { inner < MAX_HEIGHT }
+    requires low { front_height ≤ inner }
+    requires measured { front_height ≡ max (height (tree_of left)) (height (tree_of from)) }
+    ensures read { Gives (λ x. (tree_of x.0, x.2.now)) result (slice_at (expr_at (utf8_in text.now) inner) (tree_of left) (tree_of from) tokens.now) }
+    ensures measured { IfOk result (λ x. x.1 ≡ height (tree_of x.0)) }
+    ensures low { IfOk result (λ x. x.1 ≤ inner + 1) }
+{
+    let (to, to_height, rest) = expr(alloc, text, inner, 5, tokens)?;
+    let rest = expect(Sign::CloseBracket, rest)?;
+    let tree = sliced(alloc, left, from, to)?;
+    Ok((tree, 1 + front_height.max(to_height), rest))
 }
 
 // What a token begins.

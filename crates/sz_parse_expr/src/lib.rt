@@ -4,6 +4,7 @@
 mod expression;
 mod failed;
 mod limit;
+mod nodes;
 mod operators;
 mod token;
 mod types;

@@ -1,8 +1,6 @@
 //! Operators, conversions and literals: what single tokens of an expression mean.
-ghost use Rattle.std.specs.Prelude.{◌≡◌, Some as Just};
+ghost use Rattle.std.specs.Prelude.{◌≡◌};
 ghost use Rattle.sz_lex.specs.declared.escape.Quoted.TheVariants as quoteds;
-ghost use Rattle.sz_tree.specs.Expressions.{place_of, binary as binary_tree};
-ghost use Rattle.sz_tree.specs.View.{tree_of};
 ghost use Rattle.sz_parse_expr.specs.Reading.{decoded};
 ghost use Rattle.sz_parse_expr.specs.ReadingExpressions.{unary_of, sign_binary, conversion_of, operator_at};
 ghost use Rattle.sz_parse_expr.specs.Outcome.{Gives, Sees};
@@ -10,7 +8,7 @@ ghost use Rattle.sz_parse_expr.specs.Outcome.{Gives, Sees};
 use crate::failed::Failed;
 use std::alloc::Global;
 use sz_lex::{Kind, Quoted, Sign, Token, Word, decode};
-use sz_tree::{BasicType, BinaryOp, Expr, UnaryOp};
+use sz_tree::{BasicType, BinaryOp, UnaryOp};
 use sz_types::Text;
 
 // The operator that a token is before an operand.
@@ -104,12 +102,4 @@ pub fn string(alloc: Global, literal: &str) -> Result<Text, Failed>
     ensures value { Gives (λ t. t) result (decoded quoteds.Str literal.now) }
 {
     Ok(Text::from_utf8(quoted(alloc, Quoted::Str, literal.as_bytes())?))
-}
-
-// An operator with its operands.
-pub fn joined(alloc: Global, op: BinaryOp, left: Expr, right: Expr) -> Result<Expr, Failed>
-    ensures value { Gives tree_of result (Just (binary_tree (place_of (tree_of left)) op (tree_of left) (tree_of right))) }
-{
-    let place = left.place();
-    Ok(Expr::Binary(place, op, Box::new(alloc, left)?, Box::new(alloc, right)?))
 }

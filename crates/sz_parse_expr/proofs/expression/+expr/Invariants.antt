@@ -71,6 +71,9 @@ decreases-part l = 32 * l.inner + 4
 abbrev pub decreases-bracket : goal.decreases-bracket
 decreases-bracket l = 32 * l.inner + 3
 
+abbrev pub decreases-slice : goal.decreases-slice
+decreases-slice l = 32 * l.inner + 2
+
 abbrev pub decreases-chain : goal.decreases-chain
 decreases-chain l = 32 * l.inner + 5
 
