@@ -1,0 +1,80 @@
+-- The records of a file, and how they end.
+use Rattle.std.specs.Prelude.{◌≡◌, ℕ, suc, ◌+◌, ◌-◌, List, [], ◌∷◌, length, take, drop, min, Option, Some, None, Bool}
+use Rattle.std.specs.Prelude.{nat_lt, nat_le, ◌==◌, if◌then◌else◌}
+use Rattle.sz_types.specs.declared.frame.Frame.{Frame}
+use Rattle.sz_types.specs.declared.frame.Frame.TheVariants.{Lines, Delimited}
+use Rattle.sz_wire.specs.Varint.{varint_at}
+use Rattle.sz_records.specs.declared.ending.Ending.{Ending}
+use Rattle.sz_records.specs.declared.ending.Ending.TheVariants.{Whole, Damaged, Limit}
+use Rattle.sz_records.specs.declared.limits.FrameLimits.{FrameLimits}
+
+-- what stands where a record begins: a record, with the number of bytes that it takes; the ending; or the beginning of a record
+pub data Standing : Type 0 where
+  record_of : List ℕ → ℕ → Standing
+  stopped : Ending → Standing
+  unfinished : Standing
+
+-- how many bytes are before the first byte 10, or before the end
+unfoldable pub line_len : List ℕ → ℕ
+line_len [] = 0
+line_len (b ∷ bytes) = if b == 10 then 0 else suc (line_len bytes)
+
+-- where a record would begin at byte p: it is too long, it ends past the input, it is all there, or it is only begun
+abbrev pub by_limits : Bool → Bool → Bool → ℕ → Standing → Standing
+by_limits too_long past_input all_there p found =
+    if too_long then stopped (Limit p) else if past_input then stopped (Limit p) else if all_there then found else unfinished
+
+-- what stands at byte p where records are lines; a line takes its byte 10 too, if that is there
+unfoldable pub line_standing : FrameLimits → ℕ → List ℕ → Standing
+line_standing limits p bytes = by_limits
+    (nat_lt limits.record_bytes (line_len bytes))
+    (nat_lt limits.input_bytes (p + min (line_len bytes + 1) (length bytes)))
+    (nat_lt (line_len bytes) (length bytes))
+    p (record_of (take (line_len bytes) bytes) (line_len bytes + 1))
+
+-- what stands at byte p where so many bytes have told a record's length, and these are behind them
+unfoldable pub sized_standing : FrameLimits → ℕ → ℕ → ℕ → List ℕ → Standing
+sized_standing limits p used size behind = by_limits
+    (nat_lt limits.record_bytes size)
+    (nat_lt limits.input_bytes (p + (used + size)))
+    (nat_le size (length behind))
+    p (record_of (take size behind) (used + size))
+
+-- with the length that was read: none is there so far, or none can be there, or one of so many bytes
+unfoldable pub length_standing : FrameLimits → ℕ → List ℕ → Option (ℕ × List ℕ) → Standing
+length_standing limits p bytes None = if nat_lt (length bytes) 10 then unfinished else stopped (Damaged p)
+length_standing limits p bytes (Some read) = sized_standing limits p (length bytes - length read.1) read.0 read.1
+
+-- what stands at byte p, by the frame
+unfoldable pub frame_standing : Frame → FrameLimits → ℕ → List ℕ → Standing
+frame_standing Lines limits p bytes = line_standing limits p bytes
+frame_standing Delimited limits p bytes = length_standing limits p bytes (varint_at bytes)
+
+-- what stands at byte p behind n records
+unfoldable pub standing : Frame → FrameLimits → ℕ → ℕ → List ℕ → Standing
+standing frame limits p n [] = unfinished
+standing frame limits p n (b ∷ bytes) = if nat_lt n limits.records then frame_standing frame limits p (b ∷ bytes) else stopped (Limit p)
+
+-- the records and the ending of a file that ends behind these bytes, which are the beginning of a record
+abbrev pub at_end : Frame → ℕ → List ℕ → List (List ℕ) × Ending
+at_end frame p [] = ([], Whole)
+at_end Lines p (b ∷ bytes) = ((b ∷ bytes) ∷ [], Whole)
+at_end Delimited p (b ∷ bytes) = ([], Damaged p)
+
+-- no record is there, where this stands
+abbrev pub EndsHere : Frame → ℕ → List ℕ → Ending → Standing → Type 0
+EndsHere frame p bytes e (record_of r size) = ⊥
+EndsHere frame p bytes e (stopped why) = e ≡ why
+EndsHere frame p bytes e unfinished = at_end frame p bytes ≡ ([], e)
+
+-- a record is there, and more as told, where this stands
+abbrev pub BeginsWith : Frame → ℕ → List ℕ → (ℕ → Type 0) → List ℕ → List (List ℕ) → Ending → Standing → Type 0
+BeginsWith frame p bytes goes_on first others e (record_of r size) = (first ≡ r) × goes_on size
+BeginsWith frame p bytes goes_on first others e (stopped why) = ⊥
+BeginsWith frame p bytes goes_on first others e unfinished = at_end frame p bytes ≡ (first ∷ others, e)
+
+-- from byte p on, behind n records, the rest of a file is cut into these records with this ending
+unfoldable pub IsCut : Frame → FrameLimits → ℕ → ℕ → List ℕ → List (List ℕ) → Ending → Type 0
+IsCut frame limits p n bytes [] e = EndsHere frame p bytes e (standing frame limits p n bytes)
+IsCut frame limits p n bytes (first ∷ others) e =
+    BeginsWith frame p bytes (λ size. IsCut frame limits (p + size) (n + 1) (drop size bytes) others e) first others e (standing frame limits p n bytes)

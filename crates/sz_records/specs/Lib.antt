@@ -1,0 +1,8 @@
+-- what the public contracts rest on
+pub mod Held
+pub mod Cutting
+pub mod Steps
+pub mod Fed
+-- what the functions inside the crate promise each other
+pub mod Fronts
+pub mod Taken

@@ -1,0 +1,60 @@
+-- What cutting promises inside the crate.
+use Rattle.std.specs.Prelude.{◌≡◌, ℕ, ◌+◌, ◌<◌, ◌≤◌, List, [], ◌∷◌, ◌++◌, length, Option, Some, None}
+use Rattle.sz_records.specs.declared.cutter.Cutter.{Cutter}
+use Rattle.sz_records.specs.declared.cutter.Step.{Step}
+use Rattle.sz_records.specs.declared.cutter.Step.TheVariants as steps
+use Rattle.sz_records.specs.declared.ending.Ending.{Ending}
+use Rattle.sz_records.specs.Cutting.{Standing, record_of, stopped, unfinished, standing, IsCut}
+
+-- what stands at the front of these bytes
+abbrev pub stands : Cutter → List ℕ → Standing
+stands cutter bytes = standing cutter.frame cutter.limits cutter.place cutter.count bytes
+
+-- what is still to come is cut so
+abbrev pub IsCutOn : Cutter → List ℕ → List (List ℕ) → Ending → Type 0
+IsCutOn cutter bytes rs e = IsCut cutter.frame cutter.limits cutter.place cutter.count bytes rs e
+
+-- the frame and the limits stay
+pub record IsOf (old new : Cutter) : Type 0 where
+  pub frame : new.frame ≡ old.frame
+  pub limits : new.limits ≡ old.limits
+
+-- nothing changed
+pub record IsSame (old new : Cutter) : Type 0 where
+  pub of : IsOf old new
+  pub place : new.place ≡ old.place
+  pub count : new.count ≡ old.count
+
+-- a record of so many bytes was cut off
+pub record IsPassed (old new : Cutter) (bytes : List ℕ) (before after : List (List ℕ)) (size : ℕ) : Type 0 where
+  pub of : IsOf old new
+  pub place : new.place ≡ old.place + size
+  pub count : new.count ≡ old.count + 1
+  pub kept : List ℕ
+  pub stood : stands old bytes ≡ record_of kept size
+  pub gained : after ≡ before ++ kept ∷ []
+  pub some : 0 < size
+  pub within : size ≤ length bytes
+
+-- one step is what stands at the front
+abbrev pub IsStep : Cutter → Cutter → List ℕ → List (List ℕ) → List (List ℕ) → Step → Type 0
+IsStep old new bytes before after (steps.Passed size) = IsPassed old new bytes before after size
+IsStep old new bytes before after (steps.Stopped e) = IsSame old new × (stands old bytes ≡ stopped e) × (after ≡ before)
+IsStep old new bytes before after steps.Unfinished = IsSame old new × (stands old bytes ≡ unfinished) × (after ≡ before)
+
+-- what stands at the front of what is left, where cutting is over
+abbrev pub IsLeft : Cutter → List ℕ → Option Ending → Type 0
+IsLeft cutter left None = stands cutter left ≡ unfinished
+IsLeft cutter left (Some e) = stands cutter left ≡ stopped e
+
+-- records were cut off the front of these bytes, and this is left: whatever comes behind, the cut of what is left goes on that of all
+pub record CutsFront (old new : Cutter) (bytes left : List ℕ) (before after : List (List ℕ)) : Type 0 where
+  pub of : IsOf old new
+  pub given : List (List ℕ)
+  pub gained : after ≡ before ++ given
+  pub goes_on : (more : List ℕ) (rs : List (List ℕ)) (e : Ending) → IsCutOn new (left ++ more) rs e → IsCutOn old (bytes ++ more) (given ++ rs) e
+
+-- as many records were cut off as are whole, and this ending is known then
+pub record CutsOff (old new : Cutter) (bytes left : List ℕ) (before after : List (List ℕ)) (ending : Option Ending) : Type 0 where
+  pub front : CutsFront old new bytes left before after
+  pub over : IsLeft new left ending
