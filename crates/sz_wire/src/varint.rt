@@ -12,13 +12,7 @@ const MOST_BYTES: usize = 10;
 ///
 /// A varint has seven bits in each byte, the low ones first, and the top bit says that a byte follows. Bits past 64 are
 /// dropped. `Bad` comes where the bytes end before the varint does, or its tenth byte has its top bit set.
-#[tactic(auto, using(
-    crate::proofs::VarintLemmas::starts_read,
-    crate::proofs::VarintLemmas::last_byte,
-    crate::proofs::VarintLemmas::more_bytes,
-    crate::proofs::VarintLemmas::bytes_end,
-    crate::proofs::VarintLemmas::too_long
-))]
+#[tactic(auto, using(crate::proofs::VarintLemmas::starts_read, crate::proofs::VarintLemmas::last_byte, crate::proofs::VarintLemmas::more_bytes, crate::proofs::VarintLemmas::bytes_end, crate::proofs::VarintLemmas::too_long))]
 pub fn read_varint(bytes: &[u8], at: usize) -> Result<(u64, usize), Bad>
     requires { at ≤ length bytes.now }
     ensures found { IfOk result (λ r. varint_at (drop at bytes.now) ≡ Some (r.0, drop r.1 bytes.now)) }
