@@ -10,26 +10,31 @@ use Rattle.sz_records.specs.Steps.{IsCutOn, IsSame, IsPassed, IsLeft, CutsFront,
 use Rattle.sz_records.proofs.StayLemmas.{record_stays}
 
 -- a record in front of a cut
-pub cut_record : (frame : Frame) (limits : FrameLimits) (p n : ℕ) (bytes : List ℕ) (r : List ℕ) (size : ℕ) (rs : List (List ℕ)) (e : Ending) → standing frame limits p n bytes ≡ record_of r size
+pub cut_record : (frame : Frame) (limits : FrameLimits) (p n : ℕ) (bytes : List ℕ) (r : List ℕ) (size : ℕ) (rs : List (List ℕ)) (e : Ending)
+    → standing frame limits p n bytes ≡ record_of r size
     → IsCut frame limits (p + size) (n + 1) (drop size bytes) rs e → IsCut frame limits p n bytes (r ∷ rs) e
 unfolding IsCut
 cut_record frame limits p n bytes r size rs e stood h = rw stood (refl, h)
 
 -- the cut where nothing more stands but the ending
-pub cut_stopped : (frame : Frame) (limits : FrameLimits) (p n : ℕ) (bytes : List ℕ) (e : Ending) → standing frame limits p n bytes ≡ stopped e → IsCut frame limits p n bytes [] e
+pub cut_stopped : (frame : Frame) (limits : FrameLimits) (p n : ℕ) (bytes : List ℕ) (e : Ending)
+    → standing frame limits p n bytes ≡ stopped e → IsCut frame limits p n bytes [] e
 unfolding IsCut
 cut_stopped frame limits p n bytes e stood = rw stood refl
 
 -- the cut where the file ends in the beginning of a record
-pub cut_end : (frame : Frame) (limits : FrameLimits) (p n : ℕ) (bytes : List ℕ) (rs : List (List ℕ)) (e : Ending) → standing frame limits p n bytes ≡ unfinished → at_end frame p bytes ≡ (rs, e) → IsCut frame limits p n bytes rs e
+pub cut_end : (frame : Frame) (limits : FrameLimits) (p n : ℕ) (bytes : List ℕ) (rs : List (List ℕ)) (e : Ending)
+    → standing frame limits p n bytes ≡ unfinished → at_end frame p bytes ≡ (rs, e) → IsCut frame limits p n bytes rs e
 unfolding IsCut
 cut_end frame limits p n bytes [] e stood h = rw stood h
 cut_end frame limits p n bytes (r ∷ rs) e stood h = rw stood h
 
 pub starts_cutting : (cutter : Cutter) (bytes : List ℕ) (before : List (List ℕ)) → CutsFront cutter cutter bytes (drop 0 bytes) before before
-starts_cutting cutter bytes before = record { of = record { frame = refl; limits = refl }; given = []; gained = sym (append-nil before); goes_on = λ more rs e h. h }
+starts_cutting cutter bytes before =
+    record { of = record { frame = refl; limits = refl }; given = []; gained = sym (append-nil before); goes_on = λ more rs e h. h }
 
-pub passes_on : {old now new : Cutter} {bytes : List ℕ} (at size : ℕ) {before mid after : List (List ℕ)} → CutsFront old now bytes (drop at bytes) before mid → IsPassed now new (drop at bytes) mid after size
+pub passes_on : {old now new : Cutter} {bytes : List ℕ} (at size : ℕ) {before mid after : List (List ℕ)}
+    → CutsFront old now bytes (drop at bytes) before mid → IsPassed now new (drop at bytes) mid after size
     → CutsFront old new bytes (drop (at + size) bytes) before after
 passes_on {old} {now} {new} {bytes} at size {before} {mid} {after} s p = record {
   of = record { frame = p.of.frame ∙ s.of.frame; limits = p.of.limits ∙ s.of.limits };
@@ -37,8 +42,10 @@ passes_on {old} {now} {new} {bytes} at size {before} {mid} {after} s p = record 
   gained = p.gained ∙ ap (λ (x : List (List ℕ)). x ++ p.kept ∷ []) s.gained ∙ append_assoc before s.given (p.kept ∷ []);
   goes_on = λ more rs e h. (
       let left = drop at bytes in
-      let stood : standing now.frame now.limits now.place now.count (left ++ more) ≡ record_of p.kept size = record_stays now.frame now.limits now.place now.count left more p.kept size p.stood in
-      let behind : drop (at + size) bytes ++ more ≡ drop size (left ++ more) = ap (λ (x : List ℕ). x ++ more) (sym (drop-drop size at bytes)) ∙ sym (drop-append-le size left more p.within) in
+      let stood : standing now.frame now.limits now.place now.count (left ++ more) ≡ record_of p.kept size =
+      record_stays now.frame now.limits now.place now.count left more p.kept size p.stood in
+      let behind : drop (at + size) bytes ++ more ≡ drop size (left ++ more) =
+      ap (λ (x : List ℕ). x ++ more) (sym (drop-drop size at bytes)) ∙ sym (drop-append-le size left more p.within) in
       let h' = rw (p.of.frame, p.of.limits, p.place, p.count, behind) at h in
       let one : IsCutOn now (left ++ more) (p.kept ∷ rs) e = cut_record now.frame now.limits now.place now.count (left ++ more) p.kept size rs e stood h' in
       let all : IsCutOn old (bytes ++ more) (s.given ++ p.kept ∷ rs) e = s.goes_on more (p.kept ∷ rs) e one in
@@ -50,7 +57,8 @@ still_left : {now new : Cutter} (left : List ℕ) (ending : Option Ending) → I
 still_left left None same h = rw (same.of.frame, same.of.limits, same.place, same.count) h
 still_left left (Some e) same h = rw (same.of.frame, same.of.limits, same.place, same.count) h
 
-pub is_over : {old now new : Cutter} {bytes left : List ℕ} {before mid after : List (List ℕ)} (ending : Option Ending) → CutsFront old now bytes left before mid → IsSame now new → after ≡ mid → IsLeft now left ending
+pub is_over : {old now new : Cutter} {bytes left : List ℕ} {before mid after : List (List ℕ)} (ending : Option Ending)
+    → CutsFront old now bytes left before mid → IsSame now new → after ≡ mid → IsLeft now left ending
     → CutsOff old new bytes left before after ending
 is_over {old} {now} {new} {bytes} {left} ending s same e over = record {
   front = record {

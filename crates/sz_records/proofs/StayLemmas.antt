@@ -1,5 +1,6 @@
 -- What is known of a record's place stays when more bytes come.
-use Rattle.std.proofs.Common.{◌≡◌, ℕ, suc, ◌+◌, ◌-◌, ◌<◌, ◌≤◌, min, List, [], ◌∷◌, ◌++◌, length, take, Option, Some, None, Bool, true, false, cond, eqb, ltb, refl, ap, ◌∙◌, arith, length-append}
+use Rattle.std.proofs.Common.{◌≡◌, ℕ, suc, ◌+◌, ◌-◌, ◌<◌, ◌≤◌, min, List, [], ◌∷◌, ◌++◌, length, take, Option, Some}
+use Rattle.std.proofs.Common.{None, Bool, true, false, cond, eqb, ltb, refl, ap, ◌∙◌, arith, length-append}
 use Rattle.std.proofs.lemmas.Bool.{lt-ltb, le-ltb, ltb-true, ltb-false, le-leb, leb-true}
 use Rattle.std.proofs.lemmas.List.{take-append-le}
 use Rattle.sz_types.specs.declared.frame.Frame.{Frame}
@@ -8,7 +9,8 @@ use Rattle.sz_records.specs.declared.ending.Ending.{Ending}
 use Rattle.sz_records.specs.declared.ending.Ending.TheVariants.{Damaged, Limit}
 use Rattle.sz_records.specs.declared.limits.FrameLimits.{FrameLimits}
 use Rattle.sz_wire.specs.Varint.{varint_at}
-use Rattle.sz_records.specs.Cutting.{Standing, record_of, stopped, unfinished, by_limits, line_len, line_standing, sized_standing, length_standing, frame_standing, standing}
+use Rattle.sz_records.specs.Cutting.{Standing, record_of, stopped, unfinished, by_limits, line_len, line_standing}
+use Rattle.sz_records.specs.Cutting.{sized_standing, length_standing, frame_standing, standing}
 use Rattle.sz_records.proofs.VarintLemmas.{varint_stays, varint_stays_none}
 
 -- what stands is a record or the ending, so more bytes change nothing
@@ -31,7 +33,8 @@ unfolding line_len
 line_len_stays [] b lt = absurd (omega arith)
 line_len_stays (x ∷ xs) b lt = by_test (λ h. line_len_stays xs b h) (eqb x 10) lt
   where
-    by_test : (line_len xs < length xs → line_len (xs ++ b) ≡ line_len xs) → (t : Bool) → cond t 0 (suc (line_len xs)) < suc (length xs) → cond t 0 (suc (line_len (xs ++ b))) ≡ cond t 0 (suc (line_len xs))
+    by_test : (line_len xs < length xs → line_len (xs ++ b) ≡ line_len xs) → (t : Bool) → cond t 0 (suc (line_len xs)) < suc (length xs)
+        → cond t 0 (suc (line_len (xs ++ b))) ≡ cond t 0 (suc (line_len xs))
     by_test same true h = refl
     by_test same false h = ap suc (same (omega arith))
 
@@ -59,11 +62,14 @@ line_stays limits p a b settled =
     let front : take (line_len a) (a ++ b) ≡ take (line_len a) a = take-append-le (line_len a) a b (omega arith) in
     let there : line_len (a ++ b) < length (a ++ b) = omega arith in
     let long : ltb limits.record_bytes (line_len (a ++ b)) ≡ ltb limits.record_bytes (line_len a) = rw same refl in
-    let past : ltb limits.input_bytes (p + min (line_len (a ++ b) + 1) (length (a ++ b))) ≡ ltb limits.input_bytes (p + min (line_len a + 1) (length a)) = rw (same, room) refl in
-    let found : record_of (take (line_len (a ++ b)) (a ++ b)) (line_len (a ++ b) + 1) ≡ record_of (take (line_len a) a) (line_len a + 1) = rw (same, front) refl in
+    let past : ltb limits.input_bytes (p + min (line_len (a ++ b) + 1) (length (a ++ b))) ≡ ltb limits.input_bytes
+    (p + min (line_len a + 1) (length a)) = rw (same, room) refl in
+    let found : record_of (take (line_len (a ++ b)) (a ++ b)) (line_len (a ++ b) + 1) ≡ record_of (take (line_len a) a) (line_len a + 1) =
+    rw (same, front) refl in
     (lt-ltb _ _ there, long, past, found))
 
-sized_stays : (limits : FrameLimits) (p used size : ℕ) (a b : List ℕ) → IsSettled (sized_standing limits p used size a) → sized_standing limits p used size (a ++ b) ≡ sized_standing limits p used size a
+sized_stays : (limits : FrameLimits) (p used size : ℕ) (a b : List ℕ) → IsSettled (sized_standing limits p used size a)
+    → sized_standing limits p used size (a ++ b) ≡ sized_standing limits p used size a
 unfolding sized_standing
 sized_stays limits p used size a b settled =
     let longer : length (a ++ b) ≡ length a + length b = length-append a b in
@@ -80,7 +86,8 @@ length_stays : (limits : FrameLimits) (p : ℕ) (a b : List ℕ) (read : Option 
 unfolding length_standing
 length_stays limits p a b None e settled = by_test (ltb (length a) 10) refl settled
   where
-    by_test : (t : Bool) → ltb (length a) 10 ≡ t → IsSettled (cond t unfinished (stopped (Damaged p))) → length_standing limits p (a ++ b) (varint_at (a ++ b)) ≡ cond t unfinished (stopped (Damaged p))
+    by_test : (t : Bool) → ltb (length a) 10 ≡ t → IsSettled (cond t unfinished (stopped (Damaged p)))
+        → length_standing limits p (a ++ b) (varint_at (a ++ b)) ≡ cond t unfinished (stopped (Damaged p))
     by_test true h settled' = absurd settled'
     by_test false h settled' =
         let le : 10 ≤ length a = ltb-false _ _ h in
@@ -91,13 +98,15 @@ length_stays limits p a b (Some read) e settled =
     let used : length (a ++ b) - length (read.1 ++ b) ≡ length a - length read.1 = omega (arith, length-append a b, length-append read.1 b) in
     rw (more, used) (sized_stays limits p (length a - length read.1) read.0 read.1 b settled)
 
-frame_stays : (frame : Frame) (limits : FrameLimits) (p : ℕ) (a b : List ℕ) → IsSettled (frame_standing frame limits p a) → frame_standing frame limits p (a ++ b) ≡ frame_standing frame limits p a
+frame_stays : (frame : Frame) (limits : FrameLimits) (p : ℕ) (a b : List ℕ) → IsSettled (frame_standing frame limits p a)
+    → frame_standing frame limits p (a ++ b) ≡ frame_standing frame limits p a
 unfolding frame_standing
 frame_stays Lines limits p a b settled = line_stays limits p a b settled
 frame_stays Delimited limits p a b settled = length_stays limits p a b (varint_at a) refl settled
 
 -- a record or an ending stays, whatever comes behind
-stays : (frame : Frame) (limits : FrameLimits) (p n : ℕ) (a b : List ℕ) → IsSettled (standing frame limits p n a) → standing frame limits p n (a ++ b) ≡ standing frame limits p n a
+stays : (frame : Frame) (limits : FrameLimits) (p n : ℕ) (a b : List ℕ) → IsSettled (standing frame limits p n a)
+    → standing frame limits p n (a ++ b) ≡ standing frame limits p n a
 unfolding standing
 stays frame limits p n [] b settled = absurd settled
 stays frame limits p n (x ∷ xs) b settled = by_test (ltb n limits.records) settled
@@ -107,8 +116,10 @@ stays frame limits p n (x ∷ xs) b settled = by_test (ltb n limits.records) set
     by_test true h = frame_stays frame limits p (x ∷ xs) b h
     by_test false h = refl
 
-pub record_stays : (frame : Frame) (limits : FrameLimits) (p n : ℕ) (a b : List ℕ) (r : List ℕ) (size : ℕ) → standing frame limits p n a ≡ record_of r size → standing frame limits p n (a ++ b) ≡ record_of r size
+pub record_stays : (frame : Frame) (limits : FrameLimits) (p n : ℕ) (a b : List ℕ) (r : List ℕ) (size : ℕ)
+    → standing frame limits p n a ≡ record_of r size → standing frame limits p n (a ++ b) ≡ record_of r size
 record_stays frame limits p n a b r size e = stays frame limits p n a b (rw e tt) ∙ e
 
-pub ending_stays : (frame : Frame) (limits : FrameLimits) (p n : ℕ) (a b : List ℕ) (why : Ending) → standing frame limits p n a ≡ stopped why → standing frame limits p n (a ++ b) ≡ stopped why
+pub ending_stays : (frame : Frame) (limits : FrameLimits) (p n : ℕ) (a b : List ℕ) (why : Ending)
+    → standing frame limits p n a ≡ stopped why → standing frame limits p n (a ++ b) ≡ stopped why
 ending_stays frame limits p n a b why e = stays frame limits p n a b (rw e tt) ∙ e

@@ -31,7 +31,8 @@ abbrev pub Fixes : Frame → FrameLimits → List ℕ → List (List ℕ) → En
 Fixes frame limits fed given e = (more : List ℕ) → IsCut frame limits 0 0 (fed ++ more) given e
 
 -- a piece was fed, and records were added: the records of a file whose bytes so far are those and the piece
-pub record Adds (frame : Frame) (limits : FrameLimits) (framer : Framer) (fed : List ℕ) (given before after : List (List ℕ)) (ended : Option Ending) : Type 0 where
+pub record Adds (frame : Frame) (limits : FrameLimits) (framer : Framer) (fed : List ℕ) (given before after : List (List ℕ))
+    (ended : Option Ending) : Type 0 where
   pub added : List (List ℕ)
   pub gained : after ≡ before ++ added
   pub read : HasRead frame limits framer fed (given ++ added)

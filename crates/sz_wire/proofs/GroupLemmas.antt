@@ -1,5 +1,6 @@
 -- The loop over the fields of a group comes to the group's end.
-use Rattle.std.proofs.Common.{◌≡◌, ℕ, zero, suc, ◌+◌, ◌-◌, ◌<◌, ◌≤◌, List, [], length, drop, Some, None, Result, Ok, Err, true, false, cond, eqb, refl, sym, ap, ◌∙◌, arith}
+use Rattle.std.proofs.Common.{◌≡◌, ℕ, zero, suc, ◌+◌, ◌-◌, ◌<◌, ◌≤◌, List, [], length, drop, Some, None, Result, Ok}
+use Rattle.std.proofs.Common.{Err, true, false, cond, eqb, refl, sym, ap, ◌∙◌, arith}
 use Rattle.std.specs.Prelude.{OnErr}
 use Rattle.std.specs.Option.{option_and_then}
 use Rattle.std.proofs.Math.ListN.{drop_of_length-le}
@@ -10,7 +11,8 @@ use Rattle.sz_wire.specs.Field.{value_end, group_end}
 -- at a place in a group that began at another, what is left of it ends where the whole does
 pub record IsInGroup (bytes : List ℕ) (levels number at place : ℕ) : Type 0 where
   pub later : at ≤ place
-  pub ends : (turns : ℕ) → length bytes - at ≤ turns → (left : ℕ) × (length bytes - place ≤ left) × (group_end left levels number (drop place bytes) ≡ group_end turns levels number (drop at bytes))
+  pub ends : (turns : ℕ) → length bytes - at ≤ turns
+      → (left : ℕ) × (length bytes - place ≤ left) × (group_end left levels number (drop place bytes) ≡ group_end turns levels number (drop at bytes))
 
 pub begins_group : (bytes : List ℕ) (levels number at : ℕ) → IsInGroup bytes levels number at at
 begins_group bytes levels number at = record { later = omega arith; ends = λ turns le. (turns, le, refl) }
@@ -37,21 +39,26 @@ group_without_end {bytes} {levels} {number} {at} {place} h past turns le =
 
 -- a key, and what it makes of the end
 one_turn : (left levels number : ℕ) (bytes : List ℕ) (key : Key) (rest : List ℕ) → 0 < left → key_at bytes ≡ Some (key, rest)
-    → (one : ℕ) × (left ≡ suc one) × (group_end left levels number bytes ≡ cond (eqb key.wire 4) (cond (eqb key.number number) (Some rest) None) (option_and_then (group_end one levels number) (value_end (group_end one) levels key rest)))
+    → (one : ℕ) × (left ≡ suc one)
+    × (group_end left levels number bytes ≡ cond (eqb key.wire 4) (cond (eqb key.number number) (Some rest) None)
+    (option_and_then (group_end one levels number) (value_end (group_end one) levels key rest)))
 unfolding group_end
 one_turn zero levels number bytes key rest lt e = absurd (omega arith)
 one_turn (suc one) levels number bytes key rest lt e = (one, refl, rw e refl)
 
 -- what a turn at this place makes of the whole
-turn_here : {bytes : List ℕ} {levels number at place : ℕ} → IsInGroup bytes levels number at place → place < length bytes → (key : Key) (behind : ℕ) → key_at (drop place bytes) ≡ Some (key, drop behind bytes) → place < behind
+turn_here : {bytes : List ℕ} {levels number at place : ℕ} → IsInGroup bytes levels number at place → place < length bytes
+    → (key : Key) (behind : ℕ) → key_at (drop place bytes) ≡ Some (key, drop behind bytes) → place < behind
     → (turns : ℕ) → length bytes - at ≤ turns → (one : ℕ) × (length bytes - behind ≤ one)
-    × (group_end turns levels number (drop at bytes) ≡ cond (eqb key.wire 4) (cond (eqb key.number number) (Some (drop behind bytes)) None) (option_and_then (group_end one levels number) (value_end (group_end one) levels key (drop behind bytes))))
+    × (group_end turns levels number (drop at bytes) ≡ cond (eqb key.wire 4) (cond (eqb key.number number) (Some (drop behind bytes)) None)
+    (option_and_then (group_end one levels number) (value_end (group_end one) levels key (drop behind bytes))))
 turn_here {bytes} {levels} {number} {at} {place} h inside key behind e further turns le =
     let s = h.ends turns le in
     let t = one_turn s.0 levels number (drop place bytes) key (drop behind bytes) (omega (arith, s.1)) e in
     (t.0, omega (arith, s.1, t.1), sym s.2 ∙ t.2)
 
-pub group_ends : {bytes : List ℕ} {levels number at place : ℕ} → IsInGroup bytes levels number at place → place < length bytes → (inner wire behind : ℕ) → key_at (drop place bytes) ≡ Some (record { number = inner; wire = wire }, drop behind bytes) → place < behind
+pub group_ends : {bytes : List ℕ} {levels number at place : ℕ} → IsInGroup bytes levels number at place → place < length bytes
+    → (inner wire behind : ℕ) → key_at (drop place bytes) ≡ Some (record { number = inner; wire = wire }, drop behind bytes) → place < behind
     → wire ≡ 4 → inner ≡ number → (turns : ℕ) → length bytes - at ≤ turns → group_end turns levels number (drop at bytes) ≡ Some (drop behind bytes)
 group_ends {bytes} {levels} {number} h inside inner wire behind e further end same turns le =
     let t = turn_here h inside (record { number = inner; wire = wire }) behind e further turns le in
@@ -59,7 +66,8 @@ group_ends {bytes} {levels} {number} h inside inner wire behind e further end sa
     let b : eqb inner number ≡ true = grind arith in
     t.2 ∙ rw (a, b) refl
 
-pub group_of_another : {bytes : List ℕ} {levels number at place : ℕ} → IsInGroup bytes levels number at place → place < length bytes → (inner wire behind : ℕ) → key_at (drop place bytes) ≡ Some (record { number = inner; wire = wire }, drop behind bytes) → place < behind
+pub group_of_another : {bytes : List ℕ} {levels number at place : ℕ} → IsInGroup bytes levels number at place → place < length bytes
+    → (inner wire behind : ℕ) → key_at (drop place bytes) ≡ Some (record { number = inner; wire = wire }, drop behind bytes) → place < behind
     → wire ≡ 4 → (inner ≡ number → ⊥) → (turns : ℕ) → length bytes - at ≤ turns → group_end turns levels number (drop at bytes) ≡ None
 group_of_another {bytes} {levels} {number} h inside inner wire behind e further end other turns le =
     let t = turn_here h inside (record { number = inner; wire = wire }) behind e further turns le in
@@ -67,16 +75,21 @@ group_of_another {bytes} {levels} {number} h inside inner wire behind e further 
     let b : eqb inner number ≡ false = grind arith in
     t.2 ∙ rw (a, b) refl
 
-pub group_without_value : {bytes : List ℕ} {levels number at place : ℕ} → IsInGroup bytes levels number at place → place < length bytes → (inner wire behind : ℕ) → key_at (drop place bytes) ≡ Some (record { number = inner; wire = wire }, drop behind bytes) → place < behind
-    → (wire ≡ 4 → ⊥) → ((one : ℕ) → length bytes - behind ≤ one → value_end (group_end one) levels (record { number = inner; wire = wire }) (drop behind bytes) ≡ None)
+pub group_without_value : {bytes : List ℕ} {levels number at place : ℕ} → IsInGroup bytes levels number at place → place < length bytes
+    → (inner wire behind : ℕ) → key_at (drop place bytes) ≡ Some (record { number = inner; wire = wire }, drop behind bytes) → place < behind
+    → (wire ≡ 4 → ⊥) → ((one : ℕ) → length bytes - behind ≤ one
+    → value_end (group_end one) levels (record { number = inner; wire = wire }) (drop behind bytes) ≡ None)
     → (turns : ℕ) → length bytes - at ≤ turns → group_end turns levels number (drop at bytes) ≡ None
 group_without_value {bytes} {levels} {number} h inside inner wire behind e further goes missing turns le =
     let t = turn_here h inside (record { number = inner; wire = wire }) behind e further turns le in
     let a : eqb wire 4 ≡ false = grind arith in
     t.2 ∙ rw (a, missing t.0 t.1) refl
 
-pub group_goes_on : {bytes : List ℕ} {levels number at place : ℕ} → IsInGroup bytes levels number at place → place < length bytes → (inner wire behind next : ℕ) → key_at (drop place bytes) ≡ Some (record { number = inner; wire = wire }, drop behind bytes) → place < behind
-    → (wire ≡ 4 → ⊥) → behind ≤ next → ((one : ℕ) → length bytes - behind ≤ one → value_end (group_end one) levels (record { number = inner; wire = wire }) (drop behind bytes) ≡ Some (drop next bytes))
+pub group_goes_on : {bytes : List ℕ} {levels number at place : ℕ} → IsInGroup bytes levels number at place → place < length bytes
+    → (inner wire behind next : ℕ) → key_at (drop place bytes) ≡ Some (record { number = inner; wire = wire }, drop behind bytes) → place < behind
+    → (wire ≡ 4 → ⊥) → behind ≤ next
+    → ((one : ℕ) → length bytes - behind ≤ one
+    → value_end (group_end one) levels (record { number = inner; wire = wire }) (drop behind bytes) ≡ Some (drop next bytes))
     → IsInGroup bytes levels number at next
 group_goes_on {bytes} {levels} {number} {at} {place} h inside inner wire behind next e further goes order found = record {
   later = omega (arith, h.later);
@@ -88,7 +101,8 @@ group_goes_on {bytes} {levels} {number} {at} {place} h inside inner wire behind 
 }
 
 -- the value of a group is what follows it
-pub value_of_group : (turns depth number wire : ℕ) (bytes rest : List ℕ) → wire ≡ 3 → depth < 100 → group_end turns (100 - (depth + 1)) number bytes ≡ Some rest
+pub value_of_group : (turns depth number wire : ℕ) (bytes rest : List ℕ) → wire ≡ 3 → depth < 100
+    → group_end turns (100 - (depth + 1)) number bytes ≡ Some rest
     → value_end (group_end turns) (100 - depth) (record { number = number; wire = wire }) bytes ≡ Some rest
 unfolding value_end
 value_of_group turns depth number wire bytes rest is lt e =

@@ -10,7 +10,8 @@ pub span_missing : (bytes : List ℕ) → varint_at bytes ≡ None → span_at b
 unfolding span_at
 span_missing bytes e = rw e refl
 
-pub span_short : (bytes : List ℕ) (at size from : ℕ) → varint_at (drop at bytes) ≡ Some (size, drop from bytes) → length bytes - from < size → span_at (drop at bytes) ≡ None
+pub span_short : (bytes : List ℕ) (at size from : ℕ) → varint_at (drop at bytes) ≡ Some (size, drop from bytes) → length bytes - from < size
+    → span_at (drop at bytes) ≡ None
 unfolding span_at bytes_at
 span_short bytes at size from e lt =
     let short : ltb (length (drop from bytes)) size ≡ true = lt-ltb _ _ (omega (arith, length-drop from bytes)) in

@@ -1,5 +1,6 @@
 -- The number that is read byte by byte is the number that the bytes spell.
-use Rattle.std.proofs.Common.{◌≡◌, ℕ, suc, ◌+◌, ◌*◌, ◌-◌, ◌%◌, ◌^◌, ◌<◌, ◌≤◌, List, length, drop, get_or, Option, Some, None, Bool, true, false, cond, ltb, refl, sym, ap, ◌∙◌, arith}
+use Rattle.std.proofs.Common.{◌≡◌, ℕ, suc, ◌+◌, ◌*◌, ◌-◌, ◌%◌, ◌^◌, ◌<◌, ◌≤◌, List, length, drop, get_or, Option, Some}
+use Rattle.std.proofs.Common.{None, Bool, true, false, cond, ltb, refl, sym, ap, ◌∙◌, arith}
 use Rattle.std.proofs.Math.ListN.{drop_of_length-le}
 use Rattle.std.proofs.Math.Nat.{add-mod-mod, mod-add-mod, mod-eq_of_lt}
 use Rattle.std.proofs.lemmas.Nat.{mul-mod_first}
@@ -28,7 +29,8 @@ starts_read bytes at = record {
 
 -- what one byte makes of the number behind it
 byte_read : (bytes : List ℕ) (at i : ℕ) → i < 10 → at + i < length bytes
-    → number_at (10 - i) (drop (at + i) bytes) ≡ cond (ltb (get_or bytes (at + i) 0) 128) (Some (get_or bytes (at + i) 0, drop (at + i + 1) bytes)) (low_bits (get_or bytes (at + i) 0) (number_at (10 - (i + 1)) (drop (at + (i + 1)) bytes)))
+    → number_at (10 - i) (drop (at + i) bytes) ≡ cond (ltb (get_or bytes (at + i) 0) 128)
+    (Some (get_or bytes (at + i) 0, drop (at + i + 1) bytes)) (low_bits (get_or bytes (at + i) 0) (number_at (10 - (i + 1)) (drop (at + (i + 1)) bytes)))
 unfolding number_at
 byte_read bytes at i lt inside =
     let k : 10 - i ≡ suc (10 - (i + 1)) = omega arith in
@@ -50,7 +52,9 @@ pub last_byte : {bytes : List ℕ} {at i value weight : ℕ} → IsReadTo bytes 
 last_byte {bytes} {at} {i} {value} {weight} h lt inside small =
     let b = get_or bytes (at + i) 0 in
     let test : ltb b 128 ≡ true = lt-ltb _ _ small in
-    let read : number_at (10 - i) (drop (at + i) bytes) ≡ Some (b, drop (at + i + 1) bytes) = byte_read bytes at i lt inside ∙ ap (λ (t : Bool). cond t (Some (b, drop (at + i + 1) bytes)) (low_bits b (number_at (10 - (i + 1)) (drop (at + (i + 1)) bytes)))) test in
+    let read : number_at (10 - i) (drop (at + i) bytes) ≡ Some (b, drop (at + i + 1) bytes) =
+    byte_read bytes at i lt inside
+    ∙ ap (λ (t : Bool). cond t (Some (b, drop (at + i + 1) bytes)) (low_bits b (number_at (10 - (i + 1)) (drop (at + (i + 1)) bytes)))) test in
     sym h.rest ∙ ap (goes_on value weight) read ∙ ap (λ (n : ℕ). Some (n, drop (at + i + 1) bytes)) (last_value value weight (get_or bytes (at + i) 0) small)
 
 more_value : (value weight b n : ℕ) → 128 ≤ b → b < 256
@@ -59,7 +63,9 @@ more_value value weight b n low high =
     let m : b % 128 ≡ b - 128 = omega arith in
     let e : value + weight * (b - 128 + 128 * n) ≡ (value + (b - 128) * weight) + weight * 128 * n = grind arith in
     let right : (with_byte value weight b + (weight * 128) % 2 ^ 64 * n) % 2 ^ 64 ≡ ((value + (b - 128) * weight) + weight * 128 * n) % 2 ^ 64 =
-    rw (m, add-mod-mod, mod-add-mod) (sym (add-mod-mod (value + (b - 128) * weight) ((weight * 128) % 2 ^ 64 * n) (2 ^ 64)) ∙ rw (mul-mod_first (weight * 128) n (2 ^ 64)) (add-mod-mod (value + (b - 128) * weight) (weight * 128 * n) (2 ^ 64))) in
+    rw (m, add-mod-mod, mod-add-mod)
+    (sym (add-mod-mod (value + (b - 128) * weight) ((weight * 128) % 2 ^ 64 * n) (2 ^ 64))
+    ∙ rw (mul-mod_first (weight * 128) n (2 ^ 64)) (add-mod-mod (value + (b - 128) * weight) (weight * 128 * n) (2 ^ 64))) in
     ap (λ (k : ℕ). k % 2 ^ 64) e ∙ sym right
 
 more_read : (value weight b : ℕ) (read : Option (ℕ × List ℕ)) → 128 ≤ b → b < 256
@@ -74,10 +80,12 @@ more_bytes {bytes} {at} {i} {value} {weight} h lt inside low high =
     let b = get_or bytes (at + i) 0 in
     let behind = number_at (10 - (i + 1)) (drop (at + (i + 1)) bytes) in
     let test : ltb b 128 ≡ false = le-ltb _ _ low in
-    let read : number_at (10 - i) (drop (at + i) bytes) ≡ low_bits b behind = byte_read bytes at i lt inside ∙ ap (λ (t : Bool). cond t (Some (b, drop (at + i + 1) bytes)) (low_bits b behind)) test in
+    let read : number_at (10 - i) (drop (at + i) bytes) ≡ low_bits b behind =
+    byte_read bytes at i lt inside ∙ ap (λ (t : Bool). cond t (Some (b, drop (at + i + 1) bytes)) (low_bits b behind)) test in
     record { rest = sym (more_read value weight b behind low high) ∙ ap (goes_on value weight) (sym read) ∙ h.rest }
 
-pub bytes_end : {bytes : List ℕ} {at i value weight : ℕ} → IsReadTo bytes at i value weight → i < 10 → length bytes ≤ at + i → varint_at (drop at bytes) ≡ None
+pub bytes_end : {bytes : List ℕ} {at i value weight : ℕ} → IsReadTo bytes at i value weight → i < 10 → length bytes ≤ at + i
+    → varint_at (drop at bytes) ≡ None
 unfolding number_at
 bytes_end {bytes} {at} {i} {value} {weight} h lt past =
     let k : 10 - i ≡ suc (10 - (i + 1)) = omega arith in

@@ -43,7 +43,8 @@ fn read_value(
     depth: u32,
 ) -> Result<(WireKind, usize), Bad>
     requires { at ≤ length bytes.now }
-    ensures found { IfOk result (λ r. value_at depth (record { number = number; wire = wire }) (drop at bytes.now) ≡ Some (content_in bytes.now r.0, drop r.1 bytes.now)) }
+    ensures found { IfOk result (λ r. value_at depth (record { number = number; wire = wire }) (drop at bytes.now)
+        ≡ Some (content_in bytes.now r.0, drop r.1 bytes.now)) }
     ensures forward { IfOk result (λ r. at ≤ r.1) }
     ensures within { IfOk result (λ r. r.1 ≤ length bytes.now) }
     ensures bad { OnErr result (value_at depth (record { number = number; wire = wire }) (drop at bytes.now) ≡ None) }

@@ -23,10 +23,14 @@ const GROUP_END: u8 = 4;
 fn after_value(bytes: &[u8], at: usize, number: u32, wire: u8, depth: u32) -> Result<usize, Bad>
     requires place { at ≤ length bytes.now }
     requires level { depth ≤ 100 }
-    ensures found { (turns : ℕ) → length bytes.now - at ≤ turns → IfOk result (λ next. value_end (group_end turns) (100 - depth) (record { number = number; wire = wire }) (drop at bytes.now) ≡ Some (drop next bytes.now)) }
+    ensures found { (turns : ℕ) → length bytes.now - at ≤ turns
+        → IfOk result (λ next. value_end (group_end turns) (100 - depth) (record { number = number; wire = wire }) (drop at bytes.now)
+        ≡ Some (drop next bytes.now)) }
     ensures forward { IfOk result (λ next. at ≤ next) }
     ensures within { IfOk result (λ next. next ≤ length bytes.now) }
-    ensures bad { (turns : ℕ) → length bytes.now - at ≤ turns → OnErr result (value_end (group_end turns) (100 - depth) (record { number = number; wire = wire }) (drop at bytes.now) ≡ None) }
+    ensures bad { (turns : ℕ) → length bytes.now - at ≤ turns
+        → OnErr result (value_end (group_end turns) (100 - depth) (record { number = number; wire = wire }) (drop at bytes.now)
+        ≡ None) }
 {
     if wire != GROUP_START {
         let (_, next) = read_plain(bytes, at, wire)?;
@@ -44,10 +48,12 @@ fn after_value(bytes: &[u8], at: usize, number: u32, wire: u8, depth: u32) -> Re
 pub(crate) fn after_group(bytes: &[u8], at: usize, number: u32, depth: u32) -> Result<usize, Bad>
     requires place { at ≤ length bytes.now }
     requires level { depth ≤ 100 }
-    ensures found { (turns : ℕ) → length bytes.now - at ≤ turns → IfOk result (λ next. group_end turns (100 - depth) number (drop at bytes.now) ≡ Some (drop next bytes.now)) }
+    ensures found { (turns : ℕ) → length bytes.now - at ≤ turns
+        → IfOk result (λ next. group_end turns (100 - depth) number (drop at bytes.now) ≡ Some (drop next bytes.now)) }
     ensures forward { IfOk result (λ next. at ≤ next) }
     ensures within { IfOk result (λ next. next ≤ length bytes.now) }
-    ensures bad { (turns : ℕ) → length bytes.now - at ≤ turns → OnErr result (group_end turns (100 - depth) number (drop at bytes.now) ≡ None) }
+    ensures bad { (turns : ℕ) → length bytes.now - at ≤ turns
+        → OnErr result (group_end turns (100 - depth) number (drop at bytes.now) ≡ None) }
 {
     let mut place = at;
     while place < bytes.len() {

@@ -5,6 +5,11 @@ use Rattle.sz_records.proofs.cutter.Cutter.cut.Goals as goal
 
 pub loop-size-preserved : goal.loop-size-preserved
 loop-size-preserved c =
-    let at_rest : IsPassed c.loop-size.self c.step.new.self c.rest.result.now c.loop-size.into c.step.new.into c.in-Passed.size = rw c.in-Passed.is at c.in_ok-size.ensures in
-    let p : IsPassed c.loop-size.self c.step.new.self (drop c.loop-size.at c.args.bytes.now) c.loop-size.into c.step.new.into c.in-Passed.size = rw c.rest.ensures at at_rest in
-    (passes_on c.loop-size.at c.in-Passed.size c.loop-size.invariant.0 p, omega (arith, p.within, c.loop-size.invariant.1, length-drop c.loop-size.at c.args.bytes.now))
+    let at_rest : IsPassed c.loop-size.self c.step.new.self c.rest.result.now c.loop-size.into c.step.new.into c.in-Passed.size =
+    rw c.in-Passed.is at c.in_ok-size.ensures in
+    let p : IsPassed c.loop-size.self c.step.new.self
+    (drop c.loop-size.at c.args.bytes.now) c.loop-size.into c.step.new.into c.in-Passed.size = rw c.rest.ensures at at_rest in (
+      passes_on c.loop-size.at c.in-Passed.size c.loop-size.invariant.0 p,
+      omega
+          (arith, p.within, c.loop-size.invariant.1, length-drop c.loop-size.at c.args.bytes.now),
+    )
