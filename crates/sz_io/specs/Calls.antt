@@ -1,18 +1,21 @@
 -- What the calls that read and write a whole text promise.
-use Rattle.std.specs.Prelude.{◌≡◌, ℕ, ◌⊎◌, IsTrue, List, [], ◌∷◌, ◌++◌, Result, Ok, Err, IfSome, IsSome}
+use Rattle.std.specs.Prelude.{◌≡◌, ℕ, ◌⊎◌, Bool, true, false, IsTrue, List, [], ◌∷◌, ◌++◌, Result, Err, IfSome, IsSome}
 use Rattle.std.specs.Io.KnownBytes.{IsAtEnd}
 use Rattle.sz_io.specs.declared.error.ReadError.{ReadError}
-use Rattle.sz_io.specs.declared.error.ReadError.TheVariants.{Failed, TooLong, NoMemory}
+use Rattle.sz_io.specs.declared.error.ReadError.TheVariants.{NoMemory}
 use Rattle.sz_io.specs.declared.error.WriteError.{WriteError}
 use Rattle.sz_io.specs.declared.error.WriteError.TheVariants as Write
 use Rattle.sz_io.specs.declared.files.Files.{Ghosts}
 
 -- the names opened gain exactly this name; where memory ran out, this name or none
-abbrev pub NamesGain : {T : Type 0} → List (List ℕ) → List (List ℕ) → List ℕ → Result T ReadError → Type 0
-NamesGain old new name (Ok bytes) = new ≡ old ++ name ∷ []
-NamesGain old new name (Err Failed) = new ≡ old ++ name ∷ []
-NamesGain old new name (Err TooLong) = new ≡ old ++ name ∷ []
-NamesGain old new name (Err NoMemory) = (new ≡ old) ⊎ (new ≡ old ++ name ∷ [])
+abbrev pub NamesGain : Bool → List (List ℕ) → List (List ℕ) → List ℕ → Type 0
+NamesGain true old new name = (new ≡ old) ⊎ (new ≡ old ++ name ∷ [])
+NamesGain false old new name = new ≡ old ++ name ∷ []
+
+-- whether memory ran out
+abbrev pub ran_out : {T : Type 0} → Result T ReadError → Bool
+ran_out (Err NoMemory) = true
+ran_out result = false
 
 -- One file was opened since, and no byte of it is left. It tells what is left where the bytes under the name were told.
 pub record ReadToEnd {F : Type 0} (files : Ghosts F) (old new : F) (name : List ℕ) : Type 0 where

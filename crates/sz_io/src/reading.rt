@@ -4,7 +4,7 @@ ghost use Rattle.std.specs.Prelude.{IsTrue, IfOk, OnOk, OnErr, IfSome, IsErrOf};
 ghost use Rattle.std.specs.Io.KnownBytes.{Consumes, IsAtEnd};
 ghost use Rattle.sz_io.specs.Rose.{Rose};
 ghost use Rattle.sz_io.specs.Opened.{KeepsFiles, KeepsOtherFiles};
-ghost use Rattle.sz_io.specs.Calls.{NamesGain, ReadToEnd};
+ghost use Rattle.sz_io.specs.Calls.{NamesGain, ReadToEnd, ran_out};
 
 use crate::{Failed, Files, OutsideError, ReadError};
 use std::alloc::{AllocError, Global};
@@ -25,7 +25,7 @@ pub fn read_whole<F: Files>(
     ensures bytes { IfOk result (λ bytes. IfSome (F.held files.old name.now) (λ held. bytes.items ≡ held)) }
     ensures within { IfOk result (λ bytes. length bytes.items ≤ limit) }
     ensures end { OnOk result (ReadToEnd F.Files files.old files.new name.now) }
-    ensures names { NamesGain (F.names files.old) (F.names files.new) name.now result }
+    ensures names { NamesGain (ran_out result) (F.names files.old) (F.names files.new) name.now }
 
     ensures too_long { IsErrOf result ReadError.TooLong → IfSome (F.held files.old name.now) (λ held. limit < length held) }
     ensures failed { IsErrOf result ReadError.Failed → Rose (F.faults files.old) (F.faults files.new) }

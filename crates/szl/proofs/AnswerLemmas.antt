@@ -1,9 +1,10 @@
 -- How the answer for a command line is put together: from the program's text, the program, and the input.
 use Rattle.std.proofs.Common.{◌≡◌, ◌≢◌, ℕ, ◌-◌, ◌<◌, ◌≤◌, ◌⊎◌, List, [], ◌∷◌, ◌++◌, length, Bool}
 use Rattle.std.proofs.Common.{true, false, refl, sym, ap, ◌∙◌, subst, arith, inl, inr, append-nil}
-use Rattle.std.specs.Prelude.{unwrap_or, Result, Ok, Err, codes, nat_le, ◌&&◌, if◌then◌else◌}
+use Rattle.std.specs.Prelude.{unwrap_or, Result, Ok, Err, nat_le, ◌&&◌, if◌then◌else◌}
 use Rattle.std.proofs.lemmas.Bool.Decides.{nat_tests}
 use Rattle.sz_io.specs.Rose.{Rose}
+use Rattle.sz_io.specs.Calls.{NamesGain}
 use Rattle.sz_io.specs.declared.files.Files as files
 use Rattle.sz_tree.specs.Statements.{Stms}
 use Rattle.sz_core.specs.Programs.{Core}
@@ -12,8 +13,8 @@ use Rattle.szl.specs.declared.status.Status.{Status}
 use Rattle.szl.specs.declared.status.Status.TheVariants as status
 use Rattle.szl.specs.declared.failure.Failure.{Failure}
 use Rattle.szl.specs.declared.failure.Failure.TheVariants.{Usage, Refused, Limit, ReadFailed, WriteFailed, NoMemory}
-use Rattle.szl.specs.Opening.{ReadsText, GainsName, Decides, AnswersOn, AnswersText, AnswersCheck}
-use Rattle.szl.specs.Outcome.{Answer, outcome_of_program, outcome_of_built, outcome_of_run, outcome_of_checked, success, refusal}
+use Rattle.szl.specs.Opening.{ReadsText, ran_out, Decides, AnswersOn, AnswersText, AnswersCheck}
+use Rattle.szl.specs.Outcome.{Answer, limit_line, outcome_of_program, outcome_of_built, outcome_of_run, outcome_of_checked, success, refusal}
 use Rattle.szl.specs.Forms.{program_in}
 use Rattle.szl.specs.Checking.{built_so, checked}
 use Rattle.szl.specs.Judgement.{IsShort, HasStatements, refused, spells}
@@ -63,7 +64,7 @@ gained name old new most le (inr is) = opened_one name old new most le is
 
 -- an input past its limit
 past_limit : (p : Prog) (input : List ℕ) → most_input_bytes < length input
-    → outcome_of_program p input ≡ refusal status.Limit (codes "input limit at byte 0")
+    → outcome_of_program p input ≡ refusal status.Limit limit_line
 past_limit p input past = outcome_past p input (first_fails _ _ _ (too_many (length input) most_input_bytes past))
   where
     too_many : (a b : ℕ) → b < a → nat_le a b ≡ false
@@ -77,7 +78,7 @@ module _ {F : Type 0} (the_files : files.Ghosts F) (name : List ℕ) (old new : 
   -- the input couldn't be read
   pub input_fails : (p : Prog) (f : Failure)
       → ReadsText (the_files.held old name) most_input_bytes Limit (Rose (the_files.faults old) (the_files.faults new)) (Err f)
-      → GainsName (the_files.names old) (the_files.names new) name (Err f) → AnswersOn the_files (outcome_of_program p) name old new (Err f)
+      → NamesGain (ran_out (Err f)) (the_files.names old) (the_files.names new) name → AnswersOn the_files (outcome_of_program p) name old new (Err f)
   input_fails p Limit reads gains = record {
     input = reads.text;
     holds = reads.holds;
@@ -103,7 +104,7 @@ module _ {F : Type 0} (the_files : files.Ghosts F) (name : List ℕ) (old new : 
   decides_run : (p : Prog) (bytes text : List ℕ) (answer : Result (List ℕ) Failure) (rose : Type 0) → bytes ≡ text → GivesTables p bytes answer
       → Decides answer (outcome_of_program p text) rose
   decides_run p bytes text (Ok output) rose is gives = subst (λ b. outcome_of_program p b ≡ success output) is gives
-  decides_run p bytes text (Err Limit) rose is gives = subst (λ b. outcome_of_program p b ≡ refusal status.Limit (codes "input limit at byte 0")) is gives
+  decides_run p bytes text (Err Limit) rose is gives = subst (λ b. outcome_of_program p b ≡ refusal status.Limit limit_line) is gives
   decides_run p bytes text (Err NoMemory) rose is gives = tt
   decides_run p bytes text (Err Usage) rose is gives = absurd gives
   decides_run p bytes text (Err (Refused r)) rose is gives = absurd gives

@@ -17,8 +17,8 @@ use Rattle.szl.specs.declared.failure.Failure.TheVariants.{Usage, Refused, Limit
 use Rattle.szl.specs.Failing.{status_of, line_of_failure}
 use Rattle.szl.specs.Opening.{Decides, Answers}
 use Rattle.szl.specs.Outcome.{Answer, outcome, success}
-use Rattle.szl.specs.Printing.{Prints}
-use Rattle.szl.specs.Promise.{IsStatusOf, AppendsPrefix, GainsOutput, GainsLine, MeansSource, line_of}
+use Rattle.szl.specs.Printing.{Prints, PrintsNothing}
+use Rattle.szl.specs.Promise.{IsStatusOf, AppendsPrefix, GainsOutput, IsLeftAlone, GainsLine, MeansSource, line_of}
 use Rattle.szl.specs.Settings.{settings_in}
 
 -- where a place is within the bytes, there are some
@@ -102,14 +102,49 @@ fits_no_memory answer (Refused r) (Ok output) rose old new decides printed = abs
 fits_no_memory answer Limit (Ok output) rose old new decides printed = absurd printed
 fits_no_memory answer ReadFailed (Ok output) rose old new decides printed = absurd printed
 
+-- a sink that is as it was is left alone at every status
+alone_always : {O : Type 0} (s : Status) (output : List ℕ) (old new : O) → new ≡ old → IsLeftAlone s output old new
+alone_always status.Done output old new same = λ none. same
+alone_always status.Usage output old new same = same
+alone_always status.Program output old new same = same
+alone_always status.RecordFault output old new same = same
+alone_always status.Damaged output old new same = same
+alone_always status.ReadFailed output old new same = same
+alone_always status.WriteFailed output old new same = λ none. same
+alone_always status.ShardLost output old new same = same
+alone_always status.NoMemory output old new same = λ none. same
+alone_always status.Limit output old new same = same
+
+-- the output is what was to be printed, so where it has no byte no call was made
+alone_printed : {O : Type 0} (answer : Answer) (output : List ℕ) (old new : O) → answer ≡ success output → (output ≡ [] → new ≡ old)
+    → answer.output ≡ [] → new ≡ old
+alone_printed answer output old new is nothing none = nothing (sym (ap (λ (a : Answer). a.output) is) ∙ none)
+
+-- a failure leaves the sink alone, and so does want of memory in its place
+alone_failure : {O : Type 0} (answer : Answer) (f : Failure) (made : Result (List ℕ) Failure) (rose : Type 0) (told : Option (List ℕ))
+    (told_now : Option (List ℕ)) (old new : O) → Decides made answer rose → Prints {T = Unit {0}} told told_now made (Err f)
+    → PrintsNothing made old new → IsLeftAlone (status_of f) answer.output old new
+alone_failure answer f (Err g) rose told told_now old new decides printed nothing = alone_always (status_of f) answer.output old new nothing
+alone_failure answer WriteFailed (Ok output) rose told told_now old new decides printed nothing = alone_printed answer output old new decides nothing
+alone_failure answer NoMemory (Ok output) rose told told_now old new decides printed nothing = alone_printed answer output old new decides nothing
+alone_failure answer Usage (Ok output) rose told told_now old new decides printed nothing = absurd printed
+alone_failure answer (Refused r) (Ok output) rose told told_now old new decides printed nothing = absurd printed
+alone_failure answer Limit (Ok output) rose told told_now old new decides printed nothing = absurd printed
+alone_failure answer ReadFailed (Ok output) rose told told_now old new decides printed nothing = absurd printed
+
+alone_no_memory : {O : Type 0} (answer : Answer) (made : Result (List ℕ) Failure) (rose : Type 0) (old new : O) → Decides made answer rose
+    → PrintsNothing made old new → IsLeftAlone status.NoMemory answer.output old new
+alone_no_memory answer (Err g) rose old new decides nothing = alone_always status.NoMemory answer.output old new nothing
+alone_no_memory answer (Ok output) rose old new decides nothing = alone_printed answer output old new decides nothing
+
 module _ {F O E : Type 0} (the_files : files.Ghosts F) (the_out : sink.Ghosts O) (the_err : sink.Ghosts E) (words : List (List ℕ))
     (old new : F) (out new_out : O) (err : E) where
   -- all was printed, and nothing is told
   pub means_done : (made : Result (List ℕ) Failure) → Answers the_files (settings_in words) old new made
-      → Prints {T = Unit {0}} (the_out.taken out) (the_out.taken new_out) made (Ok tt)
+      → Prints {T = Unit {0}} (the_out.taken out) (the_out.taken new_out) made (Ok tt) → PrintsNothing made out new_out
       → MeansSource the_files the_out the_err words status.Done old new out new_out err err
-  means_done (Err f) a printed = absurd printed
-  means_done (Ok output) a printed =
+  means_done (Err f) a printed nothing = absurd printed
+  means_done (Ok output) a printed nothing =
       let o = outcome words a.reading a.input in
       let fit = fits_done o output (the_out.taken out) (the_out.taken new_out) a.decides printed in
       let no_line : [] ≡ o.line = sym (ap (λ (x : Answer). x.line) a.decides) in
@@ -121,6 +156,7 @@ module _ {F O E : Type 0} (the_files : files.Ghosts F) (the_out : sink.Ghosts O)
         held = a.held;
         answers = fit.status_is;
         output = fit.output;
+        left_alone = alone_printed o output out new_out a.decides nothing;
         line = subst (GainsLine the_err err err) no_line (record { count = 0; appends = Appends-nil (the_err.taken err); whole = inl (omega arith) });
         opened = a.opened;
       }
@@ -128,9 +164,10 @@ module _ {F O E : Type 0} (the_files : files.Ghosts F) (the_out : sink.Ghosts O)
   -- a status that fits what was printed, and its line is told
   means : (new_err : E) (made : Result (List ℕ) Failure) (a : Answers the_files (settings_in words) old new made) (s : Status)
       → Fits (outcome words a.reading a.input) s (the_out.taken out) (the_out.taken new_out)
+      → IsLeftAlone s (outcome words a.reading a.input).output out new_out
       → GainsLine the_err err new_err (line_of (outcome words a.reading a.input) s)
       → MeansSource the_files the_out the_err words s old new out new_out err new_err
-  means new_err made a s fit told = record {
+  means new_err made a s fit alone told = record {
     text = a.text;
     reading = a.reading;
     read = a.read;
@@ -138,24 +175,27 @@ module _ {F O E : Type 0} (the_files : files.Ghosts F) (the_out : sink.Ghosts O)
     held = a.held;
     answers = fit.status_is;
     output = fit.output;
+    left_alone = alone;
     line = told;
     opened = a.opened;
   }
 
   -- a failure, and its line is told, or that of want of memory
   pub means_failure : (new_err : E) (f told : Failure) (made : Result (List ℕ) Failure) → Answers the_files (settings_in words) old new made
-      → Prints {T = Unit {0}} (the_out.taken out) (the_out.taken new_out) made (Err f) → (told ≡ f) ⊎ (told ≡ NoMemory)
+      → Prints {T = Unit {0}} (the_out.taken out) (the_out.taken new_out) made (Err f) → PrintsNothing made out new_out → (told ≡ f) ⊎ (told ≡ NoMemory)
       → GainsLine the_err err new_err (line_of_failure told) → MeansSource the_files the_out the_err words (status_of told) old new out new_out err new_err
-  means_failure new_err f told made a printed (inl is) gained =
+  means_failure new_err f told made a printed nothing (inl is) gained =
       let o = outcome words a.reading a.input in
       let line = ap line_of_failure is ∙ line_is o f made _ (the_out.taken out) (the_out.taken new_out) a.decides printed in
       subst (λ t. MeansSource the_files the_out the_err words (status_of t) old new out new_out err new_err) (sym is)
       (means new_err made a (status_of f) (fits_failure o f made _ (the_out.taken out) (the_out.taken new_out) a.decides printed)
+      (alone_failure o f made _ (the_out.taken out) (the_out.taken new_out) out new_out a.decides printed nothing)
       (subst (GainsLine the_err err new_err) line gained))
-  means_failure new_err f told made a printed (inr is) gained =
+  means_failure new_err f told made a printed nothing (inr is) gained =
       let o = outcome words a.reading a.input in
       subst (λ t. MeansSource the_files the_out the_err words (status_of t) old new out new_out err new_err) (sym is)
       (means new_err made a status.NoMemory (fits_no_memory o f made _ (the_out.taken out) (the_out.taken new_out) a.decides printed)
+      (alone_no_memory o made _ out new_out a.decides nothing)
       (subst (GainsLine the_err err new_err) (ap line_of_failure is) gained))
 
 -- what a write of a line says of it, whatever it answers

@@ -1,6 +1,6 @@
 -- A program that was read may run, and what its run gives is its outcome.
 use Rattle.std.proofs.Common.{◌≡◌, ℕ, List, true, false, sym, ap, ◌∙◌, arith}
-use Rattle.std.specs.Prelude.{if◌then◌else◌, codes}
+use Rattle.std.specs.Prelude.{if◌then◌else◌}
 use Rattle.sz_parse.specs.Program.{count_of}
 use Rattle.sz_mean.specs.Tree.{Prog}
 use Rattle.sz_mean.specs.Meaning.{mean, emits_of, all_emits}
@@ -9,7 +9,7 @@ use Rattle.szl.specs.declared.status.Status.TheVariants as status
 use Rattle.szl.specs.Code.{IsCodeOf}
 use Rattle.szl.specs.Judgement.{most_program_bytes}
 use Rattle.szl.specs.Records.{records_in, is_within_limits}
-use Rattle.szl.specs.Outcome.{outcome_of_program, success, refusal, default_budget}
+use Rattle.szl.specs.Outcome.{limit_line, outcome_of_program, success, refusal, default_budget}
 use Rattle.szl.specs.Running.{MayRun, SumsAll, IsSpelled}
 use Rattle.szl.specs.Text.{tables_text}
 use Rattle.szl.specs.Totals.{Totals, StandFor}
@@ -50,11 +50,11 @@ pub outcome_within : (p : Prog) (input text : List ℕ) → is_within_limits inp
     → outcome_of_program p input ≡ success text
 outcome_within p input text within is =
     let all = success (tables_text 0 p.tables (all_emits p default_budget (records_in input))) in
-    ap (λ b. if b then all else refusal status.Limit (codes "input limit at byte 0")) within
+    ap (λ b. if b then all else refusal status.Limit limit_line) within
     ∙ ap success (sym is)
 
 pub outcome_past : (p : Prog) (input : List ℕ) → is_within_limits input ≡ false
-    → outcome_of_program p input ≡ refusal status.Limit (codes "input limit at byte 0")
+    → outcome_of_program p input ≡ refusal status.Limit limit_line
 outcome_past p input past =
     let all = success (tables_text 0 p.tables (all_emits p default_budget (records_in input))) in
-    ap (λ b. if b then all else refusal status.Limit (codes "input limit at byte 0")) past
+    ap (λ b. if b then all else refusal status.Limit limit_line) past

@@ -1,11 +1,12 @@
 -- The answer for the settings of a command line, from that for the program's text.
 use Rattle.std.proofs.Common.{◌≡◌, ◌≢◌, ℕ, suc, ◌<◌, ◌≤◌, ◌⊎◌, List, [], ◌∷◌, ◌++◌, length, take, Bool}
 use Rattle.std.proofs.Common.{true, false, Option, Some, None, refl, sym, ap, ◌∙◌, subst, arith, inl, inr, append-nil, append_assoc}
-use Rattle.std.specs.Prelude.{IfSome, IsSome, IsTrue, unwrap_or, Result, Ok, Err, if◌then◌else◌}
+use Rattle.std.specs.Prelude.{IfSome, IsSome, IsTrue, unwrap_or, Result, Ok, Err, OnOk, if◌then◌else◌}
 use Rattle.std.specs.Io.KnownBytes.{IsAtEnd}
 use Rattle.sz_io.specs.Rose.{Rose}
 use Rattle.sz_io.specs.Opened.{KeepsFiles}
-use Rattle.sz_io.specs.Calls.{ReadToEnd}
+use Rattle.sz_io.specs.Calls.{NamesGain, ReadToEnd}
+use Rattle.sz_io.proofs.ForCallers.{rose_later}
 use Rattle.sz_io.specs.declared.files.Files as files
 use Rattle.sz_core.specs.Programs.{Core}
 use Rattle.sz_mean.specs.Tree.{Prog}
@@ -13,7 +14,7 @@ use Rattle.szl.specs.declared.status.Status.{Status}
 use Rattle.szl.specs.declared.status.Status.TheVariants as status
 use Rattle.szl.specs.declared.failure.Failure.{Failure}
 use Rattle.szl.specs.declared.failure.Failure.TheVariants.{Usage, Refused, Limit, ReadFailed, WriteFailed, NoMemory}
-use Rattle.szl.specs.Opening.{ReadsText, GainsName, past_program, Decides, Answers, AnswersText, AnswersCheck}
+use Rattle.szl.specs.Opening.{ReadsText, ran_out, past_program, Decides, Answers, AnswersText, AnswersCheck}
 use Rattle.szl.specs.Outcome.{Answer, outcome_of_settings, outcome_of_run, outcome_of_built, outcome_of_check, outcome_of_checked, outcome_refused, success}
 use Rattle.szl.specs.declared.refusal.Refusal.{Refusal}
 use Rattle.szl.specs.Checking.{built_so, checked}
@@ -140,7 +141,7 @@ gained_first s old new most le (inr is) = opened_first s old new most le is
 -- the program's text couldn't be read
 pub text_fails : {F : Type 0} (the_files : files.Ghosts F) (s : Settings) (old new : F) (f : Failure)
     → ReadsText (the_files.held old (program_name s)) most_program_bytes past_program (Rose (the_files.faults old) (the_files.faults new)) (Err f)
-    → GainsName (the_files.names old) (the_files.names new) (program_name s) (Err f) → Answers the_files (Some s) old new (Err f)
+    → NamesGain (ran_out (Err f)) (the_files.names old) (the_files.names new) (program_name s) → Answers the_files (Some s) old new (Err f)
 text_fails the_files s old new (Refused r) reads gains = record {
   text = reads.text;
   reading = readings.refused r;
@@ -172,6 +173,15 @@ text_fails the_files s old new Usage reads gains = let e = reads.tells.0 in absu
 text_fails the_files s old new Limit reads gains = let e = reads.tells.0 in absurd (cc)
 text_fails the_files s old new WriteFailed reads gains = let e = reads.tells.0 in absurd (cc)
 
+-- a fact that holds whatever was answered, or follows from two that hold where a call succeeded
+pub when_ok : {T E P : Type 0} (r : Result T E) → P → OnOk r P
+when_ok (Ok value) p = p
+when_ok (Err error) p = tt
+
+pub both_when_ok : {T E P Q R : Type 0} (r : Result T E) → (P → Q → R) → OnOk r P → OnOk r Q → OnOk r R
+both_when_ok (Ok value) f p q = f p q
+both_when_ok (Err error) f p q = tt
+
 module _ {F : Type 0} (the_files : files.Ghosts F) (program : List ℕ) (old : F) where
   -- the program's text was read, and the rest of a run is answered on it
   pub text_read : (name : List ℕ) (mid new : F) (bytes : List ℕ) (answer : Result (List ℕ) Failure) (rose : Type 0)
@@ -195,7 +205,7 @@ module _ {F : Type 0} (the_files : files.Ghosts F) (program : List ℕ) (old : F
           subst (λ t. IfSome (the_files.held old program) (λ b. b ≡ t)) (sym reads.tells.0) reads.holds,
           subst (λ h. IfSome h (λ b. b ≡ a.input)) (keeps.held_same name) a.holds,
         );
-        decides = decides_since answer o _ _ (λ rose. omega (arith, rose, keeps.faults_later)) a.decides;
+        decides = decides_since answer o _ _ (rose_later _ _ _ keeps.faults_later) a.decides;
         opened = record { count = suc a.opened.count; within = one; opened = next };
       }
 
@@ -218,6 +228,9 @@ module _ {F : Type 0} (the_files : files.Ghosts F) (program : List ℕ) (old : F
       → ReadToEnd the_files old new program → AreReadToEnd the_files old new (program ∷ [])
   one_read new names r = record {
     all_opened = names;
+    opened = r.file ∷ [];
+    one_each = refl;
+    are_new = ((r.not_before, r.given_now), (tt, tt));
     none_left = λ file fresh given. subst (λ f. IsAtEnd (the_files.left new f)) (sym (the_one file fresh (r.no_other file given))) r.none_left;
     told = λ file fresh given. subst (λ f. IfSome (the_files.held old program) (λ _. IsSome (the_files.left new f)))
         (sym (the_one file fresh (r.no_other file given))) r.told;
@@ -234,11 +247,20 @@ module _ {F : Type 0} (the_files : files.Ghosts F) (program : List ℕ) (old : F
       → KeepsFiles the_files.held the_files.left the_files.given the_files.faults mid new
       → ReadToEnd the_files old mid program → ReadToEnd the_files mid new name → AreReadToEnd the_files old new (program ∷ name ∷ [])
   both_read name mid new first second kept later r1 r2 = record {
+    opened = r1.file ∷ r2.file ∷ [];
+    one_each = refl;
+    are_new = (
+      (r1.not_before, later.given_still r1.file r1.given_now),
+      ((apart, tt), ((λ was. r2.not_before (kept.given_still r2.file was), r2.given_now), (tt, tt))),
+    );
     all_opened = second ∙ ap (λ ns. ns ++ name ∷ []) first ∙ append_assoc (the_files.names old) (program ∷ []) (name ∷ []);
     none_left = λ file fresh given. ended file fresh (r2.no_other file given);
     told = λ file fresh given. tells file fresh (r2.no_other file given);
   }
     where
+      apart : r1.file ≡ r2.file → ⊥
+      apart same = r2.not_before (subst (λ f. IsTrue (the_files.given mid f)) same r1.given_now)
+
       left_first : the_files.left new r1.file ≡ the_files.left mid r1.file
       left_first = later.left_same r1.file r1.given_now
 

@@ -1,10 +1,10 @@
 -- The status and the line of each cause for which a call ends early.
-use Rattle.std.specs.Prelude.{ℕ, List, [], ◌∷◌, ◌++◌, codes}
+use Rattle.std.specs.Prelude.{ℕ, List, [], ◌∷◌, ◌++◌}
 use Rattle.szl.specs.declared.status.Status.{Status}
 use Rattle.szl.specs.declared.status.Status.TheVariants as status
 use Rattle.szl.specs.declared.failure.Failure.{Failure}
 use Rattle.szl.specs.declared.failure.Failure.TheVariants.{Usage, Refused, Limit, ReadFailed, WriteFailed, NoMemory}
-use Rattle.szl.specs.Outcome.{refusal_line}
+use Rattle.szl.specs.Outcome.{refusal_line, usage_line, limit_line, read_failed_line, write_failed_line, no_memory_line}
 
 -- the number that a status has as the exit status of the process
 abbrev pub code_of : Status → ℕ
@@ -30,9 +30,9 @@ status_of NoMemory = status.NoMemory
 
 -- the line of a failure
 abbrev pub line_of_failure : Failure → List ℕ
-line_of_failure Usage = codes "bad command line\n"
+line_of_failure Usage = usage_line
 line_of_failure (Refused r) = refusal_line r ++ 10 ∷ []
-line_of_failure Limit = codes "input limit at byte 0\n"
-line_of_failure ReadFailed = codes "read failed\n"
-line_of_failure WriteFailed = codes "write failed\n"
-line_of_failure NoMemory = codes "out of memory\n"
+line_of_failure Limit = limit_line
+line_of_failure ReadFailed = read_failed_line
+line_of_failure WriteFailed = write_failed_line
+line_of_failure NoMemory = no_memory_line

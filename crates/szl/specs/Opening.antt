@@ -1,5 +1,5 @@
 -- What opening and reading the files of a command line gives.
-use Rattle.std.specs.Prelude.{◌≡◌, ◌≢◌, ℕ, ◌≤◌, ◌<◌, ◌-◌, ◌⊎◌, ⊤, List, [], ◌∷◌, ◌++◌, length, Option, IfSome, Result, Ok, Err}
+use Rattle.std.specs.Prelude.{◌≡◌, ◌≢◌, ℕ, ◌≤◌, ◌<◌, ◌-◌, ⊤, Bool, true, false, List, [], ◌∷◌, length, Option, IfSome, Result, Ok, Err}
 use Rattle.sz_io.specs.Rose.{Rose}
 use Rattle.sz_io.specs.declared.files.Files as files
 use Rattle.szl.specs.declared.status.Status.TheVariants as status
@@ -36,10 +36,10 @@ pub record ReadsText (held : Option (List ℕ)) (limit : ℕ) (past : Failure) (
   pub holds : IfSome held (λ bytes. bytes ≡ text)
   pub tells : TellsText text limit past rose answer
 
--- the names opened gain this one, or none where memory ran out
-abbrev pub GainsName : List (List ℕ) → List (List ℕ) → List ℕ → Result (List ℕ) Failure → Type 0
-GainsName old new name (Err NoMemory) = (new ≡ old) ⊎ (new ≡ old ++ name ∷ [])
-GainsName old new name answer = new ≡ old ++ name ∷ []
+-- whether memory ran out
+abbrev pub ran_out : Result (List ℕ) Failure → Bool
+ran_out (Err NoMemory) = true
+ran_out answer = false
 
 -- the cause of a failure, by the outcome: all but the free ones are the outcome itself
 abbrev pub IsCause : Failure → Answer → Type 0 → Type 0

@@ -24,9 +24,21 @@ pub record Answer : Type 0 where
   pub output : List ℕ
   pub line : List ℕ
 
+-- the lines of the causes that name no place of a program
+abbrev pub usage_line : List ℕ
+usage_line = codes "bad command line\n"
+abbrev pub limit_line : List ℕ
+limit_line = codes "input limit at byte 0\n"
+abbrev pub read_failed_line : List ℕ
+read_failed_line = codes "read failed\n"
+abbrev pub write_failed_line : List ℕ
+write_failed_line = codes "write failed\n"
+abbrev pub no_memory_line : List ℕ
+no_memory_line = codes "out of memory\n"
+
 -- an answer without output, and the line that says why
 abbrev pub refusal : Status → List ℕ → Answer
-refusal status cause = record { status = status; output = []; line = cause ++ 10 ∷ [] }
+refusal status line = record { status = status; output = []; line = line }
 
 -- an answer of all the output
 abbrev pub success : List ℕ → Answer
@@ -41,7 +53,7 @@ abbrev pub outcome_of_program : Prog → List ℕ → Answer
 outcome_of_program program input =
     if is_within_limits input
     then success (tables_text 0 program.tables (all_emits program default_budget (records_in input)))
-    else refusal Limit (codes "input limit at byte 0")
+    else refusal Limit limit_line
 
 -- the text of a cause
 abbrev pub cause_text : Cause → List ℕ
@@ -81,7 +93,7 @@ refusal_line r =
 
 -- the outcome of a program that is refused
 abbrev pub outcome_refused : Refusal → Answer
-outcome_refused r = refusal Program (refusal_line r)
+outcome_refused r = refusal Program (refusal_line r ++ 10 ∷ [])
 
 -- the outcome of running over an input
 abbrev pub outcome_of_built : Result Prog Refusal → List ℕ → Answer
@@ -105,7 +117,7 @@ outcome_of_check (spells statements) = outcome_of_checked (checked statements)
 
 -- the outcome of settings, from the reading of the program's text and the bytes of the input
 abbrev pub outcome_of_settings : Option Settings → Reading → List ℕ → Answer
-outcome_of_settings None reading input = refusal Usage (codes "bad command line")
+outcome_of_settings None reading input = refusal Usage usage_line
 outcome_of_settings (Some (run program name)) reading input = outcome_of_run reading input
 outcome_of_settings (Some (check program)) reading input = outcome_of_check reading
 

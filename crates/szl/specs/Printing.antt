@@ -14,3 +14,8 @@ Prints old new (Ok output) (Err NoMemory) = AppendsPrefix old new output
 Prints old new (Ok output) (Err failure) = ⊥
 Prints old new (Err failure) (Ok _) = ⊥
 Prints old new (Err failure) (Err same) = (same ≡ failure) × Appends old new []
+
+-- no call was made of the sink where there was a failure, nor where there was no byte to print
+abbrev pub PrintsNothing : {O : Type 0} → Result (List ℕ) Failure → O → O → Type 0
+PrintsNothing (Ok output) old new = output ≡ [] → new ≡ old
+PrintsNothing (Err failure) old new = new ≡ old

@@ -1,5 +1,5 @@
 -- What a call of the program promises.
-use Rattle.std.specs.Prelude.{◌≡◌, ◌≢◌, ℕ, ◌≤◌, ◌⊎◌, ⊤, IsTrue, List, [], ◌∷◌, ◌++◌, length, take, Option, Some, None, IfSome, IsSome, codes}
+use Rattle.std.specs.Prelude.{◌≡◌, ◌≢◌, ℕ, ◌≤◌, ◌⊎◌, ⊤, Bool, IsTrue, List, [], ◌∷◌, ◌++◌, length, take, Option, Some, None, IfSome, IsSome}
 use Rattle.std.specs.Io.KnownBytes.{Appends, IsAtEnd}
 use Rattle.sz_io.specs.Rose.{Rose}
 use Rattle.sz_io.specs.declared.files.Files as files
@@ -8,7 +8,7 @@ use Rattle.szl.specs.declared.status.Status.{Status}
 use Rattle.szl.specs.declared.status.Status.TheVariants.{Done, Usage, Program, ReadFailed, WriteFailed, NoMemory}
 use Rattle.szl.specs.Judgement.{Reading, IsRead}
 use Rattle.szl.specs.Settings.{Settings, run, check, settings_in}
-use Rattle.szl.specs.Outcome.{Answer, outcome}
+use Rattle.szl.specs.Outcome.{Answer, read_failed_line, write_failed_line, no_memory_line, outcome}
 
 -- The status is the outcome's, or one of the three that a device or want of memory brings: reading can fail only where
 -- the words ask for files, and writing only where there are bytes to write.
@@ -30,11 +30,18 @@ GainsOutput WriteFailed old new output = AppendsPrefix old new output
 GainsOutput NoMemory old new output = AppendsPrefix old new output
 GainsOutput status old new output = Appends old new []
 
+-- no call was made of the output at a status under which nothing is written, nor where there is no byte to write
+abbrev pub IsLeftAlone : {O : Type 0} → Status → List ℕ → O → O → Type 0
+IsLeftAlone Done output old new = output ≡ [] → new ≡ old
+IsLeftAlone WriteFailed output old new = output ≡ [] → new ≡ old
+IsLeftAlone NoMemory output old new = output ≡ [] → new ≡ old
+IsLeftAlone status output old new = new ≡ old
+
 -- the line of a status: those of the three free statuses are fixed, every other one is the outcome's
 abbrev pub line_of : Answer → Status → List ℕ
-line_of answer ReadFailed = codes "read failed" ++ 10 ∷ []
-line_of answer WriteFailed = codes "write failed" ++ 10 ∷ []
-line_of answer NoMemory = codes "out of memory" ++ 10 ∷ []
+line_of answer ReadFailed = read_failed_line
+line_of answer WriteFailed = write_failed_line
+line_of answer NoMemory = no_memory_line
 line_of answer status = answer.line
 
 -- a sink gained the line, or a prefix of it where one of the sink's two counts rose
@@ -78,6 +85,7 @@ pub record MeansSource {F O E : Type 0} (the_files : files.Ghosts F) (the_out : 
   pub held : AreHeld (settings_in words) (the_files.held files) text input
   pub answers : IsStatusOf (outcome words reading input) status
   pub output : GainsOutput status (the_out.taken out) (the_out.taken new_out) (outcome words reading input).output
+  pub left_alone : IsLeftAlone status (outcome words reading input).output out new_out
   pub line : GainsLine the_err err new_err (line_of (outcome words reading input) status)
   pub opened : OpensFirst (names_asked (settings_in words)) (the_files.names files) (the_files.names new_files)
       (most_opened (outcome words reading input).status)
@@ -87,10 +95,23 @@ abbrev pub IfTold : (List ℕ → Option (List ℕ)) → List (List ℕ) → Typ
 IfTold held [] fact = fact
 IfTold held (name ∷ names) fact = IfSome (held name) (λ _. IfTold held names fact)
 
--- the files under these names were opened; each file opened since is at its end, and what is left of it is told where the
--- bytes under all the names are
+-- the file is none of these
+abbrev pub IsNoneOf : ℕ → List ℕ → Type 0
+IsNoneOf file [] = ⊤
+IsNoneOf file (other ∷ others) = (file ≢ other) × IsNoneOf file others
+
+-- each of these files, no two of them the same, was given now and not before
+abbrev pub AreNew : (ℕ → Bool) → (ℕ → Bool) → List ℕ → Type 0
+AreNew before now [] = ⊤
+AreNew before now (file ∷ files) = ((IsTrue (before file) → ⊥) × IsTrue (now file)) × (IsNoneOf file files × AreNew before now files)
+
+-- Under each of these names, and no other, a file of its own was opened: as many were given as there are names. Each file
+-- opened since is at its end, and what is left of it is told where the bytes under all the names are.
 pub record AreReadToEnd {F : Type 0} (the_files : files.Ghosts F) (old new : F) (names : List (List ℕ)) : Type 0 where
   pub all_opened : the_files.names new ≡ the_files.names old ++ names
+  pub opened : List ℕ
+  pub one_each : length opened ≡ length names
+  pub are_new : AreNew (the_files.given old) (the_files.given new) opened
   pub none_left : (file : ℕ) → (IsTrue (the_files.given old file) → ⊥) → IsTrue (the_files.given new file)
       → IsAtEnd (the_files.left new file)
   pub told : (file : ℕ) → (IsTrue (the_files.given old file) → ⊥) → IsTrue (the_files.given new file)

@@ -1,5 +1,5 @@
 -- What running code on the records of an input does.
-use Rattle.std.specs.Prelude.{◌≡◌, ℕ, ◌≤◌, ◌^◌, List, length, flat_map, ⊤, codes, Result, Ok, Err, Vec}
+use Rattle.std.specs.Prelude.{◌≡◌, ℕ, ◌≤◌, ◌^◌, List, length, flat_map, ⊤, Result, Ok, Err, Vec}
 use Rattle.sz_mean.specs.Outcomes.{EmitDatum}
 use Rattle.sz_machine.specs.declared.code.Code.{Code}
 use Rattle.sz_machine.specs.Machine.{RunsTo}
@@ -7,7 +7,7 @@ use Rattle.szl.specs.declared.failure.Failure.{Failure}
 use Rattle.szl.specs.declared.failure.Failure.TheVariants.{Limit, NoMemory}
 use Rattle.sz_mean.specs.Tree.{Prog}
 use Rattle.szl.specs.declared.status.Status.TheVariants as status
-use Rattle.szl.specs.Outcome.{outcome_of_program, success, refusal}
+use Rattle.szl.specs.Outcome.{limit_line, outcome_of_program, success, refusal}
 use Rattle.sz_tree.specs.Statements.{Stms}
 use Rattle.szl.specs.Forms.{program_in}
 use Rattle.szl.specs.Judgement.{IsShort, HasStatements}
@@ -51,6 +51,6 @@ vec_items_of (Err failure) = Err failure
 -- what running a program over an input gives: the text of its tables, the limit that the input passes, or want of memory
 abbrev pub GivesTables : Prog → List ℕ → Result (List ℕ) Failure → Type 0
 GivesTables program input (Ok text) = outcome_of_program program input ≡ success text
-GivesTables program input (Err Limit) = outcome_of_program program input ≡ refusal status.Limit (codes "input limit at byte 0")
+GivesTables program input (Err Limit) = outcome_of_program program input ≡ refusal status.Limit limit_line
 GivesTables program input (Err NoMemory) = ⊤
 GivesTables program input (Err failure) = ⊥

@@ -2,8 +2,8 @@
 ghost use Rattle.std.specs.Prelude.{◌≡◌, ◌<◌, ◌≤◌, ◌++◌, ◌∷◌, [], length, map, string_bytes, Some, OnOk};
 ghost use Rattle.sz_io.specs.Rose.{Rose};
 ghost use Rattle.sz_io.specs.Opened.{KeepsFiles};
-ghost use Rattle.sz_io.specs.Calls.{ReadToEnd};
-ghost use Rattle.szl.specs.Opening.{ReadsText, GainsName, past_program, Answers, AnswersOn, AnswersText, AnswersCheck};
+ghost use Rattle.sz_io.specs.Calls.{NamesGain, ReadToEnd};
+ghost use Rattle.szl.specs.Opening.{ReadsText, ran_out, past_program, Answers, AnswersOn, AnswersText, AnswersCheck};
 ghost use Rattle.szl.specs.Outcome.{outcome_of_program};
 ghost use Rattle.szl.specs.Judgement.{most_program_bytes};
 ghost use Rattle.szl.specs.Promise.{AreReadToEnd, names_asked};
@@ -66,7 +66,7 @@ fn read_program<F: Files>(alloc: Global, name: &str, files: &mut F) -> Result<Ve
     requires few { length (F.names files.old) < 128 }
     ensures text { ReadsText (F.held files.old name.now) most_program_bytes past_program
         (Rose (F.faults files.old) (F.faults files.new)) (vec_items_of result) }
-    ensures names { GainsName (F.names files.old) (F.names files.new) name.now (vec_items_of result) }
+    ensures names { NamesGain (ran_out (vec_items_of result)) (F.names files.old) (F.names files.new) name.now }
     ensures end { OnOk result (ReadToEnd F.Files files.old files.new name.now) }
     ensures kept { KeepsFiles F.held F.left F.given F.faults files.old files.new }
 {

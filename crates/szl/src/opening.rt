@@ -2,8 +2,8 @@
 ghost use Rattle.std.specs.Prelude.{◌≡◌, ◌<◌, ℕ, length, OnOk, Ok};
 ghost use Rattle.sz_io.specs.Rose.{Rose};
 ghost use Rattle.sz_io.specs.Opened.{KeepsFiles};
-ghost use Rattle.sz_io.specs.Calls.{ReadToEnd};
-ghost use Rattle.szl.specs.Opening.{IsPast, ReadsText, GainsName};
+ghost use Rattle.sz_io.specs.Calls.{NamesGain, ReadToEnd};
+ghost use Rattle.szl.specs.Opening.{IsPast, ReadsText, ran_out};
 ghost use Rattle.szl.specs.Running.{vec_items_of};
 
 use crate::failure::Failure;
@@ -21,7 +21,7 @@ pub fn read_text<F: Files>(
     requires few { length (F.names files.old) < 128 }
     requires past { IsPast past }
     ensures text { ReadsText (F.held files.old name.now) limit past (Rose (F.faults files.old) (F.faults files.new)) (vec_items_of result) }
-    ensures names { GainsName (F.names files.old) (F.names files.new) name.now (vec_items_of result) }
+    ensures names { NamesGain (ran_out (vec_items_of result)) (F.names files.old) (F.names files.new) name.now }
     ensures end { OnOk result (ReadToEnd F.Files files.old files.new name.now) }
     ensures kept { KeepsFiles F.held F.left F.given F.faults files.old files.new }
 {

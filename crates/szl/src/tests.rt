@@ -56,7 +56,7 @@ struct Left {
 fn files_of(alloc: Global, case: &Case<'_>) -> Result<MemFiles, NoMemory>
     ensures { IfOk result (λ files. names_opened files ≡ []) }
 {
-    let mut files = MemFiles::new(alloc);
+    let mut files = MemFiles::new(alloc)?;
     files.put("p", case.program, &[case.program_fails])?;
     files.put("f", case.input, &[case.input_fails])?;
     Ok(files)

@@ -1,9 +1,9 @@
 //! The top call: from the words and the devices to the status.
-ghost use Rattle.std.specs.Prelude.{◌≡◌, ◌<◌, ◌⊎◌, Err, Ok, length, map, string_bytes};
+ghost use Rattle.std.specs.Prelude.{◌≡◌, ◌<◌, ◌⊎◌, [], Err, Ok, length, map, string_bytes};
 ghost use Rattle.sz_io.specs.Opened.{KeepsFiles};
 ghost use Rattle.sz_io.specs.Rose.{Rose, DoNotFall};
 ghost use Rattle.szl.specs.Failing.{line_of_failure};
-ghost use Rattle.szl.specs.Printing.{Prints};
+ghost use Rattle.szl.specs.Printing.{Prints, PrintsNothing};
 ghost use Rattle.szl.specs.Promise.{MeansSource, GainsLine, AreReadToEnd, names_asked};
 ghost use Rattle.szl.specs.Running.{vec_items_of};
 ghost use Rattle.szl.specs.Settings.{settings_in};
@@ -51,6 +51,7 @@ pub fn szl_main<R: Threads + Sync, F: Files, O: Sink, E: Sink, G: Gate + Sync>(
 /// Writes the text of an answer, if it has one.
 fn print<O: Sink>(out: &mut O, answer: Result<Vec<u8>, Failure>) -> Result<(), Failure>
     ensures value { Prints (O.taken out.old) (O.taken out.new) (vec_items_of answer) result }
+    ensures nothing { PrintsNothing (vec_items_of answer) out.old out.new }
     ensures failed { result ≡ Err Failure.WriteFailed → (vec_items_of answer ≡ Err Failure.WriteFailed) ⊎ Rose (O.faults out.old) (O.faults out.new) }
     ensures kept { DoNotFall O.faults O.refusals out.old out.new }
 {
@@ -64,6 +65,7 @@ fn print<O: Sink>(out: &mut O, answer: Result<Vec<u8>, Failure>) -> Result<(), F
 #[tactic(auto, using(crate::proofs::MainLemmas::some_bytes))]
 fn print_text<O: Sink>(out: &mut O, text: &[u8]) -> Result<(), Failure>
     ensures value { Prints (O.taken out.old) (O.taken out.new) (Ok text.now) result }
+    ensures nothing { text.now ≡ [] → out.new ≡ out.old }
     ensures failed { result ≡ Err Failure.WriteFailed → Rose (O.faults out.old) (O.faults out.new) }
     ensures kept { DoNotFall O.faults O.refusals out.old out.new }
 {

@@ -3,7 +3,7 @@ use Rattle.std.proofs.lemmas.Result.{err_from_is_err_and}
 use Rattle.szl.specs.Opening.{AnswersCheck}
 use Rattle.szl.specs.Running.{vec_items_of}
 use Rattle.szl.specs.Settings.{check}
-use Rattle.szl.proofs.SettingsLemmas.{text_fails, text_checked}
+use Rattle.szl.proofs.SettingsLemmas.{text_fails, text_checked, when_ok, one_read}
 use Rattle.szl.proofs.answer.answer_check.Goals as goal
 
 -- the program's text couldn't be read
@@ -19,3 +19,9 @@ returns-clause-value g c =
     let a = subst (λ text. AnswersCheck text (vec_items_of c.check_text.result)) c.deref.ensures.value c.check_text.ensures.value in
     text_checked g.F.Files c.args.program.now c.args.files.now c.read_program.new.files c.in_ok-text.text.items (vec_items_of c.check_text.result) _
     c.in_ok-text.ensures.text c.in_ok-text.ensures.names a
+
+-- the program was read to its end
+pub returns-clause-end : goal.returns-clause-end
+returns-clause-end g c =
+    when_ok c.check_text.result
+    (one_read g.F.Files c.args.program.now c.args.files.now c.read_program.new.files c.in_ok-text.ensures.names c.in_ok-text.ensures.end)

@@ -3,7 +3,7 @@ use Rattle.std.proofs.lemmas.Result.{err_from_is_err_and}
 use Rattle.szl.specs.Opening.{AnswersText}
 use Rattle.szl.specs.Running.{vec_items_of}
 use Rattle.szl.specs.Settings.{run}
-use Rattle.szl.proofs.SettingsLemmas.{text_fails, text_read}
+use Rattle.szl.proofs.SettingsLemmas.{text_fails, text_read, both_when_ok, both_read}
 use Rattle.szl.proofs.answer.answer_run.Goals as goal
 
 -- the program's text couldn't be read
@@ -21,3 +21,11 @@ returns-clause-value g c =
     c.deref.ensures.value c.answer_text.ensures.value in
     text_read g.F.Files c.args.program.now c.args.files.now name c.read_program.new.files c.answer_text.new.files c.in_ok-text.text.items
     (vec_items_of c.answer_text.result) _ c.in_ok-text.ensures.text c.in_ok-text.ensures.names c.in_ok-text.ensures.kept a
+
+-- the program and the input were read to their ends
+pub returns-clause-end : goal.returns-clause-end
+returns-clause-end g c =
+    both_when_ok c.answer_text.result
+    (λ names end. both_read g.F.Files c.args.program.now c.args.files.now c.args.input.now c.read_program.new.files c.answer_text.new.files
+    c.in_ok-text.ensures.names names c.in_ok-text.ensures.kept c.answer_text.ensures.kept c.in_ok-text.ensures.end end)
+    c.answer_text.ensures.names c.answer_text.ensures.end
