@@ -1,0 +1,5 @@
+-- what the public contracts rest on
+pub mod Plan
+pub mod Machine
+pub mod History
+pub mod Lanes
