@@ -3,3 +3,4 @@ pub mod Plan
 pub mod Machine
 pub mod History
 pub mod Lanes
+pub mod Answers

@@ -1,5 +1,5 @@
 //! The plan of a round, and a claim on one of its tickets.
-ghost use Rattle.std.specs.Prelude.{◌≡◌, ◌<◌, slice_index};
+ghost use Rattle.std.specs.Prelude.{◌≡◌, ◌<◌, ◌^◌, slice_index};
 ghost use Rattle.sz_book.specs.Plan.{PlanData, IsPlan, count_of};
 
 use std::marker::Model;
@@ -62,6 +62,7 @@ impl Plan {
     /// The number of tickets.
     pub fn ticket_count(&self) -> usize
         ensures value { result ≡ count_of self.now }
+        ensures within { result < 2 ^ 32 }
     {
         self.tickets.len()
     }

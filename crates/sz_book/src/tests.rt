@@ -44,7 +44,7 @@ fn two_shards(alloc: Global) -> Result<Plan, NoMemory>
     Ok(Plan::new(2, 1, tickets))
 }
 
-fn tally(alloc: Global, plan: &Plan, shards: &[u32]) -> Result<Tally, NoMemory>
+fn tally_of(alloc: Global, plan: &Plan, shards: &[u32]) -> Result<Tally, NoMemory>
     ensures { IfOk result (λ tally. (tally.shards ≡ shards.now) × (tally.plan.value ≡ plan.now)) }
 {
     let shards = Items::copied(alloc, shards)?;
@@ -59,8 +59,8 @@ fn lane_of(alloc: Global, plan: &Plan, claim: &Claim) -> Result<Option<Lane<Tall
     requires { claim.now.shard < plan.now.shards }
     ensures { IfOk result (λ found. IfSome found (λ lane. (lane.plan ≡ plan.now) × (lane.shards ≡ claim.now.shard ∷ []))) }
 {
-    let mut lane = Lane::new(alloc, tally(alloc, plan, &[])?, 1)?;
-    let part = tally(alloc, plan, &[claim.shard])?;
+    let mut lane = Lane::new(alloc, tally_of(alloc, plan, &[])?, 1)?;
+    let part = tally_of(alloc, plan, &[claim.shard])?;
     match lane.put(Receipt::won(plan, claim), part) {
         Ok(()) => Ok(Some(lane)),
         Err(_) => Ok(None),
@@ -99,6 +99,9 @@ fn lanes_stand_for_what_was_put(rt: HostRuntime) -> Result<(), Fail> {
 #[test]
 fn a_plan_tells_its_numbers(rt: HostRuntime) -> Result<(), Fail> {
     let plan = two_shards(rt.alloc())?;
-    assert_eq!(rt; (plan.shards(), plan.attempts(), plan.ticket_count()), (2, 1, 2));
+    assert_eq!(rt;
+        (plan.shards(), plan.attempts(), plan.ticket_count()),
+        (2, 1, 2)
+    );
     Ok(())
 }
