@@ -1,0 +1,3 @@
+pub mod GrowthLemmas
+pub mod HistoryLemmas
+pub mod TestPlans

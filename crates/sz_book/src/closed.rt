@@ -1,0 +1,22 @@
+//! What is left of a ledger once it is closed.
+use crate::lane::Lane;
+use crate::load::Load;
+use sz_list::Items;
+
+/// Words, in order.
+///
+/// Contracts see a list.
+pub type Words = Items<u64>;
+
+/// A closed ledger.
+#[derive(Drop)]
+pub struct Closed<T: Load> {
+    /// The lanes, in order.
+    pub lanes: Vec<Lane<T>>,
+    /// For each shard 0, or 1 more than the number of the attempt that settled it.
+    pub settled: Words,
+    /// For each shard the attempts whose deaths were noted: bit k is attempt k, counted from 0.
+    pub deaths: Words,
+    /// The least shard that was marked bad.
+    pub least_bad: Option<u32>,
+}

@@ -1,0 +1,26 @@
+//! What stands for shards.
+ghost use Rattle.std.specs.Prelude.{◌≡◌, ◌++◌, ℕ, List, OnOk, IfErr};
+ghost use Rattle.sz_book.specs.Plan.{PlanData};
+ghost use Rattle.sz_book.specs.History.{AreApart};
+
+/// A value that stands for a list of shards, such as the emits of them all.
+pub trait Load: Sized + Drop {
+    /// Which attempts of each shard died.
+    ghost died: { ℕ → ℕ → Type 0 };
+
+    /// Which shards have a record that faults.
+    ghost faults: { ℕ → Type 0 };
+
+    /// The plan of a value.
+    ghost plan: { Self → PlanData };
+
+    /// The value stands for these shards.
+    ghost stands: { Self → List ℕ → Type 0 };
+
+    /// Takes in another value. `Err` hands it back where there was no memory.
+    fn absorb(&mut self, part: Self) -> Result<(), Self>
+        requires plan { plan self.old ≡ plan part }
+        requires apart { (ss : List ℕ) × (ts : List ℕ) × stands self.old ss × stands part ts × AreApart ss ts }
+        ensures ok { OnOk result ((plan self.new ≡ plan self.old) × ((ss ts : List ℕ) → stands self.old ss → stands part ts → AreApart ss ts → stands self.new (ss ++ ts))) }
+        ensures err { IfErr result (λ back. (back ≡ part) × (self.new ≡ self.old)) };
+}

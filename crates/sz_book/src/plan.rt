@@ -1,0 +1,84 @@
+//! The plan of a round, and a claim on one of its tickets.
+ghost use Rattle.std.specs.Prelude.{◌≡◌, ◌<◌, ◌^◌, slice_index};
+ghost use Rattle.sz_book.specs.Plan.{PlanData, IsPlan, count_of};
+
+use std::marker::Model;
+use sz_list::Items;
+
+/// The shard of each ticket. Tickets and shards are counted from 0.
+///
+/// Contracts see a list.
+pub type Tickets = Items<u32>;
+
+/// How many shards there are, how many attempts each may have, and the shard of each ticket.
+///
+/// The type keeps that there are 1 to 8 attempts and fewer than 2^32 tickets, that each ticket is of one of the shards, and that
+/// each shard has one ticket or two.
+#[derive(Drop)]
+pub struct Plan {
+    shards: u32,
+    attempts: u32,
+    tickets: Tickets,
+}
+
+impl Model for Plan {
+    ghost use Rattle.sz_book.specs.Plan.{PlanData, IsPlan};
+
+    ghost Value = { PlanData };
+
+    ghost view = { λ plan. record { shards = plan.shards; attempts = plan.attempts; tickets = plan.tickets } };
+
+    ghost invariant = { λ plan. IsPlan record { shards = plan.shards; attempts = plan.attempts; tickets = plan.tickets } };
+}
+
+impl Plan {
+    /// A plan of these numbers. It takes no memory.
+    pub fn new(shards: u32, attempts: u32, tickets: Tickets) -> Plan
+        requires { IsPlan record { shards = shards; attempts = attempts; tickets = tickets } }
+        ensures value { result ≡ record { shards = shards; attempts = attempts; tickets = tickets } }
+    {
+        Plan {
+            shards,
+            attempts,
+            tickets,
+        }
+    }
+
+    /// The number of shards.
+    pub fn shards(&self) -> u32
+        ensures value { result ≡ self.now.shards }
+        ensures kept { IsPlan self.now }
+    {
+        self.shards
+    }
+
+    /// How many attempts a shard may have.
+    pub fn attempts(&self) -> u32
+        ensures value { result ≡ self.now.attempts }
+    {
+        self.attempts
+    }
+
+    /// The number of tickets.
+    pub fn ticket_count(&self) -> usize
+        ensures value { result ≡ count_of self.now }
+        ensures within { result < 2 ^ 32 }
+    {
+        self.tickets.len()
+    }
+
+    /// The shard of a ticket.
+    pub fn shard_of(&self, ticket: usize) -> u32
+        requires within { ticket < count_of self.now }
+        ensures value { result ≡ slice_index self.now.tickets ticket }
+    {
+        *self.tickets.get(ticket)
+    }
+}
+
+/// A ticket that was drawn, and its shard.
+#[derive(Clone, Copy)]
+pub struct Claim {
+    pub ticket: u32,
+    pub shard: u32,
+}
