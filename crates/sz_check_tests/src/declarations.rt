@@ -85,7 +85,8 @@ x: int; emit x <- 1; => 8 at 1:14: x
 emit t <- 1; => 6 at 1:6: t";
 
 /// Types of messages, with each encoding, and composites of them.
-pub const PROTO_TYPES: &str = "type N = proto { x: bool @ 1 };$type M = proto { a: bool @ 1, b: int @ 2, c: time @ 3, d: string @ 4, e: bytes @ 5, f: N @ 6 }; => fine
+pub const PROTO_TYPES: &str =
+    "type N = proto { x: bool @ 1 };$type M = proto { a: bool @ 1, b: int @ 2, c: time @ 3, d: string @ 4, e: bytes @ 5, f: N @ 6 }; => fine
 type N = proto { x: bool @ 1 };$type M = proto { a: array of bool @ 1, b: array of int @ 2, c: array of time @ 3, d: array of string @ 4, e: array of bytes @ 5, f: array of N @ 6 }; => fine
 type M = proto { a: int @ 1 zigzag, b: time @ 2 fixed32, c: array of int @ 3 fixed64, d: array of time @ 4 zigzag }; => fine
 type T = int; type A = array of time; type M = proto { a: T @ 1 fixed64, b: A @ 2 fixed32 }; => fine

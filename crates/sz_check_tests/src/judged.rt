@@ -48,7 +48,8 @@ fn told(alloc: Global, error: &CheckError) -> Result<String, AllocError> {
         number,
         place,
         name,
-    } = error else {
+    } = error
+    else {
         return String::from_str(alloc, "no memory");
     };
     let mut text = String::new(alloc);

@@ -1,7 +1,8 @@
 //! Whole programs, and each form of statement and of expression. In each line a program stands before `=>`, where `$` is the end of a line, and behind it what `check` says of it.
 
 /// Whole programs.
-pub const PROGRAMS: &str = "count: table sum of int;$total: table sum of int;$sum_of_squares: table sum of int;$x: int = input;$emit count <- 1;$emit total <- x;$emit sum_of_squares <- x * x; => fine
+pub const PROGRAMS: &str =
+    "count: table sum of int;$total: table sum of int;$sum_of_squares: table sum of int;$x: int = input;$emit count <- 1;$emit total <- x;$emit sum_of_squares <- x * x; => fine
 c: table sum of int;$x: int = input;$if (x > 0) emit c <- 1; => fine
 x: int = input;$while (x > 0) x = x - 1; => fine
 best: table maximum(2) of string weight w: int;$s: string = input;$emit best <- s weight 5; => fine
@@ -96,7 +97,8 @@ x: int; y: x; => 8 at 1:12: x
 when (i: some int; i > 0) ; => 23 at 1:1";
 
 /// Each form of expression, and the refusals that are its own.
-pub const EXPRESSIONS: &str = "x: int = 1; s: string = \"a\"; b: bytes = B\"a\"; c: int = 'a'; t: bool = true; => fine
+pub const EXPRESSIONS: &str =
+    "x: int = 1; s: string = \"a\"; b: bytes = B\"a\"; c: int = 'a'; t: bool = true; => fine
 x: bytes = input; => fine
 static s: int = 1; x: int = s; => fine
 x: int = (1); => fine

@@ -48,23 +48,29 @@ front_declares : (locals : List Shape) (seen : List ℕ) (d : Declared) (front r
 unfolding AreItems
 front_declares locals seen d [] rest sound =
     let same : d ≡ both_declared d nothing_declared =
-        λ i. record { statics = sym (append-nil d.statics) i; functions = sym (append-nil d.functions) i; tables = sym (append-nil d.tables) i } in
+    λ i. record { statics = sym (append-nil d.statics) i; functions = sym (append-nil d.functions) i; tables = sym (append-nil d.tables) i } in
     (seen, subst (λ e. AreItems locals seen e rest) same sound)
 front_declares locals seen d (items.table t ∷ front) rest sound =
     let h = front_declares locals seen (record d { tables = d.tables ++ t ∷ [] }) front rest sound.1 in
-    let e = declared_by front in
-    (h.0, subst (λ ts. AreItems locals h.0 (record { statics = d.statics ++ e.statics; functions = d.functions ++ e.functions; tables = ts }) rest)
-      (append_assoc d.tables (t ∷ []) e.tables) h.1)
+    let e = declared_by front in (
+      h.0,
+      subst (λ ts. AreItems locals h.0 (record { statics = d.statics ++ e.statics; functions = d.functions ++ e.functions; tables = ts }) rest)
+          (append_assoc d.tables (t ∷ []) e.tables) h.1,
+    )
 front_declares locals seen d (items.function f ∷ front) rest sound =
     let h = front_declares locals seen (record d { functions = d.functions ++ f.signature ∷ [] }) front rest sound.1 in
-    let e = declared_by front in
-    (h.0, subst (λ fs. AreItems locals h.0 (record { statics = d.statics ++ e.statics; functions = fs; tables = d.tables ++ e.tables }) rest)
-      (append_assoc d.functions (f.signature ∷ []) e.functions) h.1)
+    let e = declared_by front in (
+      h.0,
+      subst (λ fs. AreItems locals h.0 (record { statics = d.statics ++ e.statics; functions = fs; tables = d.tables ++ e.tables }) rest)
+          (append_assoc d.functions (f.signature ∷ []) e.functions) h.1,
+    )
 front_declares locals seen d (items.static s ∷ front) rest sound =
     let h = front_declares locals seen (record d { statics = d.statics ++ s.type ∷ [] }) front rest sound.1 in
-    let e = declared_by front in
-    (h.0, subst (λ ss. AreItems locals h.0 (record { statics = ss; functions = d.functions ++ e.functions; tables = d.tables ++ e.tables }) rest)
-      (append_assoc d.statics (s.type ∷ []) e.statics) h.1)
+    let e = declared_by front in (
+      h.0,
+      subst (λ ss. AreItems locals h.0 (record { statics = ss; functions = d.functions ++ e.functions; tables = d.tables ++ e.tables }) rest)
+          (append_assoc d.statics (s.type ∷ []) e.statics) h.1,
+    )
 front_declares locals seen d (items.statement s ∷ front) rest sound =
     front_declares locals (seen_behind (record_sight locals seen d) s).seen d front rest sound.1
 

@@ -26,10 +26,8 @@ pub fn there_are_at_most_64_tables()
 
 /// The items behind any front of a sound program are sound behind what the front declares.
 pub fn items_are_sound_behind_their_front()
-    ensures value {
-        (program : Core) (front rest : List Item) → IsSound program → program.items ≡ front ++ rest
-        → (seen : List ℕ) × AreItems program.locals seen (declared_by front) rest
-    }
+    ensures value { (program : Core) (front rest : List Item) → IsSound program → program.items ≡ front ++ rest
+        → (seen : List ℕ) × AreItems program.locals seen (declared_by front) rest }
 {}
 
 /// What a front of the items declares is the front of what all of them declare.
@@ -41,26 +39,18 @@ pub fn what_is_declared_before_is_a_front()
 
 /// Evaluating a static of a sound program emits nothing, whichever functions of the program it calls.
 pub fn statics_emit_nothing()
-    ensures value {
-        (program : Core) → IsSound program
-        → All (λ s. node_emits (declared_by program.items).functions s.value ≡ false) (statics_of program.items)
-    }
+    ensures value { (program : Core) → IsSound program
+        → All (λ s. node_emits (declared_by program.items).functions s.value ≡ false) (statics_of program.items) }
 {}
 
 /// The type of an expression that has its type is well formed, where those of what can be used are; and they are wherever an
 /// expression stands in a sound program: in a record's statements, in a static and in a function.
 pub fn types_are_well_formed()
     ensures expressions { (g : Sight) (e : Node) → HasFormedTypes g → IsNode g e → is_well_formed (type_of e) ≡ true }
-    ensures records {
-        (program : Core) (front rest : List Item) (seen : List ℕ) → IsSound program → program.items ≡ front ++ rest
-        → HasFormedTypes (record_sight program.locals seen (declared_by front))
-    }
-    ensures statics {
-        (program : Core) (front rest : List Item) → IsSound program → program.items ≡ front ++ rest
-        → HasFormedTypes (static_sight (declared_by front))
-    }
-    ensures functions {
-        (program : Core) (front rest : List Item) (f : Function) → IsSound program → program.items ≡ front ++ function f ∷ rest
-        → HasFormedTypes (function_sight (declared_by front) f)
-    }
+    ensures records { (program : Core) (front rest : List Item) (seen : List ℕ) → IsSound program → program.items ≡ front ++ rest
+        → HasFormedTypes (record_sight program.locals seen (declared_by front)) }
+    ensures statics { (program : Core) (front rest : List Item) → IsSound program → program.items ≡ front ++ rest
+        → HasFormedTypes (static_sight (declared_by front)) }
+    ensures functions { (program : Core) (front rest : List Item) (f : Function) → IsSound program → program.items ≡ front ++ function f ∷ rest
+        → HasFormedTypes (function_sight (declared_by front) f) }
 {}

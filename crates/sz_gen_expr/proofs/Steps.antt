@@ -60,7 +60,7 @@ module _ (code : Code) where
   -- what goes on from the first part of an expression, or its fault
   pub after_first : (t u : Shape) (s s1 : State) (end end1 : ℕ) (x : After) (go : Slot → Doing Slot)
       → ((v : Slot) (w : World) → Kept s1.world u v w → AfterEval code t s end x (go v w)
-          → ComesTo code (record s1 { at = end1; stack = v ∷ s1.stack; world = w }) x)
+      → ComesTo code (record s1 { at = end1; stack = v ∷ s1.stack; world = w }) x)
       → (r : Given Slot) → AfterEval code t s end x (and_then r go) → AfterEval code u s1 end1 x r
   after_first t u s s1 end end1 x go next (Gives v w) h = λ kept. next v w kept h
   after_first t u s s1 end end1 x go next (Stops fault) h = h
@@ -68,7 +68,7 @@ module _ (code : Code) where
   -- the ticks of a line, and then what it does, or the fault of both sides
   pub after_pay : (t : Shape) (s s1 : State) (end : ℕ) (x : After) (l : Line) (go : Doing Slot) (n : ℕ) (m : Option World) → spend n s1.world ≡ m
       → ((w : World) → w.left ≤ s1.world.left → AfterEval code t s end x (go w)
-          → NextComes code (act code l.instr l.place (record s1 { world = w })) x)
+      → NextComes code (act code l.instr l.place (record s1 { world = w })) x)
       → AfterEval code t s end x (and_then (paid l.place m) (λ _. go)) → NextComes code (charged code l s1 m) x
   after_pay t s s1 end x l go n None e next h = h
   after_pay t s s1 end x l go n (Some w) e next h = let left = spend_left n s1.world w e in next w (omega arith) h

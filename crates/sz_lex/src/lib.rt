@@ -25,4 +25,3 @@ pub use sign::Sign;
 pub use token::{Kind, Token};
 pub use tokens::Tokens;
 pub use word::Word;
-

@@ -16,4 +16,3 @@ pub use operator::{BinaryOp, UnaryOp};
 pub use stmt::{Elem, First, Path, Quantifier, Quantity, Simple, Step, Stmt, Table};
 pub use tree::Tree;
 pub use types::{BasicType, Param, ProtoField, TypeTree};
-
