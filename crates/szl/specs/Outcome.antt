@@ -27,12 +27,16 @@ pub record Answer : Type 0 where
 -- the lines of the causes that name no place of a program
 abbrev pub usage_line : List ℕ
 usage_line = codes "bad command line\n"
+
 abbrev pub limit_line : List ℕ
 limit_line = codes "input limit at byte 0\n"
+
 abbrev pub read_failed_line : List ℕ
 read_failed_line = codes "read failed\n"
+
 abbrev pub write_failed_line : List ℕ
 write_failed_line = codes "write failed\n"
+
 abbrev pub no_memory_line : List ℕ
 no_memory_line = codes "out of memory\n"
 
