@@ -1,4 +1,4 @@
-use Rattle.std.proofs.Common.{◌≤◌, arith}
+use Rattle.std.proofs.Common.{arith}
 use Rattle.szl.specs.declared.refusal.Cause.TheVariants.{NotBuilt}
 use Rattle.szl.proofs.refusal.Cause.of_number.Goals as goal
 
