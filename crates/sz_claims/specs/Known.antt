@@ -1,0 +1,120 @@
+-- What a contract sees of a ledger and of a pass.
+use Rattle.std.specs.Prelude.{◌≡◌, ℕ, ◌+◌, ◌^◌, ◌<◌, ◌≤◌, Bool, false, if◌then◌else◌, nat_lt, Option, Some, None, List, [], ◌∷◌, ◌++◌, length, replicate, slice_index_or}
+use mathlib.Core.Option.{some}
+use lib.ListN.{get_elem?}
+use Rattle.atomic_table.specs.Seated.{TableId}
+use Rattle.sz_book.specs.Plan.{PlanData, count_of}
+use Rattle.sz_book.specs.declared.event.Event.{Event}
+use Rattle.sz_book.specs.declared.event.Reply.{Reply}
+use Rattle.sz_book.specs.declared.event.Entry.{Entry}
+use Rattle.sz_book.specs.Machine.{LedgerState, opening}
+use Rattle.sz_book.specs.History.{entry, state_after, IsLegal, calls_by, StartsWith, AreTrueReports}
+use Rattle.sz_claims.specs.declared.view.Account.{Account}
+use Rattle.sz_claims.specs.declared.view.View.{View}
+use Rattle.sz_claims.specs.Rule.{Slot, any_of, found_no_ticket, found_no_number, bit}
+
+-- which ledger it is, its plan, and how many lanes it has
+pub record LedgerData : Type 0 where
+  pub id : TableId
+  pub plan : PlanData
+  pub lanes : ℕ
+
+-- Which ledger a pass is of, its number, what it has seen, and its own calls; 0 or 1 more than the lane that it holds, and that
+-- lane's shards when it was lent. The first pass has the number 0, and knows how many passes were made and may be, and the calls of
+-- those that it joined
+pub record PassData : Type 0 where
+  pub ledger : LedgerData
+  pub number : ℕ
+  pub made : ℕ
+  pub limit : ℕ
+  pub seen : List Entry
+  pub mine : List Entry
+  pub joined : List Account
+  pub lane : ℕ
+  pub lent : List ℕ
+
+-- what a contract sees of a pass with this view
+abbrev pub pass_data : TableId → ℕ → View → PassData
+pass_data z limit v = record {
+  ledger = record { id = z; plan = v.plan; lanes = v.lanes };
+  number = v.number;
+  made = v.made;
+  limit = limit;
+  seen = v.seen;
+  mine = v.mine;
+  joined = v.joined;
+  lane = v.lane;
+  lent = v.lent;
+}
+
+-- the first pass of a new ledger
+abbrev pub first_pass : LedgerData → ℕ → PassData
+first_pass ledger limit = record { ledger = ledger; number = 0; made = 1; limit = limit; seen = []; mine = []; joined = []; lane = 0; lent = [] }
+
+-- the call became the last of what is seen, and of the pass's own calls
+abbrev pub Calls : PassData → Event → Reply → PassData → Type 0
+Calls v event reply w =
+    (log : List Entry) × (w ≡ record v { seen = log ++ entry v.number event [] reply ∷ []; mine = v.mine ++ entry v.number event [] reply ∷ [] })
+    × StartsWith log v.seen × IsLegal v.ledger.plan v.ledger.lanes w.seen × (calls_by v.number w.seen ≡ w.mine)
+
+-- a new pass has seen what the first one has, and holds nothing
+abbrev pub split_off : PassData → PassData
+split_off v = record { ledger = v.ledger; number = v.made; made = 0; limit = 0; seen = v.seen; mine = []; joined = []; lane = 0; lent = [] }
+
+-- another pass was made of the first one. No call of its number was seen
+abbrev pub IsSplit : PassData → PassData → PassData → Type 0
+IsSplit v w other = (v.made < v.limit) × (w ≡ record v { made = v.made + 1 }) × (other ≡ split_off v) × (calls_by v.made v.seen ≡ [])
+
+-- in the history, the calls of each pass that was joined are those that it had made
+abbrev pub HasJoined : List Account → List Entry → Type 0
+HasJoined joined log = (k : ℕ) (a : Account) → get_elem? joined k ≡ some a → calls_by a.number log ≡ a.calls
+
+-- what both have seen are beginnings of what is then seen, and the other's calls stand in an account
+abbrev pub IsJoined : PassData → PassData → PassData → Type 0
+IsJoined v other w =
+    (log : List Entry) × (w ≡ record v { seen = log; joined = v.joined ++ (record { number = other.number; calls = other.mine }) ∷ [] })
+    × StartsWith log v.seen × StartsWith log other.seen × IsLegal v.ledger.plan v.ledger.lanes log × (calls_by v.number log ≡ v.mine)
+    × HasJoined w.joined log
+
+-- The state after one legal history, which begins with what the pass has seen. Its reports are true. In it the calls of each pass
+-- are just those that it made, and nobody else called
+pub record IsEnd (died : ℕ → ℕ → Type 0) (faults : ℕ → Type 0) (v : PassData) (log : List Entry) : Type 0 where
+  pub legal : IsLegal v.ledger.plan v.ledger.lanes log
+  pub seen : StartsWith log v.seen
+  pub mine : calls_by v.number log ≡ v.mine
+  pub joined : HasJoined v.joined log
+  pub others : (n : ℕ) → ¬ (n ≡ 0) → ((k : ℕ) (a : Account) → get_elem? v.joined k ≡ some a → ¬ (a.number ≡ n)) → calls_by n log ≡ []
+  pub reports : AreTrueReports died faults log
+
+-- the state that the ledger of a pass has after a history
+abbrev pub ends_in : PassData → List Entry → LedgerState
+ends_in v log = state_after v.ledger.plan (opening v.ledger.plan v.ledger.lanes) log
+
+-- the shard in the word of the least bad one
+abbrev pub least_of : ℕ → Option ℕ
+least_of n = if nat_lt n (2 ^ 32) then Some n else None
+
+-- what a ledger is left with where this is its state
+abbrev pub IsClosed : LedgerState → List ℕ → List ℕ → Option ℕ → Type 0
+IsClosed x settled deaths least_bad = (settled ≡ x.winners) × (deaths ≡ x.deaths) × (least_bad ≡ least_of x.least_bad)
+
+-- each row has so many marks, and none is set
+abbrev pub AllBlank : ℕ → List (List Bool) → Type 0
+AllBlank n [] = Unit {0}
+AllBlank n (r ∷ rs) = (r ≡ replicate n false) × AllBlank n rs
+
+-- what the type of a pass keeps. Its marks tell for which tickets it found no number
+pub record IsSound (v : View) (held : List (ℕ × Slot)) (vain : Bool) (marks : List Bool) (limit : ℕ) (rows : List (List Bool)) : Type 0 where
+  pub live : 0 < v.weight
+  pub idle : v.lane ≡ 0 → held ≡ []
+  pub busy : (i : ℕ) → v.lane ≡ i + 1 → held ≡ (i, None) ∷ []
+  pub legal : IsLegal v.plan v.lanes v.seen
+  pub mine : calls_by v.number v.seen ≡ v.mine
+  pub no_ticket : any_of found_no_ticket v.mine ≡ bit vain
+  pub tickets : length marks ≡ count_of v.plan
+  pub no_number : (t : ℕ) → t < count_of v.plan → any_of (found_no_number t) v.mine ≡ bit (slice_index_or marks t false)
+  pub room : v.number ≡ 0 → v.made + length rows ≡ limit
+  pub made : v.number ≡ 0 → 0 < v.made
+  pub others : v.number ≡ 0 → (n : ℕ) → v.made ≤ n → calls_by n v.seen ≡ []
+  pub blank : AllBlank (count_of v.plan) rows
+  pub small : limit < 2 ^ 32

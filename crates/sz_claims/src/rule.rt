@@ -1,0 +1,72 @@
+//! The rule of the table, and what its steps tell.
+ghost use Rattle.std.specs.Prelude.{◌≡◌, ℕ, [], ◌∷◌, ◌++◌, ◌+◌};
+ghost use Rattle.sz_book.specs.declared.event.Event.{Event};
+ghost use Rattle.sz_book.specs.declared.event.Reply.{Reply};
+ghost use Rattle.sz_claims.specs.Rule.{Kept, newcomer, Called, Looked, split_left, split_right, merged, spent};
+
+use crate::view::View;
+use atomic_table::{Join, Play, Split, TableRule};
+use std::marker::{Brand, PhantomData};
+use sz_book::{Lane, Load, Plan};
+
+/// What the ledger of a table has: its plan, and how many lanes.
+#[derive(Drop)]
+pub struct Setup {
+    pub plan: Plan,
+    pub lanes: u32,
+}
+
+/// There is one legal history, and the table shows the state that it leads to.
+pub struct Law<T> {
+    marker: PhantomData<T>,
+}
+
+impl<T: Load> TableRule<Option<Lane<T>>, View, Setup> for Law<T> {
+    ghost holds = { λ key s. Kept T.died T.faults key.plan key.lanes s };
+
+    ghost first = { λ key. newcomer key.plan key.lanes };
+}
+
+/// Which call a step makes, and the reply to each number found. Each step picks it.
+pub trait Asked {
+    ghost event: { Event };
+
+    ghost reply: { ℕ → Reply };
+}
+
+impl Asked for Brand {
+    ghost event = { Event.Draw };
+
+    ghost reply = { λ n. Reply.Noted };
+}
+
+/// The call becomes the last entry of what is seen.
+pub struct Makes<C> {
+    marker: PhantomData<C>,
+}
+
+impl<T: Load, C: Asked> Play<Option<Lane<T>>, View> for Makes<C> {
+    ghost then = { λ s v n w. Called v.0 C.event [] (C.reply n) v.0.lane v.0.lent w.0 × (w.1 ≡ v.1) };
+}
+
+/// The history so far is seen.
+pub struct Looks;
+
+impl<T: Load> Play<Option<Lane<T>>, View> for Looks {
+    ghost then = { λ s v n w. Looked v.0 w.0 × (w.1 ≡ v.1) };
+}
+
+/// A pass makes another, or takes one in.
+pub struct Parts;
+
+impl Split<View> for Parts {
+    ghost left = { split_left };
+
+    ghost right = { split_right };
+}
+
+impl Join<View> for Parts {
+    ghost both = { merged };
+
+    ghost spent = { spent };
+}
