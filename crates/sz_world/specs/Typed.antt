@@ -1,7 +1,7 @@
 -- Which types slots have: an undefined one has every type.
 use Rattle.std.specs.Prelude.{◌≡◌, List, [], ◌∷◌, true, IfSome}
 use Rattle.sz_types.specs.Data.{Shape}
-use Rattle.sz_builtin.specs.Types.{has_type}
+use Rattle.sz_typed.specs.Types.{has_type}
 use Rattle.sz_world.specs.Slots.{Slot}
 
 -- the slot has the type: it is undefined, or its value has it
