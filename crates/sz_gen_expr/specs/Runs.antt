@@ -48,13 +48,13 @@ abbrev pub AfterAll : Code → List Shape → State → ℕ → After → Given 
 AfterAll code ts s end x (Gives slots w) = AllKept s.world ts slots w → ComesTo code (record s { at = end; stack = with_all slots s.stack; world = w }) x
 AfterAll code ts s end x (Stops fault) = Faults fault ≡ x
 
--- the machine's calls do what the meaning's do, with fewer ticks left than a limit, while so many more may be open
-pub record CallsBelow (code : Code) (signatures : List Signature) (room limit : ℕ) (calls : Calls) : Type 0 where
+-- the machine's calls do what the meaning's do with these statics, with fewer ticks left than a limit, while so many more may be open
+pub record CallsBelow (code : Code) (signatures : List Signature) (statics : List Slot) (room limit : ℕ) (calls : Calls) : Type 0 where
   pub known : (f : ℕ) (g : Signature) → slice_get signatures f ≡ Some g
       → (r : Routine) × (slice_get code.functions f ≡ Some r) × (r.params ≡ length g.parameters)
   pub runs : (f : ℕ) (g : Signature) (r : Routine) (place : Place) (arguments : List Datum) (s : State) (stack : List Slot) (x : After)
       → slice_get signatures f ≡ Some g → slice_get code.functions f ≡ Some r → AllFit (map (λ d. Some d) arguments) g.parameters
-      → length s.callers + room ≡ most_open_calls → s.world.left < limit
+      → s.statics ≡ statics → length s.callers + room ≡ most_open_calls → s.world.left < limit
       → AfterEval code g.result (record s { stack = stack }) (suc s.at) x (calls f place arguments s.world)
       → NextComes code (call r place arguments s stack) x
 
