@@ -57,16 +57,21 @@ pub record CallsNone (old new : MemFiles) : Type 0 where
   pub names_same : (name : List ℕ) → file_of new name ≡ file_of old name
   pub faults_same : files_faults new ≡ files_faults old
 
--- A call of `open_file` is one on the file of its name, and where memory ran out it is none.
-abbrev pub OpensByPlan : MemFiles → MemFiles → List ℕ → Result ℕ OutsideError → Type 0
-OpensByPlan old new name (Ok number) = CallsFile old new (file_of old name) false
-OpensByPlan old new name (Err Failed) = CallsFile old new (file_of old name) true
-OpensByPlan old new name (Err NoMemory) = CallsNone old new
+-- the call that `open_file` makes is one on the file of its name, and where memory ran out it is none
+abbrev pub CallsByName : MemFiles → MemFiles → List ℕ → Result ℕ OutsideError → Type 0
+CallsByName old new name (Ok number) = CallsFile old new (file_of old name) false
+CallsByName old new name (Err Failed) = CallsFile old new (file_of old name) true
+CallsByName old new name (Err NoMemory) = CallsNone old new
 
 -- the file under a number after a call of `open_file` on this one: the number answered has it, and the others what they had
 abbrev pub behind_after : (ℕ → Option ℕ) → Option ℕ → Result ℕ OutsideError → ℕ → Option ℕ
 behind_after behind file (Ok answered) number = if number == answered then file else behind number
 behind_after behind file (Err error) number = behind number
+
+-- a call of `open_file` goes by the plan of the file of its name, and the number answered stands for this file
+pub record OpensByPlan (old new : MemFiles) (name : List ℕ) (result : Result ℕ OutsideError) : Type 0 where
+  pub calls : CallsByName old new name result
+  pub behind : (number : ℕ) → file_behind new number ≡ behind_after (file_behind old) (file_of old name) result number
 
 -- no file is there, and none was opened
 pub record IsEmpty (files : MemFiles) : Type 0 where

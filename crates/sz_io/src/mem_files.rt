@@ -61,7 +61,7 @@ impl MemFiles {
 
 impl Files for MemFiles {
     ghost use Rattle.sz_io.specs.MemFiles.{held_bytes, left_bytes, is_given, names_opened, files_faults};
-    ghost use Rattle.sz_io.specs.MemFiles.{file_of, file_behind, behind_after, CallsFile, OpensByPlan};
+    ghost use Rattle.sz_io.specs.MemFiles.{file_behind, CallsFile, OpensByPlan};
 
     ghost held = { held_bytes };
 
@@ -85,7 +85,6 @@ impl Files for MemFiles {
         ensures kept { KeepsFiles held_bytes left_bytes is_given files_faults self.old self.new }
 
         ensures plan { OpensByPlan self.old self.new name.now result }
-        ensures behind { (number : ℕ) → file_behind self.new number ≡ behind_after (file_behind self.old) (file_of self.old name.now) result number }
     {
         let number = self.opened.len() as u32;
         let found = find(&self.files, name);

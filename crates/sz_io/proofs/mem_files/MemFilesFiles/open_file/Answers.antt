@@ -1,5 +1,5 @@
 -- An opened file stands at the start of the newest file of its name, and the others stay where they are.
-use Rattle.std.proofs.Common.{◌≡◌, ◌∙◌, ◌<◌, ◌+◌, true, false, if◌then◌else◌, is_ok, Some, sym, ap, subst, arith, length, length-append, not}
+use Rattle.std.proofs.Common.{◌≡◌, ◌∙◌, ◌<◌, ◌+◌, true, false, if◌then◌else◌, is_ok, Some, sym, ap, subst, arith, length, length-append, not, refl}
 use Rattle.std.proofs.lemmas.Bool.{ltb-true, lt-ltb}
 use Rattle.std.specs.List.{slice_get}
 use Rattle.std.specs.Option.{option_map}
@@ -74,11 +74,14 @@ returns-then-fails_next-clause-plan c =
     ap (λ l. is_next_listed l c.in-Some.file) (sym c.deref-2.ensures.value) ∙ sym c.fails_next.ensures ∙ c.if-fails_next.true in
     let after = (with_items files c.count_call.new.files).items in
     record {
-      fails = sym (file_fails files.items after c.in-Some.file _ found called inside ∙ fails);
-      counted = file_counted files.items after c.in-Some.file _ found called;
-      others_same = file_others files.items after c.in-Some.file _ found called;
-      names_same = called.same_places;
-      faults_now = faults_counted self.misses _ _ true (called.faults_now ∙ ap (λ b. faults_in files.items + (if b then 1 else 0)) fails);
+      calls = record {
+        fails = sym (file_fails files.items after c.in-Some.file _ found called inside ∙ fails);
+        counted = file_counted files.items after c.in-Some.file _ found called;
+        others_same = file_others files.items after c.in-Some.file _ found called;
+        names_same = called.same_places;
+        faults_now = faults_counted self.misses _ _ true (called.faults_now ∙ ap (λ b. faults_in files.items + (if b then 1 else 0)) fails);
+      };
+      behind = λ number. refl;
     }
 
 pub returns-clause-plan : goal.returns-clause-plan
@@ -91,20 +94,18 @@ returns-clause-plan c =
     let passes : is_next_listed files.items c.in-Some.file ≡ false =
     ap (λ l. is_next_listed l c.in-Some.file) (sym c.deref-2.ensures.value) ∙ sym c.fails_next.ensures ∙ c.if-fails_next.false in
     let after = (with_items files c.count_call-2.new.files).items in
-    record {
-      fails = sym (file_fails files.items after c.in-Some.file _ found called inside ∙ passes);
-      counted = file_counted files.items after c.in-Some.file _ found called;
-      others_same = file_others files.items after c.in-Some.file _ found called;
-      names_same = called.same_places;
-      faults_now = faults_counted self.misses _ _ false (called.faults_now ∙ ap (λ b. faults_in files.items + (if b then 1 else 0)) passes);
-    }
-
-pub returns-clause-behind : goal.returns-clause-behind
-returns-clause-behind c number =
-    let files = c.args.self.now in
     let succeeds : is_ok c.push-2.result ≡ true = c.is_err.ensures.negation ∙ ap not c.if-is_err.false in
     let place : Place = record { file = c.in-Some.file; at = 0 } in
-    let pushed = pushed_if _ files.opened.items _ place succeeds c.push-2.ensures.items in
-    let found = subst (λ l. Some c.in-Some.file ≡ place_in l c.args.name.now) c.deref.ensures.value c.in-Some.ensures.value in
-    let next : c.len-number.result ≡ length files.opened.items = c.len-number.ensures ∙ files.opened.ok.0 in
-    ap (λ l. option_map (λ p. p.file) (slice_get l number)) pushed ∙ behind-push files.opened.items place number _ _ found next
+    let pushed = pushed_if _ self.opened.items _ place succeeds c.push-2.ensures.items in
+    let next : c.len-number.result ≡ length self.opened.items = c.len-number.ensures ∙ self.opened.ok.0 in
+    record {
+      calls = record {
+        fails = sym (file_fails files.items after c.in-Some.file _ found called inside ∙ passes);
+        counted = file_counted files.items after c.in-Some.file _ found called;
+        others_same = file_others files.items after c.in-Some.file _ found called;
+        names_same = called.same_places;
+        faults_now = faults_counted self.misses _ _ false (called.faults_now ∙ ap (λ b. faults_in files.items + (if b then 1 else 0)) passes);
+      };
+      behind = λ number.
+          ap (λ l. option_map (λ p. p.file) (slice_get l number)) pushed ∙ behind-push self.opened.items place number _ _ found next;
+    }
