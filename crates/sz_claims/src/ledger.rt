@@ -68,7 +68,7 @@ impl<T: Load> Ledger<T> {
     ghost use Rattle.sz_book.specs.History.{HasDrawn, HasNumber};
     ghost use Rattle.std.specs.Prelude.{◌+◌, ◌<◌, List, length, IfOk, IfSome, IfNone};
     ghost use Rattle.sz_book.specs.declared.event.Entry.{Entry};
-    ghost use Rattle.sz_book.specs.Answers.{IsWon, IsLate};
+    ghost use Rattle.sz_book.specs.Answers.{told_reply, IsWon};
     ghost use Rattle.sz_claims.specs.Known.{Calls, IsSplit, IsJoined, IsEnd, IsClosed, first_pass, ends_in};
 
     /// A ledger of this plan, with its first pass. As many passes as `passes` can be made of it, the first one counted.
@@ -239,8 +239,8 @@ impl<T: Load> Ledger<T> {
         requires of { pass.old.ledger ≡ self.now }
         requires drew { HasDrawn claim.now pass.old.mine }
         requires given { HasNumber claim.now number pass.old.mine }
-        ensures won { IsWon result (λ receipt. (receipt ≡ record { plan = self.now.plan; shard = claim.now.shard }) × Calls pass.old (Event.Settle claim.now number) Reply.Won pass.new) }
-        ensures late { IsLate result (λ winner. Calls pass.old (Event.Settle claim.now number) (Reply.Late winner) pass.new) }
+        ensures call { Calls pass.old (Event.Settle claim.now number) (told_reply result) pass.new }
+        ensures won { IsWon result (λ receipt. receipt ≡ record { plan = self.now.plan; shard = claim.now.shard }) }
     {
         let found = settle_found(&self.table.shared, &mut pass.seat, claim, number);
         if found == 0 {
