@@ -72,7 +72,10 @@ fn of_two_passes_one_wins(rt: HostRuntime) -> Result<(), Fail> {
     let mut b = ledger.split(&mut a).expect(&rt, "two passes");
     let one = ledger.draw(&mut a).expect(&rt, "a ticket");
     let two = ledger.draw(&mut b).expect(&rt, "a ticket");
-    assert_eq!(rt; (one.ticket, one.shard, two.ticket, two.shard), (0, 0, 1, 0));
+    assert_eq!(rt;
+        (one.ticket, one.shard, two.ticket, two.shard),
+        (0, 0, 1, 0)
+    );
     assert!(rt; ledger.draw(&mut a).is_none());
     let k = ledger.number(&mut a, &one).expect(&rt, "a number");
     let m = ledger.number(&mut b, &two).expect(&rt, "a number");
