@@ -10,10 +10,10 @@ use Rattle.sz_book.specs.declared.event.Event.TheVariants.{Draw, Number, Died, S
 use Rattle.sz_book.specs.declared.event.Reply.{Reply}
 use Rattle.sz_book.specs.declared.event.Entry.{Entry}
 use Rattle.sz_book.specs.Machine.{LedgerState, opening, after, reply_of, Fits, list_of}
-use Rattle.sz_book.specs.History.{entry, state_after, IsLegal, calls_by, IsTrueReport}
+use Rattle.sz_book.specs.History.{entry, state_after, IsLegal, IsTrueReport}
 use Rattle.sz_claims.specs.declared.view.Account.{Account}
 use Rattle.sz_claims.specs.declared.view.View.{View}
-use Rattle.sz_claims.specs.Rule.{Slot, Shows, IsBounded, IsOut, IsTrueOf, IsAt, AreNumbered, AreHeld, Kept, calling, looking, Follows, Called, Looked}
+use Rattle.sz_claims.specs.Rule.{Slot, Shows, IsBounded, IsOut, IsTrueOf, IsAt, AreHeld, Kept, calling, looking, Follows, Called, Looked}
 use Rattle.sz_claims.specs.Moves.{MayCall, IsPlain}
 use Rattle.sz_book.proofs.HistoryLemmas.{state_after-snoc, legal-snoc, reports-snoc, calls_own, calls_other, starts_self, starts_empty, starts_more}
 use Rattle.sz_claims.proofs.SeatLemmas.{was, set_at, numbered_set, held_set}
@@ -161,18 +161,18 @@ calls died faults p lanes slots id me i f event reply may s h same at small =
       keeps,
       tt,
       kept_after died faults p lanes s h id v e v.lane v.lent (slice_set s.words i (f (slice_index s.words i))) s.homes
-      record {
-        at = here;
-        by = refl;
-        fits = m.fits;
-        answer = m.answer;
-        report = may.report;
-        shows = m.shows;
-        bounded = m.bounded;
-        mine = λ k has. let l = t.lane k has in (l.0, outs k ∙ l.1, lists k ∙ l.2);
-        away = λ j u there ne k has. ((λ own. ne (h.held.once j id k u v there here has own)), outs k, lists k);
-        held = λ k low out. held_by p lanes s.views id v x here h.held k low (sym (outs k) ∙ out);
-      },
+          record {
+            at = here;
+            by = refl;
+            fits = m.fits;
+            answer = m.answer;
+            report = may.report;
+            shows = m.shows;
+            bounded = m.bounded;
+            mine = λ k has. let l = t.lane k has in (l.0, outs k ∙ l.1, lists k ∙ l.2);
+            away = λ j u there ne k has. ((λ own. ne (h.held.once j id k u v there here has own)), outs k, lists k);
+            held = λ k low out. held_by p lanes s.views id v x here h.held k low (sym (outs k) ∙ out);
+          },
       ((h.log, refl, follows died faults p lanes s h id v e v.lane v.lent here refl legal), refl),
     )
 

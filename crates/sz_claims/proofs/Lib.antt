@@ -6,3 +6,4 @@ pub mod PassLemmas
 pub mod SeatLemmas
 pub mod SoundLemmas
 pub mod SumLemmas
+pub mod TestPlans

@@ -11,7 +11,6 @@ use Rattle.sz_book.specs.declared.event.Entry.{Entry}
 use Rattle.sz_claims.specs.declared.view.Account.{Account}
 use Rattle.sz_claims.specs.declared.view.View.{View}
 use Rattle.sz_book.specs.History.{calls_by}
-use Rattle.std.specs.Prelude.{slice_index}
 use Rattle.sz_book.specs.Machine.{LedgerState, opening}
 use Rattle.sz_book.specs.History.{state_after}
 use Rattle.sz_claims.specs.Rule.{Slot, IsTrueOf, IsAt, AreNumbered, AreHeld, Kept, weights, split_left, split_right, account, merged, spent}
@@ -101,12 +100,12 @@ split_held : (vs : List View) (lanes : ℕ) (x : LedgerState) (i : ℕ) (v : Vie
 split_held vs lanes x i v at h =
     let all : List View = set vs i (split_left v) in
     let stood' : (k j : ℕ) (u : View) → IsAt (all ++ split_right v ∷ []) j u → u.lane ≡ k + 1 → (y : View) × IsAt vs j y × (y.lane ≡ k + 1) = λ k j u there has. ⊎_elim
-        (λ (t : get_elem? all j ≡ some u). ⊎_elim
-        (λ (q : (j ≡ i) × (split_left v ≡ u)). (v, subst (λ (m : ℕ). IsAt vs m v) (sym q.0) at, ap (λ (y : View). y.lane) q.1 ∙ has))
-        (λ (q : (j ≢ i) × IsAt vs j u). (u, q.1, has))
-        (was vs i (split_left v) j u (t, there.1)))
-        (λ (t : (j ≡ length all) × (split_right v ≡ u)). let none : 0 ≡ u.lane = ap (λ (y : View). y.lane) t.1 in absurd (omega arith))
-        (snoc all (split_right v) u j there.0) in record {
+    (λ (t : get_elem? all j ≡ some u). ⊎_elim
+    (λ (q : (j ≡ i) × (split_left v ≡ u)). (v, subst (λ (m : ℕ). IsAt vs m v) (sym q.0) at, ap (λ (y : View). y.lane) q.1 ∙ has))
+    (λ (q : (j ≢ i) × IsAt vs j u). (u, q.1, has))
+    (was vs i (split_left v) j u (t, there.1)))
+    (λ (t : (j ≡ length all) × (split_right v ≡ u)). let none : 0 ≡ u.lane = ap (λ (y : View). y.lane) t.1 in absurd (omega arith))
+    (snoc all (split_right v) u j there.0) in record {
       once = λ j k m u y a b has has'.
           let u' = stood' m j u a has in
           let y' = stood' m k y b has' in
@@ -239,9 +238,9 @@ join_held vs lanes x i other v w at there apart home h =
     let all : List View = set vs i (merged v w) in
     let live : 0 < (merged v w).weight = let l = at.1 in omega arith in
     let stood' : (j : ℕ) (u : View) → IsAt (set all other spent) j u → (y : View) × IsAt vs j y × (y.lane ≡ u.lane) = λ j u now. ⊎_elim
-        (λ (q : (j ≡ i) × (merged v w ≡ u)). (v, subst (λ (m : ℕ). IsAt vs m v) (sym q.0) at, ap (λ (y : View). y.lane) q.1))
-        (λ (q : (j ≢ i) × IsAt vs j u). (u, q.1, refl))
-        (join_was vs i other v w j u now).1 in record {
+    (λ (q : (j ≡ i) × (merged v w ≡ u)). (v, subst (λ (m : ℕ). IsAt vs m v) (sym q.0) at, ap (λ (y : View). y.lane) q.1))
+    (λ (q : (j ≢ i) × IsAt vs j u). (u, q.1, refl))
+    (join_was vs i other v w j u now).1 in record {
       once = λ j k m u y a b has has'.
           let u' = stood' j u a in
           let y' = stood' k y b in
@@ -249,9 +248,9 @@ join_held vs lanes x i other v w at there apart home h =
       each = λ k low out.
           let t = h.each k low out in
           let ne : t.0 ≢ other = (λ e.
-              let is : t.1 ≡ w = some-injective t.1 w (sym t.2.0 ∙ ap (λ m. get_elem? vs m) e ∙ there.0) in
-              let none : t.1.lane ≡ 0 = ap (λ (y : View). y.lane) is ∙ home in
-              let some' = t.3 in absurd (omega arith)) in
+          let is : t.1 ≡ w = some-injective t.1 w (sym t.2.0 ∙ ap (λ m. get_elem? vs m) e ∙ there.0) in
+          let none : t.1.lane ≡ 0 = ap (λ (y : View). y.lane) is ∙ home in
+          let some' = t.3 in absurd (omega arith)) in
           dite (ℕ_discrete t.0 i)
           (λ (e : t.0 ≡ i).
           let is : t.1 ≡ v = some-injective t.1 v (sym t.2.0 ∙ ap (λ m. get_elem? vs m) e ∙ at.0) in

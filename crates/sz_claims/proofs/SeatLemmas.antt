@@ -7,7 +7,6 @@ use lib.ListN.{get_elem?}
 use Rattle.atomic_table.proofs.Lists.{at_set, set_else}
 use Rattle.sz_claims.specs.declared.view.Account.{Account}
 use Rattle.sz_claims.specs.declared.view.View.{View}
-use Rattle.std.specs.Prelude.{slice_index}
 use Rattle.sz_book.specs.Machine.{LedgerState}
 use Rattle.sz_claims.specs.Rule.{IsAt, weights, AreNumbered, AreHeld}
 

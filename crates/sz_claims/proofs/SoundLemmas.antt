@@ -49,7 +49,8 @@ sound v w held held' vain vain' marks marks' limit rows event reply s call same 
     subst (λ (u : View). IsSound u held' vain' marks' limit rows) (sym call.1)
     record {
       live = s.live;
-      idle = λ e. same ∙ s.idle e; busy = λ i e. same ∙ s.busy i e;
+      idle = λ e. same ∙ s.idle e;
+      busy = λ i e. same ∙ s.busy i e;
       legal = subst (λ (u : View). IsLegal v.plan v.lanes u.seen) call.1 call.2.legal;
       mine = subst (λ (u : View). calls_by v.number u.seen ≡ u.mine) call.1 call.2.mine;
       no_ticket = any_snoc found_no_ticket v.mine e vain s.no_ticket ∙ ap bit (sym dry);
@@ -179,7 +180,8 @@ sound_right v w held held' vain marks limit rows rest row s zeroth is same cut =
     subst (λ (u : View). IsSound u held' false row 0 []) (sym is)
     record {
       live = omega arith;
-      idle = λ e. same; busy = λ i e. absurd (omega arith);
+      idle = λ e. same;
+      busy = λ i e. absurd (omega arith);
       legal = s.legal;
       mine = none;
       no_ticket = refl;
@@ -201,7 +203,8 @@ sound_joined v u w held held' vain marks limit rows other s is look same =
     subst (λ (x : View). IsSound x held' vain marks limit rows) (sym e)
     record {
       live = live;
-      idle = λ e. same ∙ s.idle e; busy = λ i e. same ∙ s.busy i e;
+      idle = λ e. same ∙ s.idle e;
+      busy = λ i e. same ∙ s.busy i e;
       legal = subst (λ (x : View). IsLegal x.plan x.lanes look.0) is (subst (λ (x : View). IsLegal u.plan u.lanes x.seen) look.1 look.2.legal);
       mine = subst (λ (x : View). calls_by x.number look.0 ≡ x.mine) is (subst (λ (x : View). calls_by u.number x.seen ≡ x.mine) look.1 look.2.mine);
       no_ticket = s.no_ticket;
@@ -234,7 +237,8 @@ sound_first p v held marks limit rows is empty blank some small room =
     subst (λ (u : View). IsSound u held false marks limit rows) (sym is)
     record {
       live = omega arith;
-      idle = λ e. empty; busy = λ i e. absurd (omega arith);
+      idle = λ e. empty;
+      busy = λ i e. absurd (omega arith);
       legal = record { from = tt };
       mine = refl;
       no_ticket = refl;

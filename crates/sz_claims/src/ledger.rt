@@ -68,15 +68,11 @@ impl<T: Load> Ledger<T> {
     ghost use Rattle.sz_book.specs.History.{HasDrawn, HasNumber};
     ghost use Rattle.std.specs.Prelude.{◌+◌, ◌<◌, List, length, IfOk, IfSome, IfNone};
     ghost use Rattle.sz_book.specs.declared.event.Entry.{Entry};
-    ghost use Rattle.sz_book.specs.Answers.{IsWon, IsLate};
+    ghost use Rattle.sz_book.specs.Answers.{told_reply, IsWon};
     ghost use Rattle.sz_claims.specs.Known.{Calls, IsSplit, IsJoined, IsEnd, IsClosed, first_pass, ends_in};
 
     /// A ledger of this plan, with its first pass. As many passes as `passes` can be made of it, the first one counted.
-    pub fn make(
-        alloc: Global,
-        plan: Plan,
-        passes: u32,
-    ) -> Result<(Ledger<T>, Pass<T>), NoMemory>
+    pub fn make(alloc: Global, plan: Plan, passes: u32) -> Result<(Ledger<T>, Pass<T>), NoMemory>
         requires passes { 0 < passes }
         ensures value { IfOk result (λ r. (r.0.plan ≡ plan) × (r.0.lanes ≡ 0) × (r.1 ≡ first_pass r.0 passes)) }
     {
@@ -239,8 +235,8 @@ impl<T: Load> Ledger<T> {
         requires of { pass.old.ledger ≡ self.now }
         requires drew { HasDrawn claim.now pass.old.mine }
         requires given { HasNumber claim.now number pass.old.mine }
-        ensures won { IsWon result (λ receipt. (receipt ≡ record { plan = self.now.plan; shard = claim.now.shard }) × Calls pass.old (Event.Settle claim.now number) Reply.Won pass.new) }
-        ensures late { IsLate result (λ winner. Calls pass.old (Event.Settle claim.now number) (Reply.Late winner) pass.new) }
+        ensures call { Calls pass.old (Event.Settle claim.now number) (told_reply result) pass.new }
+        ensures won { IsWon result (λ receipt. receipt ≡ record { plan = self.now.plan; shard = claim.now.shard }) }
     {
         let found = settle_found(&self.table.shared, &mut pass.seat, claim, number);
         if found == 0 {
@@ -286,7 +282,11 @@ fn blank_rows(alloc: Global, count: usize, rows: u32) -> Result<Vec<Vec<bool>>, 
 }
 
 // Reads a word of each shard from a closed table.
-fn copy_words<T: Load>(closed: &atomic_table::Closed<Option<Lane<T>>, Global>, first: usize, words: &mut Vec<u64>)
+fn copy_words<T: Load>(
+    closed: &atomic_table::Closed<Option<Lane<T>>, Global>,
+    first: usize,
+    words: &mut Vec<u64>,
+)
     requires full { IsFull closed.now.words }
     requires long { (0 < first) × (first ≤ 3) × (3 * length words.old.items + 2 ≤ slots_len closed.now.words) × (length words.old.items < 2 ^ 32) }
     ensures value { (length words.new.items ≡ length words.old.items) × ((s : ℕ) → s < length words.new.items → get_elem? (slots_items closed.now.words) (3 * s + first) ≡ some (slice_index words.new.items s)) }
@@ -356,7 +356,12 @@ fn draw_found<T: Load>(shared: &Shared<T>, seat: &mut Place<T>, no_ticket: bool)
 }
 
 // A number for a claim.
-fn number_found<T: Load>(shared: &Shared<T>, seat: &mut Place<T>, claim: &Claim, before: bool) -> u64
+fn number_found<T: Load>(
+    shared: &Shared<T>,
+    seat: &mut Place<T>,
+    claim: &Claim,
+    before: bool,
+) -> u64
     requires table { (seat.old.table_id ≡ shared.now.table_id) × (number_at claim.now.shard < shared.now.table_id.words) }
     requires live { 0 < seat.old.me.0.weight }
     requires drew { HasDrawn claim.now seat.old.me.0.mine }

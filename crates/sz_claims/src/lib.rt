@@ -4,6 +4,8 @@
 mod ledger;
 mod rule;
 mod steps;
+#[cfg(test)]
+mod tests;
 mod view;
 
 pub use ledger::{Ledger, Pass};

@@ -14,7 +14,12 @@ pub type Shared<T> = atomic_table::Shared<Option<Lane<T>>, View, Setup, Law<T>>;
 
 pub type Place<T> = Seat<Option<Lane<T>>, View>;
 
-fn add_as<T: Load, C: Asked>(shared: &Shared<T>, seat: &mut Place<T>, word: usize, event: &Event) -> u64
+fn add_as<T: Load, C: Asked>(
+    shared: &Shared<T>,
+    seat: &mut Place<T>,
+    word: usize,
+    event: &Event,
+) -> u64
     requires table { (seat.old.table_id ≡ shared.now.table_id) × (word < shared.now.table_id.words) }
     requires may { MayCall T.died T.faults shared.now.key.plan shared.now.key.lanes seat.old.me.0 word (λ n. (n + 1) % 2 ^ 64) C.event C.reply }
     ensures same { (seat.new.table_id ≡ seat.old.table_id) × (seat.new.me.1 ≡ seat.old.me.1) }
@@ -33,7 +38,12 @@ pub fn add<T: Load>(shared: &Shared<T>, seat: &mut Place<T>, word: usize, event:
     add_as::<T, Brand>(shared, seat, word, event)
 }
 
-fn look_as<T: Load, C: Asked>(shared: &Shared<T>, seat: &mut Place<T>, word: usize, event: &Event) -> u64
+fn look_as<T: Load, C: Asked>(
+    shared: &Shared<T>,
+    seat: &mut Place<T>,
+    word: usize,
+    event: &Event,
+) -> u64
     requires table { (seat.old.table_id ≡ shared.now.table_id) × (word < shared.now.table_id.words) }
     requires may { MayCall T.died T.faults shared.now.key.plan shared.now.key.lanes seat.old.me.0 word (λ n. n) C.event C.reply }
     ensures same { (seat.new.table_id ≡ seat.old.table_id) × (seat.new.me.1 ≡ seat.old.me.1) }
@@ -68,7 +78,13 @@ fn mark_as<T: Load, C: Asked>(
 }
 
 /// Sets bits of a word.
-pub fn mark<T: Load>(shared: &Shared<T>, seat: &mut Place<T>, word: usize, event: &Event, bits: u64) -> u64
+pub fn mark<T: Load>(
+    shared: &Shared<T>,
+    seat: &mut Place<T>,
+    word: usize,
+    event: &Event,
+    bits: u64,
+) -> u64
     requires table { (seat.old.table_id ≡ shared.now.table_id) × (word < shared.now.table_id.words) }
     requires may { MayCall T.died T.faults shared.now.key.plan shared.now.key.lanes seat.old.me.0 word (λ n. bit_or n bits) event.now (replies shared.now.key.plan event.now) }
     ensures same { (seat.new.table_id ≡ seat.old.table_id) × (seat.new.me.1 ≡ seat.old.me.1) }
@@ -93,7 +109,13 @@ fn lower_as<T: Load, C: Asked>(
 }
 
 /// Lowers a word.
-pub fn lower<T: Load>(shared: &Shared<T>, seat: &mut Place<T>, word: usize, event: &Event, most: u64) -> u64
+pub fn lower<T: Load>(
+    shared: &Shared<T>,
+    seat: &mut Place<T>,
+    word: usize,
+    event: &Event,
+    most: u64,
+) -> u64
     requires table { (seat.old.table_id ≡ shared.now.table_id) × (word < shared.now.table_id.words) }
     requires may { MayCall T.died T.faults shared.now.key.plan shared.now.key.lanes seat.old.me.0 word (λ n. min n most) event.now (replies shared.now.key.plan event.now) }
     ensures same { (seat.new.table_id ≡ seat.old.table_id) × (seat.new.me.1 ≡ seat.old.me.1) }
@@ -102,7 +124,13 @@ pub fn lower<T: Load>(shared: &Shared<T>, seat: &mut Place<T>, word: usize, even
     lower_as::<T, Brand>(shared, seat, word, event, most)
 }
 
-fn put_as<T: Load, C: Asked>(shared: &Shared<T>, seat: &mut Place<T>, word: usize, event: &Event, new: u64) -> u64
+fn put_as<T: Load, C: Asked>(
+    shared: &Shared<T>,
+    seat: &mut Place<T>,
+    word: usize,
+    event: &Event,
+    new: u64,
+) -> u64
     requires table { (seat.old.table_id ≡ shared.now.table_id) × (word < shared.now.table_id.words) }
     requires may { MayCall T.died T.faults shared.now.key.plan shared.now.key.lanes seat.old.me.0 word (λ n. either (n == 0) new n) C.event C.reply }
     ensures same { (seat.new.table_id ≡ seat.old.table_id) × (seat.new.me.1 ≡ seat.old.me.1) }
@@ -112,7 +140,13 @@ fn put_as<T: Load, C: Asked>(shared: &Shared<T>, seat: &mut Place<T>, word: usiz
 }
 
 /// Writes a word that is 0.
-pub fn put<T: Load>(shared: &Shared<T>, seat: &mut Place<T>, word: usize, event: &Event, new: u64) -> u64
+pub fn put<T: Load>(
+    shared: &Shared<T>,
+    seat: &mut Place<T>,
+    word: usize,
+    event: &Event,
+    new: u64,
+) -> u64
     requires table { (seat.old.table_id ≡ shared.now.table_id) × (word < shared.now.table_id.words) }
     requires may { MayCall T.died T.faults shared.now.key.plan shared.now.key.lanes seat.old.me.0 word (λ n. either (n == 0) new n) event.now (replies shared.now.key.plan event.now) }
     ensures same { (seat.new.table_id ≡ seat.old.table_id) × (seat.new.me.1 ≡ seat.old.me.1) }

@@ -16,8 +16,8 @@ returns g c =
     let shards : key.plan.shards ≡ c.self.inside.setup.plan.shards = ap (λ k. k.plan.shards) c.self.invariant.1 in
     let last : get_elem? ws (3 * key.plan.shards + 1) ≡ get_elem? ws (3 * c.shards.result + 1) = ap (λ n. get_elem? ws (3 * n + 1)) (shards ∙ sym c.shards.ensures.value) in
     let end : IsClosed x c.copy_words.new.words.items c.copy_words-2.new.words.items c.least-least_bad.result =
-        closes key.plan key.lanes ws f.0.homes x _ _ c.word.result _ (subst (λ w. Shows key.plan key.lanes w f.0.homes x) f.2 e.2)
-            (c.copy_words.ensures.value.0 ∙ c.self.invariant.3 ∙ sym shards) c.copy_words.ensures.value.1
-            (c.copy_words-2.ensures.value.0 ∙ c.self.invariant.4 ∙ sym shards) c.copy_words-2.ensures.value.1
-            (last ∙ c.word.ensures) c.least-least_bad.ensures.value in
+    closes key.plan key.lanes ws f.0.homes x _ _ c.word.result _ (subst (λ w. Shows key.plan key.lanes w f.0.homes x) f.2 e.2)
+    (c.copy_words.ensures.value.0 ∙ c.self.invariant.3 ∙ sym shards) c.copy_words.ensures.value.1
+    (c.copy_words-2.ensures.value.0 ∙ c.self.invariant.4 ∙ sym shards) c.copy_words-2.ensures.value.1
+    (last ∙ c.word.ensures) c.least-least_bad.ensures.value in
     record { value = (e.0, e.1, (c.from_vec.ensures.value ∙ end.0, c.from_vec-2.ensures.value ∙ end.1, end.2)) }

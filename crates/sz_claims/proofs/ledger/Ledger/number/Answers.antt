@@ -43,6 +43,6 @@ invariant_of-pass g c =
     let t = c.args.claim.now.ticket in
     let was : c.index-before.result.now ≡ slice_index_or marks t false = c.index-before.ensures ∙ one_default marks t c.index-before.result.now false low in
     let mark : c.or-vain.result ≡ (slice_index_or marks t false || is_none c.attempt_found-number.result) =
-        c.or-vain.ensures ∙ ap (λ b. b || c.is_none.result) was ∙ ap (λ b. slice_index_or marks t false || b) (none_is _ _ c.is_none.ensures) in
+    c.or-vain.ensures ∙ ap (λ b. b || c.is_none.result) was ∙ ap (λ b. slice_index_or marks t false || b) (none_is _ _ c.is_none.ensures) in
     let reply = c.attempt_found-number.ensures.value ∙ ap (λ k. number_reply k.plan f.result) (sym c.self.invariant.1) in
     sound_number c.self.inside.setup.plan _ _ _ _ _ _ _ _ c.args.claim.now _ c.attempt_found-number.result _ c.pass.invariant f.ensures.call f.ensures.same.1 reply low mark
