@@ -13,5 +13,5 @@ returns-in-Err-clause-outcome g c =
     c.print.new.out c.args.err.now c.tell.new.err)
     (sym c.status.ensures.value)
     (means_failure g.F.Files g.O.Sink g.E.Sink words c.args.files.now c.answer-answer.new.files c.args.out.now c.print.new.out c.args.err.now
-    c.tell.new.err c.in-Err.failure c.tell.result (vec_items_of c.answer-answer.result) c.answer-answer.ensures.value c.in-Err.ensures.value c.in-Err.ensures.nothing
-    c.tell.ensures.told c.tell.ensures.line)
+    c.tell.new.err c.in-Err.failure c.tell.result (vec_items_of c.answer-answer.result) c.answer-answer.ensures.value c.in-Err.ensures.value
+    c.in-Err.ensures.nothing c.tell.ensures.told c.tell.ensures.line)
