@@ -27,7 +27,7 @@ use Rattle.sz_known.proofs.TurnLemmas.{stops_then, goes_on}
 use Rattle.sz_core.specs.declared.stmt.CoreStmt.{CoreStmt}
 use Rattle.sz_core.specs.View.{stm_of}
 use Rattle.sz_known.specs.Holding.{Held, outside_of, scene_of}
-use Rattle.sz_check.specs.Behind.{behind_of, branch_of, judge_inside, judge_else, judge_turns, judge_for, Emitted, judge_emitted, emitted_fits, judge_emit_by_parts}
+use Rattle.sz_check.specs.Behind.{behind_of, branch_of, judge_inside, judge_turns, judge_for, Emitted, judge_emitted, emitted_fits, judge_emit_by_parts}
 
 tested : {A B : Type 0} (u : Judged Unit) (x : A) (f : A → B) → (u >>= λ _. Ok (f x)) ≡ ((u >>= λ _. Ok x) >>= λ y. Ok (f y))
 tested (Ok t) x f = refl
@@ -209,12 +209,6 @@ module _ (a : Around) (s : Scene) (p : Place) (c : Exp) where
       ≡ (judge s None c >>= λ n. judge_inside a s t >>= λ b. done b.scene (branch_of p c n b.stm core.nothing))
   unfolding judge_stm
   if_only_is t = λ i. judge s None c >>= λ n. judge_inside a s t >>= λ b. branched (test c n) b.scene (core.branch p n b.stm core.nothing) i
-
-  pub if_else_is : (t e : Tree)
-      → judge_stm a s (trees.if_else p c t e) ≡ (judge s None c >>= λ n. judge_inside a s t >>= λ b. judge_else a b.scene p c n b.stm e)
-  unfolding judge_stm
-  if_else_is t e = λ i. judge s None c >>= λ n. judge_inside a s t >>= λ b. judge_inside a b.scene e
-      >>= λ o. branched (test c n) o.scene (core.branch p n b.stm o.stm) i
 
 -- ---- each statement by its own judgement
 
