@@ -1,3 +1,7 @@
+pub mod CoreLemmas
+pub mod CountLemmas
+pub mod DecideLemmas
 pub mod GrowthLemmas
 pub mod HistoryLemmas
+pub mod StepLemmas
 pub mod TestPlans

@@ -1,5 +1,4 @@
 -- The two answers to a settlement.
-use Rattle.std.specs.Prelude.{ℕ}
 use Rattle.sz_book.specs.Lanes.{ReceiptData}
 use Rattle.sz_book.specs.declared.receipt.Settled.{Settled}
 use Rattle.sz_book.specs.declared.receipt.Settled.TheVariants.{Won, Late}

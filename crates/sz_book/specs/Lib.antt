@@ -4,3 +4,6 @@ pub mod Machine
 pub mod History
 pub mod Lanes
 pub mod Answers
+pub mod Cores
+pub mod Orderly
+pub mod Counting

@@ -3,7 +3,7 @@ use crate::plan::Claim;
 use std::collections::LinkedList;
 
 /// What a caller asks of a ledger, or reports to it.
-#[derive(Drop)]
+#[derive(Clone, Copy, Debug)]
 pub enum Event {
     /// Asks for a ticket.
     Draw,
@@ -22,7 +22,7 @@ pub enum Event {
 }
 
 /// What the ledger answers. Attempts are counted from 0.
-#[derive(Drop)]
+#[derive(Clone, Copy, Debug, PartialEq, Eq)]
 pub enum Reply {
     /// A claim, or none where all tickets are drawn.
     Ticket(Option<Claim>),

@@ -4,7 +4,9 @@
 mod closed;
 mod event;
 mod lane;
+mod laws;
 mod load;
+mod machine;
 mod plan;
 mod receipt;
 #[cfg(test)]
@@ -13,7 +15,9 @@ mod tests;
 pub use closed::{Closed, Words};
 pub use event::{Entry, Event, Reply};
 pub use lane::{Lane, Shards};
+pub use laws::{each_shard_counts_once, each_shard_is_decided, noted_deaths_are_true};
 pub use load::Load;
+pub use machine::Core;
 pub use plan::{Claim, Plan, Tickets};
 pub use receipt::{Receipt, Settled};
 pub use sz_list::NoMemory;

@@ -1,7 +1,9 @@
 //! The plan of a round, and a claim on one of its tickets.
-ghost use Rattle.std.specs.Prelude.{◌≡◌, ◌<◌, ◌^◌, slice_index};
+ghost use Rattle.std.specs.Prelude.{◌≡◌, ◌<◌, ◌^◌, slice_index, IfOk};
 ghost use Rattle.sz_book.specs.Plan.{PlanData, IsPlan, count_of};
 
+use crate::NoMemory;
+use std::alloc::Global;
 use std::marker::Model;
 use sz_list::Items;
 
@@ -44,6 +46,18 @@ impl Plan {
         }
     }
 
+    /// The same plan again.
+    pub fn copied(&self, alloc: Global) -> Result<Plan, NoMemory>
+        ensures value { IfOk result (λ plan. plan ≡ self.now) }
+    {
+        let tickets = Items::copied(alloc, self.tickets.as_slice())?;
+        Ok(Plan {
+            shards: self.shards,
+            attempts: self.attempts,
+            tickets,
+        })
+    }
+
     /// The number of shards.
     pub fn shards(&self) -> u32
         ensures value { result ≡ self.now.shards }
@@ -77,7 +91,7 @@ impl Plan {
 }
 
 /// A ticket that was drawn, and its shard.
-#[derive(Clone, Copy)]
+#[derive(Clone, Copy, Debug, PartialEq, Eq)]
 pub struct Claim {
     pub ticket: u32,
     pub shard: u32,

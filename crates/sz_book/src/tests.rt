@@ -105,3 +105,93 @@ fn a_plan_tells_its_numbers(rt: HostRuntime) -> Result<(), Fail> {
     );
     Ok(())
 }
+
+// A plan of one shard with two tickets, of two attempts.
+fn one_shard(alloc: Global) -> Result<Plan, NoMemory>
+    ensures { IfOk result (λ plan. plan.shards ≡ 1) }
+{
+    let tickets = Items::copied(alloc, &[0u32, 0])?;
+    Ok(Plan::new(1, 2, tickets))
+}
+
+const FIRST: Claim = Claim {
+    ticket: 0,
+    shard: 0,
+};
+
+const SECOND: Claim = Claim {
+    ticket: 1,
+    shard: 0,
+};
+
+// A core of one lane takes these events in: the place of the first one that doesn't fit, or is answered otherwise.
+fn first_difference(alloc: Global, rows: &[(Event, Reply)]) -> Result<Option<usize>, NoMemory> {
+    let mut core = Core::new(alloc, &one_shard(alloc)?, 1)?;
+    for i in 0..rows.len() {
+        let (event, reply) = rows[i];
+        if !core.fits(&event) || core.step(&event)? != reply {
+            return Ok(Some(i));
+        }
+    }
+    Ok(None)
+}
+
+#[test]
+fn a_doubled_shard_is_won_once(rt: HostRuntime) -> Result<(), Fail> {
+    let rows = [
+        (Event::Draw, Reply::Ticket(Some(FIRST))),
+        (Event::Draw, Reply::Ticket(Some(SECOND))),
+        (Event::Draw, Reply::Ticket(None)),
+        (Event::Number(FIRST), Reply::Number(Some(0))),
+        (Event::Number(SECOND), Reply::Number(Some(1))),
+        (Event::Settle(SECOND, 1), Reply::Won),
+        (Event::Settle(FIRST, 0), Reply::Late(1)),
+        (Event::Number(SECOND), Reply::Number(None)),
+    ];
+    assert_eq!(rt; first_difference(rt.alloc(), &rows)?, None);
+    Ok(())
+}
+
+#[test]
+fn a_shard_dies_as_often_as_it_may(rt: HostRuntime) -> Result<(), Fail> {
+    let rows = [
+        (Event::Draw, Reply::Ticket(Some(FIRST))),
+        (Event::Number(FIRST), Reply::Number(Some(0))),
+        (Event::Died(FIRST, 0), Reply::Noted),
+        (Event::Number(FIRST), Reply::Number(Some(1))),
+        (Event::Died(FIRST, 1), Reply::Noted),
+        (Event::Number(FIRST), Reply::Number(None)),
+        (Event::Bad(0), Reply::Noted),
+    ];
+    assert_eq!(rt; first_difference(rt.alloc(), &rows)?, None);
+    Ok(())
+}
+
+#[test]
+fn a_lane_is_lent_once_at_a_time(rt: HostRuntime) -> Result<(), Fail> {
+    let rows = [
+        (Event::LaneOut(0), Reply::Lane(true)),
+        (Event::LaneOut(0), Reply::Lane(false)),
+        (Event::LaneBack(0), Reply::Noted),
+        (Event::LaneOut(0), Reply::Lane(true)),
+    ];
+    assert_eq!(rt; first_difference(rt.alloc(), &rows)?, None);
+    Ok(())
+}
+
+#[test]
+fn what_nobody_drew_or_was_lent_does_not_fit(rt: HostRuntime) -> Result<(), Fail> {
+    let core = Core::new(rt.alloc(), &one_shard(rt.alloc())?, 1)?;
+    let events = [
+        Event::Number(FIRST),
+        Event::Died(FIRST, 0),
+        Event::Settle(FIRST, 0),
+        Event::LaneOut(1),
+        Event::LaneBack(0),
+        Event::Bad(1),
+    ];
+    for event in &events {
+        assert!(rt; !core.fits(event), "{event:?}");
+    }
+    Ok(())
+}

@@ -27,7 +27,7 @@ use Rattle.sz_known.proofs.TurnLemmas.{stops_then, goes_on}
 use Rattle.sz_core.specs.declared.stmt.CoreStmt.{CoreStmt}
 use Rattle.sz_core.specs.View.{stm_of}
 use Rattle.sz_known.specs.Holding.{Held, outside_of, scene_of}
-use Rattle.sz_check.specs.Behind.{behind_of, branch_of, judge_inside, judge_turns, judge_for, Emitted, judge_emitted, emitted_fits, judge_emit_by_parts}
+use Rattle.sz_check.specs.Behind.{behind_of, branch_of, judge_inside, judge_else, judge_turns, judge_for, Emitted, judge_emitted, emitted_fits, judge_emit_by_parts}
 
 tested : {A B : Type 0} (u : Judged Unit) (x : A) (f : A → B) → (u >>= λ _. Ok (f x)) ≡ ((u >>= λ _. Ok x) >>= λ y. Ok (f y))
 tested (Ok t) x f = refl
@@ -209,6 +209,38 @@ module _ (a : Around) (s : Scene) (p : Place) (c : Exp) where
       ≡ (judge s None c >>= λ n. judge_inside a s t >>= λ b. done b.scene (branch_of p c n b.stm core.nothing))
   unfolding judge_stm
   if_only_is t = λ i. judge s None c >>= λ n. judge_inside a s t >>= λ b. branched (test c n) b.scene (core.branch p n b.stm core.nothing) i
+
+  pub if_else_is : (t e : Tree)
+      → judge_stm a s (trees.if_else p c t e) ≡ (judge s None c >>= λ n. judge_inside a s t >>= λ b. judge_else a b.scene p c n b.stm e)
+  unfolding judge_stm
+  if_else_is t e = λ i. judge s None c >>= λ n. judge_inside a s t >>= λ b. judge_inside a b.scene e
+      >>= λ o. branched (test c n) o.scene (core.branch p n b.stm o.stm) i
+
+  -- an `if` with another part stops where its test or its part is refused, and is the judgement of the other part where these are judged
+  pub else_test_stops : (t o : Tree) (e : CheckError) → Stops e (judge s None c) → Stops e (judge_stm a s (trees.if_else p c t o))
+  else_test_stops t o e h =
+      stops_then e (judge s None c) (λ n. judge_inside a s t >>= λ b. judge_else a b.scene p c n b.stm o) _ h (sym (if_else_is t o))
+
+  behind_test : (t o : Tree) (n : Node) → judge s None c ≡ Ok n
+      → (judge_inside a s t >>= λ b. judge_else a b.scene p c n b.stm o) ≡ judge_stm a s (trees.if_else p c t o)
+  behind_test t o n g =
+      goes_on (judge s None c) (λ m. judge_inside a s t >>= λ b. judge_else a b.scene p c m b.stm o) _ n g (sym (if_else_is t o))
+
+  pub else_part_stops : (t o : Tree) (n : Node) (e : CheckError) → judge s None c ≡ Ok n → Stops e (judge_inside a s t)
+      → Stops e (judge_stm a s (trees.if_else p c t o))
+  else_part_stops t o n e g h = stops_then e (judge_inside a s t) (λ b. judge_else a b.scene p c n b.stm o) _ h (behind_test t o n g)
+
+  pub else_goes_on : (t o : Tree) (n : Node) (b : Behind) → judge s None c ≡ Ok n → judge_inside a s t ≡ Ok b
+      → judge_stm a s (trees.if_else p c t o) ≡ judge_else a b.scene p c n b.stm o
+  else_goes_on t o n b g h = sym (goes_on (judge_inside a s t) (λ b. judge_else a b.scene p c n b.stm o) _ b h (behind_test t o n g))
+
+  -- the same of the other part
+  pub other_stops : (n : Node) (taken : Stm) (o : Tree) (e : CheckError) → Stops e (judge_inside a s o) → Stops e (judge_else a s p c n taken o)
+  other_stops n taken o e h = stops_then e (judge_inside a s o) (λ b. done b.scene (branch_of p c n taken b.stm)) _ h refl
+
+  pub other_goes_on : (n : Node) (taken : Stm) (o : Tree) (b : Behind) → judge_inside a s o ≡ Ok b
+      → judge_else a s p c n taken o ≡ done b.scene (branch_of p c n taken b.stm)
+  other_goes_on n taken o b h = sym (goes_on (judge_inside a s o) (λ b. done b.scene (branch_of p c n taken b.stm)) _ b h refl)
 
 -- ---- each statement by its own judgement
 

@@ -27,7 +27,7 @@ use Rattle.sz_check_expr.specs.JudgingExpressions.{judge_exps}
 use Rattle.sz_check_expr.specs.JudgingOperators.{test}
 use Rattle.sz_known.specs.Scene.{Scene, opened}
 use Rattle.sz_check.specs.Scenes.{Behind, AllBehind, judge, judge_if_some, closed}
-use Rattle.sz_check.specs.JudgingSimple.{Numbered, judge_first, judge_between, test_if_some, table_named, weight_agrees, same_presence}
+use Rattle.sz_check.specs.JudgingSimple.{Numbered, judge_first, judge_between, test_if_some, table_named, weight_agrees, same_presence, done}
 use Rattle.sz_check.specs.JudgingStatements.{Around, in_block, in_loop, judge_stm}
 use Rattle.sz_check_expr.specs.Asking.{asked_of}
 use Rattle.sz_known.specs.Holding.{Held, scene_of}
@@ -66,6 +66,12 @@ abbrev pub branch_of : Place → Exp → Node → Stm → Stm → Judged Stm
 branch_of p c n taken other = do
   _ ← test c n
   Ok (core.branch p n taken other)
+
+-- what an `if` does behind its part: the other part, and then the branch over the test
+abbrev pub judge_else : Around → Scene → Place → Exp → Node → Stm → Tree → Judged Behind
+judge_else a s p c n taken t = do
+  other ← judge_inside a s t
+  done other.scene (branch_of p c n taken other.stm)
 
 -- what a `for` does behind its first part
 abbrev pub judge_turns : Around → Scene → Place → Option Exp → Option SimpleForm → Tree → Judged Behind

@@ -7,7 +7,7 @@ ghost use Rattle.sz_core.specs.Statements.{block as core_block, stms_of as core_
 ghost use Rattle.sz_core.specs.View.{node_of, stm_of as core_stm_of};
 ghost use Rattle.sz_check.specs.JudgingStatements.{judge_stm, judge_stms};
 ghost use Rattle.sz_known.specs.Holding.{scene_of};
-ghost use Rattle.sz_check.specs.Behind.{behind_of, all_behind_of, around_of, branch_of, judge_inside, judge_turns, judge_for};
+ghost use Rattle.sz_check.specs.Behind.{behind_of, all_behind_of, around_of, branch_of, judge_inside, judge_else, judge_turns, judge_for};
 ghost use Rattle.sz_known.specs.Outcome.{Judges};
 
 use crate::declared::judge_declared;
@@ -45,7 +45,7 @@ impl<'t> Around<'t> {
 
 // The statement.
 #[cycle(stmt)]
-#[tactic(auto, using(crate::proofs::StatementParts::for_is, crate::proofs::StatementParts::empty_is, crate::proofs::StatementParts::define_is, crate::proofs::StatementParts::static_is, crate::proofs::StatementParts::typedef_is, crate::proofs::StatementParts::table_is, crate::proofs::StatementParts::nested_is, crate::proofs::StatementParts::simple_is, crate::proofs::StatementParts::break_is, crate::proofs::StatementParts::continue_is, crate::proofs::StatementParts::return_is, crate::proofs::StatementParts::emitting_is, crate::proofs::StatementParts::when_is, crate::proofs::StatementParts::done_is))]
+#[tactic(auto, using(crate::proofs::StatementParts::for_is, crate::proofs::StatementParts::empty_is, crate::proofs::StatementParts::define_is, crate::proofs::StatementParts::static_is, crate::proofs::StatementParts::typedef_is, crate::proofs::StatementParts::table_is, crate::proofs::StatementParts::nested_is, crate::proofs::StatementParts::simple_is, crate::proofs::StatementParts::break_is, crate::proofs::StatementParts::continue_is, crate::proofs::StatementParts::return_is, crate::proofs::StatementParts::emitting_is, crate::proofs::StatementParts::when_is, crate::proofs::StatementParts::if_else_is, crate::proofs::StatementParts::done_is))]
 pub fn judge_stm(
     alloc: Global,
     known: &mut Known,
@@ -70,7 +70,11 @@ pub fn judge_stm(
         Stmt::If(place, test, taken, None) => {
             judge_if_only(alloc, known, around, *place, taken, test)
         }
-        Stmt::If(_, _, _, Some(_)) => judge_if_else(alloc, known, around, tree),
+        Stmt::If(place, test, taken, Some(other)) => {
+            let node = judge_exp(alloc, known, true, None, test)?;
+            let taken = judge_inside(alloc, known, around, taken)?;
+            judge_else(alloc, known, around, *place, other, test, node, taken)
+        }
         Stmt::While(place, test, body) => judge_while(alloc, known, around, *place, body, test),
         Stmt::DoWhile(place, body, test) => {
             judge_do_while(alloc, known, around, *place, body, test)
@@ -191,28 +195,26 @@ fn judge_if_only(
     branch(alloc, place, condition, node, taken, nothing(alloc))
 }
 
-// A statement with several parts is handed on whole: its height bounds the depth of the calls. No other tree comes here.
+// What an `if` does behind its part: the other part, and then the branch over the test.
 #[cycle(stmt)]
-#[tactic(auto, unfolding(crate::specs::JudgingStatements::judge_stm))]
-fn judge_if_else(
+#[tactic(auto, using(crate::proofs::StatementParts::done_is))]
+fn judge_else(
     alloc: Global,
     known: &mut Known,
     around: Around<'_>,
-    tree: &Stmt,
+    place: Place,
+    other: &Stmt,
+    condition: &Expr,
+    node: CoreExpr,
+    taken: CoreStmt,
 ) -> Result<CoreStmt, CheckError>
     ensures value { Judges (λ s. behind_of known.new s) result
-        (judge_stm (around_of around.entry) (scene_of known.old) (stm_of tree.now)) }
+        (judge_else (around_of around.entry) (scene_of known.old) place (tree_of condition.now) (node_of node)
+        (core_stm_of taken) (stm_of other.now)) }
     ensures outside { IfOk result (λ _. known.new.outside ≡ known.old.outside) }
 {
-    let Stmt::If(place, condition, taken, Some(other)) = tree else {
-        return Err(CheckError::NoMemory);
-    };
-    let node = judge_exp(alloc, known, true, None, condition)?;
-    let taken = judge_inside(alloc, known, around, taken)?;
     let other = judge_inside(alloc, known, around, other)?;
-    test(condition, &node)?;
-    let (taken, other) = (Box::new(alloc, taken)?, Box::new(alloc, other)?);
-    Ok(CoreStmt::Branch(*place, node, taken, other))
+    branch(alloc, place, condition, node, taken, other)
 }
 
 #[cycle(stmt)]

@@ -1,5 +1,6 @@
 -- A step by which a pass makes a call keeps the rule, whatever the call is, and so does a look.
-use Rattle.std.proofs.Common.{◌≡◌, ◌≢◌, ◌⊎◌, ℕ, ◌+◌, ◌<◌, ◌==◌, nat_lt, Bool, true, false, cond, List, [], ◌∷◌, ◌++◌, set, refl, ap, sym, ◌∙◌, subst, inl, inr, ⊎_elim, arith}
+use Rattle.std.proofs.Common.{◌≡◌, ◌≢◌, ◌⊎◌, ℕ, ◌+◌, ◌<◌, ◌==◌, nat_lt, Bool, true, false, cond, List, [], ◌∷◌, ◌++◌, set, refl, ap, sym, ◌∙◌, subst}
+use Rattle.std.proofs.Common.{inl, inr, ⊎_elim, arith}
 use Rattle.std.specs.Prelude.{slice_index, slice_index_or, slice_set}
 use mathlib.Core.Option.{Option as Maybe, some, some-injective}
 use lib.ListN.{get_elem?}
@@ -23,7 +24,8 @@ use native.Mathlib.Decide.{ℕ_discrete}
 use Rattle.std.proofs.lemmas.List.{set-get_or}
 
 -- what a call of another pass leaves of what a pass knows
-others : (p : PlanData) (lanes : ℕ) (log : List Entry) (x y : LedgerState) (made : ℕ) (joined : List Account) (e : Entry) (u : View) → ¬ (e.by ≡ u.number)
+others : (p : PlanData) (lanes : ℕ) (log : List Entry) (x y : LedgerState) (made : ℕ) (joined : List Account) (e : Entry) (u : View)
+    → ¬ (e.by ≡ u.number)
     → ((i : ℕ) → u.lane ≡ i + 1 → (slice_index y.outs i ≡ slice_index x.outs i) × (list_of y i ≡ list_of x i))
     → IsTrueOf p lanes log x made joined u → IsTrueOf p lanes (log ++ e ∷ []) y made joined u
 others p lanes log x y made joined e u apart same k = record {
@@ -39,7 +41,9 @@ others p lanes log x y made joined e u apart same k = record {
 }
 
 -- the call of a pass, and what it then shows and holds
-pub record IsCall (died : ℕ → ℕ → Type 0) (faults : ℕ → Type 0) (p : PlanData) (lanes : ℕ) (s : State Slot View) (log : List Entry) (made id : ℕ) (v : View) (e : Entry) (lane : ℕ) (lent words : List ℕ) (homes : List (Maybe Slot)) : Type 0 where
+pub record IsCall (died : ℕ → ℕ → Type 0) (faults : ℕ
+    → Type 0) (p : PlanData) (lanes : ℕ) (s : State Slot View) (log : List Entry) (made id : ℕ) (v : View) (e : Entry) (lane : ℕ)
+    (lent words : List ℕ) (homes : List (Maybe Slot)) : Type 0 where
   pub at : IsAt s.views id v
   pub by : e.by ≡ v.number
   pub fits : Fits p (state_after p (opening p lanes) log) e.by e.event e.shards
@@ -49,13 +53,16 @@ pub record IsCall (died : ℕ → ℕ → Type 0) (faults : ℕ → Type 0) (p :
   pub bounded : IsBounded p words (log ++ e ∷ []) made
   pub mine : (i : ℕ) → lane ≡ i + 1 → IsOut lanes (after p (state_after p (opening p lanes) log) e.by e.event e.shards) i lent
   pub away : (j : ℕ) (u : View) → IsAt s.views j u → j ≢ id → (i : ℕ) → u.lane ≡ i + 1
-      → (lane ≢ i + 1) × (slice_index (after p (state_after p (opening p lanes) log) e.by e.event e.shards).outs i ≡ slice_index (state_after p (opening p lanes) log).outs i)
+      → (lane ≢ i + 1) × (slice_index (after p (state_after p (opening p lanes) log) e.by e.event e.shards).outs i ≡ slice_index
+      (state_after p (opening p lanes) log).outs i)
       × (list_of (after p (state_after p (opening p lanes) log) e.by e.event e.shards) i ≡ list_of (state_after p (opening p lanes) log) i)
   pub held : (i : ℕ) → i < lanes → slice_index (after p (state_after p (opening p lanes) log) e.by e.event e.shards).outs i ≡ 1
       → (lane ≡ i + 1) ⊎ ((j : ℕ) × (u : View) × IsAt s.views j u × (j ≢ id) × (u.lane ≡ i + 1))
 
 -- the rule after a call
-pub kept_after : (died : ℕ → ℕ → Type 0) (faults : ℕ → Type 0) (p : PlanData) (lanes : ℕ) (s : State Slot View) (h : Kept died faults p lanes s) (id : ℕ) (v : View) (e : Entry) (lane : ℕ) (lent words : List ℕ) (homes : List (Maybe Slot))
+pub kept_after : (died : ℕ → ℕ → Type 0) (faults : ℕ
+    → Type 0) (p : PlanData) (lanes : ℕ) (s : State Slot View) (h : Kept died faults p lanes s) (id : ℕ) (v : View) (e : Entry) (lane : ℕ)
+    (lent words : List ℕ) (homes : List (Maybe Slot))
     → IsCall died faults p lanes s h.log h.made id v e lane lent words homes
     → Kept died faults p lanes record { words = words; homes = homes; views = set s.views id (calling v h.log e lane lent) }
 kept_after died faults p lanes s h id v e lane lent words homes c =
@@ -88,7 +95,8 @@ kept_after died faults p lanes s h id v e lane lent words homes c =
             (was s.views id w i u a);
         each = λ k low out. ⊎_elim
             (λ (q : lane ≡ k + 1). (id, w, (set_at s.views id v w c.at.0, live), q))
-            (λ (q : (j : ℕ) × (u : View) × IsAt s.views j u × (j ≢ id) × (u.lane ≡ k + 1)). (q.0, q.1, (set_else s.views id q.0 w q.3 ∙ q.2.0, q.2.1), q.4))
+            (λ (q : (j : ℕ) × (u : View) × IsAt s.views j u × (j ≢ id) × (u.lane ≡ k + 1)).
+            (q.0, q.1, (set_else s.views id q.0 w q.3 ∙ q.2.0, q.2.1), q.4))
             (c.held k low (ap (λ (z : LedgerState). slice_index z.outs k) (sym next) ∙ out));
       };
       knows = λ j u there.
@@ -96,24 +104,40 @@ kept_after died faults p lanes s h id v e lane lent words homes c =
           (⊎_elim
           (λ (q : (j ≡ id) × (w ≡ u)).
           subst (λ (z : View). IsTrueOf p lanes (h.log ++ e ∷ []) y h.made h.joined z) q.1
-          record { plan = t.plan; lanes_are = t.lanes_are; seen = starts_self (h.log ++ e ∷ []); told = starts_empty (h.log ++ e ∷ []); mine = calls_own v.number h.log e c.by ∙ ap (λ (l : List Entry). l ++ e ∷ []) t.mine; number = t.number; first = t.first; alone = t.alone; lane = c.mine })
+          record {
+            plan = t.plan;
+            lanes_are = t.lanes_are;
+            seen = starts_self (h.log ++ e ∷ []);
+            told = starts_empty (h.log ++ e ∷ []);
+            mine =
+                calls_own v.number h.log e c.by ∙ ap (λ (l : List Entry). l ++ e ∷ []) t.mine;
+            number = t.number;
+            first = t.first;
+            alone = t.alone;
+            lane = c.mine;
+          })
           (λ (q : (j ≢ id) × IsAt s.views j u).
-          others p lanes h.log x y h.made h.joined e u (λ same. q.0 (sym (h.numbered.apart id j v u c.at q.1 (sym c.by ∙ same)))) (λ i has. let a = c.away j u q.1 q.0 i has in (a.1, a.2)) (h.knows j u q.1))
+          others p lanes h.log x y h.made h.joined e u (λ same. q.0 (sym (h.numbered.apart id j v u c.at q.1 (sym c.by ∙ same)))) (λ i has. let a =
+          c.away j u q.1 q.0 i has in (a.1, a.2)) (h.knows j u q.1))
           (was s.views id w j u there));
       closed = λ k a there. calls_other a.number h.log e (λ same. h.numbered.away k a there id v c.at (sym c.by ∙ same)) ∙ h.closed k a there;
       others = λ n above. calls_other n h.log e (λ is. let b = t.number in let d = c.by in absurd (omega arith)) ∙ h.others n above;
     }
 
 -- what the pass knows after a call
-pub follows : (died : ℕ → ℕ → Type 0) (faults : ℕ → Type 0) (p : PlanData) (lanes : ℕ) (s : State Slot View) (h : Kept died faults p lanes s) (id : ℕ) (v : View) (e : Entry) (lane : ℕ) (lent : List ℕ)
+pub follows : (died : ℕ → ℕ → Type 0) (faults : ℕ
+    → Type 0) (p : PlanData) (lanes : ℕ) (s : State Slot View) (h : Kept died faults p lanes s) (id : ℕ) (v : View) (e : Entry) (lane : ℕ)
+    (lent : List ℕ)
     → IsAt s.views id v → e.by ≡ v.number → IsLegal p lanes (h.log ++ e ∷ []) → Follows v h.log (calling v h.log e lane lent)
 follows died faults p lanes s h id v e lane lent at by legal =
     let t = h.knows id v at in record {
       seen = t.seen;
       told = t.told;
-      legal = subst (λ (q : PlanData). IsLegal q v.lanes (h.log ++ e ∷ [])) (sym t.plan) (subst (λ (n : ℕ). IsLegal p n (h.log ++ e ∷ [])) (sym t.lanes_are) legal);
+      legal = subst (λ (q : PlanData). IsLegal q v.lanes (h.log ++ e ∷ [])) (sym t.plan)
+          (subst (λ (n : ℕ). IsLegal p n (h.log ++ e ∷ [])) (sym t.lanes_are) legal);
       mine = calls_own v.number h.log e by ∙ ap (λ (l : List Entry). l ++ e ∷ []) t.mine;
-      others = λ first n above. let m = (t.first first).0 in let b = t.number in calls_other n h.log e (λ is. absurd (omega arith)) ∙ h.others n (omega arith);
+      others = λ first n above. let m = (t.first first).0 in let b = t.number in
+          calls_other n h.log e (λ is. absurd (omega arith)) ∙ h.others n (omega arith);
     }
 
 -- the lanes are the same in both states
@@ -126,15 +150,20 @@ either_same false x y z h k = k
 
 pub lanes_stay : (p : PlanData) (x : LedgerState) (n : ℕ) (event : Event) (shards : List ℕ) → IsPlain event → SameLanes (after p x n event shards) x
 lanes_stay p x n Draw shards plain = either_same (nat_lt x.drawn (count_of p)) x (record x { drawn = x.drawn + 1 }) x (refl, refl) (refl, refl)
-lanes_stay p x n (Number c) shards plain = either_same (nat_lt (slice_index x.given c.shard) p.attempts) x (record x { given = set x.given c.shard (slice_index x.given c.shard + 1) }) x (refl, refl) (refl, refl)
+lanes_stay p x n (Number c) shards plain =
+    either_same (nat_lt (slice_index x.given c.shard) p.attempts) x (record x { given = set x.given c.shard (slice_index x.given c.shard + 1) }) x
+    (refl, refl) (refl, refl)
 lanes_stay p x n (Died c k) shards plain = (refl, refl)
-lanes_stay p x n (Settle c k) shards plain = either_same (slice_index x.winners c.shard == 0) x (record x { winners = set x.winners c.shard (k + 1); unplaced = set x.unplaced c.shard (n + 1) }) x (refl, refl) (refl, refl)
+lanes_stay p x n (Settle c k) shards plain =
+    either_same (slice_index x.winners c.shard ==
+    0) x (record x { winners = set x.winners c.shard (k + 1); unplaced = set x.unplaced c.shard (n + 1) }) x (refl, refl) (refl, refl)
 lanes_stay p x n (LaneOut i) shards plain = absurd plain
 lanes_stay p x n (LaneBack i) shards plain = absurd plain
 lanes_stay p x n (Bad s) shards plain = (refl, refl)
 
 -- a lane that is out with another pass, or with this one
-held_by : (p : PlanData) (lanes : ℕ) (vs : List View) (id : ℕ) (v : View) (x : LedgerState) → IsAt vs id v → AreHeld vs lanes x → (i : ℕ) → i < lanes → slice_index x.outs i ≡ 1
+pub held_by : (p : PlanData) (lanes : ℕ) (vs : List View) (id : ℕ) (v : View) (x : LedgerState) → IsAt vs id v → AreHeld vs lanes x → (i : ℕ) → i < lanes
+    → slice_index x.outs i ≡ 1
     → (v.lane ≡ i + 1) ⊎ ((j : ℕ) × (u : View) × IsAt vs j u × (j ≢ id) × (u.lane ≡ i + 1))
 held_by p lanes vs id v x at held i low out =
     let h = held.each i low out in dite (ℕ_discrete h.0 id)
@@ -144,7 +173,8 @@ held_by p lanes vs id v x at held i low out =
     (λ (ne : h.0 ≢ id). inr (h.0, h.1, h.2, ne, h.3))
 
 -- a call that leaves the lanes alone
-pub calls : (died : ℕ → ℕ → Type 0) (faults : ℕ → Type 0) (p : PlanData) (lanes slots id : ℕ) (me : Me Slot View) (i : ℕ) (f : ℕ → ℕ) (event : Event) (reply : ℕ → Reply) → MayCall died faults p lanes me.0 i f event reply
+pub calls : (died : ℕ → ℕ → Type 0) (faults : ℕ → Type 0) (p : PlanData) (lanes slots id : ℕ) (me : Me Slot View) (i : ℕ) (f : ℕ
+    → ℕ) (event : Event) (reply : ℕ → Reply) → MayCall died faults p lanes me.0 i f event reply
     → Allows (Kept died faults p lanes) slots id me i f (λ n after. Called me.0 event [] (reply n) me.0.lane me.0.lent after.0 × (after.1 ≡ me.1))
 calls died faults p lanes slots id me i f event reply may s h same at small =
     let v : View = me.0 in
@@ -183,11 +213,23 @@ seen_all p lanes log x made joined views id v at knows j u there =
     let t = knows id v at in ⊎_elim
     (λ (here : (j ≡ id) × (looking v log ≡ u)).
     subst (λ (z : View). IsTrueOf p lanes log x made joined z) here.1
-    record { plan = t.plan; lanes_are = t.lanes_are; seen = starts_self log; told = starts_empty log; mine = t.mine; number = t.number; first = t.first; alone = t.alone; lane = t.lane })
+    record {
+      plan = t.plan;
+      lanes_are = t.lanes_are;
+      seen = starts_self log;
+      told = starts_empty log;
+      mine = t.mine;
+      number = t.number;
+      first =
+          t.first;
+      alone = t.alone;
+      lane = t.lane;
+    })
     (λ (away : (j ≢ id) × IsAt views j u). knows j u away.1)
     (was views id (looking v log) j u there)
 
-pub looks : (died : ℕ → ℕ → Type 0) (faults : ℕ → Type 0) (p : PlanData) (lanes slots id : ℕ) (me : Me Slot View) (i : ℕ) → 0 < me.0.weight → Allows (Kept died faults p lanes) slots id me i (λ n. n) (λ n after. Looked me.0 after.0 × (after.1 ≡ me.1))
+pub looks : (died : ℕ → ℕ → Type 0) (faults : ℕ → Type 0) (p : PlanData) (lanes slots id : ℕ) (me : Me Slot View) (i : ℕ) → 0 < me.0.weight
+    → Allows (Kept died faults p lanes) slots id me i (λ n. n) (λ n after. Looked me.0 after.0 × (after.1 ≡ me.1))
 looks died faults p lanes slots id me i live s h same at small =
     let v : View = me.0 in
     let here : IsAt s.views id v = (at, live) in

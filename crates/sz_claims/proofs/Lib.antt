@@ -1,9 +1,14 @@
 pub mod CallLemmas
 pub mod ForCallers
-pub mod MoveLemmas
+pub mod LaneLemmas
 pub mod OpeningLemmas
 pub mod PassLemmas
 pub mod SeatLemmas
+pub mod ShardLemmas
 pub mod SoundLemmas
 pub mod SumLemmas
-pub mod TestPlans
+pub mod TakingLemmas
+pub mod TicketLemmas
+pub mod UnplacedLemmas
+pub mod ViewLemmas
+pub mod WordLemmas

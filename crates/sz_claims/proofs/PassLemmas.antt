@@ -1,5 +1,6 @@
 -- A pass is split off, and a pass is joined.
-use Rattle.std.proofs.Common.{◌≡◌, ◌≢◌, ◌⊎◌, ℕ, zero, suc, ◌+◌, ◌^◌, ◌<◌, List, [], ◌∷◌, ◌++◌, set, length, refl, ap, sym, ◌∙◌, subst, inl, inr, ⊎_elim, arith, length-append}
+use Rattle.std.proofs.Common.{◌≡◌, ◌≢◌, ◌⊎◌, ℕ, zero, suc, ◌+◌, ◌^◌, ◌<◌, List, [], ◌∷◌, ◌++◌, set, length, refl, ap, sym, ◌∙◌, subst, inl, inr}
+use Rattle.std.proofs.Common.{⊎_elim, arith, length-append}
 use mathlib.Core.Option.{some, some-injective, some-ne-none}
 use mathlib.Core.Logic.{dite}
 use native.Mathlib.Decide.{ℕ_discrete}
@@ -41,11 +42,13 @@ split_was vs i v at j u there = ⊎_elim
     (λ (t : (j ≡ length (set vs i (split_left v))) × (split_right v ≡ u)). inr t)
     (snoc (set vs i (split_left v)) (split_right v) u j there.0)
 
-split_numbered : (vs : List View) (made : ℕ) (joined : List Account) (i : ℕ) (v : View) → IsAt vs i v → v.made ≡ made → ((j : ℕ) (u : View) → IsAt vs j u → u.number < made)
+split_numbered : (vs : List View) (made : ℕ) (joined : List Account) (i : ℕ) (v : View) → IsAt vs i v → v.made ≡ made
+    → ((j : ℕ) (u : View) → IsAt vs j u → u.number < made)
     → AreNumbered vs made joined → AreNumbered (set vs i (split_left v) ++ split_right v ∷ []) (suc made) joined
 split_numbered vs made joined i v at count below r =
     let all : List View = set vs i (split_left v) in
-    let fresh : (j : ℕ) (x : View) → IsAt vs j x → ¬ (x.number ≡ (split_right v).number) = λ j x a e. let b = below j x a in absurd (omega arith) in record {
+    let fresh : (j : ℕ) (x : View) → IsAt vs j x → ¬ (x.number ≡ (split_right v).number) = λ j x a e. let b = below j x a in absurd (omega arith) in
+    record {
       apart = λ j k u w a b e. ⊎_elim
           (λ (p : (x : View) × IsAt vs j x × (x.number ≡ u.number)). ⊎_elim
           (λ (q : (x : View) × IsAt vs k x × (x.number ≡ w.number)). r.apart j k p.0 q.0 p.1 q.1 (p.2 ∙ e ∙ sym q.2))
@@ -76,7 +79,8 @@ split_numbered vs made joined i v at count below r =
       whole = let s = weights_set vs i v (split_left v) at.0 in let o = r.whole in weights_push all (split_right v) ∙ (omega arith);
     }
 
-split_knows : (p : PlanData) (lanes : ℕ) (log : List Entry) (x : LedgerState) (made : ℕ) (joined : List Account) (vs : List View) (i : ℕ) (v : View) → IsAt vs i v → v.number ≡ 0
+split_knows : (p : PlanData) (lanes : ℕ) (log : List Entry) (x : LedgerState) (made : ℕ) (joined : List Account) (vs : List View) (i : ℕ) (v : View)
+    → IsAt vs i v → v.number ≡ 0
     → AreNumbered vs made joined → ((j : ℕ) (u : View) → IsAt vs j u → IsTrueOf p lanes log x made joined u) → calls_by made log ≡ []
     → (j : ℕ) (u : View) → IsAt (set vs i (split_left v) ++ split_right v ∷ []) j u → IsTrueOf p lanes log x (suc made) joined u
 split_knows p lanes log x made joined vs i v at zeroth numbered knows none j u there =
@@ -85,21 +89,56 @@ split_knows p lanes log x made joined vs i v at zeroth numbered knows none j u t
     (λ (here : get_elem? (set vs i (split_left v)) j ≡ some u). ⊎_elim
     (λ (q : (j ≡ i) × (split_left v ≡ u)).
     subst (λ (y : View). IsTrueOf p lanes log x (suc made) joined y) q.1
-    record { plan = t.plan; lanes_are = t.lanes_are; lane = t.lane; seen = t.seen; told = t.told; mine = t.mine; number = let b = t.number in omega arith; first = λ e. (omega arith, (t.first e).1, (t.first e).2); alone = t.alone })
+    record {
+      plan = t.plan;
+      lanes_are = t.lanes_are;
+      lane = t.lane;
+      seen = t.seen;
+      told = t.told;
+      mine = t.mine;
+      number = let b = t.number in
+          omega arith;
+      first = λ e. (omega arith, (t.first e).1, (t.first e).2);
+      alone = t.alone;
+    })
     (λ (q : (j ≢ i) × IsAt vs j u).
     let k = knows j u q.1 in
-    record { plan = k.plan; lanes_are = k.lanes_are; lane = k.lane; seen = k.seen; told = k.told; mine = k.mine; number = let b = k.number in omega arith; first = λ e. absurd (q.0 (numbered.apart j i u v q.1 at (e ∙ sym zeroth))); alone = k.alone })
+    record {
+      plan = k.plan;
+      lanes_are = k.lanes_are;
+      lane = k.lane;
+      seen = k.seen;
+      told = k.told;
+      mine = k.mine;
+      number = let b = k.number in
+          omega arith;
+      first = λ e. absurd (q.0 (numbered.apart j i u v q.1 at (e ∙ sym zeroth)));
+      alone = k.alone;
+    })
     (was vs i (split_left v) j u (here, there.1)))
     (λ (new : (j ≡ length (set vs i (split_left v))) × (split_right v ≡ u)).
     subst (λ (y : View). IsTrueOf p lanes log x (suc made) joined y) new.1
-    record { plan = t.plan; lanes_are = t.lanes_are; lane = λ k has. absurd (omega arith); seen = t.seen; told = starts_empty log; mine = subst (λ (n : ℕ). calls_by n log ≡ []) (sym count) none; number = omega arith; first = λ e. (let b = t.number in absurd (omega arith)); alone = λ _. refl })
+    record {
+      plan = t.plan;
+      lanes_are = t.lanes_are;
+      lane = λ k has. absurd (omega arith);
+      seen = t.seen;
+      told = starts_empty log;
+      mine =
+          subst (λ (n : ℕ). calls_by n log ≡ []) (sym count) none;
+      number = omega arith;
+      first = λ e. (let b = t.number in absurd (omega arith));
+      alone = λ _. refl;
+    })
     (snoc (set vs i (split_left v)) (split_right v) u j there.0)
 
 -- the lanes are with those that had them
-split_held : (vs : List View) (lanes : ℕ) (x : LedgerState) (i : ℕ) (v : View) → IsAt vs i v → AreHeld vs lanes x → AreHeld (set vs i (split_left v) ++ split_right v ∷ []) lanes x
+split_held : (vs : List View) (lanes : ℕ) (x : LedgerState) (i : ℕ) (v : View) → IsAt vs i v → AreHeld vs lanes x
+    → AreHeld (set vs i (split_left v) ++ split_right v ∷ []) lanes x
 split_held vs lanes x i v at h =
     let all : List View = set vs i (split_left v) in
-    let stood' : (k j : ℕ) (u : View) → IsAt (all ++ split_right v ∷ []) j u → u.lane ≡ k + 1 → (y : View) × IsAt vs j y × (y.lane ≡ k + 1) = λ k j u there has. ⊎_elim
+    let stood' : (k j : ℕ) (u : View) → IsAt (all ++ split_right v ∷ []) j u → u.lane ≡ k + 1
+    → (y : View) × IsAt vs j y × (y.lane ≡ k + 1) = λ k j u there has. ⊎_elim
     (λ (t : get_elem? all j ≡ some u). ⊎_elim
     (λ (q : (j ≡ i) × (split_left v ≡ u)). (v, subst (λ (m : ℕ). IsAt vs m v) (sym q.0) at, ap (λ (y : View). y.lane) q.1 ∙ has))
     (λ (q : (j ≢ i) × IsAt vs j u). (u, q.1, has))
@@ -116,7 +155,8 @@ split_held vs lanes x i v at h =
           (r.0, r.1, (at_longer all (split_right v ∷ []) r.0 r.1 r.2.0, r.2.1), r.3 ∙ t.3);
     }
 
-pub splits : (died : ℕ → ℕ → Type 0) (faults : ℕ → Type 0) (p : PlanData) (lanes id : ℕ) (v : View) → 0 < v.weight → v.number ≡ 0 → v.made + 1 < 2 ^ 32 → Splits {S = Slot} (Kept died faults p lanes) id v (split_left v) (split_right v)
+pub splits : (died : ℕ → ℕ → Type 0) (faults : ℕ → Type 0) (p : PlanData) (lanes id : ℕ) (v : View) → 0 < v.weight → v.number ≡ 0
+    → v.made + 1 < 2 ^ 32 → Splits {S = Slot} (Kept died faults p lanes) id v (split_left v) (split_right v)
 splits died faults p lanes id v live zeroth room s h at =
     let here : IsAt s.views id v = (at, live) in
     let t = h.knows id v here in
@@ -136,7 +176,8 @@ splits died faults p lanes id v live zeroth room s h at =
       };
       small = omega arith;
       numbered = split_numbered s.views h.made h.joined id v here count (λ j u a. (h.knows j u a).number) h.numbered;
-      knows = split_knows p lanes h.log (state_after p (opening p lanes) h.log) h.made h.joined s.views id v here zeroth h.numbered h.knows (h.others h.made (omega arith));
+      knows = split_knows p lanes h.log (state_after p (opening p lanes) h.log) h.made h.joined s.views id v here zeroth h.numbered h.knows
+          (h.others h.made (omega arith));
       closed = h.closed;
       others = λ n above. h.others n (omega arith);
     }
@@ -160,7 +201,8 @@ join_stood vs i other v w at j u there =
           t.1,
     )
 
-join_numbered : (vs : List View) (made : ℕ) (joined : List Account) (i other : ℕ) (v w : View) → IsAt vs i v → IsAt vs other w → other ≢ i → 0 < w.number → w.number < made
+join_numbered : (vs : List View) (made : ℕ) (joined : List Account) (i other : ℕ) (v w : View) → IsAt vs i v → IsAt vs other w → other ≢ i
+    → 0 < w.number → w.number < made
     → AreNumbered vs made joined → AreNumbered (set (set vs i (merged v w)) other spent) made (joined ++ account w ∷ [])
 join_numbered vs made joined i other v w at there apart high low r =
     let all : List View = set vs i (merged v w) in
@@ -173,12 +215,14 @@ join_numbered vs made joined i other v w at there apart high low r =
           r.apart j k p.0 q.0 p.1 q.1 (p.2 ∙ e ∙ sym q.2);
       numbers = λ k a e. ⊎_elim
           (λ (p : get_elem? joined k ≡ some a). r.numbers k a p)
-          (λ (p : (k ≡ length joined) × (account w ≡ a)). let n : w.number ≡ a.number = ap (λ (y : Account). y.number) p.1 in (omega arith, omega arith))
+          (λ (p : (k ≡ length joined) × (account w ≡ a)). let n : w.number ≡ a.number = ap (λ (y : Account). y.number) p.1 in
+          (omega arith, omega arith))
           (snoc joined (account w) a k e);
       away = λ k a e j u b same.
           let x = join_stood vs i other v w at j u b in ⊎_elim
           (λ (p : get_elem? joined k ≡ some a). r.away k a p j x.1.0 x.1.1 (x.1.2 ∙ same))
-          (λ (p : (k ≡ length joined) × (account w ≡ a)). x.0 (r.apart j other x.1.0 w x.1.1 there (x.1.2 ∙ same ∙ ap (λ (y : Account). y.number) (sym p.1))))
+          (λ (p : (k ≡ length joined) × (account w ≡ a)).
+          x.0 (r.apart j other x.1.0 w x.1.1 there (x.1.2 ∙ same ∙ ap (λ (y : Account). y.number) (sym p.1))))
           (snoc joined (account w) a k e);
       once = λ j k a b e f same. ⊎_elim
           (λ (p : get_elem? joined j ≡ some a). ⊎_elim
@@ -199,14 +243,21 @@ join_numbered vs made joined i other v w at there apart high low r =
           dite (ℕ_discrete t.0 i)
           (λ (e : t.0 ≡ i).
           let is : t.1 ≡ v = some-injective t.1 v (sym t.2.0 ∙ ap (λ k. get_elem? vs k) e ∙ at'.0) in
-          inl (i, merged v w, (set_else all other i spent (λ x. apart (sym x)) ∙ set_at vs i v (merged v w) at'.0, live), ap (λ (y : View). y.number) (sym is) ∙ t.3))
+          inl (
+            i,
+            merged v w,
+            (set_else all other i spent (λ x. apart (sym x)) ∙ set_at vs i v (merged v w) at'.0, live),
+            ap (λ (y : View). y.number) (sym is) ∙ t.3,
+          ))
           (λ (not : t.0 ≢ i). inl (t.0, t.1, (set_else all other t.0 spent ne ∙ set_else vs i t.0 (merged v w) not ∙ t.2.0, t.2.1), t.3))))
-          (λ (t : (k : ℕ) × (a : Account) × (get_elem? joined k ≡ some a) × (a.number ≡ n)). inr (t.0, t.1, at_longer joined (account w ∷ []) t.0 t.1 t.2, t.3))
+          (λ (t : (k : ℕ) × (a : Account) × (get_elem? joined k ≡ some a) × (a.number ≡ n)).
+          inr (t.0, t.1, at_longer joined (account w ∷ []) t.0 t.1 t.2, t.3))
           (r.covers n below);
       whole = let a = weights_set vs i v (merged v w) at.0 in let b = weights_set all other w spent there' in let o = r.whole in omega arith;
     }
 
-join_knows : (p : PlanData) (lanes : ℕ) (log : List Entry) (x : LedgerState) (made : ℕ) (joined : List Account) (vs : List View) (i other : ℕ) (v w : View) → IsAt vs i v → IsAt vs other w → v.number ≡ 0 → w.weight ≡ 1
+join_knows : (p : PlanData) (lanes : ℕ) (log : List Entry) (x : LedgerState) (made : ℕ) (joined : List Account) (vs : List View) (i other : ℕ)
+    (v w : View) → IsAt vs i v → IsAt vs other w → v.number ≡ 0 → w.weight ≡ 1
     → AreNumbered vs made joined → ((j : ℕ) (u : View) → IsAt vs j u → IsTrueOf p lanes log x made joined u)
     → (j : ℕ) (u : View) → IsAt (set (set vs i (merged v w)) other spent) j u → IsTrueOf p lanes log x made (joined ++ account w ∷ []) u
 join_knows p lanes log x made joined vs i other v w at there zeroth single numbered knows j u now =
@@ -228,11 +279,23 @@ join_knows p lanes log x made joined vs i other v w at there zeroth single numbe
     })
     (λ (q : (j ≢ i) × IsAt vs j u).
     let k = knows j u q.1 in
-    record { plan = k.plan; lanes_are = k.lanes_are; lane = k.lane; seen = k.seen; told = k.told; mine = k.mine; number = k.number; first = λ e. absurd (q.0 (numbered.apart j i u v q.1 at (e ∙ sym zeroth))); alone = k.alone })
+    record {
+      plan = k.plan;
+      lanes_are = k.lanes_are;
+      lane = k.lane;
+      seen = k.seen;
+      told = k.told;
+      mine = k.mine;
+      number = k.number;
+      first =
+          λ e. absurd (q.0 (numbered.apart j i u v q.1 at (e ∙ sym zeroth)));
+      alone = k.alone;
+    })
     (join_was vs i other v w j u now).1
 
 -- the lanes are with those that had them, and the pass that was joined had none
-join_held : (vs : List View) (lanes : ℕ) (x : LedgerState) (i other : ℕ) (v w : View) → IsAt vs i v → IsAt vs other w → other ≢ i → w.lane ≡ 0 → AreHeld vs lanes x
+join_held : (vs : List View) (lanes : ℕ) (x : LedgerState) (i other : ℕ) (v w : View) → IsAt vs i v → IsAt vs other w → other ≢ i → w.lane ≡ 0
+    → AreHeld vs lanes x
     → AreHeld (set (set vs i (merged v w)) other spent) lanes x
 join_held vs lanes x i other v w at there apart home h =
     let all : List View = set vs i (merged v w) in
@@ -253,17 +316,24 @@ join_held vs lanes x i other v w at there apart home h =
           let some' = t.3 in absurd (omega arith)) in
           dite (ℕ_discrete t.0 i)
           (λ (e : t.0 ≡ i).
-          let is : t.1 ≡ v = some-injective t.1 v (sym t.2.0 ∙ ap (λ m. get_elem? vs m) e ∙ at.0) in
-          (i, merged v w, (set_else all other i spent (λ m. apart (sym m)) ∙ set_at vs i v (merged v w) at.0, live), ap (λ (y : View). y.lane) (sym is) ∙ t.3))
+          let is : t.1 ≡ v = some-injective t.1 v (sym t.2.0 ∙ ap (λ m. get_elem? vs m) e ∙ at.0) in (
+            i,
+            merged v w,
+            (set_else all other i spent (λ m. apart (sym m)) ∙ set_at vs i v (merged v w) at.0, live),
+            ap (λ (y : View). y.lane) (sym is) ∙ t.3,
+          ))
           (λ (not : t.0 ≢ i). (t.0, t.1, (set_else all other t.0 spent ne ∙ set_else vs i t.0 (merged v w) not ∙ t.2.0, t.2.1), t.3));
     }
 
-pub joins : (died : ℕ → ℕ → Type 0) (faults : ℕ → Type 0) (p : PlanData) (lanes id : ℕ) (v : View) (other : ℕ) (w : View) → 0 < v.weight → v.number ≡ 0 → 0 < w.weight → w.lane ≡ 0 → Joins {S = Slot} (Kept died faults p lanes) id v other w (merged v w) spent
+pub joins : (died : ℕ → ℕ → Type 0) (faults : ℕ → Type 0) (p : PlanData) (lanes id : ℕ) (v : View) (other : ℕ) (w : View) → 0 < v.weight
+    → v.number ≡ 0 → 0 < w.weight → w.lane ≡ 0 → Joins {S = Slot} (Kept died faults p lanes) id v other w (merged v w) spent
 joins died faults p lanes id v other w live zeroth live' home s h at apart there =
     let here : IsAt s.views id v = (at, live) in
     let near : IsAt s.views other w = (sym (set_else s.views id other (merged v w) apart) ∙ there, live') in
     let o = h.knows other w near in
-    let high : 0 < w.number = dite (ℕ_discrete w.number 0) (λ (e : w.number ≡ 0). absurd (apart (h.numbered.apart other id w v near here (e ∙ sym zeroth)))) (λ (ne : w.number ≢ 0). omega arith) in record {
+    let high : 0 < w.number =
+    dite (ℕ_discrete w.number 0) (λ (e : w.number ≡ 0). absurd (apart (h.numbered.apart other id w v near here (e ∙ sym zeroth))))
+    (λ (ne : w.number ≢ 0). omega arith) in record {
       log = h.log;
       made = h.made;
       joined = h.joined ++ account w ∷ [];
@@ -275,7 +345,8 @@ joins died faults p lanes id v other w live zeroth live' home s h at apart there
       bounded = h.bounded;
       small = h.small;
       numbered = join_numbered s.views h.made h.joined id other v w here near apart high o.number h.numbered;
-      knows = join_knows p lanes h.log (state_after p (opening p lanes) h.log) h.made h.joined s.views id other v w here near zeroth (o.alone high) h.numbered h.knows;
+      knows = join_knows p lanes h.log (state_after p (opening p lanes) h.log) h.made h.joined s.views id other v w here near zeroth
+          (o.alone high) h.numbered h.knows;
       closed = λ k a e. ⊎_elim
           (λ (q : get_elem? h.joined k ≡ some a). h.closed k a q)
           (λ (q : (k ≡ length h.joined) × (account w ≡ a)). subst (λ (y : Account). calls_by y.number h.log ≡ y.calls) q.1 o.mine)

@@ -22,22 +22,27 @@ weights_set (x ∷ xs) (suc i) v w e = omega (arith, weights_set xs i v w e)
 
 -- each live view after the change is the new one, or stood there before
 pub was : (vs : List View) (i : ℕ) (w : View) (j : ℕ) (u : View) → IsAt (set vs i w) j u → ((j ≡ i) × (w ≡ u)) ⊎ ((j ≢ i) × IsAt vs j u)
-was vs i w j u at = ⊎_elim (λ (t : (j ≡ i) × (w ≡ u)). inl t) (λ (t : (j ≢ i) × (get_elem? vs j ≡ some u)). inr (t.0, (t.1, at.1))) (at_set vs i j w u at.0)
+was vs i w j u at = ⊎_elim (λ (t : (j ≡ i) × (w ≡ u)). inl t) (λ (t : (j ≢ i) × (get_elem? vs j ≡ some u)). inr (t.0, (t.1, at.1)))
+    (at_set vs i j w u at.0)
 
 -- and a view with its number stood there before
-pub stood : (vs : List View) (i : ℕ) (v w : View) → IsAt vs i v → w.number ≡ v.number → (j : ℕ) (u : View) → IsAt (set vs i w) j u → (x : View) × IsAt vs j x × (x.number ≡ u.number)
+pub stood : (vs : List View) (i : ℕ) (v w : View) → IsAt vs i v → w.number ≡ v.number → (j : ℕ) (u : View) → IsAt (set vs i w) j u
+    → (x : View) × IsAt vs j x × (x.number ≡ u.number)
 stood vs i v w at same j u there = ⊎_elim
     (λ (t : (j ≡ i) × (w ≡ u)). (v, subst (λ (k : ℕ). IsAt vs k v) (sym t.0) at, sym same ∙ ap (λ (y : View). y.number) t.1))
     (λ (t : (j ≢ i) × IsAt vs j u). (u, t.1, refl))
     (was vs i w j u there)
 
 -- each that stood there is followed by one with its number
-pub stays : (vs : List View) (i : ℕ) (v w : View) → IsAt vs i v → w.number ≡ v.number → 0 < w.weight → (j : ℕ) (u : View) → IsAt vs j u → (id : ℕ) × (x : View) × IsAt (set vs i w) id x × (x.number ≡ u.number)
+pub stays : (vs : List View) (i : ℕ) (v w : View) → IsAt vs i v → w.number ≡ v.number → 0 < w.weight → (j : ℕ) (u : View) → IsAt vs j u
+    → (id : ℕ) × (x : View) × IsAt (set vs i w) id x × (x.number ≡ u.number)
 stays vs i v w at same live j u there = dite (ℕ_discrete j i)
-    (λ (e : j ≡ i). let is : u ≡ v = some-injective u v (sym there.0 ∙ ap (λ (k : ℕ). get_elem? vs k) e ∙ at.0) in (i, w, (set_at vs i v w at.0, live), same ∙ ap (λ (y : View). y.number) (sym is)))
+    (λ (e : j ≡ i). let is : u ≡ v = some-injective u v (sym there.0 ∙ ap (λ (k : ℕ). get_elem? vs k) e ∙ at.0) in
+    (i, w, (set_at vs i v w at.0, live), same ∙ ap (λ (y : View). y.number) (sym is)))
     (λ (ne : j ≢ i). (j, u, (set_else vs i j w ne ∙ there.0, there.1), refl))
 
-pub numbered_set : (vs : List View) (made : ℕ) (joined : List Account) (i : ℕ) (v w : View) → IsAt vs i v → w.number ≡ v.number → w.weight ≡ v.weight → AreNumbered vs made joined → AreNumbered (set vs i w) made joined
+pub numbered_set : (vs : List View) (made : ℕ) (joined : List Account) (i : ℕ) (v w : View) → IsAt vs i v → w.number ≡ v.number → w.weight ≡ v.weight
+    → AreNumbered vs made joined → AreNumbered (set vs i w) made joined
 numbered_set vs made joined i v w at same weight r =
     let live : 0 < w.weight = let l = at.1 in omega arith in record {
       apart = λ j k u x a b e.
@@ -59,19 +64,23 @@ numbered_set vs made joined i v w at same weight r =
     }
 
 -- the lane of each view stays with it
-lane_stood : (vs : List View) (i : ℕ) (v w : View) → IsAt vs i v → w.lane ≡ v.lane → (j : ℕ) (u : View) → IsAt (set vs i w) j u → (x : View) × IsAt vs j x × (x.lane ≡ u.lane)
+lane_stood : (vs : List View) (i : ℕ) (v w : View) → IsAt vs i v → w.lane ≡ v.lane → (j : ℕ) (u : View) → IsAt (set vs i w) j u
+    → (x : View) × IsAt vs j x × (x.lane ≡ u.lane)
 lane_stood vs i v w at same j u there = ⊎_elim
     (λ (t : (j ≡ i) × (w ≡ u)). (v, subst (λ (k : ℕ). IsAt vs k v) (sym t.0) at, sym same ∙ ap (λ (y : View). y.lane) t.1))
     (λ (t : (j ≢ i) × IsAt vs j u). (u, t.1, refl))
     (was vs i w j u there)
 
-pub lane_stays : (vs : List View) (i : ℕ) (v w : View) → IsAt vs i v → w.lane ≡ v.lane → 0 < w.weight → (j : ℕ) (u : View) → IsAt vs j u → (id : ℕ) × (x : View) × IsAt (set vs i w) id x × (x.lane ≡ u.lane)
+pub lane_stays : (vs : List View) (i : ℕ) (v w : View) → IsAt vs i v → w.lane ≡ v.lane → 0 < w.weight → (j : ℕ) (u : View) → IsAt vs j u
+    → (id : ℕ) × (x : View) × IsAt (set vs i w) id x × (x.lane ≡ u.lane)
 lane_stays vs i v w at same live j u there = dite (ℕ_discrete j i)
-    (λ (e : j ≡ i). let is : u ≡ v = some-injective u v (sym there.0 ∙ ap (λ (k : ℕ). get_elem? vs k) e ∙ at.0) in (i, w, (set_at vs i v w at.0, live), same ∙ ap (λ (y : View). y.lane) (sym is)))
+    (λ (e : j ≡ i). let is : u ≡ v = some-injective u v (sym there.0 ∙ ap (λ (k : ℕ). get_elem? vs k) e ∙ at.0) in
+    (i, w, (set_at vs i v w at.0, live), same ∙ ap (λ (y : View). y.lane) (sym is)))
     (λ (ne : j ≢ i). (j, u, (set_else vs i j w ne ∙ there.0, there.1), refl))
 
 -- one view changes, and holds the lane that it held
-pub held_set : (vs : List View) (lanes : ℕ) (x : LedgerState) (i : ℕ) (v w : View) → IsAt vs i v → w.lane ≡ v.lane → 0 < w.weight → AreHeld vs lanes x → AreHeld (set vs i w) lanes x
+pub held_set : (vs : List View) (lanes : ℕ) (x : LedgerState) (i : ℕ) (v w : View) → IsAt vs i v → w.lane ≡ v.lane → 0 < w.weight → AreHeld vs lanes x
+    → AreHeld (set vs i w) lanes x
 held_set vs lanes x i v w at same live h = record {
   once = λ j k m u y a b has has'.
       let u' = lane_stood vs i v w at same j u a in

@@ -1,22 +1,26 @@
 -- What the type of a pass keeps, after a call.
-use Rattle.std.proofs.Common.{◌≡◌, ◌≢◌, ℕ, zero, suc, ◌+◌, ◌-◌, ◌^◌, ◌<◌, ◌≤◌, ◌||◌, Bool, true, false, cond, not, List, [], ◌∷◌, ◌++◌, length, replicate, set, length-set, length-append, eq-eqb, ne_eqb, Option, Some, None, is_none, refl, ap, sym, ◌∙◌, subst, arith}
+use Rattle.std.proofs.Common.{◌≡◌, ◌≢◌, ℕ, zero, suc, ◌+◌, ◌-◌, ◌^◌, ◌<◌, ◌≤◌, ◌||◌, Bool, true, false, cond, not, List, [], ◌∷◌, ◌++◌, length}
+use Rattle.std.proofs.Common.{replicate, set, length-set, length-append, eq-eqb, ne_eqb, Option, Some, None, is_none, refl, ap, sym, ◌∙◌, subst}
+use Rattle.std.proofs.Common.{arith}
 use Rattle.std.specs.Prelude.{slice_index_or}
 use Rattle.std.proofs.lemmas.List.{get_or-set_same, get_or-set_other, length-replicate}
 use mathlib.Core.Logic.{dite}
 use native.Mathlib.Decide.{ℕ_discrete}
 use Rattle.atomic_table.specs.Seated.{TableId}
 use Rattle.sz_book.specs.Plan.{PlanData}
+use Rattle.sz_book.specs.Lanes.{LaneData}
 use Rattle.sz_book.specs.declared.plan.Claim.{Claim}
 use Rattle.sz_book.specs.declared.event.Event.{Event}
-use Rattle.sz_book.specs.declared.event.Event.TheVariants.{Draw, Number}
+use Rattle.sz_book.specs.declared.event.Event.TheVariants.{Draw, Number, LaneOut, LaneBack}
 use Rattle.sz_book.specs.declared.event.Reply.{Reply}
-use Rattle.sz_book.specs.declared.event.Reply.TheVariants.{Ticket, Number as Numbered}
+use Rattle.sz_book.specs.declared.event.Reply.TheVariants.{Ticket, Number as Numbered, Noted, Lane}
 use Rattle.sz_book.specs.declared.event.Entry.{Entry}
 use Rattle.sz_claims.specs.declared.view.View.{View}
 use Rattle.sz_book.specs.Plan.{IsPlan, count_of}
 use Rattle.sz_book.specs.Machine.{opening, IsDrawn}
 use Rattle.sz_book.specs.History.{entry, state_after, IsLegal, calls_by, HasDrawn, HasNumber}
-use Rattle.sz_claims.specs.Rule.{Slot, any_of, draws_none, numbers_none, found_no_ticket, found_no_number, bit, looking, Called, Looked, split_left, split_right, merged, newcomer}
+use Rattle.sz_claims.specs.Rule.{Slot, any_of, draws_none, numbers_none, found_no_ticket, found_no_number, bit, looking, Called, Looked, split_left}
+use Rattle.sz_claims.specs.Rule.{split_right, merged, newcomer, IsAsked}
 use Rattle.sz_claims.specs.Known.{LedgerData, PassData, pass_data, AllBlank, IsSound}
 use Rattle.sz_book.proofs.GrowthLemmas.{has_drawn, has_number, own_drawn, own_number}
 
@@ -40,17 +44,21 @@ pub any_snoc : (f : Entry → Bool) (es : List Entry) (e : Entry) (b : Bool) →
 any_snoc f [] e b h = no_bit b (f e) h
 any_snoc f (x ∷ xs) e b h = past (f x) b (f e) (any_of f xs) (any_of f (xs ++ e ∷ [])) h (λ k. any_snoc f xs e b k)
 
-pub sound : (v w : View) (held held' : List (ℕ × Slot)) (vain vain' : Bool) (marks marks' : List Bool) (limit : ℕ) (rows : List (List Bool)) (event : Event) (reply : Reply)
-    → IsSound v held vain marks limit rows → Called v event [] reply v.lane v.lent w → held' ≡ held → vain' ≡ (vain || draws_none event reply) → length marks' ≡ length marks
+-- after any call, with which shards may come, and which may leave the pass another lane
+sound_with : (v w : View) (held held' : List (ℕ × Slot)) (vain vain' : Bool) (marks marks' : List Bool) (limit : ℕ) (rows : List (List Bool))
+    (event : Event) (shards : List ℕ) (reply : Reply) (lane : ℕ) (lent : List ℕ)
+    → IsSound v held vain marks limit rows → Called v event shards reply lane lent w → (lane ≡ 0 → held' ≡ [])
+    → ((i : ℕ) → lane ≡ i + 1 → (i < v.lanes) × (held' ≡ (i, None) ∷ [])) → vain' ≡ (vain || draws_none event reply)
+    → length marks' ≡ length marks
     → ((t : ℕ) → t < count_of v.plan → slice_index_or marks' t false ≡ (slice_index_or marks t false || numbers_none t event reply))
     → IsSound w held' vain' marks' limit rows
-sound v w held held' vain vain' marks marks' limit rows event reply s call same dry long each =
-    let e : Entry = entry v.number event [] reply in
+sound_with v w held held' vain vain' marks marks' limit rows event shards reply lane lent s call idle busy dry long each =
+    let e : Entry = entry v.number event shards reply in
     subst (λ (u : View). IsSound u held' vain' marks' limit rows) (sym call.1)
     record {
       live = s.live;
-      idle = λ e. same ∙ s.idle e;
-      busy = λ i e. same ∙ s.busy i e;
+      idle = idle;
+      busy = busy;
       legal = subst (λ (u : View). IsLegal v.plan v.lanes u.seen) call.1 call.2.legal;
       mine = subst (λ (u : View). calls_by v.number u.seen ≡ u.mine) call.1 call.2.mine;
       no_ticket = any_snoc found_no_ticket v.mine e vain s.no_ticket ∙ ap bit (sym dry);
@@ -63,6 +71,16 @@ sound v w held held' vain vain' marks marks' limit rows event reply s call same 
       small = s.small;
     }
 
+pub sound : (v w : View) (held held' : List (ℕ × Slot)) (vain vain' : Bool) (marks marks' : List Bool) (limit : ℕ) (rows : List (List Bool))
+    (event : Event) (reply : Reply)
+    → IsSound v held vain marks limit rows → Called v event [] reply v.lane v.lent w → held' ≡ held → vain' ≡ (vain || draws_none event reply)
+    → length marks' ≡ length marks
+    → ((t : ℕ) → t < count_of v.plan → slice_index_or marks' t false ≡ (slice_index_or marks t false || numbers_none t event reply))
+    → IsSound w held' vain' marks' limit rows
+sound v w held held' vain vain' marks marks' limit rows event reply s call same =
+    sound_with v w held held' vain vain' marks marks' limit rows event [] reply v.lane v.lent s call (λ e. same ∙ s.idle e)
+    (λ i e. let b = s.busy i e in (b.0, same ∙ b.1))
+
 pub none_drawn : (c : Option Claim) → draws_none Draw (Ticket c) ≡ is_none c
 none_drawn (Some c) = refl
 none_drawn None = refl
@@ -71,14 +89,20 @@ or_false : (b : Bool) → b ≡ (b || false)
 or_false true = refl
 or_false false = refl
 
-pub sound_draw : (p : PlanData) (v w : View) (held held' : List (ℕ × Slot)) (vain vain' : Bool) (marks : List Bool) (limit : ℕ) (rows : List (List Bool)) (reply : Reply) (claim : Option Claim)
-    → IsSound v held vain marks limit rows → Called v Draw [] reply v.lane v.lent w → held' ≡ held → Ticket claim ≡ reply → vain' ≡ (vain || is_none claim) → IsSound w held' vain' marks limit rows
+pub sound_draw : (p : PlanData) (v w : View) (held held' : List (ℕ × Slot)) (vain vain' : Bool) (marks : List Bool) (limit : ℕ)
+    (rows : List (List Bool)) (reply : Reply) (claim : Option Claim)
+    → IsSound v held vain marks limit rows → Called v Draw [] reply v.lane v.lent w → held' ≡ held → Ticket claim ≡ reply
+    → vain' ≡ (vain || is_none claim) → IsSound w held' vain' marks limit rows
 sound_draw p v w held held' vain vain' marks limit rows reply claim s call same is no_ticket =
-    sound v w held held' vain vain' marks marks limit rows Draw reply s call same (no_ticket ∙ ap (λ (b : Bool). vain || b) (sym (none_drawn claim) ∙ ap (draws_none Draw) is)) refl (λ t low. or_false (slice_index_or marks t false))
+    sound v w held held' vain vain' marks marks limit rows Draw reply s call same (no_ticket
+    ∙ ap (λ (b : Bool). vain || b) (sym (none_drawn claim) ∙ ap (draws_none Draw) is)) refl (λ t low. or_false (slice_index_or marks t false))
 
 -- a claim that this pass drew
-pub claimed_by : (v : View) (c : Claim) → IsLegal v.plan v.lanes v.seen → calls_by v.number v.seen ≡ v.mine → HasDrawn c v.mine → IsDrawn v.plan (state_after v.plan (opening v.plan v.lanes) v.seen) c
-claimed_by v c legal own drew = has_drawn v.plan (opening v.plan v.lanes) v.seen c legal.from (own_drawn v.number v.seen c (subst (λ (l : List Entry). HasDrawn c l) (sym own) drew))
+pub claimed_by : (v : View) (c : Claim) → IsLegal v.plan v.lanes v.seen → calls_by v.number v.seen ≡ v.mine → HasDrawn c v.mine
+    → IsDrawn v.plan (state_after v.plan (opening v.plan v.lanes) v.seen) c
+claimed_by v c legal own drew =
+    has_drawn v.plan (opening v.plan v.lanes) v.seen c legal.from
+    (own_drawn v.number v.seen c (subst (λ (l : List Entry). HasDrawn c l) (sym own) drew))
 
 pub none_is : (b r : Bool) → b ≡ not r → r ≡ not b
 none_is b true h = ap not (sym h)
@@ -90,13 +114,15 @@ pub record IsOf (z z' : TableId) (v : View) (p : PlanData) (lanes : ℕ) : Type 
   pub plan : v.plan ≡ p
   pub lanes_are : v.lanes ≡ lanes
 
-pub one_ledger : (z z' : TableId) (limit : ℕ) (v : View) (p : PlanData) (lanes : ℕ) (k : PassData) (n : LedgerData) → pass_data z limit v ≡ k → record { id = z'; plan = p; lanes = lanes } ≡ n → k.ledger ≡ n → IsOf z z' v p lanes
+pub one_ledger : (z z' : TableId) (limit : ℕ) (v : View) (p : PlanData) (lanes : ℕ) (k : PassData) (n : LedgerData) → pass_data z limit v ≡ k
+    → record { id = z'; plan = p; lanes = lanes } ≡ n → k.ledger ≡ n → IsOf z z' v p lanes
 one_ledger z z' limit v p lanes k n a b same =
     let e : (pass_data z limit v).ledger ≡ record { id = z'; plan = p; lanes = lanes } = ap (λ (x : PassData). x.ledger) a ∙ same ∙ sym b in
     record { table = ap (λ (x : LedgerData). x.id) e; plan = ap (λ (x : LedgerData). x.plan) e; lanes_are = ap (λ (x : LedgerData). x.lanes) e }
 
 -- a claim that this pass drew names a ticket of the plan and its shard
-pub in_plan : (v : View) (held : List (ℕ × Slot)) (vain : Bool) (marks : List Bool) (limit : ℕ) (rows : List (List Bool)) (p : PlanData) (c : Claim) → IsSound v held vain marks limit rows → v.plan ≡ p → IsPlan p → HasDrawn c v.mine
+pub in_plan : (v : View) (held : List (ℕ × Slot)) (vain : Bool) (marks : List Bool) (limit : ℕ) (rows : List (List Bool)) (p : PlanData) (c : Claim)
+    → IsSound v held vain marks limit rows → v.plan ≡ p → IsPlan p → HasDrawn c v.mine
     → (c.ticket < count_of v.plan) × (c.shard < p.shards)
 in_plan v held vain marks limit rows p c s same plan drew =
     let d = claimed_by v c s.legal s.mine drew in
@@ -107,7 +133,8 @@ in_plan v held vain marks limit rows p c s same plan drew =
     (d.ticket, omega arith)
 
 -- a number that this pass was given is below the number of attempts
-pub in_attempts : (v : View) (held : List (ℕ × Slot)) (vain : Bool) (marks : List Bool) (limit : ℕ) (rows : List (List Bool)) (p : PlanData) (c : Claim) (k : ℕ) → IsSound v held vain marks limit rows → v.plan ≡ p → IsPlan p → HasNumber c k v.mine → k < 8
+pub in_attempts : (v : View) (held : List (ℕ × Slot)) (vain : Bool) (marks : List Bool) (limit : ℕ) (rows : List (List Bool)) (p : PlanData)
+    (c : Claim) (k : ℕ) → IsSound v held vain marks limit rows → v.plan ≡ p → IsPlan p → HasNumber c k v.mine → k < 8
 in_attempts v held vain marks limit rows p c k s same plan given =
     let plan' : IsPlan v.plan = subst IsPlan (sym same) plan in
     let own : HasNumber c k v.seen = own_number v.number v.seen c k (subst (λ (l : List Entry). HasNumber c k l) (sym s.mine) given) in
@@ -123,28 +150,67 @@ none_else : (t : ℕ) (c : Claim) (k : Option ℕ) → c.ticket ≢ t → false 
 none_else t c (Some n) e = refl
 none_else t c None e = sym (ne_eqb c.ticket t e)
 
-pub sound_number : (p : PlanData) (v w : View) (held held' : List (ℕ × Slot)) (vain : Bool) (marks : List Bool) (limit : ℕ) (rows : List (List Bool)) (claim : Claim) (reply : Reply) (number : Option ℕ) (b : Bool)
-    → IsSound v held vain marks limit rows → Called v (Number claim) [] reply v.lane v.lent w → held' ≡ held → Numbered number ≡ reply → claim.ticket < length marks → b ≡ (slice_index_or marks claim.ticket false || is_none number)
+pub sound_number : (p : PlanData) (v w : View) (held held' : List (ℕ × Slot)) (vain : Bool) (marks : List Bool) (limit : ℕ) (rows : List (List Bool))
+    (claim : Claim) (reply : Reply) (number : Option ℕ) (b : Bool)
+    → IsSound v held vain marks limit rows → Called v (Number claim) [] reply v.lane v.lent w → held' ≡ held → Numbered number ≡ reply
+    → claim.ticket < length marks → b ≡ (slice_index_or marks claim.ticket false || is_none number)
     → IsSound w held' vain (set marks claim.ticket b) limit rows
 sound_number p v w held held' vain marks limit rows claim reply number b s call same is low mark =
-    sound v w held held' vain vain marks (set marks claim.ticket b) limit rows (Number claim) reply s call same (or_false vain ∙ ap (λ (r : Reply). vain || draws_none (Number claim) r) is) (length-set marks claim.ticket b)
+    sound v w held held' vain vain marks (set marks claim.ticket b) limit rows (Number claim) reply s call same (or_false vain
+    ∙ ap (λ (r : Reply). vain || draws_none (Number claim) r) is) (length-set marks claim.ticket b)
     (λ t low'. dite (ℕ_discrete t claim.ticket)
     (λ (e : t ≡ claim.ticket).
-    let P : ℕ → Type 0 = λ k. slice_index_or (set marks claim.ticket b) k false ≡ (slice_index_or marks k false || numbers_none k (Number claim) reply) in
-    let test : is_none number ≡ numbers_none claim.ticket (Number claim) reply = none_numbered claim.ticket claim number refl ∙ ap (numbers_none claim.ticket (Number claim)) is in
-    let here : P claim.ticket = get_or-set_same marks claim.ticket b false low ∙ mark ∙ ap (λ (c : Bool). slice_index_or marks claim.ticket false || c) test in
+    let P : ℕ → Type 0 = λ k.
+    slice_index_or (set marks claim.ticket b) k false ≡ (slice_index_or marks k false || numbers_none k (Number claim) reply) in
+    let test : is_none number ≡ numbers_none claim.ticket (Number claim) reply = none_numbered claim.ticket claim number refl
+    ∙ ap (numbers_none claim.ticket (Number claim)) is in
+    let here : P claim.ticket = get_or-set_same marks claim.ticket b false low ∙ mark
+    ∙ ap (λ (c : Bool). slice_index_or marks claim.ticket false || c) test in
     subst P (sym e) here)
     (λ (ne : t ≢ claim.ticket).
     get_or-set_other marks claim.ticket t b false ne ∙ or_false (slice_index_or marks t false)
     ∙ ap (λ (c : Bool). slice_index_or marks t false || c) (none_else t claim number (λ e. ne (sym e)) ∙ ap (numbers_none t (Number claim)) is)))
 
-pub sound_quiet : (v w : View) (held held' : List (ℕ × Slot)) (vain : Bool) (marks : List Bool) (limit : ℕ) (rows : List (List Bool)) (event : Event) (reply : Reply)
-    → IsSound v held vain marks limit rows → Called v event [] reply v.lane v.lent w → held' ≡ held → draws_none event reply ≡ false → ((t : ℕ) → numbers_none t event reply ≡ false) → IsSound w held' vain marks limit rows
+pub sound_quiet : (v w : View) (held held' : List (ℕ × Slot)) (vain : Bool) (marks : List Bool) (limit : ℕ) (rows : List (List Bool)) (event : Event)
+    (reply : Reply)
+    → IsSound v held vain marks limit rows → Called v event [] reply v.lane v.lent w → held' ≡ held → draws_none event reply ≡ false
+    → ((t : ℕ) → numbers_none t event reply ≡ false) → IsSound w held' vain marks limit rows
 sound_quiet v w held held' vain marks limit rows event reply s call same dry bar =
     sound v w held held' vain vain marks marks limit rows event reply s call same (or_false vain ∙ ap (λ (b : Bool). vain || b) (sym dry)) refl
     (λ t low. or_false (slice_index_or marks t false) ∙ ap (λ (b : Bool). slice_index_or marks t false || b) (sym (bar t)))
 
-pub in_marks : (v : View) (held : List (ℕ × Slot)) (vain : Bool) (marks : List Bool) (limit : ℕ) (rows : List (List Bool)) (c : Claim) → IsSound v held vain marks limit rows → HasDrawn c v.mine → c.ticket < length marks
+-- after a call that leaves the pass another lane
+sound_lane : (v w : View) (held held' : List (ℕ × Slot)) (vain : Bool) (marks : List Bool) (limit : ℕ) (rows : List (List Bool)) (event : Event)
+    (shards : List ℕ) (reply : Reply) (lane : ℕ) (lent : List ℕ) → IsSound v held vain marks limit rows → Called v event shards reply lane lent w
+    → (lane ≡ 0 → held' ≡ []) → ((i : ℕ) → lane ≡ i + 1 → (i < v.lanes) × (held' ≡ (i, None) ∷ [])) → draws_none event reply ≡ false
+    → ((t : ℕ) → numbers_none t event reply ≡ false) → IsSound w held' vain marks limit rows
+sound_lane v w held held' vain marks limit rows event shards reply lane lent s call idle busy dry bar =
+    sound_with v w held held' vain vain marks marks limit rows event shards reply lane lent s call idle busy
+    (or_false vain ∙ ap (λ (b : Bool). vain || b) (sym dry)) refl
+    (λ t low. or_false (slice_index_or marks t false) ∙ ap (λ (b : Bool). slice_index_or marks t false || b) (sym (bar t)))
+
+-- after a lane was asked for
+pub sound_asked : (v w : View) (held held' : List (ℕ × Slot)) (vain : Bool) (marks : List Bool) (limit : ℕ) (rows : List (List Bool)) (i : ℕ)
+    (lane : Option LaneData) → IsSound v held vain marks limit rows → v.lane ≡ 0 → i < v.lanes → IsAsked i (v, held) lane (w, held')
+    → IsSound w held' vain marks limit rows
+sound_asked v w held held' vain marks limit rows i None s idle low asked =
+    sound_lane v w held held' vain marks limit rows (LaneOut i) [] (Lane false) v.lane v.lent s asked.0 (λ e. asked.1 ∙ s.idle e)
+    (λ k e. absurd (omega arith)) refl (λ t. refl)
+sound_asked v w held held' vain marks limit rows i (Some lane) s idle low asked =
+    sound_lane v w held held' vain marks limit rows (LaneOut i) [] (Lane true) (i + 1) lane.shards s asked.0 (λ e. absurd (omega arith))
+    (λ k e. let same : i ≡ k = omega arith in
+    subst (λ (n : ℕ). (n < v.lanes) × (held' ≡ (n, None) ∷ [])) same (low, asked.2 ∙ ap (λ (l : List (ℕ × Slot)). (i, None) ∷ l) (s.idle idle)))
+    refl (λ t. refl)
+
+-- after a lane came home
+pub sound_given : (v w : View) (held held' : List (ℕ × Slot)) (vain : Bool) (marks : List Bool) (limit : ℕ) (rows : List (List Bool)) (i : ℕ)
+    (shards : List ℕ) → IsSound v held vain marks limit rows → Called v (LaneBack i) shards Noted 0 [] w → held' ≡ []
+    → IsSound w held' vain marks limit rows
+sound_given v w held held' vain marks limit rows i shards s call none =
+    sound_lane v w held held' vain marks limit rows (LaneBack i) shards Noted 0 [] s call (λ e. none) (λ k e. absurd (omega arith)) refl (λ t. refl)
+
+pub in_marks : (v : View) (held : List (ℕ × Slot)) (vain : Bool) (marks : List Bool) (limit : ℕ) (rows : List (List Bool)) (c : Claim)
+    → IsSound v held vain marks limit rows → HasDrawn c v.mine → c.ticket < length marks
 in_marks v held vain marks limit rows c s drew = let d = claimed_by v c s.legal s.mine drew in let t = d.ticket in let l = s.tickets in omega arith
 
 pub one_default : (l : List Bool) (i : ℕ) (a b : Bool) → i < length l → slice_index_or l i a ≡ slice_index_or l i b
@@ -162,16 +228,33 @@ no_mark (suc n) zero = refl
 no_mark (suc n) (suc t) = no_mark n t
 
 -- the first pass after a split
-pub sound_left : (v w : View) (held held' : List (ℕ × Slot)) (vain : Bool) (marks : List Bool) (limit : ℕ) (rows rest : List (List Bool)) (row : List Bool)
+pub sound_left : (v w : View) (held held' : List (ℕ × Slot)) (vain : Bool) (marks : List Bool) (limit : ℕ) (rows rest : List (List Bool))
+    (row : List Bool)
     → IsSound v held vain marks limit rows → w ≡ split_left v → held' ≡ held → rows ≡ rest ++ row ∷ [] → IsSound w held' vain marks limit rest
 sound_left v w held held' vain marks limit rows rest row s is same cut =
     let long : length rows ≡ length rest + 1 = ap length cut ∙ length-append rest (row ∷ []) in
     let blank = blank_append (count_of v.plan) rest row (subst (AllBlank (count_of v.plan)) cut s.blank) in
     subst (λ (u : View). IsSound u held' vain marks limit rest) (sym is)
-    record { live = s.live; idle = λ e. same ∙ s.idle e; busy = λ i e. same ∙ s.busy i e; legal = s.legal; mine = s.mine; no_ticket = s.no_ticket; tickets = s.tickets; no_number = s.no_number; room = λ e. (let r = s.room e in omega arith); made = λ e. omega arith; others = λ e n above. s.others e n (omega arith); blank = blank.0; small = s.small }
+    record {
+      live = s.live;
+      idle = λ e. same ∙ s.idle e;
+      busy = λ i e. let b = s.busy i e in (b.0, same ∙ b.1);
+      legal = s.legal;
+      mine = s.mine;
+      no_ticket = s.no_ticket;
+      tickets = s.tickets;
+      no_number = s.no_number;
+      room = λ e. (let r = s.room e in omega arith);
+      made = λ e. omega arith;
+      others =
+          λ e n above. s.others e n (omega arith);
+      blank = blank.0;
+      small = s.small;
+    }
 
 -- the new pass
-pub sound_right : (v w : View) (held held' : List (ℕ × Slot)) (vain : Bool) (marks : List Bool) (limit : ℕ) (rows rest : List (List Bool)) (row : List Bool)
+pub sound_right : (v w : View) (held held' : List (ℕ × Slot)) (vain : Bool) (marks : List Bool) (limit : ℕ) (rows rest : List (List Bool))
+    (row : List Bool)
     → IsSound v held vain marks limit rows → v.number ≡ 0 → w ≡ split_right v → held' ≡ [] → rows ≡ rest ++ row ∷ [] → IsSound w held' false row 0 []
 sound_right v w held held' vain marks limit rows rest row s zeroth is same cut =
     let high = s.made zeroth in
@@ -195,7 +278,8 @@ sound_right v w held held' vain marks limit rows rest row s zeroth is same cut =
     }
 
 -- the first pass after a join
-pub sound_joined : (v u w : View) (held held' : List (ℕ × Slot)) (vain : Bool) (marks : List Bool) (limit : ℕ) (rows : List (List Bool)) (other : View)
+pub sound_joined : (v u w : View) (held held' : List (ℕ × Slot)) (vain : Bool) (marks : List Bool) (limit : ℕ) (rows : List (List Bool))
+    (other : View)
     → IsSound v held vain marks limit rows → u ≡ merged v other → Looked u w → held' ≡ held → IsSound w held' vain marks limit rows
 sound_joined v u w held held' vain marks limit rows other s is look same =
     let e : w ≡ looking (merged v other) look.0 = look.1 ∙ ap (λ (x : View). looking x look.0) is in
@@ -204,7 +288,7 @@ sound_joined v u w held held' vain marks limit rows other s is look same =
     record {
       live = live;
       idle = λ e. same ∙ s.idle e;
-      busy = λ i e. same ∙ s.busy i e;
+      busy = λ i e. let b = s.busy i e in (b.0, same ∙ b.1);
       legal = subst (λ (x : View). IsLegal x.plan x.lanes look.0) is (subst (λ (x : View). IsLegal u.plan u.lanes x.seen) look.1 look.2.legal);
       mine = subst (λ (x : View). calls_by x.number look.0 ≡ x.mine) is (subst (λ (x : View). calls_by u.number x.seen ≡ x.mine) look.1 look.2.mine);
       no_ticket = s.no_ticket;
@@ -212,13 +296,15 @@ sound_joined v u w held held' vain marks limit rows other s is look same =
       no_number = s.no_number;
       room = s.room;
       made = s.made;
-      others = subst (λ (x : View). x.number ≡ 0 → (n : ℕ) → x.made ≤ n → calls_by n look.0 ≡ []) is (subst (λ (x : View). u.number ≡ 0 → (n : ℕ) → u.made ≤ n → calls_by n x.seen ≡ []) look.1 look.2.others);
+      others = subst (λ (x : View). x.number ≡ 0 → (n : ℕ) → x.made ≤ n
+          → calls_by n look.0 ≡ []) is (subst (λ (x : View). u.number ≡ 0 → (n : ℕ) → u.made ≤ n → calls_by n x.seen ≡ []) look.1 look.2.others);
       blank = s.blank;
       small = s.small;
     }
 
 -- while a row is left, another pass may be made
-pub more_room : (v : View) (held : List (ℕ × Slot)) (vain : Bool) (marks : List Bool) (limit : ℕ) (rows rest : List (List Bool)) (row : List Bool) → IsSound v held vain marks limit rows → v.number ≡ 0 → rows ≡ rest ++ row ∷ [] → (v.made < limit) × (v.made + 1 < 2 ^ 32)
+pub more_room : (v : View) (held : List (ℕ × Slot)) (vain : Bool) (marks : List Bool) (limit : ℕ) (rows rest : List (List Bool)) (row : List Bool)
+    → IsSound v held vain marks limit rows → v.number ≡ 0 → rows ≡ rest ++ row ∷ [] → (v.made < limit) × (v.made + 1 < 2 ^ 32)
 more_room v held vain marks limit rows rest row s zeroth cut =
     let long : length rows ≡ length rest + 1 = ap length cut ∙ length-append rest (row ∷ []) in
     let r = s.room zeroth in
@@ -230,9 +316,10 @@ all_blank n zero = tt
 all_blank n (suc k) = (refl, all_blank n k)
 
 -- the first pass at the start
-pub sound_first : (p : PlanData) (v : View) (held : List (ℕ × Slot)) (marks : List Bool) (limit : ℕ) (rows : List (List Bool)) → v ≡ newcomer p 0 → held ≡ [] → marks ≡ replicate (count_of p) false → 0 < limit → limit < 2 ^ 32
+pub sound_first : (p : PlanData) (lanes : ℕ) (v : View) (held : List (ℕ × Slot)) (marks : List Bool) (limit : ℕ) (rows : List (List Bool)) → v ≡ newcomer p lanes
+    → held ≡ [] → marks ≡ replicate (count_of p) false → 0 < limit → limit < 2 ^ 32
     → rows ≡ replicate (limit - 1) (replicate (count_of p) false) → IsSound v held false marks limit rows
-sound_first p v held marks limit rows is empty blank some small room =
+sound_first p lanes v held marks limit rows is empty blank some small room =
     let long : length rows ≡ limit - 1 = ap length room ∙ length-replicate (limit - 1) (replicate (count_of p) false) in
     subst (λ (u : View). IsSound u held false marks limit rows) (sym is)
     record {

@@ -1,5 +1,6 @@
 -- Sums of counts, as a history grows.
-use Rattle.std.proofs.Common.{◌≡◌, ◌≢◌, ℕ, zero, suc, ◌+◌, ◌*◌, ◌<◌, ◌≤◌, ◌==◌, Bool, true, false, cond, List, [], ◌∷◌, ◌++◌, refl, sym, subst, le_refl, le_trans, arith, suc-mul}
+use Rattle.std.proofs.Common.{◌≡◌, ◌≢◌, ℕ, zero, suc, ◌+◌, ◌*◌, ◌<◌, ◌≤◌, ◌==◌, Bool, true, false, cond, List, [], ◌∷◌, ◌++◌, refl, sym, subst}
+use Rattle.std.proofs.Common.{le_refl, le_trans, arith, suc-mul}
 use mathlib.Core.Logic.{dite}
 use native.Mathlib.Decide.{ℕ_discrete}
 use Rattle.sz_book.specs.declared.event.Entry.{Entry}
@@ -54,7 +55,9 @@ any_last f (x ∷ xs) e h = cond_last (f x) (any_of f (xs ++ e ∷ [])) (any_las
 
 -- the calls of one pass only grow
 pub any_calls : (f : Entry → Bool) (n : ℕ) (log : List Entry) (e : Entry) → any_of f (calls_by n log) ≤ any_of f (calls_by n (log ++ e ∷ []))
-any_calls f n log e = subst (λ (l : List Entry). any_of f (calls_by n log) ≤ any_of f l) (sym (calls_by-append n log (e ∷ []))) (any_append f (calls_by n log) (calls_by n (e ∷ [])))
+any_calls f n log e =
+    subst (λ (l : List Entry). any_of f (calls_by n log) ≤ any_of f l) (sym (calls_by-append n log (e ∷ [])))
+    (any_append f (calls_by n log) (calls_by n (e ∷ [])))
 
 cond_up : (b : Bool) (x y : ℕ) → x ≤ y → cond b 1 x ≤ cond b 1 y
 cond_up true x y h = le_refl 1
@@ -82,28 +85,43 @@ abbrev pub bars : ℕ → List Entry → ℕ → ℕ
 bars tickets log made = sum_below (λ n. without_number tickets (calls_by n log)) made
 
 pub dries_grow : (log : List Entry) (e : Entry) (made : ℕ) → dries log made ≤ dries (log ++ e ∷ []) made
-dries_grow log e made = sum_grows (λ n. any_of found_no_ticket (calls_by n log)) (λ n. any_of found_no_ticket (calls_by n (log ++ e ∷ []))) made (λ k low. any_calls found_no_ticket k log e)
+dries_grow log e made =
+    sum_grows (λ n. any_of found_no_ticket (calls_by n log)) (λ n. any_of found_no_ticket (calls_by n (log ++ e ∷ []))) made
+    (λ k low. any_calls found_no_ticket k log e)
 
-pub dries_one : (log : List Entry) (e : Entry) (made : ℕ) → e.by < made → any_of found_no_ticket (calls_by e.by log) ≡ 0 → found_no_ticket e ≡ true → dries log made + 1 ≤ dries (log ++ e ∷ []) made
+pub dries_one : (log : List Entry) (e : Entry) (made : ℕ) → e.by < made → any_of found_no_ticket (calls_by e.by log) ≡ 0 → found_no_ticket e ≡ true
+    → dries log made + 1 ≤ dries (log ++ e ∷ []) made
 dries_one log e made low none dry =
     let last = any_calls_last found_no_ticket log e dry in
-    sum_one_more (λ n. any_of found_no_ticket (calls_by n log)) (λ n. any_of found_no_ticket (calls_by n (log ++ e ∷ []))) made e.by low (λ k low'. any_calls found_no_ticket k log e) (omega arith)
+    sum_one_more (λ n. any_of found_no_ticket (calls_by n log)) (λ n. any_of found_no_ticket (calls_by n (log ++ e ∷ []))) made e.by low
+    (λ k low'. any_calls found_no_ticket k log e) (omega arith)
 
 pub dries_most : (log : List Entry) (made : ℕ) → dries log made ≤ made
-dries_most log made = let a = sum_most (λ n. any_of found_no_ticket (calls_by n log)) made 1 (λ k low. any_low found_no_ticket (calls_by k log)) in omega arith
+dries_most log made = let a = sum_most (λ n. any_of found_no_ticket (calls_by n log)) made 1 (λ k low. any_low found_no_ticket (calls_by k log)) in
+    omega arith
 
-barred_grows : (tickets n : ℕ) (log : List Entry) (e : Entry) → without_number tickets (calls_by n log) ≤ without_number tickets (calls_by n (log ++ e ∷ []))
-barred_grows tickets n log e = sum_grows (λ t. any_of (found_no_number t) (calls_by n log)) (λ t. any_of (found_no_number t) (calls_by n (log ++ e ∷ []))) tickets (λ t low. any_calls (found_no_number t) n log e)
+barred_grows : (tickets n : ℕ) (log : List Entry) (e : Entry)
+    → without_number tickets (calls_by n log) ≤ without_number tickets (calls_by n (log ++ e ∷ []))
+barred_grows tickets n log e =
+    sum_grows (λ t. any_of (found_no_number t) (calls_by n log)) (λ t. any_of (found_no_number t) (calls_by n (log ++ e ∷ []))) tickets
+    (λ t low. any_calls (found_no_number t) n log e)
 
 pub bars_grow : (tickets : ℕ) (log : List Entry) (e : Entry) (made : ℕ) → bars tickets log made ≤ bars tickets (log ++ e ∷ []) made
-bars_grow tickets log e made = sum_grows (λ n. without_number tickets (calls_by n log)) (λ n. without_number tickets (calls_by n (log ++ e ∷ []))) made (λ k low. barred_grows tickets k log e)
+bars_grow tickets log e made =
+    sum_grows (λ n. without_number tickets (calls_by n log)) (λ n. without_number tickets (calls_by n (log ++ e ∷ []))) made
+    (λ k low. barred_grows tickets k log e)
 
-pub bars_one : (tickets t : ℕ) (log : List Entry) (e : Entry) (made : ℕ) → t < tickets → e.by < made → any_of (found_no_number t) (calls_by e.by log) ≡ 0 → found_no_number t e ≡ true → bars tickets log made + 1 ≤ bars tickets (log ++ e ∷ []) made
+pub bars_one : (tickets t : ℕ) (log : List Entry) (e : Entry) (made : ℕ) → t < tickets → e.by < made
+    → any_of (found_no_number t) (calls_by e.by log) ≡ 0 → found_no_number t e ≡ true → bars tickets log made + 1 ≤ bars tickets (log ++ e ∷ []) made
 bars_one tickets t log e made ticket low none bar =
     let last = any_calls_last (found_no_number t) log e bar in
-    sum_one_more (λ n. without_number tickets (calls_by n log)) (λ n. without_number tickets (calls_by n (log ++ e ∷ []))) made e.by low (λ k low'. barred_grows tickets k log e)
-    (sum_one_more (λ u. any_of (found_no_number u) (calls_by e.by log)) (λ u. any_of (found_no_number u) (calls_by e.by (log ++ e ∷ []))) tickets t ticket (λ u low'. any_calls (found_no_number u) e.by log e) (omega arith))
+    sum_one_more (λ n. without_number tickets (calls_by n log)) (λ n. without_number tickets (calls_by n (log ++ e ∷ []))) made e.by low
+    (λ k low'. barred_grows tickets k log e)
+    (sum_one_more (λ u. any_of (found_no_number u) (calls_by e.by log))
+    (λ u. any_of (found_no_number u) (calls_by e.by (log ++ e ∷ []))) tickets t ticket (λ u low'. any_calls (found_no_number u) e.by log e)
+    (omega arith))
 
 pub bars_most : (tickets : ℕ) (log : List Entry) (made : ℕ) → bars tickets log made ≤ made * tickets
 bars_most tickets log made = sum_most (λ n. without_number tickets (calls_by n log)) made tickets
-    (λ k low. let a = sum_most (λ t. any_of (found_no_number t) (calls_by k log)) tickets 1 (λ t low'. any_low (found_no_number t) (calls_by k log)) in omega arith)
+    (λ k low. let a = sum_most (λ t. any_of (found_no_number t) (calls_by k log)) tickets 1
+    (λ t low'. any_low (found_no_number t) (calls_by k log)) in omega arith)

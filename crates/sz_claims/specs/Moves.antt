@@ -24,7 +24,8 @@ replies p (LaneBack i) n = Noted
 replies p (Bad s) n = Noted
 
 -- what one kind of step shows: the call fits, the reply is right, the lanes stay, and the new words show the new state
-pub record Moved (p : PlanData) (lanes : ℕ) (words : List ℕ) (homes : List (Maybe Slot)) (log : List Entry) (made number : ℕ) (event : Event) (reply : Reply) : Type 0 where
+pub record Moved (p : PlanData) (lanes : ℕ) (words : List ℕ) (homes : List (Maybe Slot)) (log : List Entry) (made number : ℕ) (event : Event)
+    (reply : Reply) : Type 0 where
   pub fits : Fits p (state_after p (opening p lanes) log) number event []
   pub answer : reply ≡ reply_of p (state_after p (opening p lanes) log) event
   pub shows : Shows p lanes words homes (after p (state_after p (opening p lanes) log) number event [])
@@ -48,7 +49,8 @@ IsPlain (LaneBack i) = ⊥
 IsPlain (Bad s) = Unit {0}
 
 -- a pass with this view may make the call by a step in which word i becomes f of what it was
-pub record MayCall (died : ℕ → ℕ → Type 0) (faults : ℕ → Type 0) (p : PlanData) (lanes : ℕ) (v : View) (i : ℕ) (f : ℕ → ℕ) (event : Event) (reply : ℕ → Reply) : Type 0 where
+pub record MayCall (died : ℕ → ℕ → Type 0) (faults : ℕ → Type 0) (p : PlanData) (lanes : ℕ) (v : View) (i : ℕ) (f : ℕ → ℕ) (event : Event) (reply : ℕ
+    → Reply) : Type 0 where
   pub live : 0 < v.weight
   pub plain : IsPlain event
   pub report : IsTrueReport died faults event

@@ -1,14 +1,15 @@
 -- The rule of the table, and what each step tells.
-use Rattle.std.specs.Prelude.{◌≡◌, ◌≢◌, ◌⊎◌, ℕ, zero, suc, ◌+◌, ◌*◌, ◌^◌, ◌<◌, ◌≤◌, ◌==◌, Bool, true, false, if◌then◌else◌, min, Option, Some, None, List, [], ◌∷◌, ◌++◌, length, slice_index, slice_index_or}
+use Rattle.std.specs.Prelude.{◌≡◌, ◌≢◌, ◌⊎◌, ℕ, zero, suc, ◌+◌, ◌*◌, ◌^◌, ◌<◌, ◌≤◌, ◌==◌, Bool, MatchBool, true, false, if◌then◌else◌, min, Option, Some, None}
+use Rattle.std.specs.Prelude.{List, [], ◌∷◌, ◌++◌, length, slice_index, slice_index_or}
 use mathlib.Core.Option.{Option as Maybe, some}
 use lib.ListN.{get_elem?}
-use Rattle.atomic_table.specs.Table.{State}
+use Rattle.atomic_table.specs.Table.{State, Me}
 use Rattle.sz_book.specs.Plan.{PlanData, IsPlan, count_of}
 use Rattle.sz_book.specs.Lanes.{LaneData}
 use Rattle.sz_book.specs.declared.event.Event.{Event}
-use Rattle.sz_book.specs.declared.event.Event.TheVariants.{Draw, Number}
+use Rattle.sz_book.specs.declared.event.Event.TheVariants.{Draw, Number, LaneOut, LaneBack}
 use Rattle.sz_book.specs.declared.event.Reply.{Reply}
-use Rattle.sz_book.specs.declared.event.Reply.TheVariants.{Ticket, Number as Numbered}
+use Rattle.sz_book.specs.declared.event.Reply.TheVariants.{Ticket, Number as Numbered, Noted, Lane}
 use Rattle.sz_book.specs.declared.event.Entry.{Entry}
 use Rattle.sz_book.specs.Machine.{LedgerState, opening, list_of}
 use Rattle.sz_book.specs.History.{entry, state_after, IsLegal, calls_by, StartsWith, AreTrueReports}
@@ -159,7 +160,19 @@ pub record Kept (died : ℕ → ℕ → Type 0) (faults : ℕ → Type 0) (p : P
 
 abbrev pub view : ℕ → ℕ → ℕ → PlanData → ℕ → List Entry → View
 view weight number made p lanes seen =
-    record { weight = weight; number = number; made = made; plan = p; lanes = lanes; seen = seen; told = []; mine = []; joined = []; lane = 0; lent = [] }
+    record {
+      weight = weight;
+      number = number;
+      made = made;
+      plan = p;
+      lanes = lanes;
+      seen = seen;
+      told = [];
+      mine = [];
+      joined = [];
+      lane = 0;
+      lent = [];
+    }
 
 -- the view of the first pass at the start
 abbrev pub newcomer : PlanData → ℕ → View
@@ -185,6 +198,33 @@ pub record Follows (v : View) (log : List Entry) (w : View) : Type 0 where
 abbrev pub Called : View → Event → List ℕ → Reply → ℕ → List ℕ → View → Type 0
 Called v event shards reply lane lent w =
     (log : List Entry) × (w ≡ calling v log (entry v.number event shards reply) lane lent) × Follows v log w
+
+-- the list that lane i has after what is seen
+abbrev pub list_seen : View → ℕ → List ℕ
+list_seen v i = list_of (state_after v.plan (opening v.plan v.lanes) v.seen) i
+
+-- lane i was home, and the pass now has it with the list that it has after the call; or it was out
+abbrev pub Lent : ℕ → Me Slot View → ℕ → Me Slot View → Type 0
+Lent i v found w = MatchBool (found == 0)
+    ((list : List ℕ) × Called v.0 (LaneOut i) [] (Lane true) (i + 1) list w.0 × (list ≡ list_seen w.0 i)
+    × (w.1 ≡ (i, Some (lane_data v.0.plan list)) ∷ v.1))
+    (Called v.0 (LaneOut i) [] (Lane false) v.0.lane v.0.lent w.0 × (w.1 ≡ v.1))
+
+-- the pass was lent lane i, and its slot is empty; or the lane was out
+abbrev pub IsAsked : ℕ → Me Slot View → Option LaneData → Me Slot View → Type 0
+IsAsked i v None w = Called v.0 (LaneOut i) [] (Lane false) v.0.lane v.0.lent w.0 × (w.1 ≡ v.1)
+IsAsked i v (Some lane) w =
+    Called v.0 (LaneOut i) [] (Lane true) (i + 1) lane.shards w.0 × (lane ≡ lane_data v.0.plan (list_seen w.0 i)) × (w.1 ≡ (i, None) ∷ v.1)
+
+-- lane i is home again, longer by these shards
+abbrev pub Given : ℕ → List ℕ → Me Slot View → Me Slot View → Type 0
+Given i shards v w = Called v.0 (LaneBack i) shards Noted 0 [] w.0 × (w.1 ≡ [])
+
+-- the list of the lane that is in the slot of a pass
+abbrev pub list_held : List (ℕ × Slot) → List ℕ
+list_held [] = []
+list_held ((i, None) ∷ held) = []
+list_held ((i, Some lane) ∷ held) = lane.shards
 
 -- the history so far was seen. It has the calls of the accounts
 abbrev pub Looked : View → View → Type 0

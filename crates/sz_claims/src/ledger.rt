@@ -1,18 +1,16 @@
 //! The ledger, and its passes.
 ghost use Rattle.std.specs.Prelude.{◌≡◌, ◌+◌, ◌*◌, ◌^◌, ◌<◌, ◌≤◌, ◌||◌, ℕ, false, [], ◌∷◌, ◌++◌, length, map, replicate, slice_index, IfOk};
-ghost use mathlib.Core.Option.{some};
-ghost use lib.ListN.{get_elem?};
-ghost use Rattle.sz_claims.specs.Known.{least_of};
-ghost use Rattle.std.specs.Mem.Slots.{IsFull, slots_items, slots_len};
 ghost use Rattle.sz_book.specs.Plan.{IsPlan, count_of};
 ghost use Rattle.sz_book.specs.Machine.{draw_reply, number_reply};
 ghost use Rattle.sz_book.specs.History.{HasDrawn, HasNumber};
 ghost use Rattle.sz_claims.specs.Rule.{Called, any_of, found_no_ticket, found_no_number, bit, number_at, deaths_at, settled_at};
 ghost use Rattle.sz_claims.specs.Moves.{replies};
 
+use crate::lanes::{bring_home, slots_of, take_lanes, take_out};
 use crate::rule::{Law, Looks, Parts, Setup};
 use crate::steps::{Place, Shared, add, look, lower, mark, put};
 use crate::view::View;
+use crate::words::{blank, blank_rows, copy_words, first_words, least, zeros};
 use atomic_table::Table;
 use std::alloc::Global;
 use std::marker::Model;
@@ -24,21 +22,21 @@ pub struct Ledger<T: Load> {
     table: Table<Option<Lane<T>>, View, Setup, Law<T>, Global>,
     setup: Setup,
     // What `close` fills.
+    lanes: Vec<Lane<T>>,
     settled: Vec<u64>,
     deaths: Vec<u64>,
     alloc: Global,
 }
 
 impl<T: Load> Model for Ledger<T> {
-    ghost use Rattle.std.specs.Prelude.{◌≡◌, ◌+◌, ◌*◌, length};
-    ghost use Rattle.sz_book.specs.Plan.{IsPlan};
-    ghost use Rattle.sz_claims.specs.Known.{LedgerData};
+    ghost use Rattle.std.specs.Vec.{vec_len, vec_capacity};
+    ghost use Rattle.sz_claims.specs.Known.{LedgerData, IsMade};
 
     ghost Value = { LedgerData };
 
     ghost view = { λ l. record { id = l.table.shared.table_id; plan = l.setup.plan; lanes = l.setup.lanes } };
 
-    ghost invariant = { λ l. IsPlan l.setup.plan × (l.table.shared.key ≡ l.setup) × (l.table.shared.table_id.words ≡ 3 * l.setup.plan.shards + 2 + l.setup.lanes) × (length l.settled.items ≡ l.setup.plan.shards) × (length l.deaths.items ≡ l.setup.plan.shards) × (l.table.shared.table_id.slots ≡ 0) };
+    ghost invariant = { λ l. IsMade l.setup l.table.shared.key l.table.shared.table_id l.settled.items l.deaths.items (vec_len l.lanes) (vec_capacity l.lanes) };
 }
 
 /// What a caller of the ledger holds: which ledger, what of its history was seen, and the caller's own calls. At run time it keeps
@@ -69,20 +67,33 @@ impl<T: Load> Ledger<T> {
     ghost use Rattle.std.specs.Prelude.{◌+◌, ◌<◌, List, length, IfOk, IfSome, IfNone};
     ghost use Rattle.sz_book.specs.declared.event.Entry.{Entry};
     ghost use Rattle.sz_book.specs.Answers.{told_reply, IsWon};
-    ghost use Rattle.sz_claims.specs.Known.{Calls, IsSplit, IsJoined, IsEnd, IsClosed, first_pass, ends_in};
+    ghost use Rattle.sz_claims.specs.Known.{Calls, CallsWith, IsLent, MayGive, further_in, AreEmpty, IsSplit, IsJoined, IsEnd, IsClosed, first_pass, ends_in};
 
-    /// A ledger of this plan, with its first pass. As many passes as `passes` can be made of it, the first one counted.
-    pub fn make(alloc: Global, plan: Plan, passes: u32) -> Result<(Ledger<T>, Pass<T>), NoMemory>
+    /// A ledger of this plan and these lanes, with its first pass. As many passes as `passes` can be made of it, the first one
+    /// counted. All memory of the ledger is taken here.
+    pub fn make(
+        alloc: Global,
+        plan: Plan,
+        lanes: Vec<Lane<T>>,
+        passes: u32,
+    ) -> Result<(Ledger<T>, Pass<T>), NoMemory>
         requires passes { 0 < passes }
-        ensures value { IfOk result (λ r. (r.0.plan ≡ plan) × (r.0.lanes ≡ 0) × (r.1 ≡ first_pass r.0 passes)) }
+        requires few { length lanes.items < 2 ^ 32 }
+        requires empty { AreEmpty plan lanes.items }
+        ensures value { IfOk result (λ r. (r.0.plan ≡ plan) × (r.0.lanes ≡ length lanes.items) × (r.1 ≡ first_pass r.0 passes)) }
     {
         let no_number = blank(alloc, plan.ticket_count())?;
         let room = blank_rows(alloc, plan.ticket_count(), passes - 1)?;
         let settled = zeros(alloc, plan.shards())?;
         let deaths = zeros(alloc, plan.shards())?;
-        let words = first_words(alloc, plan.shards())?;
-        let setup = Setup { plan, lanes: 0 };
-        let (table, seat) = Table::of_words(alloc, words.as_slice(), &setup)?;
+        let count = lanes.len() as u32;
+        let spare = Vec::with_capacity(alloc, lanes.len())?;
+        let words = first_words(alloc, plan.shards(), count)?;
+        let slots = slots_of(alloc, lanes)?;
+        let setup = Setup { plan, lanes: count };
+        let Ok((table, seat)) = Table::new(alloc, words.as_slice(), slots, &setup) else {
+            return Err(NoMemory);
+        };
         let pass = Pass {
             seat,
             no_ticket: false,
@@ -93,6 +104,7 @@ impl<T: Load> Ledger<T> {
         let ledger = Ledger {
             table,
             setup,
+            lanes: spare,
             settled,
             deaths,
             alloc,
@@ -106,14 +118,15 @@ impl<T: Load> Ledger<T> {
         requires first { pass.number ≡ 0 }
         requires all { length pass.joined + 1 ≡ pass.made }
         requires home { pass.lane ≡ 0 }
-        ensures value { (log : List Entry) × IsEnd T.died T.faults pass log × IsClosed (ends_in pass log) result.settled result.deaths result.least_bad }
+        ensures value { (log : List Entry) × IsEnd T.died T.faults pass log × IsClosed pass.ledger.plan (ends_in pass log) result.lanes.items result.settled result.deaths result.least_bad }
     {
         let Ledger {
             table,
             setup,
+            mut lanes,
             mut settled,
             mut deaths,
-            alloc,
+            alloc: _,
         } = self;
         let Pass {
             seat,
@@ -122,13 +135,14 @@ impl<T: Load> Ledger<T> {
             limit: _,
             room: _,
         } = pass;
-        let closed = table.close_with(seat);
+        let mut closed = table.close_with(seat);
         copy_words(&closed, 3, &mut settled);
         copy_words(&closed, 2, &mut deaths);
         let least_bad = least(closed.word(3 * setup.plan.shards() as usize + 1));
+        take_lanes(&mut closed, &mut lanes);
         closed.free();
         Closed {
-            lanes: Vec::new(alloc),
+            lanes,
             settled: Words::from_vec(settled),
             deaths: Words::from_vec(deaths),
             least_bad,
@@ -245,65 +259,27 @@ impl<T: Load> Ledger<T> {
             Settled::Late((found - 1) as u32)
         }
     }
-}
 
-// Marks that are not set.
-fn blank(alloc: Global, count: usize) -> Result<Vec<bool>, NoMemory>
-    ensures { IfOk result (λ v. v.items ≡ replicate count false) }
-{
-    vec![in alloc; false; count]
-}
-
-// So many zeros.
-fn zeros(alloc: Global, count: u32) -> Result<Vec<u64>, NoMemory>
-    ensures { IfOk result (λ v. v.items ≡ replicate count 0) }
-{
-    vec![in alloc; 0; count as usize]
-}
-
-// The words at the start.
-fn first_words(alloc: Global, shards: u32) -> Result<Vec<u64>, NoMemory>
-    ensures { IfOk result (λ v. v.items ≡ replicate (3 * shards + 1) 0 ++ 2 ^ 32 ∷ []) }
-{
-    let mut words = vec![in alloc; 0; 3 * shards as usize + 1]?;
-    words.push(1 << 32)?;
-    Ok(words)
-}
-
-// So many rows of marks that are not set.
-fn blank_rows(alloc: Global, count: usize, rows: u32) -> Result<Vec<Vec<bool>>, NoMemory>
-    ensures { IfOk result (λ v. (map (λ r. r.items) v.items ≡ replicate rows (replicate count false))) }
-{
-    let mut all = Vec::new(alloc);
-    for _ in 0..rows {
-        all.push(blank(alloc, count)?)?;
+    /// Lends a lane, where it is home. None where it is out.
+    pub fn lend(&self, pass: &mut Pass<T>, lane_no: u32) -> Option<Lane<T>>
+        requires of { pass.old.ledger ≡ self.now }
+        requires idle { pass.old.lane ≡ 0 }
+        requires within { lane_no < self.now.lanes }
+        ensures none { IfNone result (Calls pass.old (Event.LaneOut lane_no) (Reply.Lane false) pass.new) }
+        ensures some { IfSome result (λ lane. IsLent pass.old lane_no lane pass.new) }
+    {
+        let turn = 3 * self.setup.plan.shards() as usize + 2 + lane_no as usize;
+        take_out(&self.table.shared, &mut pass.seat, turn, lane_no)
     }
-    Ok(all)
-}
 
-// Reads a word of each shard from a closed table.
-fn copy_words<T: Load>(
-    closed: &atomic_table::Closed<Option<Lane<T>>, Global>,
-    first: usize,
-    words: &mut Vec<u64>,
-)
-    requires full { IsFull closed.now.words }
-    requires long { (0 < first) × (first ≤ 3) × (3 * length words.old.items + 2 ≤ slots_len closed.now.words) × (length words.old.items < 2 ^ 32) }
-    ensures value { (length words.new.items ≡ length words.old.items) × ((s : ℕ) → s < length words.new.items → get_elem? (slots_items closed.now.words) (3 * s + first) ≡ some (slice_index words.new.items s)) }
-{
-    for i in 0..words.len() {
-        words[i] = closed.word(3 * i + first);
-    }
-}
-
-// The shard in the word of the least bad one.
-fn least(found: u64) -> Option<u32>
-    ensures value { result ≡ least_of found }
-{
-    if found < 1 << 32 {
-        Some(found as u32)
-    } else {
-        None
+    /// Gives back the lane that the pass holds. Its further shards are those that the pass won and put into it.
+    pub fn give(&self, pass: &mut Pass<T>, lane_no: u32, lane: Lane<T>)
+        requires of { pass.old.ledger ≡ self.now }
+        requires may { MayGive pass.old lane_no lane }
+        ensures call { CallsWith pass.old (Event.LaneBack lane_no) (further_in pass.old lane) Reply.Noted 0 [] pass.new }
+    {
+        let turn = 3 * self.setup.plan.shards() as usize + 2 + lane_no as usize;
+        bring_home(&self.table.shared, &mut pass.seat, turn, lane_no, lane);
     }
 }
 

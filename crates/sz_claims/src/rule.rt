@@ -1,8 +1,8 @@
 //! The rule of the table, and what its steps tell.
-ghost use Rattle.std.specs.Prelude.{◌≡◌, ℕ, [], ◌∷◌, ◌++◌, ◌+◌};
+ghost use Rattle.std.specs.Prelude.{◌≡◌, ℕ, List, [], ◌∷◌, ◌++◌, ◌+◌};
 ghost use Rattle.sz_book.specs.declared.event.Event.{Event};
 ghost use Rattle.sz_book.specs.declared.event.Reply.{Reply};
-ghost use Rattle.sz_claims.specs.Rule.{Kept, newcomer, Called, Looked, split_left, split_right, merged, spent};
+ghost use Rattle.sz_claims.specs.Rule.{Kept, newcomer, Called, Looked, Lent, Given, split_left, split_right, merged, spent};
 
 use crate::view::View;
 use atomic_table::{Join, Play, Split, TableRule};
@@ -47,6 +47,37 @@ pub struct Makes<C> {
 
 impl<T: Load, C: Asked> Play<Option<Lane<T>>, View> for Makes<C> {
     ghost then = { λ s v n w. Called v.0 C.event [] (C.reply n) v.0.lane v.0.lent w.0 × (w.1 ≡ v.1) };
+}
+
+/// Which lane a step takes or brings, and the shards that come with it. Each step picks it.
+pub trait OfLane {
+    ghost lane: { ℕ };
+
+    ghost shards: { List ℕ };
+}
+
+impl OfLane for Brand {
+    ghost lane = { 0 };
+
+    ghost shards = { [] };
+}
+
+/// The lane goes out to the pass, where it is home.
+pub struct Lends<C> {
+    marker: PhantomData<C>,
+}
+
+impl<T: Load, C: OfLane> Play<Option<Lane<T>>, View> for Lends<C> {
+    ghost then = { λ s v n w. Lent C.lane v n w };
+}
+
+/// The lane is home again.
+pub struct Gives<C> {
+    marker: PhantomData<C>,
+}
+
+impl<T: Load, C: OfLane> Play<Option<Lane<T>>, View> for Gives<C> {
+    ghost then = { λ s v n w. Given C.lane C.shards v w };
 }
 
 /// The history so far is seen.

@@ -1,20 +1,26 @@
 -- What it says of code that it does what an expression means, stated backward: if the run comes to something from what the expression
 -- gives, then it comes to it from the state before.
-use Rattle.std.specs.Prelude.{◌≡◌, ℕ, suc, ◌≤◌, ◌<◌, ◌+◌, List, [], ◌∷◌, length, map, slice_get, Some}
+use Rattle.std.specs.Prelude.{◌≡◌, true, ℕ, suc, ◌≤◌, ◌<◌, ◌+◌, List, [], ◌∷◌, length, map, slice_get, Some, IsSome}
 use Rattle.sz_types.specs.Data.{Shape}
 use Rattle.sz_types.specs.declared.place.Place.{Place}
 use Rattle.sz_value.specs.Data.{Datum}
 use Rattle.sz_core.specs.Programs.{Signature}
+use Rattle.sz_core.specs.Nodes.{Node}
+use Rattle.sz_core.specs.Typing.{Sight, IsNode}
 use Rattle.sz_instr.specs.declared.line.Line.{Line}
 use Rattle.sz_instr.specs.declared.routine.Routine.{Routine}
 use Rattle.sz_instr.specs.declared.code.Code.{Code}
 use Rattle.sz_world.specs.World.{World, Given, Gives, Stops, most_open_calls}
-use Rattle.sz_world.specs.Slots.{Slot}
+use Rattle.sz_world.specs.Slots.{Slot, slot_at}
 use Rattle.sz_world.specs.Typed.{Fits, AllFit}
-use Rattle.sz_mean.specs.Expressions.{Calls}
-use Rattle.sz_machine.specs.States.{State, After, Goes, Halts, Faults, Stuck}
+use Rattle.sz_world.specs.Operations.{no_messages}
+use Rattle.sz_mean.specs.Expressions.{Calls, Setting, eval}
+use Rattle.sz_machine.specs.States.{Caller, State, After, Goes, Halts, Faults, Stuck}
 use Rattle.sz_machine.specs.Rows.{call}
 use Rattle.sz_machine.specs.Running.{ComesTo}
+use Rattle.sz_gen_expr.specs.Tables.{tables_in}
+use Rattle.sz_gen_expr.specs.ExpressionCode.{expression_code}
+use Rattle.sz_gen_expr.specs.Named.{HasNames}
 
 -- what is known behind an expression of a type: no ticks came back, and its slot has the type
 pub record Kept (before : World) (t : Shape) (x : Slot) (after : World) : Type 0 where
@@ -58,7 +64,38 @@ pub record CallsBelow (code : Code) (signatures : List Signature) (statics : Lis
       → AfterEval code g.result (record s { stack = stack }) (suc s.at) x (calls f place arguments s.world)
       → NextComes code (call r place arguments s stack) x
 
+-- slots have types: for each type the slot with its number is there and has it
+abbrev pub HaveTypes : List Slot → List Shape → Type 0
+HaveTypes slots types = (n : ℕ) (t : Shape) → slice_get types n ≡ Some t → (n < length slots) × Fits (slot_at slots n) t
+
+-- with these locals, statics, record and open calls there is what an expression sees, as the setting has it, and so many more calls may be open
+pub record IsReady (g : Sight) (setting : Setting) (room : ℕ) (locals statics : List Slot) (input : Slot) (callers : List Caller) : Type 0 where
+  pub locals_typed : HaveTypes locals g.locals
+  pub statics_typed : HaveTypes setting.statics g.statics
+  pub statics_same : statics ≡ setting.statics
+  pub input_seen : g.input ≡ true → (input ≡ setting.input) × IsSome setting.input × Fits setting.input Shape.bytes
+  pub room_left : length callers + room ≡ most_open_calls
+
+-- the same in a state
+abbrev pub Ready : Sight → Setting → ℕ → State → Type 0
+Ready g setting room s = IsReady g setting room s.locals s.statics s.input s.callers
+
 -- the lines stand in the code from this place on
 abbrev pub HasAt : List Line → ℕ → List Line → Type 0
 HasAt lines at [] = Unit {0}
 HasAt lines at (l ∷ rest) = (slice_get lines at ≡ Some l) × HasAt lines (suc at) rest
+
+-- the run comes behind code that ends at this line with what an expression gives, its slot on the stack, or to its fault
+abbrev pub Leaves : Code → State → ℕ → Given Slot → Type 0
+Leaves code s end (Gives slot w) = ComesTo code s (Goes (record s { at = end; stack = slot ∷ s.stack; world = w }))
+Leaves code s end (Stops fault) = ComesTo code s (Faults fault)
+
+-- wherever the code of an expression that has its type stands in code with what it names, the run comes behind it with the slot, the ticks
+-- and the emits that the expression gives, or to the expression's fault, in each state where what the expression sees is there. The premise
+-- is that the calls of the machine do what those of the meaning do with fewer ticks left.
+pub record CodeDoesWhatIsMeant : Type 0 where
+  pub runs : (code : Code) (g : Sight) (setting : Setting) (room : ℕ) (e : Node) (s : State)
+      → CallsBelow code g.functions setting.statics room s.world.left setting.calls
+      → setting.decode ≡ no_messages → IsNode g e → HasNames (tables_in code) e → Ready g setting room s
+      → HasAt code.lines s.at (expression_code (tables_in code) e s.at)
+      → Leaves code s (s.at + length (expression_code (tables_in code) e s.at)) (eval setting s.locals e s.world)

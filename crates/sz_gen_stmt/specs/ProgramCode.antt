@@ -8,10 +8,11 @@ use Rattle.sz_instr.specs.declared.line.Line.{Line}
 use Rattle.sz_instr.specs.declared.routine.Routine.{Routine}
 use Rattle.sz_instr.specs.declared.code.Code.{Code}
 use Rattle.sz_mean.specs.Programs.{body_of}
-use Rattle.sz_gen_expr.specs.Tables.{Tables, constant_number, line}
+use Rattle.sz_gen_expr.specs.Tables.{Tables, tables_in, constant_number, line}
 use Rattle.sz_gen_expr.specs.ExpressionCode.{expression_code}
 use Rattle.sz_gen_stmt.specs.StatementCode.{no_exits, statements_code}
 use Rattle.sz_gen_stmt.specs.SearchCode.{free}
+use Rattle.sz_gen_stmt.specs.Named.{ProgramHasNames}
 
 module _ (tables : Tables) where
   -- zero is pushed
@@ -61,11 +62,7 @@ module _ (tables : Tables) where
   abbrev pub record_code : Core → ℕ → List Line
   record_code core at = statements_code tables (body_of core) no_exits at ++ free EndRecord ∷ []
 
--- the tables of code
-abbrev pub tables_in : Code → Tables
-tables_in code = record { constants = code.constants; types = code.types }
-
--- the code is that of the program: functions first, then statics, then the record
+-- the code is that of the program: functions first, then statics, then the record. It has the constants and the types that its lines name.
 pub record IsCodeOf (core : Core) (code : Code) : Type 0 where
   pub lines : code.lines ≡ functions_code (tables_in code) (functions_of core.items) 0
       ++ (statics_code (tables_in code) 0 (statics_of core.items) (length (functions_code (tables_in code) (functions_of core.items) 0))
@@ -78,4 +75,5 @@ pub record IsCodeOf (core : Core) (code : Code) : Type 0 where
     params = 0;
     locals = length core.locals;
   }
+  pub names : ProgramHasNames (tables_in code) core
   pub tables : code.tables ≡ tables_of core.items

@@ -1,7 +1,8 @@
-//! The code of statements and of whole programs, and what it is that code simulates a program, as definitions: nothing here makes
-//! code yet.
+//! The code of statements, made; that of programs, as a definition, and that it does what they mean.
 #![tactic(auto)]
 
+mod generate;
 mod laws;
 
-pub use laws::an_empty_program_has_code;
+pub use generate::{Exits, free, gen_stmt, gen_stmts};
+pub use laws::{an_empty_program_has_code, code_of_a_sound_program_is_compiled};

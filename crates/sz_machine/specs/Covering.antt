@@ -1,9 +1,9 @@
 -- Which states the row of an instruction covers: its operands are there and have types that the row needs, and its numbers lead
 -- to something. In a state that no row covers nothing happens.
-use Rattle.std.specs.Prelude.{◌≡◌, ℕ, ◌<◌, ◌≤◌, ◌*◌, List, [], ◌∷◌, map, length, slice_get, Bool, true, false, not, Option, Some, None, IfSome, IsSome}
+use Rattle.std.specs.Prelude.{◌≡◌, ℕ, ◌<◌, ◌≤◌, ◌*◌, List, [], ◌∷◌, map, length, slice_get, Bool, true, false, not, Option, Some, None, IfSome, IsSome, IsNone}
 use Rattle.sz_types.specs.Data.{Shape}
-use Rattle.sz_types.specs.Rows.{unary_row, binary_row, index_row, slice_row, builtin_row, convert_row}
-use Rattle.sz_types.specs.Conversions.{IsProto}
+use Rattle.sz_types.specs.Rows.{unary_row, binary_row, index_row, slice_row, builtin_row}
+use Rattle.sz_types.specs.Conversions.{converts_to}
 use Rattle.sz_types.specs.Tables.{Declaration}
 use Rattle.sz_types.specs.declared.operator.UnOp.{UnOp}
 use Rattle.sz_types.specs.declared.operator.BinOp.{BinOp}
@@ -65,10 +65,10 @@ HasBinaryRow op x y = (s t u : Shape) × (binary_row op s t ≡ Some u) × Fits 
 abbrev pub HasBuiltinRow : Builtin → List Slot → Type 0
 HasBuiltinRow b xs = (ts : List Shape) × (u : Shape) × (builtin_row b ts ≡ Some u) × AllFit xs ts
 
--- a conversion to a type, which is no message's, has a row for the operand's type
+-- a type of the operand converts to the type
 abbrev pub HasConversion : Option Shape → Slot → Type 0
 HasConversion None x = ⊥
-HasConversion (Some t) x = (IsProto t → ⊥) × ((s u : Shape) × (convert_row s t ≡ Some u) × Fits x s)
+HasConversion (Some t) x = (s : Shape) × (converts_to s t ≡ true) × Fits x s
 
 -- there is a row of indexes for the types of the two
 abbrev pub HasIndexRow : Slot → Slot → Type 0
@@ -135,14 +135,15 @@ abbrev pub HasList : List (List Datum) → Type 0
 HasList [] = ⊥
 HasList (cs ∷ lists) = Unit {0}
 
--- the row of the instruction covers the state
+-- the row of the instruction covers the state. The record is pushed only where there is one, and statics are kept only where there
+-- is none, which is while they are computed.
 abbrev pub Covers : Code → Instr → State → Type 0
 Covers code (Push constant) s = constant < length code.constants
 Covers code (Local n) s = n < length s.locals
 Covers code (Static n) s = n < length s.statics
-Covers code Input s = Unit {0}
+Covers code Input s = IsSome s.input
 Covers code (Keep n) s = (n < length s.locals) × OnOne s.stack Any
-Covers code (KeepStatic n) s = (n < length s.statics) × OnOne s.stack Any
+Covers code (KeepStatic n) s = (n < length s.statics) × OnOne s.stack Any × IsNone s.input
 Covers code (Clear n) s = n < length s.locals
 Covers code (Store n path) s = (n < length s.locals) × StoresInto path (slot_at s.locals n) s.stack
 Covers code (Unary op) s = OnOne s.stack (HasUnaryRow op)

@@ -14,7 +14,7 @@ use Rattle.sz_instr.specs.declared.routine.Routine.{Routine}
 use Rattle.sz_instr.specs.declared.code.Code.{Code}
 use Rattle.sz_world.specs.World.{undefined_used, store_outside, calls_too_deep, most_open_calls}
 use Rattle.sz_world.specs.Slots.{Slot, slot_at, all_defined, fresh}
-use Rattle.sz_world.specs.Operations.{unary_of, binary_of, arity, applied, plainly_converted, array_of, tuple_of, map_of}
+use Rattle.sz_world.specs.Operations.{unary_of, binary_of, arity, applied, converted, no_messages, array_of, tuple_of, map_of}
 use Rattle.sz_world.specs.Operations.{element_of, slice_of, part_of, definedness}
 use Rattle.sz_world.specs.Emits.{EmitParts, emit_of, with_emit}
 use Rattle.sz_world.specs.Candidates.{candidates}
@@ -36,7 +36,7 @@ indexes_in (steps.Field n ∷ path) = indexes_in path
 -- the operand that a conversion to a type leaves
 abbrev pub converted_to : Option Shape → Slot → Slot
 converted_to None x = None
-converted_to (Some t) x = plainly_converted t x
+converted_to (Some t) x = converted no_messages t x
 
 -- the local holds what came of a store, or the store's fault
 abbrev pub after_store : Stored → Place → ℕ → State → List Slot → After

@@ -10,7 +10,7 @@ use Rattle.sz_instr.specs.declared.routine.Routine.{Routine}
 use Rattle.sz_instr.specs.declared.code.Code.{Code}
 use Rattle.sz_world.specs.World.{World, new_world, spend, budget_passed, Outcome, Done, Faulted}
 use Rattle.sz_world.specs.Slots.{Slot, undefined_slots}
-use Rattle.sz_world.specs.Operations.{binary_of, arity, applied, plainly_converted, array_of, tuple_of, map_of, slice_of}
+use Rattle.sz_world.specs.Operations.{binary_of, arity, applied, converted, no_messages, array_of, tuple_of, map_of, slice_of}
 use Rattle.sz_world.specs.Ticks.{result_weight, binary_weight, builtin_weight, conversion_weight}
 use Rattle.sz_world.specs.Emits.{emit_weight}
 use Rattle.sz_machine.specs.States.{State, After, Goes, Halts, Faults, Stuck, faults, entered, popped}
@@ -20,7 +20,7 @@ use Rattle.sz_machine.specs.Covering.{Covers}
 -- what a conversion to a type adds
 abbrev pub conversion_added : Option Shape → Slot → ℕ
 conversion_added None x = 0
-conversion_added (Some t) x = conversion_weight t x (plainly_converted t x)
+conversion_added (Some t) x = conversion_weight t x (converted no_messages t x)
 
 -- the weight that an instruction's result adds to the charge of its line
 abbrev pub weight_added : Code → Instr → List Slot → ℕ

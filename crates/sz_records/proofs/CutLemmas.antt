@@ -6,7 +6,7 @@ use Rattle.sz_records.specs.declared.ending.Ending.{Ending}
 use Rattle.sz_records.specs.declared.limits.FrameLimits.{FrameLimits}
 use Rattle.sz_records.specs.declared.cutter.Cutter.{Cutter}
 use Rattle.sz_records.specs.Cutting.{record_of, stopped, unfinished, at_end, standing, IsCut}
-use Rattle.sz_records.specs.Steps.{IsCutOn, IsSame, IsPassed, IsLeft, CutsFront, CutsOff}
+use Rattle.sz_records.specs.Steps.{IsCutOn, IsSame, IsPassed, IsLeft, Grew, CutsFront, CutsOff}
 use Rattle.sz_records.proofs.StayLemmas.{record_stays}
 
 -- a record in front of a cut
@@ -69,3 +69,7 @@ is_over {old} {now} {new} {bytes} {left} ending s same e over = record {
   };
   over = still_left left ending same over;
 }
+
+-- records were added all along
+pub has_grown : {old now : Cutter} {bytes left : List ℕ} {before mid after : List (List ℕ)} → CutsFront old now bytes left before mid → after ≡ mid → Grew before after
+has_grown s e = (s.given, e ∙ s.gained)

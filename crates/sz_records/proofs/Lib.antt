@@ -4,3 +4,6 @@ pub mod VarintLemmas
 pub mod StayLemmas
 pub mod CutLemmas
 pub mod FedLemmas
+pub mod CutLaws
+pub mod ScanLemmas
+pub mod ShardLemmas

@@ -78,3 +78,9 @@ unfoldable pub IsCut : Frame → FrameLimits → ℕ → ℕ → List ℕ → Li
 IsCut frame limits p n bytes [] e = EndsHere frame p bytes e (standing frame limits p n bytes)
 IsCut frame limits p n bytes (first ∷ others) e =
     BeginsWith frame p bytes (λ size. IsCut frame limits (p + size) (n + 1) (drop size bytes) others e) first others e (standing frame limits p n bytes)
+
+-- the way in which the rest of a file is cut
+pub record HasCut (frame : Frame) (limits : FrameLimits) (p n : ℕ) (bytes : List ℕ) : Type 0 where
+  pub records : List (List ℕ)
+  pub ending : Ending
+  pub cut : IsCut frame limits p n bytes records ending

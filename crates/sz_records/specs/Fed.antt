@@ -3,10 +3,15 @@ use Rattle.std.specs.Prelude.{◌≡◌, ℕ, List, [], ◌++◌, Option, Some, 
 use Rattle.sz_types.specs.declared.frame.Frame.{Frame}
 use Rattle.sz_records.specs.declared.cutter.Cutter.{Cutter}
 use Rattle.sz_records.specs.declared.ending.Ending.{Ending}
-use Rattle.sz_records.specs.declared.framer.Framer.{Framer}
 use Rattle.sz_records.specs.declared.limits.FrameLimits.{FrameLimits}
 use Rattle.sz_records.specs.Cutting.{unfinished, IsCut}
-use Rattle.sz_records.specs.Steps.{stands, IsCutOn}
+use Rattle.sz_records.specs.Steps.{stands, IsCutOn, CutsOff}
+
+-- what a contract sees of a framer: where it cuts, the bytes that it holds back, and the ending where that is known
+pub record FramerData : Type 0 where
+  pub cutter : Cutter
+  pub held : List ℕ
+  pub ended : Option Ending
 
 -- these are the bytes of the rest of the file: behind those that are held back they are cut so, or nothing is cut any more
 abbrev pub IsCutBehind : Cutter → List ℕ → Option Ending → List ℕ → List (List ℕ) → Ending → Type 0
@@ -14,15 +19,15 @@ IsCutBehind cutter held None more rs e = IsCutOn cutter (held ++ more) rs e
 IsCutBehind cutter held (Some why) more rs e = (rs ≡ []) × (e ≡ why)
 
 -- the rest of the file is cut so by this framer
-abbrev pub IsCutBy : Framer → List ℕ → List (List ℕ) → Ending → Type 0
-IsCutBy framer more rs e = IsCutBehind framer.cutter framer.held.items framer.ended more rs e
+abbrev pub IsCutBy : FramerData → List ℕ → List (List ℕ) → Ending → Type 0
+IsCutBy framer more rs e = IsCutBehind framer.cutter framer.held framer.ended more rs e
 
 -- no whole record is held back
-abbrev pub IsOpen : Framer → Type 0
-IsOpen framer = framer.ended ≡ None → stands framer.cutter framer.held.items ≡ unfinished
+abbrev pub IsOpen : FramerData → Type 0
+IsOpen framer = framer.ended ≡ None → stands framer.cutter framer.held ≡ unfinished
 
 -- the framer was fed these bytes and gave these records: however the file goes on, what is still cut of it goes on that
-pub record HasRead (frame : Frame) (limits : FrameLimits) (framer : Framer) (fed : List ℕ) (given : List (List ℕ)) : Type 0 where
+pub record HasRead (frame : Frame) (limits : FrameLimits) (framer : FramerData) (fed : List ℕ) (given : List (List ℕ)) : Type 0 where
   pub goes_on : (more : List ℕ) (rs : List (List ℕ)) (e : Ending) → IsCutBy framer more rs e → IsCut frame limits 0 0 (fed ++ more) (given ++ rs) e
   pub nothing_whole : IsOpen framer
 
@@ -31,7 +36,7 @@ abbrev pub Fixes : Frame → FrameLimits → List ℕ → List (List ℕ) → En
 Fixes frame limits fed given e = (more : List ℕ) → IsCut frame limits 0 0 (fed ++ more) given e
 
 -- a piece was fed, and records were added: the records of a file whose bytes so far are those and the piece
-pub record Adds (frame : Frame) (limits : FrameLimits) (framer : Framer) (fed : List ℕ) (given before after : List (List ℕ))
+pub record Adds (frame : Frame) (limits : FrameLimits) (framer : FramerData) (fed : List ℕ) (given before after : List (List ℕ))
     (ended : Option Ending) : Type 0 where
   pub added : List (List ℕ)
   pub gained : after ≡ before ++ added
@@ -39,7 +44,7 @@ pub record Adds (frame : Frame) (limits : FrameLimits) (framer : Framer) (fed : 
   pub fixed : (e : Ending) → ended ≡ Some e → Fixes frame limits fed (given ++ added) e
 
 -- the piece is read, whatever was read before it
-abbrev pub Feeds : Framer → Framer → List ℕ → List (List ℕ) → List (List ℕ) → Option Ending → Type 0
+abbrev pub Feeds : FramerData → FramerData → List ℕ → List (List ℕ) → List (List ℕ) → Option Ending → Type 0
 Feeds old new piece before after ended = (frame : Frame) (limits : FrameLimits) (fed : List ℕ) (given : List (List ℕ))
     → HasRead frame limits old fed given → Adds frame limits new (fed ++ piece) given before after ended
 
@@ -50,6 +55,12 @@ pub record Closes (frame : Frame) (limits : FrameLimits) (file : List ℕ) (give
   pub cut : IsCut frame limits 0 0 file (given ++ added) e
 
 -- the file that was read ends here
-abbrev pub Finishes : Framer → List (List ℕ) → List (List ℕ) → Ending → Type 0
+abbrev pub Finishes : FramerData → List (List ℕ) → List (List ℕ) → Ending → Type 0
 Finishes old before after e = (frame : Frame) (limits : FrameLimits) (fed : List ℕ) (given : List (List ℕ))
     → HasRead frame limits old fed given → Closes frame limits fed given before after e
+
+-- the whole records in what was held were cut off, and what is left is held, where the ending isn't known
+pub record CutsHeld (old new : FramerData) (before after : List (List ℕ)) : Type 0 where
+  pub left : List ℕ
+  pub cut : CutsOff old.cutter new.cutter old.held left before after new.ended
+  pub held : new.ended ≡ None → new.held ≡ left

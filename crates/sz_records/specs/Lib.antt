@@ -3,6 +3,6 @@ pub mod Held
 pub mod Cutting
 pub mod Steps
 pub mod Fed
+pub mod Shards
 -- what the functions inside the crate promise each other
 pub mod Fronts
-pub mod Taken

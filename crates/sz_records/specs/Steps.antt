@@ -1,10 +1,12 @@
 -- What cutting promises inside the crate.
 use Rattle.std.specs.Prelude.{◌≡◌, ℕ, ◌+◌, ◌<◌, ◌≤◌, List, [], ◌∷◌, ◌++◌, length, Option, Some, None}
+use Rattle.sz_types.specs.declared.frame.Frame.{Frame}
+use Rattle.sz_types.specs.declared.frame.Frame.TheVariants.{Lines}
 use Rattle.sz_records.specs.declared.cutter.Cutter.{Cutter}
 use Rattle.sz_records.specs.declared.cutter.Step.{Step}
 use Rattle.sz_records.specs.declared.cutter.Step.TheVariants as steps
 use Rattle.sz_records.specs.declared.ending.Ending.{Ending}
-use Rattle.sz_records.specs.Cutting.{Standing, record_of, stopped, unfinished, standing, IsCut}
+use Rattle.sz_records.specs.Cutting.{Standing, record_of, stopped, unfinished, line_len, standing, IsCut}
 
 -- what stands at the front of these bytes
 abbrev pub stands : Cutter → List ℕ → Standing
@@ -41,6 +43,14 @@ abbrev pub IsStep : Cutter → Cutter → List ℕ → List (List ℕ) → List 
 IsStep old new bytes before after (steps.Passed size) = IsPassed old new bytes before after size
 IsStep old new bytes before after (steps.Stopped e) = IsSame old new × (stands old bytes ≡ stopped e) × (after ≡ before)
 IsStep old new bytes before after steps.Unfinished = IsSame old new × (stands old bytes ≡ unfinished) × (after ≡ before)
+
+-- records were added
+abbrev pub Grew : List (List ℕ) → List (List ℕ) → Type 0
+Grew before after = (added : List (List ℕ)) × (after ≡ before ++ added)
+
+-- where records are lines, the first bytes are no newlines
+abbrev pub IsScanned : Frame → List ℕ → ℕ → Type 0
+IsScanned frame bytes scanned = frame ≡ Lines → scanned ≤ line_len bytes
 
 -- what stands at the front of what is left, where cutting is over
 abbrev pub IsLeft : Cutter → List ℕ → Option Ending → Type 0

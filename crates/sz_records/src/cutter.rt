@@ -1,10 +1,10 @@
 //! Cuts whole records off the front of bytes.
 
-ghost use Rattle.std.specs.Prelude.{◌≡◌, ◌≤◌, drop, length, OnOk, IfOk};
+ghost use Rattle.std.specs.Prelude.{◌≡◌, ◌≤◌, drop, length, OnErr, IfOk};
 
 use crate::NoMemory;
 use crate::ending::Ending;
-use crate::front::{Front, found_at};
+use crate::front::{Front, found_at, rest};
 use crate::limits::FrameLimits;
 use crate::records::Records;
 use std::alloc::Global;
@@ -34,21 +34,29 @@ pub(crate) enum Step {
     Unfinished,
 }
 
-pub(crate) fn rest(bytes: &[u8], at: usize) -> &[u8]
-    requires { at ≤ length bytes.now }
-    ensures { result.now ≡ drop at bytes.now }
-{
-    &bytes[at..]
-}
-
 impl Cutter {
-    ghost use Rattle.sz_records.specs.Steps.{IsStep, CutsOff};
+    ghost use Rattle.sz_records.specs.Steps.{IsStep, CutsOff, IsScanned, Grew};
 
     // Cuts off the record at the front, if it is whole.
-    fn step(&mut self, alloc: Global, bytes: &[u8], into: &mut Records) -> Result<Step, NoMemory>
-        ensures { IfOk result (λ step. IsStep self.old self.new bytes.now into.old into.new step) }
+    fn step(
+        &mut self,
+        alloc: Global,
+        bytes: &[u8],
+        scanned: usize,
+        into: &mut Records,
+    ) -> Result<Step, NoMemory>
+        requires scanned { IsScanned self.old.frame bytes.now scanned }
+        ensures err { OnErr result (into.new ≡ into.old) }
+        ensures step { IfOk result (λ step. IsStep self.old self.new bytes.now into.old into.new step) }
     {
-        match found_at(self.frame, self.limits, self.place, self.count, bytes) {
+        match found_at(
+            self.frame,
+            self.limits,
+            self.place,
+            self.count,
+            bytes,
+            scanned,
+        ) {
             Front::Record(from, to, size) => {
                 into.push(alloc, &bytes[from..to])?;
                 self.place += size as u64;
@@ -60,20 +68,29 @@ impl Cutter {
         }
     }
 
-    /// Cuts off the records at the front that are whole: how many bytes they take, and the ending if it is known then.
+    #[tactic(auto, using(crate::proofs::CutLemmas::has_grown, crate::proofs::ScanLemmas::none_scanned))]
+    /// Cuts off the records at the front that are whole: how many bytes they take, and the ending if it is known then. Where
+    /// records are lines, the first `scanned` bytes are no newlines.
     pub(crate) fn cut(
         &mut self,
         alloc: Global,
         bytes: &[u8],
+        scanned: usize,
         into: &mut Records,
     ) -> Result<(usize, Option<Ending>), NoMemory>
+        requires scanned { IsScanned self.old.frame bytes.now scanned }
         ensures cut { IfOk result (λ r. CutsOff self.old self.new bytes.now (drop r.0 bytes.now) into.old into.new r.1) }
         ensures within { IfOk result (λ r. r.0 ≤ length bytes.now) }
+        ensures err { OnErr result (Grew into.old into.new) }
     {
         let mut at = 0;
+        let mut known = scanned;
         loop {
-            match self.step(alloc, rest(bytes, at), into)? {
-                Step::Passed(size) => at += size,
+            match self.step(alloc, rest(bytes, at), known, into)? {
+                Step::Passed(size) => {
+                    at += size;
+                    known = 0;
+                }
                 Step::Stopped(ending) => return Ok((at, Some(ending))),
                 Step::Unfinished => return Ok((at, None)),
             }

@@ -1,16 +1,15 @@
 //! Records of a file that comes in pieces.
 
-ghost use Rattle.std.specs.Prelude.{◌≡◌, ◌<◌, ◌≤◌, [], None, take, drop, length, IfOk};
+ghost use Rattle.std.specs.Prelude.{◌≡◌, ◌≤◌, ◌++◌, [], None, drop, length, IfOk, OnOk, OnErr};
 
 use crate::NoMemory;
-use crate::cutter::{Cutter, rest};
+use crate::cutter::Cutter;
 use crate::ending::Ending;
 use crate::limits::FrameLimits;
 use crate::records::Records;
-use memchr::memchr;
 use std::alloc::Global;
+use std::marker::Model;
 use sz_types::Frame;
-use sz_wire::read_varint;
 
 /// Cuts a file that comes in pieces into records.
 ///
@@ -20,20 +19,29 @@ pub struct Framer {
     alloc: Global,
     cutter: Cutter,
     held: Vec<u8>,
+    /// Where records are lines, so many of the bytes that are held back are known to be no newlines.
+    scanned: usize,
     ended: Option<Ending>,
 }
 
-fn front(bytes: &[u8], len: usize) -> &[u8]
-    requires { len ≤ length bytes.now }
-    ensures { result.now ≡ take len bytes.now }
-{
-    &bytes[..len]
+impl Model for Framer {
+    ghost use Rattle.sz_records.specs.Fed.{FramerData};
+    ghost use Rattle.sz_records.specs.Steps.{IsScanned};
+
+    ghost Value = { FramerData };
+
+    ghost view = { λ framer. record { cutter = framer.cutter; held = framer.held.items; ended = framer.ended } };
+
+    ghost invariant = { λ framer. IsScanned framer.cutter.frame framer.held.items framer.scanned };
 }
 
 fn drop_front(held: &mut Vec<u8>, len: usize)
     requires { len ≤ length held.old.items }
     ensures { held.new.items ≡ drop len held.old.items }
 {
+    if len == 0 {
+        return;
+    }
     let left = held.len() - len;
     if left == 0 {
         held.clear();
@@ -43,36 +51,8 @@ fn drop_front(held: &mut Vec<u8>, len: usize)
     }
 }
 
-// How many bytes of a piece the record in hand lacks, as far as that is known: one or more.
-fn lacks(frame: Frame, held: &[u8], piece: &[u8]) -> usize
-    requires { 0 < length piece.now }
-    ensures some { 0 < result }
-    ensures within { result ≤ length piece.now }
-{
-    match frame {
-        Frame::Lines => match memchr(b'\n', piece) {
-            Some(at) => at + 1,
-            None => piece.len(),
-        },
-        Frame::Delimited => match read_varint(held, 0) {
-            Ok((len, from)) => {
-                let missing = len.saturating_sub((held.len() - from) as u64);
-                if missing > piece.len() as u64 {
-                    piece.len()
-                } else if missing == 0 {
-                    1
-                } else {
-                    missing as usize
-                }
-            }
-            Err(_) => 1,
-        },
-    }
-}
-
 impl Framer {
-    ghost use Rattle.sz_records.specs.Fed.{HasRead, Feeds, Finishes};
-    ghost use Rattle.sz_records.specs.Taken.{TakesIn};
+    ghost use Rattle.sz_records.specs.Fed.{HasRead, Feeds, Finishes, CutsHeld};
 
     /// A framer at the beginning of a file. It takes no memory.
     pub fn new(alloc: Global, frame: Frame, limits: FrameLimits) -> Framer
@@ -88,78 +68,78 @@ impl Framer {
             alloc,
             cutter,
             held: Vec::new(alloc),
+            scanned: 0,
             ended: None,
         }
     }
 
-    // Takes in a piece where nothing is held back.
-    fn take_piece(&mut self, piece: &[u8], into: &mut Records) -> Result<usize, NoMemory>
-        requires ended { self.old.ended ≡ None }
-        requires held { self.old.held.items ≡ [] }
-        ensures taken { IfOk result (λ n. TakesIn self.old self.new (take n piece.now) into.old into.new) }
-        ensures all { IfOk result (λ n. n ≡ length piece.now) }
+    // Cuts off the records that are whole in what is held.
+    #[tactic(auto, using(crate::proofs::FedLemmas::cuts_held, crate::proofs::ScanLemmas::all_scanned, crate::proofs::ScanLemmas::none_scanned))]
+    fn cut_held(&mut self, into: &mut Records) -> Result<(), NoMemory>
+        ensures ok { OnOk result (CutsHeld self.old self.new into.old into.new) }
+        ensures err { OnErr result ((self.new ≡ self.old) × (into.new ≡ into.old)) }
     {
-        let (at, ended) = self.cutter.cut(self.alloc, piece, into)?;
-        self.ended = ended;
-        if ended.is_none() {
-            self.held.extend_from_slice(rest(piece, at))?;
+        let cutter = self.cutter;
+        let count = into.len();
+        match self
+            .cutter
+            .cut(self.alloc, self.held.as_slice(), self.scanned, into)
+        {
+            Ok((at, ended)) => {
+                drop_front(&mut self.held, at);
+                self.scanned = if ended.is_none() { self.held.len() } else { 0 };
+                self.ended = ended;
+                Ok(())
+            }
+            Err(error) => {
+                self.cutter = cutter;
+                into.truncate(count);
+                Err(error)
+            }
         }
-        Ok(piece.len())
     }
 
-    // Takes in of a piece what the record in hand lacks.
-    fn take_missing(&mut self, piece: &[u8], into: &mut Records) -> Result<usize, NoMemory>
-        requires ended { self.old.ended ≡ None }
-        requires some { 0 < length piece.now }
-        ensures taken { IfOk result (λ n. TakesIn self.old self.new (take n piece.now) into.old into.new) }
-        ensures some { IfOk result (λ n. 0 < n) }
-        ensures within { IfOk result (λ n. n ≤ length piece.now) }
+    // Takes in a piece, where the ending isn't known.
+    #[tactic(auto, using(crate::proofs::FedLemmas::feeds_cut, crate::proofs::ScanLemmas::scanned_longer, crate::proofs::ScanLemmas::none_scanned))]
+    fn take_in(&mut self, piece: &[u8], into: &mut Records) -> Result<Option<Ending>, NoMemory>
+        requires { self.old.ended ≡ None }
+        ensures fed { IfOk result (λ ended. Feeds self.old self.new piece.now into.old into.new ended) }
+        ensures known { IfOk result (λ ended. ended ≡ self.new.ended) }
+        ensures err { OnErr result ((self.new ≡ self.old) × (into.new ≡ into.old)) }
     {
-        let len = lacks(self.cutter.frame, self.held.as_slice(), piece);
-        self.held.extend_from_slice(front(piece, len))?;
-        let (at, ended) = self.cutter.cut(self.alloc, self.held.as_slice(), into)?;
-        self.ended = ended;
-        drop_front(&mut self.held, at);
-        Ok(len)
-    }
-
-    // Takes in some bytes of a piece, or passes over all of it where the ending is known.
-    #[tactic(auto, using(crate::proofs::FedLemmas::takes_ignored))]
-    fn take_in(&mut self, piece: &[u8], into: &mut Records) -> Result<usize, NoMemory>
-        requires { 0 < length piece.now }
-        ensures taken { IfOk result (λ n. TakesIn self.old self.new (take n piece.now) into.old into.new) }
-        ensures some { IfOk result (λ n. 0 < n) }
-        ensures within { IfOk result (λ n. n ≤ length piece.now) }
-    {
-        if self.ended.is_some() {
-            return Ok(piece.len());
-        }
-        if self.held.is_empty() {
-            self.take_piece(piece, into)
-        } else {
-            self.take_missing(piece, into)
+        let held = self.held.len();
+        self.held.extend_from_slice(piece)?;
+        match self.cut_held(into) {
+            Ok(()) => Ok(self.ended),
+            Err(error) => {
+                self.held.truncate(held);
+                self.scanned = 0;
+                Err(error)
+            }
         }
     }
 
     /// Takes the next piece of the file, and adds the records that are now whole.
     ///
     /// The answer is the ending where the bytes so far have fixed it, as `Damaged` or `Limit`. From then on no piece changes
-    /// anything, and the answer stays the same.
+    /// anything, and the answer stays the same. Where there is no memory the piece isn't taken.
+    #[tactic(auto, using(crate::proofs::FedLemmas::feeds_ended))]
     pub fn feed(&mut self, piece: &[u8], into: &mut Records) -> Result<Option<Ending>, NoMemory>
         ensures fed { IfOk result (λ ended. Feeds self.old self.new piece.now into.old into.new ended) }
         ensures known { IfOk result (λ ended. ended ≡ self.new.ended) }
+        ensures err { OnErr result ((self.new ≡ self.old) × (into.new ≡ into.old)) }
     {
-        let mut at = 0;
-        while at < piece.len() {
-            at += self.take_in(rest(piece, at), into)?;
+        match self.ended {
+            Some(ending) => Ok(Some(ending)),
+            None => self.take_in(piece, into),
         }
-        Ok(self.ended)
     }
 
     // The ending of the file, where it wasn't known before its end.
     fn close(&mut self, into: &mut Records) -> Result<Ending, NoMemory>
         requires { self.old.ended ≡ None }
-        ensures { IfOk result (λ e. Finishes self.old into.old into.new e) }
+        ensures finished { IfOk result (λ e. Finishes self.old into.old into.new e) }
+        ensures err { OnErr result ((self.new ≡ self.old) × (into.new ≡ into.old)) }
     {
         if self.held.is_empty() {
             return Ok(Ending::Whole);
@@ -175,9 +155,10 @@ impl Framer {
 
     /// The ending of the file, of which no more bytes come. A last line without its newline is added.
     ///
-    /// No call comes after this one.
+    /// No call comes after this one, but another try where there was no memory.
     pub fn finish(&mut self, into: &mut Records) -> Result<Ending, NoMemory>
         ensures finished { IfOk result (λ e. Finishes self.old into.old into.new e) }
+        ensures err { OnErr result ((self.new ≡ self.old) × (into.new ≡ into.old)) }
     {
         match self.ended {
             Some(ending) => Ok(ending),

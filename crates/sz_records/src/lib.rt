@@ -5,14 +5,18 @@ mod cutter;
 mod ending;
 mod framer;
 mod front;
+mod laws;
 mod limits;
 mod records;
+mod shard;
 #[cfg(test)]
 mod tests;
 
 pub use ending::Ending;
 pub use framer::Framer;
+pub use laws::{each_file_is_cut_once, records_are_few};
 pub use limits::FrameLimits;
 pub use records::Records;
+pub use shard::{shard_end, shards_are_unique};
 /// There was no memory: the one answer of each call that takes memory which no clause speaks of.
 pub use std::alloc::AllocError as NoMemory;

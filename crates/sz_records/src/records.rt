@@ -1,5 +1,5 @@
 //! Records that were cut from a file.
-ghost use Rattle.std.specs.Prelude.{◌≡◌, ◌==◌, ◌<◌, ◌≤◌, ◌++◌, ◌∷◌, [], length, drop, slice_get, OnOk, Some};
+ghost use Rattle.std.specs.Prelude.{◌≡◌, ◌==◌, ◌<◌, ◌≤◌, ◌++◌, ◌∷◌, [], length, take, drop, slice_get, OnOk, OnErr, Some};
 
 use crate::NoMemory;
 use std::alloc::Global;
@@ -65,9 +65,17 @@ impl Records {
         self.held.truncate(left);
     }
 
+    /// Keeps so many records at the front.
+    pub(crate) fn truncate(&mut self, count: usize)
+        ensures value { self.new ≡ take count self.old }
+    {
+        self.held.truncate(count);
+    }
+
     /// Adds a copy of these bytes as a record.
     pub(crate) fn push(&mut self, alloc: Global, bytes: &[u8]) -> Result<(), NoMemory>
         ensures value { OnOk result (self.new ≡ self.old ++ bytes.now ∷ []) }
+        ensures err { OnErr result (self.new ≡ self.old) }
     {
         let copy = Vec::from_slice(alloc, bytes)?;
         self.held.push(copy)?;

@@ -164,3 +164,48 @@ fn cleared_records_leave_the_others(rt: HostRuntime) -> Result<(), Fail> {
     assert_eq!(rt; found.as_str(), "[98] [99] Whole");
     Ok(())
 }
+
+// Records of these lengths.
+fn of_lengths(alloc: Global, lengths: &[usize]) -> Result<Records, NoMemory> {
+    let mut records = Records::new(alloc);
+    for len in lengths {
+        let bytes = vec![in alloc; 7u8; *len]?;
+        records.push(alloc, bytes.as_slice())?;
+    }
+    Ok(records)
+}
+
+// In each row stand where a shard begins, how many records it may have, whether no more come, and where it ends.
+fn ends_hold(rt: &impl Abort, records: &Records, rows: &[(usize, u32, bool, Option<usize>)]) {
+    for row in rows {
+        let (from, most, at_end, end) = *row;
+        assert!(rt; most >= 1);
+        let found = shard_end(records, from, most, at_end);
+        assert_eq!(rt; found, end, "from {from}, {most}, {at_end}");
+    }
+}
+
+#[test]
+fn shards_end_at_a_count_or_with_the_bytes(rt: HostRuntime) -> Result<(), Fail> {
+    let few = of_lengths(rt.alloc(), &[0, 1, 0, 2, 3])?;
+    let rows = [
+        (0, 2, false, Some(2)),
+        (2, 3, false, Some(5)),
+        (3, 3, false, None),
+        (3, 3, true, Some(5)),
+        (5, 1, true, None),
+        (6, 1, false, None),
+    ];
+    ends_hold(&rt, &few, &rows);
+    let quarter = 4_194_304;
+    let heavy = of_lengths(rt.alloc(), &[1, quarter, quarter, quarter, quarter, 1])?;
+    let rows = [
+        (0, 1000, false, Some(5)),
+        (1, 1000, false, Some(5)),
+        (2, 1000, false, None),
+        (2, 1000, true, Some(6)),
+        (0, 3, false, Some(3)),
+    ];
+    ends_hold(&rt, &heavy, &rows);
+    Ok(())
+}

@@ -55,13 +55,13 @@ arity Keys = 1
 arity HasKey = 2
 arity StrFind = 2
 
--- what a slot becomes by a conversion to a type that is no message's
-abbrev pub plainly_converted : Shape → Slot → Slot
-plainly_converted t x = option_and_then (λ d. convert d t) x
-
 -- what messages mean: the value that bytes are as a message with these fields, if they are one
 abbrev pub Decoding : Type 0
 Decoding = FieldShapes → List ℕ → Option Datum
+
+-- no bytes are a message: so it is as long as messages aren't decoded
+abbrev pub no_messages : Decoding
+no_messages _ _ = None
 
 -- what a value becomes by a conversion to a type: bytes that become a message are decoded
 abbrev pub became : Decoding → Shape → Datum → Option Datum

@@ -1,16 +1,20 @@
-use Rattle.std.proofs.Common.{◌≡◌, ◌∷◌, ◌++◌, map, sym, ap, ◌∙◌, arith}
+use Rattle.std.proofs.Common.{◌≡◌, ◌∷◌, ◌++◌, Some, map, sym, ap, subst, ◌∙◌, arith}
 use Rattle.std.proofs.lemmas.Result.{err_from_is_err_and}
-use Rattle.sz_core.specs.View.{stm_of as core_stm_of}
+use Rattle.sz_core.specs.View.{node_of, stm_of as core_stm_of}
 use Rattle.sz_tree.specs.Statements.{stms_of}
 use Rattle.sz_tree.specs.View.{tree_of, stm_of}
+use Rattle.sz_known.specs.Outcome.{Stops, Judges}
 use Rattle.sz_tree.proofs.RowLemmas.{stm_of_block}
 use Rattle.sz_check.specs.JudgingStatements.{judge_stm}
 use Rattle.sz_known.specs.Holding.{Held, scene_of}
-use Rattle.sz_check.specs.Behind.{around_of, behind_of}
+use Rattle.sz_check.specs.Behind.{around_of, behind_of, judge_else}
 use Rattle.sz_known.proofs.TurnLemmas.{map_push, judged_as}
 use Rattle.sz_check.proofs.StatementLoops.{stms_fail, stms_go, stms_end}
 use Rattle.sz_check.proofs.StatementParts.{inside_made, inside_stops, block_made, block_stops, for_first_stops, for_turns_stop, for_made}
-use Rattle.sz_check.proofs.StatementParts.{while_stops}
+use Rattle.sz_check.proofs.StatementParts.{while_stops, else_test_stops, else_part_stops, else_goes_on, other_stops}
+use borrow.Enum.Known.{ValuesAt}
+use borrow.Enum.Total.{values_d, values_d_at}
+use Rattle.sz_tree.specs.contracts.stmt.Stmt.{enum}
 use Rattle.sz_check.proofs.stmt.+stmt.Goals as goal
 
 pub judge_stms-returns-in_err-statement-clause-value : goal.judge_stms-returns-in_err-statement-clause-value
@@ -114,3 +118,62 @@ judge_while-returns-in_err-test-clause-value t c =
     rw (p.1, p.2)
     (while_stops (around_of c.args.around) _ (scene_of c.args.known.now) c.args.place (tree_of c.args.condition.now) (stm_of c.args.body.now) _ _
     c.in_err-test.field-0.0 (ap around_of c.inside_loop.ensures.value) c.in_ok-node.ensures.value c.in_ok-body.ensures.value c.in_err-test.ensures.value)
+
+-- ---- an `if` with another part
+
+pub judge_else-returns-in_err-other-clause-value : goal.judge_else-returns-in_err-other-clause-value
+judge_else-returns-in_err-other-clause-value t c =
+    let p = err_from_is_err_and c.from_residual.result c.from_residual.ensures.1 in
+    rw (p.1, p.2)
+    (other_stops (around_of c.args.around) (scene_of c.args.known.now) c.args.place (tree_of c.args.condition.now) (node_of c.args.node)
+    (core_stm_of c.args.taken) (stm_of c.args.other.now) c.in_err-other.field-0.0 c.in_err-other.ensures.value)
+
+pub judge_stm-returns-in_err-node-in-If-default-default-default-Some-clause-value :
+    goal.judge_stm-returns-in_err-node-in-If-default-default-default-Some-clause-value
+judge_stm-returns-in_err-node-in-If-default-default-default-Some-clause-value t c =
+    let arm = c.in-If-default-default-default-Some in
+    let p = err_from_is_err_and c.from_residual.result c.from_residual.ensures.1 in
+    let e = c.in_err-node-in-If-default-default-default-Some.field-0.0 in
+    let other : arm.field-3 ≡ Some arm.other =
+    sym (ap (λ (v : ValuesAt enum.parts 9). v.1.1.1.0) (ap (values_d enum 9 _) arm.is ∙ values_d_at enum 9 _ _)) ∙ arm.field-3-is in
+    let is = rw other at arm.is in
+    rw (p.1, p.2) (subst (λ (s : _). Stops e (judge_stm (around_of c.args.around) (scene_of c.args.known.now) (stm_of s))) (sym is)
+    (else_test_stops (around_of c.args.around) (scene_of c.args.known.now) arm.place (tree_of arm.test) (stm_of arm.taken.value)
+    (stm_of arm.other.value) e c.in_err-node-in-If-default-default-default-Some.ensures.value))
+
+pub judge_stm-returns-in_err-taken-in-If-default-default-default-Some-clause-value :
+    goal.judge_stm-returns-in_err-taken-in-If-default-default-default-Some-clause-value
+judge_stm-returns-in_err-taken-in-If-default-default-default-Some-clause-value t c =
+    let arm = c.in-If-default-default-default-Some in
+    let r = c.from_residual-in_err-taken-in-If-default-default-default-Some in
+    let p = err_from_is_err_and r.result r.ensures.1 in
+    let e = c.in_err-taken-in-If-default-default-default-Some.field-0.0 in
+    let other : arm.field-3 ≡ Some arm.other =
+    sym (ap (λ (v : ValuesAt enum.parts 9). v.1.1.1.0) (ap (values_d enum 9 _) arm.is ∙ values_d_at enum 9 _ _)) ∙ arm.field-3-is in
+    let is = rw other at arm.is in
+    rw (p.1, p.2) (subst (λ (s : _). Stops e (judge_stm (around_of c.args.around) (scene_of c.args.known.now) (stm_of s))) (sym is)
+    (else_part_stops (around_of c.args.around) (scene_of c.args.known.now) arm.place (tree_of arm.test) (stm_of arm.taken.value)
+    (stm_of arm.other.value) (node_of c.in_ok-node-in-If-default-default-default-Some.node) e
+    c.in_ok-node-in-If-default-default-default-Some.ensures.value
+    (rw c.deref-in-If-default-default-default-Some.ensures at c.in_err-taken-in-If-default-default-default-Some.ensures.value)))
+
+pub judge_stm-returns-in_ok-taken-in-If-default-default-default-Some-clause-value :
+    goal.judge_stm-returns-in_ok-taken-in-If-default-default-default-Some-clause-value
+judge_stm-returns-in_ok-taken-in-If-default-default-default-Some-clause-value t c =
+    let arm = c.in-If-default-default-default-Some in
+    let other : arm.field-3 ≡ Some arm.other =
+    sym (ap (λ (v : ValuesAt enum.parts 9). v.1.1.1.0) (ap (values_d enum 9 _) arm.is ∙ values_d_at enum 9 _ _)) ∙ arm.field-3-is in
+    let is = rw other at arm.is in
+    let goes = else_goes_on (around_of c.args.around) (scene_of c.args.known.now) arm.place (tree_of arm.test) (stm_of arm.taken.value)
+    (stm_of arm.other.value) (node_of c.in_ok-node-in-If-default-default-default-Some.node)
+    (behind_of c.judge_inside.new.known c.in_ok-taken-in-If-default-default-default-Some.taken)
+    c.in_ok-node-in-If-default-default-default-Some.ensures.value
+    (rw c.deref-in-If-default-default-default-Some.ensures at c.in_ok-taken-in-If-default-default-default-Some.ensures.value) in
+    let judged = subst (λ (u : _). Judges (λ s. behind_of c.judge_else.new.known s) c.judge_else.result
+    (judge_else (around_of c.args.around) (scene_of c.judge_inside.new.known) arm.place (tree_of arm.test)
+    (node_of c.in_ok-node-in-If-default-default-default-Some.node) (core_stm_of c.in_ok-taken-in-If-default-default-default-Some.taken) (stm_of u)))
+    c.deref-in-If-default-default-default-Some-2.ensures c.judge_else.ensures.value in
+    subst (λ (tree : _). Judges (λ s. behind_of c.judge_else.new.known s) c.judge_else.result
+    (judge_stm (around_of c.args.around) (scene_of c.args.known.now) (stm_of tree))) (sym is)
+    (subst (λ j. Judges (λ s. behind_of c.judge_else.new.known s) c.judge_else.result j) (sym goes)
+    (rw arm.field-3-is at judged))

@@ -4,7 +4,7 @@ use Rattle.sz_book.specs.declared.event.Event.TheVariants.{Died}
 use Rattle.sz_book.specs.declared.event.Reply.TheVariants.{Noted}
 use Rattle.sz_claims.specs.Rule.{deaths_at}
 use Rattle.sz_claims.specs.Moves.{Moves}
-use Rattle.sz_claims.proofs.MoveLemmas.{died_moves}
+use Rattle.sz_claims.proofs.ShardLemmas.{died_moves}
 use Rattle.sz_claims.proofs.ledger.death.Goals as goal
 
 pub mark-requires-clause-may : goal.mark-requires-clause-may
@@ -13,5 +13,12 @@ mark-requires-clause-may g c =
     let lanes = c.args.shared.now.key.lanes in
     let v = c.args.seat.now.me.0 in
     let small : c.args.number < 64 = (let s = c.requires.small in omega arith) in
-    let P : ℕ → Type 0 = λ m. Moves v (deaths_at c.args.claim.now.shard) (λ n. bit_or n m) (Died c.args.claim.now c.args.number) (λ n. Noted) p lanes in
-    record { live = c.requires.live; plain = tt; report = c.requires.died; moves = subst P (sym (one_shl c.args.number 64 small)) (died_moves p lanes v c.args.claim.now c.args.number c.requires.drew c.requires.given) }
+    let P : ℕ → Type 0 = λ m. Moves v (deaths_at c.args.claim.now.shard) (λ n. bit_or n m) (Died c.args.claim.now c.args.number)
+    (λ n. Noted) p lanes in
+    record {
+      live = c.requires.live;
+      plain = tt;
+      report = c.requires.died;
+      moves =
+          subst P (sym (one_shl c.args.number 64 small)) (died_moves p lanes v c.args.claim.now c.args.number c.requires.drew c.requires.given);
+    }

@@ -3,4 +3,8 @@ use Rattle.sz_claims.proofs.CallLemmas.{calls}
 use Rattle.sz_claims.proofs.steps.mark_as.Goals as goal
 
 pub fetch_or-requires : goal.fetch_or-requires
-fetch_or-requires g c = (c.requires.table.0, c.requires.table.1, calls g.T.Load.died g.T.Load.faults _ _ _ _ _ _ (λ n. bit_or n c.args.bits) _ g.C.Asked.reply c.requires.may)
+fetch_or-requires g c = (
+  c.requires.table.0,
+  c.requires.table.1,
+  calls g.T.Load.died g.T.Load.faults _ _ _ _ _ _ (λ n. bit_or n c.args.bits) _ g.C.Asked.reply c.requires.may,
+)

@@ -6,16 +6,18 @@ use Rattle.sz_claims.proofs.ledger.Ledger.died.Goals as goal
 pub death-requires-clause-table : goal.death-requires-clause-table
 death-requires-clause-table g c =
     let one = one_ledger _ _ _ c.pass.inside.seat.me.0 _ _ _ _ c.pass.view_is c.self.view_is c.requires.of in
-    let drew : HasDrawn c.args.claim.now c.pass.inside.seat.me.0.mine = subst (λ k. HasDrawn c.args.claim.now k.mine) (sym c.pass.view_is) c.requires.drew in
-    let t = in_plan _ _ _ _ _ _ _ _ c.pass.invariant one.plan c.self.invariant.0 drew in
-    let words = c.self.invariant.2 in
+    let drew : HasDrawn c.args.claim.now c.pass.inside.seat.me.0.mine =
+    subst (λ k. HasDrawn c.args.claim.now k.mine) (sym c.pass.view_is) c.requires.drew in
+    let t = in_plan _ _ _ _ _ _ _ _ c.pass.invariant one.plan c.self.invariant.plan drew in
+    let words = c.self.invariant.words in
     (one.table, omega arith)
 
 pub death-requires-clause-small : goal.death-requires-clause-small
 death-requires-clause-small g c =
     let one = one_ledger _ _ _ c.pass.inside.seat.me.0 _ _ _ _ c.pass.view_is c.self.view_is c.requires.of in
-    let given : HasNumber c.args.claim.now c.args.number c.pass.inside.seat.me.0.mine = subst (λ k. HasNumber c.args.claim.now c.args.number k.mine) (sym c.pass.view_is) c.requires.given in
-    in_attempts _ _ _ _ _ _ _ _ _ c.pass.invariant one.plan c.self.invariant.0 given
+    let given : HasNumber c.args.claim.now c.args.number c.pass.inside.seat.me.0.mine =
+    subst (λ k. HasNumber c.args.claim.now c.args.number k.mine) (sym c.pass.view_is) c.requires.given in
+    in_attempts _ _ _ _ _ _ _ _ _ c.pass.invariant one.plan c.self.invariant.plan given
 
 pub invariant_of-pass : goal.invariant_of-pass
 invariant_of-pass g c = sound_quiet _ _ _ _ _ _ _ _ _ _ c.pass.invariant c.death.ensures.call c.death.ensures.same.1 refl (λ t. refl)

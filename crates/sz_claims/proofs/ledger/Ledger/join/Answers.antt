@@ -10,17 +10,18 @@ join_seat-requires g c =
     let two = one_ledger _ _ _ c.other.inside.seat.me.0 _ _ _ _ c.other.view_is c.self.view_is c.requires.other in
     let zeroth : c.pass.inside.seat.me.0.number ≡ 0 = ap (λ k. k.number) c.pass.view_is ∙ c.requires.first in
     let home : c.other.inside.seat.me.0.lane ≡ 0 = ap (λ k. k.lane) c.other.view_is ∙ c.requires.home in
-    let words = c.self.invariant.2 in
+    let words = c.self.invariant.words in
     (one.table, two.table, c.other.invariant.idle home, omega arith, joins _ _ _ _ _ _ _ _ c.pass.invariant.live zeroth c.other.invariant.live home)
 
 pub load-requires : goal.load-requires
 load-requires g c =
     let one = one_ledger _ _ _ c.pass.inside.seat.me.0 _ _ _ _ c.pass.view_is c.self.view_is c.requires.of in
-    let words = c.self.invariant.2 in
+    let words = c.self.invariant.words in
     let e = c.join_seat.ensures in
     let live : 0 < c.join_seat.new.seat.me.0.weight = (let w = ap (λ m. m.0.weight) e.2 in let l = c.pass.invariant.live in omega arith) in
     (e.0 ∙ one.table, omega arith, looks _ _ _ _ _ _ _ _ live)
 
 pub invariant_of-pass : goal.invariant_of-pass
 invariant_of-pass g c =
-    sound_joined _ _ _ _ _ _ _ _ _ c.other.inside.seat.me.0 c.pass.invariant (ap (λ m. m.0) c.join_seat.ensures.2) c.load.ensures.2.0 (c.load.ensures.2.1 ∙ ap (λ m. m.1) c.join_seat.ensures.2)
+    sound_joined _ _ _ _ _ _ _ _ _ c.other.inside.seat.me.0 c.pass.invariant (ap (λ m. m.0) c.join_seat.ensures.2) c.load.ensures.2.0
+    (c.load.ensures.2.1 ∙ ap (λ m. m.1) c.join_seat.ensures.2)

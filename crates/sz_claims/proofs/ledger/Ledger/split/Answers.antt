@@ -9,8 +9,9 @@ pub split_seat-seat-requires : goal.split_seat-seat-requires
 split_seat-seat-requires g c =
     let one = one_ledger _ _ _ c.pass.inside.seat.me.0 _ _ _ _ c.pass.view_is c.self.view_is c.requires.of in
     let zeroth : c.pass.inside.seat.me.0.number ≡ 0 = ap (λ k. k.number) c.pass.view_is ∙ c.requires.first in
-    let words = c.self.invariant.2 in
-    let cut : map (λ r. r.items) c.pass.inside.room.items ≡ map (λ r. r.items) c.pop.new.self.items ++ c.in-Some.no_number.items ∷ [] = ap (map (λ r. r.items)) c.in-Some.ensures.items ∙ map-append (λ r. r.items) c.pop.new.self.items (c.in-Some.no_number ∷ []) in
+    let words = c.self.invariant.words in
+    let cut : map (λ r. r.items) c.pass.inside.room.items ≡ map (λ r. r.items) c.pop.new.self.items ++ c.in-Some.no_number.items ∷ [] =
+    ap (map (λ r. r.items)) c.in-Some.ensures.items ∙ map-append (λ r. r.items) c.pop.new.self.items (c.in-Some.no_number ∷ []) in
     let room = more_room _ _ _ _ _ _ _ _ c.pass.invariant zeroth cut in
     (one.table, omega arith, splits _ _ _ _ _ _ c.pass.invariant.live zeroth room.1)
 
@@ -18,12 +19,15 @@ pub invariant_of-result : goal.invariant_of-result
 invariant_of-result g c =
     let e = c.split_seat-seat.ensures in
     let zeroth : c.pass.inside.seat.me.0.number ≡ 0 = ap (λ k. k.number) c.pass.view_is ∙ c.requires.first in
-    let cut : map (λ r. r.items) c.pass.inside.room.items ≡ map (λ r. r.items) c.pop.new.self.items ++ c.in-Some.no_number.items ∷ [] = ap (map (λ r. r.items)) c.in-Some.ensures.items ∙ map-append (λ r. r.items) c.pop.new.self.items (c.in-Some.no_number ∷ []) in
+    let cut : map (λ r. r.items) c.pass.inside.room.items ≡ map (λ r. r.items) c.pop.new.self.items ++ c.in-Some.no_number.items ∷ [] =
+    ap (map (λ r. r.items)) c.in-Some.ensures.items ∙ map-append (λ r. r.items) c.pop.new.self.items (c.in-Some.no_number ∷ []) in
     let s = sound_right _ _ _ c.split_seat-seat.result.me.1 _ _ _ _ _ _ c.pass.invariant zeroth (ap (λ m. m.0) e.4) (ap (λ m. m.1) e.4) cut in
-    subst (λ rows. IsSound c.split_seat-seat.result.me.0 c.split_seat-seat.result.me.1 false c.in-Some.no_number.items 0 (map (λ r. r.items) rows)) (sym c.new.ensures.items) s
+    subst (λ rows. IsSound c.split_seat-seat.result.me.0 c.split_seat-seat.result.me.1 false c.in-Some.no_number.items 0 (map (λ r. r.items) rows))
+    (sym c.new.ensures.items) s
 
 pub invariant_of-pass-2 : goal.invariant_of-pass-2
 invariant_of-pass-2 g c =
     let e = c.split_seat-seat.ensures in
-    let cut : map (λ r. r.items) c.pass.inside.room.items ≡ map (λ r. r.items) c.pop.new.self.items ++ c.in-Some.no_number.items ∷ [] = ap (map (λ r. r.items)) c.in-Some.ensures.items ∙ map-append (λ r. r.items) c.pop.new.self.items (c.in-Some.no_number ∷ []) in
+    let cut : map (λ r. r.items) c.pass.inside.room.items ≡ map (λ r. r.items) c.pop.new.self.items ++ c.in-Some.no_number.items ∷ [] =
+    ap (map (λ r. r.items)) c.in-Some.ensures.items ∙ map-append (λ r. r.items) c.pop.new.self.items (c.in-Some.no_number ∷ []) in
     sound_left _ _ _ _ _ _ _ _ _ _ c.pass.invariant (ap (λ m. m.0) e.2) (ap (λ m. m.1) e.2) cut

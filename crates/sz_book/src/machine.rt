@@ -1,0 +1,278 @@
+//! The ledger as a value of one thread.
+ghost use Rattle.std.specs.Prelude.{◌≡◌, ◌↔◌, ◌<◌, ◌^◌, true, [], length, replicate, IfOk, OnOk, OnErr};
+ghost use Rattle.sz_book.specs.Plan.{PlanData};
+ghost use Rattle.sz_book.specs.Machine.{IsStep, opening, IsDrawn, IsTried};
+ghost use Rattle.sz_book.specs.Cores.{CoreData, Takes, GoesOn, IsAfter, IsAllowed, floating, brought, marked_from};
+ghost use Rattle.sz_book.specs.declared.event.Event.TheVariants as events;
+ghost use Rattle.sz_book.specs.declared.event.Reply.TheVariants as replies;
+
+use crate::NoMemory;
+use crate::event::{Event, Reply};
+use crate::lane::Shards;
+use crate::plan::{Claim, Plan};
+use std::alloc::Global;
+use std::marker::Model;
+use sz_list::Items;
+
+/// Numbers, one for each shard or lane.
+type Row = Items<u32>;
+
+/// The ledger of a round as a value, for one caller. A lane that comes back takes all shards that are in none.
+///
+/// Contracts see its plan, the number of its lanes and the state of the machine.
+#[derive(Drop)]
+pub struct Core {
+    plan: Plan,
+    drawn: u32,
+    /// For each shard, how many numbers were given.
+    given: Row,
+    /// For each shard, the attempts whose deaths were noted: bit k is attempt k, counted from 0.
+    deaths: Row,
+    /// For each shard 0, or 1 more than the winner.
+    winners: Row,
+    /// For each shard, 1 where it was won and is in no lane.
+    unplaced: Row,
+    least_bad: Option<u32>,
+    /// For each lane, 1 where it is out.
+    outs: Row,
+    lists: Vec<Shards>,
+    alloc: Global,
+}
+
+impl Model for Core {
+    ghost use Rattle.std.specs.Prelude.{length};
+    ghost use Rattle.sz_book.specs.Cores.{CoreData, core_data, IsSound};
+
+    ghost Value = { CoreData };
+
+    ghost view = { λ core. core_data core.plan core.drawn core.given core.deaths core.winners core.unplaced core.least_bad core.outs core.lists.items };
+
+    ghost invariant = { λ core. IsSound core.plan (core_data core.plan core.drawn core.given core.deaths core.winners core.unplaced core.least_bad core.outs core.lists.items).state };
+}
+
+// So many zeros.
+fn zeros(alloc: Global, count: u32) -> Result<Row, NoMemory>
+    ensures value { IfOk result (λ row. row ≡ replicate count 0) }
+{
+    let row = vec![in alloc; 0u32; count as usize]?;
+    Ok(Items::from_vec(row))
+}
+
+// So many empty lists.
+fn empty_lists(alloc: Global, count: u32) -> Result<Vec<Shards>, NoMemory>
+    ensures value { IfOk result (λ lists. lists.items ≡ replicate count []) }
+{
+    let mut lists = Vec::new(alloc);
+    for _ in 0..count {
+        lists.push(Items::new(alloc))?;
+    }
+    Ok(lists)
+}
+
+#[tactic(auto, using(std::proofs::lemmas::Nat::one_shl))]
+fn bit(number: u32) -> u32
+    requires { number < 32 }
+    ensures value { result ≡ 2 ^ number }
+{
+    1 << number
+}
+
+// The places of the marks that are not 0, in order.
+#[tactic(auto, using(crate::proofs::CoreLemmas::marked_at))]
+fn marked(alloc: Global, marks: &[u32]) -> Result<Shards, NoMemory>
+    requires { length marks.now < 2 ^ 32 }
+    ensures value { IfOk result (λ shards. shards ≡ marked_from 0 marks.now) }
+{
+    let mut shards = Items::new(alloc);
+    for shard in 0..marks.len() {
+        if marks[shard] != 0 {
+            shards.push(shard as u32)?;
+        }
+    }
+    Ok(shards)
+}
+
+impl Core {
+    /// A core at the opening of a round: nothing was drawn or given yet, and all lanes are home and empty.
+    pub fn new(alloc: Global, plan: &Plan, lanes: u32) -> Result<Core, NoMemory>
+        ensures value { IfOk result (λ core. core ≡ record { plan = plan.now; lanes = lanes; state = opening plan.now lanes }) }
+    {
+        let shards = plan.shards();
+        Ok(Core {
+            plan: plan.copied(alloc)?,
+            drawn: 0,
+            given: zeros(alloc, shards)?,
+            deaths: zeros(alloc, shards)?,
+            winners: zeros(alloc, shards)?,
+            unplaced: zeros(alloc, shards)?,
+            least_bad: None,
+            outs: zeros(alloc, lanes)?,
+            lists: empty_lists(alloc, lanes)?,
+            alloc,
+        })
+    }
+
+    // Whether the claim was drawn.
+    fn has_drawn(&self, claim: &Claim) -> bool
+        ensures drawn { (result ≡ true) ↔ IsDrawn self.now.plan self.now.state claim.now }
+    {
+        claim.ticket < self.drawn && self.plan.shard_of(claim.ticket as usize) == claim.shard
+    }
+
+    // Whether the claim was drawn, and the number was given for its shard.
+    fn has_tried(&self, claim: &Claim, number: u32) -> bool
+        ensures tried { (result ≡ true) ↔ IsTried self.now.plan self.now.state claim.now number }
+    {
+        self.has_drawn(claim) && number < *self.given.get(claim.shard as usize)
+    }
+
+    // Whether the lane is one of the core's and is out.
+    fn is_out(&self, lane: u32) -> bool
+        ensures out { (result ≡ true) ↔ IsAllowed self.now.plan self.now.state (events.LaneBack lane) }
+    {
+        (lane as usize) < self.outs.len() && *self.outs.get(lane as usize) == 1
+    }
+
+    /// Whether the core can take in this event.
+    pub fn fits(&self, event: &Event) -> bool
+        ensures fits { (result ≡ true) ↔ IsAllowed self.now.plan self.now.state event.now }
+    {
+        match event {
+            Event::Draw => true,
+            Event::Number(claim) => self.has_drawn(claim),
+            Event::Died(claim, number) => self.has_tried(claim, *number),
+            Event::Settle(claim, number) => self.has_tried(claim, *number),
+            Event::LaneOut(lane) => (*lane as usize) < self.outs.len(),
+            Event::LaneBack(lane) => self.is_out(*lane),
+            Event::Bad(shard) => *shard < self.plan.shards(),
+        }
+    }
+
+    // The next ticket, if there is one.
+    fn draw(&mut self) -> Option<Claim>
+        ensures { Takes self.old events.Draw (replies.Ticket result) self.new }
+    {
+        let ticket = self.drawn;
+        if ticket as usize >= self.plan.ticket_count() {
+            return None;
+        }
+        self.drawn += 1;
+        let shard = self.plan.shard_of(ticket as usize);
+        Some(Claim { ticket, shard })
+    }
+
+    // The next number of the claim's shard, if there is one.
+    fn number(&mut self, claim: &Claim) -> Option<u32>
+        requires { IsDrawn self.old.plan self.old.state claim.now }
+        ensures { Takes self.old (events.Number claim.now) (replies.Number result) self.new }
+    {
+        let shard = claim.shard as usize;
+        let number = *self.given.get(shard);
+        if number >= self.plan.attempts() {
+            return None;
+        }
+        self.given.set(shard, number + 1);
+        Some(number)
+    }
+
+    // Takes down a death.
+    fn died(&mut self, claim: &Claim, number: u32)
+        requires { IsTried self.old.plan self.old.state claim.now number }
+        ensures { Takes self.old (events.Died claim.now number) replies.Noted self.new }
+    {
+        let shard = claim.shard as usize;
+        let deaths = *self.deaths.get(shard);
+        self.deaths.set(shard, deaths | bit(number));
+    }
+
+    // The first settlement of a shard wins it.
+    fn settle(&mut self, claim: &Claim, number: u32) -> Reply
+        requires { IsTried self.old.plan self.old.state claim.now number }
+        ensures { Takes self.old (events.Settle claim.now number) result self.new }
+    {
+        let shard = claim.shard as usize;
+        let winner = *self.winners.get(shard);
+        if winner != 0 {
+            return Reply::Late(winner - 1);
+        }
+        self.winners.set(shard, number + 1);
+        self.unplaced.set(shard, 1);
+        Reply::Won
+    }
+
+    // Whether the lane was home: then it is out.
+    fn lend(&mut self, lane: u32) -> bool
+        requires { lane < length self.old.state.outs }
+        ensures { Takes self.old (events.LaneOut lane) (replies.Lane result) self.new }
+    {
+        let home = *self.outs.get(lane as usize) == 0;
+        if home {
+            self.outs.set(lane as usize, 1);
+        }
+        home
+    }
+
+    // The lane comes home, with all shards that are in no lane.
+    fn give(&mut self, lane: u32) -> Result<(), NoMemory>
+        requires { IsAllowed self.old.plan self.old.state (events.LaneBack lane) }
+        ensures ok { OnOk result (Takes self.old (events.LaneBack lane) replies.Noted self.new) }
+        ensures err { OnErr result (self.new ≡ self.old) }
+    {
+        let shards = marked(self.alloc, self.unplaced.as_slice())?;
+        let cleared = zeros(self.alloc, self.plan.shards())?;
+        self.lists[lane as usize].append(shards)?;
+        self.unplaced = cleared;
+        self.outs.set(lane as usize, 0);
+        Ok(())
+    }
+
+    // Takes down a bad shard.
+    fn bad(&mut self, shard: u32)
+        requires { shard < self.old.plan.shards }
+        ensures { Takes self.old (events.Bad shard) replies.Noted self.new }
+    {
+        let least = match self.least_bad {
+            Some(bad) => bad.min(shard),
+            None => shard,
+        };
+        self.least_bad = Some(least);
+    }
+
+    // Takes in one event, and answers it.
+    fn take(&mut self, event: &Event) -> Result<Reply, NoMemory>
+        requires fits { IsAllowed self.old.plan self.old.state event.now }
+        ensures step { IfOk result (λ reply. Takes self.old event.now reply self.new) }
+        ensures err { OnErr result (self.new ≡ self.old) }
+    {
+        match event {
+            Event::Draw => Ok(Reply::Ticket(self.draw())),
+            Event::Number(claim) => Ok(Reply::Number(self.number(claim))),
+            Event::Died(claim, number) => {
+                self.died(claim, *number);
+                Ok(Reply::Noted)
+            }
+            Event::Settle(claim, number) => Ok(self.settle(claim, *number)),
+            Event::LaneOut(lane) => Ok(Reply::Lane(self.lend(*lane))),
+            Event::LaneBack(lane) => {
+                self.give(*lane)?;
+                Ok(Reply::Noted)
+            }
+            Event::Bad(shard) => {
+                self.bad(*shard);
+                Ok(Reply::Noted)
+            }
+        }
+    }
+
+    /// Takes in one event, and answers it. Only a lane that comes back takes memory.
+    #[tactic(auto, using(crate::proofs::CoreLemmas::goes_on))]
+    pub fn step(&mut self, event: &Event) -> Result<Reply, NoMemory>
+        requires fits { IsAllowed self.old.plan self.old.state event.now }
+        ensures step { IfOk result (λ reply. Takes self.old event.now reply self.new) }
+        ensures history { IfOk result (λ reply. GoesOn self.old event.now reply self.new) }
+        ensures err { OnErr result (self.new ≡ self.old) }
+    {
+        let reply = self.take(event)?;
+        Ok(reply)
+    }
+}

@@ -1,0 +1,9 @@
+//! Tests of the checker: programs, and for each that it is one, or its first refusal.
+#![tactic(auto)]
+
+#[cfg(test)]
+mod declarations;
+#[cfg(test)]
+mod judged;
+#[cfg(test)]
+mod programs;

@@ -1,0 +1,2 @@
+pub mod EmptyLanes
+pub mod SmallPlans

@@ -1,0 +1,3 @@
+mod RankLemmas
+mod HeapLemmas
+mod ExtremeLemmas

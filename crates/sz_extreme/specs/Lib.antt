@@ -1,0 +1,6 @@
+-- what the public contracts rest on
+pub mod Data
+-- what the functions inside the crate promise each other
+pub mod Ranks
+pub mod Kept
+pub mod Code

@@ -1,0 +1,14 @@
+//! Values as bytes, so that equal values have equal bytes and others don't.
+#![tactic(auto)]
+
+mod error;
+mod laws;
+mod parts;
+mod reading;
+mod writing;
+
+pub use error::FlatError;
+pub use laws::one_spelling;
+pub use reading::from_flat;
+pub use sz_value::NoMemory;
+pub use writing::to_flat;

@@ -1,0 +1,94 @@
+-- Code in the making: what it has so far stays, and more comes behind it.
+use Rattle.std.specs.Prelude.{◌≡◌, ℕ, zero, suc, List, [], ◌∷◌, ◌++◌, length, Option, Some, None, if◌then◌else◌}
+use Rattle.std.specs.List.{list_any}
+use Rattle.std.specs.Ordering.{is_eq}
+use Rattle.sz_types.specs.Data.{Shape}
+use Rattle.sz_types.specs.Same.{alike}
+use Rattle.sz_types.specs.declared.place.Place.{Place}
+use Rattle.sz_value.specs.Data.{Datum}
+use Rattle.sz_value.specs.Order.{compare}
+use Rattle.sz_core.specs.Nodes.{Node, Nodes, Pairings}
+use Rattle.sz_core.specs.Sound.{BeginsWith}
+use Rattle.sz_instr.specs.declared.instr.Instr.{Instr}
+use Rattle.sz_instr.specs.declared.instr.Instr.TheVariants.{Jump, Test, AndTest, OrTest, Next, Meets, Fails}
+use Rattle.sz_instr.specs.declared.line.Line.{Line}
+use Rattle.sz_gen_expr.specs.declared.builder.Builder.{Builder}
+use Rattle.sz_gen_expr.specs.Tables.{Tables, line}
+use Rattle.sz_gen_expr.specs.ExpressionCode.{expression_code, expressions_code, pairings_code}
+use Rattle.sz_gen_expr.specs.Named.{HasNames, HaveNames, PairingsHaveNames}
+
+-- constants with one more, unless it is there
+abbrev pub with_constant : List Datum → Datum → List Datum
+with_constant ds d = if list_any (λ c. is_eq (compare d c)) ds then ds else ds ++ d ∷ []
+
+-- types with one more, unless it is there
+abbrev pub with_type : List Shape → Shape → List Shape
+with_type ts t = if list_any (λ s. alike s t) ts then ts else ts ++ t ∷ []
+
+-- the instruction with another target, if it has one
+abbrev pub with_target : Instr → ℕ → Option Instr
+with_target (Jump p) to = Some (Jump to)
+with_target (Test p) to = Some (Test to)
+with_target (AndTest p) to = Some (AndTest to)
+with_target (OrTest p) to = Some (OrTest to)
+with_target (Next n p) to = Some (Next n to)
+with_target (Meets p) to = Some (Meets to)
+with_target (Fails p) to = Some (Fails to)
+with_target i to = None
+
+-- the line with another instruction, if there is one
+abbrev pub with_instr : Option Instr → Line → Line
+with_instr None l = l
+with_instr (Some i) l = line i l.charge l.place
+
+-- the lines with another target in the one at a place
+abbrev pub patched : List Line → ℕ → ℕ → List Line
+patched [] at to = []
+patched (l ∷ lines) zero to = with_instr (with_target l.instr to) l ∷ lines
+patched (l ∷ lines) (suc at) to = l ∷ patched lines at to
+
+-- the tables of code in the making
+abbrev pub tables_made : Builder → Tables
+tables_made b = record { constants = b.constants; types = b.types }
+
+-- the tables have at least what others have, under the same numbers
+pub record Grows (before after : Tables) : Type 0 where
+  pub constants : BeginsWith before.constants after.constants
+  pub types : BeginsWith before.types after.types
+
+-- behind the lines there is code that begins where they ended. It names what it names by the numbers of all tables that the new ones grow
+-- to, and these have what it names.
+pub record Appends (old new : Builder) (code : Tables → ℕ → List Line) (named : Tables → Type 0) : Type 0 where
+  pub grows : Grows (tables_made old) (tables_made new)
+  pub lines : (tables : Tables) → Grows (tables_made new) tables → new.lines ≡ old.lines ++ code tables (length old.lines)
+  pub names : (tables : Tables) → Grows (tables_made new) tables → named tables
+  pub functions : new.functions ≡ old.functions
+  pub statics : new.statics ≡ old.statics
+
+-- the line at the place leads to the next line now, if it leads anywhere, and all else is as before
+pub record Lands (old new : Builder) (at : ℕ) : Type 0 where
+  pub lines : new.lines ≡ patched old.lines at (length old.lines)
+  pub functions : new.functions ≡ old.functions
+  pub statics : new.statics ≡ old.statics
+  pub constants : new.constants ≡ old.constants
+  pub types : new.types ≡ old.types
+
+-- one line more, which may name something
+abbrev pub AppendsLine : Builder → Builder → (Tables → Instr) → (charge : ℕ) → Place → (Tables → Type 0) → Type 0
+AppendsLine old new instr charge place names = Appends old new (λ tables at. line (instr tables) charge place ∷ []) names
+
+-- the code of an expression more
+abbrev pub AppendsNode : Builder → Builder → Node → Type 0
+AppendsNode old new e = Appends old new (λ tables at. expression_code tables e at) (λ tables. HasNames tables e)
+
+-- the same of expressions
+abbrev pub AppendsNodes : Builder → Builder → Nodes → Type 0
+AppendsNodes old new es = Appends old new (λ tables at. expressions_code tables es at) (λ tables. HaveNames tables es)
+
+-- the same of keys and values
+abbrev pub AppendsPairings : Builder → Builder → Pairings → Type 0
+AppendsPairings old new ps = Appends old new (λ tables at. pairings_code tables ps at) (λ tables. PairingsHaveNames tables ps)
+
+-- names nothing
+abbrev pub Nothing : Tables → Type 0
+Nothing tables = Unit {0}

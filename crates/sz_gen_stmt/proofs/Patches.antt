@@ -1,0 +1,77 @@
+-- Lines that are given their targets in the code of branches and loops.
+use Rattle.std.proofs.Common.{◌≡◌, ◌∙◌, ℕ, zero, suc, ◌+◌, ◌<◌, List, [], ◌∷◌, ◌++◌, length, refl, sym, ap, arith, append_assoc, length-append, add_assoc}
+use Rattle.sz_instr.specs.declared.instr.Instr.TheVariants.{Jump, Test, Tick}
+use Rattle.sz_instr.specs.declared.line.Line.{Line}
+use Rattle.sz_types.specs.declared.place.Place.{Place}
+use Rattle.sz_gen_expr.specs.Tables.{line}
+use Rattle.sz_gen_expr.specs.Building.{patched}
+use Rattle.sz_gen_stmt.specs.StatementCode.{goes, branch_code, loop_code, loop_behind_code}
+
+pub length-patched : (lines : List Line) (at to : ℕ) → length (patched lines at to) ≡ length lines
+length-patched [] at to = refl
+length-patched (l ∷ lines) zero to = refl
+length-patched (l ∷ lines) (suc at) to = ap suc (length-patched lines at to)
+
+patched-append : (a b : List Line) (n to : ℕ) → patched (a ++ b) (length a + n) to ≡ a ++ patched b n to
+patched-append [] b n to = let e : 0 + n ≡ n = omega arith in ap (λ k. patched b k to) e
+patched-append (x ∷ a) b n to =
+    let e : length (x ∷ a) + n ≡ suc (length a + n) = omega arith in
+    ap (λ k. patched (x ∷ (a ++ b)) k to) e ∙ ap (λ k. x ∷ k) (patched-append a b n to)
+
+patched-append_end : (a b : List Line) (to : ℕ) → patched (a ++ b) (length a) to ≡ a ++ patched b 0 to
+patched-append_end [] b to = refl
+patched-append_end (x ∷ a) b to = ap (λ k. x ∷ k) (patched-append_end a b to)
+
+one_add : (n : ℕ) → 1 + n ≡ suc n
+one_add n = omega arith
+
+two_add : (n : ℕ) → 2 + n ≡ suc (suc n)
+two_add n = omega arith
+
+three_add : (n : ℕ) → 3 + n ≡ suc (suc (suc n))
+three_add n = omega arith
+
+suc_plus : (m n : ℕ) → suc m + n ≡ suc (m + n)
+suc_plus m n = omega arith
+
+-- what brings code in the making and its definition to one form
+ruleset patches = (append_assoc, length-append, add_assoc, patched-append, patched-append_end, one_add, two_add, three_add, suc_plus, length-patched)
+
+pub branch_lines : (base ce : List Line) (ca cb : ℕ → List Line) (c1 c2 c3 c4 c5 c6 c7 : List Line) (p : Place) (skip over : ℕ)
+    → c1 ≡ base ++ ce → skip ≡ length c1 → c2 ≡ c1 ++ line (Test 0) 1 p ∷ [] → c3 ≡ c2 ++ ca (length c2) → over ≡ length c3 → c4 ≡ c3 ++ goes 0 ∷ []
+    → c5 ≡ patched c4 skip (length c4) → c6 ≡ c5 ++ cb (length c5) → c7 ≡ patched c6 over (length c6)
+    → c7 ≡ base ++ branch_code p ce ca cb (length base)
+branch_lines base ce ca cb c1 c2 c3 c4 c5 c6 c7 p skip over e1 m1 e2 e3 m2 e4 e5 e6 e7 =
+    simp (e7, e6, e5, e4, m2, e3, e2, m1, e1, patches)
+
+pub loop_lines : (base : List Line) (cn : ℕ → List Line) (ce : ℕ → ℕ → List Line) (cs : ℕ → ℕ → ℕ → List Line)
+    (c1 c2 c3 c4 c5 c6 c7 c8 c9 : List Line) (p : Place) (to_test past again : ℕ)
+    → to_test ≡ length base → c1 ≡ base ++ goes 0 ∷ [] → past ≡ length c1 → c2 ≡ c1 ++ goes 0 ∷ [] → again ≡ length c2 → c3 ≡ c2 ++ cn (length c2)
+    → c4 ≡ c3 ++ line Tick 1 p ∷ [] → c5 ≡ patched c4 to_test (length c4) → c6 ≡ c5 ++ ce past (length c5) → c7 ≡ c6 ++ cs past again (length c6)
+    → c8 ≡ c7 ++ goes again ∷ [] → c9 ≡ patched c8 past (length c8)
+    → c9 ≡ base ++ loop_code p cn (ce (length base + 1)) (cs (length base + 1) (length base + 2)) (length base)
+loop_lines base cn ce cs c1 c2 c3 c4 c5 c6 c7 c8 c9 p to_test past again m0 e1 m1 e2 m2 e3 e4 e5 e6 e7 e8 e9 =
+    simp (e9, e8, e7, e6, e5, e4, e3, m2, e2, m1, e1, m0, patches)
+
+pub loop_behind_lines : (base : List Line) (ce : ℕ → ℕ → List Line) (cs : ℕ → ℕ → ℕ → List Line)
+    (c1 c2 c3 c4 c5 c6 c7 c8 c9 c10 : List Line) (p : Place) (to_body past to_test again : ℕ)
+    → to_body ≡ length base → c1 ≡ base ++ goes 0 ∷ [] → past ≡ length c1 → c2 ≡ c1 ++ goes 0 ∷ [] → to_test ≡ length c2 → c3 ≡ c2 ++ goes 0 ∷ []
+    → again ≡ length c3 → c4 ≡ patched c3 to_body (length c3) → c5 ≡ c4 ++ cs past to_test (length c4) → c6 ≡ patched c5 to_test (length c5)
+    → c7 ≡ c6 ++ ce past (length c6) → c8 ≡ c7 ++ line Tick 1 p ∷ [] → c9 ≡ c8 ++ goes again ∷ [] → c10 ≡ patched c9 past (length c9)
+    → c10 ≡ base ++ loop_behind_code p (cs (length base + 1) (length base + 2)) (ce (length base + 1)) (length base)
+loop_behind_lines base ce cs c1 c2 c3 c4 c5 c6 c7 c8 c9 c10 p to_body past to_test again m0 e1 m1 e2 m2 e3 m3 e4 e5 e6 e7 e8 e9 e10 =
+    let n1 : past ≡ length base + 1 = omega (arith, m1, ap length e1, length-append base (goes 0 ∷ [])) in
+    let n2 : to_test ≡ length base + 2 = omega (arith, m2, ap length e2, length-append c1 (goes 0 ∷ []), m1, n1) in
+    let n3 : again ≡ length base + 3 = omega (arith, m3, ap length e3, length-append c2 (goes 0 ∷ []), m2, n2) in
+    let n : ℕ = length base in
+    let turn = cs (n + 1) (n + 2) (n + 3) in
+    let asked = ce (n + 1) (n + 3 + length turn) in
+    let last : List Line = line Tick 1 p ∷ goes (n + 3) ∷ [] in
+    let tail = goes (n + 3 + length turn) ∷ (turn ++ (asked ++ last)) in
+    let before : c9 ≡ base ++ (goes (n + 3) ∷ goes 0 ∷ tail) = simp (e9, e8, e7, e6, e5, e4, n3, e3, n2, e2, n1, e1, m0, patches) in
+    let end : length (base ++ (goes (n + 3) ∷ goes 0 ∷ tail)) ≡ n + 3 + length turn + length asked + 2 =
+    omega (arith, length-append base (goes (n + 3) ∷ goes 0 ∷ tail), length-append turn (asked ++ last), length-append asked last) in
+    e10 ∙ ap (λ l. patched l past (length l)) before
+    ∙ ap (λ k. patched (base ++ (goes (n + 3) ∷ goes 0 ∷ tail)) k (length (base ++ (goes (n + 3) ∷ goes 0 ∷ tail)))) n1
+    ∙ patched-append base (goes (n + 3) ∷ goes 0 ∷ tail) 1 (length (base ++ (goes (n + 3) ∷ goes 0 ∷ tail)))
+    ∙ ap (λ k. base ++ (goes (n + 3) ∷ goes k ∷ tail)) end

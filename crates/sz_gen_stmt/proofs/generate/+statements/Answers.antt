@@ -1,0 +1,201 @@
+-- The code of each statement, from that of its parts.
+use Rattle.std.proofs.Common.{◌≡◌, ◌∙◌, ◌+◌, ◌∷◌, [], Some, ℕ, List, refl, sym, ap, subst, map, arith}
+use Rattle.std.proofs.lemmas.Result.{on_ok_weaker}
+use Rattle.std.specs.Option.{option_map}
+use Rattle.sz_core.specs.declared.expr.CoreExpr.{CoreExpr}
+use Rattle.sz_core.specs.declared.stmt.CoreStep.{CoreStep}
+use Rattle.sz_core.specs.declared.stmt.CoreStmt.{CoreStmt}
+use Rattle.sz_core.specs.Nodes.{nodes_of}
+use Rattle.sz_core.specs.Statements.{store, emit, stms_of}
+use Rattle.sz_core.specs.View.{node_of, step_of, stm_of}
+use Rattle.sz_core.proofs.ForCallers.{stm_of_block}
+use Rattle.sz_gen_expr.proofs.Builds.{none, behind, renamed, no_more, closed_by, rest_more, rest_none}
+use Rattle.sz_gen_stmt.specs.StatementCode.{no_exits, test_code, statement_code}
+use Rattle.sz_gen_stmt.specs.Making.{exits_of, AppendsStm, AppendsStms}
+use Rattle.sz_gen_stmt.proofs.Made.{of_stm, starts, stays, stays_landed, branch_made, loop_made, loop_behind_made}
+use Rattle.sz_gen_stmt.proofs.generate.+statements.Goals as goal
+
+-- ---- the loop
+
+pub gen_stmts-loop-statement-init : goal.gen_stmts-loop-statement-init
+gen_stmts-loop-statement-init t c = λ new h. h
+
+pub gen_stmts-loop-statement-preserved : goal.gen_stmts-loop-statement-preserved
+gen_stmts-loop-statement-preserved t c = λ new h.
+    c.loop-statement.invariant new (subst (λ ss. AppendsStms c.loop-statement.into new (stms_of ss) (exits_of c.args.out))
+    (sym (rest_more stm_of c.args.statements.now c.loop-statement.statement-index c.statement-item.result c.loop-statement-test.true c.statement-item.is))
+    (behind c.in_ok-gen_stmt.ensures.made h))
+
+pub gen_stmts-returns : goal.gen_stmts-returns
+gen_stmts-returns t c = record {
+  made = c.loop-statement.invariant c.loop-statement.into
+      (subst (λ ss. AppendsStms c.loop-statement.into c.loop-statement.into (stms_of ss) (exits_of c.args.out))
+      (sym (rest_none stm_of c.args.statements.now c.loop-statement.statement-index c.loop-statement-test.false)) (none c.loop-statement.into));
+}
+
+-- ---- statements without statements
+
+pub gen_stmt-returns-in-Block : goal.gen_stmt-returns-in-Block
+gen_stmt-returns-in-Block t c = record {
+  made = on_ok_weaker c.gen_stmts.result (λ h. of_stm (exits_of c.args.out) c.args.s.now _ (ap stm_of c.in-Block.is ∙ stm_of_block _)
+      (subst (λ ss. AppendsStms c.args.into.now c.gen_stmts.new.into (stms_of (map stm_of ss)) (exits_of c.args.out)) c.as_slice.ensures.value h)) c.gen_stmts.ensures.made;
+}
+
+pub gen_stmt-returns-in-Clear : goal.gen_stmt-returns-in-Clear
+gen_stmt-returns-in-Clear t c = record {
+  made = on_ok_weaker c.free.result (λ h. of_stm (exits_of c.args.out) c.args.s.now _ (ap stm_of c.in-Clear.is) h) c.free.ensures.made;
+}
+
+pub gen_stmt-returns-in-Break : goal.gen_stmt-returns-in-Break
+gen_stmt-returns-in-Break t c = record {
+  made = on_ok_weaker c.free-in-Break.result (λ h. of_stm (exits_of c.args.out) c.args.s.now _ (ap stm_of c.in-Break.is) h) c.free-in-Break.ensures.made;
+}
+
+pub gen_stmt-returns-in-Continue : goal.gen_stmt-returns-in-Continue
+gen_stmt-returns-in-Continue t c = record {
+  made = on_ok_weaker c.free-in-Continue.result (λ h. of_stm (exits_of c.args.out) c.args.s.now _ (ap stm_of c.in-Continue.is) h) c.free-in-Continue.ensures.made;
+}
+
+pub gen_stmt-returns-in-EndRecord : goal.gen_stmt-returns-in-EndRecord
+gen_stmt-returns-in-EndRecord t c = record {
+  made = on_ok_weaker c.close-in-EndRecord.result (λ h. of_stm (exits_of c.args.out) c.args.s.now _ (ap stm_of c.in-EndRecord.is) h) c.close-in-EndRecord.ensures.made;
+}
+
+pub gen_stmt-returns-in_ok-gen_expr-in-Keep : goal.gen_stmt-returns-in_ok-gen_expr-in-Keep
+gen_stmt-returns-in_ok-gen_expr-in-Keep t c = record {
+  made = on_ok_weaker c.close.result (λ h. of_stm (exits_of c.args.out) c.args.s.now _ (ap stm_of c.in-Keep.is)
+      (closed_by c.in_ok-gen_expr-in-Keep.ensures.made h)) c.close.ensures.made;
+}
+
+pub gen_stmt-returns-in_ok-gen_expr-in-Evaluate : goal.gen_stmt-returns-in_ok-gen_expr-in-Evaluate
+gen_stmt-returns-in_ok-gen_expr-in-Evaluate t c = record {
+  made = on_ok_weaker c.append.result (λ h. of_stm (exits_of c.args.out) c.args.s.now _ (ap stm_of c.in-Evaluate.is)
+      (no_more (behind c.in_ok-gen_expr-in-Evaluate.ensures.made h))) c.append.ensures.made;
+}
+
+pub gen_stmt-returns-in_ok-gen_expr-in-Return : goal.gen_stmt-returns-in_ok-gen_expr-in-Return
+gen_stmt-returns-in_ok-gen_expr-in-Return t c = record {
+  made = on_ok_weaker c.close-in-Return.result (λ h. of_stm (exits_of c.args.out) c.args.s.now _ (ap stm_of c.in-Return.is)
+      (closed_by (renamed (λ tables n. n.1) (behind (none c.args.into.now) c.in_ok-gen_expr-in-Return.ensures.made)) h)) c.close-in-Return.ensures.made;
+}
+
+pub gen_stmt-returns-in-Store : goal.gen_stmt-returns-in-Store
+gen_stmt-returns-in-Store t c = record {
+  made = on_ok_weaker c.gen_store.result (λ h. of_stm (exits_of c.args.out) c.args.s.now _ (ap stm_of c.in-Store.is)
+      (subst (λ (path : List CoreStep). AppendsStm c.args.into.now c.gen_store.new.into
+      (store c.in-Store.place c.in-Store.n (map step_of path) (node_of c.in-Store.value)) (exits_of c.args.out)) c.as_slice-in-Store.ensures.value h)) c.gen_store.ensures.made;
+}
+
+pub gen_stmt-returns-in-Emit : goal.gen_stmt-returns-in-Emit
+gen_stmt-returns-in-Emit t c = record {
+  made = on_ok_weaker c.gen_emit.result (λ h. of_stm (exits_of c.args.out) c.args.s.now _ (ap stm_of c.in-Emit.is)
+      (subst (λ (es : List CoreExpr). AppendsStm c.args.into.now c.gen_emit.new.into
+      (emit c.in-Emit.place c.in-Emit.table (nodes_of (map node_of es)) (node_of c.in-Emit.value) (option_map node_of c.in-Emit.weight)) (exits_of c.args.out))
+      c.as_slice-in-Emit.ensures.value h)) c.gen_emit.ensures.made;
+}
+
+-- ---- a branch
+
+pub gen_stmt-land-requires : goal.gen_stmt-land-requires
+gen_stmt-land-requires t c = record {
+  within = stays (stays (starts c.here-skip.ensures.value c.in_ok-append-in-Branch.ensures.made) c.in_ok-gen_stmt-in-Branch.ensures.made)
+      c.in_ok-free-in-Branch.ensures.made;
+}
+
+pub gen_stmt-land-requires-in-Branch : goal.gen_stmt-land-requires-in-Branch
+gen_stmt-land-requires-in-Branch t c = record {
+  within = stays (stays_landed (starts c.here-over.ensures.value c.in_ok-free-in-Branch.ensures.made) c.land.ensures.made)
+      c.in_ok-gen_stmt-in-Branch-2.ensures.made;
+}
+
+pub gen_stmt-returns-in_ok-gen_stmt-in-Branch-2 : goal.gen_stmt-returns-in_ok-gen_stmt-in-Branch-2
+gen_stmt-returns-in_ok-gen_stmt-in-Branch-2 t c = record {
+  made = of_stm (exits_of c.args.out) c.args.s.now _ (ap stm_of c.in-Branch.is)
+      (branch_made c.in-Branch.place c.here-skip.result c.here-over.result c.in_ok-gen_expr-in-Branch.ensures.made c.here-skip.ensures.value
+      c.in_ok-append-in-Branch.ensures.made
+      (subst (λ d. AppendsStm c.append-in-Branch.new.self c.gen_stmt.new.into (stm_of d) (exits_of c.args.out)) c.deref.ensures c.in_ok-gen_stmt-in-Branch.ensures.made)
+      c.here-over.ensures.value c.in_ok-free-in-Branch.ensures.made c.land.ensures.made
+      (subst (λ d. AppendsStm c.land.new.self c.gen_stmt-in-Branch.new.into (stm_of d) (exits_of c.args.out)) c.deref-in-Branch.ensures c.in_ok-gen_stmt-in-Branch-2.ensures.made)
+      c.land-in-Branch.ensures.made);
+}
+
+-- ---- loops
+
+pub gen_stmt-land-requires-in-While : goal.gen_stmt-land-requires-in-While
+gen_stmt-land-requires-in-While t c = record {
+  within = stays (stays (starts c.here-to_test.ensures.value c.in_ok-free-in-While.ensures.made) c.in_ok-free-in-While-2.ensures.made) c.in_ok-close-in-While.ensures.made;
+}
+
+pub gen_stmt-land-requires-in-While-2 : goal.gen_stmt-land-requires-in-While-2
+gen_stmt-land-requires-in-While-2 t c = record {
+  within = stays (stays (stays (stays_landed (stays (starts c.here-past.ensures.value c.in_ok-free-in-While-2.ensures.made) c.in_ok-close-in-While.ensures.made) c.land-in-While.ensures.made)
+      c.in_ok-gen_test-in-While.ensures.made) c.in_ok-gen_stmt-in-While.ensures.made) c.in_ok-free-in-While-3.ensures.made;
+}
+
+pub gen_stmt-returns-in_ok-free-in-While-3 : goal.gen_stmt-returns-in_ok-free-in-While-3
+gen_stmt-returns-in_ok-free-in-While-3 t c = record {
+  made = of_stm (exits_of c.args.out) c.args.s.now _ (ap stm_of c.in-While.is)
+      (renamed (λ tables n. (n.0, n.2)) (loop_made (λ tables away at. test_code tables c.in-While.place (Some (node_of c.in-While.test)) away at)
+      (λ tables b k at. statement_code tables (stm_of c.in-While.body.value) (record { on_break = b; on_continue = k; flags = 0 }) at)
+      c.in-While.place c.here-to_test.result c.here-past.result c.here-again.result
+      c.here-to_test.ensures.value c.in_ok-free-in-While.ensures.made c.here-past.ensures.value c.in_ok-free-in-While-2.ensures.made c.here-again.ensures.value
+      (none c.free-in-While-2.new.into)
+      c.in_ok-close-in-While.ensures.made c.land-in-While.ensures.made c.in_ok-gen_test-in-While.ensures.made
+      (subst (λ d. AppendsStm c.gen_test.new.into c.gen_stmt-in-While.new.into (stm_of d) (exits_of (record { on_break = c.here-past.result; on_continue = c.here-again.result }))) c.deref-in-While.ensures c.in_ok-gen_stmt-in-While.ensures.made)
+      c.in_ok-free-in-While-3.ensures.made c.land-in-While-2.ensures.made));
+}
+
+pub gen_stmt-land-requires-in-For : goal.gen_stmt-land-requires-in-For
+gen_stmt-land-requires-in-For t c = record {
+  within = stays (stays (stays (starts c.here-to_test-in-For.ensures.value c.in_ok-free-in-For.ensures.made) c.in_ok-free-in-For-2.ensures.made) c.in_ok-gen_stmt-in-For.ensures.made) c.in_ok-close-in-For.ensures.made;
+}
+
+pub gen_stmt-land-requires-in-For-2 : goal.gen_stmt-land-requires-in-For-2
+gen_stmt-land-requires-in-For-2 t c = record {
+  within = stays (stays (stays (stays_landed (stays (stays (starts c.here-past-in-For.ensures.value c.in_ok-free-in-For-2.ensures.made) c.in_ok-gen_stmt-in-For.ensures.made) c.in_ok-close-in-For.ensures.made) c.land-in-For.ensures.made)
+      c.in_ok-gen_test_if_some-in-For.ensures.made) c.in_ok-gen_stmt-in-For-2.ensures.made) c.in_ok-free-in-For-3.ensures.made;
+}
+
+pub gen_stmt-returns-in_ok-free-in-For-3 : goal.gen_stmt-returns-in_ok-free-in-For-3
+gen_stmt-returns-in_ok-free-in-For-3 t c = record {
+  made = of_stm (exits_of c.args.out) c.args.s.now _ (ap stm_of c.in-For.is)
+      (loop_made (λ tables away at. test_code tables c.in-For.place (option_map node_of c.in-For.test) away at)
+      (λ tables b k at. statement_code tables (stm_of c.in-For.body.value) (record { on_break = b; on_continue = k; flags = 0 }) at)
+      c.in-For.place c.here-to_test-in-For.result c.here-past-in-For.result c.here-again-in-For.result
+      c.here-to_test-in-For.ensures.value c.in_ok-free-in-For.ensures.made c.here-past-in-For.ensures.value c.in_ok-free-in-For-2.ensures.made c.here-again-in-For.ensures.value
+      (subst (λ d. AppendsStm c.free-in-For-2.new.into c.gen_stmt-in-For.new.into (stm_of d) (exits_of c.args.out)) c.deref-in-For.ensures c.in_ok-gen_stmt-in-For.ensures.made)
+      c.in_ok-close-in-For.ensures.made c.land-in-For.ensures.made c.in_ok-gen_test_if_some-in-For.ensures.made
+      (subst (λ d. AppendsStm c.gen_test_if_some.new.into c.gen_stmt-in-For-2.new.into (stm_of d) (exits_of (record { on_break = c.here-past-in-For.result; on_continue = c.here-again-in-For.result }))) c.deref-in-For-2.ensures c.in_ok-gen_stmt-in-For-2.ensures.made)
+      c.in_ok-free-in-For-3.ensures.made c.land-in-For-2.ensures.made);
+}
+
+pub gen_stmt-land-requires-in-DoWhile : goal.gen_stmt-land-requires-in-DoWhile
+gen_stmt-land-requires-in-DoWhile t c = record {
+  within = stays (stays (starts c.here-to_body.ensures.value c.in_ok-free-in-DoWhile.ensures.made) c.in_ok-free-in-DoWhile-2.ensures.made) c.in_ok-free-in-DoWhile-3.ensures.made;
+}
+
+pub gen_stmt-land-requires-in-DoWhile-2 : goal.gen_stmt-land-requires-in-DoWhile-2
+gen_stmt-land-requires-in-DoWhile-2 t c = record {
+  within = stays (stays_landed (starts c.here-to_test-in-DoWhile.ensures.value c.in_ok-free-in-DoWhile-3.ensures.made) c.land-in-DoWhile.ensures.made) c.in_ok-gen_stmt-in-DoWhile.ensures.made;
+}
+
+pub gen_stmt-land-requires-in-DoWhile-3 : goal.gen_stmt-land-requires-in-DoWhile-3
+gen_stmt-land-requires-in-DoWhile-3 t c =
+    let first = stays (starts c.here-past-in-DoWhile.ensures.value c.in_ok-free-in-DoWhile-2.ensures.made) c.in_ok-free-in-DoWhile-3.ensures.made in
+    let second = stays_landed (stays (stays_landed first c.land-in-DoWhile.ensures.made) c.in_ok-gen_stmt-in-DoWhile.ensures.made) c.land-in-DoWhile-2.ensures.made in
+    record {
+      within = stays (stays (stays second c.in_ok-gen_test-in-DoWhile.ensures.made) c.in_ok-close-in-DoWhile.ensures.made) c.in_ok-free-in-DoWhile-4.ensures.made;
+    }
+
+pub gen_stmt-returns-in_ok-free-in-DoWhile-4 : goal.gen_stmt-returns-in_ok-free-in-DoWhile-4
+gen_stmt-returns-in_ok-free-in-DoWhile-4 t c = record {
+  made = of_stm (exits_of c.args.out) c.args.s.now _ (ap stm_of c.in-DoWhile.is)
+      (loop_behind_made (λ tables away at. test_code tables c.in-DoWhile.place (Some (node_of c.in-DoWhile.test)) away at)
+      (λ tables b k at. statement_code tables (stm_of c.in-DoWhile.body.value) (record { on_break = b; on_continue = k; flags = 0 }) at)
+      c.in-DoWhile.place c.here-to_body.result c.here-past-in-DoWhile.result c.here-to_test-in-DoWhile.result c.here-again-in-DoWhile.result
+      c.here-to_body.ensures.value c.in_ok-free-in-DoWhile.ensures.made c.here-past-in-DoWhile.ensures.value c.in_ok-free-in-DoWhile-2.ensures.made
+      c.here-to_test-in-DoWhile.ensures.value c.in_ok-free-in-DoWhile-3.ensures.made c.here-again-in-DoWhile.ensures.value c.land-in-DoWhile.ensures.made
+      (subst (λ d. AppendsStm c.land-in-DoWhile.new.self c.gen_stmt-in-DoWhile.new.into (stm_of d) (exits_of (record { on_break = c.here-past-in-DoWhile.result; on_continue = c.here-to_test-in-DoWhile.result }))) c.deref-in-DoWhile.ensures c.in_ok-gen_stmt-in-DoWhile.ensures.made)
+      c.land-in-DoWhile-2.ensures.made c.in_ok-gen_test-in-DoWhile.ensures.made c.in_ok-close-in-DoWhile.ensures.made c.in_ok-free-in-DoWhile-4.ensures.made
+      c.land-in-DoWhile-3.ensures.made);
+}

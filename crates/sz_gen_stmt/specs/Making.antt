@@ -1,0 +1,63 @@
+-- Code in the making, with the code of statements and routines behind what it has.
+use Rattle.std.specs.Prelude.{◌≡◌, ℕ, pos, List, [], ◌∷◌, ◌++◌, length}
+use Rattle.sz_value.specs.Data.{Datum}
+use Rattle.sz_core.specs.Programs.{Function, Static}
+use Rattle.sz_core.specs.Statements.{Step, Stm, Stms}
+use Rattle.sz_instr.specs.declared.line.Line.{Line}
+use Rattle.sz_instr.specs.declared.routine.Routine.{Routine}
+use Rattle.sz_gen_expr.specs.declared.builder.Builder.{Builder}
+use Rattle.sz_gen_expr.specs.Tables.{Tables, HasConstant}
+use Rattle.sz_gen_expr.specs.ExpressionCode.{indexes_code}
+use Rattle.sz_gen_expr.specs.Named.{HasNames, StepsHaveNames}
+use Rattle.sz_gen_expr.specs.Building.{tables_made, Grows, Appends}
+use Rattle.sz_gen_stmt.specs.StatementCode as codes
+use Rattle.sz_gen_stmt.specs.StatementCode.{statement_code, statements_code}
+use Rattle.sz_gen_stmt.specs.Named.{StmHasNames, StmsHaveNames, FunctionsHaveNames, StaticsHaveNames}
+use Rattle.sz_gen_stmt.specs.ProgramCode.{function_code, functions_code, function_routines, static_code, statics_code, static_routines}
+use Rattle.sz_gen_stmt.specs.declared.generate.Exits.{Exits}
+
+-- the exits as the code's definition has them: outside of any search
+abbrev pub exits_of : Exits → codes.Exits
+exits_of out = record { on_break = out.on_break; on_continue = out.on_continue; flags = 0 }
+
+-- the code of a statement more
+abbrev pub AppendsStm : Builder → Builder → Stm → codes.Exits → Type 0
+AppendsStm old new s out = Appends old new (λ tables at. statement_code tables s out at) (λ tables. StmHasNames tables s)
+
+-- the code of statements more
+abbrev pub AppendsStms : Builder → Builder → Stms → codes.Exits → Type 0
+AppendsStms old new ss out = Appends old new (λ tables at. statements_code tables ss out at) (λ tables. StmsHaveNames tables ss)
+
+-- the code of the indexes among steps more
+abbrev pub AppendsIndexes : Builder → Builder → List Step → Type 0
+AppendsIndexes old new steps = Appends old new (λ tables at. indexes_code tables steps at) (λ tables. StepsHaveNames tables steps)
+
+-- the same as `Appends`, with the routines of functions and of statics that begin in that code
+pub record Extends (old new : Builder) (code : Tables → ℕ → List Line)
+    (called kept : Tables → ℕ → List Routine) (named : Tables → Type 0) : Type 0 where
+  pub grows : Grows (tables_made old) (tables_made new)
+  pub lines : (tables : Tables) → Grows (tables_made new) tables → new.lines ≡ old.lines ++ code tables (length old.lines)
+  pub functions : (tables : Tables) → Grows (tables_made new) tables → new.functions ≡ old.functions ++ called tables (length old.lines)
+  pub statics : (tables : Tables) → Grows (tables_made new) tables → new.statics ≡ old.statics ++ kept tables (length old.lines)
+  pub names : (tables : Tables) → Grows (tables_made new) tables → named tables
+
+-- the code of a function more, with its routine
+abbrev pub ExtendsFunction : Builder → Builder → Function → Type 0
+ExtendsFunction old new f = Extends old new (λ tables at. function_code tables f at)
+    (λ tables at. record { entry = at; params = length f.signature.parameters; locals = length f.locals } ∷ []) (λ tables at. [])
+    (λ tables. HasConstant tables (Datum.int (pos 0)) × StmsHaveNames tables f.body)
+
+-- the same of functions
+abbrev pub ExtendsFunctions : Builder → Builder → List Function → Type 0
+ExtendsFunctions old new fs = Extends old new (λ tables at. functions_code tables fs at) (λ tables at. function_routines tables fs at) (λ tables at. [])
+    (λ tables. FunctionsHaveNames tables fs)
+
+-- the code of the static with this number more, with its routine
+abbrev pub ExtendsStatic : Builder → Builder → ℕ → Static → Type 0
+ExtendsStatic old new n s = Extends old new (λ tables at. static_code tables n s at) (λ tables at. [])
+    (λ tables at. record { entry = at; params = 0; locals = 0 } ∷ []) (λ tables. HasNames tables s.value)
+
+-- the same of statics from this number on
+abbrev pub ExtendsStatics : Builder → Builder → ℕ → List Static → Type 0
+ExtendsStatics old new n ss = Extends old new (λ tables at. statics_code tables n ss at) (λ tables at. []) (λ tables at. static_routines tables n ss at)
+    (λ tables. StaticsHaveNames tables ss)

@@ -1,0 +1,9 @@
+use Rattle.std.proofs.Common.{ℕ, List, sym, subst}
+use Rattle.sz_records.specs.Steps.{IsScanned}
+use Rattle.sz_records.proofs.ScanLemmas.{scanned_longer}
+use Rattle.sz_records.proofs.framer.Framer.take_in.Goals as goal
+
+pub invariant_of-self-2 : goal.invariant_of-self-2
+invariant_of-self-2 c =
+    subst (λ (l : List ℕ). IsScanned c.self.inside.cutter.frame l c.self.inside.scanned) (sym c.in_ok-extend_from_slice.ensures.items)
+    (scanned_longer c.self.inside.cutter.frame c.self.inside.held.items c.args.piece.now c.self.inside.scanned c.self.invariant)

@@ -1,0 +1,33 @@
+//! Where a shard ends.
+ghost use Rattle.std.specs.Prelude.{◌≤◌, IfSome, IfNone};
+ghost use Rattle.sz_records.specs.Shards.{EndsShard, IsOpenAt, ShardsAreUnique};
+
+use crate::records::Records;
+
+/// A shard ends with the record by which its records hold as many bytes.
+const SHARD_BYTES: usize = 16_777_216;
+
+/// The place behind the last record of the shard that begins at `from`. A shard has at most `most` records. `at_end` says that no
+/// more records come.
+pub fn shard_end(records: &Records, from: usize, most: u32, at_end: bool) -> Option<usize>
+    requires most { 1 ≤ most }
+    ensures some { IfSome result (λ end. EndsShard records.now from most at_end end) }
+    ensures none { IfNone result (IsOpenAt records.now from most at_end) }
+{
+    if from >= records.len() {
+        return None;
+    }
+    let mut bytes = 0;
+    for last in from..records.len() {
+        bytes += records.get(last).len();
+        if last - from + 1 >= most as usize || bytes >= SHARD_BYTES {
+            return Some(last + 1);
+        }
+    }
+    if at_end { Some(records.len()) } else { None }
+}
+
+/// Records are cut into shards in one way.
+pub fn shards_are_unique()
+    ensures unique { ShardsAreUnique }
+{}

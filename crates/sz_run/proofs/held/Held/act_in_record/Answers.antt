@@ -1,0 +1,28 @@
+-- What has to do with the statics or the record does what the definition says; all else is inside.
+use Rattle.std.proofs.Common.{rules, ◌≡◌, refl}
+use Rattle.std.proofs.lemmas.Result.{IfOk-weaker}
+use Rattle.sz_instr.specs.declared.instr.Instr.TheVariants as instr
+use Rattle.sz_run.specs.Acting.{in_record}
+use Rattle.sz_run.proofs.CoverLemmas.{is_inside}
+use Rattle.sz_run.proofs.held.Held.act_in_record.Goals as goal
+
+pub act_inside-requires : goal.act_inside-requires
+act_inside-requires c = record {
+  room = c.requires.room;
+  inside = is_inside c.args.instr.now c.in_default.not-Static c.in_default.not-Input c.in_default.not-KeepStatic;
+  covers = record { around = in_record c.args.at c.args.statics.now c.args.input.now; covers = c.requires.covers };
+}
+
+pub returns-in-Static : goal.returns-in-Static
+returns-in-Static c =
+    let is : c.args.instr.now ≡ instr.Static c.in-Static.n = search rules in
+    record {
+      value = IfOk-weaker c.push_static.result _ _ (λ next does place. rw is (does place (in_record c.args.at c.args.statics.now c.args.input.now) refl)) (c.push_static.ensures.value c.args.code.now);
+    }
+
+pub returns-in-Input : goal.returns-in-Input
+returns-in-Input c =
+    let is : c.args.instr.now ≡ instr.Input = search rules in
+    record {
+      value = IfOk-weaker c.push_input.result _ _ (λ next does place. rw is (does place (in_record c.args.at c.args.statics.now c.args.input.now) refl)) (c.push_input.ensures.value c.args.code.now);
+    }

@@ -1,0 +1,194 @@
+//! What instructions do to operands: constants, variables, operators, conversions, composites and parts.
+ghost use Rattle.std.specs.Prelude.{◌≡◌, ◌<◌, ◌≤◌, ◌*◌, length, IfOk};
+ghost use Rattle.sz_instr.specs.declared.code.Code.{Code};
+ghost use Rattle.sz_instr.specs.declared.instr.Instr.TheVariants as instr;
+ghost use Rattle.sz_machine.specs.Rows.{act};
+ghost use Rattle.sz_world.specs.Operations.{arity};
+ghost use Rattle.sz_run.specs.Acting.{Does, weighs_and_acts};
+
+use crate::cell::Cell;
+use crate::held::{Held, Next};
+use crate::results::{
+    applied, array_of, binary_of, converted, definedness, element_of, map_of, part_of, slice_of,
+    tuple_of, unary_of,
+};
+use crate::weights::{binary_weight, builtin_weight, conversion_weight, result_weight};
+use std::alloc::Global;
+use sz_instr::Code;
+use sz_types::{BinOp, Builtin, UnOp};
+use sz_value::{NoMemory, copy};
+
+impl Held {
+    /// Pushes a copy of the constant.
+    pub fn push(&mut self, alloc: Global, code: &Code, constant: u32) -> Result<Next, NoMemory>
+        requires within { constant < length code.now.constants }
+        ensures value { IfOk result (λ next. Does (act code.now (instr.Push constant)) self.old next self.new) }
+    {
+        let value = copy(alloc, code.constants.get(constant as usize))?;
+        self.operands.push(Cell::of_value(value))?;
+        Ok(Next::On)
+    }
+
+    /// Pushes a copy of the local.
+    pub fn push_local(&mut self, alloc: Global, n: u32) -> Result<Next, NoMemory>
+        requires within { n < length self.old.calls.locals }
+        ensures value { (code : Code) → IfOk result (λ next. Does (act code (instr.Local n)) self.old next self.new) }
+    {
+        let cell = self.calls.local(n).copy(alloc)?;
+        self.operands.push(cell)?;
+        Ok(Next::On)
+    }
+
+    /// Pops a slot into the local.
+    pub fn keep(&mut self, n: u32) -> Next
+        requires within { n < length self.old.calls.locals }
+        requires some { 0 < length self.old.operands }
+        ensures value { (code : Code) → Does (act code (instr.Keep n)) self.old result self.new }
+    {
+        let cell = self.operands.pop();
+        self.calls.keep(n, cell);
+        Next::On
+    }
+
+    /// Makes the local undefined.
+    pub fn clear(&mut self, n: u32) -> Next
+        requires within { n < length self.old.calls.locals }
+        ensures value { (code : Code) → Does (act code (instr.Clear n)) self.old result self.new }
+    {
+        self.calls.keep(n, Cell::undefined());
+        Next::On
+    }
+
+    /// Pops an operand and pushes what the operator makes of it.
+    pub fn unary(&mut self, op: UnOp) -> Result<Next, NoMemory>
+        requires some { 0 < length self.old.operands }
+        ensures value { (code : Code) → IfOk result (λ next. Does (act code (instr.Unary op)) self.old next self.new) }
+    {
+        let x = self.operands.pop();
+        self.operands.push(unary_of(op, &x))?;
+        Ok(Next::On)
+    }
+
+    /// Pops two operands and pushes what the operator makes of them.
+    pub fn binary(&mut self, alloc: Global, op: BinOp) -> Result<Next, NoMemory>
+        requires some { 1 < length self.old.operands }
+        ensures value { (code : Code) → IfOk result (λ next. Does (weighs_and_acts code (instr.Binary op)) self.old next self.new) }
+    {
+        let y = self.operands.pop();
+        let x = self.operands.pop();
+        let made = binary_of(alloc, op, &x, &y)?;
+        let weight = binary_weight(op, &made);
+        self.finish(made, weight)
+    }
+
+    /// Pops the arguments and pushes what the function makes of them.
+    pub fn apply(&mut self, alloc: Global, which: Builtin) -> Result<Next, NoMemory>
+        requires within { arity which ≤ length self.old.operands }
+        ensures value { (code : Code) → IfOk result (λ next. Does (weighs_and_acts code (instr.Apply which)) self.old next self.new) }
+    {
+        let arguments = self.operands.pop_values(alloc, arity(which))?;
+        let made = applied(alloc, which, &arguments)?;
+        let weight = builtin_weight(which, &made);
+        self.finish(made, weight)
+    }
+
+    /// Pops an operand and pushes it converted to the type.
+    pub fn convert(&mut self, alloc: Global, code: &Code, ty: u32) -> Result<Next, NoMemory>
+        requires within { ty < length code.now.types }
+        requires some { 0 < length self.old.operands }
+        ensures value { IfOk result (λ next. Does (weighs_and_acts code.now (instr.Convert ty)) self.old next self.new) }
+    {
+        let to = code.types.get(ty as usize);
+        let x = self.operands.pop();
+        let made = converted(alloc, to, &x)?;
+        let weight = conversion_weight(to, &x, &made);
+        self.finish(made, weight)
+    }
+
+    /// Pops the elements and pushes the array of them.
+    pub fn make_array(&mut self, alloc: Global, count: u32) -> Result<Next, NoMemory>
+        requires within { count ≤ length self.old.operands }
+        ensures value { (code : Code) → IfOk result (λ next. Does (weighs_and_acts code (instr.MakeArray count)) self.old next self.new) }
+    {
+        let made = array_of(self.operands.pop_values(alloc, count as usize)?);
+        let weight = result_weight(&made);
+        self.finish(made, weight)
+    }
+
+    /// Pops the parts and pushes the tuple of them.
+    pub fn make_tuple(&mut self, alloc: Global, count: u32) -> Result<Next, NoMemory>
+        requires within { count ≤ length self.old.operands }
+        ensures value { (code : Code) → IfOk result (λ next. Does (weighs_and_acts code (instr.MakeTuple count)) self.old next self.new) }
+    {
+        let made = tuple_of(self.operands.pop_values(alloc, count as usize)?);
+        let weight = result_weight(&made);
+        self.finish(made, weight)
+    }
+
+    /// Pops the keys and values and pushes the map of them.
+    pub fn make_map(&mut self, alloc: Global, count: u32) -> Result<Next, NoMemory>
+        requires within { 2 * count ≤ length self.old.operands }
+        ensures value { (code : Code) → IfOk result (λ next. Does (weighs_and_acts code (instr.MakeMap count)) self.old next self.new) }
+    {
+        let parts = self.operands.pop_values(alloc, 2 * count as usize)?;
+        let made = map_of(alloc, parts)?;
+        let weight = result_weight(&made);
+        self.finish(made, weight)
+    }
+
+    /// Pops an index or a key and what it leads into, and pushes the element.
+    pub fn index(&mut self, alloc: Global) -> Result<Next, NoMemory>
+        requires some { 1 < length self.old.operands }
+        ensures value { (code : Code) → IfOk result (λ next. Does (act code instr.Index) self.old next self.new) }
+    {
+        let i = self.operands.pop();
+        let x = self.operands.pop();
+        let made = element_of(alloc, &x, &i)?;
+        self.operands.push(made)?;
+        Ok(Next::On)
+    }
+
+    /// Pops the bounds of a part and what it is a part of, and pushes the part.
+    pub fn slice(&mut self, alloc: Global) -> Result<Next, NoMemory>
+        requires some { 2 < length self.old.operands }
+        ensures value { (code : Code) → IfOk result (λ next. Does (weighs_and_acts code instr.Slice) self.old next self.new) }
+    {
+        let j = self.operands.pop();
+        let i = self.operands.pop();
+        let x = self.operands.pop();
+        let made = slice_of(alloc, &x, &i, &j)?;
+        let weight = result_weight(&made);
+        self.finish(made, weight)
+    }
+
+    /// Pops a tuple or a message and pushes a part of it.
+    pub fn field(&mut self, alloc: Global, n: u32) -> Result<Next, NoMemory>
+        requires some { 0 < length self.old.operands }
+        ensures value { (code : Code) → IfOk result (λ next. Does (act code (instr.Field n)) self.old next self.new) }
+    {
+        let x = self.operands.pop();
+        let made = part_of(alloc, n, &x)?;
+        self.operands.push(made)?;
+        Ok(Next::On)
+    }
+
+    /// Pops a slot and pushes whether it was defined.
+    pub fn def(&mut self) -> Result<Next, NoMemory>
+        requires some { 0 < length self.old.operands }
+        ensures value { (code : Code) → IfOk result (λ next. Does (act code instr.Def) self.old next self.new) }
+    {
+        let x = self.operands.pop();
+        self.operands.push(definedness(&x))?;
+        Ok(Next::On)
+    }
+}
+
+// How many arguments the function takes.
+fn arity(which: Builtin) -> usize
+    ensures value { result ≡ arity which }
+{
+    match which {
+        Builtin::Len | Builtin::Keys => 1,
+        Builtin::HasKey | Builtin::StrFind => 2,
+    }
+}

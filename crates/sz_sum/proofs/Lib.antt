@@ -1,0 +1,3 @@
+mod WidthLemmas
+mod GrownLemmas
+mod SumLemmas

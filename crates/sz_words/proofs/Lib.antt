@@ -1,0 +1,12 @@
+pub mod AnswerLemmas
+pub mod CutLemmas
+pub mod EndLemmas
+pub mod FoundLemmas
+pub mod ListLemmas
+pub mod MatchLemmas
+pub mod NumberLemmas
+pub mod RowLemmas
+pub mod RuleLemmas
+pub mod StepLemmas
+pub mod UnfitLemmas
+pub mod WordLemmas

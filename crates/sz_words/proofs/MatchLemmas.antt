@@ -1,0 +1,115 @@
+-- What the getters of `clap` give.
+use Rattle.std.proofs.Common.{◌≡◌, ℕ, List, [], ◌∷◌, map, refl, ap, sym, ◌∙◌, true, false, Bool, Option, Some, None}
+use Rattle.std.specs.Prelude.{option_map, option_and_then, slice_get, unwrap_or, codes, bytes_eq, if◌then◌else◌}
+use Rattle.clap.specs.Words.{app_of, first_value, found_of, matched_of, new_app, raw_values}
+use Rattle.clap.specs.Simple.{on_top, app_of_fields}
+use Rattle.clap.specs.declared.builder.command.Command.{Command}
+use Rattle.clap.specs.declared.builder.command.Command.TheViews.{out-Command as fields_of}
+use Rattle.clap.specs.declared.parser.matches.ArgMatches.{ArgMatches}
+use Rattle.clap.specs.declared.parser.matches.MatchedArg.{MatchedArg}
+use Rattle.std.specs.Borrow.{Bor}
+use Rattle.sz_words.specs.Asked.{asked_bare}
+use Rattle.sz_words.specs.Parts.{Parts, parts_of, values_of}
+use Rattle.sz_words.specs.Matches.{HasParts, names_in, values_in}
+use Rattle.sz_words.specs.Settings.{Values, check_settings, command_settings, line_settings, run_settings, stand_once, run_with, selftest_settings}
+use Rattle.sz_words.specs.declared.settings.Settings.{Settings}
+
+-- the first value is the first of all
+pub first_is : (m : ArgMatches) (id : List ℕ) → first_value (found_of m) id ≡ slice_get (values_in m id) 0
+first_is m id = of (matched_of (found_of m) id)
+  where
+    first : (vs : List (Bor (List ℕ))) → option_map (λ s. s.now) (slice_get vs 0) ≡ slice_get (map (λ s. s.now) vs) 0
+    first [] = refl
+    first (v ∷ vs) = refl
+
+    of : (o : Option MatchedArg) → option_and_then (λ a. option_map (λ s. s.now) (slice_get a.vals.items 0)) o
+        ≡ slice_get (unwrap_or (option_map raw_values o) []) 0
+    of None = refl
+    of (Some a) = first a.vals.items
+
+-- the command without its arguments
+pub bare_is : (a b c d : Command) → app_of a ≡ new_app (codes "szl") → fields_of b ≡ record (fields_of a) { no_binary_name = true }
+    → fields_of c ≡ record (fields_of b) { disable_help_flag = true } → fields_of d ≡ record (fields_of c) { disable_version_flag = true }
+    → app_of d ≡ asked_bare
+bare_is a b c d new binary help version =
+    let one : app_of b ≡ on_top (λ s. record s { no_binary_name = true }) (app_of a) = ap app_of_fields binary in
+    let two : app_of c ≡ on_top (λ s. record s { disable_help_flag = true }) (app_of b) = ap app_of_fields help in
+    let three : app_of d ≡ on_top (λ s. record s { disable_version_flag = true }) (app_of c) = ap app_of_fields version in
+    three ∙ ap (on_top (λ s. record s { disable_version_flag = true })) (two
+    ∙ ap (on_top (λ s. record s { disable_help_flag = true })) (one
+    ∙ ap (on_top (λ s. record s { no_binary_name = true })) new))
+
+-- no command is asked for without a name
+no_run : (given : Values) → run_settings given [] ≡ None
+no_run given = go (stand_once given)
+  where
+    none : Option Settings
+    none = None
+
+    go : (once : Bool) → (if once then none else none) ≡ None
+    go true = refl
+    go false = refl
+
+pub no_names : (command : List ℕ) (given : Values) → command_settings command given [] ≡ None
+no_names command given =
+    rw (no_run given) (go (bytes_eq command (codes "run")) (bytes_eq command (codes "check")) (bytes_eq command (codes "selftest")))
+  where
+    none : Option Settings
+    none = None
+
+    go : (a b c : Bool) → (if a then none else if b then none else if c then none else none) ≡ None
+    go true b c = refl
+    go false true c = refl
+    go false false true = refl
+    go false false false = refl
+
+-- the same values of each option
+pub record SameValues (given other : Values) : Type 0 where
+  pub frame : given (codes "frame") ≡ other (codes "frame")
+  pub workers : given (codes "workers") ≡ other (codes "workers")
+  pub shard : given (codes "shard") ≡ other (codes "shard")
+  pub attempts : given (codes "attempts") ≡ other (codes "attempts")
+  pub budget : given (codes "budget") ≡ other (codes "budget")
+  pub kill : given (codes "kill") ≡ other (codes "kill")
+  pub twice : given (codes "twice") ≡ other (codes "twice")
+
+run_same : (given other : Values) → SameValues given other → (names : List (List ℕ)) → run_settings given names ≡ run_settings other names
+unfolding run_with
+run_same given other e names = rw (e.frame, e.workers, e.shard, e.attempts, e.budget, e.kill, e.twice) refl
+
+check_same : (given other : Values) → SameValues given other → (names : List (List ℕ))
+    → check_settings given names ≡ check_settings other names
+check_same given other e [] = refl
+check_same given other e (p ∷ []) = rw (e.frame, e.workers, e.shard, e.attempts, e.budget, e.kill, e.twice) refl
+check_same given other e (p ∷ i ∷ names) = refl
+
+selftest_same : (given other : Values) → SameValues given other → (names : List (List ℕ))
+    → selftest_settings given names ≡ selftest_settings other names
+selftest_same given other e [] = refl
+selftest_same given other e (s ∷ []) = refl
+selftest_same given other e (s ∷ r ∷ []) = refl
+selftest_same given other e (s ∷ r ∷ w ∷ []) = rw (e.frame, e.workers, e.shard, e.attempts, e.budget, e.kill, e.twice) refl
+selftest_same given other e (s ∷ r ∷ w ∷ n ∷ names) = refl
+
+-- what a command asks for depends on the values of the options alone
+pub settings_same : (command : List ℕ) (m : ArgMatches) (parts : Parts) → HasParts m parts
+    → command_settings command (values_in m) (names_in m) ≡ command_settings command (λ name. values_of name parts.options) parts.names
+settings_same command m parts has =
+    let given : Values = values_in m in
+    let other : Values = λ name. values_of name parts.options in
+    let e : SameValues given other = record {
+      frame = has.options (codes "frame") refl;
+      workers = has.options (codes "workers") refl;
+      shard = has.options (codes "shard") refl;
+      attempts = has.options (codes "attempts") refl;
+      budget = has.options (codes "budget") refl;
+      kill = has.options (codes "kill") refl;
+      twice = has.options (codes "twice") refl;
+    } in
+    rw has.names (rw (run_same given other e parts.names, check_same given other e parts.names, selftest_same given other e parts.names) refl)
+
+-- what is asked for by words whose parts were found
+pub line_is : (command : List ℕ) (words : List (List ℕ)) (m : ArgMatches)
+    → ((parts : Parts) × (parts_of words ≡ Some parts) × HasParts m parts)
+    → line_settings command words ≡ command_settings command (values_in m) (names_in m)
+line_is command words m p = rw p.1 (sym (settings_same command m p.0 p.2))

@@ -1,0 +1,139 @@
+-- Which words are a command line, and what they ask for.
+use Rattle.std.specs.Prelude.{ℕ, ◌-◌, ◌^◌, List, [], ◌∷◌, length, Bool, not, ◌&&◌, nat_eq, nat_le, Option, Some, None, bytes_eq, codes, if◌then◌else◌}
+use Rattle.std.specs.Prelude.{option_and_then, option_map, slice_get}
+use Rattle.std.specs.List.{list_all}
+use Rattle.sz_types.specs.declared.frame.Frame.{Frame}
+use Rattle.sz_types.specs.declared.frame.Frame.TheVariants.{Lines, Delimited}
+use Rattle.sz_words.specs.Texts.{number_in}
+use Rattle.sz_words.specs.Lists.{kills_in, shards_in}
+use Rattle.sz_words.specs.Parts.{option_names, values_of, parts_of}
+use Rattle.sz_words.specs.declared.reading.Numbers.{Numbers}
+use Rattle.sz_words.specs.declared.settings.RunSettings.{RunSettings}
+use Rattle.sz_words.specs.declared.settings.Kill.{Kill}
+use Rattle.sz_words.specs.declared.settings.Settings.{Settings}
+use Rattle.sz_words.specs.declared.settings.Settings.TheVariants.{Run, Check, Selftest}
+
+-- the values that were given to each option, by its name
+abbrev pub Values : Type 0
+Values = List ℕ → List (List ℕ)
+
+-- whether no option was given more than once
+abbrev pub stand_once : Values → Bool
+stand_once given = list_all (λ name. nat_le (length (given name)) 1) option_names
+
+-- whether no option was given
+abbrev pub are_absent : Values → Bool
+are_absent given = list_all (λ name. nat_eq (length (given name)) 0) option_names
+
+-- the value that was given to an option, if one was
+abbrev pub value_of : Values → List ℕ → Option (List ℕ)
+value_of given name = slice_get (given name) 0
+
+-- the frame that the value of `--frame` names; lines without one
+abbrev pub frame_in : Option (List ℕ) → Option Frame
+frame_in None = Some Lines
+frame_in (Some word) =
+    if bytes_eq word (codes "lines") then Some Lines
+    else if bytes_eq word (codes "delimited") then Some Delimited else None
+
+-- the number that an option's value writes, and another where the option isn't given
+abbrev pub number_or : ℕ → ℕ → ℕ → Option (List ℕ) → Option ℕ
+number_or default least most None = Some default
+number_or default least most (Some word) = number_in least most word
+
+-- the kills that the value of `--kill` names; none are listed without one
+abbrev pub kills_or_none : Option (List ℕ) → Option (List Kill)
+kills_or_none None = Some []
+kills_or_none (Some text) = kills_in text
+
+-- the shards that the value of `--twice` names; none are doubled without one
+abbrev pub shards_or_none : Option (List ℕ) → Option (List ℕ)
+shards_or_none None = Some []
+shards_or_none (Some text) = shards_in text
+
+-- whether a name is standard input's
+abbrev pub is_standard_input : List ℕ → Bool
+is_standard_input name = bytes_eq name (codes "-")
+
+-- whether a program and an input can be named so: neither is empty, and standard input is at most one of them
+abbrev pub are_files : List ℕ → List ℕ → Bool
+are_files program input =
+    not (nat_eq (length program) 0) && not (nat_eq (length input) 0)
+    && not (is_standard_input program && is_standard_input input)
+
+-- what the options with one number or word ask for, each within its bounds
+abbrev pub numbers_in : Values → Option Numbers
+numbers_in given =
+    option_and_then (λ frame.
+    option_and_then (λ workers.
+    option_and_then (λ shard.
+    option_and_then (λ attempts.
+    option_and_then (λ budget.
+    Some (record { frame = frame; workers = workers; shard = shard; attempts = attempts; budget = budget }))
+    (number_or (2 ^ 24) 1 (2 ^ 32) (value_of given (codes "budget"))))
+    (number_or 3 1 8 (value_of given (codes "attempts"))))
+    (number_or 1000 1 65536 (value_of given (codes "shard"))))
+    (number_or 4 1 64 (value_of given (codes "workers"))))
+    (frame_in (value_of given (codes "frame")))
+
+-- what is asked for by `run` with these options, a program and an input
+unfoldable pub run_with : Values → List ℕ → List ℕ → Option RunSettings
+run_with given program input =
+    option_and_then (λ numbers.
+    option_and_then (λ kills.
+    option_and_then (λ twice.
+    Some (record {
+      program = program;
+      input = input;
+      frame = numbers.frame;
+      workers = numbers.workers;
+      shard = numbers.shard;
+      attempts = numbers.attempts;
+      budget = numbers.budget;
+      kills = kills;
+      twice = twice;
+    }))
+    (shards_or_none (value_of given (codes "twice"))))
+    (kills_or_none (value_of given (codes "kill"))))
+    (numbers_in given)
+
+-- the program and the input that two names are
+abbrev pub files_in : List (List ℕ) → Option (List ℕ × List ℕ)
+files_in (program ∷ input ∷ []) = if are_files program input then Some (program, input) else None
+files_in _ = None
+
+-- what is asked for by `run PROGRAM INPUT`; no option stands twice
+abbrev pub run_settings : Values → List (List ℕ) → Option Settings
+run_settings given names =
+    if stand_once given then option_and_then (λ files. option_map Run (run_with given files.0 files.1)) (files_in names) else None
+
+-- what is asked for by `check PROGRAM`, which takes no options
+abbrev pub check_settings : Values → List (List ℕ) → Option Settings
+check_settings given (program ∷ []) = if are_absent given && not (nat_eq (length program) 0) then Some (Check program) else None
+check_settings given _ = None
+
+-- what is asked for by `selftest SEED RECORDS WORKERS`, which takes no options
+abbrev pub selftest_settings : Values → List (List ℕ) → Option Settings
+selftest_settings given (seed ∷ records ∷ workers ∷ []) =
+    if are_absent given
+    then option_and_then (λ s. option_and_then (λ r. option_and_then (λ w. Some (Selftest s r w))
+    (number_in 1 64 workers)) (number_in 0 1000000 records)) (number_in 0 (2 ^ 63 - 1) seed)
+    else None
+selftest_settings given _ = None
+
+-- what is asked for by a command with these options and names behind it
+abbrev pub command_settings : List ℕ → Values → List (List ℕ) → Option Settings
+command_settings command given names =
+    if bytes_eq command (codes "run") then run_settings given names
+    else if bytes_eq command (codes "check") then check_settings given names
+    else if bytes_eq command (codes "selftest") then selftest_settings given names else None
+
+-- what is asked for by a command and the words behind it
+abbrev pub line_settings : List ℕ → List (List ℕ) → Option Settings
+line_settings command words =
+    option_and_then (λ parts. command_settings command (λ name. values_of name parts.options) parts.names) (parts_of words)
+
+-- what a command line asks for; other words have no settings
+abbrev pub settings_in : List (List ℕ) → Option Settings
+settings_in [] = None
+settings_in (command ∷ words) = line_settings command words

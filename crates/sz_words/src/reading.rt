@@ -1,0 +1,244 @@
+//! What a command line asks for.
+ghost use Rattle.std.specs.Prelude.{◌≡◌, ◌≤◌, ◌^◌, map, string_bytes, IfOk, IfErr, MatchOption, Some, None};
+ghost use Rattle.std.specs.Prelude.{option_map};
+ghost use Rattle.sz_words.specs.Matches.{names_in, values_in};
+ghost use Rattle.sz_words.specs.Settings.{settings_in, frame_in, number_or, kills_or_none, shards_or_none, are_files};
+ghost use Rattle.sz_words.specs.Settings.{value_of};
+ghost use Rattle.sz_words.specs.Settings.{numbers_in, files_in, run_with, run_settings, check_settings};
+ghost use Rattle.sz_words.specs.Settings.{selftest_settings, command_settings, line_settings};
+ghost use Rattle.sz_words.specs.declared.error.WordsError.TheVariants.{Usage};
+ghost use Rattle.sz_words.specs.declared.settings.Settings.TheVariants.{Run};
+
+use crate::error::WordsError;
+use crate::lists::{kills_in, shards_in};
+use crate::numbers::{number_in, small_number_in};
+use crate::settings::{Kills, RunSettings, Settings, Twice};
+use crate::words::{are_absent, matches_of, stand_once, value_of};
+use clap::ArgMatches;
+use std::alloc::Global;
+use sz_list::Items;
+use sz_types::{Frame, Text};
+
+/// What the words behind the program's name ask for: the command, its options and its names.
+///
+/// `Usage` exactly where they are no command line.
+pub fn read_words(alloc: Global, words: &[String]) -> Result<Settings, WordsError>
+    ensures value { IfOk result (λ s. settings_in (map string_bytes words.now) ≡ Some s) }
+    ensures usage { IfErr result (λ e. e ≡ Usage → settings_in (map string_bytes words.now) ≡ None) }
+{
+    match words {
+        [] => Err(WordsError::Usage),
+        [command, words @ ..] => line_settings(alloc, command, words),
+    }
+}
+
+// What is asked for by a command and the words behind it.
+fn line_settings(alloc: Global, command: &str, words: &[String]) -> Result<Settings, WordsError>
+    ensures value { IfOk result (λ s. line_settings command.now (map string_bytes words.now) ≡ Some s) }
+    ensures usage { IfErr result (λ e. e ≡ Usage → line_settings command.now (map string_bytes words.now) ≡ None) }
+{
+    let matches = matches_of(alloc, words)?;
+    command_settings(alloc, command, &matches)
+}
+
+// What is asked for by a command with these options and names behind it.
+#[tactic(auto, using(crate::proofs::MatchLemmas::no_names))]
+fn command_settings(
+    alloc: Global,
+    command: &str,
+    matches: &ArgMatches,
+) -> Result<Settings, WordsError>
+    ensures value { IfOk result (λ s.
+        command_settings command.now (values_in matches.now) (names_in matches.now) ≡ Some s) }
+    ensures usage { IfErr result (λ e. e ≡ Usage
+        → command_settings command.now (values_in matches.now) (names_in matches.now) ≡ None) }
+{
+    let Some(names) = matches.get_raw("name") else {
+        return Err(WordsError::Usage);
+    };
+    match command {
+        "run" => run_settings(alloc, matches, names),
+        "check" => check_settings(alloc, matches, names),
+        "selftest" => selftest_settings(matches, names).ok_or(WordsError::Usage),
+        _ => Err(WordsError::Usage),
+    }
+}
+
+// What is asked for by `run PROGRAM INPUT`.
+fn run_settings(alloc: Global, options: &ArgMatches, names: &[&str]) -> Result<Settings, WordsError>
+    ensures value { IfOk result (λ s. run_settings (values_in options.now) (map (λ n. n.now) names.now) ≡ Some s) }
+    ensures usage { IfErr result (λ e. e ≡ Usage → run_settings (values_in options.now) (map (λ n. n.now) names.now) ≡ None) }
+{
+    let Some((program, input)) = files_in(names) else {
+        return Err(WordsError::Usage);
+    };
+    if !stand_once(options) {
+        return Err(WordsError::Usage);
+    }
+    let settings = run_with(alloc, options, program, input)?;
+    Ok(Settings::Run(settings))
+}
+
+// The program and the input that two names are.
+fn files_in<'n>(names: &[&'n str]) -> Option<(&'n str, &'n str)>
+    ensures value { option_map (λ f. (f.0.now, f.1.now)) result ≡ files_in (map (λ n. n.now) names.now) }
+{
+    match names {
+        [program, input] if are_files(program, input) => Some((*program, *input)),
+        _ => None,
+    }
+}
+
+// What is asked for by `run` with these options, a program and an input.
+#[tactic(auto, unfolding(crate::specs::Settings::run_with))]
+fn run_with(
+    alloc: Global,
+    options: &ArgMatches,
+    program: &str,
+    input: &str,
+) -> Result<RunSettings, WordsError>
+    ensures value { IfOk result (λ s. run_with (values_in options.now) program.now input.now ≡ Some s) }
+    ensures usage { IfErr result (λ e. e ≡ Usage → run_with (values_in options.now) program.now input.now ≡ None) }
+{
+    let Some(numbers) = numbers_in(options) else {
+        return Err(WordsError::Usage);
+    };
+    let kills = kills_or_none(alloc, value_of(options, "kill"))?;
+    let twice = shards_or_none(alloc, value_of(options, "twice"))?;
+    Ok(RunSettings {
+        program: Text::from_str(alloc, program)?,
+        input: Text::from_str(alloc, input)?,
+        frame: numbers.frame,
+        workers: numbers.workers,
+        shard: numbers.shard,
+        attempts: numbers.attempts,
+        budget: numbers.budget,
+        kills,
+        twice,
+    })
+}
+
+/// What the options with one number or word ask for.
+#[derive(Clone, Copy)]
+pub struct Numbers {
+    pub frame: Frame,
+    pub workers: u32,
+    pub shard: u32,
+    pub attempts: u32,
+    pub budget: u64,
+}
+
+// What the options with one number or word ask for.
+fn numbers_in(options: &ArgMatches) -> Option<Numbers>
+    ensures value { result ≡ numbers_in (values_in options.now) }
+{
+    let frame = frame_in(value_of(options, "frame"))?;
+    let workers = small_number_or(4, 1, 64, value_of(options, "workers"))?;
+    let shard = small_number_or(1000, 1, 65_536, value_of(options, "shard"))?;
+    let attempts = small_number_or(3, 1, 8, value_of(options, "attempts"))?;
+    let budget = number_or(1 << 24, 1, 1 << 32, value_of(options, "budget"))?;
+    Some(Numbers {
+        frame,
+        workers,
+        shard,
+        attempts,
+        budget,
+    })
+}
+
+// The frame that the value of `--frame` names.
+fn frame_in(value: Option<&str>) -> Option<Frame>
+    ensures value { result ≡ frame_in (option_map (λ v. v.now) value.entry) }
+{
+    match value {
+        None => Some(Frame::Lines),
+        Some("lines") => Some(Frame::Lines),
+        Some("delimited") => Some(Frame::Delimited),
+        Some(_) => None,
+    }
+}
+
+// The number that an option's value writes, and another where the option isn't given.
+fn number_or(default: u64, least: u64, most: u64, value: Option<&str>) -> Option<u64>
+    ensures value { result ≡ number_or default least most (option_map (λ v. v.now) value.entry) }
+{
+    match value {
+        None => Some(default),
+        Some(word) => number_in(word.as_bytes(), least, most),
+    }
+}
+
+// The same, of numbers of 32 bits.
+fn small_number_or(default: u32, least: u32, most: u32, value: Option<&str>) -> Option<u32>
+    ensures value { result ≡ number_or default least most (option_map (λ v. v.now) value.entry) }
+{
+    match value {
+        None => Some(default),
+        Some(word) => small_number_in(word.as_bytes(), least, most),
+    }
+}
+
+// The kills that the value of `--kill` names.
+fn kills_or_none(alloc: Global, value: Option<&str>) -> Result<Kills, WordsError>
+    ensures value { IfOk result (λ kills. kills_or_none (option_map (λ v. v.now) value.entry) ≡ Some kills) }
+    ensures usage { IfErr result (λ e. e ≡ Usage → kills_or_none (option_map (λ v. v.now) value.entry) ≡ None) }
+{
+    match value {
+        None => Ok(Items::new(alloc)),
+        Some(text) => kills_in(alloc, text.as_bytes()),
+    }
+}
+
+// The shards that the value of `--twice` names.
+fn shards_or_none(alloc: Global, value: Option<&str>) -> Result<Twice, WordsError>
+    ensures value { IfOk result (λ shards. shards_or_none (option_map (λ v. v.now) value.entry) ≡ Some shards) }
+    ensures usage { IfErr result (λ e. e ≡ Usage → shards_or_none (option_map (λ v. v.now) value.entry) ≡ None) }
+{
+    match value {
+        None => Ok(Items::new(alloc)),
+        Some(text) => shards_in(alloc, text.as_bytes()),
+    }
+}
+
+// Whether a program and an input can be named so.
+fn are_files(program: &str, input: &str) -> bool
+    ensures value { result ≡ are_files program.now input.now }
+{
+    !program.is_empty() && !input.is_empty() && !(program == "-" && input == "-")
+}
+
+// What is asked for by `check PROGRAM`, which takes no options.
+fn check_settings(
+    alloc: Global,
+    options: &ArgMatches,
+    names: &[&str],
+) -> Result<Settings, WordsError>
+    ensures value { IfOk result (λ s. check_settings (values_in options.now) (map (λ n. n.now) names.now) ≡ Some s) }
+    ensures usage { IfErr result (λ e. e ≡ Usage → check_settings (values_in options.now) (map (λ n. n.now) names.now) ≡ None) }
+{
+    match names {
+        [program] if are_absent(options) && !program.is_empty() => Ok(Settings::Check(
+            Text::from_str(alloc, program)?,
+        )),
+        _ => Err(WordsError::Usage),
+    }
+}
+
+// What is asked for by `selftest SEED RECORDS WORKERS`, which takes no options.
+fn selftest_settings(options: &ArgMatches, names: &[&str]) -> Option<Settings>
+    ensures value { result ≡ selftest_settings (values_in options.now) (map (λ n. n.now) names.now) }
+{
+    match names {
+        [seed, records, workers] if are_absent(options) => {
+            let seed = number_in(seed.as_bytes(), 0, i64::MAX as u64)?;
+            let records = small_number_in(records.as_bytes(), 0, 1_000_000)?;
+            let workers = small_number_in(workers.as_bytes(), 1, 64)?;
+            Some(Settings::Selftest {
+                seed,
+                records,
+                workers,
+            })
+        }
+        _ => None,
+    }
+}

@@ -1,0 +1,65 @@
+//! What a command line asks for.
+use sz_list::Items;
+use sz_types::{Frame, Text};
+
+/// An attempt that dies.
+#[derive(Clone, Copy, Debug, PartialEq, Eq)]
+pub struct Kill {
+    /// The shard, counted from 0.
+    pub shard: u32,
+    /// The number of the attempt on that shard, counted from 0.
+    pub number: u32,
+    /// After how many records of the shard it dies.
+    pub after: u32,
+}
+
+/// Kills, in the order of the words. No two are of the same attempt.
+///
+/// Contracts see a list.
+pub type Kills = Items<Kill>;
+
+/// The shards that have a second ticket, in the order of the words, each once.
+///
+/// Contracts see a list.
+pub type Twice = Items<u32>;
+
+/// What a run is asked for.
+#[derive(Drop)]
+pub struct RunSettings {
+    /// The name of the program's file, or `-` for standard input.
+    pub program: Text,
+    /// The name of the input's file, or `-` for standard input.
+    pub input: Text,
+    /// How the records of the input are told apart.
+    pub frame: Frame,
+    /// The number of threads that work: 1 to 64.
+    pub workers: u32,
+    /// The most records of a shard: 1 to 65,536.
+    pub shard: u32,
+    /// The number of attempts on a shard: 1 to 8.
+    pub attempts: u32,
+    /// The ticks that a record may take: 1 to 2^32.
+    pub budget: u64,
+    /// The attempts that die.
+    pub kills: Kills,
+    /// The shards with a second ticket.
+    pub twice: Twice,
+}
+
+/// What a command line asks for.
+#[derive(Drop)]
+pub enum Settings {
+    /// To run a program over an input.
+    Run(RunSettings),
+    /// To check the program of this name, or of standard input where it is `-`.
+    Check(Text),
+    /// To run the program of the self test over a generated input.
+    Selftest {
+        /// What the input is generated from: at most 2^63 - 1.
+        seed: u64,
+        /// The number of records of the input: at most 1,000,000.
+        records: u32,
+        /// The number of threads that work: 1 to 64.
+        workers: u32,
+    },
+}

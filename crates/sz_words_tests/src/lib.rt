@@ -1,0 +1,7 @@
+//! Tests of command lines: words, and the settings that they have.
+#![tactic(auto)]
+
+#[cfg(test)]
+mod rows;
+#[cfg(test)]
+mod told;
