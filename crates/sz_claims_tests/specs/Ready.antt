@@ -1,8 +1,8 @@
 -- What a pass is at, as its own calls show it.
 use Rattle.sz_book.specs.History.{HasDrawn, HasNumber}
 use Rattle.sz_claims.specs.Known.{PassData}
-use Rattle.sz_claims_tests.specs.declared.schedules.At.{At}
-use Rattle.sz_claims_tests.specs.declared.schedules.At.TheVariants.{Rest, Ticket, Attempt}
+use Rattle.sz_claims_tests.specs.declared.progress.At.{At}
+use Rattle.sz_claims_tests.specs.declared.progress.At.TheVariants.{Rest, Ticket, Attempt}
 
 -- the pass drew the ticket that it is at, and was given the number
 abbrev pub IsReady : At → PassData → Type 0

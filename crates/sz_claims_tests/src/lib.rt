@@ -5,6 +5,7 @@
 mod placing;
 #[cfg(test)]
 mod plans;
+pub mod progress;
 #[cfg(test)]
 mod rows;
 #[cfg(test)]

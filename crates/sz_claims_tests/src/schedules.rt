@@ -7,20 +7,13 @@ ghost use Rattle.sz_claims_tests.specs.Ready.{IsReady};
 
 use crate::placing::place;
 use crate::plans::{four_shards, six_tickets, two_tickets};
+use crate::progress::At;
 use crate::tally::{Tally, empty_lanes, times_in};
 use std::alloc::Global;
 use std::process::Abort;
 use std::test::Fail;
 use sz_book::{Claim, Closed, Core, Event, NoMemory, Plan, Reply, Settled};
 use sz_claims::{Ledger, Pass};
-
-/// What a pass is at: it has no ticket, or one, or one with the number of an attempt.
-#[derive(Clone, Copy)]
-pub enum At {
-    Rest,
-    Ticket(Claim),
-    Attempt(Claim, u32),
-}
 
 // What was asked of the shared ledger, what it answered, and what the pass is at then.
 #[derive(Clone, Copy)]
