@@ -68,13 +68,13 @@ impl Model for Program {
 
     ghost view = { λ program. record { items = map item_of program.items.items; locals = program.locals } };
 
-    ghost invariant = { λ program. ∥ IsSound (record { items = map item_of program.items.items; locals = program.locals }) ∥₁ };
+    ghost invariant = { λ program. IsSound (record { items = map item_of program.items.items; locals = program.locals }) };
 }
 
 impl Program {
     /// The program of these parts, which takes no memory.
     pub fn new(items: Vec<Item>, locals: Tys) -> Program
-        requires sound { ∥ IsSound (core_of (map item_of items.items) locals) ∥₁ }
+        requires sound { IsSound (core_of (map item_of items.items) locals) }
         ensures value { result ≡ core_of (map item_of items.items) locals }
     {
         Program { items, locals }
@@ -83,7 +83,7 @@ impl Program {
     /// The items, in order.
     pub fn items(&self) -> &[Item]
         ensures value { map item_of result.now ≡ self.now.items }
-        ensures sound { ∥ IsSound self.now ∥₁ }
+        ensures sound { IsSound self.now }
     {
         self.items.as_slice()
     }
@@ -91,7 +91,7 @@ impl Program {
     /// The types of the record's variables.
     pub fn locals(&self) -> &Tys
         ensures value { result.now ≡ self.now.locals }
-        ensures sound { ∥ IsSound self.now ∥₁ }
+        ensures sound { IsSound self.now }
     {
         &self.locals
     }
@@ -99,7 +99,7 @@ impl Program {
     /// Gives the items and the types of the record's variables back, and takes no memory.
     pub fn into_parts(self) -> (Vec<Item>, Tys)
         ensures value { core_of (map item_of result.0.items) result.1 ≡ self }
-        ensures sound { ∥ IsSound self ∥₁ }
+        ensures sound { IsSound self }
     {
         (self.items, self.locals)
     }

@@ -1,15 +1,18 @@
 -- How the code of statements and of programs is put together.
-use Rattle.std.proofs.Common.{◌≡◌, ◌∙◌, ℕ, suc, ◌+◌, ◌<◌, ◌≤◌, List, [], ◌∷◌, ◌++◌, length, map, drop, get_or, Option, Some, None, pos, refl, sym, ap, subst, arith}
+use Rattle.std.proofs.Common.{◌≡◌, ◌∙◌, ℕ, suc, ◌+◌, ◌<◌, List, [], ◌∷◌, ◌++◌, length, Option, Some, None, pos, refl, sym, ap, subst, arith}
 use Rattle.std.proofs.Common.{append_assoc, append-nil, length-append}
 use Rattle.std.specs.Prelude.{is_some}
 use Rattle.std.specs.Option.{option_map}
 use Rattle.sz_types.specs.declared.place.Place.{Place}
+use Rattle.sz_types.specs.Tables.{Declaration}
 use Rattle.sz_value.specs.Data.{Datum}
-use Rattle.sz_core.specs.Statements.{Stm, stms_of}
-use Rattle.sz_core.specs.Nodes.{Node}
-use Rattle.sz_core.specs.Programs.{Core, Function, Static, functions_of, statics_of, tables_of}
+use Rattle.sz_core.specs.Statements.{Stm}
+use Rattle.sz_core.specs.Programs.{Core, Function, Static, functions_of, statics_of, statements_of, tables_of}
 use Rattle.sz_core.specs.declared.stmt.CoreStmt.{CoreStmt}
-use Rattle.sz_core.specs.View.{stm_of}
+use Rattle.sz_core.specs.declared.program.Item.{Item}
+use Rattle.sz_core.specs.declared.program.Item.TheVariants as items
+use Rattle.sz_core.specs.Programs as program
+use Rattle.sz_core.specs.View.{stm_of, item_of}
 use Rattle.sz_instr.specs.declared.instr.Instr.{Instr}
 use Rattle.sz_instr.specs.declared.instr.Instr.TheVariants.{Jump, Test, Tick, KeepStatic, EndRecord}
 use Rattle.sz_instr.specs.declared.line.Line.{Line}
@@ -17,10 +20,10 @@ use Rattle.sz_instr.specs.declared.routine.Routine.{Routine}
 use Rattle.sz_instr.specs.declared.code.Code.{Code}
 use Rattle.sz_mean.specs.Programs.{body_of}
 use Rattle.sz_gen_expr.specs.declared.builder.Builder.{Builder}
-use Rattle.sz_gen_expr.specs.Tables.{Tables, tables_in, line, HasConstant}
+use Rattle.sz_gen_expr.specs.Tables.{Tables, HasConstant}
 use Rattle.sz_gen_expr.specs.ExpressionCode.{followed}
 use Rattle.sz_gen_expr.specs.Building.{tables_made, Grows, Appends, AppendsLine, AppendsNode, Lands, Nothing}
-use Rattle.sz_gen_expr.proofs.Builds.{grows_itself, grows_on, grows_same, behind, renamed, no_more, no_shorter, one_longer}
+use Rattle.sz_gen_expr.proofs.Builds.{grows_itself, grows_on, grows_same, behind, no_shorter, one_longer}
 use Rattle.sz_gen_stmt.specs.StatementCode as codes
 use Rattle.sz_gen_stmt.specs.StatementCode.{no_place, no_exits, branch_code, loop_code, loop_behind_code}
 use Rattle.sz_gen_stmt.specs.ProgramCode.{IsCodeOf, returns_undefined, function_code, functions_code, function_routines, static_code, statics_code, static_routines, record_code}
@@ -233,21 +236,22 @@ static_made old m1 m2 m3 new s n is statics lines functions constants types h k 
     }
 
 -- a whole program: its functions, its statics and its record
-pub program_made : (core : Core) (code : Code) (m0 m1 m2 m3 : Builder) (entry : ℕ)
+pub program_made : (core : Core) (code : Code) (m0 m1 m2 m3 : Builder) (entry locals : ℕ) (tables : List Declaration)
     → m0.lines ≡ [] → m0.functions ≡ [] → m0.statics ≡ []
     → ExtendsFunctions m0 m1 (functions_of core.items) → ExtendsStatics m1 m2 (length m1.statics) (statics_of core.items)
     → entry ≡ length m2.lines → Appends m2 m3 (λ tables at. record_code tables core at) (λ tables. StmsHaveNames tables (body_of core))
+    → locals ≡ length core.locals → tables ≡ tables_of core.items
     → code ≡ record {
       lines = m3.lines;
       functions = m3.functions;
       statics = m3.statics;
-      main = record { entry = entry; params = 0; locals = length core.locals };
+      main = record { entry = entry; params = 0; locals = locals };
       constants = m3.constants;
       types = m3.types;
-      tables = tables_of core.items;
+      tables = tables;
     }
     → IsCodeOf core code
-program_made core code m0 m1 m2 m3 entry no_lines no_functions no_statics h k is_entry l is_code =
+program_made core code m0 m1 m2 m3 entry locals tables no_lines no_functions no_statics h k is_entry l is_locals is_tables is_code =
     let t : Tables = tables_made m3 in
     let g2 = grows_on l.grows (grows_itself t) in
     let g1 = grows_on k.grows g2 in
@@ -265,7 +269,33 @@ program_made core code m0 m1 m2 m3 entry no_lines no_functions no_statics h k is
       functions = l.functions ∙ k.functions t g2 ∙ append-nil m1.functions ∙ h.functions t g1
           ∙ (λ j. (no_functions j) ++ function_routines t fs (length (no_lines j)));
       statics = l.statics ∙ k.statics t g2 ∙ (λ j. (statics1 j) ++ static_routines t (length (statics1 j)) ss (length (lines1 j)));
-      main = ap (λ n. record { entry = n; params = 0; locals = length core.locals }) (is_entry ∙ ap length lines2 ∙ length-append first second);
+      main = λ j. record { entry = (is_entry ∙ ap length lines2 ∙ length-append first second) j; params = 0; locals = is_locals j };
       names = record { functions = h.names t g1; statics = k.names t g2; body = l.names t (grows_itself t) };
-      tables = refl;
+      tables = is_tables;
     }
+
+-- ---- items of other kinds
+
+pub no_function : (i : Item) (rest : List program.Item) → ((f : _) → i ≡ items.Function f → ⊥) → functions_of (item_of i ∷ rest) ≡ functions_of rest
+no_function (items.Table d) rest other = refl
+no_function (items.Function f) rest other = absurd (other f refl)
+no_function (items.Static s) rest other = refl
+no_function (items.Statement s) rest other = refl
+
+pub no_static : (i : Item) (rest : List program.Item) → ((s : _) → i ≡ items.Static s → ⊥) → statics_of (item_of i ∷ rest) ≡ statics_of rest
+no_static (items.Table d) rest other = refl
+no_static (items.Function f) rest other = refl
+no_static (items.Static s) rest other = absurd (other s refl)
+no_static (items.Statement s) rest other = refl
+
+pub no_statement : (i : Item) (rest : List program.Item) → ((s : _) → i ≡ items.Statement s → ⊥) → statements_of (item_of i ∷ rest) ≡ statements_of rest
+no_statement (items.Table d) rest other = refl
+no_statement (items.Function f) rest other = refl
+no_statement (items.Static s) rest other = refl
+no_statement (items.Statement s) rest other = absurd (other s refl)
+
+pub no_table : (i : Item) (rest : List program.Item) → ((d : _) → i ≡ items.Table d → ⊥) → tables_of (item_of i ∷ rest) ≡ tables_of rest
+no_table (items.Table d) rest other = absurd (other d refl)
+no_table (items.Function f) rest other = refl
+no_table (items.Static s) rest other = refl
+no_table (items.Statement s) rest other = refl

@@ -1,6 +1,6 @@
 -- Lines that are given their targets in the code of branches and loops.
-use Rattle.std.proofs.Common.{◌≡◌, ◌∙◌, ℕ, zero, suc, ◌+◌, ◌<◌, List, [], ◌∷◌, ◌++◌, length, refl, sym, ap, arith, append_assoc, length-append, add_assoc}
-use Rattle.sz_instr.specs.declared.instr.Instr.TheVariants.{Jump, Test, Tick}
+use Rattle.std.proofs.Common.{◌≡◌, ◌∙◌, ℕ, zero, suc, ◌+◌, List, [], ◌∷◌, ◌++◌, length, refl, ap, arith, append_assoc, length-append, add_assoc}
+use Rattle.sz_instr.specs.declared.instr.Instr.TheVariants.{Test, Tick}
 use Rattle.sz_instr.specs.declared.line.Line.{Line}
 use Rattle.sz_types.specs.declared.place.Place.{Place}
 use Rattle.sz_gen_expr.specs.Tables.{line}

@@ -56,13 +56,13 @@ pub fn gen_stmt(s: &CoreStmt, out: Exits, into: &mut Builder) -> Result<(), NoMe
             Ok(())
         }
         CoreStmt::While(place, test, body) => {
-            let to_test = into.here();
+            let entry = into.here();
             free(Instr::Jump(0), into)?;
             let past = into.here();
             free(Instr::Jump(0), into)?;
             let again = into.here();
             into.close(Instr::Tick, *place)?;
-            into.land(to_test);
+            into.land(entry);
             gen_test(*place, test, past, into)?;
             let inside = Exits {
                 on_break: past,
@@ -74,14 +74,14 @@ pub fn gen_stmt(s: &CoreStmt, out: Exits, into: &mut Builder) -> Result<(), NoMe
             Ok(())
         }
         CoreStmt::DoWhile(place, body, test) => {
-            let to_body = into.here();
+            let entry = into.here();
             free(Instr::Jump(0), into)?;
             let past = into.here();
             free(Instr::Jump(0), into)?;
             let to_test = into.here();
             free(Instr::Jump(0), into)?;
             let again = into.here();
-            into.land(to_body);
+            into.land(entry);
             let inside = Exits {
                 on_break: past,
                 on_continue: to_test,
@@ -95,21 +95,21 @@ pub fn gen_stmt(s: &CoreStmt, out: Exits, into: &mut Builder) -> Result<(), NoMe
             Ok(())
         }
         CoreStmt::For(place, test, between, body) => {
-            let to_test = into.here();
+            let entry = into.here();
             free(Instr::Jump(0), into)?;
             let past = into.here();
             free(Instr::Jump(0), into)?;
-            let again = into.here();
+            let to_step = into.here();
             gen_stmt(between, out, into)?;
             into.close(Instr::Tick, *place)?;
-            into.land(to_test);
+            into.land(entry);
             gen_test_if_some(*place, test, past, into)?;
             let inside = Exits {
                 on_break: past,
-                on_continue: again,
+                on_continue: to_step,
             };
             gen_stmt(body, inside, into)?;
-            free(Instr::Jump(again), into)?;
+            free(Instr::Jump(to_step), into)?;
             into.land(past);
             Ok(())
         }

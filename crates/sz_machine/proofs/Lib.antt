@@ -1,5 +1,1 @@
-pub mod ForCallers
-pub mod NumbersLemmas
-pub mod ActingLemmas
-pub mod RunLemmas
-mod TestLemmas
+pub mod OneEnd

@@ -1,17 +1,6 @@
-//! The machine that runs the code of a program on one record.
+//! The machine that runs the code of a program, as definitions: states, what each instruction does to one, charges, and runs.
 #![tactic(auto)]
 
-mod code;
-mod emits;
-mod numbers;
-mod running;
-mod stack;
-mod state;
-#[cfg(test)]
-mod tests;
+mod laws;
 
-pub use code::{Code, Instr};
-pub use emits::{Emit, Emits};
-pub use numbers::{number_in, operate};
-pub use running::run;
-pub use sz_value::NoMemory;
+pub use laws::a_run_ends_in_one_way;

@@ -1,4 +1,4 @@
-mod MeaningLemmas
-mod StandardFacts
+pub mod EmitCosts
+pub mod RecordLaws
 pub mod WorkedTrees
 mod WorkedExamples

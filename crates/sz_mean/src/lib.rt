@@ -2,7 +2,5 @@
 #![tactic(auto)]
 
 mod laws;
-mod operator;
 
-pub use laws::{records_join, statements_join, sums_join, tables_join};
-pub use operator::BinOp;
+pub use laws::{each_emit_takes_a_tick, records_are_numbered_from_one};

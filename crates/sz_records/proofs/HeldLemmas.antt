@@ -1,10 +1,174 @@
--- Records without the first of them.
-use Rattle.std.proofs.Common.{◌≡◌, ℕ, ◌-◌, List, ◌++◌, length, take, drop, map, sym, ap, ◌∙◌, arith, length-drop}
-use Rattle.std.proofs.lemmas.List.{take_at, drop-map}
-use Rattle.std.specs.Global.{Vec}
-use Rattle.sz_records.specs.Held.{bytes_of}
+-- Records that lie in one list of bytes.
+use Rattle.std.proofs.Common.{◌≡◌, ℕ, zero, suc, ◌+◌, ◌-◌, ◌<◌, ◌≤◌, List, [], ◌∷◌, ◌++◌, length, take, drop, map, set, get_or, Some, refl, sym, subst, ap, ◌∙◌, arith, length-drop}
+use Rattle.std.specs.Prelude.{slice_get}
+use Rattle.std.specs.List.{slice_range, copy_within}
+use Rattle.std.proofs.lemmas.List.{take_all, take-append-le, take-append-drop, drop-append-le, drop-drop, length-take-le, append_assoc, append-nil, take_more_set, drop-set-lt, drop_more, drop_all}
+use Rattle.std.proofs.Math.Seq.{drop-append_seam}
+use Rattle.std.proofs.lemmas.List.Edits.{take-paste}
+use Rattle.sz_records.specs.Held.{records_at, AreEnds}
 
-pub cleared : (held : List (Vec ℕ)) (front left : ℕ) → left ≡ length held - front
-    → map bytes_of (take left (drop front held ++ take front held)) ≡ drop front (map bytes_of held)
-cleared held front left e =
-    ap (map bytes_of) (take_at (drop front held) (take front held) left (omega (arith, length-drop front held, e))) ∙ sym (drop-map bytes_of front held)
+-- what is left of a list whose rest was moved to its front
+pub left_behind : {X : Type 0} (xs : List X) (k n : ℕ) → n ≡ length xs - k → k ≤ length xs → take n (copy_within xs k (length xs) 0) ≡ drop k xs
+left_behind xs k n e le =
+    let rest = length-drop k xs in
+    let pasted : take (length xs - k) (copy_within xs k (length xs) 0) ≡ take (length xs - k) (drop k xs) =
+    ap (λ (m : ℕ). take m (copy_within xs k (length xs) 0)) (let none : length xs - k ≡ 0 + (length xs - k) = omega arith in none)
+    ∙ take-paste xs 0 (drop k xs) (length xs - k) (omega arith) (omega (arith, rest)) in
+    rw e (pasted ∙ take_all (length xs - k) (drop k xs) (omega (arith, rest)))
+
+-- as many records as ends
+pub held_len : (from : ℕ) (ends bytes : List ℕ) → length (records_at from ends bytes) ≡ length ends
+held_len from [] bytes = refl
+held_len from (end ∷ ends) bytes = ap suc (held_len end ends bytes)
+
+pub end_at : (self : List (List ℕ)) (ends bytes : List ℕ) (i : ℕ) → records_at 0 ends bytes ≡ self → i < length self → i < length ends
+end_at self ends bytes i is lt = let n = ap length is in let m = held_len 0 ends bytes in omega (arith, lt, n, m)
+
+pub ends_up_to : (self : List (List ℕ)) (ends bytes : List ℕ) (i : ℕ) → records_at 0 ends bytes ≡ self → i ≤ length self → i ≤ length ends
+ends_up_to self ends bytes i is le = let n = ap length is in let m = held_len 0 ends bytes in omega (arith, le, n, m)
+
+-- the bytes of a record lie between the end of the one before and its own
+pub held_at : (from : ℕ) (ends bytes : List ℕ) (i : ℕ) → i < length ends
+    → slice_get (records_at from ends bytes) i ≡ Some (slice_range bytes (get_or (from ∷ ends) i 0) (get_or ends i 0))
+held_at from [] bytes i lt = absurd (omega (arith, lt))
+held_at from (end ∷ ends) bytes zero lt = refl
+held_at from (end ∷ ends) bytes (suc i) lt = held_at end ends bytes i (omega (arith, lt))
+
+-- no end is behind the last one
+pub ends_rise : (from : ℕ) (ends : List ℕ) (len : ℕ) → AreEnds from ends len → from ≤ len
+ends_rise from [] len h = omega (arith, h)
+ends_rise from (end ∷ ends) len h = let more = ends_rise end ends len h.1 in let low = h.0 in omega (arith, low, more)
+
+pub end_within : (from : ℕ) (ends : List ℕ) (len i : ℕ) → AreEnds from ends len → i < length ends
+    → (get_or (from ∷ ends) i 0 ≤ get_or ends i 0) × (get_or ends i 0 ≤ len)
+end_within from [] len i h lt = absurd (omega (arith, lt))
+end_within from (end ∷ ends) len zero h lt = (h.0, ends_rise end ends len h.1)
+end_within from (end ∷ ends) len (suc i) h lt = end_within end ends len i h.1 (omega (arith, lt))
+
+pub place_within : (from : ℕ) (ends : List ℕ) (len i : ℕ) → AreEnds from ends len → i ≤ length ends → get_or (from ∷ ends) i 0 ≤ len
+place_within from ends len zero h le = ends_rise from ends len h
+place_within from [] len (suc i) h le = absurd (omega (arith, le))
+place_within from (end ∷ ends) len (suc i) h le = place_within end ends len i h.1 (omega (arith, le))
+
+-- the first records, and those behind them
+pub first_held : (from : ℕ) (ends bytes : List ℕ) (n : ℕ) → take n (records_at from ends bytes) ≡ records_at from (take n ends) bytes
+first_held from ends bytes zero = refl
+first_held from [] bytes (suc n) = refl
+first_held from (end ∷ ends) bytes (suc n) = ap (λ (rs : List (List ℕ)). slice_range bytes from end ∷ rs) (first_held end ends bytes n)
+
+pub first_ends : (from : ℕ) (ends : List ℕ) (len n : ℕ) → AreEnds from ends len → n ≤ length ends → AreEnds from (take n ends) (get_or (from ∷ ends) n 0)
+first_ends from ends len zero h le = refl
+first_ends from [] len (suc n) h le = absurd (omega (arith, le))
+first_ends from (end ∷ ends) len (suc n) h le = (h.0, first_ends end ends len n h.1 (omega (arith, le)))
+
+pub later_held : (from : ℕ) (ends bytes : List ℕ) (n : ℕ) → n ≤ length ends
+    → drop n (records_at from ends bytes) ≡ records_at (get_or (from ∷ ends) n 0) (drop n ends) bytes
+later_held from ends bytes zero le = refl
+later_held from [] bytes (suc n) le = absurd (omega (arith, le))
+later_held from (end ∷ ends) bytes (suc n) le = later_held end ends bytes n (omega (arith, le))
+
+pub later_ends : (from : ℕ) (ends : List ℕ) (len n : ℕ) → AreEnds from ends len → n ≤ length ends → AreEnds (get_or (from ∷ ends) n 0) (drop n ends) len
+later_ends from ends len zero h le = h
+later_ends from [] len (suc n) h le = absurd (omega (arith, le))
+later_ends from (end ∷ ends) len (suc n) h le = later_ends end ends len n h.1 (omega (arith, le))
+
+-- what lies between two places is the same with more bytes behind
+same_range : (from end : ℕ) (bytes more : List ℕ) → from ≤ end → end ≤ length bytes → slice_range (bytes ++ more) from end ≡ slice_range bytes from end
+same_range from end bytes more low high =
+    let rest = length-drop from bytes in
+    ap (take (end - from)) (drop-append-le from bytes more (omega (arith, low, high)))
+    ∙ take-append-le (end - from) (drop from bytes) more (omega (arith, low, high, rest))
+
+-- bytes behind the last record change none
+pub more_behind : (from : ℕ) (ends bytes more : List ℕ) → AreEnds from ends (length bytes) → records_at from ends (bytes ++ more) ≡ records_at from ends bytes
+more_behind from [] bytes more h = refl
+more_behind from (end ∷ ends) bytes more h =
+    rw (same_range from end bytes more h.0 (ends_rise end ends (length bytes) h.1), more_behind end ends bytes more h.1) refl
+
+-- one record more
+pub one_more : (from : ℕ) (ends bytes more : List ℕ) (len : ℕ) → AreEnds from ends (length bytes) → len ≡ length bytes + length more
+    → records_at from (ends ++ len ∷ []) (bytes ++ more) ≡ records_at from ends bytes ++ more ∷ []
+one_more from [] bytes more len h e =
+    let last : slice_range (bytes ++ more) from len ≡ more =
+    rw h (ap (take (len - length bytes)) (drop-append_seam bytes more) ∙ take_all (len - length bytes) more (omega (arith, e))) in
+    rw last refl
+one_more from (end ∷ ends) bytes more len h e =
+    rw (same_range from end bytes more h.0 (ends_rise end ends (length bytes) h.1), one_more end ends bytes more len h.1 e) refl
+
+pub one_end_more : (from : ℕ) (ends : List ℕ) (len more : ℕ) → AreEnds from ends len → len ≤ more → AreEnds from (ends ++ more ∷ []) more
+one_end_more from [] len more h le = (omega (arith, h, le), refl)
+one_end_more from (end ∷ ends) len more h le = (h.0, one_end_more end ends len more h.1 le)
+
+-- without bytes in front of the first record each place is so much lower
+moved : (from : ℕ) (ends bytes : List ℕ) (front len : ℕ) → AreEnds from ends len → front ≤ from
+    → records_at (from - front) (map (λ end. end - front) ends) (drop front bytes) ≡ records_at from ends bytes
+moved from [] bytes front len h le = refl
+moved from (end ∷ ends) bytes front len h le =
+    let low = h.0 in
+    let start : front + (from - front) ≡ from = omega (arith, le) in
+    let size : end - front - (from - front) ≡ end - from = omega (arith, le, low) in
+    let same : slice_range (drop front bytes) (from - front) (end - front) ≡ slice_range bytes from end =
+    rw (size, drop-drop (from - front) front bytes, start) refl in
+    rw (same, moved end ends bytes front len h.1 (omega (arith, le, low))) refl
+
+moved_ends : (from : ℕ) (ends : List ℕ) (front len : ℕ) → AreEnds from ends len → front ≤ from
+    → AreEnds (from - front) (map (λ end. end - front) ends) (len - front)
+moved_ends from [] front len h le = ap (λ (n : ℕ). n - front) h
+moved_ends from (end ∷ ends) front len h le = let low = h.0 in (omega (arith, low), moved_ends end ends front len h.1 (omega (arith, le, low)))
+
+-- the records without the first ones
+pub cleared : (ends bytes : List ℕ) (n place : ℕ) → AreEnds 0 ends (length bytes) → n ≤ length ends → place ≡ get_or (0 ∷ ends) n 0
+    → records_at 0 (map (λ end. end - place) (drop n ends)) (drop place bytes) ≡ drop n (records_at 0 ends bytes)
+cleared ends bytes n place h le is =
+    let none : place - place ≡ 0 = omega arith in
+    let later : AreEnds place (drop n ends) (length bytes) = rw is (later_ends 0 ends (length bytes) n h le) in
+    let here : records_at 0 (map (λ end. end - place) (drop n ends)) (drop place bytes) ≡ records_at place (drop n ends) bytes =
+    subst (λ (k : ℕ). records_at k (map (λ end. end - place) (drop n ends)) (drop place bytes) ≡ records_at place (drop n ends) bytes) none
+    (moved place (drop n ends) bytes place (length bytes) later (omega arith)) in
+    here ∙ rw is (sym (later_held 0 ends bytes n le))
+
+pub cleared_ends : (ends bytes : List ℕ) (n place : ℕ) → AreEnds 0 ends (length bytes) → n ≤ length ends → place ≡ get_or (0 ∷ ends) n 0
+    → AreEnds 0 (map (λ end. end - place) (drop n ends)) (length (drop place bytes))
+cleared_ends ends bytes n place h le is =
+    let none : place - place ≡ 0 = omega arith in
+    let later : AreEnds place (drop n ends) (length bytes) = rw is (later_ends 0 ends (length bytes) n h le) in
+    let here : AreEnds 0 (map (λ end. end - place) (drop n ends)) (length bytes - place) =
+    subst (λ (k : ℕ). AreEnds k (map (λ end. end - place) (drop n ends)) (length bytes - place)) none
+    (moved_ends place (drop n ends) place (length bytes) later (omega arith)) in
+    rw (length-drop place bytes) here
+
+-- the first records alone
+pub kept_ends : (ends bytes : List ℕ) (n place : ℕ) → AreEnds 0 ends (length bytes) → n ≤ length ends → place ≡ get_or (0 ∷ ends) n 0
+    → AreEnds 0 (take n ends) (length (take place bytes))
+kept_ends ends bytes n place h le is =
+    let within : place ≤ length bytes = rw is (place_within 0 ends (length bytes) n h le) in
+    rw (length-take-le place bytes within, is) (first_ends 0 ends (length bytes) n h le)
+
+pub kept : (ends bytes : List ℕ) (n place : ℕ) → AreEnds 0 ends (length bytes) → n ≤ length ends → place ≡ get_or (0 ∷ ends) n 0
+    → records_at 0 (take n ends) (take place bytes) ≡ take n (records_at 0 ends bytes)
+kept ends bytes n place h le is =
+    sym (more_behind 0 (take n ends) (take place bytes) (drop place bytes) (kept_ends ends bytes n place h le is))
+    ∙ ap (records_at 0 (take n ends)) (take-append-drop place bytes) ∙ sym (first_held 0 ends bytes n)
+
+-- the places in front of one are lowered, and the others are still to be
+abbrev pub AreLowered : ℕ → List ℕ → List ℕ → ℕ → Type 0
+AreLowered front all now i = take i now ++ map (λ place. place - front) (drop i now) ≡ map (λ place. place - front) all
+
+pub lowered_more : (front : ℕ) (all now : List ℕ) (i p : ℕ) → AreLowered front all now i → i < length now → p ≡ get_or now i p
+    → AreLowered front all (set now i (p - front)) (i + 1)
+lowered_more front all now i p h lt is =
+    let rest : drop i now ≡ p ∷ drop (i + 1) now = drop_more {X = ℕ} now i p lt ∙ ap (λ (x : ℕ). x ∷ drop (i + 1) now) (sym is) in
+    let here : take i now ++ (p - front) ∷ map (λ place. place - front) (drop (i + 1) now) ≡ map (λ place. place - front) all = rw rest at h in
+    rw (
+      take_more_set now i (p - front) lt,
+      drop-set-lt (i + 1) now i (p - front) (omega arith),
+      append_assoc (take i now) ((p - front) ∷ [])
+          (map (λ place. place - front) (drop (i + 1) now)),
+    ) here
+
+pub lowered_all : (front : ℕ) (all now : List ℕ) (i : ℕ) → AreLowered front all now i → length now ≤ i → now ≡ map (λ place. place - front) all
+lowered_all front all now i h over =
+    let all_taken : take i now ≡ now = take_all i now over in
+    let none : drop i now ≡ [] = drop_all i now over in
+    let here : now ++ [] ≡ map (λ place. place - front) all = rw (all_taken, none) at h in
+    sym (append-nil now) ∙ here

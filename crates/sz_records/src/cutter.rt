@@ -7,7 +7,6 @@ use crate::ending::Ending;
 use crate::front::{Front, found_at, rest};
 use crate::limits::FrameLimits;
 use crate::records::Records;
-use std::alloc::Global;
 use sz_types::Frame;
 
 /// Where the next record begins, and how many came before it.
@@ -38,13 +37,7 @@ impl Cutter {
     ghost use Rattle.sz_records.specs.Steps.{IsStep, CutsOff, IsScanned, Grew};
 
     // Cuts off the record at the front, if it is whole.
-    fn step(
-        &mut self,
-        alloc: Global,
-        bytes: &[u8],
-        scanned: usize,
-        into: &mut Records,
-    ) -> Result<Step, NoMemory>
+    fn step(&mut self, bytes: &[u8], scanned: usize, into: &mut Records) -> Result<Step, NoMemory>
         requires scanned { IsScanned self.old.frame bytes.now scanned }
         ensures err { OnErr result (into.new ≡ into.old) }
         ensures step { IfOk result (λ step. IsStep self.old self.new bytes.now into.old into.new step) }
@@ -58,7 +51,7 @@ impl Cutter {
             scanned,
         ) {
             Front::Record(from, to, size) => {
-                into.push(alloc, &bytes[from..to])?;
+                into.push(&bytes[from..to])?;
                 self.place += size as u64;
                 self.count += 1;
                 Ok(Step::Passed(size))
@@ -73,7 +66,6 @@ impl Cutter {
     /// records are lines, the first `scanned` bytes are no newlines.
     pub(crate) fn cut(
         &mut self,
-        alloc: Global,
         bytes: &[u8],
         scanned: usize,
         into: &mut Records,
@@ -86,7 +78,7 @@ impl Cutter {
         let mut at = 0;
         let mut known = scanned;
         loop {
-            match self.step(alloc, rest(bytes, at), known, into)? {
+            match self.step(rest(bytes, at), known, into)? {
                 Step::Passed(size) => {
                     at += size;
                     known = 0;

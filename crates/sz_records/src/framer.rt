@@ -1,11 +1,12 @@
 //! Records of a file that comes in pieces.
 
-ghost use Rattle.std.specs.Prelude.{◌≡◌, ◌≤◌, ◌++◌, [], None, drop, length, IfOk, OnOk, OnErr};
+ghost use Rattle.std.specs.Prelude.{◌≡◌, ◌≤◌, ◌++◌, [], None, IfOk, OnOk, OnErr};
 
 use crate::NoMemory;
 use crate::cutter::Cutter;
 use crate::ending::Ending;
 use crate::limits::FrameLimits;
+use crate::places::drop_front;
 use crate::records::Records;
 use std::alloc::Global;
 use std::marker::Model;
@@ -16,7 +17,6 @@ use sz_types::Frame;
 /// It holds back the beginning of a record that isn't all there, and no other bytes.
 #[derive(Debug, Drop)]
 pub struct Framer {
-    alloc: Global,
     cutter: Cutter,
     held: Vec<u8>,
     /// Where records are lines, so many of the bytes that are held back are known to be no newlines.
@@ -35,22 +35,6 @@ impl Model for Framer {
     ghost invariant = { λ framer. IsScanned framer.cutter.frame framer.held.items framer.scanned };
 }
 
-fn drop_front(held: &mut Vec<u8>, len: usize)
-    requires { len ≤ length held.old.items }
-    ensures { held.new.items ≡ drop len held.old.items }
-{
-    if len == 0 {
-        return;
-    }
-    let left = held.len() - len;
-    if left == 0 {
-        held.clear();
-    } else {
-        held.rotate_left(len);
-        held.truncate(left);
-    }
-}
-
 impl Framer {
     ghost use Rattle.sz_records.specs.Fed.{HasRead, Feeds, Finishes, CutsHeld};
 
@@ -65,7 +49,6 @@ impl Framer {
             count: 0,
         };
         Framer {
-            alloc,
             cutter,
             held: Vec::new(alloc),
             scanned: 0,
@@ -81,10 +64,7 @@ impl Framer {
     {
         let cutter = self.cutter;
         let count = into.len();
-        match self
-            .cutter
-            .cut(self.alloc, self.held.as_slice(), self.scanned, into)
-        {
+        match self.cutter.cut(self.held.as_slice(), self.scanned, into) {
             Ok((at, ended)) => {
                 drop_front(&mut self.held, at);
                 self.scanned = if ended.is_none() { self.held.len() } else { 0 };
@@ -146,7 +126,7 @@ impl Framer {
         }
         match self.cutter.frame {
             Frame::Lines => {
-                into.push(self.alloc, self.held.as_slice())?;
+                into.push(self.held.as_slice())?;
                 Ok(Ending::Whole)
             }
             Frame::Delimited => Ok(Ending::Damaged(self.cutter.place)),

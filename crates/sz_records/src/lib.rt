@@ -7,6 +7,7 @@ mod framer;
 mod front;
 mod laws;
 mod limits;
+mod places;
 mod records;
 mod shard;
 #[cfg(test)]

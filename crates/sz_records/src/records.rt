@@ -2,25 +2,30 @@
 ghost use Rattle.std.specs.Prelude.{◌≡◌, ◌==◌, ◌<◌, ◌≤◌, ◌++◌, ◌∷◌, [], length, take, drop, slice_get, OnOk, OnErr, Some};
 
 use crate::NoMemory;
+use crate::places::{between, drop_front, lower, place_before};
 use std::alloc::Global;
 use std::marker::Model;
 
 /// Records, in the order of the file. Places are counted from 0.
 ///
-/// Contracts see the list of their bytes.
+/// Contracts see the list of their bytes. All bytes lie in one buffer.
 #[derive(Debug, Drop)]
 pub struct Records {
-    held: Vec<Vec<u8>>,
+    bytes: Vec<u8>,
+    /// Where each record ends in the buffer. The next one begins there.
+    ends: Vec<usize>,
 }
 
 impl Model for Records {
-    ghost use Rattle.std.specs.Prelude.{List, map, ℕ};
+    ghost use Rattle.std.specs.Prelude.{List, ℕ, length};
 
     ghost Value = { List (List ℕ) };
 
-    ghost use Rattle.sz_records.specs.Held.{bytes_of};
+    ghost use Rattle.sz_records.specs.Held.{records_at, AreEnds};
 
-    ghost view = { λ records. map bytes_of records.held.items };
+    ghost view = { λ records. records_at 0 records.ends.items records.bytes.items };
+
+    ghost invariant = { λ records. AreEnds 0 records.ends.items (length records.bytes.items) };
 }
 
 impl Records {
@@ -29,22 +34,25 @@ impl Records {
         ensures value { result ≡ [] }
     {
         Records {
-            held: Vec::new(alloc),
+            bytes: Vec::new(alloc),
+            ends: Vec::new(alloc),
         }
     }
 
+    #[tactic(auto, using(crate::proofs::HeldLemmas::held_len))]
     /// The number of records.
     pub fn len(&self) -> usize
         ensures value { result ≡ length self.now }
     {
-        self.held.len()
+        self.ends.len()
     }
 
+    #[tactic(auto, using(crate::proofs::HeldLemmas::held_len))]
     /// Whether there are no records.
     pub fn is_empty(&self) -> bool
         ensures value { result ≡ (length self.now == 0) }
     {
-        self.held.is_empty()
+        self.ends.is_empty()
     }
 
     /// The bytes of a record.
@@ -52,33 +60,40 @@ impl Records {
         requires within { i < length self.now }
         ensures value { slice_get self.now i ≡ Some result.now }
     {
-        self.held[i].as_slice()
+        let from = place_before(self.ends.as_slice(), i);
+        between(self.bytes.as_slice(), from, self.ends[i])
     }
 
-    /// Drops so many records from the front.
+    /// Drops so many records from the front. It moves the bytes that stay, and their ends.
     pub fn clear(&mut self, front: usize)
         requires within { front ≤ length self.old }
         ensures value { self.new ≡ drop front self.old }
     {
-        let left = self.held.len() - front;
-        self.held.rotate_left(front);
-        self.held.truncate(left);
+        let place = place_before(self.ends.as_slice(), front);
+        drop_front(&mut self.bytes, place);
+        drop_front(&mut self.ends, front);
+        lower(&mut self.ends, place);
     }
 
     /// Keeps so many records at the front.
     pub(crate) fn truncate(&mut self, count: usize)
         ensures value { self.new ≡ take count self.old }
     {
-        self.held.truncate(count);
+        if count < self.ends.len() {
+            let place = place_before(self.ends.as_slice(), count);
+            self.bytes.truncate(place);
+            self.ends.truncate(count);
+        }
     }
 
     /// Adds a copy of these bytes as a record.
-    pub(crate) fn push(&mut self, alloc: Global, bytes: &[u8]) -> Result<(), NoMemory>
+    pub(crate) fn push(&mut self, bytes: &[u8]) -> Result<(), NoMemory>
         ensures value { OnOk result (self.new ≡ self.old ++ bytes.now ∷ []) }
         ensures err { OnErr result (self.new ≡ self.old) }
     {
-        let copy = Vec::from_slice(alloc, bytes)?;
-        self.held.push(copy)?;
+        self.ends.reserve(1)?;
+        self.bytes.extend_from_slice(bytes)?;
+        self.ends.push(self.bytes.len())?;
         Ok(())
     }
 }

@@ -170,7 +170,7 @@ fn of_lengths(alloc: Global, lengths: &[usize]) -> Result<Records, NoMemory> {
     let mut records = Records::new(alloc);
     for len in lengths {
         let bytes = vec![in alloc; 7u8; *len]?;
-        records.push(alloc, bytes.as_slice())?;
+        records.push(bytes.as_slice())?;
     }
     Ok(records)
 }

@@ -10,8 +10,8 @@ use Rattle.sz_world.specs.World.{most_open_calls, calls_too_deep}
 use Rattle.sz_world.specs.Slots.{Slot, all_defined, undefined_slots, fresh}
 use Rattle.sz_machine.specs.States.{State, Caller, Goes, popped, faults}
 use Rattle.sz_machine.specs.Rows.{call_routine, call_with, call, enter}
-use Rattle.sz_run.specs.Results.{defined_of}
-use Rattle.sz_run.proofs.ListLemmas.{are_all, all_told}
+use Rattle.sz_cells.specs.Results.{defined_of}
+use Rattle.sz_cells.proofs.ForCallers.{are_all, all_told}
 
 -- slots that are all defined are those of their values
 of_values : (xs : List Slot) → list_all is_some xs ≡ true → map (λ d. Some d) (defined_of xs) ≡ xs

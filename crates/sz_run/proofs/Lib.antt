@@ -1,11 +1,6 @@
-pub mod ListLemmas
-pub mod TurnLemmas
-pub mod CandidateLemmas
-pub mod CallLemmas
 pub mod PayLemmas
 pub mod EmitLemmas
 pub mod FlowLemmas
-pub mod StoreLemmas
 pub mod CoverLemmas
 pub mod StepLemmas
 pub mod RunLemmas

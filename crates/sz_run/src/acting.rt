@@ -8,9 +8,9 @@ ghost use Rattle.sz_machine.specs.Covering.{Covers};
 ghost use Rattle.sz_run.specs.Acting.{Around, DoesFromTo, DoesWhere, state_of, weighs_and_acts, base_charge, TakesCandidate};
 ghost use Rattle.sz_run.specs.Acting.{IsInside, IsCovered, in_record, in_static};
 
-use crate::cell::Cell;
 use crate::held::{Held, Next};
 use std::alloc::Global;
+use sz_cells::Cell;
 use sz_instr::{Code, Instr};
 use sz_value::{NoMemory, Octets, Slots, Value, copy_slot};
 

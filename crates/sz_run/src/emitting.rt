@@ -11,9 +11,9 @@ ghost use Rattle.sz_machine.specs.Rows.{emit_operands};
 ghost use Rattle.sz_run.specs.Acting.{Paid, Does, weighs_and_acts};
 ghost use Rattle.sz_run.specs.Emitting.{emits_parts, emits_on_top};
 
-use crate::cell::Cell;
 use crate::held::{BUDGET_PASSED, Held, Next};
 use std::alloc::Global;
+use sz_cells::Cell;
 use sz_tabs::Emit;
 use sz_value::{List, NoMemory, Value, weight};
 

@@ -5,10 +5,9 @@ ghost use Rattle.sz_instr.specs.declared.instr.Instr.TheVariants as instr;
 ghost use Rattle.sz_machine.specs.Rows.{act, call_routine};
 ghost use Rattle.sz_run.specs.Acting.{Around, Does, DoesWhere};
 
-use crate::candidates::Candidates;
-use crate::cell::Cell;
 use crate::held::{CALLS_TOO_DEEP, Held, Next, UNDEFINED_USED};
 use std::alloc::Global;
+use sz_cells::{Candidates, Cell};
 use sz_instr::Routine;
 use sz_value::{NoMemory, Value};
 

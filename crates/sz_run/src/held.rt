@@ -3,10 +3,8 @@ ghost use Rattle.std.specs.Prelude.{◌≡◌, ◌<◌, ◌∷◌, length, drop,
 ghost use Rattle.sz_value.specs.Data.{Datum};
 ghost use Rattle.sz_run.specs.Acting.{Paid, Does, results};
 
-use crate::calls::Calls;
-use crate::cell::Cell;
-use crate::operands::Operands;
 use std::alloc::Global;
+use sz_cells::{Calls, Cell, Operands};
 use sz_tabs::Emits;
 use sz_value::NoMemory;
 

@@ -6,14 +6,13 @@ ghost use Rattle.sz_machine.specs.Rows.{act};
 ghost use Rattle.sz_world.specs.Operations.{arity};
 ghost use Rattle.sz_run.specs.Acting.{Does, weighs_and_acts};
 
-use crate::cell::Cell;
 use crate::held::{Held, Next};
-use crate::results::{
-    applied, array_of, binary_of, converted, definedness, element_of, map_of, part_of, slice_of,
-    tuple_of, unary_of,
-};
-use crate::weights::{binary_weight, builtin_weight, conversion_weight, result_weight};
 use std::alloc::Global;
+use sz_cells::{
+    Cell, applied, array_of, binary_of, binary_weight, builtin_weight, conversion_weight,
+    converted, definedness, element_of, map_of, part_of, result_weight, slice_of, tuple_of,
+    unary_of,
+};
 use sz_instr::Code;
 use sz_types::{BinOp, Builtin, UnOp};
 use sz_value::{NoMemory, copy};

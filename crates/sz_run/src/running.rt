@@ -10,15 +10,56 @@ ghost use Rattle.sz_run.specs.Acting.{state_of, world_of, in_record, in_static};
 ghost use Rattle.sz_run.specs.Ends.{seen_end, seen_statics_end, RunEnds, StaticsRunEnds};
 ghost use Rattle.sz_run.specs.Running.{Ends, OfEnds, EndsSo, LineDoes};
 
-use crate::calls::Calls;
 use crate::ends::{Fault, RunEnd, StaticsEnd};
 use crate::held::{BUDGET_PASSED, Held, Next};
-use crate::operands::Operands;
 use std::alloc::Global;
 use std::mem;
+use sz_cells::{Calls, Operands};
 use sz_instr::{Code, Line, Routine};
 use sz_tabs::Emits;
 use sz_value::{NoMemory, Slot, Slots};
+
+/// Room for runs: what a run has at hand lies in it, and the memory that one run took is kept for the next.
+#[derive(Drop)]
+pub struct Room {
+    alloc: Global,
+    held: Held,
+}
+
+impl Room {
+    /// No room yet, which takes no memory.
+    pub fn new(alloc: Global) -> Room {
+        Room {
+            alloc,
+            held: Held::new(alloc, 0),
+        }
+    }
+
+    /// Runs the code for a record as `run` does, in this room.
+    pub fn run(
+        &mut self,
+        code: &Code,
+        input: &[u8],
+        statics: &Slots,
+        budget: u64,
+    ) -> Result<RunEnd, NoMemory>
+        requires formed { is_well_formed code.now ≡ true }
+        requires least { 1 ≤ budget }
+        requires most { budget ≤ 2 ^ 32 }
+        requires ends { RunEnds code.now input.now statics.now budget }
+        ensures value { (o : Outcome (List EmitDatum)) → RunsTo code.now input.now statics.now budget o → IfOk result (λ end. seen_end end ≡ o) }
+    {
+        self.held.renew(budget);
+        self.held.begin(&code.main)?;
+        self.held
+            .run_record(self.alloc, code, statics, input, code.main.entry)
+    }
+
+    /// Gives the list of a run's emits back, so that the next run needs no memory for its own.
+    pub fn take_back(&mut self, emits: Emits) {
+        self.held.emits = emits;
+    }
+}
 
 impl Held {
     /// Nothing in place yet but so many ticks, which takes no memory.
@@ -31,6 +72,14 @@ impl Held {
             emits: Emits::new(alloc),
             left: budget,
         }
+    }
+
+    /// Forgets the emits, and has so many ticks. The room is kept.
+    fn renew(&mut self, budget: u64)
+        ensures value { self.new ≡ record self.old { emits = []; left = budget } }
+    {
+        self.emits.truncate(0);
+        self.left = budget;
     }
 
     /// Begins the routine without operands. The room is kept.
@@ -182,9 +231,7 @@ pub fn run(
     requires ends { RunEnds code.now input.now statics.now budget }
     ensures value { (o : Outcome (List EmitDatum)) → RunsTo code.now input.now statics.now budget o → IfOk result (λ end. seen_end end ≡ o) }
 {
-    let mut held = Held::new(alloc, budget);
-    held.begin(&code.main)?;
-    held.run_record(alloc, code, statics, input, code.main.entry)
+    Room::new(alloc).run(code, input, statics, budget)
 }
 
 /// Runs the code that computes the statics, all of them with `budget` ticks.

@@ -1,5 +1,5 @@
 -- Fields: a key, and what its wire type says that follows.
-use Rattle.std.specs.Prelude.{ℕ, zero, suc, ◌-◌, List, length, take, drop, Option, Some, None, nat_lt, ◌==◌, if◌then◌else◌}
+use Rattle.std.specs.Prelude.{ℕ, zero, suc, ◌-◌, ◌≤◌, List, length, take, drop, Option, Some, None, nat_lt, ◌==◌, if◌then◌else◌}
 use Rattle.std.specs.Option.{option_and_then, option_map}
 use Rattle.std.specs.Int.{Width, w32, w64, byte_len, from_le_bytes}
 use Rattle.sz_wire.specs.declared.field.WireField.{WireField}
@@ -88,3 +88,11 @@ content_in bytes kinds.Group = group
 -- the field that was found in these bytes
 abbrev pub field_in : List ℕ → WireField → Field
 field_in bytes field = record { number = field.number; content = content_in bytes field.kind }
+
+-- what a field holds lies in front of this place
+abbrev pub LiesBefore : ℕ → WireKind → Type 0
+LiesBefore place (kinds.Span from to) = (from ≤ to) × (to ≤ place)
+LiesBefore place (kinds.Varint n) = Unit {0}
+LiesBefore place (kinds.Eight n) = Unit {0}
+LiesBefore place (kinds.Four n) = Unit {0}
+LiesBefore place kinds.Group = Unit {0}

@@ -13,4 +13,5 @@ mod varint;
 pub use bad::Bad;
 pub use field::{WireField, WireKind, next_field};
 pub use key::read_key;
+pub use plain::{eight_bytes, four_bytes};
 pub use varint::read_varint;

@@ -2,7 +2,7 @@
 
 ghost use Rattle.std.specs.Prelude.{◌≡◌, ◌+◌, ◌<◌, ◌≤◌, length, drop, Some, None, IfOk, OnOk, OnErr};
 ghost use Rattle.std.specs.Int.{w32, w64};
-ghost use Rattle.sz_wire.specs.Field.{plain_at, span_at, fixed_at, held, span, content_in};
+ghost use Rattle.sz_wire.specs.Field.{plain_at, span_at, fixed_at, held, span, content_in, LiesBefore};
 
 use crate::bad::Bad;
 use crate::field::WireKind;
@@ -16,7 +16,8 @@ fn rest(bytes: &[u8], at: usize) -> &[u8]
 }
 
 #[tactic(auto, unfolding(crate::specs::Field::fixed_at, crate::specs::Field::bytes_at))]
-fn eight_bytes(bytes: &[u8]) -> Result<u64, Bad>
+/// The number that the first eight bytes are, the low one first. `Bad` comes where there are fewer.
+pub fn eight_bytes(bytes: &[u8]) -> Result<u64, Bad>
     ensures found { IfOk result (λ n. fixed_at w64 bytes.now ≡ Some (n, drop 8 bytes.now)) }
     ensures room { OnOk result (8 ≤ length bytes.now) }
     ensures bad { OnErr result (fixed_at w64 bytes.now ≡ None) }
@@ -31,7 +32,8 @@ fn eight_bytes(bytes: &[u8]) -> Result<u64, Bad>
 }
 
 #[tactic(auto, unfolding(crate::specs::Field::fixed_at, crate::specs::Field::bytes_at))]
-fn four_bytes(bytes: &[u8]) -> Result<u32, Bad>
+/// The number that the first four bytes are, the low one first. `Bad` comes where there are fewer.
+pub fn four_bytes(bytes: &[u8]) -> Result<u32, Bad>
     ensures found { IfOk result (λ n. fixed_at w32 bytes.now ≡ Some (n, drop 4 bytes.now)) }
     ensures room { OnOk result (4 ≤ length bytes.now) }
     ensures bad { OnErr result (fixed_at w32 bytes.now ≡ None) }
@@ -49,6 +51,7 @@ fn read_span(bytes: &[u8], at: usize) -> Result<(WireKind, usize), Bad>
     ensures found { IfOk result (λ r. held span (span_at (drop at bytes.now)) ≡ Some (content_in bytes.now r.0, drop r.1 bytes.now)) }
     ensures forward { IfOk result (λ r. at ≤ r.1) }
     ensures within { IfOk result (λ r. r.1 ≤ length bytes.now) }
+    ensures placed { IfOk result (λ r. LiesBefore r.1 r.0) }
     ensures bad { OnErr result (span_at (drop at bytes.now) ≡ None) }
 {
     let (size, from) = read_varint(bytes, at)?;
@@ -66,6 +69,7 @@ pub(crate) fn read_plain(bytes: &[u8], at: usize, wire: u8) -> Result<(WireKind,
     ensures found { IfOk result (λ r. plain_at wire (drop at bytes.now) ≡ Some (content_in bytes.now r.0, drop r.1 bytes.now)) }
     ensures forward { IfOk result (λ r. at ≤ r.1) }
     ensures within { IfOk result (λ r. r.1 ≤ length bytes.now) }
+    ensures placed { IfOk result (λ r. LiesBefore r.1 r.0) }
     ensures bad { OnErr result (plain_at wire (drop at bytes.now) ≡ None) }
 {
     match wire {

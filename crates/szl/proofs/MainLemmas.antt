@@ -13,13 +13,13 @@ use Rattle.sz_io.specs.declared.sink.Sink as sink
 use Rattle.szl.specs.declared.status.Status.{Status}
 use Rattle.szl.specs.declared.status.Status.TheVariants as status
 use Rattle.szl.specs.declared.failure.Failure.{Failure}
-use Rattle.szl.specs.declared.failure.Failure.TheVariants.{Usage, Refused, Limit, ReadFailed, WriteFailed, NoMemory}
+use Rattle.szl.specs.declared.failure.Failure.TheVariants.{Usage, Refused, Faulted, Damaged, Limit, ReadFailed, WriteFailed, NoMemory}
 use Rattle.szl.specs.Failing.{status_of, line_of_failure}
 use Rattle.szl.specs.Opening.{Decides, Answers}
 use Rattle.szl.specs.Outcome.{Answer, outcome, success}
 use Rattle.szl.specs.Printing.{Prints, PrintsNothing}
 use Rattle.szl.specs.Promise.{IsStatusOf, AppendsPrefix, GainsOutput, IsLeftAlone, GainsLine, MeansSource, line_of}
-use Rattle.szl.specs.Settings.{settings_in}
+use Rattle.szl.specs.Settings.{asked_in}
 
 -- where a place is within the bytes, there are some
 pub some_bytes : (place : ℕ) (bytes : List ℕ) → place < length bytes → bytes ≢ []
@@ -47,7 +47,9 @@ fits_error : (answer : Answer) (f : Failure) (rose : Type 0) (old new : Option (
     → Appends old new [] → Fits answer (status_of f) old new
 fits_error answer Usage rose old new decides h = record { status_is = sym (ap (λ (a : Answer). a.status) decides); output = h }
 fits_error answer (Refused r) rose old new decides h = record { status_is = sym (ap (λ (a : Answer). a.status) decides); output = h }
-fits_error answer Limit rose old new decides h = record { status_is = sym (ap (λ (a : Answer). a.status) decides); output = h }
+fits_error answer (Faulted n fault) rose old new decides h = record { status_is = sym (ap (λ (a : Answer). a.status) decides); output = h }
+fits_error answer (Damaged byte) rose old new decides h = record { status_is = sym (ap (λ (a : Answer). a.status) decides); output = h }
+fits_error answer (Limit byte) rose old new decides h = record { status_is = sym (ap (λ (a : Answer). a.status) decides); output = h }
 fits_error answer ReadFailed rose old new decides h = record { status_is = decides.1; output = h }
 fits_error answer WriteFailed rose old new decides h = absurd decides
 fits_error answer NoMemory rose old new decides h = record { status_is = tt; output = prefix_none old answer.output new h }
@@ -64,13 +66,17 @@ fits_failure answer NoMemory (Ok output) rose old new decides printed =
     subst (λ a. Fits a status.NoMemory old new) (sym decides) (record { status_is = tt; output = printed })
 fits_failure answer Usage (Ok output) rose old new decides printed = absurd printed
 fits_failure answer (Refused r) (Ok output) rose old new decides printed = absurd printed
-fits_failure answer Limit (Ok output) rose old new decides printed = absurd printed
+fits_failure answer (Faulted n fault) (Ok output) rose old new decides printed = absurd printed
+fits_failure answer (Damaged byte) (Ok output) rose old new decides printed = absurd printed
+fits_failure answer (Limit byte) (Ok output) rose old new decides printed = absurd printed
 fits_failure answer ReadFailed (Ok output) rose old new decides printed = absurd printed
 
 line_error : (answer : Answer) (f : Failure) (rose : Type 0) → Decides (Err f) answer rose → line_of_failure f ≡ line_of answer (status_of f)
 line_error answer Usage rose decides = sym (ap (λ (a : Answer). a.line) decides)
 line_error answer (Refused r) rose decides = sym (ap (λ (a : Answer). a.line) decides)
-line_error answer Limit rose decides = sym (ap (λ (a : Answer). a.line) decides)
+line_error answer (Faulted n fault) rose decides = sym (ap (λ (a : Answer). a.line) decides)
+line_error answer (Damaged byte) rose decides = sym (ap (λ (a : Answer). a.line) decides)
+line_error answer (Limit byte) rose decides = sym (ap (λ (a : Answer). a.line) decides)
 line_error answer ReadFailed rose decides = refl
 line_error answer WriteFailed rose decides = refl
 line_error answer NoMemory rose decides = refl
@@ -85,7 +91,9 @@ line_is answer WriteFailed (Ok output) rose old new decides printed = refl
 line_is answer NoMemory (Ok output) rose old new decides printed = refl
 line_is answer Usage (Ok output) rose old new decides printed = absurd printed
 line_is answer (Refused r) (Ok output) rose old new decides printed = absurd printed
-line_is answer Limit (Ok output) rose old new decides printed = absurd printed
+line_is answer (Faulted n fault) (Ok output) rose old new decides printed = absurd printed
+line_is answer (Damaged byte) (Ok output) rose old new decides printed = absurd printed
+line_is answer (Limit byte) (Ok output) rose old new decides printed = absurd printed
 line_is answer ReadFailed (Ok output) rose old new decides printed = absurd printed
 
 -- where printing failed, a prefix of the output is written at the most, so want of memory fits
@@ -99,7 +107,9 @@ fits_no_memory answer NoMemory (Ok output) rose old new decides printed =
     subst (λ a. Fits a status.NoMemory old new) (sym decides) (record { status_is = tt; output = printed })
 fits_no_memory answer Usage (Ok output) rose old new decides printed = absurd printed
 fits_no_memory answer (Refused r) (Ok output) rose old new decides printed = absurd printed
-fits_no_memory answer Limit (Ok output) rose old new decides printed = absurd printed
+fits_no_memory answer (Faulted n fault) (Ok output) rose old new decides printed = absurd printed
+fits_no_memory answer (Damaged byte) (Ok output) rose old new decides printed = absurd printed
+fits_no_memory answer (Limit byte) (Ok output) rose old new decides printed = absurd printed
 fits_no_memory answer ReadFailed (Ok output) rose old new decides printed = absurd printed
 
 -- a sink that is as it was is left alone at every status
@@ -129,7 +139,9 @@ alone_failure answer WriteFailed (Ok output) rose told told_now old new decides 
 alone_failure answer NoMemory (Ok output) rose told told_now old new decides printed nothing = alone_printed answer output old new decides nothing
 alone_failure answer Usage (Ok output) rose told told_now old new decides printed nothing = absurd printed
 alone_failure answer (Refused r) (Ok output) rose told told_now old new decides printed nothing = absurd printed
-alone_failure answer Limit (Ok output) rose told told_now old new decides printed nothing = absurd printed
+alone_failure answer (Faulted n fault) (Ok output) rose told told_now old new decides printed nothing = absurd printed
+alone_failure answer (Damaged byte) (Ok output) rose told told_now old new decides printed nothing = absurd printed
+alone_failure answer (Limit byte) (Ok output) rose told told_now old new decides printed nothing = absurd printed
 alone_failure answer ReadFailed (Ok output) rose told told_now old new decides printed nothing = absurd printed
 
 alone_no_memory : {O : Type 0} (answer : Answer) (made : Result (List ℕ) Failure) (rose : Type 0) (old new : O) → Decides made answer rose
@@ -140,12 +152,12 @@ alone_no_memory answer (Ok output) rose old new decides nothing = alone_printed 
 module _ {F O E : Type 0} (the_files : files.Ghosts F) (the_out : sink.Ghosts O) (the_err : sink.Ghosts E) (words : List (List ℕ))
     (old new : F) (out new_out : O) (err : E) where
   -- all was printed, and nothing is told
-  pub means_done : (made : Result (List ℕ) Failure) → Answers the_files (settings_in words) old new made
+  pub means_done : (made : Result (List ℕ) Failure) → Answers the_files (asked_in words) old new made
       → Prints {T = Unit {0}} (the_out.taken out) (the_out.taken new_out) made (Ok tt) → PrintsNothing made out new_out
       → MeansSource the_files the_out the_err words status.Done old new out new_out err err
   means_done (Err f) a printed nothing = absurd printed
   means_done (Ok output) a printed nothing =
-      let o = outcome words a.reading a.input in
+      let o = outcome words a.reading a.cut in
       let fit = fits_done o output (the_out.taken out) (the_out.taken new_out) a.decides printed in
       let no_line : [] ≡ o.line = sym (ap (λ (x : Answer). x.line) a.decides) in
       record {
@@ -153,6 +165,8 @@ module _ {F O E : Type 0} (the_files : files.Ghosts F) (the_out : sink.Ghosts O)
         reading = a.reading;
         read = a.read;
         input = a.input;
+        cut = a.cut;
+        is_cut = a.is_cut;
         held = a.held;
         answers = fit.status_is;
         output = fit.output;
@@ -162,16 +176,18 @@ module _ {F O E : Type 0} (the_files : files.Ghosts F) (the_out : sink.Ghosts O)
       }
 
   -- a status that fits what was printed, and its line is told
-  means : (new_err : E) (made : Result (List ℕ) Failure) (a : Answers the_files (settings_in words) old new made) (s : Status)
-      → Fits (outcome words a.reading a.input) s (the_out.taken out) (the_out.taken new_out)
-      → IsLeftAlone s (outcome words a.reading a.input).output out new_out
-      → GainsLine the_err err new_err (line_of (outcome words a.reading a.input) s)
+  means : (new_err : E) (made : Result (List ℕ) Failure) (a : Answers the_files (asked_in words) old new made) (s : Status)
+      → Fits (outcome words a.reading a.cut) s (the_out.taken out) (the_out.taken new_out)
+      → IsLeftAlone s (outcome words a.reading a.cut).output out new_out
+      → GainsLine the_err err new_err (line_of (outcome words a.reading a.cut) s)
       → MeansSource the_files the_out the_err words s old new out new_out err new_err
   means new_err made a s fit alone told = record {
     text = a.text;
     reading = a.reading;
     read = a.read;
     input = a.input;
+    cut = a.cut;
+    is_cut = a.is_cut;
     held = a.held;
     answers = fit.status_is;
     output = fit.output;
@@ -181,18 +197,18 @@ module _ {F O E : Type 0} (the_files : files.Ghosts F) (the_out : sink.Ghosts O)
   }
 
   -- a failure, and its line is told, or that of want of memory
-  pub means_failure : (new_err : E) (f told : Failure) (made : Result (List ℕ) Failure) → Answers the_files (settings_in words) old new made
+  pub means_failure : (new_err : E) (f told : Failure) (made : Result (List ℕ) Failure) → Answers the_files (asked_in words) old new made
       → Prints {T = Unit {0}} (the_out.taken out) (the_out.taken new_out) made (Err f) → PrintsNothing made out new_out → (told ≡ f) ⊎ (told ≡ NoMemory)
       → GainsLine the_err err new_err (line_of_failure told) → MeansSource the_files the_out the_err words (status_of told) old new out new_out err new_err
   means_failure new_err f told made a printed nothing (inl is) gained =
-      let o = outcome words a.reading a.input in
+      let o = outcome words a.reading a.cut in
       let line = ap line_of_failure is ∙ line_is o f made _ (the_out.taken out) (the_out.taken new_out) a.decides printed in
       subst (λ t. MeansSource the_files the_out the_err words (status_of t) old new out new_out err new_err) (sym is)
       (means new_err made a (status_of f) (fits_failure o f made _ (the_out.taken out) (the_out.taken new_out) a.decides printed)
       (alone_failure o f made _ (the_out.taken out) (the_out.taken new_out) out new_out a.decides printed nothing)
       (subst (GainsLine the_err err new_err) line gained))
   means_failure new_err f told made a printed nothing (inr is) gained =
-      let o = outcome words a.reading a.input in
+      let o = outcome words a.reading a.cut in
       subst (λ t. MeansSource the_files the_out the_err words (status_of t) old new out new_out err new_err) (sym is)
       (means new_err made a status.NoMemory (fits_no_memory o f made _ (the_out.taken out) (the_out.taken new_out) a.decides printed)
       (alone_no_memory o made _ out new_out a.decides nothing)

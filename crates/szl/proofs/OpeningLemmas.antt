@@ -1,10 +1,10 @@
 -- What reading the files of a command line says of their texts.
-use Rattle.std.proofs.Common.{◌≡◌, ℕ, ◌+◌, ◌<◌, List, [], length, Option, Some, None, refl, arith}
+use Rattle.std.proofs.Common.{◌≡◌, ℕ, ◌+◌, ◌<◌, List, [], length, Option, Some, None, refl, sym, subst, arith, inl, inr, ◌⊎◌}
 use Rattle.std.specs.Prelude.{IfSome, unwrap_or, replicate, Err}
 use Rattle.std.proofs.lemmas.List.{length-replicate}
 use Rattle.szl.specs.declared.failure.Failure.{Failure}
-use Rattle.szl.specs.declared.failure.Failure.TheVariants.{Usage, Refused, Limit, ReadFailed, WriteFailed, NoMemory}
-use Rattle.szl.specs.Opening.{IsPast, TellsText, ReadsText}
+use Rattle.szl.specs.declared.failure.Failure.TheVariants.{ReadFailed, NoMemory}
+use Rattle.szl.specs.Opening.{ReadsText, past_program}
 
 -- the text that is told, or this one
 pub holds_or : (held : Option (List ℕ)) (text : List ℕ) → IfSome held (λ bytes. bytes ≡ unwrap_or held text)
@@ -22,20 +22,17 @@ long_or : (held : Option (List ℕ)) (limit : ℕ) → IfSome held (λ bytes. li
 long_or None limit h = omega (arith, length-replicate {A = ℕ} (limit + 1) 0)
 long_or (Some bytes) limit h = h
 
-reads_past_as : (held : Option (List ℕ)) (limit : ℕ) (past : Failure) (rose : Type 0) → IfSome held (λ bytes. limit < length bytes)
-    → ((text : List ℕ) → limit < length text → TellsText text limit past rose (Err past)) → ReadsText held limit past rose (Err past)
-reads_past_as held limit past rose long tells = record {
+reads_long : (held : Option (List ℕ)) (limit : ℕ) (rose : Type 0) → IfSome held (λ bytes. limit < length bytes)
+    → ReadsText held limit past_program rose (Err past_program)
+reads_long held limit rose long = record {
   text = unwrap_or held (replicate (limit + 1) 0);
   holds = holds_or held (replicate (limit + 1) 0);
-  tells = tells (unwrap_or held (replicate (limit + 1) 0)) (long_or held limit long);
+  tells = (refl, long_or held limit long);
 }
 
 pub reads_past : (held : Option (List ℕ)) (limit : ℕ) (past : Failure) (rose : Type 0) → IfSome held (λ bytes. limit < length bytes)
-    → IsPast past → ReadsText held limit past rose (Err past)
-reads_past held limit (Refused r) rose long is =
-    reads_past_as held limit (Refused r) rose long (λ text lt. (refl, lt))
-reads_past held limit Limit rose long is = reads_past_as held limit Limit rose long (λ text lt. (refl, lt))
-reads_past held limit Usage rose long is = absurd is
-reads_past held limit ReadFailed rose long is = absurd is
-reads_past held limit WriteFailed rose long is = absurd is
-reads_past held limit NoMemory rose long is = absurd is
+    → (past ≡ past_program) ⊎ (past ≡ NoMemory) → ReadsText held limit past rose (Err past)
+reads_past held limit past rose long (inl is) =
+    subst (λ f. ReadsText held limit f rose (Err f)) (sym is) (reads_long held limit rose long)
+reads_past held limit past rose long (inr is) =
+    subst (λ f. ReadsText held limit f rose (Err f)) (sym is) (reads_no_memory held limit NoMemory rose)

@@ -1,150 +1,157 @@
 -- How the records of an input are run one after the other.
-use Rattle.std.proofs.Common.{◌≡◌, ◌≢◌, ℕ, ◌+◌, ◌*◌, ◌^◌, ◌<◌, ◌≤◌, List, [], ◌∷◌, ◌++◌, length, Bool, true, false, refl, sym, ap, ◌∙◌, subst, arith, append_assoc, append-nil, length-append}
-use Rattle.std.specs.Prelude.{flat_map, ◌&&◌, nat_le}
-use Rattle.std.specs.List.{list_all}
-use Rattle.std.proofs.lemmas.Bool.Decides.{nat_tests}
-use Rattle.std.proofs.lemmas.Grind.{flat_map-append}
-use Rattle.sz_mean.specs.Outcomes.{EmitDatum}
-use Rattle.sz_machine.specs.declared.code.Code.{Code}
-use Rattle.sz_machine.specs.Machine.{RunsTo, RunEnds}
-use Rattle.szl.specs.Records.{records_in, is_within_limits, most_records, most_record_bytes, most_input_bytes}
-use Rattle.szl.specs.Running.{MayRun, SumsAll}
+use Rattle.std.proofs.Common.{◌≡◌, ℕ, zero, suc, ◌+◌, ◌*◌, ◌^◌, ◌<◌, ◌≤◌, List, [], ◌∷◌, ◌++◌, length, drop, refl, sym, ap, ◌∙◌, subst, arith, append-nil}
+use Rattle.std.specs.Prelude.{Some, slice_get}
+use Rattle.sz_core.specs.Programs.{Core}
+use Rattle.sz_tabs.specs.Data.{EmitDatum}
+use Rattle.sz_instr.specs.declared.code.Code.{Code}
+use Rattle.sz_world.specs.World.{Fault, Outcome, Done, Faulted}
+use Rattle.sz_world.specs.Slots.{Slot}
+use Rattle.sz_world.specs.Typed.{AllFit}
+use Rattle.sz_world.specs.Operations.{no_messages}
+use Rattle.sz_mean.specs.Programs.{mean, statics}
+use Rattle.sz_mean.specs.Records.{Records, Emitted, FaultedAt, behind_emits, then_records, mean_from, mean_all}
+use Rattle.sz_mean.proofs.EmitCosts.{emits_are_paid}
+use Rattle.sz_mean.proofs.RecordLaws.{behind_both}
+use Rattle.sz_machine.specs.Running.{RunsTo, StaticsRunTo}
+use Rattle.sz_value.specs.declared.slots.Slots.{Slots}
+use Rattle.sz_run.specs.declared.ends.RunEnd.{RunEnd}
+use Rattle.sz_run.specs.declared.ends.StaticsEnd.{StaticsEnd}
+use Rattle.sz_run.specs.declared.ends.StaticsEnd.TheVariants as statics_ends
+use Rattle.sz_run.specs.Ends.{seen_fault, seen_end, seen_statics_end, RunEnds, StaticsRunEnds}
+use Rattle.sz_gen_stmt.specs.Simulates.{static_types}
+use Rattle.sz_gen_stmt.specs.Compiled.{IsCompiled}
+use Rattle.std.specs.Prelude.{Err}
+use Rattle.szl.specs.declared.failure.Failure.{Failure}
+use Rattle.szl.specs.declared.failure.Failure.TheVariants as failure
+use Rattle.szl.specs.Running.{SumsAll, GivesRecord, GivesSums}
 use Rattle.szl.specs.Totals.{Totals, StandFor, added, all_added}
+use Rattle.szl.proofs.TakenLemmas.{none_left}
 use Rattle.szl.proofs.TotalsLemmas.{stand_all, length-all_added}
 
-abbrev is_short : List ℕ → Bool
-is_short line = nat_le (length line) most_record_bytes
+-- what the code does is what the program means
+module _ (program : Core) (code : Code) (compiled : IsCompiled program code) (budget : ℕ) (least : 1 ≤ budget) (most : budget ≤ 2 ^ 32) where
+  pub statics_run : StaticsRunTo code budget (statics no_messages program budget)
+  statics_run = compiled.simulates.statics_end budget (record { least = least; most = most })
 
--- the sums are those of the records in front of the rest, so many, none of them too long
-pub record IsRunUpTo (code : Code) (input rest : List ℕ) (tables count : ℕ) (totals : Totals) : Type 0 where
-  pub done : List (List ℕ)
-  pub cut : records_in input ≡ done ++ records_in rest
-  pub counted : length done ≡ count
-  pub few : count ≤ most_records
-  pub short : list_all is_short done ≡ true
-  pub sums : (emits_of : List ℕ → List EmitDatum) → ((text : List ℕ) → RunsTo code text (emits_of text)) → StandFor totals (flat_map emits_of done)
-  pub emits : totals.emits ≤ 2 ^ 30 * count
+  pub statics_run_ends : StaticsRunEnds code budget
+  statics_run_ends = record { outcome = statics no_messages program budget; ends = statics_run }
+
+  pub record_runs : (slots : List Slot) (input : List ℕ) → AllFit slots (static_types program)
+      → RunsTo code input slots budget (mean no_messages program slots budget input)
+  record_runs slots input fit = compiled.simulates.records_end slots budget input fit (record { least = least; most = most })
+
+  pub record_ends : (slots : List Slot) (input : List ℕ) → AllFit slots (static_types program) → RunEnds code input slots budget
+  record_ends slots input fit = record { outcome = mean no_messages program slots budget input; ends = record_runs slots input fit }
+
+  -- the statics that come of the run have their types
+  pub statics_have_types : (end : StaticsEnd) (slots : Slots) → ((o : Outcome (List Slot)) → StaticsRunTo code budget o → seen_statics_end end ≡ o)
+      → end ≡ statics_ends.Done slots → AllFit slots (static_types program)
+  statics_have_types end slots runs is =
+      compiled.statics_fit budget slots (sym (sym (ap seen_statics_end is) ∙ runs (statics no_messages program budget) statics_run))
+
+  -- what comes of the run for a record is what the program means for it
+  pub record_means : (slots : List Slot) (input : List ℕ) → AllFit slots (static_types program) → (end : RunEnd)
+      → ((o : Outcome (List EmitDatum)) → RunsTo code input slots budget o → seen_end end ≡ o)
+      → mean no_messages program slots budget input ≡ seen_end end
+  record_means slots input fit end runs = sym (runs (mean no_messages program slots budget input) (record_runs slots input fit))
+
+-- the records from one on
+abbrev from_record : Core → List Slot → ℕ → List (List ℕ) → ℕ → Records
+from_record program slots budget records i = mean_from no_messages program slots budget (i + 1) (drop i records)
+
+-- the sums are those of the records in front of one, which have few emits; and what comes of the rest decides
+pub record IsRunUpTo (program : Core) (slots : List Slot) (budget : ℕ) (records : List (List ℕ)) (tables i : ℕ) (totals : Totals) : Type 0 where
+  pub emits : List EmitDatum
+  pub rest : mean_all no_messages program slots budget records ≡ behind_emits emits (from_record program slots budget records i)
+  pub sums : StandFor totals emits
+  pub few : totals.emits ≤ 2 ^ 32 * i
   pub rows : length totals.rows ≡ tables
 
-pub run_none : (code : Code) (input : List ℕ) (totals : Totals) → StandFor totals [] → IsRunUpTo code input input (length totals.rows) 0 totals
-run_none code input totals none = record {
-  done = [];
-  cut = refl;
-  counted = refl;
-  few = omega arith;
-  short = refl;
-  sums = λ emits_of runs. none;
-  emits = omega (arith, none.count);
-  rows = refl;
-}
-
--- the sums count fewer emits than 62 bits number
-pub few_emits : (code : Code) (input rest : List ℕ) (tables count : ℕ) (totals : Totals) → IsRunUpTo code input rest tables count totals → totals.emits < 2 ^ 62
-few_emits code input rest tables count totals h = omega (arith, h.few, h.emits)
-
--- a test of each element, with one element more
-then_true : (b rest more : Bool) → (b && rest) ≡ true → (rest ≡ true → more ≡ true) → (b && more) ≡ true
-then_true true rest more h next = next h
-then_true false rest more h next = h
-
-all_push : (lines : List (List ℕ)) (line : List ℕ) → list_all is_short lines ≡ true → is_short line ≡ true → list_all is_short (lines ++ line ∷ []) ≡ true
-all_push [] line all here = rw here refl
-all_push (l ∷ lines) line all here = then_true (is_short l) (list_all is_short lines) _ all (λ rest. all_push lines line rest here)
-
-false_behind : (b more : Bool) → more ≡ false → (b && more) ≡ false
-false_behind true more h = h
-false_behind false more h = refl
-
-all_false : (lines : List (List ℕ)) (line : List ℕ) (more : List (List ℕ)) → is_short line ≡ false → list_all is_short (lines ++ line ∷ more) ≡ false
-all_false [] line more here = rw here refl
-all_false (l ∷ lines) line more here = false_behind (is_short l) _ (all_false lines line more here)
-
--- three tests
-tests_pass : (a b c : Bool) → a ≡ true → b ≡ true → c ≡ true → (a && b && c) ≡ true
-tests_pass true true true ha hb hc = refl
-tests_pass false b c ha hb hc = absurd (cc)
-tests_pass true false c ha hb hc = absurd (cc)
-tests_pass true true false ha hb hc = absurd (cc)
-
-second_fails : (a b c : Bool) → b ≡ false → (a && b && c) ≡ false
-second_fails true false c h = refl
-second_fails false b c h = refl
-second_fails true true c h = absurd (cc)
-
-third_fails : (a b c : Bool) → c ≡ false → (a && b && c) ≡ false
-third_fails true true c h = h
-third_fails true false c h = refl
-third_fails false b c h = refl
-
-at_most : (a b : ℕ) → a ≤ b → nat_le a b ≡ true
-at_most a b le = grind (arith, nat_tests)
-
-more_than : (a b : ℕ) → b < a → nat_le a b ≡ false
-more_than a b lt = grind (arith, nat_tests)
-
--- the limits, by the records that the input has
-abbrev limits_of : List ℕ → List (List ℕ) → Bool
-limits_of input records = nat_le (length input) most_input_bytes && nat_le (length records) most_records && list_all is_short records
+behind_nothing : (r : Records) → r ≡ behind_emits [] r
+behind_nothing (Emitted es) = refl
+behind_nothing (FaultedAt n f) = refl
 
 emits_added : (totals : Totals) (es : List EmitDatum) → (all_added totals es).emits ≡ totals.emits + length es
 emits_added totals [] = omega arith
 emits_added totals (e ∷ es) = let rest = emits_added (added totals e) es in omega (arith, rest)
 
--- one record more was run
-pub run_more : (code : Code) (input rest line behind : List ℕ) (tables count : ℕ) (totals next : Totals) → MayRun code → IsRunUpTo code input rest tables count totals
-    → records_in rest ≡ line ∷ records_in behind → count ≢ most_records → length line ≤ most_record_bytes
-    → ((emits : List EmitDatum) → RunsTo code line emits → next ≡ all_added totals emits) → IsRunUpTo code input behind tables (count + 1) next
-run_more code input rest line behind tables count totals next may h cut below short added =
-    let ended = may.ends line in
-    let counted = ap (λ (t : Totals). t.emits) (added ended.emits ended.runs) ∙ emits_added totals ended.emits in
-    record {
-      done = h.done ++ line ∷ [];
-      cut = h.cut ∙ ap (λ r. h.done ++ r) cut ∙ sym (append_assoc h.done (line ∷ []) (records_in behind));
-      counted = omega (arith, h.counted, length-append h.done (line ∷ []));
-      few = omega (arith, below, h.few);
-      short = all_push h.done line h.short (at_most (length line) most_record_bytes short);
-      sums = λ emits_of runs.
-          subst (λ t. StandFor t (flat_map emits_of (h.done ++ line ∷ []))) (sym (added (emits_of line) (runs line)))
-          (subst (StandFor (all_added totals (emits_of line)))
-          (sym (flat_map-append emits_of h.done (line ∷ []) ∙ ap (λ es. flat_map emits_of h.done ++ es) (append-nil (emits_of line))))
-          (stand_all totals (flat_map emits_of h.done) (emits_of line) (h.sums emits_of runs)));
-      emits = omega (arith, counted, ended.few, h.emits);
-      rows = ap (λ (t : Totals). length t.rows) (added ended.emits ended.runs) ∙ length-all_added totals ended.emits ∙ h.rows;
-    }
+drop_suc : (xs : List (List ℕ)) (i : ℕ) (x : List ℕ) → slice_get xs i ≡ Some x → drop i xs ≡ x ∷ drop (suc i) xs
+drop_suc [] i x there = absurd (cc)
+drop_suc (y ∷ xs) zero x there = let same : y ≡ x = some_same y x there in ap (λ z. z ∷ xs) same
+  where
+    some_same : (a b : List ℕ) → Some a ≡ Some b → a ≡ b
+    some_same a b e = cc
+drop_suc (y ∷ xs) (suc i) x there = drop_suc xs i x there
 
--- at the end of the input its records are those that were run
-all_done : (code : Code) (input rest : List ℕ) (tables count : ℕ) (totals : Totals) → (h : IsRunUpTo code input rest tables count totals) → rest ≡ [] → records_in input ≡ h.done
-all_done code input rest tables count totals h none = h.cut ∙ ap (λ r. h.done ++ records_in r) none ∙ append-nil h.done
+drop_at : (xs : List (List ℕ)) (i : ℕ) (x : List ℕ) → slice_get xs i ≡ Some x → drop i xs ≡ x ∷ drop (i + 1) xs
+drop_at xs i x there = let next : suc i ≡ i + 1 = omega arith in drop_suc xs i x there ∙ ap (λ n. x ∷ drop n xs) next
 
--- the end of the input
-pub run_all : (code : Code) (input rest : List ℕ) (tables count : ℕ) (totals : Totals) → IsRunUpTo code input rest tables count totals → rest ≡ [] → SumsAll code input totals
-run_all code input rest tables count totals h none = record {
-  sums = λ emits_of runs. subst (λ rs. StandFor totals (flat_map emits_of rs)) (sym (all_done code input rest tables count totals h none)) (h.sums emits_of runs);
-}
+module _ (program : Core) (slots : List Slot) (budget : ℕ) (records : List (List ℕ)) where
+  pub run_none : (totals : Totals) → StandFor totals [] → IsRunUpTo program slots budget records (length totals.rows) 0 totals
+  run_none totals none = record {
+    emits = [];
+    rest = behind_nothing _;
+    sums = none;
+    few = omega (arith, none.count);
+    rows = refl;
+  }
 
-pub within : (code : Code) (input rest : List ℕ) (tables count : ℕ) (totals : Totals) → IsRunUpTo code input rest tables count totals → rest ≡ [] → length input ≤ most_input_bytes → is_within_limits input ≡ true
-within code input rest tables count totals h none size =
-    ap (limits_of input) (all_done code input rest tables count totals h none)
-    ∙ tests_pass _ _ _ (at_most (length input) most_input_bytes size) (at_most (length h.done) most_records (omega (arith, h.counted, h.few))) h.short
+  -- there is room for the emits of one record more
+  pub room_for_more : (tables i : ℕ) (totals : Totals) → budget ≤ 2 ^ 32 → i < length records → length records ≤ 2147483648
+      → IsRunUpTo program slots budget records tables i totals → totals.emits + budget ≤ 2 ^ 63
+  room_for_more tables i totals most there few h = omega (arith, most, there, few, h.few)
 
--- a record too many, or too long a record
-pub too_many : (code : Code) (input rest line behind : List ℕ) (tables count : ℕ) (totals : Totals) → IsRunUpTo code input rest tables count totals
-    → records_in rest ≡ line ∷ records_in behind → count ≡ most_records → is_within_limits input ≡ false
-too_many code input rest line behind tables count totals h cut full =
-    let many : most_records < length (h.done ++ line ∷ records_in behind) =
-    omega (arith, full, h.counted, length-append h.done (line ∷ records_in behind)) in
-    ap (limits_of input) (h.cut ∙ ap (λ r. h.done ++ r) cut) ∙ second_fails _ _ _ (more_than _ most_records many)
+  -- what comes of the records from one on, by what it means
+  next_record : (i : ℕ) (r : List ℕ) (o : Outcome (List EmitDatum)) → slice_get records i ≡ Some r → mean no_messages program slots budget r ≡ o
+      → from_record program slots budget records i ≡ then_records (i + 1) o (from_record program slots budget records (i + 1))
+  next_record i r o there is =
+      let more : suc (i + 1) ≡ i + 1 + 1 = omega arith in
+      ap (λ rs. mean_from no_messages program slots budget (i + 1) rs) (drop_at records i r there)
+      ∙ ap (λ q. then_records (i + 1) q (mean_from no_messages program slots budget (suc (i + 1)) (drop (i + 1) records))) is
+      ∙ ap (λ n. then_records (i + 1) o (mean_from no_messages program slots budget n (drop (i + 1) records))) more
 
-pub too_long : (code : Code) (input rest line behind : List ℕ) (tables count : ℕ) (totals : Totals) → IsRunUpTo code input rest tables count totals
-    → records_in rest ≡ line ∷ records_in behind → most_record_bytes < length line → is_within_limits input ≡ false
-too_long code input rest line behind tables count totals h cut long =
-    ap (limits_of input) (h.cut ∙ ap (λ r. h.done ++ r) cut)
-    ∙ third_fails (nat_le (length input) most_input_bytes) (nat_le (length (h.done ++ line ∷ records_in behind)) most_records) _ (all_false h.done line (records_in behind) (more_than (length line) most_record_bytes long))
+  -- one record more was run
+  pub run_more : (tables i : ℕ) (totals next : Totals) (r : List ℕ) (es : List EmitDatum) → budget ≤ 2 ^ 32 → slice_get records i ≡ Some r
+      → mean no_messages program slots budget r ≡ Done es → next ≡ all_added totals es
+      → IsRunUpTo program slots budget records tables i totals → IsRunUpTo program slots budget records tables (i + 1) next
+  run_more tables i totals next r es most there means is h =
+      let paid = emits_are_paid no_messages program slots budget r es means in
+      let counted = ap (λ (t : Totals). t.emits) is ∙ emits_added totals es in
+      record {
+        emits = h.emits ++ es;
+        rest = h.rest ∙ ap (behind_emits h.emits) (next_record i r (Done es) there means)
+            ∙ behind_both h.emits es (from_record program slots budget records (i + 1));
+        sums = subst (λ t. StandFor t (h.emits ++ es)) (sym is) (stand_all totals h.emits es h.sums);
+        few = omega (arith, counted, paid, most, h.few);
+        rows = ap (λ (t : Totals). length t.rows) is ∙ length-all_added totals es ∙ h.rows;
+      }
 
--- the run of a record ends
-pub may_end : (code : Code) (text : List ℕ) → MayRun code → RunEnds code text
-may_end code text may = record { emits = (may.ends text).emits; runs = (may.ends text).runs }
+  -- a record faults
+  pub run_fails : (tables i : ℕ) (totals : Totals) (r : List ℕ) (f : Fault) → slice_get records i ≡ Some r
+      → mean no_messages program slots budget r ≡ Faulted f → IsRunUpTo program slots budget records tables i totals
+      → mean_all no_messages program slots budget records ≡ FaultedAt (i + 1) f
+  run_fails tables i totals r f there means h = h.rest ∙ ap (behind_emits h.emits) (next_record i r (Faulted f) there means)
 
--- the emits that a run made are few
-pub few_made : (code : Code) (text : List ℕ) (made : List EmitDatum) → MayRun code → ((emits : List EmitDatum) → RunsTo code text emits → made ≡ emits) → length made ≤ 2 ^ 30
-few_made code text made may is = let e = may.ends text in let same = ap length (is e.emits e.runs) in omega (arith, same, e.few)
+  -- all records were run
+  pub run_all : (tables i : ℕ) (totals : Totals) → length records ≤ i → IsRunUpTo program slots budget records tables i totals
+      → SumsAll program slots budget records totals
+  run_all tables i totals end h = record {
+    emits = h.emits;
+    means = h.rest ∙ ap (λ rs. behind_emits h.emits (mean_from no_messages program slots budget (i + 1) rs)) (none_left records i end)
+        ∙ ap Emitted (append-nil h.emits);
+    sums = h.sums;
+  }
+
+  -- a record was run, and no more is
+  pub record_fails : (tables i : ℕ) (old new : Totals) (r : List ℕ) (f : Failure) → slice_get records i ≡ Some r
+      → GivesRecord program slots budget r (i + 1) old new (Err f) → IsRunUpTo program slots budget records tables i old
+      → GivesSums program slots budget records new (Err f)
+  record_fails tables i old new r (failure.Faulted n fault) there h run =
+      run_fails tables i old r (seen_fault fault) there h.1 run ∙ ap (λ k. FaultedAt k (seen_fault fault)) (sym h.0)
+  record_fails tables i old new r failure.NoMemory there h run = tt
+  record_fails tables i old new r failure.Usage there h run = absurd h
+  record_fails tables i old new r (failure.Refused refusal) there h run = absurd h
+  record_fails tables i old new r (failure.Damaged b) there h run = absurd h
+  record_fails tables i old new r (failure.Limit b) there h run = absurd h
+  record_fails tables i old new r failure.ReadFailed there h run = absurd h
+  record_fails tables i old new r failure.WriteFailed there h run = absurd h

@@ -1,5 +1,5 @@
 -- The answer for the settings of a command line, from that for the program's text.
-use Rattle.std.proofs.Common.{◌≡◌, ◌≢◌, ℕ, suc, ◌<◌, ◌≤◌, ◌⊎◌, List, [], ◌∷◌, ◌++◌, length, take, Bool}
+use Rattle.std.proofs.Common.{◌≡◌, ◌≢◌, ℕ, zero, suc, ◌<◌, ◌≤◌, ◌⊎◌, List, [], ◌∷◌, ◌++◌, length, take}
 use Rattle.std.proofs.Common.{true, false, Option, Some, None, refl, sym, ap, ◌∙◌, subst, arith, inl, inr, append-nil, append_assoc}
 use Rattle.std.specs.Prelude.{IfSome, IsSome, IsTrue, unwrap_or, Result, Ok, Err, OnOk, if◌then◌else◌}
 use Rattle.std.specs.Io.KnownBytes.{IsAtEnd}
@@ -9,65 +9,81 @@ use Rattle.sz_io.specs.Calls.{NamesGain, ReadToEnd}
 use Rattle.sz_io.proofs.ForCallers.{rose_later}
 use Rattle.sz_io.specs.declared.files.Files as files
 use Rattle.sz_core.specs.Programs.{Core}
-use Rattle.sz_mean.specs.Tree.{Prog}
-use Rattle.szl.specs.declared.status.Status.{Status}
+use Rattle.sz_world.specs.World.{Fault, Done, Faulted}
+use Rattle.sz_world.specs.World as world
+use Rattle.sz_world.specs.Slots.{Slot}
+use Rattle.sz_world.specs.Operations.{no_messages}
+use Rattle.sz_mean.specs.Programs.{statics}
+use Rattle.sz_mean.specs.Records.{Records, Emitted, FaultedAt, mean_all}
+use Rattle.sz_records.specs.declared.ending.Ending.{Ending}
+use Rattle.sz_records.specs.declared.ending.Ending.TheVariants.{Whole, Damaged, Limit}
+use Rattle.sz_words.specs.declared.settings.RunSettings.{RunSettings}
+use Rattle.sz_words.specs.declared.settings.Settings.{Settings}
+use Rattle.sz_words.specs.declared.settings.Settings.TheVariants.{Run, Check, Selftest}
+use Rattle.sz_words.specs.declared.error.WordsError.{WordsError}
+use Rattle.sz_words.specs.declared.error.WordsError.TheVariants as words_errors
+use Rattle.sz_words.specs.Settings.{settings_in}
 use Rattle.szl.specs.declared.status.Status.TheVariants as status
 use Rattle.szl.specs.declared.failure.Failure.{Failure}
-use Rattle.szl.specs.declared.failure.Failure.TheVariants.{Usage, Refused, Limit, ReadFailed, WriteFailed, NoMemory}
+use Rattle.szl.specs.declared.failure.Failure.TheVariants as failure
 use Rattle.szl.specs.Opening.{ReadsText, ran_out, past_program, Decides, Answers, AnswersText, AnswersCheck}
-use Rattle.szl.specs.Outcome.{Answer, outcome_of_settings, outcome_of_run, outcome_of_built, outcome_of_check, outcome_of_checked, outcome_refused, success}
+use Rattle.szl.specs.Outcome.{Answer, outcome_of_records, outcome_of_statics, outcome_of_checked_run, outcome_of_run}
+use Rattle.szl.specs.Outcome.{outcome_of_check, outcome_of_checked, outcome_of_settings, outcome_refused}
 use Rattle.szl.specs.declared.refusal.Refusal.{Refusal}
-use Rattle.szl.specs.Checking.{built_so, checked}
-use Rattle.szl.specs.Forms.{program_in}
+use Rattle.szl.specs.Checking.{checked}
 use Rattle.szl.specs.Judgement.{Reading, spells, most_program_bytes}
 use Rattle.szl.specs.Judgement as readings
-use Rattle.szl.specs.Judging.{IsFailureOf}
-use Rattle.szl.specs.Promise.{OpensFirst, most_opened, names_asked, AreHeld, AreReadToEnd}
-use Rattle.szl.specs.Records.{is_within_limits}
-use Rattle.szl.specs.Settings.{Settings, run, check}
+use Rattle.szl.specs.Judging.{IsFailureOf, failure_of_words}
+use Rattle.szl.specs.Promise.{OpensFirst, names_asked, AreHeld, AreReadToEnd}
+use Rattle.szl.specs.Records.{Cut}
+use Rattle.szl.specs.Settings.{frame_asked, is_built, built, asked_in}
 use Rattle.szl.proofs.JudgementLemmas.{every_text_is_read}
 use Rattle.szl.proofs.OpeningLemmas.{holds_or}
+use Rattle.szl.proofs.AnswerLemmas.{cut_of}
 
--- the status of the outcome of settings: done, refused, or past a limit
-data IsAnswered : Status → Type 0 where
-  done : IsAnswered status.Done
-  refused : IsAnswered status.Program
-  limit : IsAnswered status.Limit
+-- an outcome that opens a file, and is no bad command line
+record IsAnswered (a : Answer) : Type 0 where
+  opens : 1 ≤ a.opens
+  other : a.status ≢ status.Usage
 
-answered_program : (b : Bool) (output line : List ℕ)
-    → IsAnswered (if b then success output else record { status = status.Limit; output = []; line = line }).status
-answered_program true output line = done
-answered_program false output line = limit
+answered_records : (program : Core) (ending : Ending) (r : Records) → IsAnswered (outcome_of_records program ending r)
+answered_records program Whole (Emitted es) = record { opens = omega arith; other = λ e. cc }
+answered_records program (Damaged b) (Emitted es) = record { opens = omega arith; other = λ e. cc }
+answered_records program (Limit b) (Emitted es) = record { opens = omega arith; other = λ e. cc }
+answered_records program ending (FaultedAt zero f) = record { opens = omega arith; other = λ e. cc }
+answered_records program ending (FaultedAt (suc k) f) = record { opens = omega arith; other = λ e. cc }
 
-answered_built : (built : Result Prog Refusal) (input : List ℕ) → IsAnswered (outcome_of_built built input).status
-answered_built (Ok p) input = answered_program (is_within_limits input) _ _
-answered_built (Err r) input = refused
+answered_statics : (program : Core) (budget : ℕ) (cut : Cut) (o : world.Outcome (List Slot)) → IsAnswered (outcome_of_statics program budget cut o)
+answered_statics program budget cut (Faulted f) = record { opens = omega arith; other = λ e. cc }
+answered_statics program budget cut (Done slots) = answered_records program cut.ending (mean_all no_messages program slots budget cut.records)
 
-answered_run : (reading : Reading) (input : List ℕ) → IsAnswered (outcome_of_run reading input).status
-answered_run (readings.refused r) input = refused
-answered_run (spells ss) input = answered_built (built_so (program_in ss)) input
+answered_refused : (r : Refusal) → IsAnswered (outcome_refused r)
+answered_refused r = record { opens = omega arith; other = λ e. cc }
 
-answered_checked : (found : Result Core Refusal) → IsAnswered (outcome_of_checked found).status
-answered_checked (Ok p) = done
-answered_checked (Err r) = refused
+answered_checked_run : (budget : ℕ) (cut : Cut) (found : Result Core Refusal) → IsAnswered (outcome_of_checked_run budget cut found)
+answered_checked_run budget cut (Ok p) = answered_statics p budget cut (statics no_messages p budget)
+answered_checked_run budget cut (Err r) = answered_refused r
 
-answered_check : (reading : Reading) → IsAnswered (outcome_of_check reading).status
-answered_check (readings.refused r) = refused
+answered_run : (budget : ℕ) (cut : Cut) (reading : Reading) → IsAnswered (outcome_of_run budget cut reading)
+answered_run budget cut (readings.refused r) = answered_refused r
+answered_run budget cut (spells ss) = answered_checked_run budget cut (checked ss)
+
+answered_checked : (found : Result Core Refusal) → IsAnswered (outcome_of_checked found)
+answered_checked (Ok p) = record { opens = omega arith; other = λ e. cc }
+answered_checked (Err r) = answered_refused r
+
+answered_check : (reading : Reading) → IsAnswered (outcome_of_check reading)
+answered_check (readings.refused r) = answered_refused r
 answered_check (spells ss) = answered_checked (checked ss)
 
-answered : (s : Settings) (reading : Reading) (input : List ℕ) → IsAnswered (outcome_of_settings (Some s) reading input).status
-answered (run program name) reading input = answered_run reading input
-answered (check program) reading input = answered_check reading
+-- settings that name a program
+pub data NamesProgram : Settings → List ℕ → Type 0 where
+  of_run : (s : RunSettings) → NamesProgram (Run s) s.program
+  of_check : (program : List ℕ) → NamesProgram (Check program) program
 
-some_opened : (s : Status) → IsAnswered s → 1 ≤ most_opened s
-some_opened s done = omega arith
-some_opened s refused = omega arith
-some_opened s limit = omega arith
-
-no_usage : (s : Status) → IsAnswered s → s ≢ status.Usage
-no_usage s done = λ e. cc
-no_usage s refused = λ e. cc
-no_usage s limit = λ e. cc
+answered : (s : Settings) (name : List ℕ) → NamesProgram s name → (reading : Reading) (cut : Cut) → IsAnswered (outcome_of_settings (Some s) reading cut)
+answered _ _ (of_run s) reading cut = answered_run s.budget cut reading
+answered _ _ (of_check program) reading cut = answered_check reading
 
 -- a text past the limit is read as refused
 long_failure : (text : List ℕ) (f : Failure) → f ≡ past_program → most_program_bytes < length text → IsFailureOf text f
@@ -77,12 +93,14 @@ long_failure text f is long = subst (IsFailureOf text) (sym is) ((long, refl), r
 decides_since : (answer : Result (List ℕ) Failure) (outcome : Answer) (later since : Type 0) → (later → since)
     → Decides answer outcome later → Decides answer outcome since
 decides_since (Ok output) outcome later since rose h = h
-decides_since (Err ReadFailed) outcome later since rose h = (rose h.0, h.1)
-decides_since (Err WriteFailed) outcome later since rose h = h
-decides_since (Err NoMemory) outcome later since rose h = h
-decides_since (Err Usage) outcome later since rose h = h
-decides_since (Err (Refused r)) outcome later since rose h = h
-decides_since (Err Limit) outcome later since rose h = h
+decides_since (Err failure.ReadFailed) outcome later since rose h = (rose h.0, h.1)
+decides_since (Err failure.WriteFailed) outcome later since rose h = h
+decides_since (Err failure.NoMemory) outcome later since rose h = h
+decides_since (Err failure.Usage) outcome later since rose h = h
+decides_since (Err (failure.Refused r)) outcome later since rose h = h
+decides_since (Err (failure.Faulted n f)) outcome later since rose h = h
+decides_since (Err (failure.Damaged b)) outcome later since rose h = h
+decides_since (Err (failure.Limit b)) outcome later since rose h = h
 
 -- a fact under what may be told
 under : (P : Type 0) (h : Option (List ℕ)) → P → IfSome h (λ _. P)
@@ -94,84 +112,133 @@ over P None k p = tt
 over P (Some bytes) None p = tt
 over P (Some bytes) (Some more) p = p
 
--- words that are no command line ask for no file
-pub no_settings : {F : Type 0} (the_files : files.Ghosts F) (old : F) → Answers the_files None old old (Err Usage)
-no_settings the_files old = let r = every_text_is_read [] in record {
-  text = [];
-  reading = r.reading;
-  read = r.read;
-  input = [];
-  held = tt;
-  decides = refl;
-  opened = record { count = 0; within = omega arith; opened = sym (append-nil (the_files.names old)) };
-}
+-- no file is opened
+opened_none : (asked old : List (List ℕ)) (most : ℕ) → OpensFirst asked old old most
+opened_none asked old most = record { count = 0; within = omega arith; opened = sym (append-nil old) }
 
--- the name of the program
-abbrev program_name : Settings → List ℕ
-program_name (run program name) = program
-program_name (check program) = program
+module _ {F : Type 0} (the_files : files.Ghosts F) (old : F) where
+  -- an answer without any file, for settings that may name some, whose program would be read so
+  unopened : (asked : Option Settings) (text input : List ℕ) (reading : Reading) → readings.IsRead text reading
+      → AreHeld asked (the_files.held old) text input → (answer : Result (List ℕ) Failure)
+      → ((cut : Cut) → Decides answer (outcome_of_settings asked reading cut) (Rose (the_files.faults old) (the_files.faults old)))
+      → Answers the_files asked old old answer
+  unopened asked text input reading read held answer decides = let c = cut_of (frame_asked asked) input in record {
+    text = text;
+    reading = reading;
+    read = read;
+    input = input;
+    cut = c.cut;
+    is_cut = c.is_cut;
+    held = held;
+    decides = decides c.cut;
+    opened = opened_none (names_asked asked) (the_files.names old) _;
+  }
+
+  -- words that are no command line ask for no file
+  pub no_settings : Answers the_files None old old (Err failure.Usage)
+  no_settings = let r = every_text_is_read [] in unopened None [] [] r.reading r.read tt (Err failure.Usage) (λ cut. refl)
+
+  -- memory ran out before a file was opened
+  pub no_memory_for : (asked : Option Settings) → Answers the_files asked old old (Err failure.NoMemory)
+  no_memory_for None = let r = every_text_is_read [] in unopened None [] [] r.reading r.read tt (Err failure.NoMemory) (λ cut. tt)
+  no_memory_for (Some (Run s)) =
+      let text = unwrap_or (the_files.held old s.program) [] in
+      let r = every_text_is_read text in
+      unopened (Some (Run s)) text (unwrap_or (the_files.held old s.input) []) r.reading r.read
+      (holds_or (the_files.held old s.program) [], holds_or (the_files.held old s.input) []) (Err failure.NoMemory) (λ cut. tt)
+  no_memory_for (Some (Check program)) =
+      let text = unwrap_or (the_files.held old program) [] in
+      let r = every_text_is_read text in
+      unopened (Some (Check program)) text [] r.reading r.read (holds_or (the_files.held old program) []) (Err failure.NoMemory) (λ cut. tt)
+  no_memory_for (Some (Selftest seed records workers)) =
+      let r = every_text_is_read [] in
+      unopened (Some (Selftest seed records workers)) [] [] r.reading r.read tt (Err failure.NoMemory) (λ cut. tt)
+
+-- words without settings
+pub words_fail : {F : Type 0} (the_files : files.Ghosts F) (old : F) (words : List (List ℕ)) (e : WordsError)
+    → (e ≡ words_errors.Usage → settings_in words ≡ None) → Answers the_files (asked_in words) old old (Err (failure_of_words e))
+words_fail the_files old words words_errors.Usage none =
+    subst (λ o. Answers the_files (built o) old old (Err failure.Usage)) (sym (none refl)) (no_settings the_files old)
+words_fail the_files old words words_errors.NoMemory none = no_memory_for the_files old (asked_in words)
+
+-- a run of what isn't built is a bad command line
+pub unbuilt_run : {F : Type 0} (the_files : files.Ghosts F) (old : F) (s : RunSettings) → is_built s ≡ false
+    → Answers the_files (built (Some (Run s))) old old (Err failure.Usage)
+unbuilt_run the_files old s off =
+    subst (λ b. Answers the_files (if b then Some (Run s) else None) old old (Err failure.Usage)) (sym off) (no_settings the_files old)
+
+pub built_run : (s : RunSettings) → is_built s ≡ true → Some (Run s) ≡ built (Some (Run s))
+built_run s on = sym (ap (λ b. if b then Some (Run s) else None) on)
 
 -- the outcome of a refused text is its refusal, whatever the command
-refused_outcome : (s : Settings) (r : Refusal) (input : List ℕ) → outcome_of_settings (Some s) (readings.refused r) input ≡ outcome_refused r
-refused_outcome (run program name) r input = refl
-refused_outcome (check program) r input = refl
+refused_outcome : (s : Settings) (name : List ℕ) → NamesProgram s name → (r : Refusal) (cut : Cut)
+    → outcome_of_settings (Some s) (readings.refused r) cut ≡ outcome_refused r
+refused_outcome _ _ (of_run s) r cut = refl
+refused_outcome _ _ (of_check program) r cut = refl
 
 -- an input that the files may hold
-input_or : (List ℕ → Option (List ℕ)) → Settings → List ℕ
-input_or held (run program name) = unwrap_or (held name) []
-input_or held (check program) = []
+input_or : (held : List ℕ → Option (List ℕ)) (s : Settings) (name : List ℕ) → NamesProgram s name → List ℕ
+input_or held _ _ (of_run s) = unwrap_or (held s.input) []
+input_or held _ _ (of_check program) = []
 
-held_or : (held : List ℕ → Option (List ℕ)) (s : Settings) (text : List ℕ) → IfSome (held (program_name s)) (λ bytes. bytes ≡ text)
-    → AreHeld (Some s) held text (input_or held s)
+held_or : (held : List ℕ → Option (List ℕ)) (s : Settings) (name : List ℕ) (n : NamesProgram s name) (text : List ℕ)
+    → IfSome (held name) (λ bytes. bytes ≡ text) → AreHeld (Some s) held text (input_or held s name n)
 unfolding input_or
-held_or held (run program name) text h = (h, holds_or (held name) [])
-held_or held (check program) text h = h
+held_or held _ _ (of_run s) text h = (h, holds_or (held s.input) [])
+held_or held _ _ (of_check program) text h = h
 
 -- the program's name was opened, or no name
-opened_first : (s : Settings) (old new : List (List ℕ)) (most : ℕ) → 1 ≤ most → new ≡ old ++ program_name s ∷ []
+opened_first : (s : Settings) (name : List ℕ) → NamesProgram s name → (old new : List (List ℕ)) (most : ℕ) → 1 ≤ most → new ≡ old ++ name ∷ []
     → OpensFirst (names_asked (Some s)) old new most
-opened_first (run program name) old new most le is = record { count = 1; within = le; opened = is }
-opened_first (check program) old new most le is = record { count = 1; within = le; opened = is }
+opened_first _ _ (of_run s) old new most le is = record { count = 1; within = le; opened = is }
+opened_first _ _ (of_check program) old new most le is = record { count = 1; within = le; opened = is }
 
-gained_first : (s : Settings) (old new : List (List ℕ)) (most : ℕ) → 1 ≤ most → (new ≡ old) ⊎ (new ≡ old ++ program_name s ∷ [])
-    → OpensFirst (names_asked (Some s)) old new most
-gained_first s old new most le (inl is) = record { count = 0; within = omega arith; opened = is ∙ sym (append-nil _) }
-gained_first s old new most le (inr is) = opened_first s old new most le is
+gained_first : (s : Settings) (name : List ℕ) → NamesProgram s name → (old new : List (List ℕ)) (most : ℕ) → 1 ≤ most
+    → (new ≡ old) ⊎ (new ≡ old ++ name ∷ []) → OpensFirst (names_asked (Some s)) old new most
+gained_first s name n old new most le (inl is) = record { count = 0; within = omega arith; opened = is ∙ sym (append-nil _) }
+gained_first s name n old new most le (inr is) = opened_first s name n old new most le is
 
--- the program's text couldn't be read
-pub text_fails : {F : Type 0} (the_files : files.Ghosts F) (s : Settings) (old new : F) (f : Failure)
-    → ReadsText (the_files.held old (program_name s)) most_program_bytes past_program (Rose (the_files.faults old) (the_files.faults new)) (Err f)
-    → NamesGain (ran_out (Err f)) (the_files.names old) (the_files.names new) (program_name s) → Answers the_files (Some s) old new (Err f)
-text_fails the_files s old new (Refused r) reads gains = record {
-  text = reads.text;
-  reading = readings.refused r;
-  read = long_failure reads.text (Refused r) reads.tells.0 reads.tells.1;
-  input = input_or (the_files.held old) s;
-  held = held_or (the_files.held old) s reads.text reads.holds;
-  decides = refused_outcome s r _;
-  opened = opened_first s _ _ _ (some_opened _ (answered s (readings.refused r) _)) gains;
-}
-text_fails the_files s old new ReadFailed reads gains = let r = every_text_is_read reads.text in record {
-  text = reads.text;
-  reading = r.reading;
-  read = r.read;
-  input = input_or (the_files.held old) s;
-  held = held_or (the_files.held old) s reads.text reads.holds;
-  decides = (reads.tells, no_usage _ (answered s r.reading _));
-  opened = opened_first s _ _ _ (some_opened _ (answered s r.reading _)) gains;
-}
-text_fails the_files s old new NoMemory reads gains = let r = every_text_is_read reads.text in record {
-  text = reads.text;
-  reading = r.reading;
-  read = r.read;
-  input = input_or (the_files.held old) s;
-  held = held_or (the_files.held old) s reads.text reads.holds;
-  decides = tt;
-  opened = gained_first s _ _ _ (some_opened _ (answered s r.reading _)) gains;
-}
-text_fails the_files s old new Usage reads gains = let e = reads.tells.0 in absurd (cc)
-text_fails the_files s old new Limit reads gains = let e = reads.tells.0 in absurd (cc)
-text_fails the_files s old new WriteFailed reads gains = let e = reads.tells.0 in absurd (cc)
+module _ {F : Type 0} (the_files : files.Ghosts F) (s : Settings) (name : List ℕ) (n : NamesProgram s name) (old new : F) where
+  -- the program's text was read so, or nothing came of it
+  failed_on : (text : List ℕ) (reading : Reading) → readings.IsRead text reading → IfSome (the_files.held old name) (λ bytes. bytes ≡ text)
+      → (answer : Result (List ℕ) Failure)
+      → ((cut : Cut) → Decides answer (outcome_of_settings (Some s) reading cut) (Rose (the_files.faults old) (the_files.faults new)))
+      → ((most : ℕ) → 1 ≤ most → OpensFirst (names_asked (Some s)) (the_files.names old) (the_files.names new) most)
+      → Answers the_files (Some s) old new answer
+  failed_on text reading read holds answer decides opened =
+      let input = input_or (the_files.held old) s name n in
+      let c = cut_of (frame_asked (Some s)) input in
+      record {
+        text = text;
+        reading = reading;
+        read = read;
+        input = input;
+        cut = c.cut;
+        is_cut = c.is_cut;
+        held = held_or (the_files.held old) s name n text holds;
+        decides = decides c.cut;
+        opened = opened _ (answered s name n reading c.cut).opens;
+      }
+
+  -- the program's text couldn't be read
+  pub text_fails : (f : Failure)
+      → ReadsText (the_files.held old name) most_program_bytes past_program (Rose (the_files.faults old) (the_files.faults new)) (Err f)
+      → NamesGain (ran_out (Err f)) (the_files.names old) (the_files.names new) name → Answers the_files (Some s) old new (Err f)
+  text_fails (failure.Refused r) reads gains =
+      failed_on reads.text (readings.refused r) (long_failure reads.text (failure.Refused r) reads.tells.0 reads.tells.1) reads.holds
+      (Err (failure.Refused r)) (refused_outcome s name n r) (λ most le. opened_first s name n _ _ most le gains)
+  text_fails failure.ReadFailed reads gains =
+      let r = every_text_is_read reads.text in
+      failed_on reads.text r.reading r.read reads.holds (Err failure.ReadFailed)
+      (λ cut. (reads.tells, (answered s name n r.reading cut).other)) (λ most le. opened_first s name n _ _ most le gains)
+  text_fails failure.NoMemory reads gains =
+      let r = every_text_is_read reads.text in
+      failed_on reads.text r.reading r.read reads.holds (Err failure.NoMemory) (λ cut. tt) (λ most le. gained_first s name n _ _ most le gains)
+  text_fails failure.Usage reads gains = let e = reads.tells.0 in absurd (cc)
+  text_fails (failure.Faulted k f) reads gains = let e = reads.tells.0 in absurd (cc)
+  text_fails (failure.Damaged b) reads gains = let e = reads.tells.0 in absurd (cc)
+  text_fails (failure.Limit b) reads gains = let e = reads.tells.0 in absurd (cc)
+  text_fails failure.WriteFailed reads gains = let e = reads.tells.0 in absurd (cc)
 
 -- a fact that holds whatever was answered, or follows from two that hold where a call succeeded
 pub when_ok : {T E P : Type 0} (r : Result T E) → P → OnOk r P
@@ -182,47 +249,53 @@ pub both_when_ok : {T E P Q R : Type 0} (r : Result T E) → (P → Q → R) →
 both_when_ok (Ok value) f p q = f p q
 both_when_ok (Err error) f p q = tt
 
+-- the program's text was read, and the rest of a run is answered on it
+pub text_read : {F : Type 0} (the_files : files.Ghosts F) (s : RunSettings) (name : List ℕ) → name ≡ s.program → (old mid new : F) (bytes : List ℕ)
+    (answer : Result (List ℕ) Failure) (rose : Type 0) → ReadsText (the_files.held old name) most_program_bytes past_program rose (Ok bytes)
+    → the_files.names mid ≡ the_files.names old ++ name ∷ [] → KeepsFiles the_files.held the_files.left the_files.given the_files.faults old mid
+    → AnswersText the_files s.frame s.budget bytes s.input mid new answer → Answers the_files (Some (Run s)) old new answer
+text_read the_files s name is old mid new bytes answer rose reads names keeps t =
+    let a = t.answers in
+    let o = outcome_of_run s.budget a.cut t.reading in
+    let some = (answered_run s.budget a.cut t.reading).opens in
+    let one : suc a.opened.count ≤ o.opens = omega (arith, some, a.opened.within) in
+    let named = names ∙ ap (λ n. the_files.names old ++ n ∷ []) is in
+    let next : the_files.names new ≡ the_files.names old ++ take (suc a.opened.count) (s.program ∷ s.input ∷ []) =
+    a.opened.opened ∙ ap (λ ns. ns ++ take a.opened.count (s.input ∷ [])) named
+    ∙ append_assoc (the_files.names old) (s.program ∷ []) (take a.opened.count (s.input ∷ [])) in
+    let text = subst (λ t. IfSome (the_files.held old name) (λ b. b ≡ t)) (sym reads.tells.0) reads.holds in
+    record {
+      text = bytes;
+      reading = t.reading;
+      read = t.read;
+      input = a.input;
+      cut = a.cut;
+      is_cut = a.is_cut;
+      held = (
+        subst (λ n. IfSome (the_files.held old n) (λ b. b ≡ bytes)) is text,
+        subst (λ h. IfSome h (λ b. b ≡ a.input)) (keeps.held_same s.input) a.holds,
+      );
+      decides = decides_since answer o _ _ (rose_later _ _ _ keeps.faults_later) a.decides;
+      opened = record { count = suc a.opened.count; within = one; opened = next };
+    }
+
+-- the program's text was read, and its check is answered on it
+pub text_checked : {F : Type 0} (the_files : files.Ghosts F) (program : List ℕ) (old new : F) (bytes : List ℕ) (answer : Result (List ℕ) Failure)
+    (rose : Type 0) → ReadsText (the_files.held old program) most_program_bytes past_program rose (Ok bytes)
+    → the_files.names new ≡ the_files.names old ++ program ∷ [] → AnswersCheck bytes answer → Answers the_files (Some (Check program)) old new answer
+text_checked the_files program old new bytes answer rose reads names t = let c = cut_of (frame_asked (Some (Check program))) [] in record {
+  text = bytes;
+  reading = t.reading;
+  read = t.read;
+  input = [];
+  cut = c.cut;
+  is_cut = c.is_cut;
+  held = subst (λ t. IfSome (the_files.held old program) (λ b. b ≡ t)) (sym reads.tells.0) reads.holds;
+  decides = decides_since answer (outcome_of_check t.reading) ⊥ _ (λ never. absurd never) t.decides;
+  opened = opened_first (Check program) program (of_check program) _ _ _ (answered_check t.reading).opens names;
+}
+
 module _ {F : Type 0} (the_files : files.Ghosts F) (program : List ℕ) (old : F) where
-  -- the program's text was read, and the rest of a run is answered on it
-  pub text_read : (name : List ℕ) (mid new : F) (bytes : List ℕ) (answer : Result (List ℕ) Failure) (rose : Type 0)
-      → ReadsText (the_files.held old program) most_program_bytes past_program rose (Ok bytes)
-      → the_files.names mid ≡ the_files.names old ++ program ∷ [] → KeepsFiles the_files.held the_files.left the_files.given the_files.faults old mid
-      → AnswersText the_files bytes name mid new answer → Answers the_files (Some (run program name)) old new answer
-  text_read name mid new bytes answer rose reads names keeps t =
-      let a = t.answers in
-      let o = outcome_of_run t.reading a.input in
-      let some = some_opened _ (answered_run t.reading a.input) in
-      let one : suc a.opened.count ≤ most_opened o.status = omega (arith, some, a.opened.within) in
-      let next : the_files.names new ≡ the_files.names old ++ take (suc a.opened.count) (program ∷ name ∷ []) =
-      a.opened.opened ∙ ap (λ ns. ns ++ take a.opened.count (name ∷ [])) names
-      ∙ append_assoc (the_files.names old) (program ∷ []) (take a.opened.count (name ∷ [])) in
-      record {
-        text = bytes;
-        reading = t.reading;
-        read = t.read;
-        input = a.input;
-        held = (
-          subst (λ t. IfSome (the_files.held old program) (λ b. b ≡ t)) (sym reads.tells.0) reads.holds,
-          subst (λ h. IfSome h (λ b. b ≡ a.input)) (keeps.held_same name) a.holds,
-        );
-        decides = decides_since answer o _ _ (rose_later _ _ _ keeps.faults_later) a.decides;
-        opened = record { count = suc a.opened.count; within = one; opened = next };
-      }
-
-  -- the program's text was read, and its check is answered on it
-  pub text_checked : (new : F) (bytes : List ℕ) (answer : Result (List ℕ) Failure) (rose : Type 0)
-      → ReadsText (the_files.held old program) most_program_bytes past_program rose (Ok bytes)
-      → the_files.names new ≡ the_files.names old ++ program ∷ [] → AnswersCheck bytes answer → Answers the_files (Some (check program)) old new answer
-  text_checked new bytes answer rose reads names t = record {
-    text = bytes;
-    reading = t.reading;
-    read = t.read;
-    input = [];
-    held = subst (λ t. IfSome (the_files.held old program) (λ b. b ≡ t)) (sym reads.tells.0) reads.holds;
-    decides = decides_since answer (outcome_of_check t.reading) ⊥ _ (λ never. absurd never) t.decides;
-    opened = opened_first (check program) _ _ _ (some_opened _ (answered_check t.reading)) names;
-  }
-
   -- one file was read to its end
   pub one_read : (new : F) → the_files.names new ≡ the_files.names old ++ program ∷ []
       → ReadToEnd the_files old new program → AreReadToEnd the_files old new (program ∷ [])

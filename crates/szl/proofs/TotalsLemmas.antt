@@ -6,8 +6,9 @@ use Rattle.std.proofs.lemmas.Bool.Decides.{nat_tests}
 use Rattle.std.proofs.lemmas.List.{length-set, length-replicate, map-append}
 use Rattle.std.proofs.lemmas.List.Elements.{filter-append}
 use Rattle.sz_value.specs.Data.{Datum}
-use Rattle.sz_mean.specs.Outcomes.{EmitDatum}
-use Rattle.sz_mean.specs.Rows.{emitted_to, number_of, sum_of, row_of}
+use Rattle.sz_tabs.specs.Data.{EmitDatum}
+use Rattle.sz_tabs.specs.Rows.{number_of}
+use Rattle.szl.specs.Text.{emitted_to, sum_of, row_of}
 use Rattle.szl.specs.Totals.{Totals, IsWithin, AreWithin, total_at, row_added, added, all_added, no_totals, StandFor}
 
 pub within_none : (most n : ℕ) → AreWithin most (replicate n None)

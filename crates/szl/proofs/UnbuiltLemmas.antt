@@ -15,7 +15,7 @@ use Rattle.sz_tree.specs.View.{type_of, param_of, stm_of}
 use Rattle.szl.specs.Unbuilt.{has_proto, have_proto, head_has_proto, is_unbuilt, are_unbuilt, first_unbuilt}
 use Rattle.sz_tree.proofs.RowLemmas.{type_of_tuple, stm_of_block, stm_of_function}
 use Rattle.szl.proofs.TakenLemmas.{from_place}
-use Rattle.szl.proofs.JudgeLemmas.{none_left}
+use Rattle.szl.proofs.TakenLemmas.{none_left}
 
 -- the items from one on, and behind the last
 rest_more : {A B : Type 0} (f : A → B) (xs : List A) (i : ℕ) (x : A) → i < length xs → x ≡ get_or xs i x

@@ -1,8 +1,7 @@
--- What running and checking make of the statements of a program: the program, or the first refusal.
+-- What the statements of a program are: the checked program, or the first refusal.
 use Rattle.std.specs.Prelude.{ℕ, List, [], ◌∷◌, slice_index_or, Option, Some, None, Result, Ok, Err}
 use Rattle.sz_types.specs.declared.place.Place.{Place}
 use Rattle.sz_tree.specs.Statements.{Stms}
-use Rattle.sz_mean.specs.Tree.{Prog}
 use Rattle.sz_core.specs.Programs.{Core}
 use Rattle.sz_known.specs.Refusals.{Judged}
 use Rattle.sz_known.specs.Refusals as judging
@@ -13,11 +12,6 @@ use Rattle.szl.specs.declared.refusal.Cause.TheVariants.{Misplaced, LeftOut, Bad
 use Rattle.szl.specs.declared.refusal.Refusal.{Refusal}
 use Rattle.szl.specs.Judgement.{refusal_at}
 use Rattle.szl.specs.Unbuilt.{first_unbuilt}
-
--- the program that runs, or the refusal of the first statement that doesn't
-abbrev pub built_so : Result Prog Place → Result Prog Refusal
-built_so (Ok program) = Ok program
-built_so (Err place) = Err (refusal_at NotBuilt place)
 
 -- the causes by their numbers; none has the number 0
 abbrev pub numbered_causes : List Cause

@@ -1,37 +1,24 @@
 -- What judging a program's text gives, step by step.
-use Rattle.std.specs.Prelude.{◌≡◌, List, ℕ, ⊤, Option, Some, None, Result, Ok, Err}
+use Rattle.std.specs.Prelude.{◌≡◌, List, ℕ, ⊤, Result, Err}
+use Rattle.sz_words.specs.declared.error.WordsError.{WordsError}
+use Rattle.sz_words.specs.declared.error.WordsError.TheVariants as words
 use Rattle.sz_lex.specs.declared.error.LexError.{LexError}
 use Rattle.sz_lex.specs.declared.error.LexError.TheVariants as lexing
 use Rattle.sz_parse.specs.declared.error.ParseError.{ParseError}
 use Rattle.sz_parse.specs.declared.error.ParseError.TheVariants as parsing
 use Rattle.sz_known.specs.declared.error.CheckError.{CheckError}
 use Rattle.sz_known.specs.declared.error.CheckError.TheVariants as checking
-use Rattle.szl.specs.declared.unfit.Unfit.{Unfit}
-use Rattle.szl.specs.declared.unfit.Unfit.TheVariants as unfit
 use Rattle.szl.specs.declared.refusal.Cause.TheVariants as causes
 use Rattle.szl.specs.declared.failure.Failure.{Failure}
-use Rattle.szl.specs.declared.failure.Failure.TheVariants.{Refused, NoMemory}
-use Rattle.szl.specs.declared.tree.Draft.{Draft}
-use Rattle.szl.specs.Forms as forms
+use Rattle.szl.specs.declared.failure.Failure.TheVariants.{Usage, Refused, NoMemory}
 use Rattle.szl.specs.declared.refusal.Refusal.{Refusal}
 use Rattle.szl.specs.Judgement.{IsRead, refused, refusal_at}
 use Rattle.szl.specs.Checking.{cause_of}
-use Rattle.szl.specs.View.{seen_draft}
 
--- nothing is given, unless memory ran out
-abbrev pub IsUnfit : {A : Type 0} → Unfit → Option A → Type 0
-IsUnfit unfit.NoMemory given = ⊤
-IsUnfit unfit.Form given = given ≡ None
-
--- the result, as it is seen, is what is given, unless memory ran out
-abbrev pub Gives : {A B : Type 0} → (A → B) → Result A Unfit → Option B → Type 0
-Gives see (Ok x) given = given ≡ Some (see x)
-Gives see (Err e) given = IsUnfit e given
-
--- the program in the making has become what is given, unless memory ran out
-abbrev pub Becomes : {A : Type 0} → Result A Unfit → Draft → Option forms.Draft → Type 0
-Becomes (Ok x) draft given = given ≡ Some (seen_draft draft)
-Becomes (Err e) draft given = IsUnfit e given
+-- the failure for words without settings
+abbrev pub failure_of_words : WordsError → Failure
+failure_of_words words.Usage = Usage
+failure_of_words words.NoMemory = NoMemory
 
 -- the failure for a text without tokens
 abbrev pub failure_of_lexing : LexError → Failure

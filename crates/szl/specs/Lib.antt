@@ -2,19 +2,15 @@
 pub mod Settings
 pub mod Records
 pub mod Text
-pub mod Forms
 pub mod Judgement
 pub mod Unbuilt
 pub mod Checking
 pub mod Outcome
 pub mod Promise
 -- what the functions inside the crate promise each other
-pub mod View
-pub mod Cuts
 pub mod Failing
 pub mod Opening
 pub mod Judging
 pub mod Printing
 pub mod Totals
 pub mod Running
-pub mod Code

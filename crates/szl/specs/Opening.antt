@@ -4,20 +4,18 @@ use Rattle.sz_io.specs.Rose.{Rose}
 use Rattle.sz_io.specs.declared.files.Files as files
 use Rattle.szl.specs.declared.status.Status.TheVariants as status
 use Rattle.szl.specs.declared.failure.Failure.{Failure}
-use Rattle.szl.specs.declared.failure.Failure.TheVariants.{Refused, Limit, ReadFailed, WriteFailed, NoMemory}
-use Rattle.szl.specs.Failing.{status_of, line_of_failure}
-use Rattle.szl.specs.Outcome.{Answer, outcome_of_run, outcome_of_check, outcome_of_settings, success}
-use Rattle.sz_lex.specs.Tokens.{first_place}
+use Rattle.szl.specs.declared.failure.Failure.TheVariants.{Usage, Refused, Faulted, Damaged, Limit, ReadFailed, WriteFailed, NoMemory}
 use Rattle.szl.specs.declared.refusal.Cause.TheVariants.{TooLong}
+use Rattle.sz_lex.specs.Tokens.{first_place}
+use Rattle.sz_types.specs.declared.frame.Frame.{Frame}
+use Rattle.sz_run.specs.Ends.{seen_fault}
+use Rattle.sz_words.specs.declared.settings.Settings.{Settings}
+use Rattle.szl.specs.Settings.{frame_asked}
+use Rattle.szl.specs.Records.{Cut, IsCutInto}
 use Rattle.szl.specs.Judgement.{Reading, IsRead, refusal_at}
-use Rattle.szl.specs.Promise.{AreHeld, OpensFirst, names_asked, most_opened}
-use Rattle.szl.specs.Settings.{Settings}
-
--- the failure may be that of a text past its limit
-abbrev pub IsPast : Failure → Type 0
-IsPast (Refused r) = ⊤
-IsPast Limit = ⊤
-IsPast failure = ⊥
+use Rattle.szl.specs.Outcome.{Answer, usage_line, damaged_line, limit_line, success, refusal, outcome_faulted, outcome_refused}
+use Rattle.szl.specs.Outcome.{outcome_of_run, outcome_of_check, outcome_of_settings}
+use Rattle.szl.specs.Promise.{AreHeld, OpensFirst, names_asked}
 
 -- what reading a whole file says of its text: the text, that it is past the limit, that a read failed, or want of memory
 abbrev pub TellsText : List ℕ → ℕ → Failure → Type 0 → Result (List ℕ) Failure → Type 0
@@ -43,10 +41,14 @@ ran_out answer = false
 
 -- the cause of a failure, by the outcome: all but the free ones are the outcome itself
 abbrev pub IsCause : Failure → Answer → Type 0 → Type 0
+IsCause Usage answer rose = answer ≡ refusal status.Usage usage_line 0
+IsCause (Refused r) answer rose = answer ≡ outcome_refused r
+IsCause (Faulted number fault) answer rose = answer ≡ outcome_faulted number (seen_fault fault)
+IsCause (Damaged byte) answer rose = answer ≡ refusal status.Damaged (damaged_line byte) 2
+IsCause (Limit byte) answer rose = answer ≡ refusal status.Limit (limit_line byte) 2
 IsCause ReadFailed answer rose = rose × (answer.status ≢ status.Usage)
 IsCause WriteFailed answer rose = ⊥
 IsCause NoMemory answer rose = ⊤
-IsCause failure answer rose = answer ≡ record { status = status_of failure; output = []; line = line_of_failure failure }
 
 -- what is answered before anything is written: the outcome's output, or a failure with its cause
 abbrev pub Decides : Result (List ℕ) Failure → Answer → Type 0 → Type 0
@@ -59,24 +61,29 @@ pub record Answers {F : Type 0} (the_files : files.Ghosts F) (asked : Option Set
   pub reading : Reading
   pub read : IsRead text reading
   pub input : List ℕ
+  pub cut : Cut
+  pub is_cut : IsCutInto (frame_asked asked) input cut
   pub held : AreHeld asked (the_files.held old) text input
-  pub decides : Decides answer (outcome_of_settings asked reading input) (Rose (the_files.faults old) (the_files.faults new))
-  pub opened : OpensFirst (names_asked asked) (the_files.names old) (the_files.names new)
-      (most_opened (outcome_of_settings asked reading input).status)
+  pub decides : Decides answer (outcome_of_settings asked reading cut) (Rose (the_files.faults old) (the_files.faults new))
+  pub opened : OpensFirst (names_asked asked) (the_files.names old) (the_files.names new) (outcome_of_settings asked reading cut).opens
 
--- the answer is that of an outcome on what the file under the name holds; no file is opened for a refused program
-pub record AnswersOn {F : Type 0} (the_files : files.Ghosts F) (outcome_on : List ℕ → Answer) (name : List ℕ) (old new : F)
+-- The answer is that of an outcome on the records of what the file under the name holds. One file was opened before, so that none is
+-- opened for an outcome that opens one.
+pub record AnswersOn {F : Type 0} (the_files : files.Ghosts F) (frame : Frame) (outcome_on : Cut → Answer) (name : List ℕ) (old new : F)
     (answer : Result (List ℕ) Failure) : Type 0 where
   pub input : List ℕ
+  pub cut : Cut
+  pub is_cut : IsCutInto frame input cut
   pub holds : IfSome (the_files.held old name) (λ bytes. bytes ≡ input)
-  pub decides : Decides answer (outcome_on input) (Rose (the_files.faults old) (the_files.faults new))
-  pub opened : OpensFirst (name ∷ []) (the_files.names old) (the_files.names new) (most_opened (outcome_on input).status - 1)
+  pub decides : Decides answer (outcome_on cut) (Rose (the_files.faults old) (the_files.faults new))
+  pub opened : OpensFirst (name ∷ []) (the_files.names old) (the_files.names new) ((outcome_on cut).opens - 1)
 
 -- the answer is that of running what the text is read as, on what the file under the name holds
-pub record AnswersText {F : Type 0} (the_files : files.Ghosts F) (text name : List ℕ) (old new : F) (answer : Result (List ℕ) Failure) : Type 0 where
+pub record AnswersText {F : Type 0} (the_files : files.Ghosts F) (frame : Frame) (budget : ℕ) (text name : List ℕ) (old new : F)
+    (answer : Result (List ℕ) Failure) : Type 0 where
   pub reading : Reading
   pub read : IsRead text reading
-  pub answers : AnswersOn the_files (outcome_of_run reading) name old new answer
+  pub answers : AnswersOn the_files frame (λ cut. outcome_of_run budget cut reading) name old new answer
 
 -- the answer is that of checking what the text is read as
 pub record AnswersCheck (text : List ℕ) (answer : Result (List ℕ) Failure) : Type 0 where

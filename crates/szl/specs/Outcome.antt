@@ -1,35 +1,42 @@
 -- The outcome of a command line: what the source means, folded once over the records in input order.
-use Rattle.std.specs.Prelude.{ℕ, ◌^◌, List, [], ◌∷◌, ◌++◌, if◌then◌else◌, Option, Some, None, Result, Ok, Err, codes}
+use Rattle.std.specs.Prelude.{ℕ, zero, suc, List, [], ◌∷◌, ◌++◌, slice_index_or, Option, Some, None, Result, Ok, Err, codes}
 use Rattle.std.specs.Fmt.{decimal}
-use Rattle.sz_core.specs.Programs.{Core}
-use Rattle.sz_mean.specs.Tree.{Prog}
-use Rattle.sz_mean.specs.Meaning.{all_emits}
+use Rattle.sz_types.specs.declared.place.Place.{Place}
+use Rattle.sz_core.specs.Programs.{Core, tables_of}
+use Rattle.sz_world.specs.World.{Fault, Done, Faulted}
+use Rattle.sz_world.specs.World as world
+use Rattle.sz_world.specs.Slots.{Slot}
+use Rattle.sz_world.specs.Operations.{no_messages}
+use Rattle.sz_mean.specs.Programs.{statics}
+use Rattle.sz_mean.specs.Records.{Records, Emitted, FaultedAt, mean_all}
+use Rattle.sz_records.specs.declared.ending.Ending.{Ending}
+use Rattle.sz_records.specs.declared.ending.Ending.TheVariants.{Whole, Damaged, Limit}
+use Rattle.sz_words.specs.declared.settings.Settings.{Settings}
+use Rattle.sz_words.specs.declared.settings.Settings.TheVariants.{Run, Check}
 use Rattle.szl.specs.declared.status.Status.{Status}
-use Rattle.szl.specs.declared.status.Status.TheVariants.{Done, Usage, Program, Limit}
+use Rattle.szl.specs.declared.status.Status.TheVariants as status
 use Rattle.szl.specs.declared.refusal.Cause.{Cause}
 use Rattle.szl.specs.declared.refusal.Cause.TheVariants.{BadChar, BadLiteral, NotUtf8, TooLong, Syntax, UnknownName, Redeclared, WrongKind, WrongType, NoType, NoField}
 use Rattle.szl.specs.declared.refusal.Cause.TheVariants.{WrongCount, WrongWeight, NotAssignable, Misplaced, LeftOut, BadTable, BadProto, Unbounded, QuantOrder, TooMany}
 use Rattle.szl.specs.declared.refusal.Cause.TheVariants.{EmitHere, NotBuilt}
 use Rattle.szl.specs.declared.refusal.Refusal.{Refusal}
-use Rattle.szl.specs.Forms.{program_in}
 use Rattle.szl.specs.Judgement.{Reading, refused, spells}
-use Rattle.szl.specs.Checking.{built_so, checked}
-use Rattle.szl.specs.Settings.{Settings, run, check, settings_in}
-use Rattle.szl.specs.Records.{records_in, is_within_limits}
+use Rattle.szl.specs.Checking.{checked}
+use Rattle.szl.specs.Settings.{asked_in}
+use Rattle.szl.specs.Records.{Cut}
 use Rattle.szl.specs.Text.{tables_text}
 
--- what a call of the program answers: its status, the bytes of its output, and the line that names the cause
+-- what a call of the program answers: its status, the bytes of its output, the line that names the cause, and how many of the files
+-- that the words name it opens at most
 pub record Answer : Type 0 where
   pub status : Status
   pub output : List ℕ
   pub line : List ℕ
+  pub opens : ℕ
 
 -- the lines of the causes that name no place of a program
 abbrev pub usage_line : List ℕ
 usage_line = codes "bad command line\n"
-
-abbrev pub limit_line : List ℕ
-limit_line = codes "input limit at byte 0\n"
 
 abbrev pub read_failed_line : List ℕ
 read_failed_line = codes "read failed\n"
@@ -40,24 +47,64 @@ write_failed_line = codes "write failed\n"
 abbrev pub no_memory_line : List ℕ
 no_memory_line = codes "out of memory\n"
 
--- an answer without output, and the line that says why
-abbrev pub refusal : Status → List ℕ → Answer
-refusal status line = record { status = status; output = []; line = line }
+-- the lines of an input whose records don't end with it, by the byte at which the next one would begin
+abbrev pub damaged_line : ℕ → List ℕ
+damaged_line byte = codes "input damaged at byte " ++ (decimal byte ++ 10 ∷ [])
+
+abbrev pub limit_line : ℕ → List ℕ
+limit_line byte = codes "input limit at byte " ++ (decimal byte ++ 10 ∷ [])
+
+-- a place as the lines name it
+abbrev pub place_text : Place → List ℕ
+place_text place = decimal place.line ++ (codes ":" ++ decimal place.column)
+
+-- the texts of the faults, by their kinds from 1
+abbrev pub fault_texts : List (List ℕ)
+fault_texts =
+    [] ∷ codes "undefined value used" ∷ codes "store outside the value" ∷ codes "calls too deep" ∷ codes "budget passed" ∷ []
+
+-- the line of a fault in a record; that of a fault in a static names record 0
+abbrev pub fault_line : ℕ → Fault → List ℕ
+fault_line number fault =
+    codes "record " ++ (decimal number ++ (codes ": " ++ (slice_index_or fault_texts fault.kind []
+    ++ (codes " at " ++ (place_text fault.place ++ 10 ∷ [])))))
 
 -- an answer of all the output
 abbrev pub success : List ℕ → Answer
-success output = record { status = Done; output = output; line = [] }
+success output = record { status = status.Done; output = output; line = []; opens = 2 }
 
--- how many ticks a record has
-abbrev pub default_budget : ℕ
-default_budget = 2 ^ 24
+-- an answer without output, with the line that says why, behind so many files at most
+abbrev pub refusal : Status → List ℕ → ℕ → Answer
+refusal status line opens = record { status = status; output = []; line = line; opens = opens }
 
--- the outcome of a program over an input: the tables of all emits of all records, unless the input passes a limit
-abbrev pub outcome_of_program : Prog → List ℕ → Answer
-outcome_of_program program input =
-    if is_within_limits input
-    then success (tables_text 0 program.tables (all_emits program default_budget (records_in input)))
-    else refusal Limit limit_line
+-- how many files are opened for a fault in a record: for one in a static the program alone
+abbrev pub opened_for : ℕ → ℕ
+opened_for zero = 1
+opened_for (suc number) = 2
+
+-- the answer to a fault in a record
+abbrev pub outcome_faulted : ℕ → Fault → Answer
+outcome_faulted number fault = refusal status.RecordFault (fault_line number fault) (opened_for number)
+
+-- the answer to all emits, by how the records end
+abbrev pub outcome_of_ending : Ending → List ℕ → Answer
+outcome_of_ending Whole text = success text
+outcome_of_ending (Damaged byte) text = refusal status.Damaged (damaged_line byte) 2
+outcome_of_ending (Limit byte) text = refusal status.Limit (limit_line byte) 2
+
+-- the answer to what the records mean: the first that faults decides, and then how they end
+abbrev pub outcome_of_records : Core → Ending → Records → Answer
+outcome_of_records program ending (Emitted emits) = outcome_of_ending ending (tables_text 0 (tables_of program.items) emits)
+outcome_of_records program ending (FaultedAt number fault) = outcome_faulted number fault
+
+-- the answer to what the statics are: a fault in one decides, and then the records, with the statics and a budget each
+abbrev pub outcome_of_statics : Core → ℕ → Cut → world.Outcome (List Slot) → Answer
+outcome_of_statics program budget cut (Faulted fault) = outcome_faulted 0 fault
+outcome_of_statics program budget cut (Done slots) = outcome_of_records program cut.ending (mean_all no_messages program slots budget cut.records)
+
+-- the outcome of a program over an input, which is cut into records so
+abbrev pub outcome_of_program : Core → ℕ → Cut → Answer
+outcome_of_program program budget cut = outcome_of_statics program budget cut (statics no_messages program budget)
 
 -- the text of a cause
 abbrev pub cause_text : Cause → List ℕ
@@ -92,22 +139,21 @@ name_text (Some name) = codes ": " ++ name
 
 -- the line that says why a program is refused, and where
 abbrev pub refusal_line : Refusal → List ℕ
-refusal_line r =
-    codes "program: " ++ (cause_text r.cause ++ (name_text r.name ++ (codes " at " ++ (decimal r.place.line ++ (codes ":" ++ decimal r.place.column)))))
+refusal_line r = codes "program: " ++ (cause_text r.cause ++ (name_text r.name ++ (codes " at " ++ (place_text r.place ++ 10 ∷ []))))
 
 -- the outcome of a program that is refused
 abbrev pub outcome_refused : Refusal → Answer
-outcome_refused r = refusal Program (refusal_line r ++ 10 ∷ [])
+outcome_refused r = refusal status.Program (refusal_line r) 1
 
--- the outcome of running over an input
-abbrev pub outcome_of_built : Result Prog Refusal → List ℕ → Answer
-outcome_of_built (Ok program) input = outcome_of_program program input
-outcome_of_built (Err r) input = outcome_refused r
+-- the outcome of running a program that was checked, with a budget, over an input that is cut so
+abbrev pub outcome_of_checked_run : ℕ → Cut → Result Core Refusal → Answer
+outcome_of_checked_run budget cut (Ok program) = outcome_of_program program budget cut
+outcome_of_checked_run budget cut (Err r) = outcome_refused r
 
--- the outcome of running what was read over an input
-abbrev pub outcome_of_run : Reading → List ℕ → Answer
-outcome_of_run (refused r) input = outcome_refused r
-outcome_of_run (spells statements) input = outcome_of_built (built_so (program_in statements)) input
+-- the outcome of running what was read
+abbrev pub outcome_of_run : ℕ → Cut → Reading → Answer
+outcome_of_run budget cut (refused r) = outcome_refused r
+outcome_of_run budget cut (spells statements) = outcome_of_checked_run budget cut (checked statements)
 
 -- the outcome of checking
 abbrev pub outcome_of_checked : Result Core Refusal → Answer
@@ -119,12 +165,12 @@ abbrev pub outcome_of_check : Reading → Answer
 outcome_of_check (refused r) = outcome_refused r
 outcome_of_check (spells statements) = outcome_of_checked (checked statements)
 
--- the outcome of settings, from the reading of the program's text and the bytes of the input
-abbrev pub outcome_of_settings : Option Settings → Reading → List ℕ → Answer
-outcome_of_settings None reading input = refusal Usage usage_line
-outcome_of_settings (Some (run program name)) reading input = outcome_of_run reading input
-outcome_of_settings (Some (check program)) reading input = outcome_of_check reading
+-- the outcome of settings, from the reading of the program's text and the input, which is cut so
+abbrev pub outcome_of_settings : Option Settings → Reading → Cut → Answer
+outcome_of_settings (Some (Run s)) reading cut = outcome_of_run s.budget cut reading
+outcome_of_settings (Some (Check program)) reading cut = outcome_of_check reading
+outcome_of_settings _ reading cut = refusal status.Usage usage_line 0
 
--- the outcome of a command line, from its words, the reading of the program's text and the bytes of the input
-abbrev pub outcome : List (List ℕ) → Reading → List ℕ → Answer
-outcome words reading input = outcome_of_settings (settings_in words) reading input
+-- the outcome of a command line, from its words, the reading of the program's text and the input, which is cut so
+abbrev pub outcome : List (List ℕ) → Reading → Cut → Answer
+outcome words reading cut = outcome_of_settings (asked_in words) reading cut

@@ -1,13 +1,16 @@
 -- What a call of the program promises.
-use Rattle.std.specs.Prelude.{◌≡◌, ◌≢◌, ℕ, ◌≤◌, ◌⊎◌, ⊤, Bool, IsTrue, List, [], ◌∷◌, ◌++◌, length, take, Option, Some, None, IfSome, IsSome}
+use Rattle.std.specs.Prelude.{◌≡◌, ◌≢◌, ℕ, ◌≤◌, ◌⊎◌, ⊤, Bool, IsTrue, List, [], ◌∷◌, ◌++◌, length, take, Option, Some, IfSome, IsSome}
 use Rattle.std.specs.Io.KnownBytes.{Appends, IsAtEnd}
 use Rattle.sz_io.specs.Rose.{Rose}
 use Rattle.sz_io.specs.declared.files.Files as files
 use Rattle.sz_io.specs.declared.sink.Sink as sink
 use Rattle.szl.specs.declared.status.Status.{Status}
-use Rattle.szl.specs.declared.status.Status.TheVariants.{Done, Usage, Program, ReadFailed, WriteFailed, NoMemory}
+use Rattle.szl.specs.declared.status.Status.TheVariants.{Done, Usage, ReadFailed, WriteFailed, NoMemory}
+use Rattle.sz_words.specs.declared.settings.Settings.{Settings}
+use Rattle.sz_words.specs.declared.settings.Settings.TheVariants.{Run, Check}
 use Rattle.szl.specs.Judgement.{Reading, IsRead}
-use Rattle.szl.specs.Settings.{Settings, run, check, settings_in}
+use Rattle.szl.specs.Settings.{asked_in, frame_asked}
+use Rattle.szl.specs.Records.{Cut, IsCutInto}
 use Rattle.szl.specs.Outcome.{Answer, read_failed_line, write_failed_line, no_memory_line, outcome}
 
 -- The status is the outcome's, or one of the three that a device or want of memory brings: reading can fail only where
@@ -50,16 +53,11 @@ pub record GainsLine {S : Type 0} (the_sink : sink.Ghosts S) (old new : S) (line
   pub appends : Appends (the_sink.taken old) (the_sink.taken new) (take count line)
   pub whole : (length line ≤ count) ⊎ (Rose (the_sink.faults old) (the_sink.faults new) ⊎ Rose (the_sink.refusals old) (the_sink.refusals new))
 
--- how many files may be opened for a status: a refused program has only itself opened
-abbrev pub most_opened : Status → ℕ
-most_opened Program = 1
-most_opened status = 2
-
 -- the names that settings may open, in order: the program, and then the input of a run
 abbrev pub names_asked : Option Settings → List (List ℕ)
-names_asked None = []
-names_asked (Some (run program name)) = program ∷ name ∷ []
-names_asked (Some (check program)) = program ∷ []
+names_asked (Some (Run s)) = s.program ∷ s.input ∷ []
+names_asked (Some (Check program)) = program ∷ []
+names_asked _ = []
 
 -- the first of the names asked for were opened, in order, and at most this many
 pub record OpensFirst (asked old new : List (List ℕ)) (most : ℕ) : Type 0 where
@@ -69,26 +67,27 @@ pub record OpensFirst (asked old new : List (List ℕ)) (most : ℕ) : Type 0 wh
 
 -- the bytes under each name that the words ask for are these, where they are told
 abbrev pub AreHeld : Option Settings → (List ℕ → Option (List ℕ)) → List ℕ → List ℕ → Type 0
-AreHeld None held text input = ⊤
-AreHeld (Some (run program name)) held text input = IfSome (held program) (λ bytes. bytes ≡ text) × IfSome (held name) (λ bytes. bytes ≡ input)
-AreHeld (Some (check program)) held text input = IfSome (held program) (λ bytes. bytes ≡ text)
+AreHeld (Some (Run s)) held text input = IfSome (held s.program) (λ bytes. bytes ≡ text) × IfSome (held s.input) (λ bytes. bytes ≡ input)
+AreHeld (Some (Check program)) held text input = IfSome (held program) (λ bytes. bytes ≡ text)
+AreHeld _ held text input = ⊤
 
 -- The call's status, its output, its line and the files that it opens are those of the outcome, for the bytes that the
--- files hold and the reading of the program's text. Where a file doesn't tell its bytes, it is as if it held some. Since
--- a text has just one reading, the outcome is determined by the words and the bytes.
+-- files hold, the reading of the program's text and the records of the input. Where a file doesn't tell its bytes, it is as if it held
+-- some. Since a text has just one reading and an input is cut in just one way, the outcome is determined by the words and the bytes.
 pub record MeansSource {F O E : Type 0} (the_files : files.Ghosts F) (the_out : sink.Ghosts O) (the_err : sink.Ghosts E)
     (words : List (List ℕ)) (status : Status) (files new_files : F) (out new_out : O) (err new_err : E) : Type 0 where
   pub text : List ℕ
   pub reading : Reading
   pub read : IsRead text reading
   pub input : List ℕ
-  pub held : AreHeld (settings_in words) (the_files.held files) text input
-  pub answers : IsStatusOf (outcome words reading input) status
-  pub output : GainsOutput status (the_out.taken out) (the_out.taken new_out) (outcome words reading input).output
-  pub left_alone : IsLeftAlone status (outcome words reading input).output out new_out
-  pub line : GainsLine the_err err new_err (line_of (outcome words reading input) status)
-  pub opened : OpensFirst (names_asked (settings_in words)) (the_files.names files) (the_files.names new_files)
-      (most_opened (outcome words reading input).status)
+  pub cut : Cut
+  pub is_cut : IsCutInto (frame_asked (asked_in words)) input cut
+  pub held : AreHeld (asked_in words) (the_files.held files) text input
+  pub answers : IsStatusOf (outcome words reading cut) status
+  pub output : GainsOutput status (the_out.taken out) (the_out.taken new_out) (outcome words reading cut).output
+  pub left_alone : IsLeftAlone status (outcome words reading cut).output out new_out
+  pub line : GainsLine the_err err new_err (line_of (outcome words reading cut) status)
+  pub opened : OpensFirst (names_asked (asked_in words)) (the_files.names files) (the_files.names new_files) (outcome words reading cut).opens
 
 -- the fact, where the bytes under all these names are told
 abbrev pub IfTold : (List ℕ → Option (List ℕ)) → List (List ℕ) → Type 0 → Type 0

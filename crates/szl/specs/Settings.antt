@@ -1,34 +1,34 @@
--- Which words are a command line, and what they ask for.
-use Rattle.std.specs.Prelude.{ℕ, List, [], ◌∷◌, Bool, false, not, ◌&&◌, ◌||◌, nat_eq, Option, Some, None, bytes_eq, codes, if◌then◌else◌}
+-- What a command line asks for, of what is built.
+use Rattle.std.specs.Prelude.{ℕ, ◌≤◌, ◌^◌, ⊤, List, length, Bool, ◌&&◌, nat_eq, Option, Some, None, if◌then◌else◌}
+use Rattle.sz_types.specs.declared.frame.Frame.{Frame}
+use Rattle.sz_types.specs.declared.frame.Frame.TheVariants.{Lines}
+use Rattle.sz_words.specs.declared.settings.RunSettings.{RunSettings}
+use Rattle.sz_words.specs.declared.settings.Settings.{Settings}
+use Rattle.sz_words.specs.declared.settings.Settings.TheVariants.{Run, Check}
+use Rattle.sz_words.specs.Settings.{settings_in}
 
--- what a command line asks for: to run the program of this name over the input of this name, or to check the program
-pub data Settings : Type 0 where
-  run : List ℕ → List ℕ → Settings
-  check : List ℕ → Settings
+-- whether nothing is asked of a run but what is built: the options for threads, shards, attempts, deaths and doubled shards have no
+-- effect yet, so that only what they are by themselves may be asked for
+abbrev pub is_built : RunSettings → Bool
+is_built s =
+    nat_eq s.workers 4 && nat_eq s.shard 1000 && nat_eq s.attempts 3 && nat_eq (length s.kills) 0 && nat_eq (length s.twice) 0
 
--- whether the word is `-`, the name of standard input
-abbrev pub is_standard_input : List ℕ → Bool
-is_standard_input word = bytes_eq word (codes "-")
+-- the settings, if what they ask for is built; `selftest` isn't
+abbrev pub built : Option Settings → Option Settings
+built (Some (Run s)) = if is_built s then Some (Run s) else None
+built (Some (Check program)) = Some (Check program)
+built _ = None
 
--- whether the word can name a file: it isn't empty, and it begins with `-` only if it is `-`
-abbrev pub is_file_name : List ℕ → Bool
-is_file_name [] = false
-is_file_name (b ∷ bs) = not (nat_eq b 45) || is_standard_input (b ∷ bs)
+-- what a command line asks for; other words are no command line
+abbrev pub asked_in : List (List ℕ) → Option Settings
+asked_in words = built (settings_in words)
 
--- the settings of the words `check PROGRAM`
-abbrev pub check_settings : List ℕ → List ℕ → Option Settings
-check_settings command program =
-    if bytes_eq command (codes "check") && is_file_name program then Some (check program) else None
+-- how the records of the input are told apart: as lines, where nothing else is asked for
+abbrev pub frame_asked : Option Settings → Frame
+frame_asked (Some (Run s)) = s.frame
+frame_asked _ = Lines
 
--- the settings of the words `run PROGRAM INPUT`, of which one at most is standard input
-abbrev pub run_settings : List ℕ → List ℕ → List ℕ → Option Settings
-run_settings command program input =
-    if bytes_eq command (codes "run") && is_file_name program && is_file_name input
-    && not (is_standard_input program && is_standard_input input)
-    then Some (run program input) else None
-
--- the settings of a command line; other words have none
-abbrev pub settings_in : List (List ℕ) → Option Settings
-settings_in (command ∷ program ∷ []) = check_settings command program
-settings_in (command ∷ program ∷ input ∷ []) = run_settings command program input
-settings_in _ = None
+-- the budget of a run is one that a record can have
+abbrev pub HasBudget : Settings → Type 0
+HasBudget (Run s) = (1 ≤ s.budget) × (s.budget ≤ 2 ^ 32)
+HasBudget _ = ⊤

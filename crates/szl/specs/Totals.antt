@@ -1,7 +1,8 @@
 -- Running sums of tables.
 use Rattle.std.specs.Prelude.{◌≡◌, ℕ, ◌+◌, ◌<◌, ℤ, pos, ◌+ℤ◌, neg_ℤ, ◌≤ℤ◌, List, [], ◌∷◌, length, Option, Some, None, unwrap_or, slice_get, slice_index_or, slice_set, replicate, nat_lt, if◌then◌else◌}
-use Rattle.sz_mean.specs.Outcomes.{EmitDatum}
-use Rattle.sz_mean.specs.Rows.{emitted_to, number_of, row_of}
+use Rattle.sz_tabs.specs.Data.{EmitDatum}
+use Rattle.sz_tabs.specs.Rows.{number_of}
+use Rattle.szl.specs.Text.{emitted_to, row_of}
 
 -- the sum of each table by its number, none where nothing was emitted to it, and how many emits were added
 pub record Totals : Type 0 where

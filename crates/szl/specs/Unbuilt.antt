@@ -1,9 +1,24 @@
 -- Which statements no command goes through yet, by what stands anywhere inside them.
-use Rattle.std.specs.Prelude.{Bool, true, false, not, ◌||◌, if◌then◌else◌, Option, Some, None}
+use Rattle.std.specs.Prelude.{length, Bool, true, false, not, ◌&&◌, ◌||◌, nat_eq, if◌then◌else◌, Option, Some, None, is_some, bytes_eq, codes}
 use Rattle.sz_types.specs.declared.place.Place.{Place}
+use Rattle.sz_tree.specs.declared.types.BasicType.TheVariants as basics
 use Rattle.sz_tree.specs.Types.{Typ, basic, type_name, array, map_type, tuple, proto, Params, no_params, param}
-use Rattle.sz_tree.specs.Statements.{FirstForm, first_declare, Stm, block, declare, static, typedef, table, function, if_only, if_else, while, do_while, for_loop, when, Stms, no_stms, stm, stm_place}
-use Rattle.szl.specs.Forms.{is_sum}
+use Rattle.sz_tree.specs.Statements.{TableForm, ElemForm, FirstForm, first_declare, Stm, block, declare, static, typedef, table, function, if_only, if_else, while, do_while, for_loop, when, Stms, no_stms, stm, stm_place}
+
+-- whether the type is `int`
+abbrev pub is_int : Typ → Bool
+is_int (basic p basics.Int) = true
+is_int _ = false
+
+-- whether the part of a table is `int`, without a name
+abbrev pub is_plain_int : ElemForm → Bool
+is_plain_int part = not (is_some part.name) && is_int part.of
+
+-- whether the table is `table sum of int`
+abbrev pub is_sum : TableForm → Bool
+is_sum t =
+    bytes_eq t.kind.text (codes "sum") && not (is_some t.argument) && nat_eq (length t.indexes) 0 && is_plain_int t.of
+    && not (is_some t.weight)
 
 unfoldable mutual
   -- whether a proto type stands in the type

@@ -1,26 +1,27 @@
 //! What a command line is answered, before anything is written.
-ghost use Rattle.std.specs.Prelude.{◌≡◌, ◌<◌, ◌≤◌, ◌++◌, ◌∷◌, [], length, map, string_bytes, Some, OnOk};
+ghost use Rattle.std.specs.Prelude.{◌≡◌, ◌<◌, ◌≤◌, ◌^◌, ◌++◌, ◌∷◌, [], length, map, string_bytes, Some, OnOk};
 ghost use Rattle.sz_io.specs.Rose.{Rose};
 ghost use Rattle.sz_io.specs.Opened.{KeepsFiles};
 ghost use Rattle.sz_io.specs.Calls.{NamesGain, ReadToEnd};
+ghost use Rattle.sz_words.specs.declared.settings.Settings.TheVariants.{Run, Check};
 ghost use Rattle.szl.specs.Opening.{ReadsText, ran_out, past_program, Answers, AnswersOn, AnswersText, AnswersCheck};
 ghost use Rattle.szl.specs.Outcome.{outcome_of_program};
 ghost use Rattle.szl.specs.Judgement.{most_program_bytes};
 ghost use Rattle.szl.specs.Promise.{AreReadToEnd, names_asked};
-ghost use Rattle.szl.specs.Running.{IsSpelled, vec_items_of};
-ghost use Rattle.szl.specs.Settings.{settings_in, run, check};
-ghost use Rattle.szl.specs.View.{seen_program, seen_settings};
+ghost use Rattle.szl.specs.Running.{vec_items_of};
+ghost use Rattle.szl.specs.Settings.{asked_in, built, is_built, HasBudget};
 
 use crate::failure::{Failure, refused};
-use crate::judge::{checked, program_in, tree_in};
+use crate::judge::{checked, tree_in};
 use crate::opening::read_text;
 use crate::refusal::Cause;
-use crate::running::tables_of;
-use crate::tree::Program;
-use crate::words::{Settings, read_words};
+use crate::running::{statics_of, tables_of};
 use std::alloc::Global;
+use sz_core::Program;
+use sz_gen_stmt::compile;
 use sz_io::Files;
 use sz_types::Place;
+use sz_words::{RunSettings, Settings, read_words};
 
 /// The most bytes of a program's text.
 const MOST_PROGRAM_BYTES: usize = 1_048_576;
@@ -28,37 +29,63 @@ const MOST_PROGRAM_BYTES: usize = 1_048_576;
 /// The place of a text's first byte.
 const FIRST_PLACE: Place = Place { line: 1, column: 1 };
 
-/// The most bytes of an input.
-const MOST_INPUT_BYTES: usize = 1 << 40;
-
 /// The text that the words ask for, or why there is none.
 pub fn answer<F: Files>(alloc: Global, words: &[String], files: &mut F) -> Result<Vec<u8>, Failure>
     requires { length (F.names files.old) < 127 }
-    ensures value { Answers F.Files (settings_in (map string_bytes words.now)) files.old files.new (vec_items_of result) }
-    ensures end { OnOk result (AreReadToEnd F.Files files.old files.new (names_asked (settings_in (map string_bytes words.now)))) }
+    ensures value { Answers F.Files (asked_in (map string_bytes words.now)) files.old files.new (vec_items_of result) }
+    ensures end { OnOk result (AreReadToEnd F.Files files.old files.new (names_asked (asked_in (map string_bytes words.now)))) }
     ensures kept { KeepsFiles F.held F.left F.given F.faults files.old files.new }
 {
-    match read_words(words) {
-        Some(settings) => answer_settings(alloc, settings, files),
-        None => Err(Failure::Usage),
-    }
+    let settings = read_words(alloc, words)?;
+    answer_settings(alloc, &settings, files)
 }
 
 /// The text that the settings ask for.
 fn answer_settings<F: Files>(
     alloc: Global,
-    settings: Settings<'_>,
+    settings: &Settings,
     files: &mut F,
 ) -> Result<Vec<u8>, Failure>
-    requires { length (F.names files.old) < 127 }
-    ensures value { Answers F.Files (Some (seen_settings settings.entry)) files.old files.new (vec_items_of result) }
-    ensures end { OnOk result (AreReadToEnd F.Files files.old files.new (names_asked (Some (seen_settings settings.entry)))) }
+    requires few { length (F.names files.old) < 127 }
+    requires budget { HasBudget settings.now }
+    ensures value { Answers F.Files (built (Some settings.now)) files.old files.new (vec_items_of result) }
+    ensures end { OnOk result (AreReadToEnd F.Files files.old files.new (names_asked (built (Some settings.now)))) }
     ensures kept { KeepsFiles F.held F.left F.given F.faults files.old files.new }
 {
     match settings {
-        Settings::Run { program, input } => answer_run(alloc, program, input, files),
-        Settings::Check { program } => answer_check(alloc, program, files),
+        Settings::Run(run) => answer_built(alloc, run, files),
+        Settings::Check(program) => answer_check(alloc, program.as_str(), files),
+        Settings::Selftest { .. } => Err(Failure::Usage),
     }
+}
+
+/// The text of the tables as these settings ask for it, if what they ask for is built.
+fn answer_built<F: Files>(
+    alloc: Global,
+    settings: &RunSettings,
+    files: &mut F,
+) -> Result<Vec<u8>, Failure>
+    requires few { length (F.names files.old) < 127 }
+    requires budget { HasBudget (Run settings.now) }
+    ensures value { Answers F.Files (built (Some (Run settings.now))) files.old files.new (vec_items_of result) }
+    ensures end { OnOk result (AreReadToEnd F.Files files.old files.new (names_asked (built (Some (Run settings.now))))) }
+    ensures kept { KeepsFiles F.held F.left F.given F.faults files.old files.new }
+{
+    if !is_built(settings) {
+        return Err(Failure::Usage);
+    }
+    answer_run(alloc, settings, files)
+}
+
+/// Whether nothing is asked of a run but what is built.
+fn is_built(settings: &RunSettings) -> bool
+    ensures value { result ≡ is_built settings.now }
+{
+    settings.workers == 4
+        && settings.shard == 1000
+        && settings.attempts == 3
+        && settings.kills.is_empty()
+        && settings.twice.is_empty()
 }
 
 /// The text of the program under a name.
@@ -79,26 +106,26 @@ fn read_program<F: Files>(alloc: Global, name: &str, files: &mut F) -> Result<Ve
     )
 }
 
-/// The text of the tables of the program under a name, for the input under another.
+/// The text of the tables of a program for an input, as these settings ask for it.
 fn answer_run<F: Files>(
     alloc: Global,
-    program: &str,
-    input: &str,
+    settings: &RunSettings,
     files: &mut F,
 ) -> Result<Vec<u8>, Failure>
-    requires { length (F.names files.old) < 127 }
-    ensures value { Answers F.Files (Some (run program.now input.now)) files.old files.new (vec_items_of result) }
-    ensures end { OnOk result (AreReadToEnd F.Files files.old files.new (program.now ∷ input.now ∷ [])) }
+    requires few { length (F.names files.old) < 127 }
+    requires budget { HasBudget (Run settings.now) }
+    ensures value { Answers F.Files (Some (Run settings.now)) files.old files.new (vec_items_of result) }
+    ensures end { OnOk result (AreReadToEnd F.Files files.old files.new (settings.now.program ∷ settings.now.input ∷ [])) }
     ensures kept { KeepsFiles F.held F.left F.given F.faults files.old files.new }
 {
-    let text = read_program(alloc, program, files)?;
-    answer_text(alloc, &text, input, files)
+    let text = read_program(alloc, settings.program.as_str(), files)?;
+    answer_text(alloc, &text, settings, files)
 }
 
 /// No text, if the program under a name passes its check.
 fn answer_check<F: Files>(alloc: Global, program: &str, files: &mut F) -> Result<Vec<u8>, Failure>
     requires { length (F.names files.old) < 127 }
-    ensures value { Answers F.Files (Some (check program.now)) files.old files.new (vec_items_of result) }
+    ensures value { Answers F.Files (Some (Check program.now)) files.old files.new (vec_items_of result) }
     ensures end { OnOk result (AreReadToEnd F.Files files.old files.new (program.now ∷ [])) }
     ensures kept { KeepsFiles F.held F.left F.given F.faults files.old files.new }
 {
@@ -120,35 +147,52 @@ fn check_text(alloc: Global, text: &[u8]) -> Result<Vec<u8>, Failure>
 fn answer_text<F: Files>(
     alloc: Global,
     text: &[u8],
-    input: &str,
+    settings: &RunSettings,
     files: &mut F,
 ) -> Result<Vec<u8>, Failure>
     requires few { length (F.names files.old) < 128 }
+    requires budget { HasBudget (Run settings.now) }
     requires short { length text.now ≤ most_program_bytes }
-    ensures value { AnswersText F.Files text.now input.now files.old files.new (vec_items_of result) }
-    ensures end { OnOk result (ReadToEnd F.Files files.old files.new input.now) }
-    ensures names { OnOk result (F.names files.new ≡ F.names files.old ++ input.now ∷ []) }
+    ensures value { AnswersText F.Files settings.now.frame settings.now.budget text.now settings.now.input files.old files.new (vec_items_of result) }
+    ensures end { OnOk result (ReadToEnd F.Files files.old files.new settings.now.input) }
+    ensures names { OnOk result (F.names files.new ≡ F.names files.old ++ settings.now.input ∷ []) }
     ensures kept { KeepsFiles F.held F.left F.given F.faults files.old files.new }
 {
     let tree = tree_in(alloc, text)?;
-    let program = program_in(alloc, &tree)?;
-    answer_program(alloc, &program, input, files)
+    let program = checked(alloc, &tree)?;
+    answer_program(alloc, program, settings, files)
 }
 
-/// The text of the program's tables for the input under a name.
+/// The text of the program's tables for the input that the settings name. The input isn't opened where a static faults.
 fn answer_program<F: Files>(
     alloc: Global,
-    program: &Program,
-    input: &str,
+    program: Program,
+    settings: &RunSettings,
     files: &mut F,
 ) -> Result<Vec<u8>, Failure>
     requires few { length (F.names files.old) < 128 }
-    requires read { IsSpelled (seen_program program.now) }
-    ensures value { AnswersOn F.Files (outcome_of_program (seen_program program.now)) input.now files.old files.new (vec_items_of result) }
-    ensures end { OnOk result (ReadToEnd F.Files files.old files.new input.now) }
-    ensures names { OnOk result (F.names files.new ≡ F.names files.old ++ input.now ∷ []) }
+    requires budget { HasBudget (Run settings.now) }
+    ensures value { AnswersOn F.Files settings.now.frame (outcome_of_program program settings.now.budget) settings.now.input
+        files.old files.new (vec_items_of result) }
+    ensures end { OnOk result (ReadToEnd F.Files files.old files.new settings.now.input) }
+    ensures names { OnOk result (F.names files.new ≡ F.names files.old ++ settings.now.input ∷ []) }
     ensures kept { KeepsFiles F.held F.left F.given F.faults files.old files.new }
 {
-    let input = read_text(alloc, files, input, MOST_INPUT_BYTES, Failure::Limit)?;
-    tables_of(alloc, program, &input)
+    let compiled = compile(alloc, program)?;
+    let statics = statics_of(alloc, &compiled, settings.budget)?;
+    let input = read_text(
+        alloc,
+        files,
+        settings.input.as_str(),
+        usize::MAX,
+        Failure::NoMemory,
+    )?;
+    tables_of(
+        alloc,
+        &compiled,
+        &statics,
+        settings.budget,
+        settings.frame,
+        &input,
+    )
 }

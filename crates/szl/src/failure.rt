@@ -10,7 +10,9 @@ use std::alloc::AllocError;
 use sz_check::CheckError;
 use sz_lex::LexError;
 use sz_parse::ParseError;
+use sz_run::Fault;
 use sz_types::Place;
+use sz_words::WordsError;
 
 /// The causes, each with a status and a line of its own.
 #[derive(Debug, Drop)]
@@ -19,8 +21,12 @@ pub enum Failure {
     Usage,
     /// The program is refused.
     Refused(Refusal),
-    /// The input passes a limit.
-    Limit,
+    /// A record faults. Records are numbered from 1; the number of a fault in a static is 0.
+    Faulted(u64, Fault),
+    /// The input is damaged where a record would begin, at this byte from 0.
+    Damaged(u64),
+    /// The input passes a limit where a record would begin, at this byte from 0.
+    Limit(u64),
     /// A file couldn't be opened or read.
     ReadFailed,
     /// The text couldn't be written.
@@ -37,7 +43,9 @@ impl Failure {
         match self {
             Failure::Usage => Status::Usage,
             Failure::Refused(_) => Status::Program,
-            Failure::Limit => Status::Limit,
+            Failure::Faulted(_, _) => Status::RecordFault,
+            Failure::Damaged(_) => Status::Damaged,
+            Failure::Limit(_) => Status::Limit,
             Failure::ReadFailed => Status::ReadFailed,
             Failure::WriteFailed => Status::WriteFailed,
             Failure::NoMemory => Status::NoMemory,
@@ -59,6 +67,19 @@ impl From<AllocError> for Failure {
 
     fn from(_: AllocError) -> Failure {
         Failure::NoMemory
+    }
+}
+
+impl From<WordsError> for Failure {
+    ghost use Rattle.szl.specs.Judging.{failure_of_words};
+
+    ghost from_gives = { λ error failure. failure ≡ failure_of_words error };
+
+    fn from(error: WordsError) -> Failure {
+        match error {
+            WordsError::Usage => Failure::Usage,
+            WordsError::NoMemory => Failure::NoMemory,
+        }
     }
 }
 

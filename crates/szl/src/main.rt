@@ -2,14 +2,10 @@
 #![tactic(auto)]
 
 mod answer;
-mod cutting;
-mod draft;
 mod failure;
-mod forms;
-mod generate;
 mod judge;
 mod laws;
-mod names;
+mod lines;
 mod opening;
 mod print;
 mod records;
@@ -20,11 +16,7 @@ mod sums;
 #[cfg(test)]
 mod tests;
 mod top;
-mod tree;
 mod unbuilt;
-mod unfit;
-mod values;
-mod words;
 
 use status::Status;
 use std::alloc::{AllocError, Global};

@@ -1,16 +1,17 @@
 //! The files of a command line.
-ghost use Rattle.std.specs.Prelude.{◌≡◌, ◌<◌, ℕ, length, OnOk, Ok};
+ghost use Rattle.std.specs.Prelude.{◌≡◌, ◌<◌, ◌⊎◌, length, OnOk};
 ghost use Rattle.sz_io.specs.Rose.{Rose};
 ghost use Rattle.sz_io.specs.Opened.{KeepsFiles};
 ghost use Rattle.sz_io.specs.Calls.{NamesGain, ReadToEnd};
-ghost use Rattle.szl.specs.Opening.{IsPast, ReadsText, ran_out};
+ghost use Rattle.szl.specs.Opening.{ReadsText, past_program, ran_out};
 ghost use Rattle.szl.specs.Running.{vec_items_of};
 
 use crate::failure::Failure;
 use std::alloc::Global;
 use sz_io::{Files, ReadError, read_whole};
 
-/// Reads a whole file of at most `limit` bytes; `past` is the failure where it has more.
+/// Reads a whole file of at most `limit` bytes; `past` is the failure where it has more: that of a program's text, or want of memory
+/// for the file.
 pub fn read_text<F: Files>(
     alloc: Global,
     files: &mut F,
@@ -19,7 +20,7 @@ pub fn read_text<F: Files>(
     past: Failure,
 ) -> Result<Vec<u8>, Failure>
     requires few { length (F.names files.old) < 128 }
-    requires past { IsPast past }
+    requires past { (past ≡ past_program) ⊎ (past ≡ Failure.NoMemory) }
     ensures text { ReadsText (F.held files.old name.now) limit past (Rose (F.faults files.old) (F.faults files.new)) (vec_items_of result) }
     ensures names { NamesGain (ran_out (vec_items_of result)) (F.names files.old) (F.names files.new) name.now }
     ensures end { OnOk result (ReadToEnd F.Files files.old files.new name.now) }

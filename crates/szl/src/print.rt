@@ -1,22 +1,23 @@
 //! The text of the tables.
 ghost use Rattle.std.specs.Prelude.{◌≡◌, ◌++◌, ℕ, List, length, IfOk, OnOk};
-ghost use Rattle.sz_mean.specs.Outcomes.{EmitDatum};
+ghost use Rattle.sz_tabs.specs.Data.{EmitDatum};
 ghost use Rattle.szl.specs.Text.{row_text, tables_text};
 ghost use Rattle.szl.specs.Totals.{StandFor};
-ghost use Rattle.szl.specs.View.{texts};
 
 use crate::sums::Sums;
 use itoa::Buffer;
 use std::alloc::{AllocError, Global};
+use sz_types::TableDecls;
 
-/// The text of the tables with these names, in order, by the sums of the emits.
-pub fn text_of(alloc: Global, names: &[&[u8]], sums: &Sums) -> Result<Vec<u8>, AllocError>
-    requires { length names.now ≡ length sums.now.rows }
-    ensures value { (emits : List EmitDatum) → StandFor sums.now emits → IfOk result (λ text. text.items ≡ tables_text 0 (texts names.now) emits) }
+/// The text of these tables, in order, by the sums of the emits.
+pub fn text_of(alloc: Global, tables: &TableDecls, sums: &Sums) -> Result<Vec<u8>, AllocError>
+    requires { length tables.now ≡ length sums.now.rows }
+    ensures value { (emits : List EmitDatum) → StandFor sums.now emits → IfOk result (λ text. text.items ≡ tables_text 0 tables.now emits) }
 {
+    let declared = tables.as_slice();
     let mut text = Vec::new(alloc);
-    for (table, name) in names.iter().enumerate() {
-        push_row(&mut text, name, sums.row(table))?;
+    for (number, table) in declared.iter().enumerate() {
+        push_row(&mut text, table.name.as_bytes(), sums.row(number))?;
     }
     Ok(text)
 }

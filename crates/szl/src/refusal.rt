@@ -1,8 +1,8 @@
 //! Why a program is refused.
-ghost use Rattle.std.specs.Prelude.{◌≡◌, ◌++◌, ◌∷◌, [], IfOk, OnOk, codes, decimal};
+ghost use Rattle.std.specs.Prelude.{◌≡◌, ◌++◌, IfOk, OnOk};
 ghost use Rattle.szl.specs.Judgement.{refusal_at};
 ghost use Rattle.szl.specs.Checking.{cause_of};
-ghost use Rattle.szl.specs.Outcome.{cause_text, name_text, refusal_line};
+ghost use Rattle.szl.specs.Outcome.{cause_text, name_text, place_text, refusal_line};
 
 use itoa::Buffer;
 use std::alloc::{AllocError, Global};
@@ -153,7 +153,7 @@ impl Refusal {
 
 /// The line of a refusal, with its newline.
 pub fn refusal_line(alloc: Global, refusal: &Refusal) -> Result<Vec<u8>, AllocError>
-    ensures value { IfOk result (λ line. line.items ≡ refusal_line refusal.now ++ 10 ∷ []) }
+    ensures value { IfOk result (λ line. line.items ≡ refusal_line refusal.now) }
 {
     let mut line = Vec::new(alloc);
     line.extend_from_slice(b"program: ")?;
@@ -177,8 +177,8 @@ fn push_name(line: &mut Vec<u8>, name: &Option<Text>) -> Result<(), AllocError>
 }
 
 /// Appends a place: its line and its column.
-fn push_place(line: &mut Vec<u8>, place: Place) -> Result<(), AllocError>
-    ensures value { OnOk result (line.new.items ≡ line.old.items ++ (decimal place.line ++ (codes ":" ++ decimal place.column))) }
+pub fn push_place(line: &mut Vec<u8>, place: Place) -> Result<(), AllocError>
+    ensures value { OnOk result (line.new.items ≡ line.old.items ++ place_text place) }
 {
     let mut digits = Buffer::new();
     line.extend_from_slice(digits.format(place.line).as_bytes())?;

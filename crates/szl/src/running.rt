@@ -1,26 +1,53 @@
 //! A program run over an input.
-ghost use Rattle.std.specs.Prelude.{◌≡◌, ◌≤◌, ◌^◌, length};
-ghost use Rattle.szl.specs.Running.{IsSpelled, GivesTables, vec_items_of};
-ghost use Rattle.szl.specs.View.{seen_program};
+ghost use Rattle.std.specs.Prelude.{◌≡◌, ◌≤◌, ◌^◌, IfOk};
+ghost use Rattle.sz_gen_stmt.specs.Simulates.{static_types};
+ghost use Rattle.sz_world.specs.Typed.{AllFit};
+ghost use Rattle.szl.specs.Running.{GivesStatics, GivesTables, vec_items_of};
 
 use crate::failure::Failure;
-use crate::generate::compile;
 use crate::print::text_of;
-use crate::records::sum_records;
+use crate::records::{records_in, sum_records};
 use crate::sums::Sums;
-use crate::tree::Program;
 use std::alloc::Global;
+use sz_gen_stmt::Compiled;
+use sz_records::Ending;
+use sz_run::{StaticsEnd, run_statics};
+use sz_types::Frame;
+use sz_value::Slots;
 
-#[tactic(auto, using(crate::proofs::ProgramLemmas::may_run, crate::proofs::TotalsLemmas::stand_none))]
-/// The text of the program's tables for all records of the input.
-pub fn tables_of(alloc: Global, program: &Program, input: &[u8]) -> Result<Vec<u8>, Failure>
-    requires read { IsSpelled (seen_program program.now) }
-    requires size { length input.now ≤ 2 ^ 40 }
-    ensures value { GivesTables (seen_program program.now) input.now (vec_items_of result) }
+/// The statics of the program, all of them with so many ticks.
+pub fn statics_of(alloc: Global, compiled: &Compiled, budget: u64) -> Result<Slots, Failure>
+    requires least { 1 ≤ budget }
+    requires most { budget ≤ 2 ^ 32 }
+    ensures value { GivesStatics compiled.now budget result }
+    ensures fit { IfOk result (λ slots. AllFit slots (static_types compiled.now)) }
 {
-    let code = compile(alloc, program)?;
-    let mut sums = Sums::new(alloc, program.tables.len())?;
-    sum_records(alloc, &code, input, &mut sums)?;
-    let text = text_of(alloc, &program.tables, &sums)?;
-    Ok(text)
+    match run_statics(alloc, compiled.code(), budget)? {
+        StaticsEnd::Done(slots) => Ok(slots),
+        StaticsEnd::Fault(fault) => Err(Failure::Faulted(0, fault)),
+    }
+}
+
+/// The text of the program's tables for all records of the input, with these statics and so many ticks a record.
+pub fn tables_of(
+    alloc: Global,
+    compiled: &Compiled,
+    statics: &Slots,
+    budget: u64,
+    frame: Frame,
+    input: &[u8],
+) -> Result<Vec<u8>, Failure>
+    requires least { 1 ≤ budget }
+    requires most { budget ≤ 2 ^ 32 }
+    requires fit { AllFit statics.now (static_types compiled.now) }
+    ensures value { GivesTables compiled.now statics.now budget frame input.now (vec_items_of result) }
+{
+    let (records, ending) = records_in(alloc, frame, input)?;
+    let mut sums = Sums::new(alloc, compiled.tables().len())?;
+    sum_records(alloc, compiled, statics, budget, &records, &mut sums)?;
+    match ending {
+        Ending::Whole => Ok(text_of(alloc, compiled.tables(), &sums)?),
+        Ending::Damaged(byte) => Err(Failure::Damaged(byte)),
+        Ending::Limit(byte) => Err(Failure::Limit(byte)),
+    }
 }

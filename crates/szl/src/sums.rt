@@ -1,13 +1,12 @@
 //! Sums of tables, exact in 128 bits.
 ghost use Rattle.std.specs.Prelude.{◌≡◌, ◌<◌, ◌^◌, ◌+◌, ◌+ℤ◌, ◌*◌, pos, unwrap_or, ℕ, length, slice_get, IfOk, Some, None, replicate};
-ghost use Rattle.sz_machine.specs.Emits.{seen_emit};
 ghost use Rattle.sz_value.specs.Seen.{seen};
-ghost use Rattle.sz_mean.specs.Rows.{number_of};
+ghost use Rattle.sz_tabs.specs.Rows.{number_of};
 ghost use Rattle.szl.specs.Totals.{IsWithin, AreWithin, row_added, added, no_totals};
 
 use std::alloc::{AllocError, Global};
 use std::marker::Model;
-use sz_machine::Emit;
+use sz_tabs::Emit;
 use sz_value::Value;
 
 /// The sum of each table, none where nothing was emitted to it, and the number of emits that were added.
@@ -53,7 +52,7 @@ impl Sums {
     /// Adds an emit to the sum of its table. An emit to another table is only counted.
     pub fn add(&mut self, emit: &Emit)
         requires { self.old.emits < 2 ^ 63 }
-        ensures value { self.new ≡ added self.old (seen_emit emit.now) }
+        ensures value { self.new ≡ added self.old emit.now }
     {
         add_to(&mut self.rows, emit.table as usize, &emit.value);
         self.emits += 1;

@@ -1,6 +1,12 @@
-//! Whole command lines over files and sinks in memory: the rows of `runs.rt`, and programs that are too large for a row.
+//! Whole command lines over files and sinks in memory: the rows of `runs.rt` and the files beside it, and programs that are too
+//! large for a row.
 mod checking;
+mod checks;
+mod expression_ticks;
+mod expressions;
 mod runs;
+mod statement_ticks;
+mod statements;
 
 ghost use Rattle.std.specs.Prelude.{◌≡◌, ◌≤◌, [], IfOk};
 ghost use Rattle.sz_io.specs.MemFiles.{names_opened};
@@ -8,6 +14,7 @@ ghost use Rattle.sz_io.specs.MemFiles.{names_opened};
 use crate::top::szl_main;
 use std::alloc::Global;
 use std::fmt::Write;
+use std::process::Abort;
 use std::test::Fail;
 use std::thread::Threads;
 use sz_io::{MemFiles, MemSink, NoGate, NoMemory};
@@ -34,9 +41,29 @@ const PLAIN: Setting<'static> = Setting {
     out_fails: NEVER,
 };
 
-/// The rows behind a call, so that no proof sees them.
-fn rows() -> &'static str {
+/// The rows of whole runs. Here and below they are behind a call, so that no proof sees them.
+fn rows_of_runs() -> &'static str {
     runs::RUNS
+}
+
+fn rows_of_expressions() -> &'static str {
+    expressions::RUNS
+}
+
+fn rows_of_statements() -> &'static str {
+    statements::RUNS
+}
+
+fn rows_of_expression_ticks() -> &'static str {
+    expression_ticks::RUNS
+}
+
+fn rows_of_statement_ticks() -> &'static str {
+    statement_ticks::RUNS
+}
+
+fn rows_of_checks() -> &'static str {
+    checks::RUNS
 }
 
 /// The text that a row writes with marks for the ends of lines and for tabs.
@@ -52,6 +79,30 @@ fn text_of(alloc: Global, marked: &str) -> Result<String, NoMemory> {
     Ok(text)
 }
 
+/// The bytes that a row writes: those of its text, where `\x` and two hexadecimal digits stand for a byte.
+fn bytes_of(alloc: Global, marked: &str) -> Result<Vec<u8>, Fail> {
+    let (front, behind) = match marked.split_once("\\x") {
+        Some((front, behind)) => (front, Some(behind)),
+        None => (marked, None),
+    };
+    let mut bytes = Vec::new(alloc);
+    bytes.extend_from_slice(text_of(alloc, front)?.as_bytes())?;
+    if let Some(behind) = behind {
+        push_bytes(alloc, &mut bytes, behind)?;
+    }
+    Ok(bytes)
+}
+
+/// Appends bytes that are written with `\x` between them, each with the text behind it.
+fn push_bytes(alloc: Global, bytes: &mut Vec<u8>, written: &str) -> Result<(), Fail> {
+    for part in written.split("\\x") {
+        let (digits, text) = part.split_at_checked(2).ok_or("no byte")?;
+        bytes.push(u8::from_str_radix(digits, 16).ok().ok_or("no byte")?)?;
+        bytes.extend_from_slice(text_of(alloc, text)?.as_bytes())?;
+    }
+    Ok(())
+}
+
 /// A text with a mark for the end of each line.
 fn marked(alloc: Global, text: &str) -> Result<String, NoMemory> {
     let mut marked = String::with_capacity(alloc, text.len())?;
@@ -62,13 +113,13 @@ fn marked(alloc: Global, text: &str) -> Result<String, NoMemory> {
 }
 
 /// The files `p` and `f`.
-fn files_of(alloc: Global, given: &Setting<'_>, program: &[u8]) -> Result<MemFiles, NoMemory>
+fn files_of(alloc: Global, given: &Setting<'_>, program: &[u8]) -> Result<MemFiles, Fail>
     ensures { IfOk result (λ files. names_opened files ≡ []) }
 {
     let mut files = MemFiles::new(alloc)?;
     files.put("p", program, &[given.program_fails])?;
-    let input = text_of(alloc, given.input)?;
-    files.put("f", input.as_bytes(), &[given.input_fails])?;
+    let input = bytes_of(alloc, given.input)?;
+    files.put("f", input.as_slice(), &[given.input_fails])?;
     Ok(files)
 }
 
@@ -152,16 +203,50 @@ fn holds<R: Threads + Sync>(
     Ok(left(rt, alloc, given, program.as_bytes())?.as_str() == wanted)
 }
 
-#[test]
-fn each_run_leaves_what_its_row_says(rt: HostRuntime) -> Result<(), Fail> {
+/// Fails where a run leaves something else than its row says.
+fn all_hold<R: Abort + Threads + Sync>(
+    rt: &R,
+    alloc: Global,
+    rows: &'static str,
+) -> Result<(), Fail> {
     let mut given = PLAIN;
-    for line in rows().lines() {
+    for line in rows.lines() {
         match given_below(line, given) {
             Some(next) => given = next,
-            None => assert!(&rt; holds(&rt, rt.alloc(), &given, line)?, "at {line}"),
+            None => assert!(rt; holds(rt, alloc, &given, line)?, "at {line}"),
         }
     }
     Ok(())
+}
+
+#[test]
+fn each_run_leaves_what_its_row_says(rt: HostRuntime) -> Result<(), Fail> {
+    all_hold(&rt, rt.alloc(), rows_of_runs())
+}
+
+#[test]
+fn expressions_give_what_their_rows_say(rt: HostRuntime) -> Result<(), Fail> {
+    all_hold(&rt, rt.alloc(), rows_of_expressions())
+}
+
+#[test]
+fn statements_do_what_their_rows_say(rt: HostRuntime) -> Result<(), Fail> {
+    all_hold(&rt, rt.alloc(), rows_of_statements())
+}
+
+#[test]
+fn expressions_take_the_ticks_of_their_rows(rt: HostRuntime) -> Result<(), Fail> {
+    all_hold(&rt, rt.alloc(), rows_of_expression_ticks())
+}
+
+#[test]
+fn statements_take_the_ticks_of_their_rows(rt: HostRuntime) -> Result<(), Fail> {
+    all_hold(&rt, rt.alloc(), rows_of_statement_ticks())
+}
+
+#[test]
+fn programs_are_refused_as_their_rows_say(rt: HostRuntime) -> Result<(), Fail> {
+    all_hold(&rt, rt.alloc(), rows_of_checks())
 }
 
 /// Whether the run of a program over the input `3` leaves this.
@@ -245,7 +330,7 @@ fn tables(alloc: Global, count: u32) -> Result<String, Fail> {
 fn a_program_has_64_tables_at_most(rt: HostRuntime) -> Result<(), Fail> {
     for (words, count, wanted) in [
         ("run p f", 64, "0"),
-        ("run p f", 65, "2 ! program: not built yet at 65:1"),
+        ("run p f", 65, "2 ! program: too many tables at 65:1"),
         ("check p", 64, "0"),
         ("check p", 65, "2 ! program: too many tables at 65:1"),
     ] {

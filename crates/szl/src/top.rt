@@ -1,18 +1,19 @@
 //! The top call: from the words and the devices to the status.
-ghost use Rattle.std.specs.Prelude.{◌≡◌, ◌<◌, ◌⊎◌, [], Err, Ok, length, map, string_bytes};
+ghost use Rattle.std.specs.Prelude.{◌≡◌, ◌<◌, ◌⊎◌, [], Err, Ok, IfOk, length, map, string_bytes};
 ghost use Rattle.sz_io.specs.Opened.{KeepsFiles};
 ghost use Rattle.sz_io.specs.Rose.{Rose, DoNotFall};
 ghost use Rattle.szl.specs.Failing.{line_of_failure};
 ghost use Rattle.szl.specs.Printing.{Prints, PrintsNothing};
 ghost use Rattle.szl.specs.Promise.{MeansSource, GainsLine, AreReadToEnd, names_asked};
 ghost use Rattle.szl.specs.Running.{vec_items_of};
-ghost use Rattle.szl.specs.Settings.{settings_in};
+ghost use Rattle.szl.specs.Settings.{asked_in};
 
 use crate::answer::answer;
 use crate::failure::Failure;
+use crate::lines::{damaged_line, fault_line, limit_line};
 use crate::refusal::refusal_line;
 use crate::status::Status;
-use std::alloc::Global;
+use std::alloc::{AllocError, Global};
 use std::thread::Threads;
 use sz_io::{Files, Gate, Sink, WriteError, write_whole};
 
@@ -32,7 +33,7 @@ pub fn szl_main<R: Threads + Sync, F: Files, O: Sink, E: Sink, G: Gate + Sync>(
     requires { length (F.names files.old) < 127 }
 
     ensures outcome { MeansSource F.Files O.Sink E.Sink (map string_bytes words.now) result files.old files.new out.old out.new err.old err.new }
-    ensures end { result ≡ Status.Done → AreReadToEnd F.Files files.old files.new (names_asked (settings_in (map string_bytes words.now))) }
+    ensures end { result ≡ Status.Done → AreReadToEnd F.Files files.old files.new (names_asked (asked_in (map string_bytes words.now))) }
 
     ensures read_failed { result ≡ Status.ReadFailed → Rose (F.faults files.old) (F.faults files.new) }
     ensures write_failed { result ≡ Status.WriteFailed → Rose (O.faults out.old) (O.faults out.new) }
@@ -84,14 +85,30 @@ fn tell<E: Sink>(alloc: Global, err: &mut E, failure: Failure) -> Failure
 {
     match &failure {
         Failure::Usage => tell_line(err, b"bad command line\n", failure),
-        Failure::Refused(refusal) => match refusal_line(alloc, refusal) {
-            Ok(line) => tell_line(err, &line, failure),
-            Err(_) => tell_line(err, b"out of memory\n", Failure::NoMemory),
-        },
-        Failure::Limit => tell_line(err, b"input limit at byte 0\n", failure),
+        Failure::Refused(refusal) => tell_made(err, refusal_line(alloc, refusal), failure),
+        Failure::Faulted(number, fault) => tell_made(
+            err,
+            fault_line(alloc, *number, fault),
+            failure,
+        ),
+        Failure::Damaged(byte) => tell_made(err, damaged_line(alloc, *byte), failure),
+        Failure::Limit(byte) => tell_made(err, limit_line(alloc, *byte), failure),
         Failure::ReadFailed => tell_line(err, b"read failed\n", failure),
         Failure::WriteFailed => tell_line(err, b"write failed\n", failure),
         Failure::NoMemory => tell_line(err, b"out of memory\n", failure),
+    }
+}
+
+/// Writes the line that was made for a failure, and gives what was told: want of memory where there was none for the line.
+fn tell_made<E: Sink>(err: &mut E, made: Result<Vec<u8>, AllocError>, failure: Failure) -> Failure
+    requires { IfOk made (λ line. line.items ≡ line_of_failure failure) }
+    ensures told { (result ≡ failure) ⊎ (result ≡ Failure.NoMemory) }
+    ensures line { GainsLine E.Sink err.old err.new (line_of_failure result) }
+    ensures kept { DoNotFall E.faults E.refusals err.old err.new }
+{
+    match made {
+        Ok(line) => tell_line(err, &line, failure),
+        Err(_) => tell_line(err, b"out of memory\n", Failure::NoMemory),
     }
 }
 

@@ -8,9 +8,11 @@
 //!
 //! - `== TITLE` begins anew: with the words `run p f`, an empty input, and no call that fails.
 //! - `$ [WORDS]` has the words of the command line, with a blank between two of them.
-//! - `< INPUT` has the input.
-//! - `! p 0` has the first reading of the program fail, `! f 0` that of the input, `! out 1` the second writing to the output,
+//! - `< INPUT` has the input, in which `\x` and two hexadecimal digits stand for a byte.
+//! - `! p 0` has the first call on the program fail, `! f 0` that on the input, `! out 1` the second writing to the output,
 //!   and `! none` no call.
+//!
+//! `examples/runs.txt` has the runs of this file and of those beside it, in one.
 
 /// The runs.
 pub(super) const RUNS: &str = r#"== tables hold the sums of all lines
@@ -23,98 +25,258 @@ count: table sum of int;¶total: table sum of int;¶sum_of_squares: table sum of
 count: table sum of int; total: table sum of int; x: int = input; emit count <- 1; emit total <- x; => 0 count[] = 2¶total[] = 18446744073709551614¶
 < 9223372036854775807
 c: table sum of int;¶x: int = input;¶emit c <- x + 1;¶ => 0 c[] = -9223372036854775808¶
+< 1¶
+c: table sum of int;¶x: int = input;¶if (x > 0) emit c <- 1;¶ => 0 c[] = 1¶
+< aéb¶
+c: table sum of int; s: string = input; emit c <- len(s); emit c <- s[1] * 1000; => 0 c[] = 233003¶
 
-== a refusal has its cause and its place
+== a text that can't be read is refused at its cause
 < 3¶
 x: int = 07; => 2 ! program: bad literal at 1:10
 a ? b => 2 ! program: bad character at 1:3
 c: table sum of int;¶emit c <- ; => 2 ! program: syntax at 2:1
-c: table sum of int;¶x: int = input;¶if (x > 0) emit c <- 1; => 2 ! program: not built yet at 3:1
 x: int = input => 2 ! program: syntax at 1:1
 x: bool = true;¶y: int = 07; => 2 ! program: bad literal at 2:10
 x: bool = true;¶emit ; => 2 ! program: syntax at 2:1
-x: bool = true;¶y: int = 1; => 2 ! program: not built yet at 1:1
-y: int = 1;¶x: bool = true;¶y: int = 2; => 2 ! program: not built yet at 2:1
-# nothing¶  ; => 2 ! program: not built yet at 2:3
+x: int = 1; } => 2 ! program: syntax at 1:13
+if (true) ; else => 2 ! program: syntax at 1:1
+x: int = bool(1); => 2 ! program: syntax at 1:1
+x: int = -9223372036854775808; => 2 ! program: bad literal at 1:11
 
-== a broken rule is refused at its statement
+== run refuses what check refuses
 < 3¶
-c: table sum of int; emit c <- y; => 2 ! program: not built yet at 1:22
-c: table sum of int; emit c <- 1 + (2 * y); => 2 ! program: not built yet at 1:22
-emit c <- 1; => 2 ! program: not built yet at 1:1
-x: int = x; => 2 ! program: not built yet at 1:1
-x: int = 1; emit x <- 1; => 2 ! program: not built yet at 1:13
-c: table sum of int; x: int = c; => 2 ! program: not built yet at 1:22
-x: int = 1; x: int = 2; => 2 ! program: not built yet at 1:13
-c: table sum of int; c: int = 1; => 2 ! program: not built yet at 1:22
-c: int = 1; c: table sum of int; => 2 ! program: not built yet at 1:13
-input: int = 1; => 2 ! program: not built yet at 1:1
-len: int = 1; => 2 ! program: not built yet at 1:1
-keys: int = 1; => 2 ! program: not built yet at 1:1
-haskey: int = 1; => 2 ! program: not built yet at 1:1
-strfind: table sum of int; => 2 ! program: not built yet at 1:1
+c: table sum of int; emit c <- y; => 2 ! program: unknown name: y at 1:32
+c: table sum of int; emit c <- 1 + (2 * y); => 2 ! program: unknown name: y at 1:41
+emit c <- 1; => 2 ! program: unknown name: c at 1:6
+x: int = x; => 2 ! program: unknown name: x at 1:10
+x: int = 1; emit x <- 1; => 2 ! program: wrong kind of name: x at 1:18
+c: table sum of int; x: int = c; => 2 ! program: wrong kind of name: c at 1:31
+x: int = 1; x: int = 2; => 2 ! program: declared twice: x at 1:13
+y: int = 1;¶x: bool = true;¶y: int = 2; => 2 ! program: declared twice: y at 3:1
+c: table sum of int; c: int = 1; => 2 ! program: declared twice: c at 1:22
+c: int = 1; c: table sum of int; => 2 ! program: declared twice: c at 1:13
+x: int = input + 1; => 2 ! program: wrong type at 1:18
+x: int = len(1); => 2 ! program: wrong type at 1:14
+x: bool = 1; => 2 ! program: wrong type at 1:11
+c: table sum of int; emit c[1] <- 1; => 2 ! program: wrong count at 1:27
+c: table sum of int; emit c <- 1 weight 1; => 2 ! program: wrong weight at 1:22
+c: table sum of int; emit c <- input; => 2 ! program: wrong type at 1:32
+input = B"a"; => 2 ! program: not assignable: input at 1:1
+break; => 2 ! program: misplaced statement at 1:1
+x: float; => 2 ! program: not in this profile: float at 1:4
+x := {1}; => 2 ! program: composite without a type at 1:6
 
-== another form is refused at its statement
+== run refuses what isn't built at its statement
 < 3¶
-x: int = 1; ; => 2 ! program: not built yet at 1:13
-x: int = (input); => 2 ! program: not built yet at 1:1
-x: int = input + 1; => 2 ! program: not built yet at 1:1
-x: int = 'a'; => 2 ! program: not built yet at 1:1
-x: int = -1; => 2 ! program: not built yet at 1:1
-x: int = 1 / 1; => 2 ! program: not built yet at 1:1
-x: int = len(1); => 2 ! program: not built yet at 1:1
-x: int; => 2 ! program: not built yet at 1:1
-x: bool = 1; => 2 ! program: not built yet at 1:1
-x := 1; => 2 ! program: not built yet at 1:1
-x: int = 1; x = 2; => 2 ! program: not built yet at 1:13
-{ x: int = 1; } => 2 ! program: not built yet at 1:1
+when (i: some int; true) ; => 2 ! program: not built yet at 1:1
+x: int = 1;¶if (true) when (i: some int; true) ; => 2 ! program: not built yet at 2:1
+x: proto {a: int @ 1}; => 2 ! program: not built yet at 1:1
+x: bool = 1;¶type M = proto {a: int @ 1}; => 2 ! program: not built yet at 2:1
 c: table sum of bool; => 2 ! program: not built yet at 1:1
 c: table sum of n: int; => 2 ! program: not built yet at 1:1
 c: table sum(1) of int; => 2 ! program: not built yet at 1:1
 c: table sum[int] of int; => 2 ! program: not built yet at 1:1
 c: table sum of int weight int; => 2 ! program: not built yet at 1:1
 c: table set(2) of int; => 2 ! program: not built yet at 1:1
-c: table sum of int; emit c[1] <- 1; => 2 ! program: not built yet at 1:22
-c: table sum of int; emit c <- 1 weight 1; => 2 ! program: not built yet at 1:22
-c: table sum of int; emit c <- input; => 2 ! program: not built yet at 1:22
+c: table maximum(2) of string weight w: int; => 2 ! program: not built yet at 1:1
+c: table collection of string; => 2 ! program: not built yet at 1:1
+c: table quantile(101) of int; => 2 ! program: not built yet at 1:1
 
-== values are computed as they are grouped
+== programs that print nothing
 < 3¶
-c: table sum of int; x: int = input; emit c <- (x + 1) * 2; => 0 c[] = 8¶
-c: table sum of int; x: int = input; emit c <- x + 1 * 2; => 0 c[] = 5¶
-c: table sum of int; x: int = input; emit c <- 10 - x - 2; => 0 c[] = 5¶
-c: table sum of int; x: int = input; emit c <- 10 - (x - 2); => 0 c[] = 9¶
-c: table sum of int; x: int = input; emit c <- ((x)) * (x * x); => 0 c[] = 27¶
-c: table sum of int; x: int = input; y: int = x * 2; emit c <- y - x * y; => 0 c[] = -12¶
-sum: int = 4; c: table sum of int; emit c <- sum; => 0 c[] = 4¶
-c: table sum of int; emit c <- 0x10 - 0xffffffffffffffff; => 0 c[] = 17¶
-# what is counted¶c: table sum of int; # a table¶→emit c <- # one¶1;# the end => 0 c[] = 1¶
+ => 0
+# nothing¶  ; => 0
+; => 0
+{} => 0
+x: bool = true;¶y: int = 1; => 0
+x: int = 1; ; => 0
+x: int = (input); => 0
+x: int; => 0
+x := 1; => 0
+x: int = 1; x = 2; => 0
+{ x: int = 1; } => 0
+input: int = 1; => 0
+len: int = 1; => 0
+keys: int = 1; => 0
+haskey: int = 1; => 0
+strfind: table sum of int; => 0
+c: table sum of int; => 0
 
 == words that are no command line have a status of their own
 $ [run p]
-count: table sum of int;¶total: table sum of int;¶sum_of_squares: table sum of int;¶x: int = input;¶emit count <- 1;¶emit total <- x;¶emit sum_of_squares <- x * x;¶ => 1 ! bad command line
+c: table sum of int; x: int = input; emit c <- x; => 1 ! bad command line
 $ [run p f g]
-count: table sum of int;¶total: table sum of int;¶sum_of_squares: table sum of int;¶x: int = input;¶emit count <- 1;¶emit total <- x;¶emit sum_of_squares <- x * x;¶ => 1 ! bad command line
+c: table sum of int; x: int = input; emit c <- x; => 1 ! bad command line
 $ [run p f --workers 0]
-count: table sum of int;¶total: table sum of int;¶sum_of_squares: table sum of int;¶x: int = input;¶emit count <- 1;¶emit total <- x;¶emit sum_of_squares <- x * x;¶ => 1 ! bad command line
+c: table sum of int; x: int = input; emit c <- x; => 1 ! bad command line
 $ [run - -]
-count: table sum of int;¶total: table sum of int;¶sum_of_squares: table sum of int;¶x: int = input;¶emit count <- 1;¶emit total <- x;¶emit sum_of_squares <- x * x;¶ => 1 ! bad command line
+c: table sum of int; x: int = input; emit c <- x; => 1 ! bad command line
 $ [run p -f]
-count: table sum of int;¶total: table sum of int;¶sum_of_squares: table sum of int;¶x: int = input;¶emit count <- 1;¶emit total <- x;¶emit sum_of_squares <- x * x;¶ => 1 ! bad command line
+c: table sum of int; x: int = input; emit c <- x; => 1 ! bad command line
 $ [run  f]
-count: table sum of int;¶total: table sum of int;¶sum_of_squares: table sum of int;¶x: int = input;¶emit count <- 1;¶emit total <- x;¶emit sum_of_squares <- x * x;¶ => 1 ! bad command line
+c: table sum of int; x: int = input; emit c <- x; => 1 ! bad command line
+$ [run p ]
+c: table sum of int; x: int = input; emit c <- x; => 1 ! bad command line
 $ [walk p f]
-count: table sum of int;¶total: table sum of int;¶sum_of_squares: table sum of int;¶x: int = input;¶emit count <- 1;¶emit total <- x;¶emit sum_of_squares <- x * x;¶ => 1 ! bad command line
+c: table sum of int; x: int = input; emit c <- x; => 1 ! bad command line
+$ [Run p f]
+c: table sum of int; x: int = input; emit c <- x; => 1 ! bad command line
 $ []
-count: table sum of int;¶total: table sum of int;¶sum_of_squares: table sum of int;¶x: int = input;¶emit count <- 1;¶emit total <- x;¶emit sum_of_squares <- x * x;¶ => 1 ! bad command line
+c: table sum of int; x: int = input; emit c <- x; => 1 ! bad command line
 $ [check]
-count: table sum of int;¶total: table sum of int;¶sum_of_squares: table sum of int;¶x: int = input;¶emit count <- 1;¶emit total <- x;¶emit sum_of_squares <- x * x;¶ => 1 ! bad command line
+c: table sum of int; x: int = input; emit c <- x; => 1 ! bad command line
 $ [check a b]
-count: table sum of int;¶total: table sum of int;¶sum_of_squares: table sum of int;¶x: int = input;¶emit count <- 1;¶emit total <- x;¶emit sum_of_squares <- x * x;¶ => 1 ! bad command line
+c: table sum of int; x: int = input; emit c <- x; => 1 ! bad command line
 $ [check --x]
-count: table sum of int;¶total: table sum of int;¶sum_of_squares: table sum of int;¶x: int = input;¶emit count <- 1;¶emit total <- x;¶emit sum_of_squares <- x * x;¶ => 1 ! bad command line
+c: table sum of int; x: int = input; emit c <- x; => 1 ! bad command line
 $ [check ]
-count: table sum of int;¶total: table sum of int;¶sum_of_squares: table sum of int;¶x: int = input;¶emit count <- 1;¶emit total <- x;¶emit sum_of_squares <- x * x;¶ => 1 ! bad command line
+c: table sum of int; x: int = input; emit c <- x; => 1 ! bad command line
+$ [run p f --help]
+c: table sum of int; x: int = input; emit c <- x; => 1 ! bad command line
+$ [run p f --version]
+c: table sum of int; x: int = input; emit c <- x; => 1 ! bad command line
+$ [run p f -h]
+c: table sum of int; x: int = input; emit c <- x; => 1 ! bad command line
+$ [--help]
+c: table sum of int; x: int = input; emit c <- x; => 1 ! bad command line
+$ [help]
+c: table sum of int; x: int = input; emit c <- x; => 1 ! bad command line
+$ [merge p f]
+c: table sum of int; x: int = input; emit c <- x; => 1 ! bad command line
+
+== options stand anywhere behind the command
+< 3¶-1¶
+$ [run p f]
+c: table sum of int; x: int = input; emit c <- x; => 0 c[] = 2¶
+$ [run p f --budget 100]
+c: table sum of int; x: int = input; emit c <- x; => 0 c[] = 2¶
+$ [run p f --budget=100]
+c: table sum of int; x: int = input; emit c <- x; => 0 c[] = 2¶
+$ [run --budget 100 p f]
+c: table sum of int; x: int = input; emit c <- x; => 0 c[] = 2¶
+$ [run p --budget=100 f]
+c: table sum of int; x: int = input; emit c <- x; => 0 c[] = 2¶
+$ [run --frame lines --budget 100 p f]
+c: table sum of int; x: int = input; emit c <- x; => 0 c[] = 2¶
+$ [run p f --frame=lines]
+c: table sum of int; x: int = input; emit c <- x; => 0 c[] = 2¶
+$ [run -- p f]
+c: table sum of int; x: int = input; emit c <- x; => 0 c[] = 2¶
+$ [run p -- f]
+c: table sum of int; x: int = input; emit c <- x; => 0 c[] = 2¶
+$ [run p f --]
+c: table sum of int; x: int = input; emit c <- x; => 0 c[] = 2¶
+$ [run --budget 100 -- p f]
+c: table sum of int; x: int = input; emit c <- x; => 0 c[] = 2¶
+$ [run p f --budget 0100]
+c: table sum of int; x: int = input; emit c <- x; => 0 c[] = 2¶
+$ [run p f --budget 4294967296]
+c: table sum of int; x: int = input; emit c <- x; => 0 c[] = 2¶
+$ [run p f --budget 9]
+c: table sum of int; x: int = input; emit c <- x; => 0 c[] = 2¶
+$ [run p f --budget 5]
+c: table sum of int; x: int = input; emit c <- x; => 3 ! record 1: budget passed at 1:38
+$ [run p f --budget 1]
+c: table sum of int; x: int = input; emit c <- x; => 3 ! record 1: budget passed at 1:31
+$ [run p f --budget 0]
+c: table sum of int; x: int = input; emit c <- x; => 1 ! bad command line
+$ [run p f --budget 4294967297]
+c: table sum of int; x: int = input; emit c <- x; => 1 ! bad command line
+$ [run p f --budget]
+c: table sum of int; x: int = input; emit c <- x; => 1 ! bad command line
+$ [run p f --budget=]
+c: table sum of int; x: int = input; emit c <- x; => 1 ! bad command line
+$ [run p f --budget -1]
+c: table sum of int; x: int = input; emit c <- x; => 1 ! bad command line
+$ [run p f --budget=-1]
+c: table sum of int; x: int = input; emit c <- x; => 1 ! bad command line
+$ [run p f --budget +1]
+c: table sum of int; x: int = input; emit c <- x; => 1 ! bad command line
+$ [run p f --budget 1x]
+c: table sum of int; x: int = input; emit c <- x; => 1 ! bad command line
+$ [run p f --budget 100000000000000000000]
+c: table sum of int; x: int = input; emit c <- x; => 1 ! bad command line
+$ [run p f --budget 000000000000000000100]
+c: table sum of int; x: int = input; emit c <- x; => 1 ! bad command line
+$ [run p f --budget 9 --budget 9]
+c: table sum of int; x: int = input; emit c <- x; => 1 ! bad command line
+$ [run p f --budget=9 --budget 9]
+c: table sum of int; x: int = input; emit c <- x; => 1 ! bad command line
+$ [run p f --frame x]
+c: table sum of int; x: int = input; emit c <- x; => 1 ! bad command line
+$ [run p f --frame]
+c: table sum of int; x: int = input; emit c <- x; => 1 ! bad command line
+$ [run p f --frame lines --frame lines]
+c: table sum of int; x: int = input; emit c <- x; => 1 ! bad command line
+$ [run p f --Budget 9]
+c: table sum of int; x: int = input; emit c <- x; => 1 ! bad command line
+$ [run p f --bud 9]
+c: table sum of int; x: int = input; emit c <- x; => 1 ! bad command line
+$ [run p f -budget 9]
+c: table sum of int; x: int = input; emit c <- x; => 1 ! bad command line
+$ [run p f --skip 9]
+c: table sum of int; x: int = input; emit c <- x; => 1 ! bad command line
+$ [--budget 9 run p f]
+c: table sum of int; x: int = input; emit c <- x; => 1 ! bad command line
+$ [run p f -- --budget 9]
+c: table sum of int; x: int = input; emit c <- x; => 1 ! bad command line
+
+== options without an effect yet are taken only with the values that they have by themselves
+< 3¶-1¶
+$ [run p f --workers 4]
+c: table sum of int; x: int = input; emit c <- x; => 0 c[] = 2¶
+$ [run p f --workers=04]
+c: table sum of int; x: int = input; emit c <- x; => 0 c[] = 2¶
+$ [run p f --shard 1000]
+c: table sum of int; x: int = input; emit c <- x; => 0 c[] = 2¶
+$ [run p f --attempts 3]
+c: table sum of int; x: int = input; emit c <- x; => 0 c[] = 2¶
+$ [run p f --workers 4 --shard 1000 --attempts 3 --budget 100 --frame lines]
+c: table sum of int; x: int = input; emit c <- x; => 0 c[] = 2¶
+$ [run p f --workers 2]
+c: table sum of int; x: int = input; emit c <- x; => 1 ! bad command line
+$ [run p f --workers 1]
+c: table sum of int; x: int = input; emit c <- x; => 1 ! bad command line
+$ [run p f --shard 1]
+c: table sum of int; x: int = input; emit c <- x; => 1 ! bad command line
+$ [run p f --shard=65536]
+c: table sum of int; x: int = input; emit c <- x; => 1 ! bad command line
+$ [run p f --attempts 2]
+c: table sum of int; x: int = input; emit c <- x; => 1 ! bad command line
+$ [run p f --attempts 8]
+c: table sum of int; x: int = input; emit c <- x; => 1 ! bad command line
+$ [run p f --kill 0.0.0]
+c: table sum of int; x: int = input; emit c <- x; => 1 ! bad command line
+$ [run p f --twice 0]
+c: table sum of int; x: int = input; emit c <- x; => 1 ! bad command line
+$ [run p f --workers 65]
+c: table sum of int; x: int = input; emit c <- x; => 1 ! bad command line
+$ [run p f --kill x]
+c: table sum of int; x: int = input; emit c <- x; => 1 ! bad command line
+$ [run p f --twice 0,0]
+c: table sum of int; x: int = input; emit c <- x; => 1 ! bad command line
+$ [selftest 1 1 1]
+c: table sum of int; x: int = input; emit c <- x; => 1 ! bad command line
+$ [selftest 1 1]
+c: table sum of int; x: int = input; emit c <- x; => 1 ! bad command line
+$ [selftest 9223372036854775808 1 1]
+c: table sum of int; x: int = input; emit c <- x; => 1 ! bad command line
+
+== a check takes no options
+$ [check p]
+c: table sum of int; x: int = input; emit c <- x; => 0
+$ [check -- p]
+c: table sum of int; x: int = input; emit c <- x; => 0
+$ [check p --]
+c: table sum of int; x: int = input; emit c <- x; => 0
+$ [check p --budget 9]
+c: table sum of int; x: int = input; emit c <- x; => 1 ! bad command line
+$ [check p --frame lines]
+c: table sum of int; x: int = input; emit c <- x; => 1 ! bad command line
+$ [check p --workers 4]
+c: table sum of int; x: int = input; emit c <- x; => 1 ! bad command line
+$ [check p f]
+c: table sum of int; x: int = input; emit c <- x; => 1 ! bad command line
 
 == a check of a fine program answers nothing
 $ [check p]
@@ -142,342 +304,88 @@ count: table sum of int;¶total: table sum of int;¶sum_of_squares: table sum of
 $ [run p missing]
 count: table sum of int;¶total: table sum of int;¶sum_of_squares: table sum of int;¶x: int = input;¶emit count <- 1;¶emit total <- x;¶emit sum_of_squares <- x * x;¶ => 5 ! read failed
 
-== check: unknown names
-$ [check p]
+== what the output took before a writing failed stays there
+< 3¶-1¶
+! out 0
+count: table sum of int;¶total: table sum of int;¶sum_of_squares: table sum of int;¶x: int = input;¶emit count <- 1;¶emit total <- x;¶emit sum_of_squares <- x * x;¶ => 6 ! write failed
+! out 1
+count: table sum of int;¶total: table sum of int;¶sum_of_squares: table sum of int;¶x: int = input;¶emit count <- 1;¶emit total <- x;¶emit sum_of_squares <- x * x;¶ => 6 count ! write failed
+! out 2
+count: table sum of int;¶total: table sum of int;¶sum_of_squares: table sum of int;¶x: int = input;¶emit count <- 1;¶emit total <- x;¶emit sum_of_squares <- x * x;¶ => 6 count[] =  ! write failed
+! out 3
+count: table sum of int;¶total: table sum of int;¶sum_of_squares: table sum of int;¶x: int = input;¶emit count <- 1;¶emit total <- x;¶emit sum_of_squares <- x * x;¶ => 6 count[] = 2¶tot ! write failed
+! out 4
+count: table sum of int;¶total: table sum of int;¶sum_of_squares: table sum of int;¶x: int = input;¶emit count <- 1;¶emit total <- x;¶emit sum_of_squares <- x * x;¶ => 6 count[] = 2¶total[]  ! write failed
+! out 5
+count: table sum of int;¶total: table sum of int;¶sum_of_squares: table sum of int;¶x: int = input;¶emit count <- 1;¶emit total <- x;¶emit sum_of_squares <- x * x;¶ => 6 count[] = 2¶total[] = 2¶s ! write failed
+! out 6
+count: table sum of int;¶total: table sum of int;¶sum_of_squares: table sum of int;¶x: int = input;¶emit count <- 1;¶emit total <- x;¶emit sum_of_squares <- x * x;¶ => 6 count[] = 2¶total[] = 2¶sum_of ! write failed
+! out 7
+count: table sum of int;¶total: table sum of int;¶sum_of_squares: table sum of int;¶x: int = input;¶emit count <- 1;¶emit total <- x;¶emit sum_of_squares <- x * x;¶ => 6 count[] = 2¶total[] = 2¶sum_of_squa ! write failed
+! out 8
+count: table sum of int;¶total: table sum of int;¶sum_of_squares: table sum of int;¶x: int = input;¶emit count <- 1;¶emit total <- x;¶emit sum_of_squares <- x * x;¶ => 6 count[] = 2¶total[] = 2¶sum_of_squares[] ! write failed
+! out 9
+count: table sum of int;¶total: table sum of int;¶sum_of_squares: table sum of int;¶x: int = input;¶emit count <- 1;¶emit total <- x;¶emit sum_of_squares <- x * x;¶ => 6 count[] = 2¶total[] = 2¶sum_of_squares[] = 10 ! write failed
+! out 10
+count: table sum of int;¶total: table sum of int;¶sum_of_squares: table sum of int;¶x: int = input;¶emit count <- 1;¶emit total <- x;¶emit sum_of_squares <- x * x;¶ => 0 count[] = 2¶total[] = 2¶sum_of_squares[] = 10¶
+
+== the input isn't opened where a static faults
+! f 0
+f: function(n: int): int { return f(n + 1); }¶static s: int = f(0); => 3 ! record 0: calls too deep at 1:35
 x: int = y; => 2 ! program: unknown name: y at 1:10
-y: int = 1; x: int = y; => 0
-x: int = x; => 2 ! program: unknown name: x at 1:10
-{ y: int = 1; } x: int = y; => 2 ! program: unknown name: y at 1:26
-{ y: int = 1; x: int = y; } => 0
-f(1); => 2 ! program: unknown name: f at 1:1
-emit c <- 1; => 2 ! program: unknown name: c at 1:6
-y = 1; => 2 ! program: unknown name: y at 1:1
-x: T; => 2 ! program: unknown name: T at 1:4
-type A = array of A; => 2 ! program: unknown name: A at 1:19
-type A = int; type B = array of A; => 0
-if (true) y: int = 1; else y = 2; => 2 ! program: unknown name: y at 1:28
-for (i: int = 0; i < 3; i++) ; i = 1; => 2 ! program: unknown name: i at 1:32
-f: function(n: int): int { return x; } => 2 ! program: unknown name: x at 1:35
-x: int = 1; f: function(n: int): int { return x; } => 2 ! program: unknown name: x at 1:47
-static s: int = 1; f: function(n: int): int { return s; } => 0
-f: function(n: int): bytes { return input; } => 2 ! program: unknown name: input at 1:37
-f: function(n: int): int { return f(n); } => 0
-static s: bytes = input; => 2 ! program: unknown name: input at 1:19
-x: int = 1; static s: int = x; => 2 ! program: unknown name: x at 1:29
-static a: int = 1; static b: int = a; => 0
-static s: int = g(1); => 2 ! program: unknown name: g at 1:17
-c: table sum of int; static s: int = c; => 2 ! program: unknown name: c at 1:38
-len: int = 5; static s: int = len("ab"); => 0
-keys: int = 1; f: function(m: map[int] of int): array of int { return keys(m); } => 0
-f: function(t: int, x: T): int { return x; } => 2 ! program: unknown name: T at 1:24
+static s: int = 1; => 5 ! read failed
 
-== check: left out names
-$ [check p]
-x: float; => 2 ! program: not in this profile: float at 1:4
-x: int = match("a", "b"); => 2 ! program: not in this profile: match at 1:10
-x: int = fingerprint(1); => 2 ! program: not in this profile: fingerprint at 1:10
-x: int = fingerprintof(1); => 2 ! program: not in this profile: fingerprintof at 1:10
-float: int = 1; x: int = float; => 0
-type match = int; x: match = 1; => 0
+== records are lines
+c: table sum of int; emit c <- len(input) * 10 + 1; => 0
+< ¶
+c: table sum of int; emit c <- len(input) * 10 + 1; => 0 c[] = 1¶
+< ab¶c
+c: table sum of int; emit c <- len(input) * 10 + 1; => 0 c[] = 32¶
+< ab¶¶c¶
+c: table sum of int; emit c <- len(input) * 10 + 1; => 0 c[] = 33¶
+< 7\x0d¶
+c: table sum of int; x: int = input; emit c <- len(input) + int(def(x)) * 10; => 0 c[] = 2¶
+< \xff¶a¶
+c: table sum of int; s: string = input; emit c <- input[0] + int(def(s)) * 1000; => 0 c[] = 1352¶
+< \x00\x09¶
+c: table sum of int; emit c <- input[0] + input[1] * 10; => 0 c[] = 90¶
 
-== check: names declared twice
-$ [check p]
-x: int = 1;¶x: int = 2; => 2 ! program: declared twice: x at 2:1
-x: int; { x: int; } => 0
-type A = int; A: int; => 2 ! program: declared twice: A at 1:15
-f: function(a: int, a: int): int { return 1; } => 2 ! program: declared twice: a at 1:21
-f: function(a: int): int { a: int = 1; return a; } => 2 ! program: declared twice: a at 1:28
-f: function(a: int): int { { a: int = 1; } return a; } => 0
-f: function(f: int): int { return f; } => 0
-f: function(): int { return 1; } f: int; => 2 ! program: declared twice: f at 1:34
-for (i: int = 0; i < 3; i++) { i: int = 1; } => 0
-for (i: int = 0; i < 3; i++) i: int = 1; => 0
-if (true) x: int; x: int; => 0
-input: int = 1; => 0
-len: int = 1; len: int = 2; => 2 ! program: declared twice: len at 1:15
-static s: int = 1; s: int; => 2 ! program: declared twice: s at 1:20
-c: table sum of int; c: table sum of int; => 2 ! program: declared twice: c at 1:22
+== records may be delimited by their lengths
+$ [run p f --frame delimited]
+count: table sum of int;¶total: table sum of int;¶sum_of_squares: table sum of int;¶x: int = input;¶emit count <- 1;¶emit total <- x;¶emit sum_of_squares <- x * x;¶ => 0
+< \x013\x02-1
+count: table sum of int;¶total: table sum of int;¶sum_of_squares: table sum of int;¶x: int = input;¶emit count <- 1;¶emit total <- x;¶emit sum_of_squares <- x * x;¶ => 0 count[] = 2¶total[] = 2¶sum_of_squares[] = 10¶
+< \x80\x00
+count: table sum of int;¶total: table sum of int;¶sum_of_squares: table sum of int;¶x: int = input;¶emit count <- 1;¶emit total <- x;¶emit sum_of_squares <- x * x;¶ => 0 count[] = 1¶
+< \x03a¶b\x00\x81\x00c
+c: table sum of int; emit c <- len(input) * 10 + 1; => 0 c[] = 43¶
 
-== check: names of a wrong kind
-$ [check p]
-type A = int; x: int = A; => 2 ! program: wrong kind of name: A at 1:24
-type A = int; x: A = 1; => 0
-x: int = 1; y: x; => 2 ! program: wrong kind of name: x at 1:16
-x: int = 1; x(2); => 2 ! program: wrong kind of name: x at 1:13
-x: int = 1; emit x <- 1; => 2 ! program: wrong kind of name: x at 1:18
-c: table sum of int; x: int = c; => 2 ! program: wrong kind of name: c at 1:31
-c: table sum of int; c = 1; => 2 ! program: wrong kind of name: c at 1:22
-c: table sum of int; emit c <- 1; => 0
-f: function(): int { return 1; } x: int = f; => 2 ! program: wrong kind of name: f at 1:43
-f: function(): int { return 1; } x: int = f(); => 0
-x: int = len; => 2 ! program: wrong kind of name: len at 1:10
-type A = int; A = 1; => 2 ! program: wrong kind of name: A at 1:15
-input(1); => 2 ! program: wrong kind of name: input at 1:1
-f: function(T: int, x: T): int { return x; } => 2 ! program: wrong kind of name: T at 1:24
-f: function(T: int): T { return 1; } => 2 ! program: wrong kind of name: T at 1:22
-type T = int; f: function(T: int): T { return 1; } => 2 ! program: wrong kind of name: T at 1:36
+== a damaged input is named by its byte, unless a record faults before
+$ [run p f --frame delimited]
+< \x011\x05ab
+count: table sum of int;¶total: table sum of int;¶sum_of_squares: table sum of int;¶x: int = input;¶emit count <- 1;¶emit total <- x;¶emit sum_of_squares <- x * x;¶ => 4 ! input damaged at byte 2
+< \x01x\x05ab
+c: table sum of int;¶x: int = input;¶if (x > 0) emit c <- 1;¶ => 3 ! record 1: undefined value used at 3:1
+< \x80
+c: table sum of int; emit c <- 1; => 4 ! input damaged at byte 0
+< \xff\xff\xff\xff\xff\xff\xff\xff\xff\xff
+c: table sum of int; emit c <- 1; => 4 ! input damaged at byte 0
+< \x05
+c: table sum of int; emit c <- 1; => 4 ! input damaged at byte 0
+< \x011\x012\x80
+c: table sum of int; emit c <- 1; => 4 ! input damaged at byte 4
+c: table sum of int; emit d <- 1; => 2 ! program: unknown name: d at 1:27
 
-== check: wrong types
-$ [check p]
-x: bool = 1; => 2 ! program: wrong type at 1:11
-x: bool = true; => 0
-x: int = true; => 0
-x: bool = (1); => 2 ! program: wrong type at 1:11
-if (1) ; => 2 ! program: wrong type at 1:5
-if (true) ; => 0
-while ("a") ; => 2 ! program: wrong type at 1:8
-do ; while (1); => 2 ! program: wrong type at 1:13
-for (; 1; ) ; => 2 ! program: wrong type at 1:8
-for (;;) ; => 0
-f: function(a: int): int { return "x"; } => 2 ! program: wrong type at 1:35
-f: function(a: int): int { return true; } => 2 ! program: wrong type at 1:35
-x: int = 1; x = "a"; => 2 ! program: wrong type at 1:17
-x: int = 1; x = true; => 2 ! program: wrong type at 1:17
-x: bool = true; x++; => 2 ! program: wrong type at 1:17
-x: time = time(1); x++; => 0
-c: table sum of int; emit c <- "a"; => 2 ! program: wrong type at 1:32
-f: function(a: int): int { return a; } x: int = f(true); => 2 ! program: wrong type at 1:51
-a: array of int = {1, "b"}; => 2 ! program: wrong type at 1:23
-m: map[string] of int = {1: 2}; => 2 ! program: wrong type at 1:26
-m: map[string] of int = {"a": "b"}; => 2 ! program: wrong type at 1:31
-a: array of int = {:}; => 2 ! program: wrong type at 1:19
-m: map[string] of int = {}; => 2 ! program: wrong type at 1:25
-x: int = {1}; => 2 ! program: wrong type at 1:10
-t: {a: int} = {}; => 2 ! program: wrong type at 1:15
-t: {a: int, b: int} = {1, 2}; u: {a: int, c: int} = t; => 2 ! program: wrong type at 1:53
-t: {a: int, b: int} = {1, 2}; u: {a: int, b: int} = t; => 0
-x: int = 1; y: int = x.f; => 2 ! program: wrong type at 1:22
-x: int = 1; x.f = 2; => 2 ! program: wrong type at 1:13
-x: int = 1; x[0] = 2; => 2 ! program: wrong type at 1:13
-
-== check: composites without a type
-$ [check p]
-x := {1}; => 2 ! program: composite without a type at 1:6
-x: array of int = {1}; => 0
-x: array of int = ({1}); => 0
-if ({1} == {1}) ; => 2 ! program: composite without a type at 1:5
-x: array of int = {1}; b: bool = x == {2}; => 0
-x: array of int = {1}; y: array of int = x + {2}; => 0
-x: array of int = {1} + {2}; => 2 ! program: composite without a type at 1:19
-x: int = len({1}); => 2 ! program: composite without a type at 1:14
-x := {:}; => 2 ! program: composite without a type at 1:6
-m: map[int] of array of int = {1: {2}}; => 0
-f: function(a: array of int): int { return a[0]; } x: int = f({1}); => 0
-f: function(): array of int { return {1}; } => 0
-a: array of int = {1}; a = {2}; => 0
-type A = array of int; x := A({1}); => 2 ! program: composite without a type at 1:31
-
-== check: wrong counts
-$ [check p]
-x: int = len("a", "b"); => 2 ! program: wrong count at 1:10
-x: int = len("a"); => 0
-x: int = len(); => 2 ! program: wrong count at 1:10
-x: int = strfind("a"); => 2 ! program: wrong count at 1:10
-f: function(a: int): int { return a; } x: int = f(1, 2); => 2 ! program: wrong count at 1:49
-f: function(a: int): int { return a; } x: int = f(); => 2 ! program: wrong count at 1:49
-f: function(a: int): int { return a; } x: int = f(1); => 0
-t: {a: int, b: int} = {1}; => 2 ! program: wrong count at 1:23
-t: {a: int, b: int} = {1, 2, 3}; => 2 ! program: wrong count at 1:23
-t: {a: int, b: int} = {1, 2}; => 0
-c: table sum of int; emit c[1] <- 2; => 2 ! program: wrong count at 1:27
-type A = string; x: A = A(1, 2); => 2 ! program: wrong count at 1:25
-type A = string; x: A = A(); => 2 ! program: wrong count at 1:25
-
-== check: wrong weights
-$ [check p]
-c: table sum of int; emit c <- 1 weight 2; => 2 ! program: wrong weight at 1:22
-c: table sum of int; emit c <- 1; => 0
-
-== check: not assignable
-$ [check p]
-input = B"a"; => 2 ! program: not assignable: input at 1:1
-input = 5; => 2 ! program: not assignable: input at 1:1
-input++; => 2 ! program: not assignable: input at 1:1
-static s: int = 1; s = 2; => 2 ! program: not assignable: s at 1:20
-static s: int = 1; s--; => 2 ! program: not assignable: s at 1:20
-s: string = "ab"; s[0] = 1; => 2 ! program: not assignable: s at 1:19
-b: bytes = B"ab"; b[0] = 1; => 2 ! program: not assignable: b at 1:19
-a: array of int = {1}; a[0] = 2; => 0
-m: map[string] of int = {:}; m["a"] = 2; => 0
-a: array of string = {"a"}; a[0] = "b"; => 0
-a: array of string = {"a"}; a[0][0] = 1; => 2 ! program: not assignable: a at 1:29
-
-== check: misplaced statements
-$ [check p]
-break; => 2 ! program: misplaced statement at 1:1
-continue; => 2 ! program: misplaced statement at 1:1
-while (true) break; => 0
-do { continue; } while (true); => 0
-for (;;) { if (true) break; } => 0
-if (true) break; => 2 ! program: misplaced statement at 1:11
-return 1; => 2 ! program: misplaced statement at 1:1
-return; => 0
-f: function(): int { return; } => 2 ! program: misplaced statement at 1:22
-f: function(): int { while (true) break; return 1; } => 0
-f: function(): int { break; return 1; } => 2 ! program: misplaced statement at 1:22
-{ type A = int; } => 2 ! program: misplaced statement at 1:3
-{ static s: int = 1; } => 2 ! program: misplaced statement at 1:3
-{ c: table sum of int; } => 2 ! program: misplaced statement at 1:3
-{ f: function(): int { return 1; } } => 2 ! program: misplaced statement at 1:3
-f: function(): int { static s: int = y; return 1; } => 2 ! program: misplaced statement at 1:22
-while (true) type A = int; => 2 ! program: misplaced statement at 1:14
-
-== check: bad fields
-$ [check p]
-t: {a: int, a: int}; => 2 ! program: bad proto field: a at 1:13
-t: {a: int, b: int}; => 0
-type T = {a: int, b: {b: int, b: int}}; => 2 ! program: bad proto field: b at 1:31
-t: {a: int, a: x}; => 2 ! program: unknown name: x at 1:16
-
-== check: not built
-$ [check p]
-when (i: some int; true) ; => 2 ! program: not built yet at 1:1
-x: int; { when (i: some int; true) ; } => 2 ! program: not built yet at 1:9
-x: bool = 1; y: proto {a: int @ 1}; => 2 ! program: not built yet at 1:14
-f: function(m: proto {a: int @ 1}): int { return 1; } => 2 ! program: not built yet at 1:1
-t: table maximum(3) of int weight int; => 2 ! program: not built yet at 1:1
-t: table sum[int] of int; => 2 ! program: not built yet at 1:1
-t: table quantile(101) of int; => 2 ! program: not built yet at 1:1
-type M = array of proto {a: int @ 1}; => 2 ! program: not built yet at 1:1
-if (true) x: map[int] of proto {a: int @ 1}; => 2 ! program: not built yet at 1:1
-x: bool = 1; y: int = => 2 ! program: syntax at 1:14
-
-== check: two mistakes
-$ [check p]
-x: int = y + z; => 2 ! program: unknown name: y at 1:10
-x: int; x: int = y; => 2 ! program: unknown name: y at 1:18
-x: T = y; => 2 ! program: unknown name: T at 1:4
-f(y); => 2 ! program: unknown name: f at 1:1
-if (1) x = 1; => 2 ! program: unknown name: x at 1:8
-while (1) x = 1; => 2 ! program: unknown name: x at 1:11
-do x = 1; while (1); => 2 ! program: unknown name: x at 1:4
-for (; 1; y++) x = 1; => 2 ! program: unknown name: y at 1:11
-x: int = len(1, 2); => 2 ! program: wrong type at 1:14
-x: int = 1 + y + "a"; => 2 ! program: unknown name: y at 1:14
-x: bool = true + 1; => 2 ! program: wrong type at 1:11
-x: bool = true + {1}; => 2 ! program: wrong type at 1:18
-a: {b: int} = {1}; a.no[y] = 1; => 2 ! program: no such field: no at 1:22
-a: array of int = {1}; a[y] = z; => 2 ! program: unknown name: y at 1:26
-input = y; => 2 ! program: not assignable: input at 1:1
-c: table sum of int; emit c[y] <- z; => 2 ! program: unknown name: y at 1:29
-c: table sum of int; emit c[1] <- true; => 2 ! program: wrong type at 1:35
-c: table sum of int; emit c[1] <- 2 weight 3; => 2 ! program: wrong count at 1:27
-emit c <- y; => 2 ! program: unknown name: c at 1:6
-f: function(a: A): B { return y; } => 2 ! program: unknown name: A at 1:16
-f: function(a: int): B { return y; } => 2 ! program: unknown name: B at 1:22
-f: int; f: function(): int { return y; } => 2 ! program: declared twice: f at 1:9
-t: {a: int} = {"x", 2}; => 2 ! program: wrong type at 1:16
-x: int = y;¶z: int = w; => 2 ! program: unknown name: y at 1:10
-{ break; x = 1; } => 2 ! program: misplaced statement at 1:3
-
-== check: type rows
-$ [check p]
-x: int = -1; => 0
-x: int = -true; => 2 ! program: wrong type at 1:11
-x: int = +1; => 0
-x: int = +"a"; => 2 ! program: wrong type at 1:11
-x: int = ~1; => 0
-x: int = ~true; => 2 ! program: wrong type at 1:11
-x: bool = !true; => 0
-x: bool = !1; => 2 ! program: wrong type at 1:12
-x: bool = true && false; => 0
-x: bool = 1 && true; => 2 ! program: wrong type at 1:11
-x: bool = true && 1; => 2 ! program: wrong type at 1:19
-x: bool = true || false; => 0
-x: bool = 1 || true; => 2 ! program: wrong type at 1:11
-x: bool = true || 1; => 2 ! program: wrong type at 1:19
-x: int = 1 + 2; => 0
-x: int = 1 + true; => 2 ! program: wrong type at 1:14
-x: time = time(1) + 2; => 0
-x: time = time(1) + time(2); => 2 ! program: wrong type at 1:21
-x: string = "a" + "b"; => 0
-x: string = "a" + B"b"; => 2 ! program: wrong type at 1:19
-x: bytes = B"a" + B"b"; => 0
-x: bytes = B"a" + 1; => 2 ! program: wrong type at 1:19
-x: bool = true + true; => 2 ! program: wrong type at 1:11
-x: int = 1 - 2; => 0
-x: time = time(1) - 2; => 0
-x: int = time(1) - time(2); => 0
-x: int = 1 - time(2); => 2 ! program: wrong type at 1:14
-x: string = "a" - "b"; => 2 ! program: wrong type at 1:13
-x: int = 1 * 2 / 3 % 4; => 0
-x: int = "a" * 2; => 2 ! program: wrong type at 1:10
-x: int = 1 * "a"; => 2 ! program: wrong type at 1:14
-x: int = 1 / true; => 2 ! program: wrong type at 1:14
-x: int = true % 1; => 2 ! program: wrong type at 1:10
-x: int = 1 & 2 | 3 ^ 4; => 0
-x: int = 1 & true; => 2 ! program: wrong type at 1:14
-x: int = true | 1; => 2 ! program: wrong type at 1:10
-x: int = 1 ^ "a"; => 2 ! program: wrong type at 1:14
-x: int = 1 << 2 >> 3; => 0
-x: int = 1 << time(1); => 2 ! program: wrong type at 1:15
-x: int = time(1) >> 1; => 2 ! program: wrong type at 1:10
-x: bool = 1 == 2; => 0
-x: bool = 1 == "a"; => 2 ! program: wrong type at 1:16
-x: bool = true != false; => 0
-x: bool = B"a" != "a"; => 2 ! program: wrong type at 1:19
-x: bool = 1 < 2; => 0
-x: bool = time(1) <= time(2); => 0
-x: bool = "a" > "b"; => 0
-x: bool = B"a" >= B"b"; => 0
-x: bool = true < false; => 2 ! program: wrong type at 1:11
-x: bool = 1 < "a"; => 2 ! program: wrong type at 1:15
-a: array of int = {1}; b: bool = a < a; => 2 ! program: wrong type at 1:34
-a: array of int = {1}; x: int = a[0]; => 0
-a: array of int = {1}; x: int = a[true]; => 2 ! program: wrong type at 1:35
-s: string = "a"; x: int = s[0]; => 0
-b: bytes = B"a"; x: int = b[0]; => 0
-s: string = "a"; x: int = s["a"]; => 2 ! program: wrong type at 1:29
-m: map[string] of int = {"a": 1}; x: int = m["a"]; => 0
-m: map[string] of int = {"a": 1}; x: int = m[1]; => 2 ! program: wrong type at 1:46
-x: int = 1[0]; => 2 ! program: wrong type at 1:10
-s: string = "abc"[0: 1]; => 0
-b: bytes = B"abc"[0: 1]; => 0
-a: array of int = {1}; b: array of int = a[0: 1]; => 0
-s: string = 1[0: 1]; => 2 ! program: wrong type at 1:13
-s: string = "abc"["a": 1]; => 2 ! program: wrong type at 1:19
-s: string = "abc"[0: "a"]; => 2 ! program: wrong type at 1:22
-m: map[int] of int = {:}; x: array of int = keys(m); => 0
-x: array of int = keys(1); => 2 ! program: wrong type at 1:24
-m: map[int] of int = {:}; x: bool = haskey(m, 1); => 0
-m: map[int] of int = {:}; x: bool = haskey(m, "a"); => 2 ! program: wrong type at 1:47
-x: int = strfind("a", "b"); => 0
-x: int = strfind(B"a", B"b"); => 0
-x: int = strfind("a", B"b"); => 2 ! program: wrong type at 1:23
-x: int = strfind(1, "b"); => 2 ! program: wrong type at 1:18
-x: int = int("1"); => 0
-x: int = int(B"1"); => 0
-x: int = int(true); => 0
-x: int = int(time(1)); => 0
-x: string = string(B"a"); => 0
-x: string = string(1); => 0
-x: string = string(time(1)); => 2 ! program: wrong type at 1:20
-x: bytes = bytes("a"); => 0
-x: bytes = bytes(1); => 2 ! program: wrong type at 1:18
-x: time = time(1); => 0
-x: time = time(true); => 2 ! program: wrong type at 1:16
-x: bool = def(1); => 0
-x: bool = def(y); => 2 ! program: unknown name: y at 1:15
-x: string = 1; => 0
-x: bytes = "a"; => 0
-x: string = B"a"; => 0
-x: time = 1; => 0
-x: int = time(1); => 0
-x: array of int = {1}; y: array of bool = x; => 2 ! program: wrong type at 1:43
-
-== check: hidden names
-$ [check p]
-x: int = 1; { x: string = "a"; y: string = x; } y: int = x; => 0
-x: int = 1; { x: string = "a"; } x = "a"; => 2 ! program: wrong type at 1:38
-x: int = 1; if (true) x: string = "a"; x = "a"; => 2 ! program: wrong type at 1:44
-x: int = 1; if (true) ; else x: string = "a"; x = 2; => 0
-x: int = 1; while (true) { x: string = "a"; x = "b"; } x = 2; => 0
-x: int = 1; do { x: string = "a"; x = "b"; } while (x == 1); => 0
-x: int = 1; for (x: string = "a"; x == "b"; x = "c") { x: bool = true; x = false; } x = 2; => 0
-static x: int = 1; f: function(x: string): string { return x + "a"; } y: int = x; => 0
-static x: int = 1; f: function(): string { x: string = "a"; return x; } => 0
-type T = int; { T: string = "a"; T = "b"; } x: T = 1; => 0
-len: function(a: int): string { return "a"; } x: string = len(1); => 0
-input: string = "a"; input = "b"; => 0
-c: table sum of int; { c: int = 1; c = 2; } emit c <- 3; => 0
+== an input past a limit is named by its byte, unless a record faults before
+$ [run p f --frame delimited]
+< \xff\xff\xff\xff\xff\xff\xff\xff\xff\x01
+c: table sum of int; emit c <- 1; => 9 ! input limit at byte 0
+< \x81\x80\x80\x02
+c: table sum of int; emit c <- 1; => 9 ! input limit at byte 0
+< \x80\x80\x80\x02
+c: table sum of int; emit c <- 1; => 4 ! input damaged at byte 0
+< \x011\x81\x80\x80\x02
+c: table sum of int; emit c <- 1; => 9 ! input limit at byte 2
+< \x01x\x81\x80\x80\x02
+c: table sum of int;¶x: int = input;¶if (x > 0) emit c <- 1;¶ => 3 ! record 1: undefined value used at 3:1
 "#;

@@ -9,4 +9,4 @@ use Rattle.sz_check.proofs.program.check.Goals as goal
 pub new-requires : goal.new-requires
 new-requires c =
     let program = core_of (map item_of c.in_ok-items.items.items) c.in_ok-items.locals in
-    record { sound = ∣ (program_sound (program_of c.args.tree.now)).holds program c.in_ok-items.ensures.value ∣₁ }
+    record { sound = (program_sound (program_of c.args.tree.now)).holds program c.in_ok-items.ensures.value }

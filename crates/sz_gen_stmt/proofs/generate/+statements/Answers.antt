@@ -1,16 +1,15 @@
 -- The code of each statement, from that of its parts.
-use Rattle.std.proofs.Common.{◌≡◌, ◌∙◌, ◌+◌, ◌∷◌, [], Some, ℕ, List, refl, sym, ap, subst, map, arith}
+use Rattle.std.proofs.Common.{◌∙◌, Some, List, sym, ap, subst, map}
 use Rattle.std.proofs.lemmas.Result.{on_ok_weaker}
 use Rattle.std.specs.Option.{option_map}
 use Rattle.sz_core.specs.declared.expr.CoreExpr.{CoreExpr}
 use Rattle.sz_core.specs.declared.stmt.CoreStep.{CoreStep}
-use Rattle.sz_core.specs.declared.stmt.CoreStmt.{CoreStmt}
 use Rattle.sz_core.specs.Nodes.{nodes_of}
 use Rattle.sz_core.specs.Statements.{store, emit, stms_of}
 use Rattle.sz_core.specs.View.{node_of, step_of, stm_of}
 use Rattle.sz_core.proofs.ForCallers.{stm_of_block}
 use Rattle.sz_gen_expr.proofs.Builds.{none, behind, renamed, no_more, closed_by, rest_more, rest_none}
-use Rattle.sz_gen_stmt.specs.StatementCode.{no_exits, test_code, statement_code}
+use Rattle.sz_gen_stmt.specs.StatementCode.{test_code, statement_code}
 use Rattle.sz_gen_stmt.specs.Making.{exits_of, AppendsStm, AppendsStms}
 use Rattle.sz_gen_stmt.proofs.Made.{of_stm, starts, stays, stays_landed, branch_made, loop_made, loop_behind_made}
 use Rattle.sz_gen_stmt.proofs.generate.+statements.Goals as goal
@@ -123,7 +122,7 @@ gen_stmt-returns-in_ok-gen_stmt-in-Branch-2 t c = record {
 
 pub gen_stmt-land-requires-in-While : goal.gen_stmt-land-requires-in-While
 gen_stmt-land-requires-in-While t c = record {
-  within = stays (stays (starts c.here-to_test.ensures.value c.in_ok-free-in-While.ensures.made) c.in_ok-free-in-While-2.ensures.made) c.in_ok-close-in-While.ensures.made;
+  within = stays (stays (starts c.here-entry.ensures.value c.in_ok-free-in-While.ensures.made) c.in_ok-free-in-While-2.ensures.made) c.in_ok-close-in-While.ensures.made;
 }
 
 pub gen_stmt-land-requires-in-While-2 : goal.gen_stmt-land-requires-in-While-2
@@ -137,8 +136,8 @@ gen_stmt-returns-in_ok-free-in-While-3 t c = record {
   made = of_stm (exits_of c.args.out) c.args.s.now _ (ap stm_of c.in-While.is)
       (renamed (λ tables n. (n.0, n.2)) (loop_made (λ tables away at. test_code tables c.in-While.place (Some (node_of c.in-While.test)) away at)
       (λ tables b k at. statement_code tables (stm_of c.in-While.body.value) (record { on_break = b; on_continue = k; flags = 0 }) at)
-      c.in-While.place c.here-to_test.result c.here-past.result c.here-again.result
-      c.here-to_test.ensures.value c.in_ok-free-in-While.ensures.made c.here-past.ensures.value c.in_ok-free-in-While-2.ensures.made c.here-again.ensures.value
+      c.in-While.place c.here-entry.result c.here-past.result c.here-again.result
+      c.here-entry.ensures.value c.in_ok-free-in-While.ensures.made c.here-past.ensures.value c.in_ok-free-in-While-2.ensures.made c.here-again.ensures.value
       (none c.free-in-While-2.new.into)
       c.in_ok-close-in-While.ensures.made c.land-in-While.ensures.made c.in_ok-gen_test-in-While.ensures.made
       (subst (λ d. AppendsStm c.gen_test.new.into c.gen_stmt-in-While.new.into (stm_of d) (exits_of (record { on_break = c.here-past.result; on_continue = c.here-again.result }))) c.deref-in-While.ensures c.in_ok-gen_stmt-in-While.ensures.made)
@@ -147,7 +146,7 @@ gen_stmt-returns-in_ok-free-in-While-3 t c = record {
 
 pub gen_stmt-land-requires-in-For : goal.gen_stmt-land-requires-in-For
 gen_stmt-land-requires-in-For t c = record {
-  within = stays (stays (stays (starts c.here-to_test-in-For.ensures.value c.in_ok-free-in-For.ensures.made) c.in_ok-free-in-For-2.ensures.made) c.in_ok-gen_stmt-in-For.ensures.made) c.in_ok-close-in-For.ensures.made;
+  within = stays (stays (stays (starts c.here-entry-in-For.ensures.value c.in_ok-free-in-For.ensures.made) c.in_ok-free-in-For-2.ensures.made) c.in_ok-gen_stmt-in-For.ensures.made) c.in_ok-close-in-For.ensures.made;
 }
 
 pub gen_stmt-land-requires-in-For-2 : goal.gen_stmt-land-requires-in-For-2
@@ -161,22 +160,22 @@ gen_stmt-returns-in_ok-free-in-For-3 t c = record {
   made = of_stm (exits_of c.args.out) c.args.s.now _ (ap stm_of c.in-For.is)
       (loop_made (λ tables away at. test_code tables c.in-For.place (option_map node_of c.in-For.test) away at)
       (λ tables b k at. statement_code tables (stm_of c.in-For.body.value) (record { on_break = b; on_continue = k; flags = 0 }) at)
-      c.in-For.place c.here-to_test-in-For.result c.here-past-in-For.result c.here-again-in-For.result
-      c.here-to_test-in-For.ensures.value c.in_ok-free-in-For.ensures.made c.here-past-in-For.ensures.value c.in_ok-free-in-For-2.ensures.made c.here-again-in-For.ensures.value
+      c.in-For.place c.here-entry-in-For.result c.here-past-in-For.result c.here-to_step.result
+      c.here-entry-in-For.ensures.value c.in_ok-free-in-For.ensures.made c.here-past-in-For.ensures.value c.in_ok-free-in-For-2.ensures.made c.here-to_step.ensures.value
       (subst (λ d. AppendsStm c.free-in-For-2.new.into c.gen_stmt-in-For.new.into (stm_of d) (exits_of c.args.out)) c.deref-in-For.ensures c.in_ok-gen_stmt-in-For.ensures.made)
       c.in_ok-close-in-For.ensures.made c.land-in-For.ensures.made c.in_ok-gen_test_if_some-in-For.ensures.made
-      (subst (λ d. AppendsStm c.gen_test_if_some.new.into c.gen_stmt-in-For-2.new.into (stm_of d) (exits_of (record { on_break = c.here-past-in-For.result; on_continue = c.here-again-in-For.result }))) c.deref-in-For-2.ensures c.in_ok-gen_stmt-in-For-2.ensures.made)
+      (subst (λ d. AppendsStm c.gen_test_if_some.new.into c.gen_stmt-in-For-2.new.into (stm_of d) (exits_of (record { on_break = c.here-past-in-For.result; on_continue = c.here-to_step.result }))) c.deref-in-For-2.ensures c.in_ok-gen_stmt-in-For-2.ensures.made)
       c.in_ok-free-in-For-3.ensures.made c.land-in-For-2.ensures.made);
 }
 
 pub gen_stmt-land-requires-in-DoWhile : goal.gen_stmt-land-requires-in-DoWhile
 gen_stmt-land-requires-in-DoWhile t c = record {
-  within = stays (stays (starts c.here-to_body.ensures.value c.in_ok-free-in-DoWhile.ensures.made) c.in_ok-free-in-DoWhile-2.ensures.made) c.in_ok-free-in-DoWhile-3.ensures.made;
+  within = stays (stays (starts c.here-entry-in-DoWhile.ensures.value c.in_ok-free-in-DoWhile.ensures.made) c.in_ok-free-in-DoWhile-2.ensures.made) c.in_ok-free-in-DoWhile-3.ensures.made;
 }
 
 pub gen_stmt-land-requires-in-DoWhile-2 : goal.gen_stmt-land-requires-in-DoWhile-2
 gen_stmt-land-requires-in-DoWhile-2 t c = record {
-  within = stays (stays_landed (starts c.here-to_test-in-DoWhile.ensures.value c.in_ok-free-in-DoWhile-3.ensures.made) c.land-in-DoWhile.ensures.made) c.in_ok-gen_stmt-in-DoWhile.ensures.made;
+  within = stays (stays_landed (starts c.here-to_test.ensures.value c.in_ok-free-in-DoWhile-3.ensures.made) c.land-in-DoWhile.ensures.made) c.in_ok-gen_stmt-in-DoWhile.ensures.made;
 }
 
 pub gen_stmt-land-requires-in-DoWhile-3 : goal.gen_stmt-land-requires-in-DoWhile-3
@@ -192,10 +191,10 @@ gen_stmt-returns-in_ok-free-in-DoWhile-4 t c = record {
   made = of_stm (exits_of c.args.out) c.args.s.now _ (ap stm_of c.in-DoWhile.is)
       (loop_behind_made (λ tables away at. test_code tables c.in-DoWhile.place (Some (node_of c.in-DoWhile.test)) away at)
       (λ tables b k at. statement_code tables (stm_of c.in-DoWhile.body.value) (record { on_break = b; on_continue = k; flags = 0 }) at)
-      c.in-DoWhile.place c.here-to_body.result c.here-past-in-DoWhile.result c.here-to_test-in-DoWhile.result c.here-again-in-DoWhile.result
-      c.here-to_body.ensures.value c.in_ok-free-in-DoWhile.ensures.made c.here-past-in-DoWhile.ensures.value c.in_ok-free-in-DoWhile-2.ensures.made
-      c.here-to_test-in-DoWhile.ensures.value c.in_ok-free-in-DoWhile-3.ensures.made c.here-again-in-DoWhile.ensures.value c.land-in-DoWhile.ensures.made
-      (subst (λ d. AppendsStm c.land-in-DoWhile.new.self c.gen_stmt-in-DoWhile.new.into (stm_of d) (exits_of (record { on_break = c.here-past-in-DoWhile.result; on_continue = c.here-to_test-in-DoWhile.result }))) c.deref-in-DoWhile.ensures c.in_ok-gen_stmt-in-DoWhile.ensures.made)
+      c.in-DoWhile.place c.here-entry-in-DoWhile.result c.here-past-in-DoWhile.result c.here-to_test.result c.here-again-in-DoWhile.result
+      c.here-entry-in-DoWhile.ensures.value c.in_ok-free-in-DoWhile.ensures.made c.here-past-in-DoWhile.ensures.value c.in_ok-free-in-DoWhile-2.ensures.made
+      c.here-to_test.ensures.value c.in_ok-free-in-DoWhile-3.ensures.made c.here-again-in-DoWhile.ensures.value c.land-in-DoWhile.ensures.made
+      (subst (λ d. AppendsStm c.land-in-DoWhile.new.self c.gen_stmt-in-DoWhile.new.into (stm_of d) (exits_of (record { on_break = c.here-past-in-DoWhile.result; on_continue = c.here-to_test.result }))) c.deref-in-DoWhile.ensures c.in_ok-gen_stmt-in-DoWhile.ensures.made)
       c.land-in-DoWhile-2.ensures.made c.in_ok-gen_test-in-DoWhile.ensures.made c.in_ok-close-in-DoWhile.ensures.made c.in_ok-free-in-DoWhile-4.ensures.made
       c.land-in-DoWhile-3.ensures.made);
 }

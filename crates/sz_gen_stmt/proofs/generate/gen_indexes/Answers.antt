@@ -1,4 +1,4 @@
-use Rattle.std.proofs.Common.{◌≡◌, ◌∙◌, ◌∷◌, ◌+◌, sym, ap, subst, map, drop}
+use Rattle.std.proofs.Common.{◌∙◌, ◌∷◌, ◌+◌, sym, ap, subst, map, drop}
 use Rattle.sz_core.specs.declared.stmt.CoreStep.{CoreStep}
 use Rattle.sz_core.specs.View.{step_of}
 use Rattle.sz_gen_expr.proofs.Builds.{none, behind, rest_more, rest_none}

@@ -1,12 +1,31 @@
-use Rattle.std.proofs.Common.{sym, subst}
-use Rattle.std.specs.Prelude.{Err}
-use Rattle.szl.specs.declared.failure.Failure.TheVariants.{Usage}
+use Rattle.std.proofs.Common.{sym, ap, subst, map}
+use Rattle.std.proofs.lemmas.Result.{err_from_is_err_and}
+use Rattle.std.specs.Prelude.{string_bytes, OnOk}
 use Rattle.szl.specs.Opening.{Answers}
-use Rattle.szl.proofs.SettingsLemmas.{no_settings}
+use Rattle.szl.specs.Promise.{AreReadToEnd, names_asked}
+use Rattle.szl.specs.Running.{vec_items_of}
+use Rattle.szl.specs.Settings.{built}
+use Rattle.szl.proofs.BudgetLemmas.{has_budget}
+use Rattle.szl.proofs.SettingsLemmas.{words_fail}
 use Rattle.szl.proofs.answer.answer.Goals as goal
 
--- the words are no command line
-pub returns-in-None-clause-value : goal.returns-in-None-clause-value
-returns-in-None-clause-value g c =
-    subst (λ asked. Answers g.F.Files asked c.args.files.now c.args.files.now (Err Usage)) (sym c.in-None.ensures.value)
-    (no_settings g.F.Files c.args.files.now)
+-- the words have no settings
+pub returns-in_err-settings-clause-value : goal.returns-in_err-settings-clause-value
+returns-in_err-settings-clause-value g c =
+    let p = err_from_is_err_and c.from_residual.result c.from_residual.ensures.1 in
+    rw (p.1, p.2) (words_fail g.F.Files c.args.files.now (map string_bytes c.args.words.now) c.in_err-settings.field-0.0 c.in_err-settings.ensures.usage)
+
+-- their budget is one that a record can have
+pub answer_settings-requires-clause-budget : goal.answer_settings-requires-clause-budget
+answer_settings-requires-clause-budget g c = has_budget (map string_bytes c.args.words.now) c.in_ok-settings.settings c.in_ok-settings.ensures.value
+
+-- the settings are answered
+pub returns-clause-value : goal.returns-clause-value
+returns-clause-value g c =
+    subst (λ asked. Answers g.F.Files asked c.args.files.now c.answer_settings.new.files (vec_items_of c.answer_settings.result))
+    (sym (ap built c.in_ok-settings.ensures.value)) c.answer_settings.ensures.value
+
+pub returns-clause-end : goal.returns-clause-end
+returns-clause-end g c =
+    subst (λ asked. OnOk c.answer_settings.result (AreReadToEnd g.F.Files c.args.files.now c.answer_settings.new.files (names_asked asked)))
+    (sym (ap built c.in_ok-settings.ensures.value)) c.answer_settings.ensures.end

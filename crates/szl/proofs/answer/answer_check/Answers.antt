@@ -2,15 +2,15 @@ use Rattle.std.proofs.Common.{subst}
 use Rattle.std.proofs.lemmas.Result.{err_from_is_err_and}
 use Rattle.szl.specs.Opening.{AnswersCheck}
 use Rattle.szl.specs.Running.{vec_items_of}
-use Rattle.szl.specs.Settings.{check}
-use Rattle.szl.proofs.SettingsLemmas.{text_fails, text_checked, when_ok, one_read}
+use Rattle.sz_words.specs.declared.settings.Settings.TheVariants.{Check}
+use Rattle.szl.proofs.SettingsLemmas.{of_check, text_fails, text_checked, when_ok, one_read}
 use Rattle.szl.proofs.answer.answer_check.Goals as goal
 
 -- the program's text couldn't be read
 pub returns-in_err-text-clause-value : goal.returns-in_err-text-clause-value
 returns-in_err-text-clause-value g c =
     let p = err_from_is_err_and c.from_residual.result c.from_residual.ensures.1 in
-    rw (p.1, p.2) (text_fails g.F.Files (check c.args.program.now) c.args.files.now c.read_program.new.files c.in_err-text.field-0.0
+    rw (p.1, p.2) (text_fails g.F.Files (Check c.args.program.now) c.args.program.now (of_check c.args.program.now) c.args.files.now c.read_program.new.files c.in_err-text.field-0.0
     c.in_err-text.ensures.text c.in_err-text.ensures.names)
 
 -- the check is answered on the text

@@ -1,31 +1,35 @@
-use Rattle.std.proofs.Common.{subst}
+use Rattle.std.proofs.Common.{[], ◌∷◌, sym, subst}
 use Rattle.std.proofs.lemmas.Result.{err_from_is_err_and}
+use Rattle.sz_words.specs.declared.settings.Settings.TheVariants.{Run}
 use Rattle.szl.specs.Opening.{AnswersText}
+use Rattle.szl.specs.Promise.{AreReadToEnd}
 use Rattle.szl.specs.Running.{vec_items_of}
-use Rattle.szl.specs.Settings.{run}
-use Rattle.szl.proofs.SettingsLemmas.{text_fails, text_read, both_when_ok, both_read}
+use Rattle.szl.proofs.SettingsLemmas.{NamesProgram, of_run, text_fails, text_read, both_when_ok, both_read}
 use Rattle.szl.proofs.answer.answer_run.Goals as goal
 
 -- the program's text couldn't be read
 pub returns-in_err-text-clause-value : goal.returns-in_err-text-clause-value
 returns-in_err-text-clause-value g c =
     let p = err_from_is_err_and c.from_residual.result c.from_residual.ensures.1 in
-    rw (p.1, p.2) (text_fails g.F.Files (run c.args.program.now c.args.input.now) c.args.files.now c.read_program.new.files c.in_err-text.field-0.0
-    c.in_err-text.ensures.text c.in_err-text.ensures.names)
+    let s = c.args.settings.now in
+    rw (p.1, p.2) (text_fails g.F.Files (Run s) c.as_str.result.now (subst (NamesProgram (Run s)) (sym c.as_str.ensures.value) (of_run s))
+    c.args.files.now c.read_program.new.files c.in_err-text.field-0.0 c.in_err-text.ensures.text c.in_err-text.ensures.names)
 
 -- the rest is answered on the text
 pub returns-clause-value : goal.returns-clause-value
 returns-clause-value g c =
-    let name = c.args.input.now in
-    let a = subst (λ text. AnswersText g.F.Files text name c.read_program.new.files c.answer_text.new.files (vec_items_of c.answer_text.result))
+    let s = c.args.settings.now in
+    let a = subst (λ text. AnswersText g.F.Files s.frame s.budget text s.input c.read_program.new.files c.answer_text.new.files (vec_items_of c.answer_text.result))
     c.deref.ensures.value c.answer_text.ensures.value in
-    text_read g.F.Files c.args.program.now c.args.files.now name c.read_program.new.files c.answer_text.new.files c.in_ok-text.text.items
-    (vec_items_of c.answer_text.result) _ c.in_ok-text.ensures.text c.in_ok-text.ensures.names c.in_ok-text.ensures.kept a
+    text_read g.F.Files s c.as_str.result.now c.as_str.ensures.value c.args.files.now c.read_program.new.files c.answer_text.new.files
+    c.in_ok-text.text.items (vec_items_of c.answer_text.result) _ c.in_ok-text.ensures.text c.in_ok-text.ensures.names c.in_ok-text.ensures.kept a
 
 -- the program and the input were read to their ends
 pub returns-clause-end : goal.returns-clause-end
 returns-clause-end g c =
+    let s = c.args.settings.now in
     both_when_ok c.answer_text.result
-    (λ names end. both_read g.F.Files c.args.program.now c.args.files.now c.args.input.now c.read_program.new.files c.answer_text.new.files
-    c.in_ok-text.ensures.names names c.in_ok-text.ensures.kept c.answer_text.ensures.kept c.in_ok-text.ensures.end end)
+    (λ names end. subst (λ program. AreReadToEnd g.F.Files c.args.files.now c.answer_text.new.files (program ∷ s.input ∷ [])) c.as_str.ensures.value
+    (both_read g.F.Files c.as_str.result.now c.args.files.now s.input c.read_program.new.files c.answer_text.new.files
+    c.in_ok-text.ensures.names names c.in_ok-text.ensures.kept c.answer_text.ensures.kept c.in_ok-text.ensures.end end))
     c.answer_text.ensures.names c.answer_text.ensures.end

@@ -1,5 +1,4 @@
 use Rattle.std.proofs.Common.{◌+◌, sym, subst}
-use Rattle.sz_machine.specs.Emits.{seen_emit}
 use Rattle.szl.proofs.TakenLemmas.{taken_more}
 use Rattle.szl.proofs.TotalsLemmas.{IsAddedUpTo, added_more}
 use Rattle.szl.proofs.records.add_all.Goals as goal
@@ -9,5 +8,5 @@ pub loop-emit-preserved : goal.loop-emit-preserved
 loop-emit-preserved c =
     let i = c.loop-emit.emit-index in
     subst (λ es. IsAddedUpTo c.args.sums.now es (i + 1) c.add.new.self)
-    (sym (taken_more seen_emit c.args.emits.now i c.emit-item.result c.loop-emit-test.true c.emit-item.is))
+    (sym (taken_more c.args.emits.now i c.emit-item.result c.loop-emit-test.true c.emit-item.is))
     (subst (IsAddedUpTo c.args.sums.now _ (i + 1)) (sym c.add.ensures.value) (added_more c.args.sums.now _ _ i c.loop-emit.sums c.loop-emit.invariant))

@@ -4,8 +4,8 @@ use Rattle.std.specs.Option.{option_map}
 use Rattle.std.proofs.lemmas.List.{set-set}
 use Rattle.sz_value.specs.Seen.{seen}
 use Rattle.sz_world.specs.Slots.{slot_at}
-use Rattle.sz_run.specs.Calls.{Open}
-use Rattle.sz_run.specs.Storing.{replaced_by}
+use Rattle.sz_cells.specs.Calls.{Open}
+use Rattle.sz_cells.specs.Storing.{replaced_by}
 use Rattle.sz_run.proofs.held.Held.store_at.Goals as goal
 
 pub returns-in-Some : goal.returns-in-Some

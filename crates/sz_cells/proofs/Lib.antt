@@ -1,0 +1,6 @@
+pub mod ForCallers
+pub mod ListLemmas
+pub mod TurnLemmas
+pub mod CandidateLemmas
+pub mod CallLemmas
+pub mod StoreLemmas

@@ -1,0 +1,7 @@
+-- what the public contracts rest on
+pub mod Results
+pub mod Candidates
+pub mod Calls
+pub mod Storing
+-- what the functions inside the crate promise each other
+pub mod Waiting

@@ -1,0 +1,22 @@
+//! What a run has at hand: cells, operands, open calls and candidate lists; and what operators and stores make of cells.
+#![tactic(auto)]
+
+mod calls;
+mod candidates;
+mod cell;
+mod operands;
+mod results;
+mod storing;
+mod weights;
+
+pub use calls::Calls;
+pub use candidates::Candidates;
+pub use cell::Cell;
+pub use operands::Operands;
+pub use results::{
+    applied, array_of, binary_of, converted, definedness, element_of, map_of, part_of, slice_of,
+    tuple_of, unary_of,
+};
+pub use storing::{indexes_in, replaced};
+pub use sz_value::NoMemory;
+pub use weights::{binary_weight, builtin_weight, conversion_weight, result_weight};

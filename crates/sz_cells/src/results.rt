@@ -1,0 +1,180 @@
+//! What operators, functions, conversions and composites make of operands.
+ghost use Rattle.std.specs.Prelude.{◌≡◌, ℕ, IfOk, slice_get};
+ghost use Rattle.sz_types.specs.Seen.{seen as seen_type};
+ghost use Rattle.sz_types.specs.Data.{FieldShapes, proto};
+ghost use Rattle.sz_value.specs.Seen.{seen, seen_pairs};
+ghost use Rattle.sz_world.specs.Operations.{unary_of, binary_of, applied, became, converted, no_messages, array_of, tuple_of, map_of};
+ghost use Rattle.sz_world.specs.Operations.{element_of, slice_of, part_of, definedness};
+ghost use Rattle.sz_cells.specs.Results.{applied_to, array_of_all, tuple_of_all, map_of_all, by_turns};
+
+use crate::cell::Cell;
+use std::alloc::Global;
+use sz_builtin::{binary, builtin, convert, index, slice, unary};
+use sz_types::{BinOp, Builtin, Ty, UnOp};
+use sz_value::{List, NoMemory, Pair, Pairs, Value, copy};
+
+/// What the operator makes of an operand.
+pub fn unary_of(op: UnOp, x: &Cell) -> Cell
+    ensures value { result ≡ unary_of op x.now }
+{
+    match x.value() {
+        Some(a) => Cell::of_slot(unary(op, a)),
+        None => Cell::undefined(),
+    }
+}
+
+/// What the operator makes of two operands.
+pub fn binary_of(alloc: Global, op: BinOp, x: &Cell, y: &Cell) -> Result<Cell, NoMemory>
+    ensures value { IfOk result (λ made. made ≡ binary_of op x.now y.now) }
+{
+    match (x.value(), y.value()) {
+        (Some(a), Some(b)) => Ok(Cell::of_slot(binary(alloc, op, a, b)?)),
+        _ => Ok(Cell::undefined()),
+    }
+}
+
+/// What the function makes of its arguments, if they are all there.
+pub fn applied(alloc: Global, which: Builtin, arguments: &Option<List>) -> Result<Cell, NoMemory>
+    ensures value { IfOk result (λ made. made ≡ applied_to which arguments.now) }
+{
+    match arguments {
+        Some(list) => Ok(Cell::of_slot(builtin(alloc, which, list)?)),
+        None => Ok(Cell::undefined()),
+    }
+}
+
+/// What an operand becomes by a conversion to the type. No bytes are a message.
+pub fn converted(alloc: Global, to: &Ty, x: &Cell) -> Result<Cell, NoMemory>
+    ensures value { IfOk result (λ made. made ≡ converted no_messages (seen_type to.now) x.now) }
+{
+    match x.value() {
+        Some(value) => became(alloc, to, value),
+        None => Ok(Cell::undefined()),
+    }
+}
+
+// What a value becomes by a conversion to the type.
+fn became(alloc: Global, to: &Ty, value: &Value) -> Result<Cell, NoMemory>
+    ensures value { IfOk result (λ made. made ≡ became no_messages (seen_type to.now) (seen value.now)) }
+{
+    match to {
+        Ty::Proto(_) => as_message(alloc, value),
+        Ty::Bool
+        | Ty::Int
+        | Ty::Time
+        | Ty::Str
+        | Ty::Bytes
+        | Ty::Array(_)
+        | Ty::Map(_, _)
+        | Ty::Tuple(_) => Ok(Cell::of_slot(convert(alloc, value, to)?)),
+    }
+}
+
+// What a value becomes by a conversion to a proto type: bytes become undefined, and a message keeps itself.
+fn as_message(alloc: Global, value: &Value) -> Result<Cell, NoMemory>
+    ensures value { (fields : FieldShapes) → IfOk result (λ made. made ≡ became no_messages (proto fields) (seen value.now)) }
+{
+    match value {
+        Value::Bytes(_) => Ok(Cell::undefined()),
+        _ => Ok(Cell::of_value(copy(alloc, value)?)),
+    }
+}
+
+/// The array of these elements, if they are all there.
+pub fn array_of(elements: Option<List>) -> Cell
+    ensures value { result ≡ array_of_all elements }
+{
+    match elements {
+        Some(list) => Cell::of_value(Value::Array(list)),
+        None => Cell::undefined(),
+    }
+}
+
+/// The tuple of these parts, if they are all there.
+pub fn tuple_of(parts: Option<List>) -> Cell
+    ensures value { result ≡ tuple_of_all parts }
+{
+    match parts {
+        Some(list) => Cell::of_value(Value::Tuple(list)),
+        None => Cell::undefined(),
+    }
+}
+
+/// The map of these keys and values, which stand by turns, if they are all there.
+#[tactic(auto, using(crate::proofs::TurnLemmas::put_by_turns))]
+pub fn map_of(alloc: Global, parts: Option<List>) -> Result<Cell, NoMemory>
+    ensures value { IfOk result (λ made. made ≡ map_of_all parts) }
+{
+    match parts {
+        Some(list) => Ok(Cell::of_value(Value::Map(Pairs::from_pairs(
+            alloc,
+            by_turns(alloc, list)?,
+        )?))),
+        None => Ok(Cell::undefined()),
+    }
+}
+
+// The pairs of keys and values that stand by turns.
+fn by_turns(alloc: Global, parts: List) -> Result<Vec<Pair>, NoMemory>
+    ensures value { IfOk result (λ pairs. seen_pairs pairs.items ≡ by_turns parts) }
+{
+    let mut pairs = Vec::with_capacity(alloc, parts.len() / 2)?;
+    let mut waiting: Option<Value> = None;
+    for part in parts.into_vec() {
+        match waiting.take() {
+            Some(key) => pairs.push(Pair { key, value: part })?,
+            None => waiting = Some(part),
+        }
+    }
+    Ok(pairs)
+}
+
+/// The element of a value under an index or a key.
+pub fn element_of(alloc: Global, x: &Cell, i: &Cell) -> Result<Cell, NoMemory>
+    ensures value { IfOk result (λ made. made ≡ element_of x.now i.now) }
+{
+    match (x.value(), i.value()) {
+        (Some(base), Some(at)) => Ok(Cell::of_slot(index(alloc, base, at)?)),
+        _ => Ok(Cell::undefined()),
+    }
+}
+
+/// The part of a value between two places.
+pub fn slice_of(alloc: Global, x: &Cell, i: &Cell, j: &Cell) -> Result<Cell, NoMemory>
+    ensures value { IfOk result (λ made. made ≡ slice_of x.now i.now j.now) }
+{
+    match (x.value(), i.value(), j.value()) {
+        (Some(base), Some(Value::Int(from)), Some(Value::Int(to))) => {
+            Ok(Cell::of_slot(slice(alloc, base, *from, *to)?))
+        }
+        _ => Ok(Cell::undefined()),
+    }
+}
+
+/// The part of a tuple or a message at a place.
+#[tactic(auto, using(crate::proofs::ListLemmas::parts_back))]
+pub fn part_of(alloc: Global, n: u32, x: &Cell) -> Result<Cell, NoMemory>
+    ensures value { IfOk result (λ made. made ≡ part_of n x.now) }
+{
+    match x.value() {
+        Some(Value::Tuple(parts)) => part_at(alloc, n as usize, parts),
+        _ => Ok(Cell::undefined()),
+    }
+}
+
+// A copy of the value at a place of the list.
+fn part_at(alloc: Global, n: usize, parts: &List) -> Result<Cell, NoMemory>
+    ensures value { IfOk result (λ made. made ≡ slice_get parts.now n) }
+{
+    match parts.as_slice().get(n) {
+        Some(value) => Ok(Cell::of_value(copy(alloc, value)?)),
+        None => Ok(Cell::undefined()),
+    }
+}
+
+/// Whether an operand is defined.
+pub fn definedness(x: &Cell) -> Cell
+    ensures value { result ≡ definedness x.now }
+{
+    Cell::of_value(Value::Bool(x.is_defined()))
+}

@@ -1,5 +1,0 @@
-use Rattle.sz_machine.proofs.NumbersLemmas.{ReadsDigits}
-use Rattle.sz_machine.proofs.numbers.digits_up_to.Given as goal
-
-abbrev pub invariant-loop-byte : goal.invariant-loop-byte
-invariant-loop-byte l = ReadsDigits l.text l.byte-index l.value l.most

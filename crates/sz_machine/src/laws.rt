@@ -1,0 +1,13 @@
+//! Laws of the definitions, each a function that does nothing and whose contract is the law.
+ghost use Rattle.std.specs.Prelude.{◌≡◌, ℕ, List};
+ghost use Rattle.sz_tabs.specs.Data.{EmitDatum};
+ghost use Rattle.sz_instr.specs.declared.code.Code.{Code};
+ghost use Rattle.sz_world.specs.World.{Outcome};
+ghost use Rattle.sz_world.specs.Slots.{Slot};
+ghost use Rattle.sz_machine.specs.Running.{RunsTo};
+
+/// A run for a record has one outcome: the machine leaves nothing open.
+pub fn a_run_ends_in_one_way()
+    ensures one { (code : Code) (input : List ℕ) (statics : List Slot) (budget : ℕ) (one other : Outcome (List EmitDatum))
+        → RunsTo code input statics budget one → RunsTo code input statics budget other → one ≡ other }
+{}

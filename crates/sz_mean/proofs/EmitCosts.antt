@@ -1,0 +1,312 @@
+-- Each emit takes a tick: so a run has at most as many emits as ticks.
+use Rattle.std.proofs.Common.{◌≡◌, ℕ, zero, suc, ◌+◌, ◌-◌, ◌<◌, ◌≤◌, List, [], ◌∷◌, length, Bool, true, false, Option, Some, None, refl, arith, ap, subst, length-append}
+use Rattle.std.specs.Prelude.{nat_lt, slice_get, if◌then◌else◌}
+use Rattle.std.proofs.lemmas.Bool.Decides.{nat_tests}
+use Rattle.sz_types.specs.declared.place.Place.{Place}
+use Rattle.sz_types.specs.Data.{Shape}
+use Rattle.sz_value.specs.Data.{Datum, truth, int, time, str, bytes}
+use Rattle.sz_value.specs.Data as datum
+use Rattle.sz_tabs.specs.Data.{EmitDatum}
+use Rattle.sz_core.specs.Nodes.{Node, node, Form, constant, local, static, input, call, builtin, def, convert, array, tuple, mapping, index, slice, field, unary, binary}
+use Rattle.sz_core.specs.Nodes.{both, either, Nodes, no_nodes, with_node, Pairings, no_pairings, with_pairing}
+use Rattle.sz_core.specs.Statements.{Step, at_index, at_field, Stm, Stms, no_stms, with_stm, block, clear, keep, store, evaluate, branch, while, do_while, for_loop, break, continue}
+use Rattle.sz_core.specs.Statements.{return_value, end_record, emit}
+use Rattle.sz_core.specs.Programs.{Core, Function, functions_of}
+use Rattle.sz_world.specs.World.{most_open_calls, World, new_world, Given, Gives, Stops, Doing, and_then, ◌>>=◌, give, fails, spend, paid, pay, Done}
+use Rattle.sz_world.specs.Slots.{Slot, slot_at, all_defined}
+use Rattle.sz_world.specs.Operations.{Decoding, unary_of, binary_of, applied, element_of, slice_of, part_of, definedness, converted, array_of, tuple_of, map_of}
+use Rattle.sz_world.specs.Ticks.{no_weight, result_weight, binary_weight, builtin_weight, conversion_weight}
+use Rattle.sz_world.specs.Emits.{EmitParts, emit_weight, emit_of, with_emit}
+use Rattle.sz_world.specs.Stores.{Stored, Holds, Undefined, Outside}
+use Rattle.sz_mean.specs.Expressions.{Setting, results, called, if_true, if_false, eval, eval_form, eval_all, eval_pairings, eval_indexes, eval_if_some}
+use Rattle.sz_mean.specs.Endings.{Ending, Normal, Breaks, Continues, Returns, Running, then_run, then_loop, chosen, turns, turns_behind}
+use Rattle.sz_mean.specs.Statements.{assigned, if_defined, emits, test_of, idle, exec, exec_all}
+use Rattle.sz_mean.specs.Programs.{run_function, calls_at, emits_given, body_of, run_record, mean}
+
+-- what was emitted was paid for: emits and ticks that are left are together no more than before
+abbrev Pays : {X : Type 0} → World → Given X → Type 0
+Pays w (Gives x after) = length after.emits + after.left ≤ length w.emits + w.left
+Pays w (Stops fault) = Unit {0}
+
+-- whatever the world is
+record Paying {X : Type 0} (doing : Doing X) : Type 0 where
+  pays : (w : World) → Pays w (doing w)
+
+then_more : {X Y : Type 0} (w : World) (r : Given X) (second : X → Doing Y) → Pays w r → ((x : X) → Paying (second x)) → Pays w (and_then r second)
+then_more w (Stops fault) second h k = tt
+then_more {X} {Y} w (Gives x after) second h k = both (second x after) ((k x).pays after)
+  where
+    both : (r : Given Y) → Pays after r → Pays w r
+    both (Stops fault) m = tt
+    both (Gives y last) m = omega (arith, h, m)
+
+-- one thing after the other
+then_pays : {X Y : Type 0} (first : Doing X) (second : X → Doing Y) → Paying first → ((x : X) → Paying (second x)) → Paying (first >>= second)
+then_pays first second h k = record { pays = λ w. then_more w (first w) second (h.pays w) k }
+
+given : {X : Type 0} (x : X) → Paying (give x)
+given x = record { pays = λ w. omega arith }
+
+failed : {X : Type 0} (kind : ℕ) (place : Place) → Paying (fails {X = X} kind place)
+failed kind place = record { pays = λ w. tt }
+
+-- what is left after ticks are taken
+left_after : (n : ℕ) (place : Place) (w : World) → Pays w (pay n place w)
+left_after zero place w = omega arith
+left_after (suc n) place w = by (nat_lt n w.left) refl
+  where
+    by : (b : Bool) → nat_lt n w.left ≡ b → Pays w (paid place (if b then Some (record w { left = w.left - suc n }) else None))
+    by true e = omega arith
+    by false e = tt
+
+ticks : (n : ℕ) (place : Place) → Paying (pay n place)
+ticks n place = record { pays = left_after n place }
+
+result : (place : Place) (added : Slot → ℕ) (x : Slot) → Paying (results place added x)
+result place added x = then_pays (pay (1 + added x) place) (λ _. give x) (ticks (1 + added x) place) (λ _. given x)
+
+-- what calls do
+abbrev CallsPay : Setting → Type 0
+CallsPay s = (f : ℕ) (place : Place) (arguments : List Datum) → Paying (s.calls f place arguments)
+
+call_pays : (s : Setting) → CallsPay s → (f : ℕ) (place : Place) (arguments : Option (List Datum)) → Paying (called s.calls f place arguments)
+call_pays s calls f place None = given {X = Slot} None
+call_pays s calls f place (Some arguments) = calls f place arguments
+
+true_pays : (x : Slot) (right : Doing Slot) → Paying right → Paying (if_true x right)
+true_pays None right h = given {X = Slot} None
+true_pays (Some (truth true)) right h = h
+true_pays (Some (truth false)) right h = given {X = Slot} (Some (truth false))
+true_pays (Some (int n)) right h = given {X = Slot} (Some (int n))
+true_pays (Some (time n)) right h = given {X = Slot} (Some (time n))
+true_pays (Some (str t)) right h = given {X = Slot} (Some (str t))
+true_pays (Some (bytes t)) right h = given {X = Slot} (Some (bytes t))
+true_pays (Some (datum.array ds)) right h = given {X = Slot} (Some (datum.array ds))
+true_pays (Some (datum.tuple ds)) right h = given {X = Slot} (Some (datum.tuple ds))
+true_pays (Some (datum.mapping es)) right h = given {X = Slot} (Some (datum.mapping es))
+
+false_pays : (x : Slot) (right : Doing Slot) → Paying right → Paying (if_false x right)
+false_pays None right h = given {X = Slot} None
+false_pays (Some (truth true)) right h = given {X = Slot} (Some (truth true))
+false_pays (Some (truth false)) right h = h
+false_pays (Some (int n)) right h = given {X = Slot} (Some (int n))
+false_pays (Some (time n)) right h = given {X = Slot} (Some (time n))
+false_pays (Some (str t)) right h = given {X = Slot} (Some (str t))
+false_pays (Some (bytes t)) right h = given {X = Slot} (Some (bytes t))
+false_pays (Some (datum.array ds)) right h = given {X = Slot} (Some (datum.array ds))
+false_pays (Some (datum.tuple ds)) right h = given {X = Slot} (Some (datum.tuple ds))
+false_pays (Some (datum.mapping es)) right h = given {X = Slot} (Some (datum.mapping es))
+
+module _ (s : Setting) (calls : CallsPay s) (locals : List Slot) where
+  mutual
+    eval_pays : (e : Node) → Paying (eval s locals e)
+    eval_pays (node place t form) = form_pays place t form
+
+    form_pays : (place : Place) (t : Shape) (form : Form) → Paying (eval_form s locals place t form)
+    form_pays place t (constant d) = result place no_weight (Some d)
+    form_pays place t (local n) = result place no_weight (slot_at locals n)
+    form_pays place t (static n) = result place no_weight (slot_at s.statics n)
+    form_pays place t input = result place no_weight s.input
+    form_pays place t (call f es) =
+        then_pays (eval_all s locals es) _ (all_pay es) (λ xs. then_pays (pay 1 place) _ (ticks 1 place) (λ _. call_pays s calls f place (all_defined xs)))
+    form_pays place t (builtin b es) = then_pays (eval_all s locals es) _ (all_pay es) (λ xs. result place (builtin_weight b) (applied b xs))
+    form_pays place t (def e) = then_pays (eval s locals e) _ (eval_pays e) (λ x. result place no_weight (definedness x))
+    form_pays place t (convert e) = then_pays (eval s locals e) _ (eval_pays e) (λ x. result place (conversion_weight t x) (converted s.decode t x))
+    form_pays place t (array es) = then_pays (eval_all s locals es) _ (all_pay es) (λ xs. result place result_weight (array_of xs))
+    form_pays place t (tuple es) = then_pays (eval_all s locals es) _ (all_pay es) (λ xs. result place result_weight (tuple_of xs))
+    form_pays place t (mapping ps) = then_pays (eval_pairings s locals ps) _ (pairings_pay ps) (λ xs. result place result_weight (map_of xs))
+    form_pays place t (index e i) =
+        then_pays (eval s locals e) _ (eval_pays e) (λ x. then_pays (eval s locals i) _ (eval_pays i) (λ y. result place no_weight (element_of x y)))
+    form_pays place t (slice e i j) =
+        then_pays (eval s locals e) _ (eval_pays e)
+        (λ x. then_pays (eval s locals i) _ (eval_pays i) (λ y. then_pays (eval s locals j) _ (eval_pays j) (λ z. result place result_weight (slice_of x y z))))
+    form_pays place t (field e n) = then_pays (eval s locals e) _ (eval_pays e) (λ x. result place no_weight (part_of n x))
+    form_pays place t (unary o e) = then_pays (eval s locals e) _ (eval_pays e) (λ x. result place no_weight (unary_of o x))
+    form_pays place t (binary o a b) =
+        then_pays (eval s locals a) _ (eval_pays a) (λ x. then_pays (eval s locals b) _ (eval_pays b) (λ y. result place (binary_weight o) (binary_of o x y)))
+    form_pays place t (both a b) =
+        then_pays (eval s locals a) _ (eval_pays a)
+        (λ x. then_pays (if_true x (eval s locals b)) _ (true_pays x _ (eval_pays b)) (λ y. result place no_weight y))
+    form_pays place t (either a b) =
+        then_pays (eval s locals a) _ (eval_pays a)
+        (λ x. then_pays (if_false x (eval s locals b)) _ (false_pays x _ (eval_pays b)) (λ y. result place no_weight y))
+
+    all_pay : (es : Nodes) → Paying (eval_all s locals es)
+    all_pay no_nodes = given []
+    all_pay (with_node e es) =
+        then_pays (eval s locals e) _ (eval_pays e) (λ x. then_pays (eval_all s locals es) _ (all_pay es) (λ xs. given (x ∷ xs)))
+
+    pairings_pay : (ps : Pairings) → Paying (eval_pairings s locals ps)
+    pairings_pay no_pairings = given []
+    pairings_pay (with_pairing k v ps) =
+        then_pays (eval s locals k) _ (eval_pays k)
+        (λ x. then_pays (eval s locals v) _ (eval_pays v) (λ y. then_pays (eval_pairings s locals ps) _ (pairings_pay ps) (λ xs. given (x ∷ y ∷ xs))))
+
+  indexes_pay : (steps : List Step) → Paying (eval_indexes s locals steps)
+  indexes_pay [] = given []
+  indexes_pay (at_index e ∷ steps) =
+      then_pays (eval s locals e) _ (eval_pays e) (λ x. then_pays (eval_indexes s locals steps) _ (indexes_pay steps) (λ xs. given (x ∷ xs)))
+  indexes_pay (at_field n ∷ steps) = indexes_pay steps
+
+  optional_pays : (e : Option Node) → Paying (eval_if_some s locals e)
+  optional_pays None = given {X = Option Slot} None
+  optional_pays (Some e) = then_pays (eval s locals e) _ (eval_pays e) (λ x. given (Some x))
+
+-- a run with the variables as they are
+abbrev RunPays : Running → Type 0
+RunPays run = (locals : List Slot) → Paying (run locals)
+
+then_run_pays : (ending : Ending) (next : Running) → RunPays next → Paying (then_run ending next)
+then_run_pays (Normal locals) next h = h locals
+then_run_pays (Breaks locals) next h = given (Breaks locals)
+then_run_pays (Continues locals) next h = given (Continues locals)
+then_run_pays (Returns x) next h = given (Returns x)
+
+then_loop_pays : (ending : Ending) (next : Running) → RunPays next → Paying (then_loop ending next)
+then_loop_pays (Normal locals) next h = h locals
+then_loop_pays (Breaks locals) next h = given (Normal locals)
+then_loop_pays (Continues locals) next h = h locals
+then_loop_pays (Returns x) next h = given (Returns x)
+
+chosen_pays : (x : Slot) (place : Place) (first second : Doing Ending) → Paying first → Paying second → Paying (chosen x place first second)
+chosen_pays None place first second h k = failed _ place
+chosen_pays (Some (truth true)) place first second h k = h
+chosen_pays (Some (truth false)) place first second h k = k
+chosen_pays (Some (int n)) place first second h k = k
+chosen_pays (Some (time n)) place first second h k = k
+chosen_pays (Some (str t)) place first second h k = k
+chosen_pays (Some (bytes t)) place first second h k = k
+chosen_pays (Some (datum.array ds)) place first second h k = k
+chosen_pays (Some (datum.tuple ds)) place first second h k = k
+chosen_pays (Some (datum.mapping es)) place first second h k = k
+
+turns_pay : (place : Place) (test : List Slot → Doing Slot) (between body : Running) → ((locals : List Slot) → Paying (test locals))
+    → RunPays between → RunPays body → (n : ℕ) → RunPays (turns place test between body n)
+turns_pay place test between body t b d zero locals = failed _ place
+turns_pay place test between body t b d (suc n) locals =
+    let next = turns place test between body n in
+    let again = turns_pay place test between body t b d n in
+    then_pays (test locals) _ (t locals)
+    (λ x. then_pays (pay 1 place) _ (ticks 1 place)
+    (λ _. chosen_pays x place _ _
+    (then_pays (body locals) _ (d locals)
+    (λ ending. then_loop_pays ending _
+    (λ after. then_pays (between after) _ (b after)
+    (λ stepped. then_run_pays stepped _ (λ l. then_pays (pay 1 place) (λ _. next l) (ticks 1 place) (λ _. again l))))))
+    (given (Normal locals))))
+
+turns_behind_pay : (place : Place) (body : Running) (test : List Slot → Doing Slot) → RunPays body → ((locals : List Slot) → Paying (test locals))
+    → (n : ℕ) → RunPays (turns_behind place body test n)
+turns_behind_pay place body test d t zero locals = failed _ place
+turns_behind_pay place body test d t (suc n) locals =
+    let next = turns_behind place body test n in
+    let again = turns_behind_pay place body test d t n in
+    then_pays (body locals) _ (d locals)
+    (λ ending. then_loop_pays ending _
+    (λ after. then_pays (test after) _ (t after)
+    (λ x. then_pays (pay 1 place) _ (ticks 1 place)
+    (λ _. chosen_pays x place _ _ (then_pays (pay 1 place) (λ _. next after) (ticks 1 place) (λ _. again after)) (given (Normal after))))))
+
+-- an emit has a tick of its own
+emits_pay : (place : Place) (table : ℕ) (parts : EmitParts) → RunPays (emits place table parts)
+emits_pay place table parts locals = record { pays = λ w. by w (spend (1 + emit_weight parts) w) refl }
+  where
+    added : (e : Option EmitDatum) (after : World) → length (with_emit e after).emits ≤ suc (length after.emits)
+    added None after = omega arith
+    added (Some e) after = omega (arith, length-append after.emits (e ∷ []))
+
+    same_left : (e : Option EmitDatum) (after : World) → (with_emit e after).left ≡ after.left
+    same_left None after = refl
+    same_left (Some e) after = refl
+
+    taken : (n : ℕ) (w after : World) (b : Bool) → nat_lt n w.left ≡ b → (if b then Some (record w { left = w.left - suc n }) else None) ≡ Some after
+        → suc (length after.emits + after.left) ≤ length w.emits + w.left
+    taken n w after true t e =
+        let less : n < w.left = grind (arith, nat_tests) in
+        let same : Some (record w { left = w.left - suc n }) ≡ Some after = e in
+        let one : (record w { left = w.left - suc n }) ≡ after = cc in
+        let left : w.left - suc n ≡ after.left = ap (λ (v : World). v.left) one in
+        let emits : length w.emits ≡ length after.emits = ap (λ (v : World). length v.emits) one in omega (arith, less, left, emits)
+    taken n w after false t e = absurd (cc)
+
+    by : (w : World) (m : Option World) → spend (1 + emit_weight parts) w ≡ m
+        → Pays w (and_then (paid place m) (λ _ after. Gives (Normal locals) (with_emit (emit_of table parts) after)))
+    by w None e = tt
+    by w (Some after) e =
+        let more : 1 + emit_weight parts ≡ suc (emit_weight parts) = omega arith in
+        let less = taken (emit_weight parts) w after (nat_lt (emit_weight parts) w.left) refl (subst (λ n. spend n w ≡ Some after) more e) in
+        let few = added (emit_of table parts) after in
+        let left = same_left (emit_of table parts) after in omega (arith, less, few, left)
+
+assigned_pays : (stored : Stored) (place : Place) (n : ℕ) → RunPays (assigned stored place n)
+assigned_pays (Holds d) place n locals = given _
+assigned_pays Undefined place n locals = failed _ place
+assigned_pays Outside place n locals = failed _ place
+
+defined_pays : (x : Slot) (place : Place) (next : Doing Ending) → Paying next → Paying (if_defined x place next)
+defined_pays None place next h = failed _ place
+defined_pays (Some d) place next h = h
+
+test_pays : (s : Setting) → CallsPay s → (e : Option Node) (locals : List Slot) → Paying (test_of s e locals)
+test_pays s calls None locals = given {X = Slot} (Some (truth true))
+test_pays s calls (Some e) locals = eval_pays s calls locals e
+
+module _ (s : Setting) (calls : CallsPay s) where
+  mutual
+    exec_pays : (statement : Stm) → RunPays (exec s statement)
+    exec_pays (block ss) locals = all_run_pays ss locals
+    exec_pays (clear n) locals = given _
+    exec_pays (keep place n e) locals =
+        then_pays (eval s locals e) _ (eval_pays s calls locals e) (λ x. then_pays (pay 1 place) _ (ticks 1 place) (λ _. given _))
+    exec_pays (store place n steps e) locals =
+        then_pays (eval_indexes s locals steps) _ (indexes_pay s calls locals steps)
+        (λ xs. then_pays (eval s locals e) _ (eval_pays s calls locals e)
+        (λ x. then_pays (pay 1 place) _ (ticks 1 place) (λ _. assigned_pays _ place n locals)))
+    exec_pays (evaluate place e) locals =
+        then_pays (eval s locals e) _ (eval_pays s calls locals e) (λ x. defined_pays x place _ (given (Normal locals)))
+    exec_pays (branch place e first second) locals =
+        then_pays (eval s locals e) _ (eval_pays s calls locals e)
+        (λ x. then_pays (pay 1 place) _ (ticks 1 place) (λ _. chosen_pays x place _ _ (exec_pays first locals) (exec_pays second locals)))
+    exec_pays (while place e body) locals =
+        record { pays = λ w. (turns_pay place (λ l. eval s l e) idle (exec s body) (λ l. eval_pays s calls l e) (λ l. given (Normal l)) (exec_pays body) (suc w.left) locals).pays w }
+    exec_pays (do_while place body e) locals =
+        record { pays = λ w. (turns_behind_pay place (exec s body) (λ l. eval s l e) (exec_pays body) (λ l. eval_pays s calls l e) (suc w.left) locals).pays w }
+    exec_pays (for_loop place e between body) locals =
+        record { pays = λ w. (turns_pay place (test_of s e) (exec s between) (exec s body) (test_pays s calls e) (exec_pays between) (exec_pays body) (suc w.left) locals).pays w }
+    exec_pays break locals = given _
+    exec_pays continue locals = given _
+    exec_pays (return_value place e) locals =
+        then_pays (eval s locals e) _ (eval_pays s calls locals e) (λ x. then_pays (pay 1 place) _ (ticks 1 place) (λ _. given _))
+    exec_pays (end_record place) locals = then_pays (pay 1 place) _ (ticks 1 place) (λ _. given _)
+    exec_pays (emit place table es e weight) locals =
+        then_pays (eval_all s locals es) _ (all_pay s calls locals es)
+        (λ xs. then_pays (eval s locals e) _ (eval_pays s calls locals e)
+        (λ x. then_pays (eval_if_some s locals weight) _ (optional_pays s calls locals weight) (λ y. emits_pay place table (record { indexes = xs; value = x; weight = y }) locals)))
+
+    all_run_pays : (ss : Stms) → RunPays (exec_all s ss)
+    all_run_pays no_stms locals = given _
+    all_run_pays (with_stm first rest) locals =
+        then_pays (exec s first locals) _ (exec_pays first locals) (λ ending. then_run_pays ending _ (all_run_pays rest))
+
+module _ (decode : Decoding) (functions : List Function) (statics : List Slot) where
+  function_pays : (f : Option Function) (room : ℕ) → ((g : ℕ) (place : Place) (arguments : List Datum) → Paying (calls_at decode functions statics room g place arguments))
+      → (arguments : List Datum) → Paying (run_function decode functions f (calls_at decode functions statics room) statics arguments)
+  function_pays None room calls arguments = given {X = Slot} None
+  function_pays (Some f) room calls arguments = then_pays _ _ (all_run_pays _ calls f.body _) (λ ending. given _)
+
+  calls_pay : (room : ℕ) (f : ℕ) (place : Place) (arguments : List Datum) → Paying (calls_at decode functions statics room f place arguments)
+  calls_pay zero f place arguments = failed _ place
+  calls_pay (suc room) f place arguments = function_pays (slice_get functions f) room (calls_pay room) arguments
+
+-- a record has at most as many emits as its budget has ticks
+pub emits_are_paid : (decode : Decoding) (core : Core) (slots : List Slot) (budget : ℕ) (text : List ℕ) (es : List EmitDatum)
+    → mean decode core slots budget text ≡ Done es → length es ≤ budget
+emits_are_paid decode core slots budget text es is =
+    by (run_record decode core slots budget text) ((all_run_pays _ (calls_pay decode (functions_of core.items) slots most_open_calls) (body_of core) _).pays (new_world budget)) is
+  where
+    same : (a b : List EmitDatum) → Done a ≡ Done b → a ≡ b
+    same a b e = cc
+
+    by : (r : Given Ending) → Pays (new_world budget) r → emits_given r ≡ Done es → length es ≤ budget
+    by (Gives ending w) h is = let one = ap length (same w.emits es is) in omega (arith, h, one)
+    by (Stops fault) h is = absurd (cc)

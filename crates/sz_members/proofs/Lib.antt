@@ -1,0 +1,4 @@
+mod RepeatsLemmas
+mod FullLemmas
+mod ShowingLemmas
+mod MembersLemmas

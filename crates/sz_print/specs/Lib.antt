@@ -1,0 +1,4 @@
+-- what the public contracts rest on
+pub mod Joined
+pub mod Text
+pub mod Lines

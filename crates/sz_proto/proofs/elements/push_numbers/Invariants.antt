@@ -1,0 +1,8 @@
+-- Those so far are appended.
+use Rattle.std.proofs.Common.{◌≡◌, ◌++◌, map, take}
+use Rattle.sz_value.specs.Seen.{seen}
+use Rattle.sz_proto.specs.Found.{whole_number}
+use Rattle.sz_proto.proofs.elements.push_numbers.Given as goal
+
+abbrev pub invariant-loop-number : goal.invariant-loop-number
+invariant-loop-number l = map seen l.held.items ≡ map seen l.fn.held.items ++ map (whole_number l.is_time) (take l.number-index l.numbers)

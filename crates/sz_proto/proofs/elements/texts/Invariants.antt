@@ -1,0 +1,10 @@
+-- What is left goes on what is held.
+use Rattle.std.proofs.Common.{map}
+use Rattle.sz_value.specs.Seen.{seen}
+use Rattle.sz_proto.specs.Elements.{in_all}
+use Rattle.sz_proto.specs.Found.{contents, text_each}
+use Rattle.sz_proto.proofs.GoingLemmas.{GoesFrom}
+use Rattle.sz_proto.proofs.elements.texts.Given as goal
+
+abbrev pub invariant-loop-field : goal.invariant-loop-field
+invariant-loop-field l = GoesFrom text_each l.bytes l.run (in_all text_each (contents l.bytes l.run)) l.field-index (map seen l.held.items)

@@ -1,0 +1,6 @@
+-- what the public contracts rest on
+pub mod Payloads
+pub mod Elements
+pub mod Messages
+-- what the functions inside the crate promise each other
+pub mod Found

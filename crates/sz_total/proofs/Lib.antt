@@ -1,0 +1,2 @@
+mod TablesLemmas
+mod StandardFacts

@@ -1,0 +1,6 @@
+//! The rows of the tables of a program, index list by index list, and what the tables stand for.
+#![tactic(auto)]
+
+mod laws;
+
+pub use laws::{a_table_shows_its_indexes, no_emits_no_rows, tables_forget_the_order};

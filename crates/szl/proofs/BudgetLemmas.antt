@@ -1,0 +1,166 @@
+-- The budget that a command line asks for is one that a record can have.
+use Rattle.std.proofs.Common.{◌≡◌, ℕ, ◌^◌, ◌-◌, ◌≤◌, List, [], ◌∷◌, Bool, true, false, Option, Some, None, refl, subst, arith, length}
+use Rattle.std.specs.Prelude.{IfSome, nat_le, nat_eq, not, ◌&&◌, if◌then◌else◌, option_map, bytes_eq, codes}
+use Rattle.std.specs.Option.{option_and_then}
+use Rattle.std.proofs.lemmas.Bool.Decides.{nat_tests}
+use Rattle.sz_words.specs.declared.reading.Numbers.{Numbers}
+use Rattle.sz_types.specs.declared.frame.Frame.{Frame}
+use Rattle.sz_words.specs.declared.settings.Kill.{Kill}
+use Rattle.sz_words.specs.declared.settings.RunSettings.{RunSettings}
+use Rattle.sz_words.specs.declared.settings.Settings.{Settings}
+use Rattle.sz_words.specs.declared.settings.Settings.TheVariants.{Run, Check, Selftest}
+use Rattle.sz_words.specs.Texts.{number_in}
+use Rattle.sz_words.specs.Parts.{Parts, parts_of, values_of}
+use Rattle.sz_words.specs.Settings.{Values, value_of, frame_in, number_or, numbers_in, kills_or_none, shards_or_none, run_with, stand_once, files_in, are_absent, run_settings}
+use Rattle.sz_words.specs.Settings.{check_settings, selftest_settings, command_settings, settings_in}
+use Rattle.szl.specs.Settings.{HasBudget}
+
+-- what holds of whatever is made of something, if it is there
+if_made : {A B : Type 0} (P : B → Type 0) (f : A → Option B) (o : Option A) → ((a : A) → IfSome (f a) P) → IfSome (option_and_then f o) P
+if_made P f None h = tt
+if_made P f (Some a) h = h a
+
+-- the same where something holds of it
+if_made_of : {A B : Type 0} (P : B → Type 0) (Q : A → Type 0) (f : A → Option B) (o : Option A) → IfSome o Q → ((a : A) → Q a → IfSome (f a) P)
+    → IfSome (option_and_then f o) P
+if_made_of P Q f None q h = tt
+if_made_of P Q f (Some a) q h = h a q
+
+if_mapped : {A B : Type 0} (P : B → Type 0) (f : A → B) (o : Option A) → IfSome o (λ a. P (f a)) → IfSome (option_map f o) P
+if_mapped P f None h = tt
+if_mapped P f (Some a) h = h
+
+if_chosen : {A : Type 0} (P : A → Type 0) (b : Bool) (o q : Option A) → IfSome o P → IfSome q P → IfSome (if b then o else q) P
+if_chosen P true o q h k = h
+if_chosen P false o q h k = k
+
+-- the number is within these bounds
+abbrev InRange : ℕ → ℕ → ℕ → Type 0
+InRange least most n = (least ≤ n) × (n ≤ most)
+
+two_tests : (a n m l : Bool) → (a && (n && m) && l) ≡ true → (m ≡ true) × (l ≡ true)
+two_tests false n m l h = absurd (cc)
+two_tests true false m l h = absurd (cc)
+two_tests true true false l h = absurd (cc)
+two_tests true true true false h = absurd (cc)
+two_tests true true true true h = (refl, refl)
+
+in_range : (least most value : ℕ) (a n : Bool)
+    → IfSome (if (a && (n && nat_le value most) && nat_le least value) then Some value else None) (InRange least most)
+in_range least most value a n = by (a && (n && nat_le value most) && nat_le least value) refl
+  where
+    at_most : (a b : ℕ) → nat_le a b ≡ true → a ≤ b
+    at_most a b e = grind (arith, nat_tests)
+
+    by : (b : Bool) → (a && (n && nat_le value most) && nat_le least value) ≡ b → IfSome (if b then Some value else None) (InRange least most)
+    by true e = let t = two_tests a n (nat_le value most) (nat_le least value) e in (at_most least value t.1, at_most value most t.0)
+    by false e = tt
+
+number_within : (default least most : ℕ) → least ≤ default → default ≤ most → (word : Option (List ℕ))
+    → IfSome (number_or default least most word) (InRange least most)
+number_within default least most low high None = (low, high)
+number_within default least most low high (Some word) = in_range least most _ _ _
+
+-- what is asked for, part by part
+module _ (given : Values) where
+  abbrev with_budget : Frame → (workers shard attempts budget : ℕ) → Option Numbers
+  with_budget frame workers shard attempts budget =
+      Some (record { frame = frame; workers = workers; shard = shard; attempts = attempts; budget = budget })
+
+  abbrev with_attempts : Frame → (workers shard attempts : ℕ) → Option Numbers
+  with_attempts frame workers shard attempts =
+      option_and_then (with_budget frame workers shard attempts) (number_or (2 ^ 24) 1 (2 ^ 32) (value_of given (codes "budget")))
+
+  abbrev with_shard : Frame → (workers shard : ℕ) → Option Numbers
+  with_shard frame workers shard = option_and_then (with_attempts frame workers shard) (number_or 3 1 8 (value_of given (codes "attempts")))
+
+  abbrev with_workers : Frame → (workers : ℕ) → Option Numbers
+  with_workers frame workers = option_and_then (with_shard frame workers) (number_or 1000 1 65536 (value_of given (codes "shard")))
+
+  abbrev with_frame : Frame → Option Numbers
+  with_frame frame = option_and_then (with_workers frame) (number_or 4 1 64 (value_of given (codes "workers")))
+
+  -- the budget among the numbers of a run
+  numbers_within : IfSome (numbers_in given) (λ (n : Numbers). InRange 1 (2 ^ 32) n.budget)
+  numbers_within =
+      let P : Numbers → Type 0 = λ n. InRange 1 (2 ^ 32) n.budget in
+      if_made P with_frame (frame_in (value_of given (codes "frame"))) (λ frame.
+      if_made P (with_workers frame) (number_or 4 1 64 (value_of given (codes "workers"))) (λ workers.
+      if_made P (with_shard frame workers) (number_or 1000 1 65536 (value_of given (codes "shard"))) (λ shard.
+      if_made P (with_attempts frame workers shard) (number_or 3 1 8 (value_of given (codes "attempts"))) (λ attempts.
+      if_made_of P (InRange 1 (2 ^ 32)) (with_budget frame workers shard attempts) (number_or (2 ^ 24) 1 (2 ^ 32) (value_of given (codes "budget")))
+      (number_within (2 ^ 24) 1 (2 ^ 32) (omega arith) (omega arith) (value_of given (codes "budget"))) (λ budget within. within)))))
+
+  module _ (program input : List ℕ) where
+    abbrev with_twice : Numbers → List Kill → List ℕ → Option RunSettings
+    with_twice numbers kills twice = Some (record {
+      program = program;
+      input = input;
+      frame = numbers.frame;
+      workers = numbers.workers;
+      shard = numbers.shard;
+      attempts = numbers.attempts;
+      budget = numbers.budget;
+      kills = kills;
+      twice = twice;
+    })
+
+    abbrev with_kills : Numbers → List Kill → Option RunSettings
+    with_kills numbers kills = option_and_then (with_twice numbers kills) (shards_or_none (value_of given (codes "twice")))
+
+    abbrev with_numbers : Numbers → Option RunSettings
+    with_numbers numbers = option_and_then (with_kills numbers) (kills_or_none (value_of given (codes "kill")))
+
+    run_within : IfSome (run_with given program input) (λ (s : RunSettings). InRange 1 (2 ^ 32) s.budget)
+    unfolding run_with
+    run_within =
+        let P : RunSettings → Type 0 = λ s. InRange 1 (2 ^ 32) s.budget in
+        if_made_of P (λ (n : Numbers). InRange 1 (2 ^ 32) n.budget) with_numbers (numbers_in given) numbers_within (λ numbers within.
+        if_made P (with_kills numbers) (kills_or_none (value_of given (codes "kill"))) (λ kills.
+        if_made P (with_twice numbers kills) (shards_or_none (value_of given (codes "twice"))) (λ twice. within)))
+
+  abbrev for_files : List ℕ × List ℕ → Option Settings
+  for_files files = option_map Run (run_with given files.0 files.1)
+
+  run_settings_within : (names : List (List ℕ)) → IfSome (run_settings given names) HasBudget
+  run_settings_within names =
+      if_chosen HasBudget (stand_once given) (option_and_then for_files (files_in names)) None
+      (if_made HasBudget for_files (files_in names) (λ files.
+      if_mapped HasBudget Run (run_with given files.0 files.1) (run_within files.0 files.1))) tt
+
+check_within : (given : Values) (names : List (List ℕ)) → IfSome (check_settings given names) HasBudget
+check_within given [] = tt
+check_within given (program ∷ []) = if_chosen HasBudget (are_absent given && not (nat_eq (length program) 0)) (Some (Check program)) None tt tt
+check_within given (program ∷ more ∷ names) = tt
+
+selftest_within : (given : Values) (names : List (List ℕ)) → IfSome (selftest_settings given names) HasBudget
+selftest_within given [] = tt
+selftest_within given (a ∷ []) = tt
+selftest_within given (a ∷ b ∷ []) = tt
+selftest_within given (a ∷ b ∷ c ∷ []) =
+    let with_workers : ℕ → ℕ → ℕ → Option Settings = λ s r w. Some (Selftest s r w) in
+    let with_records : ℕ → ℕ → Option Settings = λ s r. option_and_then (with_workers s r) (number_in 1 64 c) in
+    let with_seed : ℕ → Option Settings = λ s. option_and_then (with_records s) (number_in 0 1000000 b) in
+    if_chosen HasBudget (are_absent given) (option_and_then with_seed (number_in 0 (2 ^ 63 - 1) a)) None
+    (if_made HasBudget with_seed (number_in 0 (2 ^ 63 - 1) a) (λ s.
+    if_made HasBudget (with_records s) (number_in 0 1000000 b) (λ r.
+    if_made HasBudget (with_workers s r) (number_in 1 64 c) (λ w. tt)))) tt
+selftest_within given (a ∷ b ∷ c ∷ d ∷ names) = tt
+
+command_within : (command : List ℕ) (given : Values) (names : List (List ℕ)) → IfSome (command_settings command given names) HasBudget
+command_within command given names =
+    let selftest = if bytes_eq command (codes "selftest") then selftest_settings given names else None in
+    let check = if bytes_eq command (codes "check") then check_settings given names else selftest in
+    if_chosen HasBudget (bytes_eq command (codes "run")) (run_settings given names) check (run_settings_within given names)
+    (if_chosen HasBudget (bytes_eq command (codes "check")) (check_settings given names) selftest (check_within given names)
+    (if_chosen HasBudget (bytes_eq command (codes "selftest")) (selftest_settings given names) None (selftest_within given names) tt))
+
+words_within : (words : List (List ℕ)) → IfSome (settings_in words) HasBudget
+words_within [] = tt
+words_within (command ∷ words) =
+    if_made HasBudget (λ (parts : Parts). command_settings command (λ name. values_of name parts.options) parts.names) (parts_of words)
+    (λ parts. command_within command (λ name. values_of name parts.options) parts.names)
+
+-- the settings of words have a budget that a record can have
+pub has_budget : (words : List (List ℕ)) (s : Settings) → settings_in words ≡ Some s → HasBudget s
+has_budget words s is = subst (λ o. IfSome o HasBudget) is (words_within words)

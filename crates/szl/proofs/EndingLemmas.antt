@@ -1,0 +1,80 @@
+-- How the run of a program over an input ends: by the statics, the records, and how these end.
+use Rattle.std.proofs.Common.{◌≡◌, ◌≤◌, ℕ, List, [], ◌++◌, length, arith, sym, ap, ◌∙◌, subst}
+use Rattle.std.specs.Prelude.{Option, Ok, Err}
+use Rattle.sz_types.specs.declared.frame.Frame.{Frame}
+use Rattle.sz_core.specs.Programs.{Core, tables_of}
+use Rattle.sz_world.specs.Slots.{Slot}
+use Rattle.sz_world.specs.Operations.{no_messages}
+use Rattle.sz_mean.specs.Records.{mean_all}
+use Rattle.sz_records.specs.declared.ending.Ending.{Ending}
+use Rattle.sz_records.specs.declared.ending.Ending.TheVariants.{Whole, Damaged, Limit}
+use Rattle.sz_records.specs.Cutting.{IsCut}
+use Rattle.sz_records.specs.Fed.{FramerData, HasRead, Feeds, Finishes}
+use Rattle.sz_records.proofs.CutLaws.{records_are_few}
+use Rattle.szl.specs.declared.failure.Failure.{Failure}
+use Rattle.szl.specs.declared.failure.Failure.TheVariants as failure
+use Rattle.szl.specs.Outcome.{outcome_of_records, outcome_of_ending, success}
+use Rattle.szl.specs.Records.{Cut, IsCutInto, limits}
+use Rattle.szl.specs.Running.{GivesSums, SumsAll, GivesTables}
+use Rattle.szl.specs.Text.{tables_text}
+use Rattle.szl.specs.Totals.{Totals}
+use Rattle.szl.proofs.AnswerLemmas.{cut_of}
+
+-- a framer that was fed a whole input cuts it
+pub cut_by : (frame : Frame) (first then : FramerData) (input : List ℕ) (none some all : List (List ℕ)) (ended : Option Ending) (e : Ending)
+    → HasRead frame limits first [] [] → Feeds first then input none some ended → none ≡ [] → Finishes then some all e
+    → IsCutInto frame input (record { records = all; ending = e })
+cut_by frame first then input none some all ended e start feeds empty finishes =
+    let a = feeds frame limits [] [] start in
+    let z = finishes frame limits input a.added a.read in
+    let is = z.gained ∙ ap (λ rs. rs ++ z.added) (a.gained ∙ ap (λ rs. rs ++ a.added) empty) in
+    subst (λ rs. IsCut frame limits 0 0 input rs e) (sym is) z.cut
+
+-- an input has no more records than it may
+pub few_records : (frame : Frame) (input : List ℕ) (cut : Cut) → IsCutInto frame input cut → length cut.records ≤ 2147483648
+few_records frame input cut is_cut =
+    let few = records_are_few frame limits 0 0 input cut.records cut.ending (omega arith) is_cut in omega (arith, few)
+
+module _ (program : Core) (slots : List Slot) (budget : ℕ) (frame : Frame) (input : List ℕ) where
+  -- there was no memory for the records, the sums or the text
+  pub no_memory_on : (cut : Cut) → IsCutInto frame input cut → GivesTables program slots budget frame input (Err failure.NoMemory)
+  no_memory_on cut is_cut = record { cut = cut; is_cut = is_cut; decides = tt }
+
+  pub no_memory_at_all : GivesTables program slots budget frame input (Err failure.NoMemory)
+  no_memory_at_all = let c = cut_of frame input in no_memory_on c.cut c.is_cut
+
+  -- a record faults
+  pub sums_fail : (cut : Cut) → IsCutInto frame input cut → (totals : Totals) (f : Failure)
+      → GivesSums program slots budget cut.records totals (Err f) → GivesTables program slots budget frame input (Err f)
+  sums_fail cut is_cut totals (failure.Faulted n fault) h =
+      record { cut = cut; is_cut = is_cut; decides = ap (outcome_of_records program cut.ending) h }
+  sums_fail cut is_cut totals failure.NoMemory h = no_memory_on cut is_cut
+  sums_fail cut is_cut totals failure.Usage h = absurd h
+  sums_fail cut is_cut totals (failure.Refused r) h = absurd h
+  sums_fail cut is_cut totals (failure.Damaged b) h = absurd h
+  sums_fail cut is_cut totals (failure.Limit b) h = absurd h
+  sums_fail cut is_cut totals failure.ReadFailed h = absurd h
+  sums_fail cut is_cut totals failure.WriteFailed h = absurd h
+
+  module _ (records : List (List ℕ)) (totals : Totals) (h : SumsAll program slots budget records totals) where
+    on_ending : (ending : Ending) → outcome_of_records program ending (mean_all no_messages program slots budget records)
+        ≡ outcome_of_ending ending (tables_text 0 (tables_of program.items) h.emits)
+    on_ending ending = ap (outcome_of_records program ending) h.means
+
+    -- all records are whole, and the text is that of all emits
+    pub ends_whole : (text : List ℕ) → IsCutInto frame input (record { records = records; ending = Whole })
+        → text ≡ tables_text 0 (tables_of program.items) h.emits → GivesTables program slots budget frame input (Ok text)
+    ends_whole text is_cut is = record {
+      cut = record { records = records; ending = Whole };
+      is_cut = is_cut;
+      decides = on_ending Whole ∙ ap success (sym is);
+    }
+
+    -- the input is damaged, or passes a limit
+    pub ends_damaged : (byte : ℕ) → IsCutInto frame input (record { records = records; ending = Damaged byte })
+        → GivesTables program slots budget frame input (Err (failure.Damaged byte))
+    ends_damaged byte is_cut = record { cut = record { records = records; ending = Damaged byte }; is_cut = is_cut; decides = on_ending (Damaged byte) }
+
+    pub ends_limited : (byte : ℕ) → IsCutInto frame input (record { records = records; ending = Limit byte })
+        → GivesTables program slots budget frame input (Err (failure.Limit byte))
+    ends_limited byte is_cut = record { cut = record { records = records; ending = Limit byte }; is_cut = is_cut; decides = on_ending (Limit byte) }

@@ -1,0 +1,63 @@
+//! The lines that name the byte of an input, or a record that faults.
+ghost use Rattle.std.specs.Prelude.{◌≡◌, ◌++◌, ◌∷◌, [], IfOk, decimal, slice_index_or};
+ghost use Rattle.sz_run.specs.Ends.{seen_fault};
+ghost use Rattle.szl.specs.Outcome.{damaged_line, limit_line, fault_texts, fault_line};
+
+use crate::refusal::push_place;
+use itoa::Buffer;
+use std::alloc::{AllocError, Global};
+use sz_run::Fault;
+
+/// The line of an input that is damaged at a byte, with its newline.
+pub fn damaged_line(alloc: Global, byte: u64) -> Result<Vec<u8>, AllocError>
+    ensures value { IfOk result (λ line. line.items ≡ damaged_line byte) }
+{
+    byte_line(alloc, b"input damaged at byte ", byte)
+}
+
+/// The line of an input that passes a limit at a byte, with its newline.
+pub fn limit_line(alloc: Global, byte: u64) -> Result<Vec<u8>, AllocError>
+    ensures value { IfOk result (λ line. line.items ≡ limit_line byte) }
+{
+    byte_line(alloc, b"input limit at byte ", byte)
+}
+
+/// The line of a fault in a record, or in a static, whose number is 0; with its newline.
+pub fn fault_line(alloc: Global, number: u64, fault: &Fault) -> Result<Vec<u8>, AllocError>
+    ensures value { IfOk result (λ line. line.items ≡ fault_line number (seen_fault fault.now)) }
+{
+    let mut digits = Buffer::new();
+    let mut line = Vec::new(alloc);
+    line.extend_from_slice(b"record ")?;
+    line.extend_from_slice(digits.format(number).as_bytes())?;
+    line.extend_from_slice(b": ")?;
+    line.extend_from_slice(fault_text(fault.kind).as_bytes())?;
+    line.extend_from_slice(b" at ")?;
+    push_place(&mut line, fault.place)?;
+    line.push(b'\n')?;
+    Ok(line)
+}
+
+// A line that ends with the number of a byte.
+fn byte_line(alloc: Global, front: &[u8], byte: u64) -> Result<Vec<u8>, AllocError>
+    ensures value { IfOk result (λ line. line.items ≡ front.now ++ (decimal byte ++ 10 ∷ [])) }
+{
+    let mut digits = Buffer::new();
+    let mut line = Vec::from_slice(alloc, front)?;
+    line.extend_from_slice(digits.format(byte).as_bytes())?;
+    line.push(b'\n')?;
+    Ok(line)
+}
+
+// The text of a fault, by its kind.
+fn fault_text(kind: u8) -> &'static str
+    ensures value { result.now ≡ slice_index_or fault_texts kind [] }
+{
+    match kind {
+        1 => "undefined value used",
+        2 => "store outside the value",
+        3 => "calls too deep",
+        4 => "budget passed",
+        _ => "",
+    }
+}

@@ -1,0 +1,148 @@
+//! Runs by example: what expressions give. The lines are as in `runs.rt`.
+
+/// The runs.
+pub(super) const RUNS: &str = r#"== values are computed as they are grouped
+< 3¶
+c: table sum of int; x: int = input; emit c <- (x + 1) * 2; => 0 c[] = 8¶
+c: table sum of int; x: int = input; emit c <- x + 1 * 2; => 0 c[] = 5¶
+c: table sum of int; x: int = input; emit c <- 10 - x - 2; => 0 c[] = 5¶
+c: table sum of int; x: int = input; emit c <- 10 - (x - 2); => 0 c[] = 9¶
+c: table sum of int; x: int = input; emit c <- ((x)) * (x * x); => 0 c[] = 27¶
+c: table sum of int; x: int = input; y: int = x * 2; emit c <- y - x * y; => 0 c[] = -12¶
+sum: int = 4; c: table sum of int; emit c <- sum; => 0 c[] = 4¶
+c: table sum of int; emit c <- 0x10 - 0xffffffffffffffff; => 0 c[] = 17¶
+# what is counted¶c: table sum of int; # a table¶→emit c <- # one¶1;# the end => 0 c[] = 1¶
+c: table sum of int; emit c <- 7 - 2 * 3 << 1; => 0 c[] = -5¶
+c: table sum of int; emit c <- 1 | 2 + 4 ^ 1; => 0 c[] = 6¶
+c: table sum of int; emit c <- -2 * -3; => 0 c[] = 6¶
+c: table sum of int; emit c <- - -2; => 0 c[] = 2¶
+c: table sum of int; emit c <- ~-1; => 0 c[] = 0¶
+c: table sum of int; if (1 + 1 == 2 && !(2 > 3) || false) emit c <- 1; => 0 c[] = 1¶
+c: table sum of int; if (true || true && false) emit c <- 1; => 0 c[] = 1¶
+
+== whole numbers wrap to 64 bits
+< ¶
+c: table sum of int; emit c <- 9223372036854775807 + 1; => 0 c[] = -9223372036854775808¶
+c: table sum of int; emit c <- -9223372036854775807 - 2; => 0 c[] = 9223372036854775807¶
+c: table sum of int; emit c <- 9223372036854775807 * 2; => 0 c[] = -2¶
+c: table sum of int; emit c <- -0x8000000000000000; => 0 c[] = -9223372036854775808¶
+c: table sum of int; emit c <- ~0x8000000000000000; => 0 c[] = 9223372036854775807¶
+c: table sum of int; emit c <- 0x8000000000000000 / -1; => 0 c[] = -9223372036854775808¶
+c: table sum of int; emit c <- 0x8000000000000000 % -1; => 0 c[] = 0¶
+c: table sum of int; emit c <- 1 << 63; => 0 c[] = -9223372036854775808¶
+c: table sum of int; emit c <- 3 << 63; => 0 c[] = -9223372036854775808¶
+c: table sum of int; x: int = 9223372036854775807; x++; emit c <- x; => 0 c[] = -9223372036854775808¶
+c: table sum of int; x: int = 0x8000000000000000; x--; emit c <- x; => 0 c[] = 9223372036854775807¶
+
+== operators on whole numbers
+< ¶
+c: table sum of int; emit c <- 7 / 2; => 0 c[] = 3¶
+c: table sum of int; emit c <- -7 / 2; => 0 c[] = -3¶
+c: table sum of int; emit c <- 7 / -2; => 0 c[] = -3¶
+c: table sum of int; emit c <- 7 % 2; => 0 c[] = 1¶
+c: table sum of int; emit c <- -7 % 2; => 0 c[] = -1¶
+c: table sum of int; emit c <- 7 % -2; => 0 c[] = 1¶
+c: table sum of int; emit c <- 7 * -2; => 0 c[] = -14¶
+c: table sum of int; emit c <- 1 << 3; => 0 c[] = 8¶
+c: table sum of int; emit c <- -1 >> 63; => 0 c[] = -1¶
+c: table sum of int; emit c <- 9 >> 1; => 0 c[] = 4¶
+c: table sum of int; emit c <- 6 & 3; => 0 c[] = 2¶
+c: table sum of int; emit c <- 6 | 3; => 0 c[] = 7¶
+c: table sum of int; emit c <- 6 ^ 3; => 0 c[] = 5¶
+c: table sum of int; emit c <- +7; => 0 c[] = 7¶
+c: table sum of int; emit c <- ~7; => 0 c[] = -8¶
+c: table sum of int; emit c <- 1; emit c <- 1 / 0; => 0 c[] = 1¶
+c: table sum of int; emit c <- 1; emit c <- 1 % 0; => 0 c[] = 1¶
+c: table sum of int; emit c <- 1; emit c <- 1 << 64; => 0 c[] = 1¶
+c: table sum of int; emit c <- 1; emit c <- 1 << -1; => 0 c[] = 1¶
+c: table sum of int; emit c <- 1; emit c <- 1 >> 64; => 0 c[] = 1¶
+c: table sum of int; emit c <- 1; emit c <- 0 * (1 / 0); => 0 c[] = 1¶
+c: table sum of int; emit c <- 1; emit c <- -(1 / 0); => 0 c[] = 1¶
+
+== comparisons are by the order of values
+< ¶
+c: table sum of int; emit c <- int(1 == 1) + int(1 == 2) * 10; => 0 c[] = 1¶
+c: table sum of int; emit c <- int(1 != 1) + int(1 != 2) * 10; => 0 c[] = 10¶
+c: table sum of int; emit c <- int(1 < 1) + int(-1 < 1) * 10 + int(2 < 1) * 100; => 0 c[] = 10¶
+c: table sum of int; emit c <- int(1 <= 1) + int(-1 <= 1) * 10 + int(2 <= 1) * 100; => 0 c[] = 11¶
+c: table sum of int; emit c <- int(1 > 1) + int(-1 > 1) * 10 + int(2 > 1) * 100; => 0 c[] = 100¶
+c: table sum of int; emit c <- int(1 >= 1) + int(-1 >= 1) * 10 + int(2 >= 1) * 100; => 0 c[] = 101¶
+c: table sum of int; emit c <- int("a" < "ab") + int("b" < "ab") * 10 + int("z" < "é") * 100; => 0 c[] = 101¶
+c: table sum of int; emit c <- int(B"\x7f" < B"\x80") + int(B"" >= B"a") * 10; => 0 c[] = 1¶
+c: table sum of int; emit c <- int(time(1) <= time(2)) + int(time(1) == time(2)) * 10; => 0 c[] = 1¶
+c: table sum of int; emit c <- int(true == true) + int(true != true) * 10; => 0 c[] = 1¶
+c: table sum of int; a: array of int = {1, 2}; emit c <- int(a == {1, 2}) + int(a == {1}) * 10; => 0 c[] = 1¶
+c: table sum of int; m: map[int] of int = {1: 2, 3: 4}; emit c <- int(m == {3: 4, 1: 2}) + int(m != {:}) * 10; => 0 c[] = 11¶
+c: table sum of int; t: {a: int, b: string} = {1, "x"}; emit c <- int(t == {1, "x"}) + int(t == {1, "y"}) * 10; => 0 c[] = 1¶
+c: table sum of int; emit c <- int(def(1 / 0 == 1)) + int(def("a"[9] < 1)) * 10; => 0 c[] = 0¶
+
+== an undefined value makes what is computed of it undefined
+< ¶
+c: table sum of int; u: int; emit c <- int(def(u)) + int(def(1)) * 10; => 0 c[] = 10¶
+c: table sum of int; u: int; x: int = u; emit c <- int(def(x)); => 0 c[] = 0¶
+c: table sum of int; u: bool; emit c <- int(def(u && true)) + int(def(u && false)) * 10 + int(def(u || true)) * 100; => 0 c[] = 0¶
+c: table sum of int; u: bool; emit c <- int(def(true && u)) + int(def(false && u)) * 10 + int(def(true || u)) * 100; => 0 c[] = 110¶
+c: table sum of int; u: bool; emit c <- int(def(false || u)) + int(def(!u)) * 10; => 0 c[] = 0¶
+c: table sum of int; u: string; emit c <- int(def(u + "a")) + int(def(u[0])) * 10 + int(def(u[0:0])) * 100 + int(def(len(u))) * 1000; => 0 c[] = 0¶
+c: table sum of int; u: int; a: array of int = {1, u}; emit c <- int(def(a)) + int(def("a"[u])) * 10; => 0 c[] = 0¶
+c: table sum of int; u: int; t: {a: int, b: int} = {1, u}; emit c <- int(def(t)) + int(def(t.a)) * 10; => 0 c[] = 0¶
+c: table sum of int; u: int; m: map[int] of int = {1: u}; n: map[int] of int = {u: 1}; emit c <- int(def(m)) + int(def(n)) * 10; => 0 c[] = 0¶
+c: table sum of int; u: map[int] of int; emit c <- int(def(u[1])) + int(def(keys(u))) * 10 + int(def(haskey(u, 1))) * 100; => 0 c[] = 0¶
+c: table sum of int; u: string; emit c <- int(def(strfind(u, "a"))) + int(def(strfind("a", u))) * 10 + int(def(int(u))) * 100; => 0 c[] = 0¶
+c: table sum of int; u: int; emit c <- u; => 0
+c: table sum of int; f: function(a: int, b: int): int { return a; } u: int; emit c <- int(def(f(1, u))) + int(def(f(1, 2))) * 10; => 0 c[] = 10¶
+
+== strings, bytes and arrays have elements and slices
+< ¶
+c: table sum of int; emit c <- "aéb"[1]; => 0 c[] = 233¶
+c: table sum of int; emit c <- B"a\xff"[1]; => 0 c[] = 255¶
+c: table sum of int; a: array of int = {4, 5}; emit c <- a[0] + a[1] * 10; => 0 c[] = 54¶
+c: table sum of int; emit c <- int(def("aé"[2])) + int(def("aé"[-1])) * 10 + int(def("aé"[1])) * 100; => 0 c[] = 100¶
+c: table sum of int; emit c <- int("aéb"[1:3] == "éb") + int("aéb"[3:3] == "") * 10 + int("aéb"[0:3] == "aéb") * 100; => 0 c[] = 111¶
+c: table sum of int; emit c <- int(B"abc"[1:2] == B"b") + len(bytes("aéb")[1:4]) * 10; => 0 c[] = 31¶
+c: table sum of int; a: array of int = {4, 5, 6}; emit c <- a[1:3][0] + len(a[0:0]) * 10; => 0 c[] = 5¶
+c: table sum of int; emit c <- int(def("abc"[2:1])) + int(def("abc"[-1:1])) * 10 + int(def("abc"[0:4])) * 100; => 0 c[] = 0¶
+c: table sum of int; emit c <- 'a' + '\n' + 'é' - "\u00e9"[0]; => 0 c[] = 107¶
+c: table sum of int; a: array of array of int = {{1, 2}, {3}}; emit c <- a[0][1] * 10 + a[1][0]; => 0 c[] = 23¶
+c: table sum of int; emit c <- int("ab" + "c" == "abc") + int(B"a" + B"" == B"a") * 10; => 0 c[] = 11¶
+c: table sum of int; a: array of int = {1}; emit c <- len(a + {2, 3}) + (a + {2, 3})[2] * 10; => 0 c[] = 33¶
+
+== tuples have fields
+< ¶
+c: table sum of int; t: {a: int, b: int} = {4, 5}; emit c <- t.a + t.b * 10; => 0 c[] = 54¶
+c: table sum of int; type P = {x: int, y: int}; p: P = {1, 2}; emit c <- p.x * 10 + p.y; => 0 c[] = 12¶
+c: table sum of int; t: {a: {b: array of int}} = {{{7, 8}}}; emit c <- t.a.b[1]; => 0 c[] = 8¶
+c: table sum of int; u: {a: int}; emit c <- int(def(u.a)); => 0 c[] = 0¶
+
+== maps have a value for each key
+< ¶
+c: table sum of int; m: map[string] of int = {"b": 2, "a": 1, "b": 3}; emit c <- len(m) + m["b"] * 10; => 0 c[] = 32¶
+c: table sum of int; m: map[int] of int = {3: 5, 1: 6}; emit c <- keys(m)[0] + keys(m)[1] * 10 + len(keys(m)) * 100; => 0 c[] = 231¶
+c: table sum of int; m: map[int] of int = {3: 5}; emit c <- int(haskey(m, 3)) + int(haskey(m, 4)) * 10 + int(def(m[4])) * 100; => 0 c[] = 1¶
+c: table sum of int; m: map[int] of int = {:}; emit c <- len(m) + len(keys(m)); => 0 c[] = 0¶
+c: table sum of int; m: map[array of int] of int; k: array of int = {1}; m = {k: 5}; emit c <- m[k]; => 0 c[] = 5¶
+
+== predeclared functions
+< ¶
+c: table sum of int; emit c <- len("aéb") + len(B"abcd") * 10 + len("") * 100; => 0 c[] = 43¶
+c: table sum of int; a: array of int = {}; emit c <- len(a); => 0 c[] = 0¶
+c: table sum of int; emit c <- strfind("b", "aéb") + strfind("", "x") * 10 + strfind("xy", "axyxy") * 100; => 0 c[] = 102¶
+c: table sum of int; emit c <- strfind("x", "ab"); => 0 c[] = -1¶
+c: table sum of int; emit c <- strfind(B"\xa9b", bytes("aéb")) + strfind(B"", B"") * 10; => 0 c[] = 2¶
+
+== conversions
+< ¶
+c: table sum of int; emit c <- int("+7") + int("-07") + int(B"12"); => 0 c[] = 12¶
+c: table sum of int; emit c <- int("-9223372036854775808"); => 0 c[] = -9223372036854775808¶
+c: table sum of int; emit c <- int(def(int("9223372036854775808"))) + int(def(int(""))) * 10 + int(def(int("-"))) * 100; => 0 c[] = 0¶
+c: table sum of int; emit c <- int(def(int(" 7"))) + int(def(int("7 "))) * 10 + int(def(int("0x7"))) * 100; => 0 c[] = 0¶
+c: table sum of int; emit c <- int(string(-12) == "-12") + int(string(true) == "true") * 10 + int(string(false) == "false") * 100; => 0 c[] = 111¶
+c: table sum of int; emit c <- int(true) + int(false) * 10; => 0 c[] = 1¶
+c: table sum of int; emit c <- len(bytes("é")) + int(string(B"\xc3\xa9") == "é") * 10 + int(def(string(B"\xff"))) * 100; => 0 c[] = 12¶
+c: table sum of int; t: time = time(5); emit c <- int(t) + int(t + 3) * 10; => 0 c[] = 85¶
+c: table sum of int; emit c <- time(5) - time(3) + int(time(5) - 3) * 10; => 0 c[] = 22¶
+c: table sum of int; type N = int; emit c <- N("7") + int(7); => 0 c[] = 14¶
+c: table sum of int; s: string = 12; b: bytes = "é"; t: time = 3; x: int = t; emit c <- len(s) + len(b) * 10 + x * 100; => 0 c[] = 322¶
+c: table sum of int; x: int = true; y: int = "8"; z: int = "a"; emit c <- x + y * 10 + int(def(z)) * 100; => 0 c[] = 81¶
+c: table sum of int; s: string = true; t: string = B"a"; u: string = B"\xff"; emit c <- len(s) + len(t) * 10 + int(def(u)) * 100; => 0 c[] = 14¶
+"#;

@@ -1,0 +1,195 @@
+//! Runs by example: what statements, functions and statics do, and how records fault. The lines are as in `runs.rt`.
+
+/// The runs.
+pub(super) const RUNS: &str = r#"== an undefined value ends the record where it has to be defined
+< ¶
+x: int;¶x = 1 / 0; => 3 ! record 1: undefined value used at 2:1
+x: int;¶x++; => 3 ! record 1: undefined value used at 2:1
+u: int; a: array of int = {1};¶a[u] = 5; => 3 ! record 1: undefined value used at 2:1
+u: int; m: map[int] of int = {:};¶m[u] = 5; => 3 ! record 1: undefined value used at 2:1
+u: bool;¶if (u) ; => 3 ! record 1: undefined value used at 2:1
+u: bool;¶if (u && false) ; else ; => 3 ! record 1: undefined value used at 2:1
+u: bool;¶while (u) ; => 3 ! record 1: undefined value used at 2:1
+u: bool;¶do ; while (u); => 3 ! record 1: undefined value used at 2:1
+u: bool;¶for (; u; ) ; => 3 ! record 1: undefined value used at 2:1
+x: int;¶for (x = 1 / 0; false; ) ; => 3 ! record 1: undefined value used at 2:6
+x: int;¶for (; true; x = 1 / 0) ; => 3 ! record 1: undefined value used at 2:14
+u: string;¶len(u); => 3 ! record 1: undefined value used at 2:1
+f: function(): int { }¶f(); => 3 ! record 1: undefined value used at 2:1
+c: table sum of int; u: int; x: int = u; y := u; emit c <- u; { z: int = u; } emit c <- 1; => 0 c[] = 1¶
+u: int; strfind("a", "b"); => 0
+
+== a store outside the value ends the record
+< ¶
+a: array of int = {1};¶a[1] = 5; => 3 ! record 1: store outside the value at 2:1
+a: array of int = {1};¶a[-1] = 5; => 3 ! record 1: store outside the value at 2:1
+a: array of int = {};¶a[0] = 5; => 3 ! record 1: store outside the value at 2:1
+a: array of int;¶a[0] = 5; => 3 ! record 1: store outside the value at 2:1
+t: {a: int};¶t.a = 5; => 3 ! record 1: store outside the value at 2:1
+m: map[int] of int;¶m[1] = 5; => 3 ! record 1: store outside the value at 2:1
+m: map[int] of array of int = {:};¶m[1][0] = 5; => 3 ! record 1: store outside the value at 2:1
+m: map[int] of {a: int} = {1: {2}};¶m[3].a = 5; => 3 ! record 1: store outside the value at 2:1
+a: array of array of int = {{1}};¶a[0][1] = 5; => 3 ! record 1: store outside the value at 2:1
+a: array of array of int = {{1}};¶a[1][0] = 5; => 3 ! record 1: store outside the value at 2:1
+
+== at one statement the budget comes first, then an undefined value, then a store outside
+< ¶
+a: array of int = {1};¶a[5] = 1 / 0; => 3 ! record 1: undefined value used at 2:1
+a: array of int;¶a[1 / 0] = 5; => 3 ! record 1: undefined value used at 2:1
+$ [run p f --budget 8]
+a: array of int = {1};¶a[5] = 1; => 3 ! record 1: store outside the value at 2:1
+$ [run p f --budget 7]
+a: array of int = {1};¶a[5] = 1; => 3 ! record 1: budget passed at 2:1
+$ [run p f --budget 4]
+x: int;¶x = 1 / 0; => 3 ! record 1: undefined value used at 2:1
+$ [run p f --budget 3]
+x: int;¶x = 1 / 0; => 3 ! record 1: budget passed at 2:1
+$ [run p f --budget 2]
+u: bool;¶if (u) ; => 3 ! record 1: undefined value used at 2:1
+$ [run p f --budget 1]
+u: bool;¶if (u) ; => 3 ! record 1: budget passed at 2:1
+
+== assignments change a variable, or a part of its value
+< ¶
+c: table sum of int; x: int = 1; x = 5; emit c <- x; => 0 c[] = 5¶
+c: table sum of int; x: int; x = 5; x++; x++; x--; emit c <- x; => 0 c[] = 6¶
+c: table sum of int; t: time = time(5); t++; emit c <- int(t); => 0 c[] = 6¶
+c: table sum of int; a: array of int = {1, 2}; a[1] = 7; emit c <- a[0] + a[1] * 10; => 0 c[] = 71¶
+c: table sum of int; m: map[string] of int = {"b": 2, "a": 1, "b": 3}; m["c"] = 4; m["a"] = 5; emit c <- m["a"] + m["b"] * 10 + m["c"] * 100 + len(m) * 1000; => 0 c[] = 3435¶
+c: table sum of int; t: {a: int, b: int} = {1, 2}; t.b = 7; emit c <- t.a + t.b * 10; => 0 c[] = 71¶
+c: table sum of int; m: map[int] of {a: array of int} = {1: {{2, 3}}}; m[1].a[0] = 7; emit c <- m[1].a[0] + m[1].a[1] * 10; => 0 c[] = 37¶
+c: table sum of int; a: array of map[int] of int = {{:}}; a[0][5] = 6; emit c <- a[0][5]; => 0 c[] = 6¶
+c: table sum of int; a: array of int = {1}; b: array of int = a; b[0] = 5; emit c <- a[0] + b[0] * 10; => 0 c[] = 51¶
+c: table sum of int; a: array of int = {0, 1}; a[a[0]] = a[1] + 4; emit c <- a[0] + a[1] * 10; => 0 c[] = 15¶
+
+== if runs one of its parts
+< ¶
+c: table sum of int; if (true) emit c <- 1; else emit c <- 10; => 0 c[] = 1¶
+c: table sum of int; if (false) emit c <- 1; else emit c <- 10; => 0 c[] = 10¶
+c: table sum of int; if (false) emit c <- 1; emit c <- 10; => 0 c[] = 10¶
+c: table sum of int; if (true) if (false) emit c <- 1; else emit c <- 10; => 0 c[] = 10¶
+c: table sum of int; if (false) if (false) emit c <- 1; else emit c <- 10; => 0
+c: table sum of int; if (false) ; else if (true) emit c <- 100; else emit c <- 10; => 0 c[] = 100¶
+
+== an inner block may hide a name
+< ¶
+c: table sum of int; x: int = 1; { x: int = 2; emit c <- x; } emit c <- x * 10; => 0 c[] = 12¶
+c: table sum of int; x: int = 1; { x = 2; } emit c <- x; => 0 c[] = 2¶
+c: table sum of int; x: int = 1; if (true) x: int = 2; emit c <- x; => 0 c[] = 1¶
+c: table sum of int; x: int = 1; for (x: int = 5; x < 7; x++) emit c <- x; emit c <- x * 100; => 0 c[] = 111¶
+c: table sum of int; x: int = 1; { x: int = x + 1; emit c <- x; } => 0 c[] = 2¶
+c: table sum of int; len: function(s: string): int { return 9; } emit c <- len("a"); => 0 c[] = 9¶
+c: table sum of int; input: int = 4; emit c <- input; => 0 c[] = 4¶
+
+== while, do and for
+< ¶
+c: table sum of int; i: int = 0; while (i < 3) { emit c <- i; i++; } => 0 c[] = 3¶
+c: table sum of int; while (false) emit c <- 1; => 0
+c: table sum of int; do emit c <- 1; while (false); => 0 c[] = 1¶
+c: table sum of int; i: int = 0; do { emit c <- i; i++; } while (i < 3); => 0 c[] = 3¶
+c: table sum of int; i: int = 0; while (true) { i++; if (i > 3) break; if (i == 2) continue; emit c <- i; } => 0 c[] = 4¶
+c: table sum of int; i: int = 0; do { i++; if (i > 3) break; if (i == 2) continue; emit c <- i; } while (true); => 0 c[] = 4¶
+c: table sum of int; i: int = 0; do { i++; if (i == 3) continue; emit c <- i; } while (i < 3); => 0 c[] = 3¶
+c: table sum of int; for (i: int = 0; i < 4; i++) { if (i == 2) continue; emit c <- i; } => 0 c[] = 4¶
+c: table sum of int; for (i: int = 0; ; i++) { if (i > 3) break; emit c <- i; } => 0 c[] = 6¶
+c: table sum of int; i: int = 5; for (; i < 7; ) { emit c <- i; i++; } => 0 c[] = 11¶
+c: table sum of int; for (i := 0; i < 2; i++) for (j: int = 0; j < 3; j++) { if (j == 1) continue; if (j > i + 1) break; emit c <- i * 10 + j; } => 0 c[] = 22¶
+c: table sum of int; for (i: int = 0; i < 3; i++) { while (true) { if (i == 1) break; emit c <- 1; break; } emit c <- 10; } => 0 c[] = 32¶
+c: table sum of int; for (i: int = 0; i < 3; i++) { y: int; if (def(y)) emit c <- 1; y = i; emit c <- y * 10; } => 0 c[] = 30¶
+c: table sum of int; i: int = 0; while (i < 10000) i++; emit c <- i; => 0 c[] = 10000¶
+
+== a run ends though its program doesn't
+< ¶
+$ [run p f --budget 999]
+while (true) ; => 3 ! record 1: budget passed at 1:8
+$ [run p f --budget 1000]
+while (true) ; => 3 ! record 1: budget passed at 1:1
+$ [run p f --budget 1001]
+while (true) ; => 3 ! record 1: budget passed at 1:1
+for (;;) ; => 3 ! record 1: budget passed at 1:1
+do ; while (true); => 3 ! record 1: budget passed at 1:1
+while (true) continue; => 3 ! record 1: budget passed at 1:1
+static a: int = 1;¶f: function(): int { while (true) ; }¶static b: int = f(); => 3 ! record 0: budget passed at 2:22
+$ [run p f --budget 100]
+f: function(n: int): int { return f(n + 1); }¶x: int = f(0); => 3 ! record 1: budget passed at 1:37
+$ [run p f]
+f: function(n: int): int { return f(n + 1); }¶x: int = f(0); => 3 ! record 1: calls too deep at 1:35
+f: function(): int { return f(); }¶f(); => 3 ! record 1: calls too deep at 1:29
+
+== return ends the record
+< 1¶2¶
+c: table sum of int; emit c <- 1; return; emit c <- 10; => 0 c[] = 2¶
+c: table sum of int; x: int = input; if (x == 1) return; emit c <- x; => 0 c[] = 2¶
+c: table sum of int; x: int = input; while (true) { for (;;) { emit c <- x; return; } } => 0 c[] = 3¶
+
+== functions
+< ¶
+c: table sum of int; f: function(n: int): int { if (n == 0) return 1; return n * f(n - 1); } emit c <- f(5); => 0 c[] = 120¶
+c: table sum of int; f: function(a: int, b: int): int { return a - b; } emit c <- f(7, 2) + f(2, 7) * 10; => 0 c[] = -45¶
+c: table sum of int; f: function(n: int): int { x: int; if (def(x)) return 1; x = 5; return 0; } emit c <- f(1) + f(1); => 0 c[] = 0¶
+c: table sum of int; f: function(n: int): int { n = n + 1; return n; } x: int = 1; emit c <- f(x) + x * 10; => 0 c[] = 12¶
+c: table sum of int; f: function(n: int): int { m: int = n; if (n > 0) f(n - 1); return m; } emit c <- f(3); => 0 c[] = 3¶
+c: table sum of int; f: function(n: int): int { if (n > 0) return 1; } emit c <- int(def(f(1))) + int(def(f(0))) * 10; => 0 c[] = 1¶
+c: table sum of int; f: function(n: int): int { return 1 / n; } emit c <- int(def(f(1))) + int(def(f(0))) * 10; => 0 c[] = 1¶
+c: table sum of int; f: function(n: int): int { emit c <- n; return n; } emit c <- f(2) * 10; => 0 c[] = 22¶
+c: table sum of int; f: function(n: int): int { for (i: int = 0; ; i++) if (i * i >= n) return i; } emit c <- f(10); => 0 c[] = 4¶
+c: table sum of int; f: function(n: int): int { while (true) { n++; if (n > 5) break; } return n; } emit c <- f(1); => 0 c[] = 6¶
+c: table sum of int; f: function(s: string): string { return s + s; } emit c <- len(f(f("ab"))); => 0 c[] = 8¶
+c: table sum of int; f: function(a: array of int): int { a[0] = 9; return a[0]; } a: array of int = {1}; emit c <- f(a) + a[0] * 10 + f({5}) * 100; => 0 c[] = 919¶
+c: table sum of int; f: function(n: int): {a: int} { return {n}; } emit c <- f(3).a; => 0 c[] = 3¶
+c: table sum of int; f: function(n: int): int { return n + 1; } g: function(n: int): int { return f(f(n)); } emit c <- g(1); => 0 c[] = 3¶
+f: function(n: int): int { x: int; x = 1 / 0; return 1; }¶y: int = f(1); => 3 ! record 1: undefined value used at 1:36
+f: function(n: int): int { a: array of int = {1}; a[n] = 5; return 1; }¶y: int = f(1); => 3 ! record 1: store outside the value at 1:51
+
+== as many as 128 calls may be open
+< ¶
+f: function(n: int): int { if (n == 1) return 1; return f(n - 1) + 1; }¶c: table sum of int; emit c <- f(128); => 0 c[] = 128¶
+f: function(n: int): int { if (n == 1) return 1; return f(n - 1) + 1; }¶c: table sum of int; emit c <- f(129); => 3 ! record 1: calls too deep at 1:57
+f: function(n: int): int { if (n == 1) return len("a"); return f(n - 1) + int("1"); }¶c: table sum of int; emit c <- f(128); => 0 c[] = 128¶
+f: function(n: int): int { u: int; if (n == 1) return int(def(f(u))); return f(n - 1); }¶c: table sum of int; emit c <- f(128); => 0 c[] = 0¶
+f: function(n: int): int { if (n == 1) return 1; return f(n - 1) + 1; }¶c: table sum of int; emit c <- f(128) + f(128); => 0 c[] = 256¶
+
+== statics are computed once, before the records
+< 1¶2¶
+c: table sum of int; static s: int = 2 + 3; emit c <- s; => 0 c[] = 10¶
+c: table sum of int; static a: int = 2; static b: int = a * 5; emit c <- b; => 0 c[] = 20¶
+c: table sum of int; f: function(n: int): int { return n * n; } static s: int = f(4); emit c <- s; => 0 c[] = 32¶
+c: table sum of int; static s: array of int = {4, 5}; f: function(n: int): int { return s[n]; } emit c <- f(1); => 0 c[] = 10¶
+c: table sum of int; static s: int = 1 / 0; emit c <- int(def(s)); => 0 c[] = 0¶
+c: table sum of int; static s: string = 12; static n: int = "7"; emit c <- len(s) * 10 + n; => 0 c[] = 54¶
+c: table sum of int; static s: array of int = {4}; a: array of int = s; a[0] = 9; emit c <- s[0]; => 0 c[] = 8¶
+c: table sum of int; type A = array of int; static s: A = {1}; emit c <- len(s); => 0 c[] = 2¶
+c: table sum of int; emit c <- 1; static s: int = 5; emit c <- s; => 0 c[] = 12¶
+
+== a fault in a static is one of record 0
+f: function(n: int): int { return f(n + 1); }¶static s: int = f(0); => 3 ! record 0: calls too deep at 1:35
+f: function(): int { x: int; x = 1 / 0; return 1; }¶static s: int = f(); => 3 ! record 0: undefined value used at 1:30
+f: function(): int { a: array of int; a[0] = 1; return 1; }¶static s: int = f(); => 3 ! record 0: store outside the value at 1:39
+< ¶
+x: int;¶x = 1 / 0;¶f: function(n: int): int { return f(n); }¶static s: int = f(0); => 3 ! record 0: calls too deep at 3:35
+
+== the first record that faults decides, and nothing is printed
+< 1¶¶
+c: table sum of int;¶x: int = input;¶if (x > 0) emit c <- 1;¶ => 3 ! record 2: undefined value used at 3:1
+< 1¶¶5¶¶
+c: table sum of int;¶x: int = input;¶if (x > 0) emit c <- 1;¶ => 3 ! record 2: undefined value used at 3:1
+< ¶
+c: table sum of int; emit c <- 1;¶x: int;¶x = 1 / 0; => 3 ! record 1: undefined value used at 3:1
+< 2¶0¶1¶
+c: table sum of int; a: array of int = {5};¶x: int = input; if (x == 0) a[x - 1] = 5;¶if (x == 1) a[1 / 0] = 5;¶emit c <- 1; => 3 ! record 2: store outside the value at 2:29
+< 1¶1¶1¶1¶1¶1¶1¶1¶1¶x¶
+x: int = input;¶if (x > 0) ; => 3 ! record 10: undefined value used at 2:1
+
+== each record has variables and a budget of its own
+< 1¶2¶3¶
+c: table sum of int; x: int; if (def(x)) emit c <- 1; x = 5; emit c <- 10; => 0 c[] = 30¶
+c: table sum of int; a: array of int = {0}; a[0] = a[0] + 1; emit c <- a[0]; => 0 c[] = 3¶
+c: table sum of int; x: int = input; if (x == 1) { y: int = 7; } z: int; if (def(z)) emit c <- 100; emit c <- x; => 0 c[] = 6¶
+f: function(): int { x: int; if (def(x)) return 1; x = 2; return 0; }¶c: table sum of int; emit c <- f(); => 0 c[] = 0¶
+$ [run p f --budget 3]
+c: table sum of int; emit c <- 1; => 0 c[] = 3¶
+$ [run p f --budget 7]
+c: table sum of int; x: int = input; y: int = x; emit c <- 1; => 3 ! record 1: budget passed at 1:50
+$ [run p f --budget 8]
+c: table sum of int; x: int = input; y: int = x; emit c <- 1; => 0 c[] = 3¶
+"#;
