@@ -1,3 +1,4 @@
+pub mod ForCallers
 mod RepeatsLemmas
 mod FullLemmas
 mod ShowingLemmas

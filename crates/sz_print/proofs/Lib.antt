@@ -1,3 +1,4 @@
 mod JoinedLemmas
 mod ValueLemmas
 mod StandardFacts
+mod TablesLemmas

@@ -2,3 +2,4 @@
 pub mod Joined
 pub mod Text
 pub mod Lines
+pub mod Tables

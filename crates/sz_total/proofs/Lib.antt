@@ -1,2 +1,6 @@
 mod TablesLemmas
+mod ListLemmas
+mod HeldLemmas
+mod KeyLemmas
+mod TotalLemmas
 mod StandardFacts

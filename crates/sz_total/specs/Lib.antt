@@ -2,3 +2,10 @@
 pub mod Tables
 pub mod Totals
 pub mod Laws
+pub mod Weights
+pub mod States
+-- what the functions inside the crate promise each other
+pub mod Aggregates
+pub mod Held
+pub mod OneTable
+pub mod Code

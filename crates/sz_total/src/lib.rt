@@ -1,6 +1,13 @@
 //! The rows of the tables of a program, index list by index list, and what the tables stand for.
 #![tactic(auto)]
 
+mod aggregate;
+mod indexed;
 mod laws;
+mod lists;
+mod one_table;
+mod total;
 
+pub use indexed::{IndexedRows, TableRows};
 pub use laws::{a_table_shows_its_indexes, no_emits_no_rows, tables_forget_the_order};
+pub use total::Total;

@@ -1,0 +1,38 @@
+//! The text of all tables.
+ghost use Rattle.std.specs.Prelude.{◌≡◌, ◌++◌, List, IfOk, OnOk};
+ghost use Rattle.sz_types.specs.SeenTables.{seen_table};
+ghost use Rattle.sz_tabs.specs.Data.{EmitDatum};
+ghost use Rattle.sz_total.specs.States.{declarations, emit_count, shown};
+ghost use Rattle.sz_total.specs.Tables.{Indexed};
+ghost use Rattle.sz_total.specs.Totals.{StandsFor};
+ghost use Rattle.sz_print.specs.Tables.{table_lines, tables_text};
+
+use crate::row::push_rows;
+use std::alloc::Global;
+use sz_tabs::NoMemory;
+use sz_total::{IndexedRows, Total};
+use sz_types::{TableDecl, TableDecls};
+
+/// The text of all tables: in the order of their declarations, with the index lists of each in value order. The declarations are
+/// those of the total.
+pub fn text<'a>(alloc: Global, total: &Total<'a>, tables: &TableDecls) -> Result<Vec<u8>, NoMemory>
+    requires declared { tables.now ≡ total.now.tables }
+    ensures value { (emits : List EmitDatum) → StandsFor declarations emit_count shown total.now emits
+        → IfOk result (λ text. text.items ≡ tables_text tables.now emits) }
+{
+    let mut text = Vec::new(alloc);
+    for (number, table) in tables.as_slice().iter().enumerate() {
+        push_table(table, total.rows(number)?.as_slice(), &mut text)?;
+    }
+    Ok(text)
+}
+
+// Appends the lines of a table.
+fn push_table(table: &TableDecl, shown: &[IndexedRows], out: &mut Vec<u8>) -> Result<(), NoMemory>
+    ensures value { OnOk result (out.new.items ≡ out.old.items ++ table_lines (seen_table table.now) shown.now) }
+{
+    for one in shown {
+        push_rows(table, &one.indexes, &one.rows, out)?;
+    }
+    Ok(())
+}

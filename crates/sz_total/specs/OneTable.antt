@@ -1,0 +1,51 @@
+-- What contracts see of one table, and what one emit more does to it.
+use Rattle.std.specs.Prelude.{◌≡◌, ℕ, ◌+◌, ◌^◌, ◌<◌, ◌≤◌, Some, List, [], ◌∷◌, ◌++◌, All, map, set, slice_get}
+use Rattle.sz_types.specs.Tables.{Declaration}
+use Rattle.sz_tabs.specs.Data.{EmitDatum}
+use Rattle.sz_tabs.specs.Fitting.{Fits}
+use Rattle.sz_tabs.specs.Rows.{brought_by}
+use Rattle.sz_total.specs.Tables.{Indexed, table_rows}
+use Rattle.sz_total.specs.Held.{Held, AreHeld}
+use Rattle.sz_total.specs.Weights.{HasItsWeights}
+
+-- a table's declaration, the number of emits to it, and its rows
+pub record TableState : Type 0 where
+  pub table : Declaration
+  pub count : ℕ
+  pub rows : List Indexed
+
+-- the table has its weights, and its aggregators are of the table
+pub record IsKept (table : Declaration) (count : ℕ) (held : Held) : Type 0 where
+  pub weights : HasItsWeights table
+  pub aggregates : AreHeld table count held
+
+-- where the old rows are those of a list of emits, the new rows are those of one emit more
+pub record GainsEmit (old new : TableState) (emit : EmitDatum) : Type 0 where
+  pub same_table : new.table ≡ old.table
+  pub one_more : new.count ≡ old.count + 1
+  pub rows : (emits : List EmitDatum) → old.rows ≡ table_rows emit.table old.table emits
+      → new.rows ≡ table_rows emit.table old.table (emits ++ emit ∷ [])
+
+-- a declared table before any emit
+abbrev pub new_table : Declaration → TableState
+new_table table = record { table = table; count = 0; rows = [] }
+
+-- the emit fits the table with its number, which has room for it
+pub record HasRoomFor (emit : EmitDatum) (held : List TableState) : Type 0 where
+  pub state : TableState
+  pub there : slice_get held emit.table ≡ Some state
+  pub fits : Fits state.table (brought_by emit)
+  pub room : state.count < 2 ^ 63
+
+-- the table with the emit's number gains the emit, and the others stay
+pub record GainsAt (emit : EmitDatum) (old new : List TableState) : Type 0 where
+  pub before : TableState
+  pub after : TableState
+  pub there : slice_get old emit.table ≡ Some before
+  pub gains : GainsEmit before after emit
+  pub now : new ≡ set old emit.table after
+
+-- the tables are those that are declared, and each has at most so many emits
+pub record AreTables (tables : List Declaration) (count : ℕ) (held : List TableState) : Type 0 where
+  pub declared : map (λ (s : TableState). s.table) held ≡ tables
+  pub few : All (λ (s : TableState). s.count ≤ count) held

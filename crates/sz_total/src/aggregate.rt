@@ -1,0 +1,72 @@
+//! The aggregator of a table of any kind.
+ghost use Rattle.std.specs.Prelude.{◌≡◌, ◌<◌, ◌^◌, IfOk, OnOk, OnErr};
+ghost use Rattle.sz_types.specs.SeenTables.{seen_table};
+ghost use Rattle.sz_value.specs.Seen.{seen};
+ghost use Rattle.sz_tabs.specs.Aggregating.{weighted, IsNew, Gains};
+ghost use Rattle.sz_tabs.specs.Fitting.{Fits};
+ghost use Rattle.sz_total.specs.Aggregates.{declaration_of, count_of, shown_of};
+ghost use Rattle.sz_total.specs.Weights.{HasItsWeights};
+
+use std::alloc::Global;
+use sz_extreme::Extreme;
+use sz_members::Members;
+use sz_sum::Sum;
+use sz_tabs::{Aggregator, NoMemory, Rows};
+use sz_types::{TableDecl, TableKind};
+use sz_value::Value;
+
+/// The aggregator of the kind that its table has.
+#[derive(Drop)]
+pub(crate) enum Aggregate<'a> {
+    Sum(Sum<'a>),
+    Extreme(Extreme<'a>),
+    Members(Members<'a>),
+}
+
+// An aggregator of a table before any emit.
+pub(crate) fn new_aggregate<'a>(
+    alloc: Global,
+    table: &'a TableDecl,
+) -> Result<Aggregate<'a>, NoMemory>
+    requires weights { HasItsWeights (seen_table table.now) }
+    ensures empty { IfOk result (IsNew declaration_of count_of shown_of (seen_table table.now)) }
+{
+    match table.kind {
+        TableKind::Sum => Ok(Aggregate::Sum(Sum::new(alloc, table)?)),
+        TableKind::Maximum | TableKind::Minimum => {
+            Ok(Aggregate::Extreme(Extreme::new(alloc, table)))
+        }
+        TableKind::Set | TableKind::Collection => {
+            Ok(Aggregate::Members(Members::new(alloc, table)))
+        }
+    }
+}
+
+// Adds an emit: its value, and its weight where the table has weights.
+pub(crate) fn add_to<'a>(
+    aggregate: &mut Aggregate<'a>,
+    value: &Value,
+    weight: Option<i64>,
+) -> Result<(), NoMemory>
+    requires fits { Fits (declaration_of aggregate.old) (weighted (seen value.now) weight) }
+    requires room { count_of aggregate.old < 2 ^ 63 }
+    ensures ok { OnOk result (Gains declaration_of count_of shown_of aggregate.old aggregate.new (weighted (seen value.now) weight)) }
+    ensures err { OnErr result (aggregate.new ≡ aggregate.old) }
+{
+    match aggregate {
+        Aggregate::Sum(sum) => sum.add(value, weight),
+        Aggregate::Extreme(extreme) => extreme.add(value, weight),
+        Aggregate::Members(members) => members.add(value, weight),
+    }
+}
+
+// The rows, in the order in which they are printed.
+pub(crate) fn rows_shown<'a>(aggregate: &Aggregate<'a>) -> Result<Rows, NoMemory>
+    ensures value { IfOk result (λ rows. rows ≡ shown_of aggregate.now) }
+{
+    match aggregate {
+        Aggregate::Sum(sum) => sum.rows(),
+        Aggregate::Extreme(extreme) => extreme.rows(),
+        Aggregate::Members(members) => members.rows(),
+    }
+}
