@@ -3,4 +3,4 @@
 
 mod laws;
 
-pub use laws::a_run_ends_in_one_way;
+pub use laws::{a_run_emits_what_fits, a_run_ends_in_one_way};

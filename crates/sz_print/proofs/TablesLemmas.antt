@@ -1,12 +1,11 @@
 -- How the text of the tables is printed one after the other.
-use Rattle.std.proofs.Common.{◌≡◌, ◌∙◌, ℕ, suc, ◌+◌, ◌<◌, List, [], ◌∷◌, ◌++◌, map, length, get_or, drop, Some, refl, sym, ap, arith, append_assoc, append-nil}
+use Rattle.std.proofs.Common.{◌≡◌, ◌∙◌, ℕ, suc, ◌+◌, ◌<◌, List, [], ◌∷◌, ◌++◌, map, length, get_or, drop, refl, sym, ap, arith, append_assoc, append-nil}
 use Rattle.std.specs.Prelude.{slice_get}
 use Rattle.std.specs.Option.{option_map}
 use Rattle.std.proofs.Math.Seq.{drop-cons}
 use Rattle.std.proofs.lemmas.Option.{slice_get-map, slice_get_read}
 use Rattle.sz_types.specs.declared.table.TableDecl.{TableDecl}
 use Rattle.sz_types.specs.SeenTables.{seen_table}
-use Rattle.sz_types.specs.Tables.{Declaration}
 use Rattle.sz_tabs.specs.Data.{EmitDatum}
 use Rattle.sz_total.specs.States.{TotalState, declarations, emit_count, shown}
 use Rattle.sz_total.specs.Tables.{Indexed, table_rows}

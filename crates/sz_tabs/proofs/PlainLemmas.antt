@@ -99,7 +99,9 @@ module _ (old new : Listing) (same : new.table ≡ old.table) where
     same_table = same;
     one_more = ap length kept ∙ length-append old.emits (emit ∷ []);
     appended = λ emits stands. record {
-      rows = (λ i. rows_of (same i) (kept i)) ∙ rows_decide old.table old.emits emits (emit ∷ []) stands.rows ∙ ap (λ t. rows_of t (emits ++ emit ∷ [])) (sym same);
+      rows =
+          (λ i. rows_of (same i) (kept i)) ∙ rows_decide old.table old.emits emits (emit ∷ []) stands.rows
+          ∙ ap (λ t. rows_of t (emits ++ emit ∷ [])) (sym same);
       counted = ap length kept ∙ length-append old.emits (emit ∷ []) ∙ ap (λ n. n + 1) stands.counted ∙ sym (length-append emits (emit ∷ []));
     };
   }
@@ -112,7 +114,8 @@ module _ (old new : Listing) (same : new.table ≡ old.table) where
     joined = λ front behind stands beside. record {
       rows =
           (λ i. rows_of (same i) (kept i))
-          ∙ rows_join old.table old.emits front other.emits behind stands.rows (subst (λ t. rows_of t other.emits ≡ rows_of t behind) one_table beside.rows)
+          ∙ rows_join old.table old.emits front other.emits behind stands.rows
+          (subst (λ t. rows_of t other.emits ≡ rows_of t behind) one_table beside.rows)
           ∙ ap (λ t. rows_of t (front ++ behind)) (sym same);
       counted = ap length kept ∙ length-append old.emits other.emits ∙ (λ i. stands.counted i + beside.counted i) ∙ sym (length-append front behind);
     };

@@ -89,7 +89,8 @@ brought_by_both table indexes front behind =
 
 -- one emit more, to the table under the index list, and to another
 module _ (table : ℕ) (indexes : List Datum) (emits : List EmitDatum) (emit : EmitDatum) where
-  pub brought_there : went_to table indexes emit ≡ true → brought_to table indexes (emits ++ emit ∷ []) ≡ brought_to table indexes emits ++ brought_by emit ∷ []
+  pub brought_there : went_to table indexes emit ≡ true
+      → brought_to table indexes (emits ++ emit ∷ []) ≡ brought_to table indexes emits ++ brought_by emit ∷ []
   brought_there went =
       brought_by_both table indexes emits (emit ∷ [])
       ∙ ap (λ b. brought_to table indexes emits ++ map brought_by (cond b (emit ∷ []) [])) went

@@ -1,5 +1,6 @@
 -- What one emit more does to the aggregators of a table, and to the rows that they show.
-use Rattle.std.proofs.Common.{◌≡◌, ◌∙◌, ℕ, ◌+◌, ◌≤◌, Bool, true, false, cond, true≢false, Option, Some, None, List, [], ◌∷◌, ◌++◌, map, refl, sym, ap, subst, arith, ◌&&◌, All, is_some, IfSome, nat_eq}
+use Rattle.std.proofs.Common.{◌≡◌, ◌∙◌, ℕ, ◌+◌, ◌≤◌, Bool, true, false, cond, true≢false, Option, Some, None, List}
+use Rattle.std.proofs.Common.{[], ◌∷◌, ◌++◌, map, refl, sym, ap, subst, arith, ◌&&◌, All, is_some, IfSome, nat_eq}
 use Rattle.std.specs.Option.{option_map_or}
 use Rattle.std.specs.Map.{keys_of, values_of, lookup, set_value}
 use Rattle.std.specs.BTreeSet.{insert_key}
@@ -21,7 +22,8 @@ use Rattle.sz_total.specs.Aggregates.{declaration_of, count_of, shown_of}
 use Rattle.sz_total.specs.Held.{Held, same_indexes, rows_held, rows_in_order, IsHeld, AreHeld, TakesEmit}
 use Rattle.sz_total.specs.Laws.{indexes_shown}
 use Rattle.sz_total.specs.declared.aggregate.Aggregate.{Aggregate}
-use Rattle.sz_total.proofs.ListLemmas.{same_laws, same_is, is_among, distinct_of_more, entered_there, rows_among, indexes_for, all_rows_for, rows_of_table, indexes_of_more}
+use Rattle.sz_total.proofs.ListLemmas.{same_laws, same_is, is_among, distinct_of_more, entered_there}
+use Rattle.sz_total.proofs.ListLemmas.{rows_among, indexes_for, all_rows_for, rows_of_table, indexes_of_more}
 
 -- the rows under every index list
 pub rows_of_held : (held : Held) (indexes : List Datum) → rows_among (rows_in_order held) indexes ≡ rows_held held indexes
@@ -138,7 +140,8 @@ module _ (table : Declaration) (emit : EmitDatum) (held : Held) (old new : Aggre
   }
 
 -- look-ups in front of one entry more
-found_in_front : (test : List Datum → Bool) (held : Held) (k : List Datum) (a : Aggregate) → test k ≡ false → lookup test (held ++ (k, a) ∷ []) ≡ lookup test held
+found_in_front : (test : List Datum → Bool) (held : Held) (k : List Datum) (a : Aggregate) → test k ≡ false
+    → lookup test (held ++ (k, a) ∷ []) ≡ lookup test held
 found_in_front test [] k a other = ap (λ b. cond b (Some a) None) other
 found_in_front test (h ∷ hs) k a other = ap (cond (test h.0) (Some h.1)) (found_in_front test hs k a other)
 

@@ -1,5 +1,6 @@
 -- Laws of index lists: which are the same, which are among the distinct ones, and the rows that stand under each.
-use Rattle.std.proofs.Common.{◌≡◌, ◌∙◌, ℕ, Bool, true, false, cond, ◌||◌, true≢false, List, [], ◌∷◌, ◌++◌, map, filter, refl, sym, ap, Ordering, Less, Equal, Greater, is_eq, nat_eq, ◌&&◌}
+use Rattle.std.proofs.Common.{◌≡◌, ◌∙◌, ℕ, Bool, true, false, cond, ◌||◌, true≢false, List, [], ◌∷◌}
+use Rattle.std.proofs.Common.{◌++◌, map, filter, refl, sym, ap, Ordering, Less, Equal, Greater, is_eq, nat_eq, ◌&&◌}
 use Rattle.std.specs.Cmp.{IsEquivalence, Equal-is, eq_by_cmp_equiv}
 use Rattle.std.specs.List.{list_any, dedup, IsDistinct}
 use Rattle.std.specs.Ordering.{match_ordering, eq_by_cmp}
@@ -116,7 +117,8 @@ module _ (rows : List Datum → List RowDatum) where
   indexes_for [] = refl
   indexes_for (l ∷ ls) = ap (λ rest. l ∷ rest) (indexes_for ls)
 
-  pub rows_among_for : (lists : List (List Datum)) (indexes : List Datum) → rows_among (rows_for lists) indexes ≡ cond (is_among indexes lists) (rows indexes) []
+  pub rows_among_for : (lists : List (List Datum)) (indexes : List Datum)
+      → rows_among (rows_for lists) indexes ≡ cond (is_among indexes lists) (rows indexes) []
   rows_among_for [] indexes = refl
   rows_among_for (l ∷ ls) indexes = by_test (same_indexes indexes l) refl (rows_among_for ls indexes)
     where

@@ -68,7 +68,8 @@ Alike ps qs = (k : Datum) → value_at k ps ≡ value_at k qs
 hit_first : (p : Datum × Datum) (ps : List (Datum × Datum)) → value_at p.0 (p ∷ ps) ≡ Some p.1
 hit_first p ps = first_hit p.0 p.1 p.0 p.1 ps (compare_itself p.0 p.0 refl)
 
-module _ (p q : Datum × Datum) (ps qs : List (Datum × Datum)) (left : KeysRise (p ∷ ps)) (right : KeysRise (q ∷ qs)) (alike : Alike (p ∷ ps) (q ∷ qs)) where
+module _ (p q : Datum × Datum) (ps qs : List (Datum × Datum)) (left : KeysRise (p ∷ ps)) (right : KeysRise (q ∷ qs))
+    (alike : Alike (p ∷ ps) (q ∷ qs)) where
   same_key : p.0 ≡ q.0
   unfolding IsStrictlySortedBy
   same_key = by_found (compare p.0 q.0) refl
