@@ -1,0 +1,6 @@
+-- what the public contracts rest on
+pub mod Shards
+pub mod Attempts
+pub mod Ends
+-- what the functions inside the crate promise each other
+pub mod Running

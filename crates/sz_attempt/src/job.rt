@@ -1,0 +1,38 @@
+//! What is to be done: a program with its statics, and the shards of an input.
+use sz_gen_stmt::Compiled;
+use sz_list::Items;
+use sz_value::Slots;
+use sz_words::{Kills, Twice};
+
+/// What the attempts of a run have in common.
+#[derive(Drop)]
+pub struct Job {
+    /// The program.
+    pub compiled: Compiled,
+    /// The values of its statics.
+    pub statics: Slots,
+    /// The ticks that a record may take: 1 to 2^32.
+    pub budget: u64,
+    /// The number of attempts on a shard.
+    pub attempts: u32,
+    /// The attempts that die.
+    pub kills: Kills,
+    /// The shards with a second ticket.
+    pub twice: Twice,
+}
+
+/// Where a shard lies among records that are at hand.
+#[derive(Clone, Copy, Debug, PartialEq, Eq)]
+pub struct Shard {
+    /// The number of its first record in the input, counted from 1.
+    pub first: u64,
+    /// The place of its first record among those at hand, counted from 0.
+    pub start: usize,
+    /// The place behind its last record.
+    pub end: usize,
+}
+
+/// Shards, in the order of the input.
+///
+/// Contracts see a list.
+pub type ShardRanges = Items<Shard>;
