@@ -25,5 +25,5 @@ returns-clause-ok c =
     let now = ap held_of (c.in_ok-insert.ensures.entries ∙ insert_entry-new (λ k l. asked k.items l) c.args.lists.now key new none)
     ∙ map-append (λ e. (key_data e.0, e.1)) es ((key, new) ∷ []) ∙ ap (λ l. held_of es ++ (l, new) ∷ []) key_is in
     subst (TakesEmit table emit (held_of es)) (sym now)
-    (taken_new table emit (held_of es) old new c.requires.absent c.in_ok-aggregate.ensures.empty
-    (subst (λ e. Gains declaration_of count_of shown_of old new (brought_by e)) c.emit.view_is c.in_ok-add_to.ensures.ok))
+    (taken_new table emit (held_of es) old new c.requires.absent c.in_ok-aggregate.ensures.empty c.in_ok-aggregate.ensures.family
+    (subst (λ e. Gains declaration_of count_of shown_of old new (brought_by e)) c.emit.view_is c.in_ok-add_to.ensures.ok) c.add_to.ensures.family)
