@@ -103,6 +103,43 @@ module _ (indexes : List Datum) (old new : Held) (gains : GainsRoom indexes old 
           ap (lookup (same_indexes others)) some.2 ∙ found_replaced indexes others old own some.0 is
           ∙ ap (λ b. cond b (Some some.0) (lookup (same_indexes others) old)) other
 
+-- what changed under the index list of an aggregator, and under one where there is none
+pub gains_some : (indexes : List Datum) (held new : Held) (own now : Aggregate) → lookup (same_indexes indexes) held ≡ Some own
+    → ChangesRoomAlone own now → new ≡ set_value (same_indexes indexes) held now → GainsRoom indexes held new
+gains_some indexes held new own now there changes written = record {
+  none = subst (λ o. IfNone o (new ≡ held)) (sym there) tt;
+  some =
+      subst (λ o. IfSome o (λ own. (now : Aggregate) × ChangesRoomAlone own now × (new ≡ set_value (same_indexes indexes) held now))) (sym there)
+      (now, changes, written);
+}
+
+pub gains_none : (indexes : List Datum) (held new : Held) → lookup (same_indexes indexes) held ≡ None → new ≡ held → GainsRoom indexes held new
+gains_none indexes held new none same = record {
+  none = subst (λ o. IfNone o (new ≡ held)) (sym none) same;
+  some =
+      subst (λ o. IfSome o (λ own. (now : Aggregate) × ChangesRoomAlone own now × (new ≡ set_value (same_indexes indexes) held now))) (sym none)
+      tt;
+}
+
+-- the same of an aggregator that takes another, and of one that is put where there is none
+pub takes_some : (indexes : List Datum) (other : Aggregate) (held new : Held) (own now : Aggregate) → lookup (same_indexes indexes) held ≡ Some own
+    → IsJoined own other now → new ≡ set_value (same_indexes indexes) held now → TakesOne indexes other held new
+takes_some indexes other held new own now there joined written = record {
+  none = subst (λ o. IfNone o (new ≡ held ++ (indexes, other) ∷ [])) (sym there) tt;
+  some =
+      subst (λ o. IfSome o (λ own. (now : Aggregate) × IsJoined own other now × (new ≡ set_value (same_indexes indexes) held now))) (sym there)
+      (now, joined, written);
+}
+
+pub takes_last : (indexes : List Datum) (other : Aggregate) (held new : Held) → lookup (same_indexes indexes) held ≡ None
+    → new ≡ held ++ (indexes, other) ∷ [] → TakesOne indexes other held new
+takes_last indexes other held new none last = record {
+  none = subst (λ o. IfNone o (new ≡ held ++ (indexes, other) ∷ [])) (sym none) last;
+  some =
+      subst (λ o. IfSome o (λ own. (now : Aggregate) × IsJoined own other now × (new ≡ set_value (same_indexes indexes) held now))) (sym none)
+      tt;
+}
+
 -- room was made for each of these in turn
 abbrev pub IsRoomMade : Held → Held → Held → Type 0
 IsRoomMade [] old new = new ≡ old
@@ -186,6 +223,7 @@ module _ (table : Declaration) (count : ℕ) (indexes : List Datum) (other : Agg
 
   rows_joined : (front behind : List Weighted) → rows_held held indexes ≡ rows_of table front → shown_of other ≡ rows_of table behind
       → shown_of now ≡ rows_of table (front ++ behind)
+  unfolding held_joined
   rows_joined front behind before beside =
       held_joined.stands.rows ∙ ap (λ d. rows_of d (mine.emits ++ is.emits)) held_joined.declared
       ∙ rows_join table mine.emits front is.emits behind

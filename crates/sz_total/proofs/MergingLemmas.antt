@@ -19,7 +19,7 @@ use Rattle.sz_total.specs.Totals.{StandsFor, Joins}
 use Rattle.sz_total.specs.States.{TotalState, declarations, emit_count, shown}
 use Rattle.sz_total.specs.Aggregates.{family_for}
 use Rattle.sz_total.specs.Held.{Held, same_indexes, rows_in_order, IsHeld, AreHeld}
-use Rattle.sz_total.specs.Joining.{AreAlike, LooksTheSame, HaveRoomFor, AreReady, JoinsHeld}
+use Rattle.sz_total.specs.Joining.{AreAlike, LooksTheSame, HaveRoomFor, AreReady, TakesAll, JoinsHeld}
 use Rattle.sz_total.specs.OneTable.{TableState, table_shown, AreTables, ChangesRoomAlone, HasRoomToMerge, JoinsTable}
 use Rattle.sz_total.specs.Merging.{tables_of, AreMatched, IsMatchedAt, HasRoomAt, ChangesRoomAt, ChangeRoomAlone, HaveRoomToMerge}
 use Rattle.sz_total.specs.Merging.{AreFew, MayMergeAt, MergesAt, JoinTables}
@@ -45,6 +45,7 @@ module _ (table : Declaration) (mine yours : ℕ) (held others : Held) (are : Ar
   may_join few room = are_ready table mine yours (2 ^ 63) few held others are beside room
 
   module _ (room : HaveRoomFor held others) (new : Held) (joins : JoinsHeld others held new) where
+    takes : TakesAll table (mine + yours) others held new
     takes =
         joins.takes table (mine + yours) (held_longer table mine (mine + yours) (omega arith) held are)
         (held_longer table yours (mine + yours) (omega arith) others beside) (are_ready table mine yours (mine + yours) (omega arith) held others are beside room)
@@ -67,18 +68,47 @@ module _ (table : Declaration) (mine yours : ℕ) (held others : Held) (are : Ar
           rows = λ number front behind before after. rows_of_both number table front behind (mine + yours) others held new takes before after;
         }))
 
+-- what is known of both tables before a merge
+pub record AreSides (table its : Declaration) (mine yours : ℕ) (held others : Held) : Type 0 where
+  pub same : its ≡ table
+  pub are : AreHeld table mine held
+  pub beside : AreHeld table yours others
+  pub few : mine + yours ≤ 2 ^ 63
+  pub room : HaveRoomFor held others
+
+pub are_sides : (table its : Declaration) (mine yours : ℕ) (held others : Held) (capacity further : ℕ) (old other : TableState)
+    → (record { table = table; count = mine; held = held; room = capacity }) ≡ old
+    → (record { table = its; count = yours; held = others; room = further }) ≡ other → other.table ≡ old.table → old.count + other.count ≤ 2 ^ 63
+    → HasRoomToMerge old other → AreHeld table mine held → AreHeld its yours others → AreSides table its mine yours held others
+are_sides table its mine yours held others capacity further old other is your_is same few room are beside =
+    let one : its ≡ table =
+    ap (λ (s : TableState). s.table) your_is ∙ same ∙ sym (ap (λ (s : TableState). s.table) is) in
+    record {
+      same = one;
+      are = are;
+      beside = subst (λ t. AreHeld t yours others) one beside;
+      few = omega (arith, few, ap (λ (s : TableState). s.count) is, ap (λ (s : TableState). s.count) your_is);
+      room =
+          subst (λ (s : TableState). HaveRoomFor s.held others) (sym is)
+          (subst (λ (s : TableState). HaveRoomFor old.held s.held) (sym your_is) room.aggregates);
+    }
+
 -- what is found after a write
 set_here : {X : Type 0} (xs : List X) (i : ℕ) (x : X) → i < length xs → slice_get (set xs i x) i ≡ Some x
 set_here [] i x less = let no : ⊥ = omega (arith, less) in absurd no
 set_here (y ∷ ys) zero x less = refl
 set_here (y ∷ ys) (suc i) x less = set_here ys i x (omega (arith, less))
 
-set_elsewhere : {X : Type 0} (xs : List X) (i j : ℕ) (x : X) → nat_eq i j ≡ false → slice_get (set xs i x) j ≡ slice_get xs j
+set_elsewhere : {X : Type 0} (xs : List X) (i j : ℕ) (x : X) → (i ≡ j → ⊥) → slice_get (set xs i x) j ≡ slice_get xs j
 set_elsewhere [] i j x other = refl
-set_elsewhere (y ∷ ys) zero zero x other = absurd (true≢false other)
+set_elsewhere (y ∷ ys) zero zero x other = absurd (other refl)
 set_elsewhere (y ∷ ys) zero (suc j) x other = refl
 set_elsewhere (y ∷ ys) (suc i) zero x other = refl
-set_elsewhere (y ∷ ys) (suc i) (suc j) x other = set_elsewhere ys i j x other
+set_elsewhere (y ∷ ys) (suc i) (suc j) x other = set_elsewhere ys i j x (λ same. other (ap suc same))
+
+-- places that a test tells apart
+apart_by : (i j : ℕ) → nat_eq i j ≡ false → i ≡ j → ⊥
+apart_by i j apart same = true≢false (sym (eq-eqb i j same) ∙ apart)
 
 -- the other side has a table at each place, with the same declaration
 pub matched_at : (held others : List TableState) → AreMatched held others → (at : ℕ) (other : TableState) → slice_get others at ≡ Some other
@@ -99,6 +129,7 @@ module _ (at : ℕ) (old new : List TableState) (changes : ChangesRoomAt at old 
 
   one_changed : ChangeRoomAlone old new
   one_changed = record {
+    declared = changed_maps (λ (s : TableState). s.table) changes.changes.same_table;
     rows = changed_maps table_shown (same_rows changes.before.held changes.after.held changes.changes.aggregates);
     still = λ tables count are. record {
       declared = changed_maps (λ (s : TableState). s.table) changes.changes.same_table ∙ are.declared;
@@ -116,7 +147,7 @@ pub record IsRoomMadeTo (at : ℕ) (others first current : List TableState) : Ty
 
 pub none_made : (others first : List TableState) → IsRoomMadeTo 0 others first first
 none_made others first = record {
-  kept = record { rows = refl; still = λ tables count are. are };
+  kept = record { declared = refl; rows = refl; still = λ tables count are. are };
   room = λ i own other less. let no : ⊥ = omega (arith, less) in absurd no;
 }
 
@@ -125,6 +156,7 @@ pub kept_more : (at : ℕ) (others first current new : List TableState) → IsRo
 kept_more at others first current new before changes =
     let one = one_changed at current new changes in
     record {
+      declared = one.declared ∙ before.kept.declared;
       rows = one.rows ∙ before.kept.rows;
       still = λ tables count are. one.still tables count (before.kept.still tables count are);
     }
@@ -144,11 +176,8 @@ made_more at other others first current new there before changes has = record {
         let two : other ≡ yours = let e = sym there ∙ ap (slice_get others) is ∙ beside in cc in
         subst (λ o. HasRoomToMerge o yours) one (subst (HasRoomToMerge has.state) two has.room)
     by_test i own yours less mine beside false apart =
-        before.room i own yours (lower i less apart)
-        (sym (set_elsewhere current at i changes.after apart) ∙ ap (λ l. slice_get l i) (sym changes.now) ∙ mine) beside
-      where
-        lower : (i : ℕ) → i < at + 1 → nat_eq at i ≡ false → i < at
-        lower i less apart = omega (arith, less, λ (same : at ≡ i). true≢false (sym (eq-eqb at i same) ∙ apart))
+        before.room i own yours (omega (arith, less, apart_by at i apart))
+        (sym (set_elsewhere current at i changes.after (apart_by at i apart)) ∙ ap (λ l. slice_get l i) (sym changes.now) ∙ mine) beside
 
 -- all were made
 pub all_made : (at : ℕ) (others first current : List TableState) → length others ≤ at → IsRoomMadeTo at others first current → HaveRoomToMerge current others
@@ -191,12 +220,8 @@ merged_more at other others first current new there before merges = record {
       ap (λ l. slice_get l i) merges.now ∙ set_elsewhere current at i merges.after (higher i more) ∙ before.still i (omega (arith, more));
 }
   where
-    higher : (i : ℕ) → at + 1 ≤ i → nat_eq at i ≡ false
-    higher i more = by_test (nat_eq at i) refl
-      where
-        by_test : (b : Bool) → nat_eq at i ≡ b → nat_eq at i ≡ false
-        by_test true same = let is = eqb-true at i same in let no : ⊥ = omega (arith, is, more) in absurd no
-        by_test false apart = apart
+    higher : (i : ℕ) → at + 1 ≤ i → at ≡ i → ⊥
+    higher i more same = omega (arith, more, same)
 
     by_test : (i : ℕ) (own yours : TableState) → i < at + 1 → slice_get first i ≡ Some own → slice_get others i ≡ Some yours → (b : Bool)
         → nat_eq at i ≡ b → (now : TableState) × (slice_get new i ≡ Some now) × JoinsTable own yours now
@@ -211,9 +236,9 @@ merged_more at other others first current new there before merges = record {
           subst (λ o. JoinsTable o yours merges.after) one (subst (λ y. JoinsTable merges.before y merges.after) two merges.joins),
         )
     by_test i own yours less mine beside false apart =
-        let earlier = before.joined i own yours (omega (arith, less, λ (same : at ≡ i). true≢false (sym (eq-eqb at i same) ∙ apart))) mine beside in (
+        let earlier = before.joined i own yours (omega (arith, less, apart_by at i apart)) mine beside in (
           earlier.0,
-          ap (λ l. slice_get l i) merges.now ∙ set_elsewhere current at i merges.after apart ∙ earlier.1,
+          ap (λ l. slice_get l i) merges.now ∙ set_elsewhere current at i merges.after (apart_by at i apart) ∙ earlier.1,
           earlier.2,
         )
 
@@ -326,3 +351,20 @@ module _ (tables : List Declaration) (mine yours : ℕ) (first held others new :
           counted = (λ i. stands.counted i + theirs.counted i) ∙ sym (length-append front behind);
         };
       }))
+
+-- what is known of all tables of both sides before a merge
+pub record AreBoth (tables its : List Declaration) (mine yours : ℕ) (others : List TableState) : Type 0 where
+  pub same : its ≡ tables
+  pub beside : AreTables tables yours others
+  pub few : mine + yours ≤ 2 ^ 63
+
+pub are_both : (tables its : List Declaration) (mine yours : ℕ) (held others : List TableState) (old other : TotalState) → state_of tables mine held ≡ old
+    → state_of its yours others ≡ other → other.tables ≡ old.tables → old.count + other.count ≤ 2 ^ 63 → AreTables its yours others
+    → AreBoth tables its mine yours others
+are_both tables its mine yours held others old other is your_is same few beside =
+    let one : its ≡ tables = ap (λ (s : TotalState). s.tables) your_is ∙ same ∙ sym (ap (λ (s : TotalState). s.tables) is) in
+    record {
+      same = one;
+      beside = subst (λ t. AreTables t yours others) one beside;
+      few = omega (arith, few, ap (λ (s : TotalState). s.count) is, ap (λ (s : TotalState). s.count) your_is);
+    }

@@ -33,6 +33,7 @@ pub record ChangesRoomAt (at : ℕ) (old new : List TableState) : Type 0 where
 
 -- nothing changed but the room of each table
 pub record ChangeRoomAlone (old new : List TableState) : Type 0 where
+  pub declared : tables_of new ≡ tables_of old
   pub rows : map table_shown new ≡ map table_shown old
   pub still : (tables : List Declaration) (count : ℕ) → AreTables tables count old → AreTables tables count new
 

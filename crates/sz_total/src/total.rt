@@ -155,8 +155,10 @@ fn merge_all<'a>(held: &mut Vec<OneTable<'a>>, others: Vec<OneTable<'a>>)
     requires room { HaveRoomToMerge held.old.items others.items }
     ensures value { JoinTables held.old.items others.entry.items held.new.items }
 {
-    for (at, other) in others.into_iter().enumerate() {
+    let mut at = 0;
+    for other in others {
         merge_at(held, at, other);
+        at += 1;
     }
 }
 
