@@ -1,5 +1,7 @@
 -- What a merge does to one table, and to all of them.
 use Rattle.std.proofs.Common.{◌≡◌, ◌∙◌, ℕ, zero, suc, ◌+◌, ◌≤◌, ◌<◌, ◌^◌, Bool, true, false, true≢false, Option, Some, None, List}
+use Rattle.std.proofs.Common.{Result, Ok, Err, OnOk}
+use Rattle.std.specs.Result.{is_err}
 use Rattle.std.proofs.Common.{[], ◌∷◌, ◌++◌, map, length, refl, sym, ap, subst, arith, All, nat_eq}
 use Rattle.std.specs.Prelude.{slice_get, slice_index_or, set}
 use Rattle.std.specs.List.{IsDistinct}
@@ -109,6 +111,14 @@ set_elsewhere (y ∷ ys) (suc i) (suc j) x other = set_elsewhere ys i j x (λ sa
 -- places that a test tells apart
 apart_by : (i j : ℕ) → nat_eq i j ≡ false → i ≡ j → ⊥
 apart_by i j apart same = true≢false (sym (eq-eqb i j same) ∙ apart)
+
+at_length : {X : Type 0} (xs : List X) (y : X) (rest : List X) → slice_get (xs ++ y ∷ rest) (length xs) ≡ Some y
+at_length [] y rest = refl
+at_length (x ∷ xs) y rest = at_length xs y rest
+
+-- what stands behind a list is at the place of its length
+pub found_behind : {X : Type 0} (xs : List X) (y : X) (rest all : List X) (at : ℕ) → at ≡ length xs → xs ++ y ∷ rest ≡ all → slice_get all at ≡ Some y
+found_behind xs y rest all at place is = ap (slice_get all) place ∙ ap (λ l. slice_get l (length xs)) (sym is) ∙ at_length xs y rest
 
 -- the other side has a table at each place, with the same declaration
 pub matched_at : (held others : List TableState) → AreMatched held others → (at : ℕ) (other : TableState) → slice_get others at ≡ Some other
@@ -358,6 +368,10 @@ pub record AreBoth (tables its : List Declaration) (mine yours : ℕ) (others : 
   pub beside : AreTables tables yours others
   pub few : mine + yours ≤ 2 ^ 63
 
+pub its_state : (tables its : List Declaration) (yours : ℕ) (others : List TableState) (other : TotalState) → its ≡ tables
+    → state_of its yours others ≡ other → state_of tables yours others ≡ other
+its_state tables its yours others other same is = ap (λ t. state_of t yours others) (sym same) ∙ is
+
 pub are_both : (tables its : List Declaration) (mine yours : ℕ) (held others : List TableState) (old other : TotalState) → state_of tables mine held ≡ old
     → state_of its yours others ≡ other → other.tables ≡ old.tables → old.count + other.count ≤ 2 ^ 63 → AreTables its yours others
     → AreBoth tables its mine yours others
@@ -368,3 +382,8 @@ are_both tables its mine yours held others old other is your_is same few beside 
       beside = subst (λ t. AreTables t yours others) one beside;
       few = omega (arith, few, ap (λ (s : TotalState). s.count) is, ap (λ (s : TotalState). s.count) your_is);
     }
+
+-- what an answer says that is no refusal
+pub not_refused : {T E P : Type 0} (r : Result T E) → is_err r ≡ false → OnOk r P → P
+not_refused (Ok x) not p = p
+not_refused (Err e) not p = absurd (true≢false not)

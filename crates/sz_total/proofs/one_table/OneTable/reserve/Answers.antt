@@ -14,5 +14,5 @@ pub invariant_of-self-2 : goal.invariant_of-self-2
 invariant_of-self-2 c = record {
   weights = c.self.invariant.weights;
   aggregates = c.make_room.ensures.kept.held (seen_table c.self.inside.table.now) c.self.inside.count c.self.invariant.aggregates;
-  taken = omega (arith, c.capacity.ensures);
+  taken = omega (arith, c.capacity-self-inside.ensures);
 }

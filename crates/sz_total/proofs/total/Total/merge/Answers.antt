@@ -1,6 +1,6 @@
 -- Room is made in all tables, and then they are merged.
-use Rattle.std.proofs.Common.{◌∙◌, sym, ap}
-use Rattle.sz_total.proofs.MergingLemmas.{are_both, are_few, tables_joined, total_joined}
+use Rattle.std.proofs.Common.{◌∙◌, sym}
+use Rattle.sz_total.proofs.MergingLemmas.{not_refused, its_state, are_both, are_few, tables_joined, total_joined}
 use Rattle.sz_total.proofs.total.Total.merge.Goals as goal
 
 pub invariant_of-self : goal.invariant_of-self
@@ -20,7 +20,7 @@ merge_all-requires-clause-few c =
     (c.reserve_all.ensures.kept.still c.self.inside.tables.now c.self.inside.count c.self.invariant) b.beside
 
 pub merge_all-requires-clause-room : goal.merge_all-requires-clause-room
-merge_all-requires-clause-room c = ?
+merge_all-requires-clause-room c = not_refused c.reserve_all.result (sym c.is_err.ensures.value ∙ c.if-is_err.false) c.reserve_all.ensures.ok
 
 pub invariant_of-self-2 : goal.invariant_of-self-2
 invariant_of-self-2 c =
@@ -36,4 +36,4 @@ returns-clause-ok c =
     total_joined c.self.inside.tables.now c.self.inside.count c.other.inside.count c.self.inside.held.items c.reserve_all.new.held.items
     c.other.inside.held.items c.merge_all.new.held.items c.self.invariant b.beside c.reserve_all.ensures.kept c.merge_all.ensures.value c.args.self.now
     c.args.other c.self.view_is
-    (ap (λ t. record { tables = t; count = _; rows = _ }) (sym b.same) ∙ c.other.view_is)
+    (its_state c.self.inside.tables.now c.other.inside.tables.now c.other.inside.count c.other.inside.held.items c.args.other b.same c.other.view_is)
