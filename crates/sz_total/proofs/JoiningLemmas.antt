@@ -4,7 +4,6 @@ use Rattle.std.proofs.Common.{sym, ap, subst, arith, All, IfSome, IfNone, is_som
 use Rattle.std.specs.Option.{option_map_or}
 use Rattle.std.specs.List.{AllByRecursion, IsDistinct}
 use Rattle.std.specs.Map.{keys_of, values_of, lookup, set_value}
-use Rattle.std.specs.BTreeSet.{insert_key}
 use Rattle.std.proofs.lemmas.List.{map-append, append-nil}
 use Rattle.std.proofs.lemmas.List.Elements.{All-head, All-tail, All-push, filter-append}
 use Rattle.std.proofs.lemmas.Map.{keys-set_value}
@@ -18,12 +17,12 @@ use Rattle.sz_tabs.specs.Rows.{compare_indexes, brought_to, rows_of}
 use Rattle.sz_tabs.specs.Sorting.{distinct}
 use Rattle.sz_tabs.proofs.ForCallers.{all_entered, distinct_of_both, distinct_of_either, no_rows, rows_decide, rows_join, brought_by_both}
 use Rattle.sz_total.specs.Tables.{indexes_to, table_rows}
-use Rattle.sz_total.specs.Aggregates.{Family, family_of, shown_of, HasRoomFor, ChangesRoomAlone, IsJoined}
+use Rattle.sz_total.specs.Aggregates.{family_of, shown_of, HasRoomFor, ChangesRoomAlone, IsJoined}
 use Rattle.sz_total.specs.Held.{Held, same_indexes, rows_held, rows_in_order, IsHeld, AreHeld}
-use Rattle.sz_total.specs.Joining.{AreOf, GainsRoom, LooksTheSame, HasRoomUnder, HaveRoomFor, MayTake, MayTakeUnder, AreReady, TakesOne, TakesAll}
+use Rattle.sz_total.specs.Joining.{GainsRoom, LooksTheSame, HasRoomUnder, HaveRoomFor, MayTake, MayTakeUnder, AreReady, TakesOne, TakesAll}
 use Rattle.sz_total.specs.declared.aggregate.Aggregate.{Aggregate}
 use Rattle.sz_total.proofs.TablesLemmas.{indexes_total, indexes_tie}
-use Rattle.sz_total.proofs.ListLemmas.{same_laws, same_is, is_among, distinct_of_more, entered_there}
+use Rattle.sz_total.proofs.ListLemmas.{same_laws, same_is, distinct_of_more, entered_there}
 use Rattle.sz_total.proofs.HeldLemmas.{rows_stand, lists_stand, held_there, found_replaced, found_in_front, found_last}
 
 -- what is not under any of these index lists isn't found

@@ -1,11 +1,10 @@
 -- What a merge does to one table, and to all of them.
-use Rattle.std.proofs.Common.{◌≡◌, ◌∙◌, ℕ, zero, suc, ◌+◌, ◌≤◌, ◌<◌, ◌^◌, Bool, true, false, true≢false, Option, Some, None, List}
+use Rattle.std.proofs.Common.{◌≡◌, ◌∙◌, ℕ, zero, suc, ◌+◌, ◌≤◌, ◌<◌, ◌^◌, Bool, true, false, true≢false, Some, List}
 use Rattle.std.proofs.Common.{Result, Ok, Err, OnOk}
 use Rattle.std.specs.Result.{is_err}
 use Rattle.std.proofs.Common.{[], ◌∷◌, ◌++◌, map, length, refl, sym, ap, subst, arith, All, nat_eq}
 use Rattle.std.specs.Prelude.{slice_get, slice_index_or, set}
-use Rattle.std.specs.List.{IsDistinct}
-use Rattle.std.specs.Map.{keys_of, values_of}
+use Rattle.std.specs.Map.{values_of}
 use Rattle.std.specs.Option.{option_map}
 use Rattle.std.proofs.Math.Seq.{map-set_same}
 use Rattle.std.proofs.lemmas.Bool.{eq-eqb, eqb-true}
@@ -20,9 +19,9 @@ use Rattle.sz_total.specs.Tables.{table_rows}
 use Rattle.sz_total.specs.Totals.{StandsFor, Joins}
 use Rattle.sz_total.specs.States.{TotalState, declarations, emit_count, shown}
 use Rattle.sz_total.specs.Aggregates.{family_for}
-use Rattle.sz_total.specs.Held.{Held, same_indexes, rows_in_order, IsHeld, AreHeld}
+use Rattle.sz_total.specs.Held.{Held, rows_in_order, IsHeld, AreHeld}
 use Rattle.sz_total.specs.Joining.{AreAlike, LooksTheSame, HaveRoomFor, AreReady, TakesAll, JoinsHeld}
-use Rattle.sz_total.specs.OneTable.{TableState, table_shown, AreTables, ChangesRoomAlone, HasRoomToMerge, JoinsTable}
+use Rattle.sz_total.specs.OneTable.{TableState, table_shown, AreTables, HasRoomToMerge, JoinsTable}
 use Rattle.sz_total.specs.Merging.{tables_of, AreMatched, IsMatchedAt, HasRoomAt, ChangesRoomAt, ChangeRoomAlone, HaveRoomToMerge}
 use Rattle.sz_total.specs.Merging.{AreFew, MayMergeAt, MergesAt, JoinTables}
 use Rattle.sz_total.proofs.HeldLemmas.{held_longer}

@@ -1,12 +1,12 @@
 -- The loops of a merge over the aggregators of the other side: what one turn does, and what all of them did.
-use Rattle.std.proofs.Common.{◌≡◌, ◌∙◌, ◌^◌, Option, Some, None, List, [], ◌∷◌, refl, sym, subst, All, IfSome}
+use Rattle.std.proofs.Common.{◌≡◌, ◌∙◌, ◌^◌, Option, Some, None, List, [], ◌∷◌, refl, sym, IfSome}
 use Rattle.std.specs.List.{IsDistinct}
 use Rattle.std.specs.Map.{keys_of, values_of, lookup}
 use Rattle.std.proofs.lemmas.List.Elements.{All-head, All-tail}
 use Rattle.std.proofs.lemmas.Map.Keys.{IsDistinct-head, IsDistinct-tail}
 use Rattle.std.proofs.lemmas.Map.Views.{IfSome-lookup_from_All}
 use Rattle.sz_value.specs.Data.{Datum}
-use Rattle.sz_total.specs.Aggregates.{Family, family_of}
+use Rattle.sz_total.specs.Aggregates.{family_of}
 use Rattle.sz_total.specs.Held.{Held, same_indexes}
 use Rattle.sz_total.specs.Joining.{AreAlike, GainsRoom, LooksTheSame, HasRoomUnder, HaveRoomFor, AreReady, MayTakeUnder, TakesOne, JoinsHeld}
 use Rattle.sz_total.specs.declared.aggregate.Aggregate.{Aggregate}

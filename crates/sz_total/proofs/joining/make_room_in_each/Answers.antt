@@ -1,7 +1,7 @@
 -- Each turn makes room for one aggregator of the other side.
-use Rattle.std.proofs.Common.{◌∙◌, ap, sym, subst, arith}
+use Rattle.std.proofs.Common.{◌∙◌, ap, subst}
 use Rattle.std.specs.Map.Iter.{deref_pair}
-use Rattle.std.proofs.lemmas.Map.Iter.{rest_more, rest_all}
+use Rattle.std.proofs.lemmas.Map.Iter.{rest_more}
 use Rattle.sz_total.specs.Held.{held_of, key_data}
 use Rattle.sz_total.proofs.KeyLemmas.{keys_apart}
 use Rattle.sz_total.proofs.TurnLemmas.{IsRoomUpTo, alike_under, looks_more, room_up_to_more, room_up_to_all}

@@ -1,10 +1,9 @@
 -- What is found gains room, and is written back; where nothing is found nothing changes.
-use Rattle.std.proofs.Common.{◌≡◌, ◌∙◌, None, cond, Some, sym, ap, subst, IfSome}
-use Rattle.std.specs.Map.{lookup, set_value}
+use Rattle.std.proofs.Common.{◌≡◌, ◌∙◌, cond, Some, sym, ap, subst, IfSome}
+use Rattle.std.specs.Map.{lookup}
 use Rattle.std.proofs.lemmas.Result.{on_ok_weaker}
 use Rattle.sz_total.specs.Aggregates.{family_of, HasRoomFor}
 use Rattle.sz_total.specs.Held.{held_of, key_data, same_indexes}
-use Rattle.sz_total.specs.Joining.{GainsRoom}
 use Rattle.sz_total.proofs.ListLemmas.{same_laws}
 use Rattle.sz_total.proofs.HeldLemmas.{found_replaced}
 use Rattle.sz_total.proofs.KeyLemmas.{lookup_asked, set_asked}

@@ -1,5 +1,5 @@
 -- What is found takes the other, which else stands last.
-use Rattle.std.proofs.Common.{◌≡◌, ◌∙◌, ◌++◌, ◌∷◌, [], ◌^◌, sym, ap, subst, IfSome}
+use Rattle.std.proofs.Common.{◌∙◌, ◌++◌, ◌∷◌, [], ◌^◌, sym, ap, subst, IfSome}
 use Rattle.std.specs.Map.{lookup}
 use Rattle.sz_total.specs.Held.{held_of, key_data, same_indexes}
 use Rattle.sz_total.specs.Joining.{MayTake}

@@ -1,7 +1,6 @@
 -- Each turn merges the next table of the other side.
-use Rattle.std.proofs.Common.{◌∙◌, ◌++◌, ◌∷◌, [], length, sym, ap, subst, arith, append_assoc}
-use Rattle.std.specs.Prelude.{slice_get}
-use Rattle.std.specs.Vec.Iter.{into_iter_items, into_iter_len}
+use Rattle.std.proofs.Common.{◌∙◌, ◌++◌, ◌∷◌, [], length, sym, ap, arith, append_assoc}
+use Rattle.std.specs.Vec.Iter.{into_iter_items}
 use Rattle.std.proofs.lemmas.List.{length-append}
 use Rattle.sz_total.proofs.MergingLemmas.{found_behind, may_merge, merged_more, all_merged}
 use Rattle.sz_total.proofs.total.merge_all.Goals as goal

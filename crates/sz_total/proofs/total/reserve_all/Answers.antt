@@ -1,5 +1,5 @@
 -- Each turn makes room in one table.
-use Rattle.std.proofs.Common.{◌≡◌, ◌∙◌, Some, length, sym, ap, arith, refl}
+use Rattle.std.proofs.Common.{◌∙◌, length, sym, ap, arith, refl}
 use Rattle.std.specs.Prelude.{slice_get}
 use Rattle.std.proofs.lemmas.Option.{slice_get_read}
 use Rattle.sz_total.proofs.MergingLemmas.{matched_at, kept_more, made_more, all_made}
