@@ -15,6 +15,7 @@ use sz_types::{TableDecl, TableDecls, TableKind};
 use sz_value::{List, Value};
 
 // A whole number that goes to a table under an index, its weight, and the total that it is dealt to.
+#[derive(Drop)]
 pub(crate) struct Dealt {
     pub(crate) table: u64,
     pub(crate) index: i64,
@@ -37,6 +38,7 @@ fn declared() -> &'static [(&'static str, TableKind, u32)] {
 }
 
 // The declarations of these tables.
+#[tactic(auto, using(crate::proofs::TestLemmas::tables_more, crate::proofs::TestLemmas::no_tables))]
 pub(crate) fn declarations(alloc: Global) -> Result<TableDecls, NoMemory>
     ensures weights { IfOk result HaveTheirWeights }
     ensures numbers { IfOk result (λ tables. All (λ table. (table.element ≡ Shape.int) × (table.indexes ≡ Shape.int ∷ [])) tables) }
@@ -76,6 +78,7 @@ fn weight_for(table: &TableDecl, weight: i64) -> Option<i64>
 }
 
 // Adds what was dealt to its table, if there is one.
+#[tactic(auto, using(crate::proofs::TestLemmas::emit_fits))]
 pub(crate) fn add_dealt<'a>(
     alloc: Global,
     total: &mut Total<'a>,
@@ -164,24 +167,28 @@ fn push_rows(alloc: Global, rows: &TableRows, numbers: &mut Vec<i128>) -> Result
 }
 
 // The same numbers by a plain aggregator for each table and index.
-fn plain_numbers(
-    alloc: Global,
-    tables: &TableDecls,
-    dealt: &[Dealt],
-) -> Result<Vec<i128>, NoMemory>
+fn plain_numbers(alloc: Global, tables: &TableDecls, dealt: &[Dealt]) -> Result<Vec<i128>, NoMemory>
     requires numbers { All (λ table. (table.element ≡ Shape.int) × (table.indexes ≡ Shape.int ∷ [])) tables.now }
     requires few { length dealt.now < 2 ^ 32 }
 {
     let mut numbers = Vec::new(alloc);
     for number in 0..tables.len() {
         for index in -3..4i64 {
-            push_plain(alloc, tables.get(number), number as u64, index, dealt, &mut numbers)?;
+            push_plain(
+                alloc,
+                tables.get(number),
+                number as u64,
+                index,
+                dealt,
+                &mut numbers,
+            )?;
         }
     }
     Ok(numbers)
 }
 
 // Appends the index and the numbers of the plain rows under it, if there are rows.
+#[tactic(auto, using(crate::proofs::TestLemmas::number_fits))]
 fn push_plain(
     alloc: Global,
     table: &TableDecl,

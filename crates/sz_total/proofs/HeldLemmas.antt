@@ -58,7 +58,8 @@ rows_with_emit table declaration emits emit old new here takes before =
 
     lists : distinct compare_indexes (keys_of new) ≡ distinct compare_indexes (indexes_to table (emits ++ emit ∷ []))
     lists =
-        takes.indexes ∙ ap (λ l. insert_key compare_indexes l emit.indexes) (lists_stand table declaration emits old before) ∙ sym (distinct_of_more (indexes_to table emits) emit.indexes)
+        takes.indexes ∙ ap (λ l. insert_key compare_indexes l emit.indexes) (lists_stand table declaration emits old before)
+        ∙ sym (distinct_of_more (indexes_to table emits) emit.indexes)
         ∙ ap (distinct compare_indexes) (sym (indexes_of_more table emits emit went))
 
     under : (indexes : List Datum) → rows_held new indexes ≡ rows_of declaration (brought_to table indexes (emits ++ emit ∷ []))

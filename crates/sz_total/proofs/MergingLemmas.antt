@@ -49,7 +49,8 @@ module _ (table : Declaration) (mine yours : ℕ) (held others : Held) (are : Ar
     takes : TakesAll table (mine + yours) others held new
     takes =
         joins.takes table (mine + yours) (held_longer table mine (mine + yours) (omega arith) held are)
-        (held_longer table yours (mine + yours) (omega arith) others beside) (are_ready table mine yours (mine + yours) (omega arith) held others are beside room)
+        (held_longer table yours (mine + yours) (omega arith) others beside)
+        (are_ready table mine yours (mine + yours) (omega arith) held others are beside room)
 
     pub held_of_both : AreHeld table (mine + yours) new
     held_of_both = takes.held
