@@ -7,3 +7,4 @@ pub mod Answers
 pub mod Cores
 pub mod Orderly
 pub mod Counting
+pub mod Held
