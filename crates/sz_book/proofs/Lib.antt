@@ -6,6 +6,7 @@ pub mod GrowthLemmas
 pub mod HistoryLemmas
 pub mod ReplayLemmas
 pub mod RoomLemmas
+pub mod ShelfLemmas
 pub mod StepLemmas
 pub mod TakingLemmas
 pub mod TestPlans

@@ -8,3 +8,4 @@ pub mod Cores
 pub mod Orderly
 pub mod Counting
 pub mod Held
+pub mod Books

@@ -1,6 +1,6 @@
 //! A ledger that keeps the history that led to its state.
-ghost use Rattle.std.specs.Prelude.{◌≡◌, ◌↔◌, ◌+◌, ◌<◌, ◌≤◌, true, [], ◌∷◌, ◌++◌, length, vec_len, vec_capacity, IfOk};
-ghost use Rattle.sz_book.specs.Machine.{opening, Fits};
+ghost use Rattle.std.specs.Prelude.{◌≡◌, ◌≢◌, ◌↔◌, ◌+◌, ◌<◌, ◌≤◌, ℕ, List, true, [], ◌∷◌, ◌++◌, drop, length, slice_index, vec_len, vec_capacity, IfOk, IfSome, IfNone};
+ghost use Rattle.sz_book.specs.Machine.{opening, Fits, list_of};
 ghost use Rattle.sz_book.specs.History.{IsTrueReport};
 
 use crate::NoMemory;
@@ -60,6 +60,7 @@ fn note(
 }
 
 impl<T: Load> Held<T> {
+    ghost use Rattle.sz_book.specs.Books.{Shows};
     ghost use Rattle.sz_book.specs.Held.{Applies, Replays};
 
     /// A ledger at the opening of a round: nothing was drawn or given yet, and all lanes are home and empty. All memory is taken here.
@@ -87,6 +88,14 @@ impl<T: Load> Held<T> {
         self.core.fits_with(event, shards)
     }
 
+    /// How many shards the lane has, where these begin with them. None where they don't.
+    pub fn count_in(&self, lane: u32, shards: &[u32]) -> Option<usize>
+        ensures some { IfSome result (λ n. (n ≤ length shards.now) × (shards.now ≡ list_of self.now.state lane ++ drop n shards.now)) }
+        ensures none { IfNone result ((more : List ℕ) → shards.now ≢ list_of self.now.state lane ++ more) }
+    {
+        self.core.count_in(lane, shards)
+    }
+
     /// Takes in one event, with the shards that come with a lane, and answers it. It takes no memory.
     pub fn apply(&mut self, event: &Event, shards: &[u32]) -> Reply
         requires fits { Fits self.old.plan self.old.state 0 event.now shards.now }
@@ -99,5 +108,37 @@ impl<T: Load> Held<T> {
             note(&mut self.changes, &mut self.brought, event, reply, shards);
         }
         reply
+    }
+
+    /// Fills the rows with the winners and the deaths, as far as the rows go, and gives the least bad shard. A winner is told as 1 more
+    /// than its number.
+    pub fn show(&self, winners: &mut Vec<u64>, deaths: &mut Vec<u64>) -> Option<u32>
+        ensures rows { (length winners.new.items ≡ length winners.old.items) × (length deaths.new.items ≡ length deaths.old.items) }
+        ensures shows { Shows self.now.state winners.new.items deaths.new.items result }
+        ensures kept { Replays T.died T.faults self.now }
+    {
+        copy_row(self.core.winners(), winners);
+        copy_row(self.core.deaths(), deaths);
+        self.core.least_bad()
+    }
+}
+
+// The number at a place, or 0 behind the row.
+fn number_at(row: &[u32], index: usize) -> u64
+    ensures value { result ≡ slice_index row.now index }
+{
+    match row.get(index) {
+        Some(number) => u64::from(*number),
+        None => 0,
+    }
+}
+
+// Writes a row over another, as far as that one goes.
+fn copy_row(row: &[u32], into: &mut Vec<u64>)
+    ensures length { length into.new.items ≡ length into.old.items }
+    ensures value { (s : ℕ) → s < length into.new.items → slice_index into.new.items s ≡ slice_index row.now s }
+{
+    for i in 0..into.len() {
+        into[i] = number_at(row, i);
     }
 }

@@ -1,6 +1,7 @@
 //! The ledger of a round as a machine of one thread, and what its callers carry.
 #![tactic(auto)]
 
+mod book;
 mod change;
 mod closed;
 mod event;
@@ -12,9 +13,11 @@ mod machine;
 mod plan;
 mod receipt;
 mod reserved;
+mod shelf;
 #[cfg(test)]
 mod tests;
 
+pub use book::{Book, BookPass};
 pub use closed::{Closed, Words};
 pub use event::{Entry, Event, Reply};
 pub use held::Held;

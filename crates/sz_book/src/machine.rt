@@ -1,9 +1,9 @@
 //! The ledger as a value of one thread.
-ghost use Rattle.std.specs.Prelude.{◌≡◌, ◌==◌, ◌↔◌, ◌<◌, ◌^◌, true, not, nat_lt, [], length, replicate, slice_index, IfOk, OnOk, OnErr};
+ghost use Rattle.std.specs.Prelude.{◌≡◌, ◌≢◌, ◌==◌, ◌↔◌, ◌<◌, ◌≤◌, ◌^◌, ◌++◌, ℕ, List, true, not, nat_lt, [], drop, length, replicate, slice_index, IfOk, IfSome, IfNone, OnOk, OnErr};
 ghost use Rattle.std.specs.Int.{bit_at};
 ghost use Rattle.sz_book.specs.Plan.{PlanData};
-ghost use Rattle.sz_book.specs.Machine.{opening, IsDrawn, IsTried, IsReturned, AreUnplaced, Fits, placed};
-ghost use Rattle.sz_book.specs.Cores.{Takes, TakesWith, GoesOn, IsAllowed, IsSound, is_unplaced_behind, brought, marked_from};
+ghost use Rattle.sz_book.specs.Machine.{opening, IsDrawn, IsTried, IsReturned, AreUnplaced, Fits, list_of, placed};
+ghost use Rattle.sz_book.specs.Cores.{Takes, TakesWith, GoesOn, IsAllowed, IsSound, is_unplaced_behind, least_or_none, brought, marked_from};
 ghost use Rattle.sz_book.specs.Held.{is_change};
 ghost use Rattle.sz_book.specs.declared.event.Event.TheVariants as events;
 ghost use Rattle.sz_book.specs.declared.event.Reply.TheVariants as replies;
@@ -88,6 +88,18 @@ fn has_bit(mask: u32, number: u32) -> bool
     ensures value { result ≡ not (bit_at mask number == 0) }
 {
     (mask >> number) & 1 != 0
+}
+
+// The length of the list, where the shards begin with it.
+fn length_of_front(list: &[u32], shards: &[u32]) -> Option<usize>
+    ensures some { IfSome result (λ n. (n ≤ length shards.now) × (shards.now ≡ list.now ++ drop n shards.now)) }
+    ensures none { IfNone result ((more : List ℕ) → shards.now ≢ list.now ++ more) }
+{
+    if shards.starts_with(list) {
+        Some(list.len())
+    } else {
+        None
+    }
 }
 
 // Whether these shards are distinct, and each is won and in no lane.
@@ -207,6 +219,38 @@ impl Core {
             Event::LaneBack(lane) => self.is_out(*lane)
                 && are_unplaced(self.unplaced.as_slice(), shards),
             _ => shards.is_empty() && self.fits(event),
+        }
+    }
+
+    /// For each shard 0, or 1 more than the number of its winner.
+    pub fn winners(&self) -> &[u32]
+        ensures value { result.now ≡ self.now.state.winners }
+    {
+        self.winners.as_slice()
+    }
+
+    /// For each shard the attempts whose deaths were noted: bit k is attempt k, counted from 0.
+    pub fn deaths(&self) -> &[u32]
+        ensures value { result.now ≡ self.now.state.deaths }
+    {
+        self.deaths.as_slice()
+    }
+
+    /// The least shard that was marked bad.
+    pub fn least_bad(&self) -> Option<u32>
+        ensures value { least_or_none result ≡ self.now.state.least_bad }
+    {
+        self.least_bad
+    }
+
+    /// How many shards the lane has, where these begin with them.
+    pub fn count_in(&self, lane: u32, shards: &[u32]) -> Option<usize>
+        ensures some { IfSome result (λ n. (n ≤ length shards.now) × (shards.now ≡ list_of self.now.state lane ++ drop n shards.now)) }
+        ensures none { IfNone result ((more : List ℕ) → shards.now ≢ list_of self.now.state lane ++ more) }
+    {
+        match self.lists.get(lane as usize) {
+            Some(list) => length_of_front(list.as_slice(), shards),
+            None => Some(0),
         }
     }
 
