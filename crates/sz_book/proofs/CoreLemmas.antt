@@ -1,15 +1,15 @@
 -- A core goes on its history, and takes all shards into a lane.
-use Rattle.std.proofs.Common.{◌≡◌, ℕ, zero, suc, ◌<◌, ◌≤◌, ◌==◌, Bool, true, false, cond, List, [], ◌∷◌, ◌++◌, set, length, map, drop, replicate, refl, ap, sym, ◌∙◌, subst, arith, ne_eqb, length-set}
+use Rattle.std.proofs.Common.{◌≡◌, ℕ, zero, suc, ◌<◌, ◌≤◌, ◌==◌, Bool, true, false, cond, List, [], ◌∷◌, ◌++◌, set, length, map, drop, refl, ap, sym, ◌∙◌, subst, arith, ne_eqb, length-set}
 use Rattle.std.specs.Prelude.{slice_index}
 use Rattle.sz_book.specs.Plan.{PlanData}
 use Rattle.sz_book.specs.declared.event.Event.{Event}
-use Rattle.sz_book.specs.declared.event.Event.TheVariants.{LaneBack}
+use Rattle.sz_book.specs.declared.event.Event.TheVariants.{Draw, Number, Died, Settle, LaneOut, LaneBack, Bad}
 use Rattle.sz_book.specs.declared.event.Reply.{Reply}
 use Rattle.sz_book.specs.declared.event.Reply.TheVariants.{Noted}
 use Rattle.sz_book.specs.declared.event.Entry.{Entry}
-use Rattle.sz_book.specs.Machine.{LedgerState, opening, after, reply_of, Fits, placed, AreUnplaced, list_of}
+use Rattle.sz_book.specs.Machine.{LedgerState, opening, after, reply_of, Fits, placed, AreUnplaced, IsReturned, list_of}
 use Rattle.sz_book.specs.History.{entry, state_after}
-use Rattle.sz_book.specs.Cores.{CoreData, marked_from, floating, brought, Takes, IsAfter, GoesOn}
+use Rattle.sz_book.specs.Cores.{CoreData, marked_from, brought, IsAllowed, IsSound, Takes, TakesWith, IsAfter, GoesOn}
 use Rattle.sz_book.proofs.HistoryLemmas.{state_after-snoc, legal-snoc}
 
 -- a step goes on every history by which the core came to its state
@@ -43,21 +43,6 @@ marked_at s i [] low = absurd (omega arith)
 marked_at s zero (mark ∷ marks) low = refl
 marked_at s (suc i) (mark ∷ marks) low = marked_at s i marks (omega arith)
 
-placed_behind : (a : ℕ) (marks ss : List ℕ) → placed (a ∷ marks) (map suc ss) ≡ a ∷ placed marks ss
-placed_behind a marks [] = refl
-placed_behind a marks (s ∷ ss) = placed_behind a (set marks s 0) ss
-
-one_placed : (mark : ℕ) (marks ss : List ℕ) → placed (0 ∷ marks) ss ≡ 0 ∷ replicate (length marks) 0
-    → placed (mark ∷ marks) (cond (mark == 0) ss (0 ∷ ss)) ≡ 0 ∷ replicate (length marks) 0
-one_placed zero marks ss h = h
-one_placed (suc m) marks ss h = ap (λ (b : Bool). placed (suc m ∷ marks) (cond b ss (0 ∷ ss))) (ne_eqb (suc m) 0 (omega arith)) ∙ h
-
--- once all marked shards are placed no mark is left
-pub placed_all : (marks : List ℕ) → placed marks (marked_from 0 marks) ≡ replicate (length marks) 0
-placed_all [] = refl
-placed_all (mark ∷ marks) = one_placed mark marks (marked_from 1 marks)
-    (ap (placed (0 ∷ marks)) (marked_later 0 marks) ∙ placed_behind 0 marks (marked_from 0 marks) ∙ ap (λ (l : List ℕ). 0 ∷ l) (placed_all marks))
-
 unplaced_behind : (n a : ℕ) (marks ss : List ℕ) → AreUnplaced n marks ss → AreUnplaced n (a ∷ marks) (map suc ss)
 unplaced_behind n a marks [] h = tt
 unplaced_behind n a marks (s ∷ ss) h = (h.0, unplaced_behind n a (set marks s 0) ss h.1)
@@ -73,21 +58,29 @@ unplaced_all [] low = tt
 unplaced_all (mark ∷ marks) low = one_unplaced mark marks (marked_from 1 marks) (low 0)
     (subst (AreUnplaced 0 (0 ∷ marks)) (sym (marked_later 0 marks)) (unplaced_behind 0 0 marks (marked_from 0 marks) (unplaced_all marks (λ s. low (suc s)))))
 
--- a lane comes back with all marked shards
-pub gives_back : (p : PlanData) (x : LedgerState) (i : ℕ) → length x.unplaced ≡ p.shards → ((s : ℕ) → slice_index x.unplaced s ≤ 1)
-    → (i < length x.outs) × (slice_index x.outs i ≡ 1) → (outs : List ℕ) (lists : List (List ℕ)) (marks : List ℕ)
-    → outs ≡ set x.outs i 0 → lists ≡ set x.lists i (list_of x i ++ floating x) → marks ≡ replicate p.shards 0
-    → Takes (record { plan = p; lanes = length x.outs; state = x }) (LaneBack i) Noted
+-- an allowed event fits with what comes with it
+pub brought_fits : (p : PlanData) (x : LedgerState) (event : Event) → IsSound p x → IsAllowed p x event → Fits p x 0 event (brought x event)
+brought_fits p x Draw sound may = refl
+brought_fits p x (Number c) sound may = (refl, may)
+brought_fits p x (Died c k) sound may = (refl, may)
+brought_fits p x (Settle c k) sound may = (refl, may)
+brought_fits p x (LaneOut i) sound may = (refl, may)
+brought_fits p x (LaneBack i) sound may = record { within = may.0; out = may.1; brought = unplaced_all x.unplaced sound.marks }
+brought_fits p x (Bad s) sound may = (refl, may)
+
+-- a lane comes back with these shards
+pub gives_back : (p : PlanData) (x : LedgerState) (i : ℕ) (ss : List ℕ) → IsReturned x 0 i ss → (outs : List ℕ) (lists : List (List ℕ)) (marks : List ℕ)
+    → outs ≡ set x.outs i 0 → lists ≡ set x.lists i (list_of x i ++ ss) → marks ≡ placed x.unplaced ss
+    → TakesWith (record { plan = p; lanes = length x.outs; state = x }) (LaneBack i) ss Noted
     (record { plan = p; lanes = length outs; state = record x { outs = outs; lists = lists; unplaced = marks } })
-gives_back p x i rows low out outs lists marks outs_is lists_is marks_is =
+gives_back p x i ss back outs lists marks outs_is lists_is marks_is =
     let y = record x { outs = outs; lists = lists; unplaced = marks } in
-    let none : marks ≡ placed x.unplaced (floating x) = marks_is ∙ ap (λ (n : ℕ). replicate n 0) (sym rows) ∙ sym (placed_all x.unplaced) in
-    let next : y ≡ after p x 0 (LaneBack i) (floating x) =
+    let next : y ≡ after p x 0 (LaneBack i) ss =
     ap (λ (l : List ℕ). record x { outs = l; lists = lists; unplaced = marks }) outs_is
     ∙ ap (λ (l : List (List ℕ)). record x { outs = set x.outs i 0; lists = l; unplaced = marks }) lists_is
-    ∙ ap (λ (l : List ℕ). record x { outs = set x.outs i 0; lists = set x.lists i (list_of x i ++ floating x); unplaced = l }) none in
+    ∙ ap (λ (l : List ℕ). record x { outs = set x.outs i 0; lists = set x.lists i (list_of x i ++ ss); unplaced = l }) marks_is in
     let same : length outs ≡ length x.outs = ap length outs_is ∙ length-set x.outs i 0 in
     record {
-      step = record { fits = record { within = out.0; out = out.1; brought = unplaced_all x.unplaced low }; answer = refl; next = next };
+      step = record { fits = back; answer = refl; next = next };
       kept = ap (λ (n : ℕ). record { plan = p; lanes = n; state = y }) same;
     }

@@ -255,7 +255,7 @@ one_death died x c k low true_is h s j bit = by_shard (c.shard == s) refl where
   by_shard true is = here (j == k) refl (eqb-true c.shard s is) (ap (λ (d : ℕ). bit_at d j) (sym (set_here x.deaths c.shard s _ low is)) ∙ bit)
   by_shard false is = h s j (ap (λ (d : ℕ). bit_at d j) (sym (set_there x.deaths c.shard s _ is)) ∙ bit)
 
-death_step : (died : ℕ → ℕ → Type 0) (faults : ℕ → Type 0) (p : PlanData) → IsPlan p → (x : LedgerState) (n : ℕ) (e : Event) (ss : List ℕ) → HasRows p x
+pub death_step : (died : ℕ → ℕ → Type 0) (faults : ℕ → Type 0) (p : PlanData) → IsPlan p → (x : LedgerState) (n : ℕ) (e : Event) (ss : List ℕ) → HasRows p x
     → Fits p x n e ss → IsTrueReport died faults e → AreDeaths died x → AreDeaths died (after p x n e ss)
 death_step died faults p plan x n Draw ss rows fits t h = either (AreDeaths died) (nat_lt x.drawn (count_of p)) (record x { drawn = x.drawn + 1 }) x h h
 death_step died faults p plan x n (Number c) ss rows fits t h = either (AreDeaths died) (nat_lt (slice_index x.given c.shard) p.attempts) (record x { given = set x.given c.shard (slice_index x.given c.shard + 1) }) x h h

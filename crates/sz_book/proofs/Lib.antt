@@ -1,7 +1,13 @@
+pub mod ChangeLemmas
 pub mod CoreLemmas
 pub mod CountLemmas
 pub mod DecideLemmas
 pub mod GrowthLemmas
 pub mod HistoryLemmas
+pub mod ReplayLemmas
+pub mod RoomLemmas
+pub mod ShelfLemmas
 pub mod StepLemmas
+pub mod TakingLemmas
 pub mod TestPlans
+pub mod UnplacedLemmas

@@ -38,7 +38,7 @@ set_there row s t v is = get_or-set_other row s t v 0 (λ (same : t ≡ s). apar
   apart : (s == s) ≡ false → ⊥
   apart h = cc (sym h ∙ eq-eqb s s refl)
 
-length-placed : (row ss : List ℕ) → length (placed row ss) ≡ length row
+pub length-placed : (row ss : List ℕ) → length (placed row ss) ≡ length row
 length-placed row [] = refl
 length-placed row (s ∷ ss) = length-placed (set row s 0) ss ∙ length-set row s 0
 

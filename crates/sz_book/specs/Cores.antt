@@ -1,5 +1,6 @@
 -- What a contract sees of a core, and what its calls do.
-use Rattle.std.specs.Prelude.{◌≡◌, ℕ, suc, ◌^◌, ◌<◌, ◌≤◌, ◌==◌, if◌then◌else◌, List, [], ◌∷◌, ◌++◌, length, slice_index, Option, Some, None}
+use Rattle.std.specs.Prelude.{◌≡◌, ℕ, suc, ◌+◌, ◌^◌, ◌<◌, ◌≤◌, ◌==◌, ◌&&◌, Bool, not, if◌then◌else◌, List, [], ◌∷◌, ◌++◌, length, map, replicate, slice_index, Option, Some, None}
+use Rattle.std.specs.List.{sum_by, list_any}
 use Rattle.sz_book.specs.Plan.{PlanData, IsPlan, count_of}
 use Rattle.sz_book.specs.declared.event.Event.{Event}
 use Rattle.sz_book.specs.declared.event.Event.TheVariants.{Draw, Number, Died, Settle, LaneOut, LaneBack, Bad}
@@ -7,6 +8,12 @@ use Rattle.sz_book.specs.declared.event.Reply.{Reply}
 use Rattle.sz_book.specs.declared.event.Entry.{Entry}
 use Rattle.sz_book.specs.Machine.{LedgerState, opening, IsDrawn, IsTried, IsStep}
 use Rattle.sz_book.specs.History.{entry, state_after, IsLegal}
+use Rattle.sz_book.specs.Counting.{once}
+
+-- how many shards a list has room for, and its shards
+pub record ReservedData : Type 0 where
+  pub room : ℕ
+  pub shards : List ℕ
 
 -- its plan, how many lanes it has, and its state
 pub record CoreData : Type 0 where
@@ -41,6 +48,10 @@ abbrev pub marked_from : ℕ → List ℕ → List ℕ
 marked_from s [] = []
 marked_from s (mark ∷ marks) = if mark == 0 then marked_from (suc s) marks else s ∷ marked_from (suc s) marks
 
+-- whether a shard is marked, and none of those in front of it
+abbrev pub is_unplaced_behind : List ℕ → List ℕ → ℕ → Bool
+is_unplaced_behind marks front s = (slice_index marks s == 1) && not (list_any (λ t. t == s) front)
+
 -- the shards that were won and are in no lane, in order
 abbrev pub floating : LedgerState → List ℕ
 floating x = marked_from 0 x.unplaced
@@ -65,10 +76,14 @@ IsAllowed p x (LaneOut i) = i < length x.outs
 IsAllowed p x (LaneBack i) = (i < length x.outs) × (slice_index x.outs i ≡ 1)
 IsAllowed p x (Bad s) = s < p.shards
 
--- one step of the ledger was made, by its one caller, who has the number 0
-pub record Takes (old : CoreData) (event : Event) (reply : Reply) (new : CoreData) : Type 0 where
-  pub step : IsStep old.plan old.state 0 event (brought old.state event) reply new.state
+-- one step of the ledger was made with these shards, by its one caller, who has the number 0
+pub record TakesWith (old : CoreData) (event : Event) (shards : List ℕ) (reply : Reply) (new : CoreData) : Type 0 where
+  pub step : IsStep old.plan old.state 0 event shards reply new.state
   pub kept : new ≡ record old { state = new.state }
+
+-- the same, where a lane that comes back takes all shards that are in none
+abbrev pub Takes : CoreData → Event → Reply → CoreData → Type 0
+Takes old event reply new = TakesWith old event (brought old.state event) reply new
 
 -- the core came to its state by this history
 pub record IsAfter (log : List Entry) (core : CoreData) : Type 0 where
@@ -79,7 +94,8 @@ pub record IsAfter (log : List Entry) (core : CoreData) : Type 0 where
 pub record GoesOn (old : CoreData) (event : Event) (reply : Reply) (new : CoreData) : Type 0 where
   pub history : (log : List Entry) → IsAfter log old → IsAfter (log ++ entry 0 event (brought old.state event) reply ∷ []) new
 
--- what a core keeps of its state: a row for each shard and for each lane, and numbers in their bounds
+-- What a core keeps of its state: a row for each shard and for each lane, and numbers in their bounds. The shards in the lanes and
+-- those that are won and in none are no more than were won
 pub record IsSound (p : PlanData) (x : LedgerState) : Type 0 where
   pub plan : IsPlan p
   pub rows : (length x.given ≡ p.shards) × (length x.deaths ≡ p.shards) × (length x.winners ≡ p.shards) × (length x.unplaced ≡ p.shards)
@@ -89,3 +105,9 @@ pub record IsSound (p : PlanData) (x : LedgerState) : Type 0 where
   pub winners : (s : ℕ) → slice_index x.winners s ≤ p.attempts
   pub marks : (s : ℕ) → slice_index x.unplaced s ≤ 1
   pub outs : (i : ℕ) → slice_index x.outs i ≤ 1
+  pub few : sum_by length x.lists + sum_by once x.unplaced ≤ sum_by once x.winners
+
+-- what the type of a core keeps: the same, and that each of its lists has room for all shards
+pub record IsKept (p : PlanData) (x : LedgerState) (lists : List ReservedData) : Type 0 where
+  pub sound : IsSound p x
+  pub room : map (λ list. list.room) lists ≡ replicate (length lists) p.shards

@@ -7,3 +7,5 @@ pub mod Answers
 pub mod Cores
 pub mod Orderly
 pub mod Counting
+pub mod Held
+pub mod Books

@@ -1,5 +1,6 @@
-//! What holds of every history of a ledger. The calls do nothing: they promise laws of `specs/Counting.antt`.
+//! What holds of every history of a ledger. The calls do nothing: they promise laws of `specs/`.
 ghost use Rattle.sz_book.specs.Counting.{EachShardCountsOnce, TheWinnerStays, NotedDeathsAreTrue, EachShardIsDecided};
+ghost use Rattle.sz_book.specs.Held.{ChangesAreSeen};
 
 use crate::load::Load;
 
@@ -17,4 +18,9 @@ pub fn noted_deaths_are_true<T: Load>()
 /// Once each ticket has ended, each shard below the least bad one is settled, or all its attempts died.
 pub fn each_shard_is_decided()
     ensures decided { EachShardIsDecided }
+{}
+
+/// A held ledger's history has just the calls that left another state, but for which lanes are out.
+pub fn changes_are_seen()
+    ensures seen { ChangesAreSeen }
 {}

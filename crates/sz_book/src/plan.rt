@@ -34,6 +34,9 @@ impl Model for Plan {
 }
 
 impl Plan {
+    ghost use Rattle.std.specs.Prelude.{◌↔◌, true};
+    ghost use Rattle.sz_book.specs.Books.{IsClaim};
+
     /// A plan of these numbers. It takes no memory.
     pub fn new(shards: u32, attempts: u32, tickets: Tickets) -> Plan
         requires { IsPlan record { shards = shards; attempts = attempts; tickets = tickets } }
@@ -87,6 +90,15 @@ impl Plan {
         ensures value { result ≡ slice_index self.now.tickets ticket }
     {
         *self.tickets.get(ticket)
+    }
+
+    /// Whether the claim is of one of the plan's tickets, with its shard.
+    pub fn names(&self, claim: &Claim) -> bool
+        ensures claim { (result ≡ true) ↔ IsClaim self.now claim.now }
+        ensures within { result ≡ true → claim.now.shard < self.now.shards }
+    {
+        let index = claim.ticket as usize;
+        index < self.tickets.len() && *self.tickets.get(index) == claim.shard
     }
 }
 

@@ -1,19 +1,26 @@
-use Rattle.std.proofs.Common.{◌<◌, ◌++◌, length, arith, ◌∙◌, ap, sym, subst, ℕ, List, [], replicate, slice_set, slice_index_or}
-use Rattle.std.proofs.lemmas.List.{get_or_default}
-use Rattle.sz_book.specs.declared.event.Event.TheVariants.{LaneBack}
-use Rattle.sz_book.specs.Cores.{CoreData, marked_from, IsAllowed}
+use Rattle.std.proofs.Common.{ap, sym, subst, refl, slice_set}
+use Rattle.sz_book.specs.Machine.{IsReturned}
+use Rattle.sz_book.specs.Cores.{CoreData, ReservedData}
 use Rattle.sz_book.proofs.CoreLemmas.{gives_back}
+use Rattle.sz_book.proofs.RoomLemmas.{back_room, back_lists, back_kept}
 use Rattle.sz_book.proofs.machine.Core.give.Goals as goal
 
--- the lane's list goes on with all marked shards
-pub returns-clause-ok : goal.returns-clause-ok
-returns-clause-ok c =
-    let out = subst (λ (d : CoreData). IsAllowed d.plan d.state (LaneBack c.args.lane)) (sym c.self.view_is) c.requires in
-    let brought = c.in_ok-shards.ensures.value ∙ ap (marked_from 0) c.as_slice.ensures.value in
-    let low : c.args.lane < length c.self.inside.lists.items = (let a = out.0 in let b = c.self.invariant.lanes in omega arith) in
-    let was = c.index_mut.ensures.value ∙ get_or_default c.self.inside.lists.items c.args.lane c.index_mut.result.now [] low in
-    let list = c.in_ok-append.ensures.ok ∙ ap (λ (l : List ℕ). l ++ c.in_ok-shards.shards) was ∙ ap (λ (ss : List ℕ). slice_index_or c.self.inside.lists.items c.args.lane [] ++ ss) brought in
-    let lists = ap (slice_set c.self.inside.lists.items c.args.lane) list in
+pub add-requires : goal.add-requires
+add-requires c =
+    let back = subst (λ (d : CoreData). IsReturned d.state 0 c.args.lane c.args.shards.now) (sym c.self.view_is) c.requires in
+    record { room = back_room c.self.inside.plan _ c.self.inside.lists.items c.args.lane c.args.shards.now c.index_mut.result.now c.self.invariant refl back c.index_mut.ensures.value }
+
+pub invariant_of-self : goal.invariant_of-self
+invariant_of-self c =
+    let back = subst (λ (d : CoreData). IsReturned d.state 0 c.args.lane c.args.shards.now) (sym c.self.view_is) c.requires in
+    rw (c.add.ensures.value, c.set.ensures.value, c.place.ensures.value)
+    (back_kept c.self.inside.plan _ c.self.inside.lists.items c.args.lane c.args.shards.now c.index_mut.result.now c.self.invariant refl back c.index_mut.ensures.value)
+
+-- the lane's list goes on with these shards
+pub returns : goal.returns
+returns c =
+    let back = subst (λ (d : CoreData). IsReturned d.state 0 c.args.lane c.args.shards.now) (sym c.self.view_is) c.requires in
+    let lists = back_lists c.self.inside.plan _ c.self.inside.lists.items c.args.lane c.args.shards.now c.index_mut.result.now c.self.invariant refl back c.index_mut.ensures.value in
+    let added = ap (λ (r : ReservedData). slice_set c.self.inside.lists.items c.args.lane r) c.add.ensures.value in
     rw (← c.self.view_is)
-    (gives_back c.self.inside.plan _ c.args.lane c.self.invariant.rows.3 c.self.invariant.marks out
-    _ _ _ c.set.ensures.value lists (c.in_ok-cleared.ensures.value ∙ ap (λ (n : ℕ). replicate n 0) c.shards.ensures.value))
+    (gives_back c.self.inside.plan _ c.args.lane c.args.shards.now back _ _ _ c.set.ensures.value (rw c.add.ensures.value lists) c.place.ensures.value)

@@ -1,0 +1,10 @@
+//! One line of a history as it is kept.
+use crate::event::{Event, Reply};
+
+/// A call that changed a ledger, its answer, and how many shards came with it.
+#[derive(Clone, Copy, Debug)]
+pub struct Change {
+    pub event: Event,
+    pub reply: Reply,
+    pub shards: usize,
+}
