@@ -1,19 +1,18 @@
 -- The elements of arrays of scalars.
-use Rattle.std.proofs.Common.{◌≡◌, ℕ, ℤ, zero, suc, pos, negsuc, ◌+◌, ◌<◌, ◌≤◌, List, [], ◌∷◌, ◌++◌, length, take, drop, get_or, map, Option, Some, None, Bool, true, false, not, eqb, to_z, of_z, w64, refl, sym, ap, ◌∙◌}
-use Rattle.std.specs.Option.{option_and_then, option_map}
+use Rattle.std.proofs.Common.{◌≡◌, ℕ, ℤ, zero, suc, pos, negsuc, ◌+◌, ◌<◌, ◌≤◌, List, [], ◌∷◌, ◌++◌, length, take, get_or, map, Option, Some, None, Bool, true, false, not, eqb, to_z, of_z, w64, refl, sym, ap, ◌∙◌}
+use Rattle.std.specs.Option.{option_map}
 use Rattle.std.specs.Str.{IsUtf8, is_utf8}
 use Rattle.std.proofs.lemmas.Str.{IsUtf8-from_is_utf8}
 use Rattle.std.proofs.lemmas.Bool.{eqb-true}
 use Rattle.std.proofs.lemmas.List.{take_more}
-use Rattle.sz_types.specs.declared.encoding.Encoding.{Encoding}
 use Rattle.sz_value.specs.Data.{Datum, data_of}
 use Rattle.sz_value.specs.Data as values
 use Rattle.sz_wire.specs.declared.field.WireField.{WireField}
 use Rattle.sz_wire.specs.Field.{Content, varint, eight, four, span, group}
 use Rattle.sz_proto.specs.Payloads.{payloads}
-use Rattle.sz_proto.specs.Elements.{numbers_in, truths_in, truths_of, texts_in, in_all}
+use Rattle.sz_proto.specs.Elements.{truths_of, in_all}
 use Rattle.sz_proto.specs.Messages.{each_of}
-use Rattle.sz_proto.specs.Found.{contents, array_of, whole_number, octets_each}
+use Rattle.sz_proto.specs.Found.{contents, array_of, octets_each}
 use Rattle.sz_proto.proofs.GoingLemmas.{GoesFrom, from_end, each_in_all}
 
 -- all elements are held, or one is lacking

@@ -3,7 +3,7 @@ use Rattle.std.proofs.Common.{◌≡◌, ℕ, ◌+◌, ◌<◌, ◌≤◌, List,
 use Rattle.std.specs.Option.{option_and_then, option_map}
 use Rattle.std.proofs.lemmas.List.{append-nil, map-append, drop_all, at_drop_more}
 use Rattle.sz_wire.specs.declared.field.WireField.{WireField}
-use Rattle.sz_wire.specs.Field.{Content, varint, eight, four, span, group, content_in}
+use Rattle.sz_wire.specs.Field.{Content, content_in}
 use Rattle.sz_proto.specs.Elements.{in_all}
 use Rattle.sz_proto.specs.Found.{contents, Takes}
 

@@ -6,3 +6,5 @@ pub mod PackedLemmas
 pub mod MessageLemmas
 pub mod OrderLemmas
 pub mod ElementLemmas
+pub mod TypeLemmas
+pub mod ForCallers

@@ -1,5 +1,5 @@
 -- The values of a message by its fields.
-use Rattle.std.proofs.Common.{◌≡◌, ℕ, zero, suc, ◌+◌, ◌-◌, ◌*◌, ◌<◌, ◌≤◌, List, [], ◌∷◌, ◌++◌, length, drop, map, get_or, filter, Option, Some, None, Bool, true, false, ◌==◌, cond, nat_lt, refl, sym, ap, ◌∙◌, arith, Box, Global}
+use Rattle.std.proofs.Common.{◌≡◌, ℕ, zero, suc, ◌+◌, ◌-◌, ◌<◌, ◌≤◌, List, [], ◌∷◌, ◌++◌, length, drop, map, get_or, Option, Some, None, Bool, true, false, ◌==◌, cond, nat_lt, refl, sym, ap, ◌∙◌, arith, Box, Global}
 use Rattle.std.specs.Option.{option_and_then, option_map}
 use Rattle.std.proofs.lemmas.List.{drop_all, at_drop_more, take_all}
 use Rattle.sz_types.specs.Data.{Shape, FieldShape, FieldShapes, field, no_fields, with_field, fields_of}
@@ -20,7 +20,7 @@ use Rattle.sz_wire.specs.Field as wire
 use Rattle.sz_wire.specs.Field.{Content, varint, eight, four, span, group, content_in, field_in, deepest}
 use Rattle.sz_proto.specs.Payloads.{occurrences, payloads, fields_of_all}
 use Rattle.sz_proto.specs.Elements.{in_all}
-use Rattle.sz_proto.specs.Messages.{inside, tuple_of, for_each, message_in, values_of, value_of}
+use Rattle.sz_proto.specs.Messages.{tuple_of, for_each, message_in, values_of, value_of}
 use Rattle.sz_proto.specs.Found.{contents, with_number, found_within, message_each, IsOrdered}
 use Rattle.sz_proto.proofs.GoingLemmas.{Goes, goes_on, goes_end}
 

@@ -1,6 +1,6 @@
 -- Packed elements, read one after another.
-use Rattle.std.proofs.Common.{◌≡◌, ℕ, ℤ, zero, suc, ◌+◌, ◌-◌, ◌<◌, ◌≤◌, List, [], ◌∷◌, ◌++◌, length, drop, Option, Some, None, refl, sym, ap, ◌∙◌, arith, length-drop}
-use Rattle.std.specs.Option.{option_and_then, option_map}
+use Rattle.std.proofs.Common.{◌≡◌, ℕ, ℤ, zero, suc, ◌+◌, ◌-◌, ◌<◌, ◌≤◌, List, [], ◌∷◌, ◌++◌, length, drop, Some, None, refl, sym, ap, ◌∙◌, arith, length-drop}
+use Rattle.std.specs.Option.{option_map}
 use Rattle.std.specs.Int.{Width, cast_signed}
 use Rattle.std.proofs.lemmas.List.{drop-drop}
 use Rattle.sz_wire.specs.Field.{fixed_at}

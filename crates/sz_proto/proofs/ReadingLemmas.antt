@@ -2,7 +2,7 @@
 use Rattle.std.proofs.Common.{◌≡◌, ℕ, zero, suc, ◌+◌, ◌-◌, ◌<◌, ◌≤◌, List, [], ◌∷◌, ◌++◌, length, take, drop, map, Option, Some, None, Bool, true, false, nat_lt, cond, refl, sym, ap, ◌∙◌, append_assoc, arith, length-drop}
 use Rattle.std.specs.List.{slice_range}
 use Rattle.std.specs.Option.{option_and_then, option_map}
-use Rattle.std.proofs.lemmas.List.{append-nil, map-append, drop-take, take-append-le, drop_all, length-take-le, take-take}
+use Rattle.std.proofs.lemmas.List.{append-nil, map-append, drop-take, length-take-le, take-take}
 use Rattle.std.proofs.lemmas.List.Elements.{All-push}
 use Rattle.std.proofs.lemmas.Bool.{ltb-true, ltb-false}
 use Rattle.sz_wire.specs.declared.field.WireField.{WireField}
@@ -11,7 +11,7 @@ use Rattle.sz_wire.specs.declared.field.WireKind.TheVariants as kinds
 use Rattle.sz_wire.specs.Field.{Content, Field, varint, eight, four, span, group, content_in, field_in, field_at, deepest, LiesBefore}
 use Rattle.sz_proto.specs.Payloads.{fields_within, fields_of, fields_of_all, payloads}
 use Rattle.sz_proto.specs.Elements.{in_all}
-use Rattle.sz_proto.specs.Found.{contents, AreWithin, found_within, fields_each, Takes}
+use Rattle.sz_proto.specs.Found.{AreWithin, found_within, fields_each, Takes}
 use Rattle.sz_proto.proofs.GoingLemmas.{Goes, goes_start, goes_on, goes_end}
 
 -- what lies in front of a place is the same in the bytes up to that place

@@ -1,5 +1,5 @@
 -- Messages with the values that they were made to have.
-use Rattle.std.proofs.Common.{◌≡◌, ℤ, pos, negsuc, [], ◌∷◌, Some, None, refl}
+use Rattle.std.proofs.Common.{◌≡◌, pos, [], ◌∷◌, Some, None, refl}
 use Rattle.sz_types.specs.declared.encoding.Encoding.TheVariants as codes
 use Rattle.sz_types.specs.Data.{Shape, FieldShapes, field, no_fields, with_field}
 use Rattle.sz_types.specs.Data as shapes

@@ -1,4 +1,4 @@
-use Rattle.std.proofs.Common.{◌≡◌, ℤ, ◌∷◌, [], map, to_z, of_z, w64, refl, ap, ◌∙◌, rules}
+use Rattle.std.proofs.Common.{◌≡◌, ◌∷◌, [], to_z, of_z, w64, refl, ap, ◌∙◌, rules}
 use Rattle.std.proofs.lemmas.List.{map-append}
 use Rattle.sz_value.specs.Seen.{seen}
 use Rattle.sz_proto.specs.Found.{whole_number}

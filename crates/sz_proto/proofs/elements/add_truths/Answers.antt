@@ -1,4 +1,4 @@
-use Rattle.std.proofs.Common.{◌≡◌, ◌∷◌, [], map, nat_lt, refl, rules}
+use Rattle.std.proofs.Common.{◌∷◌, [], nat_lt, refl}
 use Rattle.std.proofs.lemmas.List.{map-append}
 use Rattle.sz_value.specs.Data as values
 use Rattle.sz_value.specs.Seen.{seen}

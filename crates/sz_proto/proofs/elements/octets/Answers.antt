@@ -1,9 +1,7 @@
-use Rattle.std.proofs.Common.{◌≡◌, sym, ap, ◌∙◌}
-use Rattle.sz_value.specs.Data as values
-use Rattle.sz_proto.specs.Elements.{in_all, numbers_in, truths_in, texts_in}
-use Rattle.sz_proto.specs.Found.{contents, array_of, whole_number, octets_each}
-use Rattle.sz_proto.proofs.GoingLemmas.{from_taken, from_left, from_end}
-use Rattle.sz_proto.proofs.ElementLemmas.{each_end, each_none}
+use Rattle.std.proofs.Common.{sym, ap, ◌∙◌}
+use Rattle.sz_proto.specs.Elements.{in_all}
+use Rattle.sz_proto.specs.Found.{contents, array_of, octets_each}
+use Rattle.sz_proto.proofs.GoingLemmas.{from_taken, from_end}
 use Rattle.sz_proto.proofs.elements.octets.Goals as goal
 
 pub loop-field-preserved : goal.loop-field-preserved

@@ -1,4 +1,4 @@
-use Rattle.std.proofs.Common.{◌≡◌, ℤ, pos, ◌++◌, ◌∷◌, [], List, Bool, not, eqb, map, take, get_or, to_z, of_z, w64, rules, sym, ap, ◌∙◌, append_assoc}
+use Rattle.std.proofs.Common.{◌≡◌, pos, ◌++◌, ◌∷◌, [], List, Bool, not, eqb, map, take, get_or, to_z, of_z, w64, rules, sym, ap, ◌∙◌, append_assoc}
 use Rattle.std.proofs.lemmas.List.{append-nil, map-append}
 use Rattle.sz_value.specs.Data as values
 use Rattle.sz_value.specs.Data.{Datum}

@@ -1,4 +1,4 @@
-use Rattle.std.proofs.Common.{◌≡◌, sym, ◌∙◌}
+use Rattle.std.proofs.Common.{sym, ◌∙◌}
 use Rattle.sz_proto.specs.Elements.{in_all}
 use Rattle.sz_proto.specs.Found.{contents, fields_each}
 use Rattle.sz_proto.proofs.GoingLemmas.{from_taken, from_left, from_end}

@@ -1,4 +1,4 @@
-use Rattle.std.proofs.Common.{◌≡◌, List, map, length, rules, of_calls, sym, ap, subst, ◌∙◌, IfSome}
+use Rattle.std.proofs.Common.{map, length, rules, of_calls, sym, ap, ◌∙◌}
 use Rattle.std.specs.Option.{option_map}
 use Rattle.std.specs.Global.{Vec}
 use Rattle.std.proofs.lemmas.Fn.{always_returns_same}

@@ -1,6 +1,6 @@
-use Rattle.std.proofs.Common.{◌≡◌, ◌<◌, ◌≤◌, length, take, drop, map, rules, sym, ap, ◌∙◌, arith, Ok, Some}
+use Rattle.std.proofs.Common.{◌≡◌, ◌<◌, ◌≤◌, length, take, drop, ap, Ok, Some}
 use Rattle.sz_wire.specs.Field.{field_at, field_in, LiesBefore}
-use Rattle.sz_proto.proofs.ReadingLemmas.{IsReading, starts_reading, reads_more, read_all, read_none, front_end, not_at_end}
+use Rattle.sz_proto.proofs.ReadingLemmas.{starts_reading, reads_more, read_all, read_none, front_end, not_at_end}
 use Rattle.sz_proto.proofs.finding.read_payload.Goals as goal
 
 pub loop-field-init : goal.loop-field-init

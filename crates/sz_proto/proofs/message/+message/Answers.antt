@@ -1,4 +1,4 @@
-use Rattle.std.proofs.Common.{◌≡◌, ◌≤◌, ◌<◌, ◌+◌, ◌*◌, ◌∷◌, [], List, ℕ, ℤ, Bool, Some, None, Option, length, map, to_z, of_z, w64, rules, arith, sym, ap, subst, ◌∙◌, refl}
+use Rattle.std.proofs.Common.{◌≡◌, ◌+◌, ◌∷◌, [], List, ℕ, ℤ, Bool, Some, None, Option, length, map, to_z, of_z, w64, rules, arith, sym, ap, subst, ◌∙◌, refl}
 use Rattle.std.proofs.lemmas.List.{map-append}
 use Rattle.std.proofs.lemmas.List.Elements.{All-filter}
 use Rattle.sz_types.specs.Data.{fields_of}
@@ -13,11 +13,11 @@ use Rattle.sz_wire.specs.declared.field.WireField.{WireField}
 use Rattle.sz_wire.specs.Field.{field_in, LiesBefore}
 use Rattle.sz_proto.specs.Payloads.{payloads}
 use Rattle.sz_proto.specs.Elements.{in_all}
-use Rattle.sz_proto.specs.Messages.{tuple_of, for_each, message_in, values_of, value_of, elements_of}
-use Rattle.sz_proto.specs.Found.{contents, array_of, with_number, message_each, AreFound}
+use Rattle.sz_proto.specs.Messages.{tuple_of, message_in, values_of, value_of, elements_of}
+use Rattle.sz_proto.specs.Found.{contents, array_of, message_each, AreFound}
 use Rattle.sz_proto.proofs.GoingLemmas.{from_taken, from_left, from_end}
 use Rattle.sz_proto.proofs.ElementLemmas.{all_octets}
-use Rattle.sz_proto.proofs.MessageLemmas.{ValuesFrom, value_more, value_none, values_end, value_found, message_is, message_none, messages_each, one_message, field_smaller, proto_size, array_size, shape_size, fields_size}
+use Rattle.sz_proto.proofs.MessageLemmas.{ValuesFrom, value_more, value_none, values_end, value_found, message_is, message_none, messages_each, one_message, field_smaller, proto_size, array_size, shape_size}
 use Rattle.sz_proto.proofs.message.+message.Goals as goal
 
 -- what a call asks for: the type is smaller, the occurrences lie in the bytes, and the level is one

@@ -1,5 +1,5 @@
 -- What is left goes on what is held, and a type is larger than those that it is built from.
-use Rattle.std.proofs.Common.{◌+◌, ◌*◌, ◌∷◌, [], map, length}
+use Rattle.std.proofs.Common.{◌+◌, ◌*◌, ◌∷◌, [], map}
 use Rattle.sz_types.specs.Data.{fields_of}
 use Rattle.sz_types.specs.Seen as types
 use Rattle.sz_value.specs.Seen.{seen}

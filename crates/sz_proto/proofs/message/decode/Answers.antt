@@ -1,4 +1,4 @@
-use Rattle.std.proofs.Common.{◌≡◌, refl}
+use Rattle.std.proofs.Common.{refl}
 use Rattle.sz_types.proofs.ForCallers.{seen_bool, seen_int, seen_time, seen_str, seen_bytes, seen_array, seen_map, seen_tuple, seen_proto}
 use Rattle.sz_proto.specs.Messages.{decoded}
 use Rattle.sz_proto.proofs.MessageLemmas.{whole_payload}

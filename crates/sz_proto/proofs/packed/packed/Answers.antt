@@ -1,4 +1,4 @@
-use Rattle.std.proofs.Common.{◌≡◌, rules, sym}
+use Rattle.std.proofs.Common.{rules, sym}
 use Rattle.sz_proto.proofs.PackedLemmas.{unpacks_more, unpacks_none, unpacked}
 use Rattle.sz_proto.proofs.packed.packed.Goals as goal
 

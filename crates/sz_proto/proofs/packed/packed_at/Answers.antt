@@ -1,4 +1,4 @@
-use Rattle.std.proofs.Common.{◌≡◌, Some, to_z, of_z, w32, w64, rules}
+use Rattle.std.proofs.Common.{◌≡◌, to_z, of_z, w32, w64, rules}
 use Rattle.sz_proto.proofs.PackedLemmas.{fixed_element}
 use Rattle.sz_proto.proofs.packed.packed_at.Goals as goal
 

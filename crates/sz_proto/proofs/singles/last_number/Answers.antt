@@ -1,5 +1,4 @@
-use Rattle.std.proofs.Common.{◌≡◌, ℕ, ℤ, List, ◌+◌, drop, to_z, of_z, w64, sym, ap, ◌∙◌, rules}
-use Rattle.sz_wire.specs.declared.field.WireKind.TheVariants as kinds
+use Rattle.std.proofs.Common.{◌≡◌, ℤ, ◌+◌, drop, to_z, of_z, w64, sym, ap, ◌∙◌, rules}
 use Rattle.sz_proto.specs.Elements.{numbers, last_or}
 use Rattle.sz_proto.specs.Found.{contents}
 use Rattle.sz_proto.proofs.SingleLemmas.{from_next, from_last, number_next, number_end}

@@ -1,4 +1,4 @@
-use Rattle.std.proofs.Common.{◌≡◌, ℕ, List, ◌+◌, drop, Some, sym, ap, ◌∙◌}
+use Rattle.std.proofs.Common.{ℕ, List, ◌+◌, drop, Some, sym, ap, ◌∙◌}
 use Rattle.sz_value.specs.Data as values
 use Rattle.sz_proto.specs.Payloads.{payloads}
 use Rattle.sz_proto.specs.Elements.{last_or}

@@ -1,4 +1,4 @@
-use Rattle.std.proofs.Common.{◌≡◌, ℕ, List, Some, sym, ap, ◌∙◌}
+use Rattle.std.proofs.Common.{ℕ, List, Some, sym, ap, ◌∙◌}
 use Rattle.sz_value.specs.Data as values
 use Rattle.sz_proto.specs.Found.{last_text_of}
 use Rattle.sz_proto.proofs.SingleLemmas.{from_last, text_end}

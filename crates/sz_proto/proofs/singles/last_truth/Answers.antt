@@ -1,5 +1,4 @@
-use Rattle.std.proofs.Common.{◌≡◌, ℕ, List, Bool, ◌+◌, drop, sym, ap, ◌∙◌}
-use Rattle.sz_wire.specs.declared.field.WireKind.TheVariants as kinds
+use Rattle.std.proofs.Common.{Bool, ◌+◌, drop, sym, ap, ◌∙◌}
 use Rattle.sz_proto.specs.Elements.{truths, last_or}
 use Rattle.sz_proto.specs.Found.{contents}
 use Rattle.sz_proto.proofs.SingleLemmas.{from_next, from_last, truth_next, truth_end}

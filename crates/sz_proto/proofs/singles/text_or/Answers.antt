@@ -1,4 +1,4 @@
-use Rattle.std.proofs.Common.{◌≡◌, refl, rules}
+use Rattle.std.proofs.Common.{refl}
 use Rattle.std.proofs.lemmas.Str.{is_utf8-from_IsUtf8}
 use Rattle.sz_wire.specs.Field.{content_in}
 use Rattle.sz_proto.proofs.ElementLemmas.{not_utf8}
