@@ -48,6 +48,7 @@ impl Operands {
     }
 
     /// How many operands there are.
+    #[inline(always)]
     pub fn len(&self) -> usize
         ensures value { result ≡ length self.now }
     {
@@ -55,6 +56,7 @@ impl Operands {
     }
 
     /// Puts the cell on top.
+    #[inline(always)]
     pub fn push(&mut self, cell: Cell) -> Result<(), NoMemory>
         ensures ok { OnOk result (self.new ≡ cell ∷ self.old) }
     {
@@ -63,6 +65,7 @@ impl Operands {
     }
 
     /// Takes the topmost operand off.
+    #[inline(always)]
     pub fn pop(&mut self) -> Cell
         requires some { 0 < length self.old }
         ensures value { self.old ≡ result ∷ self.new }
@@ -74,6 +77,7 @@ impl Operands {
     }
 
     /// The topmost operand.
+    #[inline(always)]
     pub fn top(&self) -> &Cell
         requires some { 0 < length self.now }
         ensures value { self.now ≡ result.now ∷ drop 1 self.now }
@@ -118,6 +122,9 @@ impl Operands {
         ensures value { IfOk result (λ values. values ≡ all_defined (popped count self.old)) }
         ensures rest { OnOk result (self.new ≡ drop count self.old) }
     {
+        if count == 0 {
+            return Ok(Some(List::new(alloc)));
+        }
         let from = self.held.len() - count;
         let cells = self.held.split_off(from)?;
         gathered(alloc, cells)
@@ -150,7 +157,7 @@ fn values_of(alloc: Global, cells: Vec<Cell>) -> Result<List, NoMemory>
 {
     let mut values = List::with_capacity(alloc, cells.len())?;
     for cell in cells {
-        if let Some(value) = cell.into_value() {
+        if let Some(value) = cell.into_value(alloc)? {
             values.push(value)?;
         }
     }
