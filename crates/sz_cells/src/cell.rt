@@ -128,7 +128,18 @@ impl Cell {
             Value::Time(number) => Ok(Cell {
                 held: Form::Time(*number),
             }),
-            owner => Cell::shared_copy(alloc, owner),
+            owner => Cell::apart(alloc, owner),
+        }
+    }
+
+    // The same, with the answer made anew: so what a caller has of it needs no place in memory that the function below writes to.
+    #[inline(always)]
+    fn apart(alloc: Global, value: &Value) -> Result<Cell, NoMemory>
+        ensures value { IfOk result (λ made. made ≡ Some (seen value.now)) }
+    {
+        match Cell::shared_copy(alloc, value) {
+            Ok(cell) => Ok(cell),
+            Err(error) => Err(error),
         }
     }
 

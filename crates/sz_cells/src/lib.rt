@@ -13,6 +13,7 @@ mod weights;
 pub use calls::Calls;
 pub use candidates::Candidates;
 pub use cell::Cell;
+pub use numbers::of_ints;
 pub use operands::Operands;
 pub use results::{
     applied, array_of, binary_of, converted, definedness, element_of, map_of, part_of, slice_of,

@@ -1,6 +1,7 @@
 //! The operands of a run.
-ghost use Rattle.std.specs.Prelude.{◌≡◌, ◌≤◌, ◌<◌, [], ◌∷◌, length, drop, ◌++◌, is_some, IfOk, OnOk};
+ghost use Rattle.std.specs.Prelude.{◌≡◌, ◌≤◌, ◌<◌, [], ◌∷◌, length, drop, ◌++◌, is_some, IfOk, IfSome, OnOk, Some};
 ghost use Rattle.std.specs.List.{list_all};
+ghost use Rattle.sz_value.specs.Data.{int};
 ghost use Rattle.sz_world.specs.Slots.{all_defined};
 ghost use Rattle.sz_machine.specs.States.{popped};
 ghost use Rattle.sz_cells.specs.Results.{defined_of};
@@ -83,6 +84,30 @@ impl Operands {
         ensures value { self.now ≡ result.now ∷ drop 1 self.now }
     {
         &self.held[self.held.len() - 1]
+    }
+
+    /// The two topmost operands, the upper one last, if both are whole numbers that lie in their cells.
+    #[inline(always)]
+    pub fn top_ints(&self) -> Option<(i64, i64)>
+        requires some { 1 < length self.now }
+        ensures value { IfSome result (λ two. self.now ≡ Some (int two.1) ∷ Some (int two.0) ∷ drop 2 self.now) }
+    {
+        let count = self.held.len();
+        match (self.held[count - 2].int(), self.held[count - 1].int()) {
+            (Some(a), Some(b)) => Some((a, b)),
+            _ => None,
+        }
+    }
+
+    /// Puts the cell in the stead of the two topmost operands.
+    #[inline(always)]
+    pub fn put_for_two(&mut self, cell: Cell)
+        requires some { 1 < length self.old }
+        ensures value { self.new ≡ cell ∷ drop 2 self.old }
+    {
+        let count = self.held.len() - 1;
+        self.held.truncate(count);
+        self.held[count - 1] = cell;
     }
 
     /// Takes so many topmost operands off.

@@ -8,7 +8,6 @@ ghost use Rattle.sz_world.specs.Operations.{element_of, slice_of, part_at, part_
 ghost use Rattle.sz_cells.specs.Results.{applied_to, array_of_all, tuple_of_all, map_of_all, by_turns};
 
 use crate::cell::{Cell, Form};
-use crate::numbers::of_ints;
 use std::alloc::Global;
 use sz_builtin::{binary, builtin, convert, index, slice, unary};
 use sz_types::{BinOp, Builtin, Ty, UnOp};
@@ -29,19 +28,7 @@ pub fn unary_of(alloc: Global, op: UnOp, x: &Cell) -> Result<Cell, NoMemory>
 }
 
 /// What the operator makes of two operands.
-#[inline(always)]
 pub fn binary_of(alloc: Global, op: BinOp, x: &Cell, y: &Cell) -> Result<Cell, NoMemory>
-    ensures value { IfOk result (λ made. made ≡ binary_of op x.now y.now) }
-{
-    match (&x.held, &y.held) {
-        (Form::Int(a), Form::Int(b)) => of_ints(alloc, op, *a, *b),
-        _ => binary_of_any(alloc, op, x, y),
-    }
-}
-
-// The same of operands of any kind.
-#[inline(never)]
-fn binary_of_any(alloc: Global, op: BinOp, x: &Cell, y: &Cell) -> Result<Cell, NoMemory>
     ensures value { IfOk result (λ made. made ≡ binary_of op x.now y.now) }
 {
     match (x.look(), y.look()) {
