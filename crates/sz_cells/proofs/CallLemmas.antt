@@ -1,5 +1,5 @@
 -- The open calls, when one cell, the innermost candidate list or the innermost call changes.
-use Rattle.std.proofs.Common.{◌≡◌, ◌∙◌, ℕ, zero, suc, ◌+◌, ◌-◌, ◌<◌, ◌≤◌, List, [], ◌∷◌, ◌++◌, length, take, drop, reverse, set, get_or, Some, None, refl, sym, ap, arith}
+use Rattle.std.proofs.Common.{◌≡◌, ◌∙◌, ℕ, suc, ◌+◌, ◌<◌, ◌≤◌, List, [], ◌∷◌, ◌++◌, length, take, drop, reverse, set, get_or, Some, refl, sym, ap, arith}
 use Rattle.std.proofs.lemmas.List.{drop-set-add, take-set-le, length-reverse, length-take-le, drop-append-le, take-append-le, reverse-append}
 use Rattle.sz_value.specs.Data.{Datum}
 use Rattle.sz_world.specs.Slots.{Slot}

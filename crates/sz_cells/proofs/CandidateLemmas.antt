@@ -1,5 +1,5 @@
 -- Candidates that are numbers.
-use Rattle.std.proofs.Common.{◌≡◌, ℕ, zero, suc, ◌+◌, ◌-◌, ◌<◌, pos, List, [], ◌∷◌, length, Bool, true, false, Some, ap, refl, arith}
+use Rattle.std.proofs.Common.{◌≡◌, ℕ, zero, suc, ◌+◌, ◌-◌, ◌<◌, pos, List, ◌∷◌, length, Bool, true, false, Some, ap, arith}
 use Rattle.sz_value.specs.Data.{Datum, int, array, data_of}
 use Rattle.sz_world.specs.Candidates.{candidates, numbers_from}
 use Rattle.sz_cells.specs.Candidates.{numbers_of}

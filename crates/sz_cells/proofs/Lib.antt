@@ -4,3 +4,4 @@ pub mod TurnLemmas
 pub mod CandidateLemmas
 pub mod CallLemmas
 pub mod StoreLemmas
+pub mod ResultLemmas

@@ -1,6 +1,6 @@
 -- Keys and values that stand by turns, taken one after the other.
-use Rattle.std.proofs.Common.{◌≡◌, ◌∙◌, List, [], ◌∷◌, ◌++◌, map, Option, Some, None, unwrap_or, refl, sym, ap}
-use Rattle.std.proofs.lemmas.List.{map-append, append_assoc}
+use Rattle.std.proofs.Common.{◌≡◌, ◌∙◌, List, [], ◌∷◌, ◌++◌, map, Some, None, unwrap_or, refl, sym, ap}
+use Rattle.std.proofs.lemmas.List.{map-append}
 use Rattle.sz_value.specs.Data.{Datum}
 use Rattle.sz_value.specs.Seen.{seen, seen_pair, seen_pairs}
 use Rattle.sz_value.specs.Maps as maps

@@ -1,5 +1,5 @@
 -- What contracts see of the open calls.
-use Rattle.std.specs.Prelude.{◌≡◌, ℕ, List, [], ◌∷◌, slice_set, Bool, true, false, Some, refl}
+use Rattle.std.specs.Prelude.{ℕ, List, [], ◌∷◌, slice_set, Bool, true, false, Some, refl}
 use Rattle.std.specs.Coded.{Coded, coded_list, coded×, coded_ℕ, code_by}
 use Rattle.sz_value.specs.Data.{Datum}
 use Rattle.sz_value.specs.Code.{slots_code, parts_code}

@@ -1,4 +1,5 @@
 -- what the public contracts rest on
+pub mod Cells
 pub mod Results
 pub mod Candidates
 pub mod Calls

@@ -81,6 +81,7 @@ impl Calls {
     }
 
     /// A local of the routine that runs.
+    #[inline(always)]
     pub fn local(&self, n: u32) -> &Cell
         requires within { n < length self.now.locals }
         ensures value { slice_get self.now.locals n ≡ Some result.now }
@@ -89,6 +90,7 @@ impl Calls {
     }
 
     /// Puts the cell into a local of the routine that runs.
+    #[inline(always)]
     pub fn keep(&mut self, n: u32, cell: Cell)
         requires within { n < length self.old.locals }
         ensures value { self.new ≡ record self.old { locals = slice_set self.old.locals n cell } }
@@ -97,6 +99,7 @@ impl Calls {
     }
 
     /// Takes what a local holds. It is undefined from then on.
+    #[inline(always)]
     pub fn take(&mut self, n: u32) -> Cell
         requires within { n < length self.old.locals }
         ensures value { slice_get self.old.locals n ≡ Some result }
@@ -134,21 +137,22 @@ impl Calls {
     }
 
     /// Takes the next candidate of the innermost list into a local, and answers true; or drops that list where none is left.
-    pub fn next(&mut self, n: u32) -> bool
+    pub fn next(&mut self, alloc: Global, n: u32) -> Result<bool, NoMemory>
         requires within { n < length self.old.locals }
         requires some { 0 < length self.old.lists }
-        ensures value { self.new ≡ after_next n self.old }
-        ensures found { result ≡ not (is_used_up self.old.lists) }
+        ensures value { OnOk result (self.new ≡ after_next n self.old) }
+        ensures found { IfOk result (λ found. found ≡ not (is_used_up self.old.lists)) }
     {
         let last = self.lists.len() - 1;
         match self.lists[last].next() {
             Some(value) => {
-                self.keep(n, Cell::of_value(value));
-                true
+                let cell = Cell::of_value(alloc, value)?;
+                self.keep(n, cell);
+                Ok(true)
             }
             None => {
                 self.lists.truncate(last);
-                false
+                Ok(false)
             }
         }
     }

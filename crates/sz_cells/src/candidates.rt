@@ -1,5 +1,5 @@
 //! Candidate lists of quantified variables.
-ghost use Rattle.std.specs.Prelude.{◌≡◌, ◌∷◌, [], ◌<◌, ◌^◌, ◌==◌, length, map, chars, IfOk, IfSome, IfNone};
+ghost use Rattle.std.specs.Prelude.{◌≡◌, ◌∷◌, [], ◌<◌, ◌^◌, ◌==◌, length, map, chars, IfOk, IfSome, IfNone, Some};
 ghost use Rattle.std.specs.Map.{keys_of};
 ghost use Rattle.sz_value.specs.Seen.{seen, seen_pairs};
 ghost use Rattle.sz_world.specs.Candidates.{numbers_from, candidates};
@@ -43,18 +43,35 @@ impl Model for Candidates {
 
 impl Candidates {
     /// The candidates that a base gives, for a slice's bound or for an index.
-    #[tactic(auto, using(crate::proofs::CandidateLemmas::of_array, crate::proofs::ListLemmas::pairs_back))]
     pub fn of(alloc: Global, slice: bool, base: &Cell) -> Result<Candidates, NoMemory>
         ensures value { IfOk result (λ made. made ≡ candidates slice base.now) }
     {
-        match base.value() {
-            Some(Value::Array(list)) => Ok(numbers(slice, list_len(list))),
-            Some(Value::Str(text)) => Ok(numbers(slice, counted(text.as_str()))),
-            Some(Value::Bytes(bytes)) => Ok(numbers(slice, bytes.as_slice().len())),
-            Some(Value::Map(pairs)) if !slice => keys(alloc, pairs.as_slice()),
-            _ => Ok(Candidates {
-                left: Left::Numbers(0, 0),
-            }),
+        match base.look() {
+            Some(look) => Candidates::of_value(alloc, slice, look.value()),
+            None => Ok(Candidates::none()),
+        }
+    }
+
+    // The candidates that a value gives.
+    #[tactic(auto, using(crate::proofs::CandidateLemmas::of_array, crate::proofs::ListLemmas::pairs_back))]
+    fn of_value(alloc: Global, slice: bool, base: &Value) -> Result<Candidates, NoMemory>
+        ensures value { IfOk result (λ made. made ≡ candidates slice (Some (seen base.now))) }
+    {
+        match base {
+            Value::Array(list) => Ok(numbers(slice, list_len(list))),
+            Value::Str(text) => Ok(numbers(slice, counted(text.as_str()))),
+            Value::Bytes(bytes) => Ok(numbers(slice, bytes.as_slice().len())),
+            Value::Map(pairs) if !slice => keys(alloc, pairs.as_slice()),
+            _ => Ok(Candidates::none()),
+        }
+    }
+
+    // No candidates.
+    fn none() -> Candidates
+        ensures value { result ≡ [] }
+    {
+        Candidates {
+            left: Left::Numbers(0, 0),
         }
     }
 

@@ -4,6 +4,7 @@
 mod calls;
 mod candidates;
 mod cell;
+mod numbers;
 mod operands;
 mod results;
 mod storing;
@@ -12,11 +13,12 @@ mod weights;
 pub use calls::Calls;
 pub use candidates::Candidates;
 pub use cell::Cell;
+pub use numbers::of_ints;
 pub use operands::Operands;
 pub use results::{
     applied, array_of, binary_of, converted, definedness, element_of, map_of, part_of, slice_of,
     tuple_of, unary_of,
 };
-pub use storing::{indexes_in, replaced};
+pub use storing::{indexes_in, stored_in};
 pub use sz_value::NoMemory;
 pub use weights::{binary_weight, builtin_weight, conversion_weight, result_weight};

@@ -1,6 +1,7 @@
 //! The operands of a run.
-ghost use Rattle.std.specs.Prelude.{◌≡◌, ◌≤◌, ◌<◌, [], ◌∷◌, length, drop, ◌++◌, is_some, IfOk, OnOk};
+ghost use Rattle.std.specs.Prelude.{◌≡◌, ◌≤◌, ◌<◌, [], ◌∷◌, length, drop, ◌++◌, is_some, IfOk, IfSome, OnOk, Some};
 ghost use Rattle.std.specs.List.{list_all};
+ghost use Rattle.sz_value.specs.Data.{int};
 ghost use Rattle.sz_world.specs.Slots.{all_defined};
 ghost use Rattle.sz_machine.specs.States.{popped};
 ghost use Rattle.sz_cells.specs.Results.{defined_of};
@@ -48,6 +49,7 @@ impl Operands {
     }
 
     /// How many operands there are.
+    #[inline(always)]
     pub fn len(&self) -> usize
         ensures value { result ≡ length self.now }
     {
@@ -55,6 +57,7 @@ impl Operands {
     }
 
     /// Puts the cell on top.
+    #[inline(always)]
     pub fn push(&mut self, cell: Cell) -> Result<(), NoMemory>
         ensures ok { OnOk result (self.new ≡ cell ∷ self.old) }
     {
@@ -63,6 +66,7 @@ impl Operands {
     }
 
     /// Takes the topmost operand off.
+    #[inline(always)]
     pub fn pop(&mut self) -> Cell
         requires some { 0 < length self.old }
         ensures value { self.old ≡ result ∷ self.new }
@@ -74,11 +78,36 @@ impl Operands {
     }
 
     /// The topmost operand.
+    #[inline(always)]
     pub fn top(&self) -> &Cell
         requires some { 0 < length self.now }
         ensures value { self.now ≡ result.now ∷ drop 1 self.now }
     {
         &self.held[self.held.len() - 1]
+    }
+
+    /// The two topmost operands, the upper one last, if both are whole numbers that lie in their cells.
+    #[inline(always)]
+    pub fn top_ints(&self) -> Option<(i64, i64)>
+        requires some { 1 < length self.now }
+        ensures value { IfSome result (λ two. self.now ≡ Some (int two.1) ∷ Some (int two.0) ∷ drop 2 self.now) }
+    {
+        let count = self.held.len();
+        match (self.held[count - 2].int(), self.held[count - 1].int()) {
+            (Some(a), Some(b)) => Some((a, b)),
+            _ => None,
+        }
+    }
+
+    /// Puts the cell in the stead of the two topmost operands.
+    #[inline(always)]
+    pub fn put_for_two(&mut self, cell: Cell)
+        requires some { 1 < length self.old }
+        ensures value { self.new ≡ cell ∷ drop 2 self.old }
+    {
+        let count = self.held.len() - 1;
+        self.held.truncate(count);
+        self.held[count - 1] = cell;
     }
 
     /// Takes so many topmost operands off.
@@ -118,6 +147,9 @@ impl Operands {
         ensures value { IfOk result (λ values. values ≡ all_defined (popped count self.old)) }
         ensures rest { OnOk result (self.new ≡ drop count self.old) }
     {
+        if count == 0 {
+            return Ok(Some(List::new(alloc)));
+        }
         let from = self.held.len() - count;
         let cells = self.held.split_off(from)?;
         gathered(alloc, cells)
@@ -150,7 +182,7 @@ fn values_of(alloc: Global, cells: Vec<Cell>) -> Result<List, NoMemory>
 {
     let mut values = List::with_capacity(alloc, cells.len())?;
     for cell in cells {
-        if let Some(value) = cell.into_value() {
+        if let Some(value) = cell.into_value(alloc)? {
             values.push(value)?;
         }
     }

@@ -1,25 +1,29 @@
 //! What operators, functions, conversions and composites make of operands.
-ghost use Rattle.std.specs.Prelude.{◌≡◌, ℕ, IfOk, slice_get};
+ghost use Rattle.std.specs.Prelude.{◌≡◌, ℕ, IfOk, Some, slice_get};
 ghost use Rattle.sz_types.specs.Seen.{seen as seen_type};
 ghost use Rattle.sz_types.specs.Data.{FieldShapes, proto};
 ghost use Rattle.sz_value.specs.Seen.{seen, seen_pairs};
 ghost use Rattle.sz_world.specs.Operations.{unary_of, binary_of, applied, became, converted, no_messages, array_of, tuple_of, map_of};
-ghost use Rattle.sz_world.specs.Operations.{element_of, slice_of, part_of, definedness};
+ghost use Rattle.sz_world.specs.Operations.{element_of, slice_of, part_at, part_of, definedness};
 ghost use Rattle.sz_cells.specs.Results.{applied_to, array_of_all, tuple_of_all, map_of_all, by_turns};
 
-use crate::cell::Cell;
+use crate::cell::{Cell, Form};
 use std::alloc::Global;
 use sz_builtin::{binary, builtin, convert, index, slice, unary};
 use sz_types::{BinOp, Builtin, Ty, UnOp};
-use sz_value::{List, NoMemory, Pair, Pairs, Value, copy};
+use sz_value::{List, NoMemory, Pair, Pairs, Value};
 
 /// What the operator makes of an operand.
-pub fn unary_of(op: UnOp, x: &Cell) -> Cell
-    ensures value { result ≡ unary_of op x.now }
+#[inline(always)]
+pub fn unary_of(alloc: Global, op: UnOp, x: &Cell) -> Result<Cell, NoMemory>
+    ensures value { IfOk result (λ made. made ≡ unary_of op x.now) }
 {
-    match x.value() {
-        Some(a) => Cell::of_slot(unary(op, a)),
-        None => Cell::undefined(),
+    match &x.held {
+        Form::Undefined => Ok(Cell::undefined()),
+        Form::Bool(truth) => Cell::of_slot(alloc, unary(op, &Value::Bool(*truth))),
+        Form::Int(number) => Cell::of_slot(alloc, unary(op, &Value::Int(*number))),
+        Form::Time(number) => Cell::of_slot(alloc, unary(op, &Value::Time(*number))),
+        Form::Shared(shared) => Cell::of_slot(alloc, unary(op, shared.as_ref())),
     }
 }
 
@@ -27,8 +31,8 @@ pub fn unary_of(op: UnOp, x: &Cell) -> Cell
 pub fn binary_of(alloc: Global, op: BinOp, x: &Cell, y: &Cell) -> Result<Cell, NoMemory>
     ensures value { IfOk result (λ made. made ≡ binary_of op x.now y.now) }
 {
-    match (x.value(), y.value()) {
-        (Some(a), Some(b)) => Ok(Cell::of_slot(binary(alloc, op, a, b)?)),
+    match (x.look(), y.look()) {
+        (Some(a), Some(b)) => Cell::of_slot(alloc, binary(alloc, op, a.value(), b.value())?),
         _ => Ok(Cell::undefined()),
     }
 }
@@ -38,7 +42,7 @@ pub fn applied(alloc: Global, which: Builtin, arguments: &Option<List>) -> Resul
     ensures value { IfOk result (λ made. made ≡ applied_to which arguments.now) }
 {
     match arguments {
-        Some(list) => Ok(Cell::of_slot(builtin(alloc, which, list)?)),
+        Some(list) => Cell::of_slot(alloc, builtin(alloc, which, list)?),
         None => Ok(Cell::undefined()),
     }
 }
@@ -47,8 +51,8 @@ pub fn applied(alloc: Global, which: Builtin, arguments: &Option<List>) -> Resul
 pub fn converted(alloc: Global, to: &Ty, x: &Cell) -> Result<Cell, NoMemory>
     ensures value { IfOk result (λ made. made ≡ converted no_messages (seen_type to.now) x.now) }
 {
-    match x.value() {
-        Some(value) => became(alloc, to, value),
+    match x.look() {
+        Some(look) => became(alloc, to, look.value()),
         None => Ok(Cell::undefined()),
     }
 }
@@ -66,7 +70,7 @@ fn became(alloc: Global, to: &Ty, value: &Value) -> Result<Cell, NoMemory>
         | Ty::Bytes
         | Ty::Array(_)
         | Ty::Map(_, _)
-        | Ty::Tuple(_) => Ok(Cell::of_slot(convert(alloc, value, to)?)),
+        | Ty::Tuple(_) => Cell::of_slot(alloc, convert(alloc, value, to)?),
     }
 }
 
@@ -76,27 +80,27 @@ fn as_message(alloc: Global, value: &Value) -> Result<Cell, NoMemory>
 {
     match value {
         Value::Bytes(_) => Ok(Cell::undefined()),
-        _ => Ok(Cell::of_value(copy(alloc, value)?)),
+        _ => Cell::of_copy(alloc, value),
     }
 }
 
 /// The array of these elements, if they are all there.
-pub fn array_of(elements: Option<List>) -> Cell
-    ensures value { result ≡ array_of_all elements }
+pub fn array_of(alloc: Global, elements: Option<List>) -> Result<Cell, NoMemory>
+    ensures value { IfOk result (λ made. made ≡ array_of_all elements) }
 {
     match elements {
-        Some(list) => Cell::of_value(Value::Array(list)),
-        None => Cell::undefined(),
+        Some(list) => Cell::of_value(alloc, Value::Array(list)),
+        None => Ok(Cell::undefined()),
     }
 }
 
 /// The tuple of these parts, if they are all there.
-pub fn tuple_of(parts: Option<List>) -> Cell
-    ensures value { result ≡ tuple_of_all parts }
+pub fn tuple_of(alloc: Global, parts: Option<List>) -> Result<Cell, NoMemory>
+    ensures value { IfOk result (λ made. made ≡ tuple_of_all parts) }
 {
     match parts {
-        Some(list) => Cell::of_value(Value::Tuple(list)),
-        None => Cell::undefined(),
+        Some(list) => Cell::of_value(alloc, Value::Tuple(list)),
+        None => Ok(Cell::undefined()),
     }
 }
 
@@ -106,10 +110,10 @@ pub fn map_of(alloc: Global, parts: Option<List>) -> Result<Cell, NoMemory>
     ensures value { IfOk result (λ made. made ≡ map_of_all parts) }
 {
     match parts {
-        Some(list) => Ok(Cell::of_value(Value::Map(Pairs::from_pairs(
-            alloc,
-            by_turns(alloc, list)?,
-        )?))),
+        Some(list) => {
+            let pairs = by_turns(alloc, list)?;
+            Cell::of_value(alloc, Value::Map(Pairs::from_pairs(alloc, pairs)?))
+        }
         None => Ok(Cell::undefined()),
     }
 }
@@ -133,48 +137,76 @@ fn by_turns(alloc: Global, parts: List) -> Result<Vec<Pair>, NoMemory>
 pub fn element_of(alloc: Global, x: &Cell, i: &Cell) -> Result<Cell, NoMemory>
     ensures value { IfOk result (λ made. made ≡ element_of x.now i.now) }
 {
-    match (x.value(), i.value()) {
-        (Some(base), Some(at)) => Ok(Cell::of_slot(index(alloc, base, at)?)),
+    match (x.look(), i.look()) {
+        (Some(base), Some(at)) => Cell::of_slot(alloc, index(alloc, base.value(), at.value())?),
         _ => Ok(Cell::undefined()),
     }
 }
 
 /// The part of a value between two places.
+#[tactic(auto, using(crate::proofs::ResultLemmas::no_beginning, crate::proofs::ResultLemmas::no_end))]
 pub fn slice_of(alloc: Global, x: &Cell, i: &Cell, j: &Cell) -> Result<Cell, NoMemory>
     ensures value { IfOk result (λ made. made ≡ slice_of x.now i.now j.now) }
 {
-    match (x.value(), i.value(), j.value()) {
-        (Some(base), Some(Value::Int(from)), Some(Value::Int(to))) => {
-            Ok(Cell::of_slot(slice(alloc, base, *from, *to)?))
+    let Some(base) = x.look() else {
+        return Ok(Cell::undefined());
+    };
+    let Some(from) = i.look() else {
+        return Ok(Cell::undefined());
+    };
+    let Some(to) = j.look() else {
+        return Ok(Cell::undefined());
+    };
+    slice_between(alloc, base.value(), from.value(), to.value())
+}
+
+// The part of a value between two places, if these are numbers.
+fn slice_between(alloc: Global, base: &Value, from: &Value, to: &Value) -> Result<Cell, NoMemory>
+    ensures value { IfOk result (λ made. made ≡ slice_of (Some (seen base.now)) (Some (seen from.now)) (Some (seen to.now))) }
+{
+    match (from, to) {
+        (Value::Int(from), Value::Int(to)) => {
+            Cell::of_slot(alloc, slice(alloc, base, *from, *to)?)
         }
         _ => Ok(Cell::undefined()),
     }
 }
 
 /// The part of a tuple or a message at a place.
-#[tactic(auto, using(crate::proofs::ListLemmas::parts_back))]
 pub fn part_of(alloc: Global, n: u32, x: &Cell) -> Result<Cell, NoMemory>
     ensures value { IfOk result (λ made. made ≡ part_of n x.now) }
 {
-    match x.value() {
-        Some(Value::Tuple(parts)) => part_at(alloc, n as usize, parts),
+    match x.look() {
+        Some(look) => part_at(alloc, n as usize, look.value()),
+        None => Ok(Cell::undefined()),
+    }
+}
+
+// A copy of the part of a value at a place.
+#[tactic(auto, using(crate::proofs::ListLemmas::parts_back))]
+fn part_at(alloc: Global, n: usize, value: &Value) -> Result<Cell, NoMemory>
+    ensures value { IfOk result (λ made. made ≡ part_at n (seen value.now)) }
+{
+    match value {
+        Value::Tuple(parts) => item_at(alloc, n, parts),
         _ => Ok(Cell::undefined()),
     }
 }
 
 // A copy of the value at a place of the list.
-fn part_at(alloc: Global, n: usize, parts: &List) -> Result<Cell, NoMemory>
+fn item_at(alloc: Global, n: usize, parts: &List) -> Result<Cell, NoMemory>
     ensures value { IfOk result (λ made. made ≡ slice_get parts.now n) }
 {
     match parts.as_slice().get(n) {
-        Some(value) => Ok(Cell::of_value(copy(alloc, value)?)),
+        Some(value) => Cell::of_copy(alloc, value),
         None => Ok(Cell::undefined()),
     }
 }
 
 /// Whether an operand is defined.
+#[inline(always)]
 pub fn definedness(x: &Cell) -> Cell
     ensures value { result ≡ definedness x.now }
 {
-    Cell::of_value(Value::Bool(x.is_defined()))
+    Cell::of_bool(x.is_defined())
 }

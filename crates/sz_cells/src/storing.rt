@@ -1,13 +1,16 @@
 //! Values with a change where a path leads in them.
-ghost use Rattle.std.specs.Prelude.{◌≡◌, ◌≤◌, length, map, option_map, IfOk};
+ghost use Rattle.std.specs.Prelude.{◌≡◌, ◌≤◌, length, map, option_map, IfOk, Some};
 ghost use Rattle.sz_value.specs.Data.{Datum, data_of, entries_of, array, mapping};
 ghost use Rattle.sz_value.specs.Maps.{value_at, with_pair};
 ghost use Rattle.sz_value.specs.Seen.{seen};
 ghost use Rattle.sz_world.specs.Stores.{to_element, to_part, with_change};
 ghost use Rattle.sz_machine.specs.Rows.{indexes_in};
-ghost use Rattle.sz_cells.specs.Storing.{replaced_by, part_replaced, pair_replaced};
+ghost use Rattle.sz_cells.specs.Storing.{replaced_by, part_replaced, pair_replaced, defined, told};
 
+use crate::cell::{Cell, Form};
 use std::alloc::Global;
+use std::mem;
+use std::rc::Rc;
 use sz_instr::Step;
 use sz_value::{List, NoMemory, Pairs, Value, copy};
 
@@ -25,7 +28,7 @@ pub fn indexes_in(steps: &[Step]) -> usize
 
 /// The old value with the new one where the steps lead, if they lead somewhere. What they lead into is changed in place.
 #[cycle(replaced)]
-pub fn replaced(
+fn replaced(
     alloc: Global,
     steps: &[Step],
     indexes: &[Value],
@@ -197,5 +200,78 @@ fn taken(pairs: &mut Pairs, key: &Value) -> Option<Value>
     match pairs.replace(key, Value::Bool(false)) {
         Ok(old) => Some(old),
         Err(_) => None,
+    }
+}
+
+/// The cell of the old one with the new value where the steps lead, if they lead somewhere. Where no other cell shares what the old
+/// one holds, it is changed in place.
+pub fn stored_in(
+    alloc: Global,
+    steps: &[Step],
+    indexes: &[Value],
+    new: Value,
+    old: Cell,
+) -> Result<Option<Cell>, NoMemory>
+    ensures value { IfOk result (λ made.
+        option_map defined (replaced_by steps.now (map seen indexes.now) (seen new) old) ≡ made) }
+{
+    match old.held {
+        Form::Shared(mut shared) => match Rc::get_mut(&mut shared) {
+            Some(place) => {
+                if changed(alloc, steps, indexes, new, place)? {
+                    Ok(Some(Cell {
+                        held: Form::Shared(shared),
+                    }))
+                } else {
+                    Ok(None)
+                }
+            }
+            None => {
+                let old = copy(alloc, shared.as_ref())?;
+                made_anew(alloc, steps, indexes, new, Some(old))
+            }
+        },
+        held => {
+            let old = Cell { held }.into_value(alloc)?;
+            made_anew(alloc, steps, indexes, new, old)
+        }
+    }
+}
+
+// The cell of the old value with the new one where the steps lead, if they lead somewhere.
+fn made_anew(
+    alloc: Global,
+    steps: &[Step],
+    indexes: &[Value],
+    new: Value,
+    old: Option<Value>,
+) -> Result<Option<Cell>, NoMemory>
+    ensures value { IfOk result (λ made.
+        option_map defined (replaced_by steps.now (map seen indexes.now) (seen new) (option_map seen old)) ≡ made) }
+{
+    match replaced(alloc, steps, indexes, new, old)? {
+        Some(value) => Ok(Some(Cell::of_value(alloc, value)?)),
+        None => Ok(None),
+    }
+}
+
+// Puts the new value where the steps lead in a value, and answers whether they lead somewhere. If not, what the value is then isn't told.
+fn changed(
+    alloc: Global,
+    steps: &[Step],
+    indexes: &[Value],
+    new: Value,
+    place: &mut Value,
+) -> Result<bool, NoMemory>
+    ensures value { IfOk result (λ done.
+        told done (seen place.new) ≡ replaced_by steps.now (map seen indexes.now) (seen new) (Some (seen place.old))) }
+{
+    let old = mem::replace(place, Value::Bool(false));
+    match replaced(alloc, steps, indexes, new, Some(old))? {
+        Some(value) => {
+            *place = value;
+            Ok(true)
+        }
+        None => Ok(false),
     }
 }

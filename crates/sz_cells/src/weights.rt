@@ -1,23 +1,28 @@
 //! The ticks that a result adds to the charge of its line.
-ghost use Rattle.std.specs.Prelude.{◌≡◌};
+ghost use Rattle.std.specs.Prelude.{◌≡◌, Some};
+ghost use Rattle.sz_types.specs.Data.{Shape, FieldShapes, str, bytes, proto};
 ghost use Rattle.sz_types.specs.Seen.{seen as seen_type};
+ghost use Rattle.sz_value.specs.Seen.{seen};
 ghost use Rattle.sz_world.specs.Ticks.{result_weight, sum_weight, binary_weight, builtin_weight, conversion_weight};
 
-use crate::cell::Cell;
+use crate::cell::{Cell, Form};
 use sz_types::{BinOp, Builtin, Ty};
 use sz_value::{Value, weight};
 
 /// What a cell weighs, if it is defined.
+#[inline(always)]
 pub fn result_weight(made: &Cell) -> u64
     ensures value { result ≡ result_weight made.now }
 {
-    match made.value() {
-        Some(value) => weight(value),
-        None => 0,
+    match &made.held {
+        Form::Undefined => 0,
+        Form::Bool(_) | Form::Int(_) | Form::Time(_) => 1,
+        Form::Shared(shared) => weight(shared.as_ref()),
     }
 }
 
 /// What an operator of two operands adds for its result.
+#[inline(always)]
 pub fn binary_weight(op: BinOp, made: &Cell) -> u64
     ensures value { result ≡ binary_weight op made.now }
 {
@@ -28,11 +33,23 @@ pub fn binary_weight(op: BinOp, made: &Cell) -> u64
 }
 
 // What a sum adds: its weight where it joins strings, byte strings or arrays.
+#[inline(always)]
 fn sum_weight(made: &Cell) -> u64
     ensures value { result ≡ sum_weight made.now }
 {
-    match made.value() {
-        Some(Value::Str(_) | Value::Bytes(_) | Value::Array(_)) => result_weight(made),
+    match &made.held {
+        Form::Shared(shared) => joined_weight(shared.as_ref()),
+        _ => 0,
+    }
+}
+
+// What a sum that lies in memory adds.
+#[inline(never)]
+fn joined_weight(value: &Value) -> u64
+    ensures value { result ≡ sum_weight (Some (seen value.now)) }
+{
+    match value {
+        Value::Str(_) | Value::Bytes(_) | Value::Array(_) => weight(value),
         _ => 0,
     }
 }
@@ -52,18 +69,48 @@ pub fn conversion_weight(to: &Ty, from: &Cell, made: &Cell) -> u64
     ensures value { result ≡ conversion_weight (seen_type to.now) from.now made.now }
 {
     match to {
-        Ty::Str => match from.value() {
-            Some(Value::Str(_)) => 0,
+        Ty::Str => weight_of_text(from, made),
+        Ty::Bytes => weight_of_bytes(from, made),
+        Ty::Proto(_) => weight_of_message(from, made),
+        Ty::Bool | Ty::Int | Ty::Time | Ty::Array(_) | Ty::Map(_, _) | Ty::Tuple(_) => 0,
+    }
+}
+
+// What a conversion to a string adds: nothing where it was one.
+fn weight_of_text(from: &Cell, made: &Cell) -> u64
+    ensures value { result ≡ conversion_weight str from.now made.now }
+{
+    match &from.held {
+        Form::Shared(shared) => match shared.as_ref() {
+            Value::Str(_) => 0,
             _ => result_weight(made),
         },
-        Ty::Bytes => match from.value() {
-            Some(Value::Bytes(_)) => 0,
+        _ => result_weight(made),
+    }
+}
+
+// What a conversion to bytes adds: nothing where they were bytes.
+fn weight_of_bytes(from: &Cell, made: &Cell) -> u64
+    ensures value { result ≡ conversion_weight bytes from.now made.now }
+{
+    match &from.held {
+        Form::Shared(shared) => match shared.as_ref() {
+            Value::Bytes(_) => 0,
             _ => result_weight(made),
         },
-        Ty::Proto(_) => match from.value() {
-            Some(Value::Bytes(_)) => result_weight(made),
+        _ => result_weight(made),
+    }
+}
+
+// What a conversion to a message adds: its weight where it was made of bytes.
+fn weight_of_message(from: &Cell, made: &Cell) -> u64
+    ensures value { (fields : FieldShapes) → result ≡ conversion_weight (proto fields) from.now made.now }
+{
+    match &from.held {
+        Form::Shared(shared) => match shared.as_ref() {
+            Value::Bytes(_) => result_weight(made),
             _ => 0,
         },
-        Ty::Bool | Ty::Int | Ty::Time | Ty::Array(_) | Ty::Map(_, _) | Ty::Tuple(_) => 0,
+        _ => 0,
     }
 }

@@ -1,5 +1,5 @@
 -- What it tells of operands, calls and candidate lists that the row of an instruction covers a state.
-use Rattle.std.proofs.Common.{◌≡◌, ℕ, zero, suc, ◌+◌, ◌<◌, ◌≤◌, List, [], ◌∷◌, length, drop, slice_get, unwrap_or, Option, Some, None, refl, sym, ap, subst, arith}
+use Rattle.std.proofs.Common.{◌≡◌, ℕ, Bool, zero, suc, ◌+◌, ◌<◌, ◌≤◌, List, [], ◌∷◌, length, drop, slice_get, unwrap_or, Option, Some, None, IsSome, IsNone, refl, ap, subst, arith}
 use Rattle.sz_types.specs.Data.{Shape}
 use Rattle.sz_value.specs.Data.{Datum}
 use Rattle.sz_instr.specs.declared.instr.Instr.{Instr}
@@ -11,8 +11,10 @@ use Rattle.sz_instr.specs.declared.routine.Routine.{Routine}
 use Rattle.sz_world.specs.Slots.{Slot}
 use Rattle.sz_machine.specs.States.{Caller}
 use Rattle.sz_machine.specs.Rows.{indexes_in}
-use Rattle.sz_run.specs.Acting.{IsInside}
-use Rattle.sz_machine.specs.Covering.{OnOne, OnTwo, OnThree, OnMany, HasConversion, HasArguments, HasCaller, HasList, StoresInto}
+use Rattle.sz_types.specs.declared.operator.UnOp.{UnOp}
+use Rattle.sz_types.specs.declared.operator.BinOp.{BinOp}
+use Rattle.sz_run.specs.Acting.{IsInside, IsApart}
+use Rattle.sz_machine.specs.Covering.{OnOne, OnTwo, OnThree, HasConversion, HasArguments, HasCaller, HasList, StoresInto}
 
 -- there is an operand
 pub one_there : (P : Slot → Type 0) (stack : List Slot) → OnOne stack P → 0 < length stack
@@ -124,3 +126,66 @@ drop_past [] zero h = refl
 drop_past [] (suc n) h = refl
 drop_past (x ∷ xs) zero h = absurd (omega (arith, h))
 drop_past (x ∷ xs) (suc n) h = drop_past xs n (omega (arith, h))
+
+-- a slot isn't both
+pub not_both : (x : Slot) → IsSome x → IsNone x → ⊥
+not_both None some none = absurd (cc)
+not_both (Some d) some none = absurd (cc)
+
+-- what isn't done in line, this record says of it: it is none of the common instructions
+pub record IsUncommon (i : Instr) : Type 0 where
+  pub no_push : (n : ℕ) → i ≡ Push n → ⊥
+  pub no_local : (n : ℕ) → i ≡ Local n → ⊥
+  pub no_keep : (n : ℕ) → i ≡ Keep n → ⊥
+  pub no_clear : (n : ℕ) → i ≡ Clear n → ⊥
+  pub no_store : (n : ℕ) (path : List Step) → i ≡ Store n path → ⊥
+  pub no_unary : (op : UnOp) → i ≡ Unary op → ⊥
+  pub no_binary : (op : BinOp) → i ≡ Binary op → ⊥
+  pub no_def : i ≡ Def → ⊥
+  pub no_tick : i ≡ Tick → ⊥
+  pub no_jump : (n : ℕ) → i ≡ Jump n → ⊥
+  pub no_test : (n : ℕ) → i ≡ Test n → ⊥
+  pub no_andtest : (n : ℕ) → i ≡ AndTest n → ⊥
+  pub no_ortest : (n : ℕ) → i ≡ OrTest n → ⊥
+  pub no_emit : (t n : ℕ) (weighted : Bool) → i ≡ Emit t n weighted → ⊥
+  pub no_endrecord : i ≡ EndRecord → ⊥
+  pub no_discard : i ≡ Discard → ⊥
+  pub no_meets : (n : ℕ) → i ≡ Meets n → ⊥
+  pub no_fails : (n : ℕ) → i ≡ Fails n → ⊥
+
+-- and then it stands apart
+pub is_apart : (i : Instr) → IsInside i → IsUncommon i → IsApart i
+is_apart (Push x) h k = absurd (k.no_push x refl)
+is_apart (Local x) h k = absurd (k.no_local x refl)
+is_apart (Keep x) h k = absurd (k.no_keep x refl)
+is_apart (Clear x) h k = absurd (k.no_clear x refl)
+is_apart (Store x y) h k = absurd (k.no_store x y refl)
+is_apart (Unary x) h k = absurd (k.no_unary x refl)
+is_apart (Binary x) h k = absurd (k.no_binary x refl)
+is_apart Def h k = absurd (k.no_def refl)
+is_apart Tick h k = absurd (k.no_tick refl)
+is_apart (Jump x) h k = absurd (k.no_jump x refl)
+is_apart (Test x) h k = absurd (k.no_test x refl)
+is_apart (AndTest x) h k = absurd (k.no_andtest x refl)
+is_apart (OrTest x) h k = absurd (k.no_ortest x refl)
+is_apart EndRecord h k = absurd (k.no_endrecord refl)
+is_apart Discard h k = absurd (k.no_discard refl)
+is_apart (Meets x) h k = absurd (k.no_meets x refl)
+is_apart (Fails x) h k = absurd (k.no_fails x refl)
+is_apart (Static x) h k = absurd h
+is_apart Input h k = absurd h
+is_apart (KeepStatic x) h k = absurd h
+is_apart (Apply x) h k = tt
+is_apart (Convert x) h k = tt
+is_apart (MakeArray x) h k = tt
+is_apart (MakeTuple x) h k = tt
+is_apart (MakeMap x) h k = tt
+is_apart Index h k = tt
+is_apart Slice h k = tt
+is_apart (Field x) h k = tt
+is_apart (Call x) h k = tt
+is_apart Return h k = tt
+is_apart (Emit x y z) h k = absurd (k.no_emit x y z refl)
+is_apart (Enter x) h k = tt
+is_apart (Next x y) h k = tt
+is_apart Leave h k = tt

@@ -6,11 +6,11 @@ use Rattle.sz_value.specs.Data.{Datum}
 use Rattle.sz_value.specs.Weight.{weight_of}
 use Rattle.sz_instr.specs.declared.instr.Instr.TheVariants.{Emit}
 use Rattle.sz_instr.specs.declared.code.Code.{Code}
-use Rattle.sz_world.specs.World.{World, spend}
+use Rattle.sz_world.specs.World.{spend}
 use Rattle.sz_world.specs.Slots.{Slot, all_defined}
 use Rattle.sz_world.specs.Ticks.{weight_of_all}
-use Rattle.sz_world.specs.Emits.{emit_by_weight, emit_weight, emit_weighted, with_emit, weight_number, weight_if_all, listed, emit_of}
-use Rattle.sz_machine.specs.States.{State, After, Goes, popped}
+use Rattle.sz_world.specs.Emits.{emit_by_weight, emit_weight, emit_weighted, with_emit, weight_number, weight_if_all, listed}
+use Rattle.sz_machine.specs.States.{State, Goes, popped}
 use Rattle.sz_run.specs.Acting.{when_paid, weighs_and_acts}
 use Rattle.sz_run.specs.Emitting.{parts_weight, emits_parts, emits_on_top}
 
@@ -133,3 +133,15 @@ module _ (code : Code) (table n : ℕ) (place : Place) where
           → weighs_and_acts code (Emit table n true) place s ≡ emits_on_top table n (Some weight) place (record s { stack = below })
       by [] f = absurd (omega (arith, within, ap length e, ap length f))
       by (x ∷ stack) f = emit_with_weight s weight x below stack e f
+
+module _ (code : Code) (table : ℕ) (place : Place) where
+  -- a value alone
+  pub emit_single : (s : State) (x : Slot) (rest : List Slot) → s.stack ≡ x ∷ rest
+      → weighs_and_acts code (Emit table 0 false) place s ≡ emits_parts table (Some []) x None place (record s { stack = rest })
+  emit_single s x rest e = emit_without code table 0 place s x rest e ∙ at_hand s.stack e
+    where
+      at_hand : (l : List Slot) → l ≡ x ∷ rest
+          → emits_on_top table 0 None place (record s { stack = l }) ≡ emits_parts table (Some []) x None place (record s { stack = rest })
+      at_hand l is =
+          subst (λ l. emits_on_top table 0 None place (record s { stack = l }) ≡ emits_parts table (Some []) x None place (record s { stack = rest }))
+          (sym is) refl

@@ -1,15 +1,14 @@
 -- Calls that are made.
-use Rattle.std.proofs.Common.{◌≡◌, ◌∙◌, ℕ, zero, suc, ◌+◌, ◌-◌, ◌<◌, ◌≤◌, nat_lt, List, [], ◌∷◌, ◌++◌, length, map, drop, take, reverse, is_some, Some, None, true, refl, sym, ap, subst, arith, cond}
+use Rattle.std.proofs.Common.{◌≡◌, ◌∙◌, suc, ◌-◌, ◌<◌, ◌≤◌, List, [], ◌∷◌, ◌++◌, length, map, drop, take, is_some, Some, None, true, refl, ap, cond}
 use Rattle.std.specs.List.{list_all}
 use Rattle.std.proofs.lemmas.Bool.{lt-ltb}
 use Rattle.std.proofs.lemmas.List.{length-reverse, length-take-le}
 use Rattle.sz_types.specs.declared.place.Place.{Place}
-use Rattle.sz_value.specs.Data.{Datum}
 use Rattle.sz_instr.specs.declared.routine.Routine.{Routine}
-use Rattle.sz_world.specs.World.{most_open_calls, calls_too_deep}
+use Rattle.sz_world.specs.World.{calls_too_deep}
 use Rattle.sz_world.specs.Slots.{Slot, all_defined, undefined_slots, fresh}
-use Rattle.sz_machine.specs.States.{State, Caller, Goes, popped, faults}
-use Rattle.sz_machine.specs.Rows.{call_routine, call_with, call, enter}
+use Rattle.sz_machine.specs.States.{State, Goes, popped, faults}
+use Rattle.sz_machine.specs.Rows.{call_routine, call_with, enter}
 use Rattle.sz_cells.specs.Results.{defined_of}
 use Rattle.sz_cells.proofs.ForCallers.{are_all, all_told}
 

@@ -4,3 +4,5 @@ pub mod FlowLemmas
 pub mod CoverLemmas
 pub mod StepLemmas
 pub mod RunLemmas
+pub mod StoreLemmas
+pub mod NumberLemmas

@@ -3,7 +3,7 @@ use Rattle.std.proofs.Common.{◌≡◌, ◌∙◌, ℕ, zero, suc, ◌+◌, ◌
 use Rattle.std.proofs.lemmas.Bool.{leb-true, leb-false, le-leb, lt-leb}
 use Rattle.sz_tabs.specs.Data.{EmitDatum}
 use Rattle.sz_world.specs.World.{World, spend}
-use Rattle.sz_run.specs.Acting.{world_of, paid_world, Paid}
+use Rattle.sz_run.specs.Acting.{Paid}
 use Rattle.sz_run.specs.declared.held.Held.{Held}
 
 -- a world

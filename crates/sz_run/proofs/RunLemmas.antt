@@ -1,5 +1,6 @@
 -- From a state that comes to its end each line is there and covers the state, and what it leads to comes to the same end.
 use Rattle.std.proofs.Common.{◌≡◌, ◌∙◌, ℕ, zero, suc, ◌<◌, ◌≤◌, length, drop, slice_get, Option, Some, None, unwrap_or, refl, sym, ap, subst}
+use Rattle.sz_value.specs.Data.{bytes}
 use Rattle.sz_tabs.specs.Data.{EmitDatum}
 use Rattle.std.specs.Prelude.{List, [], ◌∷◌}
 use Rattle.sz_instr.specs.declared.code.Code.{Code}
@@ -164,16 +165,16 @@ begun r w = record {
 
 module _ (code : Code) (input : List ℕ) (statics : List Slot) (budget : ℕ) (h : Held) (is : h ≡ begun code.main (new_world budget)) where
   begins_so : (x : After) → ComesTo code (record_start code input statics budget) x
-      → ComesTo code (state_of h (in_record code.main.entry statics input)) x
-  begins_so x comes = subst (λ k. ComesTo code (state_of k (in_record code.main.entry statics input)) x) (sym is) comes
+      → ComesTo code (state_of h (in_record code.main.entry statics (Some (bytes input)))) x
+  begins_so x comes = subst (λ k. ComesTo code (state_of k (in_record code.main.entry statics (Some (bytes input)))) x) (sym is) comes
 
   -- the run for a record that begins in place comes to its end
-  pub record_ends : RunEnds code input statics budget → Ends code (state_of h (in_record code.main.entry statics input))
+  pub record_ends : RunEnds code input statics budget → Ends code (state_of h (in_record code.main.entry statics (Some (bytes input))))
   record_ends r = record { end = r.ends.end; over = over_of r.ends.end r.outcome r.ends.is; comes = begins_so r.ends.end r.ends.comes }
 
   -- what it ends with is the outcome of the run
   pub record_outcome : (q o : Outcome (List EmitDatum)) → RunsTo code input statics budget o
-      → OfEnds code (state_of h (in_record code.main.entry statics input)) (λ x. EndsRecord x q) → q ≡ o
+      → OfEnds code (state_of h (in_record code.main.entry statics (Some (bytes input)))) (λ x. EndsRecord x q) → q ≡ o
   record_outcome q o r ends = one_outcome r.end o q r.is (ends r.end (over_of r.end o r.is) (begins_so r.end r.comes))
 
 module _ (code : Code) (r : Routine) (rest : List Routine) (w : World) (statics : List Slot) (o : Outcome (List Slot)) (h : Held)

@@ -1,5 +1,5 @@
 -- A line in two steps: its charge is taken, and then its instruction takes the weight of its result and acts.
-use Rattle.std.proofs.Common.{◌≡◌, ◌∙◌, ℕ, suc, ◌+◌, ◌<◌, length, slice_get, unwrap_or, Option, Some, None, true, false, refl, sym, ap, subst, arith}
+use Rattle.std.proofs.Common.{◌≡◌, ◌∙◌, ℕ, ◌+◌, ◌<◌, length, slice_get, unwrap_or, Option, Some, None, true, false, refl, sym, ap, subst, arith}
 use Rattle.sz_instr.specs.declared.instr.Instr.{Instr}
 use Rattle.sz_instr.specs.declared.instr.Instr.TheVariants.{Push, Local, Static, Input, Keep, KeepStatic, Clear, Store, Unary, Binary, Apply}
 use Rattle.sz_instr.specs.declared.instr.Instr.TheVariants.{Convert, MakeArray, MakeTuple, MakeMap, Index, Slice, Field, Def, Tick, Jump, Test}
@@ -7,7 +7,7 @@ use Rattle.sz_instr.specs.declared.instr.Instr.TheVariants.{AndTest, OrTest, Cal
 use Rattle.sz_instr.specs.declared.line.Line.{Line}
 use Rattle.sz_instr.specs.declared.code.Code.{Code}
 use Rattle.sz_world.specs.World.{World, spend, budget_passed}
-use Rattle.sz_machine.specs.States.{State, After, faults}
+use Rattle.sz_machine.specs.States.{State, faults}
 use Rattle.sz_machine.specs.Rows.{act}
 use Rattle.sz_machine.specs.Covering.{Covers}
 use Rattle.sz_machine.specs.Running.{weight_added, charge_of, charged, does}

@@ -3,11 +3,13 @@ use Rattle.std.specs.Prelude.{◌≡◌, ℕ, suc, List, ◌∷◌, Option, Some
 use Rattle.sz_types.specs.declared.place.Place.{Place}
 use Rattle.sz_instr.specs.declared.instr.Instr.{Instr}
 use Rattle.sz_instr.specs.declared.instr.Instr.TheVariants.{Static, Input, KeepStatic, Next as NextCandidate}
+use Rattle.sz_instr.specs.declared.instr.Instr.TheVariants.{Apply, Convert, MakeArray, MakeTuple, MakeMap, Index, Slice, Field}
+use Rattle.sz_instr.specs.declared.instr.Instr.TheVariants.{Call, Return, Enter, Leave}
 use Rattle.sz_instr.specs.declared.code.Code.{Code}
-use Rattle.sz_value.specs.Data.{Datum, bytes}
+use Rattle.sz_value.specs.Data.{Datum}
 use Rattle.sz_world.specs.World.{World, spend, budget_passed}
 use Rattle.sz_world.specs.Slots.{Slot}
-use Rattle.sz_machine.specs.States.{State, After, Goes, Halts, Faults, faults}
+use Rattle.sz_machine.specs.States.{State, After, Goes, Halts, faults}
 use Rattle.sz_machine.specs.Rows.{act}
 use Rattle.sz_machine.specs.Covering.{Covers}
 use Rattle.sz_machine.specs.Running.{weight_added, candidate_charge}
@@ -94,14 +96,31 @@ IsInside Input = ⊥
 IsInside (KeepStatic n) = ⊥
 IsInside _ = Unit {0}
 
+-- the instruction is none of those that the loop over the lines has in line
+abbrev pub IsApart : Instr → Type 0
+IsApart (Apply which) = Unit {0}
+IsApart (Convert ty) = Unit {0}
+IsApart (MakeArray count) = Unit {0}
+IsApart (MakeTuple count) = Unit {0}
+IsApart (MakeMap count) = Unit {0}
+IsApart Index = Unit {0}
+IsApart Slice = Unit {0}
+IsApart (Field n) = Unit {0}
+IsApart (Call function) = Unit {0}
+IsApart Return = Unit {0}
+IsApart (Enter slice) = Unit {0}
+IsApart (NextCandidate n to) = Unit {0}
+IsApart Leave = Unit {0}
+IsApart _ = ⊥
+
 -- its row covers the run in place, whatever is around it but for the place of the line
 pub record IsCovered (code : Code) (instr : Instr) (h : Held) : Type 0 where
   pub around : Around
   pub covers : Covers code instr (state_of h around)
 
 -- around the run for a record
-abbrev pub in_record : ℕ → List Slot → List ℕ → Around
-in_record at statics octets = record { at = at; statics = statics; input = Some (bytes octets) }
+abbrev pub in_record : ℕ → List Slot → Slot → Around
+in_record at statics input = record { at = at; statics = statics; input = input }
 
 -- around the run of a static
 abbrev pub in_static : ℕ → List Slot → Around

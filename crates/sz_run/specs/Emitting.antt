@@ -3,7 +3,7 @@ use Rattle.std.specs.Prelude.{ℕ, suc, ◌+◌, List, [], ◌∷◌, drop, Opti
 use Rattle.sz_types.specs.declared.place.Place.{Place}
 use Rattle.sz_value.specs.Data.{Datum}
 use Rattle.sz_value.specs.Weight.{weight_of}
-use Rattle.sz_world.specs.World.{World, spend}
+use Rattle.sz_world.specs.World.{spend}
 use Rattle.sz_world.specs.Slots.{Slot, all_defined}
 use Rattle.sz_world.specs.Ticks.{weight_of_all}
 use Rattle.sz_world.specs.Emits.{emit_by_weight, with_emit}

@@ -1,6 +1,5 @@
 -- How runs end.
-use Rattle.std.specs.Prelude.{ℕ, List, Option}
-use Rattle.sz_value.specs.Data.{Datum}
+use Rattle.std.specs.Prelude.{ℕ, List}
 use Rattle.sz_tabs.specs.Data.{EmitDatum}
 use Rattle.sz_instr.specs.declared.code.Code.{Code}
 use Rattle.sz_world.specs.World.{Outcome, Done, Faulted}

@@ -1,10 +1,10 @@
 -- Runs in place: their beginnings, their ends, and what is known on the way.
-use Rattle.std.specs.Prelude.{◌≡◌, ℕ, List, Option, Some, None, slice_get}
+use Rattle.std.specs.Prelude.{◌≡◌, List, Option, Some, None, slice_get}
 use Rattle.sz_instr.specs.declared.code.Code.{Code}
 use Rattle.sz_instr.specs.declared.line.Line.{Line}
 use Rattle.sz_world.specs.World.{World}
 use Rattle.sz_world.specs.Slots.{Slot}
-use Rattle.sz_machine.specs.States.{State, After, Goes, Halts, Faults, Stuck}
+use Rattle.sz_machine.specs.States.{State, After, Halts, Faults}
 use Rattle.sz_machine.specs.Running.{ComesTo, does}
 use Rattle.sz_run.specs.declared.ends.Fault.{Fault}
 use Rattle.sz_run.specs.declared.held.Held.{Held}

@@ -1,9 +1,9 @@
 //! Emits.
-ghost use Rattle.std.specs.Prelude.{◌≡◌, ◌+◌, ◌<◌, ◌≤◌, length, map, option_map, IfOk, Some, None, Option, List};
+ghost use Rattle.std.specs.Prelude.{◌≡◌, ◌+◌, ◌<◌, ◌≤◌, ◌∷◌, length, drop, map, false, IfOk, Some, None, Option, List, []};
 ghost use Rattle.sz_instr.specs.declared.code.Code.{Code};
 ghost use Rattle.sz_instr.specs.declared.instr.Instr.TheVariants as instr;
 ghost use Rattle.sz_value.specs.Seen.{seen};
-ghost use Rattle.sz_value.specs.Data.{Datum};
+ghost use Rattle.sz_value.specs.Data.{Datum, int};
 ghost use Rattle.sz_value.specs.Weight.{weight_of};
 ghost use Rattle.sz_world.specs.Ticks.{weight_of_all};
 ghost use Rattle.sz_world.specs.Emits.{weight_number};
@@ -11,15 +11,65 @@ ghost use Rattle.sz_machine.specs.Rows.{emit_operands};
 ghost use Rattle.sz_run.specs.Acting.{Paid, Does, weighs_and_acts};
 ghost use Rattle.sz_run.specs.Emitting.{emits_parts, emits_on_top};
 
-use crate::held::{BUDGET_PASSED, Held, Next};
+use crate::held::{BUDGET_PASSED, Held, Next, again};
 use std::alloc::Global;
 use sz_cells::Cell;
 use sz_tabs::Emit;
 use sz_value::{List, NoMemory, Value, weight};
 
 impl Held {
-    /// Pops the parts of an emit to the table, and emits them if all are defined.
+    /// Pops the parts of an emit to the table, and emits them if all are defined. A whole number alone is emitted in line.
+    #[inline(always)]
     pub fn emit(
+        &mut self,
+        alloc: Global,
+        table: u32,
+        indexes: u32,
+        weighted: bool,
+    ) -> Result<Next, NoMemory>
+        requires within { emit_operands indexes weighted ≤ length self.old.operands }
+        ensures value { (code : Code) → IfOk result (λ next. Does (weighs_and_acts code (instr.Emit table indexes weighted)) self.old next self.new) }
+    {
+        if weighted {
+            return self.emit_apart(alloc, table, indexes, weighted);
+        }
+        if indexes != 0 {
+            return self.emit_apart(alloc, table, indexes, weighted);
+        }
+        match self.operands.top().int() {
+            Some(number) => self.emit_top(alloc, table, number),
+            None => self.emit_apart(alloc, table, indexes, weighted),
+        }
+    }
+
+    // Pops a whole number and emits it, with neither indexes nor a weight.
+    #[inline(always)]
+    fn emit_top(&mut self, alloc: Global, table: u32, number: i64) -> Result<Next, NoMemory>
+        requires top { self.old.operands ≡ Some (int number) ∷ drop 1 self.old.operands }
+        ensures value { (code : Code) → IfOk result (λ next. Does (weighs_and_acts code (instr.Emit table 0 false)) self.old next self.new) }
+    {
+        self.operands.drop_top(1);
+        self.emit_number(alloc, table, number)
+    }
+
+    // The same of any parts, with the answer made anew.
+    #[inline(always)]
+    fn emit_apart(
+        &mut self,
+        alloc: Global,
+        table: u32,
+        indexes: u32,
+        weighted: bool,
+    ) -> Result<Next, NoMemory>
+        requires within { emit_operands indexes weighted ≤ length self.old.operands }
+        ensures value { (code : Code) → IfOk result (λ next. Does (weighs_and_acts code (instr.Emit table indexes weighted)) self.old next self.new) }
+    {
+        again(self.emit_any(alloc, table, indexes, weighted))
+    }
+
+    // The same of any parts.
+    #[inline(never)]
+    fn emit_any(
         &mut self,
         alloc: Global,
         table: u32,
@@ -37,6 +87,23 @@ impl Held {
         }
     }
 
+    // Emits a whole number, which weighs one tick.
+    #[inline(always)]
+    fn emit_number(&mut self, alloc: Global, table: u32, number: i64) -> Result<Next, NoMemory>
+        ensures value { IfOk result (λ next. Does (emits_parts table (Some []) (Some (int number)) None) self.old next self.new) }
+    {
+        if !self.pay(1) {
+            return Ok(Next::Fault(BUDGET_PASSED));
+        }
+        self.emits.push(Emit {
+            table,
+            indexes: List::new(alloc),
+            value: Value::Int(number),
+            weight: None,
+        })?;
+        Ok(Next::On)
+    }
+
     // Pops the value and the indexes of an emit with this weight.
     fn emit_on_top(
         &mut self,
@@ -50,13 +117,14 @@ impl Held {
     {
         let value = self.operands.pop();
         let indexes = self.operands.pop_values(alloc, indexes as usize)?;
-        self.emit_parts(table, indexes, value, weight)
+        self.emit_parts(alloc, table, indexes, value, weight)
     }
 
     // Emits these parts, if they are all there.
     #[tactic(auto, using(crate::proofs::EmitLemmas::no_indexes, crate::proofs::EmitLemmas::no_value))]
     fn emit_parts(
         &mut self,
+        alloc: Global,
         table: u32,
         indexes: Option<List>,
         value: Cell,
@@ -67,12 +135,12 @@ impl Held {
         let Some(indexes) = indexes else {
             return Ok(Next::On);
         };
-        let Some(value) = value.into_value() else {
+        let Some(value) = value.into_value(alloc)? else {
             return Ok(Next::On);
         };
         match weight {
             None => self.emit_plain(table, indexes, value),
-            Some(weight) => match weight.into_value() {
+            Some(weight) => match weight.into_value(alloc)? {
                 Some(weight) => self.emit_weighted(table, indexes, value, &weight),
                 None => Ok(Next::On),
             },

@@ -9,32 +9,34 @@ use crate::held::{CALLS_TOO_DEEP, Held, Next, UNDEFINED_USED};
 use std::alloc::Global;
 use sz_cells::{Candidates, Cell};
 use sz_instr::Routine;
-use sz_value::{NoMemory, Value};
+use sz_value::NoMemory;
 
 // How many calls can be open.
 const MOST_OPEN_CALLS: usize = 128;
 
 impl Held {
     /// Pops a slot and goes to the place where it is false.
+    #[inline(always)]
     pub fn test(&mut self, to: usize) -> Next
         requires some { 0 < length self.old.operands }
         ensures value { (code : Code) → Does (act code (instr.Test to)) self.old result self.new }
     {
         let x = self.operands.pop();
-        match x.value() {
-            None => Next::Fault(UNDEFINED_USED),
-            Some(Value::Bool(true)) => Next::On,
-            Some(_) => Next::To(to),
+        match x.truth() {
+            Some(true) => Next::On,
+            _ if x.is_defined() => Next::To(to),
+            _ => Next::Fault(UNDEFINED_USED),
         }
     }
 
     /// Goes to the place where the slot on top isn't true, and leaves it; else pops it.
+    #[inline(always)]
     pub fn and_test(&mut self, to: usize) -> Next
         requires some { 0 < length self.old.operands }
         ensures value { (code : Code) → Does (act code (instr.AndTest to)) self.old result self.new }
     {
-        match self.operands.top().value() {
-            Some(Value::Bool(true)) => {
+        match self.operands.top().truth() {
+            Some(true) => {
                 self.operands.pop();
                 Next::On
             }
@@ -43,12 +45,13 @@ impl Held {
     }
 
     /// Goes to the place where the slot on top isn't false, and leaves it; else pops it.
+    #[inline(always)]
     pub fn or_test(&mut self, to: usize) -> Next
         requires some { 0 < length self.old.operands }
         ensures value { (code : Code) → Does (act code (instr.OrTest to)) self.old result self.new }
     {
-        match self.operands.top().value() {
-            Some(Value::Bool(false)) => {
+        match self.operands.top().truth() {
+            Some(false) => {
                 self.operands.pop();
                 Next::On
             }
@@ -57,30 +60,33 @@ impl Held {
     }
 
     /// Pops a slot, and goes to the place unless it is true.
+    #[inline(always)]
     pub fn meets(&mut self, to: usize) -> Next
         requires some { 0 < length self.old.operands }
         ensures value { (code : Code) → Does (act code (instr.Meets to)) self.old result self.new }
     {
         let x = self.operands.pop();
-        match x.value() {
-            Some(Value::Bool(true)) => Next::On,
+        match x.truth() {
+            Some(true) => Next::On,
             _ => Next::To(to),
         }
     }
 
     /// Pops a slot, and goes to the place where it is false.
+    #[inline(always)]
     pub fn fails(&mut self, to: usize) -> Next
         requires some { 0 < length self.old.operands }
         ensures value { (code : Code) → Does (act code (instr.Fails to)) self.old result self.new }
     {
         let x = self.operands.pop();
-        match x.value() {
-            Some(Value::Bool(false)) => Next::To(to),
+        match x.truth() {
+            Some(false) => Next::To(to),
             _ => Next::On,
         }
     }
 
     /// Pops a slot, which is to be defined.
+    #[inline(always)]
     pub fn discard(&mut self) -> Next
         requires some { 0 < length self.old.operands }
         ensures value { (code : Code) → Does (act code instr.Discard) self.old result self.new }
@@ -94,6 +100,7 @@ impl Held {
     }
 
     /// Enters the routine with its arguments, from the line at a place, unless one of them is undefined.
+    #[inline(never)]
     pub fn call(&mut self, routine: &Routine, at: usize) -> Result<Next, NoMemory>
         requires within { routine.now.params ≤ length self.old.operands }
         requires room { at < usize.MAX }
@@ -115,6 +122,7 @@ impl Held {
     }
 
     /// Leaves the routine, with the slot on top for the one that called it.
+    #[inline(never)]
     pub fn give_back(&mut self) -> Next
         requires some { 0 < length self.old.operands }
         requires called { 0 < length self.old.calls.callers }
@@ -124,6 +132,7 @@ impl Held {
     }
 
     /// Pops a base and adds the list of its candidates.
+    #[inline(never)]
     pub fn enter_search(&mut self, alloc: Global, slice: bool) -> Result<Next, NoMemory>
         requires some { 0 < length self.old.operands }
         ensures value { (code : Code) → IfOk result (λ next. Does (act code (instr.Enter slice)) self.old next self.new) }
@@ -135,19 +144,21 @@ impl Held {
     }
 
     /// Takes the next candidate into the local, or drops the list and goes to the place where none is left.
-    pub fn next_candidate(&mut self, n: u32, to: usize) -> Next
+    #[inline(never)]
+    pub fn next_candidate(&mut self, alloc: Global, n: u32, to: usize) -> Result<Next, NoMemory>
         requires within { n < length self.old.calls.locals }
         requires some { 0 < length self.old.calls.lists }
-        ensures value { (code : Code) → Does (act code (instr.Next n to)) self.old result self.new }
+        ensures value { (code : Code) → IfOk result (λ next. Does (act code (instr.Next n to)) self.old next self.new) }
     {
-        if self.calls.next(n) {
-            Next::On
+        if self.calls.next(alloc, n)? {
+            Ok(Next::On)
         } else {
-            Next::To(to)
+            Ok(Next::To(to))
         }
     }
 
     /// Drops the innermost candidate list.
+    #[inline(never)]
     pub fn leave_search(&mut self) -> Next
         requires some { 0 < length self.old.calls.lists }
         ensures value { (code : Code) → Does (act code instr.Leave) self.old result self.new }

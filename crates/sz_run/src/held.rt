@@ -37,6 +37,7 @@ pub const BUDGET_PASSED: u8 = 4;
 
 impl Held {
     /// Takes so many ticks, if they are left.
+    #[inline(always)]
     pub fn pay(&mut self, ticks: u64) -> bool
         ensures value { Paid ticks self.old result self.new }
     {
@@ -48,6 +49,7 @@ impl Held {
     }
 
     /// Takes the weight of a result, and leaves the result on the operands.
+    #[inline(always)]
     pub fn finish(&mut self, made: Cell, weight: u64) -> Result<Next, NoMemory>
         ensures value { IfOk result (λ next. Does (results weight made) self.old next self.new) }
     {
@@ -56,5 +58,19 @@ impl Held {
         }
         self.operands.push(made)?;
         Ok(Next::On)
+    }
+}
+
+/// The answer of a row that stands out of line, taken apart and made anew: so the loop's own answer never has a place in memory.
+#[inline(always)]
+pub fn again(answer: Result<Next, NoMemory>) -> Result<Next, NoMemory>
+    ensures value { result ≡ answer }
+{
+    match answer {
+        Ok(Next::On) => Ok(Next::On),
+        Ok(Next::To(to)) => Ok(Next::To(to)),
+        Ok(Next::End) => Ok(Next::End),
+        Ok(Next::Fault(kind)) => Ok(Next::Fault(kind)),
+        Err(error) => Err(error),
     }
 }

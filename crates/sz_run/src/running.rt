@@ -1,5 +1,5 @@
 //! Runs of code.
-ghost use Rattle.std.specs.Prelude.{◌≡◌, ◌≤◌, ◌<◌, ◌^◌, IfOk, OnOk, [], true, length, slice_get, Some, List, Option};
+ghost use Rattle.std.specs.Prelude.{◌≡◌, ◌≤◌, ◌<◌, ◌^◌, IfOk, OnOk, [], true, length, slice_get, Some, IsSome, List, Option};
 ghost use Rattle.sz_value.specs.Data.{Datum};
 ghost use Rattle.sz_tabs.specs.Data.{EmitDatum};
 ghost use Rattle.sz_world.specs.World.{Outcome};
@@ -14,7 +14,7 @@ use crate::ends::{Fault, RunEnd, StaticsEnd};
 use crate::held::{BUDGET_PASSED, Held, Next};
 use std::alloc::Global;
 use std::mem;
-use sz_cells::{Calls, Operands};
+use sz_cells::{Calls, Cell, Operands};
 use sz_instr::{Code, Line, Routine};
 use sz_tabs::Emits;
 use sz_value::{NoMemory, Slot, Slots};
@@ -24,6 +24,7 @@ use sz_value::{NoMemory, Slot, Slots};
 pub struct Room {
     alloc: Global,
     held: Held,
+    input: Cell,
 }
 
 impl Room {
@@ -32,6 +33,7 @@ impl Room {
         Room {
             alloc,
             held: Held::new(alloc, 0),
+            input: Cell::undefined(),
         }
     }
 
@@ -51,8 +53,9 @@ impl Room {
     {
         self.held.renew(budget);
         self.held.begin(&code.main)?;
+        self.input.set_bytes(self.alloc, input)?;
         self.held
-            .run_record(self.alloc, code, statics, input, code.main.entry)
+            .run_record(self.alloc, code, statics, &self.input, code.main.entry)
     }
 
     /// Gives the list of a run's emits back, so that the next run needs no memory for its own.
@@ -94,14 +97,16 @@ impl Held {
     }
 
     /// What the line at a place does in the run for a record.
+    #[inline(always)]
     fn step_in_record(
         &mut self,
         alloc: Global,
         code: &Code,
         statics: &Slots,
-        input: &[u8],
+        input: &Cell,
         at: usize,
     ) -> Result<Next, NoMemory>
+        requires there { IsSome input.now }
         requires ends { Ends code.now (state_of self.old (in_record at statics.now input.now)) }
         ensures value { IfOk result (λ next.
             LineDoes code.now (in_record at statics.now input.now) (in_record at statics.now input.now) self.old next self.new) }
@@ -140,9 +145,10 @@ impl Held {
         alloc: Global,
         code: &Code,
         statics: &Slots,
-        input: &[u8],
+        input: &Cell,
         start: usize,
     ) -> Result<RunEnd, NoMemory>
+        requires there { IsSome input.now }
         requires ends { Ends code.now (state_of self.old (in_record start statics.now input.now)) }
         ensures value { IfOk result (λ end.
             OfEnds code.now (state_of self.old (in_record start statics.now input.now)) (λ x. EndsRecord x (seen_end end))) }
@@ -196,6 +202,7 @@ impl Held {
 }
 
 // The line at a place.
+#[inline(always)]
 fn line_at(code: &Code, at: usize) -> &Line
     requires within { at < length code.now.lines }
     ensures value { slice_get code.now.lines at ≡ Some result.now }

@@ -1,5 +1,5 @@
 -- The statics are run one after the other.
-use Rattle.std.proofs.Common.{rules, arith, ◌≡◌, ◌≤◌, ◌+◌, ◌∷◌, suc, length, drop, Some, None, refl, subst}
+use Rattle.std.proofs.Common.{rules, arith, ◌≡◌, ◌≤◌, ◌+◌, suc, length, drop, Some, None, refl, subst}
 use Rattle.sz_run.specs.Acting.{state_of, world_of, in_static}
 use Rattle.sz_run.specs.Running.{OfEnds, EndsSo}
 use Rattle.sz_run.proofs.RunLemmas.{begun, at_routine, none_left, static_ends, statics_go_on, statics_fault}

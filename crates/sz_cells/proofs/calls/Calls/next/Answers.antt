@@ -8,8 +8,8 @@ use Rattle.sz_cells.specs.Waiting.{open_calls}
 use Rattle.sz_cells.proofs.CallLemmas.{one_taken}
 use Rattle.sz_cells.proofs.calls.Calls.next.Goals as goal
 
-pub returns-in-Some-clause-value : goal.returns-in-Some-clause-value
-returns-in-Some-clause-value c =
+pub returns-in_ok-cell-in-Some-clause-value : goal.returns-in_ok-cell-in-Some-clause-value
+returns-in_ok-cell-in-Some-clause-value c =
     let s = c.self.inside in
     let inner = ap (λ o. length o.lists) (sym c.self.view_is) ∙ length-reverse (drop s.lists_from s.lists.items) ∙ length-drop s.lists_from s.lists.items in
     let some : s.lists_from < length s.lists.items = omega (arith, c.requires.some, inner) in
@@ -18,7 +18,7 @@ returns-in-Some-clause-value c =
     let top : get_or s.lists.items k c.index_mut.result.now ≡ seen c.in-Some.value ∷ c.next.new.self = search rules in
     let taken = one_taken s.waiting.items s.cells.items s.lists.items s.locals_from s.lists_from k last some c.args.n (seen c.in-Some.value) c.next.new.self
     c.index_mut.result.now top in
-    let cell : c.of_value.result ≡ Some (seen c.in-Some.value) = search rules in
+    let cell : c.in_ok-cell-in-Some.cell ≡ Some (seen c.in-Some.value) = search rules in
     let kept : Slot → Open =
     λ x. record (open_calls s.waiting.items s.cells.items (set s.lists.items k c.next.new.self) s.locals_from s.lists_from) {
       locals = set (drop s.locals_from s.cells.items) c.args.n x;

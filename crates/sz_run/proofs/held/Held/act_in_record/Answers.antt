@@ -1,9 +1,10 @@
 -- What has to do with the statics or the record does what the definition says; all else is inside.
-use Rattle.std.proofs.Common.{rules, ◌≡◌, refl}
+use Rattle.std.proofs.Common.{rules, ◌≡◌, refl, subst}
 use Rattle.std.proofs.lemmas.Result.{IfOk-weaker}
 use Rattle.sz_instr.specs.declared.instr.Instr.TheVariants as instr
-use Rattle.sz_run.specs.Acting.{in_record}
-use Rattle.sz_run.proofs.CoverLemmas.{is_inside}
+use Rattle.sz_run.specs.Acting.{in_record, state_of}
+use Rattle.sz_machine.specs.Covering.{Covers}
+use Rattle.sz_run.proofs.CoverLemmas.{is_inside, not_both}
 use Rattle.sz_run.proofs.held.Held.act_in_record.Goals as goal
 
 pub act_inside-requires : goal.act_inside-requires
@@ -26,3 +27,10 @@ returns-in-Input c =
     record {
       value = IfOk-weaker c.push_input.result _ _ (λ next does place. rw is (does place (in_record c.args.at c.args.statics.now c.args.input.now) refl)) (c.push_input.ensures.value c.args.code.now);
     }
+
+-- no static is kept while there is a record
+pub unreachable-requires : goal.unreachable-requires
+unreachable-requires c =
+    let covers = subst (λ i. Covers c.args.code.now i (state_of c.args.self.now (in_record c.args.at c.args.statics.now c.args.input.now))) c.in-KeepStatic.is
+    c.requires.covers in
+    not_both c.args.input.now c.requires.there covers.2

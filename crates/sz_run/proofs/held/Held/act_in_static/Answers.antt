@@ -23,4 +23,4 @@ returns-in-Static c =
 pub returns-in-KeepStatic : goal.returns-in-KeepStatic
 returns-in-KeepStatic c =
     let is : c.args.instr.now ≡ instr.KeepStatic c.in-KeepStatic.n = search rules in
-    record { value = λ place. rw is (c.keep_static.ensures.value c.args.code.now c.args.at place) }
+    record { value = IfOk-weaker c.keep_static.result _ _ (λ next does place. rw is (does place)) (c.keep_static.ensures.value c.args.code.now c.args.at) }

@@ -2,7 +2,34 @@
 use Rattle.std.proofs.Common.{rules, ◌≡◌}
 use Rattle.std.proofs.lemmas.Result.{IfOk-weaker}
 use Rattle.sz_instr.specs.declared.instr.Instr.TheVariants as instr
+use Rattle.sz_run.proofs.CoverLemmas.{is_apart}
 use Rattle.sz_run.proofs.held.Held.act_inside.Goals as goal
+
+pub act_apart-requires : goal.act_apart-requires
+act_apart-requires c = record {
+  room = c.requires.room;
+  apart = is_apart c.args.instr.now c.requires.inside (record {
+    no_push = c.in_default.not-Push;
+    no_local = c.in_default.not-Local;
+    no_keep = c.in_default.not-Keep;
+    no_clear = c.in_default.not-Clear;
+    no_store = c.in_default.not-Store;
+    no_unary = c.in_default.not-Unary;
+    no_binary = c.in_default.not-Binary;
+    no_def = c.in_default.not-Def;
+    no_tick = c.in_default.not-Tick;
+    no_jump = c.in_default.not-Jump;
+    no_test = c.in_default.not-Test;
+    no_andtest = c.in_default.not-AndTest;
+    no_ortest = c.in_default.not-OrTest;
+    no_emit = c.in_default.not-Emit;
+    no_endrecord = c.in_default.not-EndRecord;
+    no_discard = c.in_default.not-Discard;
+    no_meets = c.in_default.not-Meets;
+    no_fails = c.in_default.not-Fails;
+  });
+  covers = c.requires.covers;
+}
 
 pub returns-in-Local : goal.returns-in-Local
 returns-in-Local c =
@@ -29,41 +56,6 @@ returns-in-Binary c =
     let is : c.args.instr.now ≡ instr.Binary c.in-Binary.op = search rules in
     record { value = IfOk-weaker c.binary.result _ _ (λ next does place a at. rw is (does place a)) (c.binary.ensures.value c.args.code.now) }
 
-pub returns-in-Apply : goal.returns-in-Apply
-returns-in-Apply c =
-    let is : c.args.instr.now ≡ instr.Apply c.in-Apply.which = search rules in
-    record { value = IfOk-weaker c.apply.result _ _ (λ next does place a at. rw is (does place a)) (c.apply.ensures.value c.args.code.now) }
-
-pub returns-in-MakeArray : goal.returns-in-MakeArray
-returns-in-MakeArray c =
-    let is : c.args.instr.now ≡ instr.MakeArray c.in-MakeArray.count = search rules in
-    record { value = IfOk-weaker c.make_array.result _ _ (λ next does place a at. rw is (does place a)) (c.make_array.ensures.value c.args.code.now) }
-
-pub returns-in-MakeTuple : goal.returns-in-MakeTuple
-returns-in-MakeTuple c =
-    let is : c.args.instr.now ≡ instr.MakeTuple c.in-MakeTuple.count = search rules in
-    record { value = IfOk-weaker c.make_tuple.result _ _ (λ next does place a at. rw is (does place a)) (c.make_tuple.ensures.value c.args.code.now) }
-
-pub returns-in-MakeMap : goal.returns-in-MakeMap
-returns-in-MakeMap c =
-    let is : c.args.instr.now ≡ instr.MakeMap c.in-MakeMap.count = search rules in
-    record { value = IfOk-weaker c.make_map.result _ _ (λ next does place a at. rw is (does place a)) (c.make_map.ensures.value c.args.code.now) }
-
-pub returns-in-Index : goal.returns-in-Index
-returns-in-Index c =
-    let is : c.args.instr.now ≡ instr.Index = search rules in
-    record { value = IfOk-weaker c.index.result _ _ (λ next does place a at. rw is (does place a)) (c.index.ensures.value c.args.code.now) }
-
-pub returns-in-Slice : goal.returns-in-Slice
-returns-in-Slice c =
-    let is : c.args.instr.now ≡ instr.Slice = search rules in
-    record { value = IfOk-weaker c.slice.result _ _ (λ next does place a at. rw is (does place a)) (c.slice.ensures.value c.args.code.now) }
-
-pub returns-in-Field : goal.returns-in-Field
-returns-in-Field c =
-    let is : c.args.instr.now ≡ instr.Field c.in-Field.n = search rules in
-    record { value = IfOk-weaker c.field.result _ _ (λ next does place a at. rw is (does place a)) (c.field.ensures.value c.args.code.now) }
-
 pub returns-in-Def : goal.returns-in-Def
 returns-in-Def c =
     let is : c.args.instr.now ≡ instr.Def = search rules in
@@ -84,35 +76,10 @@ returns-in-OrTest c =
     let is : c.args.instr.now ≡ instr.OrTest c.in-OrTest.to = search rules in
     record { value = λ place a at. rw is (c.or_test.ensures.value c.args.code.now place a) }
 
-pub returns-in-Return : goal.returns-in-Return
-returns-in-Return c =
-    let is : c.args.instr.now ≡ instr.Return = search rules in
-    record { value = λ place a at. rw is (c.give_back.ensures.value c.args.code.now place a) }
-
 pub returns-in-Discard : goal.returns-in-Discard
 returns-in-Discard c =
     let is : c.args.instr.now ≡ instr.Discard = search rules in
     record { value = λ place a at. rw is (c.discard.ensures.value c.args.code.now place a) }
-
-pub returns-in-Emit : goal.returns-in-Emit
-returns-in-Emit c =
-    let is : c.args.instr.now ≡ instr.Emit c.in-Emit.table c.in-Emit.indexes c.in-Emit.weighted = search rules in
-    record { value = IfOk-weaker c.emit.result _ _ (λ next does place a at. rw is (does place a)) (c.emit.ensures.value c.args.code.now) }
-
-pub returns-in-Enter : goal.returns-in-Enter
-returns-in-Enter c =
-    let is : c.args.instr.now ≡ instr.Enter c.in-Enter.slice = search rules in
-    record { value = IfOk-weaker c.enter_search.result _ _ (λ next does place a at. rw is (does place a)) (c.enter_search.ensures.value c.args.code.now) }
-
-pub returns-in-Next : goal.returns-in-Next
-returns-in-Next c =
-    let is : c.args.instr.now ≡ instr.Next c.in-Next.n c.in-Next.to = search rules in
-    record { value = λ place a at. rw is (c.next_candidate.ensures.value c.args.code.now place a) }
-
-pub returns-in-Leave : goal.returns-in-Leave
-returns-in-Leave c =
-    let is : c.args.instr.now ≡ instr.Leave = search rules in
-    record { value = λ place a at. rw is (c.leave_search.ensures.value c.args.code.now place a) }
 
 pub returns-in-Meets : goal.returns-in-Meets
 returns-in-Meets c =
@@ -123,3 +90,8 @@ pub returns-in-Fails : goal.returns-in-Fails
 returns-in-Fails c =
     let is : c.args.instr.now ≡ instr.Fails c.in-Fails.to = search rules in
     record { value = λ place a at. rw is (c.fails.ensures.value c.args.code.now place a) }
+
+pub returns-in-Emit : goal.returns-in-Emit
+returns-in-Emit c =
+    let is : c.args.instr.now ≡ instr.Emit c.in-Emit.table c.in-Emit.indexes c.in-Emit.weighted = search rules in
+    record { value = IfOk-weaker c.emit.result _ _ (λ next does place a at. rw is (does place a)) (c.emit.ensures.value c.args.code.now) }

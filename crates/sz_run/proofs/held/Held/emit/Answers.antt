@@ -1,27 +1,9 @@
--- The weight is popped first, if there is one.
-use Rattle.std.proofs.Common.{rules, arith, ◌≡◌, ◌∙◌, ◌<◌, ◌≤◌, ◌+◌, ◌∷◌, true, false, length, drop, sym, ap}
-use Rattle.std.proofs.lemmas.Result.{IfOk-weaker}
-use Rattle.sz_run.specs.Acting.{state_of}
-use Rattle.sz_run.proofs.EmitLemmas.{emits_without, emits_with_weight}
+-- A whole number alone is emitted in line.
+use Rattle.std.proofs.Common.{rules, ◌≡◌, false}
 use Rattle.sz_run.proofs.held.Held.emit.Goals as goal
 
-pub returns-then-weighted : goal.returns-then-weighted
-returns-then-weighted c =
-    let weighted : c.args.weighted ≡ true = search rules in
-    let within : c.args.indexes + 2 ≤ length c.args.self.now.operands = rw weighted at c.requires.within in
-    record {
-      value = λ code. IfOk-weaker c.emit_on_top.result _ _
-          (λ next does place a. rw weighted (emits_with_weight code c.args.table c.args.indexes place (state_of c.args.self.now a) c.pop-weight.result
-          c.pop-weight.new.self c.pop-weight.ensures.value within ∙ does place a))
-          c.emit_on_top.ensures.value;
-    }
-
-pub returns-else-weighted : goal.returns-else-weighted
-returns-else-weighted c =
+pub returns-in-Some : goal.returns-in-Some
+returns-in-Some c =
     let weighted : c.args.weighted ≡ false = search rules in
-    let within : c.args.indexes + 1 ≤ length c.args.self.now.operands = rw weighted at c.requires.within in
-    record {
-      value = λ code. IfOk-weaker c.emit_on_top-else-weighted.result _ _
-          (λ next does place a. rw weighted (emits_without code c.args.table c.args.indexes place (state_of c.args.self.now a) within ∙ does place a))
-          c.emit_on_top-else-weighted.ensures.value;
-    }
+    let none : c.args.indexes ≡ 0 = search (rules, c.if-indexes-ne0.false) in
+    record { value = λ code. rw weighted (rw none (c.emit_top.ensures.value code)) }

@@ -1,5 +1,5 @@
 -- Each line leads on towards the end.
-use Rattle.std.proofs.Common.{rules, arith, ◌≡◌, suc, subst}
+use Rattle.std.proofs.Common.{rules, arith, ◌≡◌, subst}
 use Rattle.sz_run.specs.declared.held.Next.TheVariants.{On, To, End, Fault}
 use Rattle.sz_run.specs.Acting.{state_of, world_of, in_record}
 use Rattle.sz_run.specs.Running.{LineDoes}

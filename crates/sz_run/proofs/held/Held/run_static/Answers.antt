@@ -1,7 +1,7 @@
 -- Each line leads on towards the end.
-use Rattle.std.proofs.Common.{rules, arith, ◌≡◌, suc, subst}
+use Rattle.std.proofs.Common.{rules, arith, ◌≡◌, subst}
 use Rattle.sz_run.specs.declared.held.Next.TheVariants.{On, To, End, Fault}
-use Rattle.sz_run.specs.Acting.{state_of, world_of, in_static}
+use Rattle.sz_run.specs.Acting.{state_of, in_static}
 use Rattle.sz_run.specs.Running.{LineDoes}
 use Rattle.sz_run.proofs.RunLemmas.{is_within, ends_still, goes_on_behind, goes_on_at, halts_there, faults_there}
 use Rattle.sz_run.proofs.held.Held.run_static.Goals as goal

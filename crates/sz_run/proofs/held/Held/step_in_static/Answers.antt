@@ -1,5 +1,5 @@
 -- The line is there, and its charge is taken before it acts.
-use Rattle.std.proofs.Common.{rules, ◌≡◌, true}
+use Rattle.std.proofs.Common.{rules, true}
 use Rattle.std.proofs.lemmas.Result.{IfOk-weaker}
 use Rattle.sz_run.specs.Acting.{state_of, in_static, base_charge, Paid}
 use Rattle.sz_run.proofs.RunLemmas.{is_covered}
