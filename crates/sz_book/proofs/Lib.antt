@@ -9,5 +9,4 @@ pub mod RoomLemmas
 pub mod ShelfLemmas
 pub mod StepLemmas
 pub mod TakingLemmas
-pub mod TestPlans
 pub mod UnplacedLemmas

@@ -14,8 +14,6 @@ mod plan;
 mod receipt;
 mod reserved;
 mod shelf;
-#[cfg(test)]
-mod tests;
 
 pub use book::{Book, BookPass};
 pub use closed::{Closed, Words};

@@ -1,0 +1,17 @@
+//! Tests of the ledger of one thread, of lanes, and of the ledger behind a lock.
+#![tactic(auto)]
+
+#[cfg(test)]
+mod book_rows;
+#[cfg(test)]
+mod core_rows;
+#[cfg(test)]
+mod held_rows;
+#[cfg(test)]
+mod lanes;
+#[cfg(test)]
+mod plans;
+#[cfg(test)]
+mod tally;
+#[cfg(test)]
+mod threads;
