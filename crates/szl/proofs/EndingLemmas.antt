@@ -6,6 +6,8 @@ use Rattle.sz_core.specs.Programs.{Core, tables_of}
 use Rattle.sz_world.specs.Slots.{Slot}
 use Rattle.sz_world.specs.Operations.{no_messages}
 use Rattle.sz_mean.specs.Records.{mean_all}
+use Rattle.sz_total.specs.States.{TotalState}
+use Rattle.sz_print.specs.Tables.{tables_text}
 use Rattle.sz_records.specs.declared.ending.Ending.{Ending}
 use Rattle.sz_records.specs.declared.ending.Ending.TheVariants.{Whole, Damaged, Limit}
 use Rattle.sz_records.specs.Cutting.{IsCut}
@@ -15,9 +17,7 @@ use Rattle.szl.specs.declared.failure.Failure.{Failure}
 use Rattle.szl.specs.declared.failure.Failure.TheVariants as failure
 use Rattle.szl.specs.Outcome.{outcome_of_records, outcome_of_ending, success}
 use Rattle.szl.specs.Records.{Cut, IsCutInto, limits}
-use Rattle.szl.specs.Running.{GivesSums, SumsAll, GivesTables}
-use Rattle.szl.specs.Text.{tables_text}
-use Rattle.szl.specs.Totals.{Totals}
+use Rattle.szl.specs.Running.{GivesTotal, HoldsAll, GivesTables}
 use Rattle.szl.proofs.AnswerLemmas.{cut_of}
 
 -- a framer that was fed a whole input cuts it
@@ -36,7 +36,7 @@ few_records frame input cut is_cut =
     let few = records_are_few frame limits 0 0 input cut.records cut.ending (omega arith) is_cut in omega (arith, few)
 
 module _ (program : Core) (slots : List Slot) (budget : ℕ) (frame : Frame) (input : List ℕ) where
-  -- there was no memory for the records, the sums or the text
+  -- there was no memory for the records, the tables or the text
   pub no_memory_on : (cut : Cut) → IsCutInto frame input cut → GivesTables program slots budget frame input (Err failure.NoMemory)
   no_memory_on cut is_cut = record { cut = cut; is_cut = is_cut; decides = tt }
 
@@ -44,26 +44,26 @@ module _ (program : Core) (slots : List Slot) (budget : ℕ) (frame : Frame) (in
   no_memory_at_all = let c = cut_of frame input in no_memory_on c.cut c.is_cut
 
   -- a record faults
-  pub sums_fail : (cut : Cut) → IsCutInto frame input cut → (totals : Totals) (f : Failure)
-      → GivesSums program slots budget cut.records totals (Err f) → GivesTables program slots budget frame input (Err f)
-  sums_fail cut is_cut totals (failure.Faulted n fault) h =
+  pub total_fails : (cut : Cut) → IsCutInto frame input cut → (total : TotalState) (f : Failure)
+      → GivesTotal program slots budget cut.records total (Err f) → GivesTables program slots budget frame input (Err f)
+  total_fails cut is_cut total (failure.Faulted n fault) h =
       record { cut = cut; is_cut = is_cut; decides = ap (outcome_of_records program cut.ending) h }
-  sums_fail cut is_cut totals failure.NoMemory h = no_memory_on cut is_cut
-  sums_fail cut is_cut totals failure.Usage h = absurd h
-  sums_fail cut is_cut totals (failure.Refused r) h = absurd h
-  sums_fail cut is_cut totals (failure.Damaged b) h = absurd h
-  sums_fail cut is_cut totals (failure.Limit b) h = absurd h
-  sums_fail cut is_cut totals failure.ReadFailed h = absurd h
-  sums_fail cut is_cut totals failure.WriteFailed h = absurd h
+  total_fails cut is_cut total failure.NoMemory h = no_memory_on cut is_cut
+  total_fails cut is_cut total failure.Usage h = absurd h
+  total_fails cut is_cut total (failure.Refused r) h = absurd h
+  total_fails cut is_cut total (failure.Damaged b) h = absurd h
+  total_fails cut is_cut total (failure.Limit b) h = absurd h
+  total_fails cut is_cut total failure.ReadFailed h = absurd h
+  total_fails cut is_cut total failure.WriteFailed h = absurd h
 
-  module _ (records : List (List ℕ)) (totals : Totals) (h : SumsAll program slots budget records totals) where
+  module _ (records : List (List ℕ)) (total : TotalState) (h : HoldsAll program slots budget records total) where
     on_ending : (ending : Ending) → outcome_of_records program ending (mean_all no_messages program slots budget records)
-        ≡ outcome_of_ending ending (tables_text 0 (tables_of program.items) h.emits)
+        ≡ outcome_of_ending ending (tables_text (tables_of program.items) h.emits)
     on_ending ending = ap (outcome_of_records program ending) h.means
 
     -- all records are whole, and the text is that of all emits
     pub ends_whole : (text : List ℕ) → IsCutInto frame input (record { records = records; ending = Whole })
-        → text ≡ tables_text 0 (tables_of program.items) h.emits → GivesTables program slots budget frame input (Ok text)
+        → text ≡ tables_text (tables_of program.items) h.emits → GivesTables program slots budget frame input (Ok text)
     ends_whole text is_cut is = record {
       cut = record { records = records; ending = Whole };
       is_cut = is_cut;

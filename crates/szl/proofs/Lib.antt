@@ -5,9 +5,8 @@ mod JudgeLemmas
 mod JudgementLemmas
 mod MainLemmas
 mod OpeningLemmas
-mod PrintLemmas
 mod RunningLemmas
 mod SettingsLemmas
+mod TablesLemmas
 mod TakenLemmas
-mod TotalsLemmas
 mod UnbuiltLemmas

@@ -6,13 +6,14 @@ use Rattle.sz_types.specs.declared.place.Place.{Place}
 use Rattle.sz_tree.specs.declared.types.Param.{Param}
 use Rattle.sz_tree.specs.declared.types.TypeTree.TheVariants as trees
 use Rattle.sz_tree.specs.declared.types.TypeTree.{TypeTree}
+use Rattle.sz_tree.specs.declared.stmt.Elem.{Elem}
 use Rattle.sz_tree.specs.declared.stmt.Stmt.{Stmt}
 use Rattle.sz_tree.specs.declared.stmt.Stmt.TheVariants as stmts
 use Rattle.sz_tree.specs.Names.{Ident}
 use Rattle.sz_tree.specs.Types.{params_of}
 use Rattle.sz_tree.specs.Statements.{stms_of, stm_place}
-use Rattle.sz_tree.specs.View.{type_of, param_of, stm_of}
-use Rattle.szl.specs.Unbuilt.{has_proto, have_proto, head_has_proto, is_unbuilt, are_unbuilt, first_unbuilt}
+use Rattle.sz_tree.specs.View.{type_of, param_of, elem_of, stm_of}
+use Rattle.szl.specs.Unbuilt.{has_proto, have_proto, head_has_proto, indexes_have_proto, is_unbuilt, are_unbuilt, first_unbuilt}
 use Rattle.sz_tree.proofs.RowLemmas.{type_of_tuple, stm_of_block, stm_of_function}
 use Rattle.szl.proofs.TakenLemmas.{from_place}
 use Rattle.szl.proofs.TakenLemmas.{none_left}
@@ -51,6 +52,25 @@ types_behind ps i p whole within is same h =
 pub types_over : (ps : List Param) (i : ℕ) → length ps ≤ i → have_proto (params_of (map param_of (drop i ps))) ≡ false
 unfolding have_proto
 types_over ps i over = rw (rest_none param_of ps i over) refl
+
+-- one of the indexes from here on has a proto type: this one, or one behind it
+indexes_turn : (es : List Elem) (i : ℕ) (e : Elem) → i < length es → e ≡ get_or es i e
+    → indexes_have_proto (map elem_of (drop i es)) ≡ (has_proto (type_of e.of) || indexes_have_proto (map elem_of (drop (i + 1) es)))
+indexes_turn es i e within is = rw (rest_more elem_of es i e within is) refl
+
+pub indexes_here : (es : List Elem) (i : ℕ) (e : Elem) (whole : Bool) → i < length es → e ≡ get_or es i e
+    → indexes_have_proto (map elem_of (drop i es)) ≡ whole → has_proto (type_of e.of) ≡ true → true ≡ whole
+indexes_here es i e whole within is same h =
+    ap (λ b. b || indexes_have_proto (map elem_of (drop (i + 1) es))) (sym h) ∙ sym (indexes_turn es i e within is) ∙ same
+
+pub indexes_behind : (es : List Elem) (i : ℕ) (e : Elem) (whole : Bool) → i < length es → e ≡ get_or es i e
+    → indexes_have_proto (map elem_of (drop i es)) ≡ whole → has_proto (type_of e.of) ≡ false
+    → indexes_have_proto (map elem_of (drop (i + 1) es)) ≡ whole
+indexes_behind es i e whole within is same h =
+    ap (λ b. b || indexes_have_proto (map elem_of (drop (i + 1) es))) (sym h) ∙ sym (indexes_turn es i e within is) ∙ same
+
+pub indexes_over : (es : List Elem) (i : ℕ) → length es ≤ i → indexes_have_proto (map elem_of (drop i es)) ≡ false
+indexes_over es i over = rw (rest_none elem_of es i over) refl
 
 -- a block has what one of its statements has, and a function what its parameters, its result or its statements have
 pub block_has : (p : Place) (v : Vec Stmt) → is_unbuilt (stm_of (stmts.Block p v)) ≡ are_unbuilt (stms_of (map stm_of v.items))

@@ -1,7 +1,6 @@
 -- what the public contracts rest on
 pub mod Settings
 pub mod Records
-pub mod Text
 pub mod Judgement
 pub mod Unbuilt
 pub mod Checking
@@ -12,5 +11,4 @@ pub mod Failing
 pub mod Opening
 pub mod Judging
 pub mod Printing
-pub mod Totals
 pub mod Running

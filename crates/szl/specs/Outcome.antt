@@ -9,6 +9,7 @@ use Rattle.sz_world.specs.Slots.{Slot}
 use Rattle.sz_world.specs.Operations.{no_messages}
 use Rattle.sz_mean.specs.Programs.{statics}
 use Rattle.sz_mean.specs.Records.{Records, Emitted, FaultedAt, mean_all}
+use Rattle.sz_print.specs.Tables.{tables_text}
 use Rattle.sz_records.specs.declared.ending.Ending.{Ending}
 use Rattle.sz_records.specs.declared.ending.Ending.TheVariants.{Whole, Damaged, Limit}
 use Rattle.sz_words.specs.declared.settings.Settings.{Settings}
@@ -24,7 +25,6 @@ use Rattle.szl.specs.Judgement.{Reading, refused, spells}
 use Rattle.szl.specs.Checking.{checked}
 use Rattle.szl.specs.Settings.{asked_in}
 use Rattle.szl.specs.Records.{Cut}
-use Rattle.szl.specs.Text.{tables_text}
 
 -- what a call of the program answers: its status, the bytes of its output, the line that names the cause, and how many of the files
 -- that the words name it opens at most
@@ -94,7 +94,7 @@ outcome_of_ending (Limit byte) text = refusal status.Limit (limit_line byte) 2
 
 -- the answer to what the records mean: the first that faults decides, and then how they end
 abbrev pub outcome_of_records : Core → Ending → Records → Answer
-outcome_of_records program ending (Emitted emits) = outcome_of_ending ending (tables_text 0 (tables_of program.items) emits)
+outcome_of_records program ending (Emitted emits) = outcome_of_ending ending (tables_text (tables_of program.items) emits)
 outcome_of_records program ending (FaultedAt number fault) = outcome_faulted number fault
 
 -- the answer to what the statics are: a fault in one decides, and then the records, with the statics and a budget each

@@ -1,24 +1,8 @@
 -- Which statements no command goes through yet, by what stands anywhere inside them.
-use Rattle.std.specs.Prelude.{length, Bool, true, false, not, ◌&&◌, ◌||◌, nat_eq, if◌then◌else◌, Option, Some, None, is_some, bytes_eq, codes}
+use Rattle.std.specs.Prelude.{List, [], ◌∷◌, Bool, true, false, ◌||◌, if◌then◌else◌, Option, Some, None}
 use Rattle.sz_types.specs.declared.place.Place.{Place}
-use Rattle.sz_tree.specs.declared.types.BasicType.TheVariants as basics
 use Rattle.sz_tree.specs.Types.{Typ, basic, type_name, array, map_type, tuple, proto, Params, no_params, param}
 use Rattle.sz_tree.specs.Statements.{TableForm, ElemForm, FirstForm, first_declare, Stm, block, declare, static, typedef, table, function, if_only, if_else, while, do_while, for_loop, when, Stms, no_stms, stm, stm_place}
-
--- whether the type is `int`
-abbrev pub is_int : Typ → Bool
-is_int (basic p basics.Int) = true
-is_int _ = false
-
--- whether the part of a table is `int`, without a name
-abbrev pub is_plain_int : ElemForm → Bool
-is_plain_int part = not (is_some part.name) && is_int part.of
-
--- whether the table is `table sum of int`
-abbrev pub is_sum : TableForm → Bool
-is_sum t =
-    bytes_eq t.kind.text (codes "sum") && not (is_some t.argument) && nat_eq (length t.indexes) 0 && is_plain_int t.of
-    && not (is_some t.weight)
 
 unfoldable mutual
   -- whether a proto type stands in the type
@@ -44,14 +28,28 @@ abbrev pub first_has_proto : Option FirstForm → Bool
 first_has_proto (Some (first_declare n t e)) = has_proto t
 first_has_proto _ = false
 
+-- whether one stands in an index of a table
+abbrev pub indexes_have_proto : List ElemForm → Bool
+indexes_have_proto [] = false
+indexes_have_proto (index ∷ indexes) = has_proto index.of || indexes_have_proto indexes
+
+-- whether the weight of a table has a proto type
+abbrev pub weight_has_proto : Option ElemForm → Bool
+weight_has_proto None = false
+weight_has_proto (Some weight) = has_proto weight.of
+
+-- whether one stands in a table: its indexes, its elements and its weight
+abbrev pub table_has_proto : TableForm → Bool
+table_has_proto t = indexes_have_proto t.indexes || has_proto t.of.of || weight_has_proto t.weight
+
 unfoldable mutual
-  -- whether a `when`, a proto type, or a table of another form than `table sum of int` stands in the statement
+  -- whether a `when` or a proto type stands in the statement
   pub is_unbuilt : Stm → Bool
   is_unbuilt (block p ss) = are_unbuilt ss
   is_unbuilt (declare n t e) = has_proto t
   is_unbuilt (static p n t e) = has_proto t
   is_unbuilt (typedef p n t) = has_proto t
-  is_unbuilt (table n t) = not (is_sum t)
+  is_unbuilt (table n t) = table_has_proto t
   is_unbuilt (function n ps t ss) = head_has_proto ps t || are_unbuilt ss
   is_unbuilt (if_only p c s) = is_unbuilt s
   is_unbuilt (if_else p c s t) = is_unbuilt s || is_unbuilt t

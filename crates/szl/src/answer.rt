@@ -3,6 +3,7 @@ ghost use Rattle.std.specs.Prelude.{◌≡◌, ◌<◌, ◌≤◌, ◌^◌, ◌+
 ghost use Rattle.sz_io.specs.Rose.{Rose};
 ghost use Rattle.sz_io.specs.Opened.{KeepsFiles};
 ghost use Rattle.sz_io.specs.Calls.{NamesGain, ReadToEnd};
+ghost use Rattle.sz_core.specs.Sound.{IsSound};
 ghost use Rattle.sz_words.specs.declared.settings.Settings.TheVariants.{Run, Check};
 ghost use Rattle.szl.specs.Opening.{ReadsText, ran_out, past_program, Answers, AnswersOn, AnswersText, AnswersCheck};
 ghost use Rattle.szl.specs.Outcome.{outcome_of_program};
@@ -170,6 +171,7 @@ fn answer_program<F: Files>(
     settings: &RunSettings,
     files: &mut F,
 ) -> Result<Vec<u8>, Failure>
+    requires sound { IsSound program }
     requires few { length (F.names files.old) < 128 }
     requires budget { HasBudget (Run settings.now) }
     ensures value { AnswersOn F.Files settings.now.frame (outcome_of_program program settings.now.budget) settings.now.input

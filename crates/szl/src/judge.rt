@@ -1,5 +1,6 @@
 //! What a program's text is: its tree, and the checked program.
 ghost use Rattle.std.specs.Prelude.{◌≡◌, ◌≤◌, length, IfOk, IfErr, Ok};
+ghost use Rattle.sz_core.specs.Sound.{IsSound};
 ghost use Rattle.sz_tree.specs.View.{program_of};
 ghost use Rattle.szl.specs.Checking.{checked};
 ghost use Rattle.szl.specs.Judgement.{HasStatements, most_program_bytes};
@@ -9,7 +10,7 @@ use crate::failure::{Failure, refused};
 use crate::refusal::Cause;
 use crate::unbuilt::first_unbuilt;
 use std::alloc::Global;
-use sz_check::check;
+use sz_check::{check, judged_programs_are_sound};
 use sz_core::Program;
 use sz_lex::lex;
 use sz_parse::parse;
@@ -27,15 +28,17 @@ pub fn tree_in(alloc: Global, text: &[u8]) -> Result<Tree, Failure>
     Ok(tree)
 }
 
-/// The checked program that the tree is.
+/// The checked program that the tree is. That it is sound is a law of the judgement.
 #[tactic(auto, unfolding(crate::specs::Checking::checked))]
 pub fn checked(alloc: Global, tree: &Tree) -> Result<Program, Failure>
     ensures found { IfOk result (λ program. checked (program_of tree.now) ≡ Ok program) }
+    ensures sound { IfOk result (λ program. IsSound program) }
     ensures refused { IfErr result (λ failure. IsFailureOn (checked (program_of tree.now)) failure) }
 {
     if let Some(place) = first_unbuilt(tree.statements.as_slice()) {
         return Err(refused(Cause::NotBuilt, place));
     }
     let program = check(alloc, tree)?;
+    judged_programs_are_sound();
     Ok(program)
 }

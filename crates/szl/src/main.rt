@@ -1,4 +1,4 @@
-//! `szl` runs a program of counts over the records of a file, and prints the sums of its tables; or it checks a program.
+//! `szl` runs a program over the records of a file, and prints its tables; or it checks a program.
 #![tactic(auto)]
 
 mod answer;
@@ -7,12 +7,10 @@ mod judge;
 mod laws;
 mod lines;
 mod opening;
-mod print;
 mod records;
 mod refusal;
 mod running;
 mod status;
-mod sums;
 #[cfg(test)]
 mod tests;
 mod top;

@@ -1,17 +1,18 @@
 //! A program run over an input.
 ghost use Rattle.std.specs.Prelude.{◌≡◌, ◌≤◌, ◌^◌, IfOk};
+ghost use Rattle.sz_core.specs.Sound.{IsSound};
 ghost use Rattle.sz_gen_stmt.specs.Simulates.{static_types};
 ghost use Rattle.sz_world.specs.Typed.{AllFit};
 ghost use Rattle.szl.specs.Running.{GivesStatics, GivesTables, vec_items_of};
 
 use crate::failure::Failure;
-use crate::print::text_of;
-use crate::records::{records_in, sum_records};
-use crate::sums::Sums;
+use crate::records::{records_in, run_records};
 use std::alloc::Global;
 use sz_gen_stmt::Compiled;
+use sz_print::text;
 use sz_records::Ending;
 use sz_run::{StaticsEnd, run_statics};
+use sz_total::Total;
 use sz_types::Frame;
 use sz_value::Slots;
 
@@ -37,16 +38,18 @@ pub fn tables_of(
     frame: Frame,
     input: &[u8],
 ) -> Result<Vec<u8>, Failure>
+    requires sound { IsSound compiled.now }
     requires least { 1 ≤ budget }
     requires most { budget ≤ 2 ^ 32 }
     requires fit { AllFit statics.now (static_types compiled.now) }
     ensures value { GivesTables compiled.now statics.now budget frame input.now (vec_items_of result) }
 {
     let (records, ending) = records_in(alloc, frame, input)?;
-    let mut sums = Sums::new(alloc, compiled.tables().len())?;
-    sum_records(alloc, compiled, statics, budget, &records, &mut sums)?;
+    let tables = compiled.tables();
+    let mut total = Total::new(alloc, tables)?;
+    run_records(alloc, compiled, statics, budget, &records, &mut total)?;
     match ending {
-        Ending::Whole => Ok(text_of(alloc, compiled.tables(), &sums)?),
+        Ending::Whole => Ok(text(alloc, &total, tables)?),
         Ending::Damaged(byte) => Err(Failure::Damaged(byte)),
         Ending::Limit(byte) => Err(Failure::Limit(byte)),
     }

@@ -7,6 +7,7 @@ mod expressions;
 mod runs;
 mod statement_ticks;
 mod statements;
+mod tables;
 
 ghost use Rattle.std.specs.Prelude.{◌≡◌, ◌≤◌, [], IfOk};
 ghost use Rattle.sz_io.specs.MemFiles.{names_opened};
@@ -44,6 +45,10 @@ const PLAIN: Setting<'static> = Setting {
 /// The rows of whole runs. Here and below they are behind a call, so that no proof sees them.
 fn rows_of_runs() -> &'static str {
     runs::RUNS
+}
+
+fn rows_of_tables() -> &'static str {
+    tables::RUNS
 }
 
 fn rows_of_expressions() -> &'static str {
@@ -225,6 +230,11 @@ fn each_run_leaves_what_its_row_says(rt: HostRuntime) -> Result<(), Fail> {
 }
 
 #[test]
+fn tables_print_what_their_rows_say(rt: HostRuntime) -> Result<(), Fail> {
+    all_hold(&rt, rt.alloc(), rows_of_tables())
+}
+
+#[test]
 fn expressions_give_what_their_rows_say(rt: HostRuntime) -> Result<(), Fail> {
     all_hold(&rt, rt.alloc(), rows_of_expressions())
 }
@@ -318,7 +328,7 @@ fn operators_from_the_left_add_to_the_height(rt: HostRuntime) -> Result<(), Fail
 }
 
 /// So many tables, each declared in a line of its own.
-fn tables(alloc: Global, count: u32) -> Result<String, Fail> {
+fn declarations(alloc: Global, count: u32) -> Result<String, Fail> {
     let mut text = String::new(alloc);
     for number in 0..count {
         writeln!(text, "t{number}: table sum of int;")?;
@@ -334,7 +344,7 @@ fn a_program_has_64_tables_at_most(rt: HostRuntime) -> Result<(), Fail> {
         ("check p", 64, "0"),
         ("check p", 65, "2 ! program: too many tables at 65:1"),
     ] {
-        let program = tables(rt.alloc(), count)?;
+        let program = declarations(rt.alloc(), count)?;
         let given = Setting { words, ..PLAIN };
         let found = left(&rt, rt.alloc(), &given, program.as_bytes())?;
         assert_eq!(&rt; found.as_str(), wanted, "{words} of {count}");

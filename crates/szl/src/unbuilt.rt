@@ -4,46 +4,10 @@ ghost use Rattle.std.specs.Option.{option_map};
 ghost use Rattle.sz_tree.specs.Types.{params_of};
 ghost use Rattle.sz_tree.specs.Statements.{stms_of};
 ghost use Rattle.sz_tree.specs.View.{type_of, param_of, elem_of, table_of, first_of, stm_of};
-ghost use Rattle.szl.specs.Unbuilt.{is_int, is_plain_int, is_sum, has_proto, have_proto, head_has_proto, first_has_proto, is_unbuilt, are_unbuilt, first_unbuilt};
+ghost use Rattle.szl.specs.Unbuilt.{has_proto, have_proto, head_has_proto, first_has_proto, indexes_have_proto, weight_has_proto, table_has_proto, is_unbuilt, are_unbuilt, first_unbuilt};
 
-use sz_tree::{BasicType, Elem, First, Param, Stmt, Table, TypeTree};
+use sz_tree::{Elem, First, Param, Stmt, Table, TypeTree};
 use sz_types::Place;
-
-/// Whether the type is `int`.
-fn is_int(of: &TypeTree) -> bool
-    ensures value { result ≡ is_int (type_of of.now) }
-{
-    match of {
-        TypeTree::Basic(_, BasicType::Int) => true,
-        TypeTree::Basic(_, BasicType::Bool)
-        | TypeTree::Basic(_, BasicType::String)
-        | TypeTree::Basic(_, BasicType::Bytes)
-        | TypeTree::Basic(_, BasicType::Time)
-        | TypeTree::Named(_)
-        | TypeTree::Array(_, _)
-        | TypeTree::Map(_, _, _, _)
-        | TypeTree::Tuple(_, _)
-        | TypeTree::Proto(_, _) => false,
-    }
-}
-
-/// Whether the part of a table is `int`, without a name.
-fn is_plain_int(part: &Elem) -> bool
-    ensures value { result ≡ is_plain_int (elem_of part.now) }
-{
-    part.name.is_none() && is_int(&part.of)
-}
-
-/// Whether the table is `table sum of int`.
-fn is_sum(table: &Table) -> bool
-    ensures value { result ≡ is_sum (table_of table.now) }
-{
-    table.kind.text().as_str() == "sum"
-        && table.argument.is_none()
-        && table.indexes.is_empty()
-        && is_plain_int(&table.of)
-        && table.weight.is_none()
-}
 
 /// Whether a proto type stands in the type.
 #[cycle(types)]
@@ -91,6 +55,38 @@ fn first_has_proto(first: &Option<First>) -> bool
     }
 }
 
+/// Whether one stands in an index of a table.
+#[tactic(auto, using(crate::proofs::UnbuiltLemmas::indexes_here, crate::proofs::UnbuiltLemmas::indexes_behind, crate::proofs::UnbuiltLemmas::indexes_over))]
+fn indexes_have_proto(indexes: &[Elem]) -> bool
+    ensures value { result ≡ indexes_have_proto (each elem_of indexes.now) }
+{
+    for index in indexes {
+        if has_proto(&index.of) {
+            return true;
+        }
+    }
+    false
+}
+
+/// Whether the weight of a table has a proto type.
+fn weight_has_proto(weight: &Option<Elem>) -> bool
+    ensures value { result ≡ weight_has_proto (option_map elem_of weight.now) }
+{
+    match weight {
+        Some(weight) => has_proto(&weight.of),
+        None => false,
+    }
+}
+
+/// Whether one stands in a table: its indexes, its elements and its weight.
+fn table_has_proto(table: &Table) -> bool
+    ensures value { result ≡ table_has_proto (table_of table.now) }
+{
+    indexes_have_proto(table.indexes.as_slice())
+        || has_proto(&table.of.of)
+        || weight_has_proto(&table.weight)
+}
+
 /// Whether something that isn't built stands in the statement.
 #[cycle(statements)]
 #[tactic(auto, unfolding(crate::specs::Unbuilt::is_unbuilt), using(crate::proofs::UnbuiltLemmas::block_has, crate::proofs::UnbuiltLemmas::function_has))]
@@ -102,7 +98,7 @@ fn is_unbuilt(statement: &Stmt) -> bool
         Stmt::Declare(_, of, _) => has_proto(of),
         Stmt::Static(_, _, of, _) => has_proto(of),
         Stmt::Type(_, _, of) => has_proto(of),
-        Stmt::Table(_, table) => !is_sum(table),
+        Stmt::Table(_, table) => table_has_proto(table),
         Stmt::Function(_, parameters, of, body) => {
             head_has_proto(parameters.as_slice(), of) || are_unbuilt(body.as_slice())
         }

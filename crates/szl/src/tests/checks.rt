@@ -194,9 +194,7 @@ when (i: some int; true) ; => 2 ! program: not built yet at 1:1
 x: int; { when (i: some int; true) ; } => 2 ! program: not built yet at 1:9
 x: bool = 1; y: proto {a: int @ 1}; => 2 ! program: not built yet at 1:14
 f: function(m: proto {a: int @ 1}): int { return 1; } => 2 ! program: not built yet at 1:1
-t: table maximum(3) of int weight int; => 2 ! program: not built yet at 1:1
-t: table sum[int] of int; => 2 ! program: not built yet at 1:1
-t: table quantile(101) of int; => 2 ! program: not built yet at 1:1
+t: table quantile(101) of int; when (i: some int; true) ; => 2 ! program: not built yet at 1:32
 type M = array of proto {a: int @ 1}; => 2 ! program: not built yet at 1:1
 if (true) x: map[int] of proto {a: int @ 1}; => 2 ! program: not built yet at 1:1
 x: bool = 1; y: int = => 2 ! program: syntax at 1:14

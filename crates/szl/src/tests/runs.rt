@@ -72,15 +72,8 @@ when (i: some int; true) ; => 2 ! program: not built yet at 1:1
 x: int = 1;¶if (true) when (i: some int; true) ; => 2 ! program: not built yet at 2:1
 x: proto {a: int @ 1}; => 2 ! program: not built yet at 1:1
 x: bool = 1;¶type M = proto {a: int @ 1}; => 2 ! program: not built yet at 2:1
-c: table sum of bool; => 2 ! program: not built yet at 1:1
-c: table sum of n: int; => 2 ! program: not built yet at 1:1
-c: table sum(1) of int; => 2 ! program: not built yet at 1:1
-c: table sum[int] of int; => 2 ! program: not built yet at 1:1
-c: table sum of int weight int; => 2 ! program: not built yet at 1:1
-c: table set(2) of int; => 2 ! program: not built yet at 1:1
-c: table maximum(2) of string weight w: int; => 2 ! program: not built yet at 1:1
-c: table collection of string; => 2 ! program: not built yet at 1:1
-c: table quantile(101) of int; => 2 ! program: not built yet at 1:1
+f: function(m: proto {a: int @ 1}): int { return 1; } => 2 ! program: not built yet at 1:1
+c: table sum of bool; when (i: some int; true) ; => 2 ! program: not built yet at 1:23
 
 == programs that print nothing
 < 3¶

@@ -1,11 +1,16 @@
-use Rattle.std.proofs.Common.{subst}
+use Rattle.std.proofs.Common.{sym, subst}
 use Rattle.std.proofs.lemmas.Result.{err_from_is_err_and}
 use Rattle.std.specs.Prelude.{Ok, Err}
+use Rattle.sz_core.specs.Sound.{IsSound}
 use Rattle.szl.specs.Opening.{AnswersOn}
 use Rattle.szl.specs.Outcome.{outcome_of_program}
 use Rattle.szl.specs.Running.{GivesStatics, GivesTables, vec_items_of}
 use Rattle.szl.proofs.AnswerLemmas.{no_code, static_fails, input_fails, input_read}
 use Rattle.szl.proofs.answer.answer_program.Goals as goal
+
+-- the code is that of a sound program
+pub tables_of-requires-clause-sound : goal.tables_of-requires-clause-sound
+tables_of-requires-clause-sound g c = subst IsSound (sym c.in_ok-compiled.ensures.value) c.requires.sound
 
 -- there was no memory for the code
 pub returns-in_err-compiled-clause-value : goal.returns-in_err-compiled-clause-value

@@ -1,7 +1,0 @@
-use Rattle.std.proofs.Common.{length}
-use Rattle.szl.proofs.RunningLemmas.{IsRunUpTo}
-use Rattle.szl.proofs.records.sum_records.Given as goal
-
--- the records in front were run
-abbrev pub invariant-loop-i : goal.invariant-loop-i
-invariant-loop-i l = IsRunUpTo l.compiled l.statics l.budget l.records (length l.initial.sums.rows) l.i l.sums

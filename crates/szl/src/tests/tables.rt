@@ -1,0 +1,229 @@
+//! Runs by example: what tables of each kind print. The lines are as in `runs.rt`.
+
+/// The runs.
+pub(super) const RUNS: &str = r#"== a maximum has the greatest by weight, with a row for each repeat
+m: table maximum(2) of string weight int; s: string = input; emit m <- s weight len(s); => 0
+< b¶a¶a¶
+best: table maximum(2) of string weight w: int;¶s: string = input;¶emit best <- s weight 5;¶ => 0 best[] = "a" weight 5¶best[] = "a" weight 5¶
+< a¶
+m: table maximum(2) of string weight int; s: string = input; emit m <- s weight len(s); => 0 m[] = "a" weight 1¶
+< a¶bb¶
+m: table maximum(2) of string weight int; s: string = input; emit m <- s weight len(s); => 0 m[] = "bb" weight 2¶m[] = "a" weight 1¶
+< a¶ccc¶bb¶
+m: table maximum(2) of string weight int; s: string = input; emit m <- s weight len(s); => 0 m[] = "ccc" weight 3¶m[] = "bb" weight 2¶
+< bb¶ccc¶bb¶a¶ccc¶
+m: table maximum(2) of string weight int; s: string = input; emit m <- s weight len(s); => 0 m[] = "ccc" weight 3¶m[] = "ccc" weight 3¶
+< c¶bb¶a¶b¶
+m: table maximum(2) of string weight int; s: string = input; emit m <- s weight len(s); => 0 m[] = "bb" weight 2¶m[] = "a" weight 1¶
+< a¶bb¶
+m: table maximum(1) of string weight int; s: string = input; emit m <- s weight -len(s); => 0 m[] = "a" weight -1¶
+< 5¶-9223372036854775808¶9223372036854775807¶
+m: table maximum(2) of int weight int; x: int = input; emit m <- 1 weight x; => 0 m[] = 1 weight 9223372036854775807¶m[] = 1 weight 5¶
+< 3¶5¶4¶
+m: table maximum(2) of n: int weight at: time; x: int = input; emit m <- x weight time(x * 2); => 0 m[] = 5 weight 10¶m[] = 4 weight 8¶
+
+== a minimum has the least by weight, with a row for each repeat
+m: table minimum(2) of string weight int; s: string = input; emit m <- s weight len(s); => 0
+< a¶
+m: table minimum(2) of string weight int; s: string = input; emit m <- s weight len(s); => 0 m[] = "a" weight 1¶
+< bb¶a¶
+m: table minimum(2) of string weight int; s: string = input; emit m <- s weight len(s); => 0 m[] = "a" weight 1¶m[] = "bb" weight 2¶
+< ccc¶a¶bb¶
+m: table minimum(2) of string weight int; s: string = input; emit m <- s weight len(s); => 0 m[] = "a" weight 1¶m[] = "bb" weight 2¶
+< a¶bb¶a¶
+m: table minimum(2) of string weight int; s: string = input; emit m <- s weight len(s); => 0 m[] = "a" weight 1¶m[] = "a" weight 1¶
+< c¶bb¶a¶b¶
+m: table minimum(2) of string weight int; s: string = input; emit m <- s weight len(s); => 0 m[] = "a" weight 1¶m[] = "b" weight 1¶
+< 5¶-9223372036854775808¶9223372036854775807¶
+m: table minimum(2) of int weight int; x: int = input; emit m <- 1 weight x; => 0 m[] = 1 weight -9223372036854775808¶m[] = 1 weight 5¶
+< 3¶-5¶4¶
+m: table minimum(1) of int weight time; x: int = input; emit m <- x weight time(x); => 0 m[] = -5 weight -5¶
+
+== a set has each value once, or overflows
+s: table set(2) of string;¶r: string = input;¶emit s <- r;¶ => 0
+< a¶
+s: table set(2) of string;¶r: string = input;¶emit s <- r;¶ => 0 s[] = "a"¶
+< a¶b¶a¶
+s: table set(2) of string;¶r: string = input;¶emit s <- r;¶ => 0 s[] = "a"¶s[] = "b"¶
+< b¶b¶a¶a¶
+s: table set(2) of string;¶r: string = input;¶emit s <- r;¶ => 0 s[] = "a"¶s[] = "b"¶
+< a¶b¶a¶c¶
+s: table set(2) of string;¶r: string = input;¶emit s <- r;¶ => 0 s[] = overflow¶
+< a¶b¶c¶a¶
+s: table set(2) of string;¶r: string = input;¶emit s <- r;¶ => 0 s[] = overflow¶
+< a¶a¶
+s: table set(1) of string; r: string = input; emit s <- r; => 0 s[] = "a"¶
+< a¶b¶dd¶cc¶cc¶e¶fff¶
+s: table set(2)[length: int] of string; r: string = input; emit s[len(r)] <- r; => 0 s[1] = overflow¶s[2] = "cc"¶s[2] = "dd"¶s[3] = "fff"¶
+
+== a collection has all values with repeats
+t: table collection of string;¶s: string = input;¶emit t <- s;¶ => 0
+< a¶
+t: table collection of string;¶s: string = input;¶emit t <- s;¶ => 0 t[] = "a"¶
+< c¶a¶a¶
+t: table collection of string;¶s: string = input;¶emit t <- s;¶ => 0 t[] = "a"¶t[] = "a"¶t[] = "c"¶
+< 10¶9¶-1¶9¶
+t: table collection of int; x: int = input; emit t <- x; => 0 t[] = -1¶t[] = 9¶t[] = 9¶t[] = 10¶
+< ¶b¶ab¶é¶B¶¶
+t: table collection of string;¶s: string = input;¶emit t <- s;¶ => 0 t[] = ""¶t[] = ""¶t[] = "B"¶t[] = "ab"¶t[] = "b"¶t[] = "é"¶
+
+== a sum adds numbers, or tuples of numbers by their parts
+t: table sum of {a: int, b: int}; x: int = input; emit t <- {x, 1}; => 0
+< 7¶
+t: table sum of {a: int, b: int}; x: int = input; emit t <- {x, 1}; => 0 t[] = {7, 1}¶
+< 3¶-5¶
+t: table sum of {a: int, b: int}; x: int = input; emit t <- {x, 1}; => 0 t[] = {-2, 2}¶
+t: table sum of n: int; x: int = input; emit t <- x; => 0 t[] = -2¶
+t: table sum of {a: int}; x: int = input; emit t <- {x}; => 0 t[] = {-2}¶
+type P = {n: int, squares: int}; t: table sum[positive: bool] of P; x: int = input; emit t[x > 0] <- {1, x * x}; => 0 t[false] = {1, 25}¶t[true] = {1, 9}¶
+< 9223372036854775807¶9223372036854775807¶
+t: table sum of {a: int, b: int}; x: int = input; emit t <- {x, -x - 1}; => 0 t[] = {18446744073709551614, -18446744073709551616}¶
+t: table sum[string] of int; x: int = input; emit t["up"] <- x; emit t["down"] <- -x - 1; => 0 t["down"] = -18446744073709551616¶t["up"] = 18446744073709551614¶
+
+== a table to which nothing was emitted prints nothing
+a: table sum of int; b: table maximum(1) of int weight int; c: table minimum(1) of int weight int; d: table set(1) of int; e: table collection of int;  => 0
+a: table sum of int; b: table maximum(1) of int weight int; c: table minimum(1) of int weight int; d: table set(1) of int; e: table collection of int; x: int = input; emit a <- x; emit b <- 1 weight x; emit c <- x weight 1; emit d <- x; emit e <- x; => 0
+< x¶¶
+a: table sum of int; b: table maximum(1) of int weight int; c: table minimum(1) of int weight int; d: table set(1) of int; e: table collection of int;  => 0
+a: table sum of int; b: table maximum(1) of int weight int; c: table minimum(1) of int weight int; d: table set(1) of int; e: table collection of int; x: int = input; emit a <- x; emit b <- 1 weight x; emit c <- x weight 1; emit d <- x; emit e <- x; => 0
+a: table sum[int] of int; b: table collection[string][int] of int; x: int = input; emit a[x] <- 1; emit b["a"][x] <- 1; => 0
+< x¶7¶
+a: table sum of int; b: table maximum(1) of int weight int; c: table minimum(1) of int weight int; d: table set(1) of int; e: table collection of int; x: int = input; emit a <- x; emit b <- 1 weight x; emit c <- x weight 1; emit d <- x; emit e <- x; => 0 a[] = 7¶b[] = 1 weight 7¶c[] = 7 weight 1¶d[] = 7¶e[] = 7¶
+a: table sum[int] of int; x: int = input; emit a[x] <- 1; emit a[1] <- x; => 0 a[1] = 7¶a[7] = 1¶
+
+== tables stand in the order of their declarations, index lists in that of their values
+< 1¶2¶
+b: table collection of int; a: table sum of int; x: int = input; emit a <- x; emit b <- x; => 0 b[] = 1¶b[] = 2¶a[] = 3¶
+< us 1¶us 1¶ 0¶
+hits: table sum[country: string][hour: int] of int;¶line: string = input;¶blank: int = strfind(" ", line);¶hour: int = line[blank + 1:len(line)];¶emit hits[line[0:blank]][hour] <- 1;¶ => 0 hits[""][0] = 1¶hits["us"][1] = 2¶
+< 10¶-1¶2¶10¶
+c: table sum[int] of int; x: int = input; emit c[x] <- 1; => 0 c[-1] = 1¶c[2] = 1¶c[10] = 2¶
+c: table sum[time] of int; x: int = input; emit c[time(x)] <- 1; => 0 c[-1] = 1¶c[2] = 1¶c[10] = 2¶
+c: table sum[bool] of int; x: int = input; emit c[x > 2] <- x; => 0 c[false] = 1¶c[true] = 20¶
+c: table collection[bool][int] of int; x: int = input; emit c[x > 0][x % 2] <- x; => 0 c[false][-1] = -1¶c[true][0] = 2¶c[true][0] = 10¶c[true][0] = 10¶
+< b¶ab¶a¶¶B¶é¶
+c: table sum[string] of int; s: string = input; emit c[s] <- 1; => 0 c[""] = 1¶c["B"] = 1¶c["a"] = 1¶c["ab"] = 1¶c["b"] = 1¶c["é"] = 1¶
+< ba¶a¶b¶aaa¶a¶
+c: table sum[word: string][length: int] of int; s: string = input; emit c[s[0:1]][len(s)] <- 1; => 0 c["a"][1] = 2¶c["a"][3] = 1¶c["b"][1] = 1¶c["b"][2] = 1¶
+< \xff¶a"¶
+c: table sum[bytes] of int; emit c[input] <- 1; => 0 c[B"a\""] = 1¶c[B"\xff"] = 1¶
+< 2¶1¶
+c: table sum[array of int] of int; x: int = input; emit c[{x, 1}] <- 1; emit c[{x}] <- 1; emit c[{}] <- 1; => 0 c[{}] = 2¶c[{1}] = 1¶c[{1, 1}] = 1¶c[{2}] = 1¶c[{2, 1}] = 1¶
+< b¶a¶cc¶
+c: table sum[{a: int, b: string}] of int; s: string = input; emit c[{len(s), s}] <- 1; => 0 c[{1, "a"}] = 1¶c[{1, "b"}] = 1¶c[{2, "cc"}] = 1¶
+c: table sum[map[string] of int] of int; s: string = input; emit c[{s: 1}] <- 1; emit c[{:}] <- 1; => 0 c[{:}] = 3¶c[{"a": 1}] = 1¶c[{"b": 1}] = 1¶c[{"cc": 1}] = 1¶
+m: table maximum(1)[length: int] of string weight int; s: string = input; emit m[len(s)] <- s weight s[0]; => 0 m[1] = "b" weight 98¶m[2] = "cc" weight 99¶
+
+== values of every type are printed
+< aéb¶
+t: table collection of int;¶s: string = input;¶emit t <- len(s);¶emit t <- s[1];¶emit t <- strfind("b", s);¶emit t <- len(bytes(s));¶emit t <- s[9];¶ => 0 t[] = 2¶t[] = 3¶t[] = 4¶t[] = 233¶
+< -7¶
+t: table collection of int;¶x: int = input;¶emit t <- x / 2;¶emit t <- x % 2;¶emit t <- x / 0;¶emit t <- x << 64;¶ => 0 t[] = -3¶t[] = -1¶
+< ¶
+t: table collection of map[string] of int;¶m: map[string] of int = {"b": 2, "a": 1, "b": 3};¶m["c"] = 4;¶emit t <- m;¶ => 0 t[] = {"a": 1, "b": 3, "c": 4}¶
+t: table collection of map[int] of string; emit t <- {2: "b", 1: "a"}; emit t <- {:}; => 0 t[] = {:}¶t[] = {1: "a", 2: "b"}¶
+t: table collection of bool; emit t <- true; emit t <- false; => 0 t[] = false¶t[] = true¶
+t: table collection of time; emit t <- time(10); emit t <- time(-1); => 0 t[] = -1¶t[] = 10¶
+t: table collection of array of string; emit t <- {"a", "b"}; emit t <- {}; emit t <- {"a"}; => 0 t[] = {}¶t[] = {"a"}¶t[] = {"a", "b"}¶
+t: table collection of {a: int, b: array of bool}; emit t <- {1, {true, false}}; emit t <- {1, {}}; => 0 t[] = {1, {}}¶t[] = {1, {true, false}}¶
+s: table set(2) of {a: int, b: int}; emit s <- {2, 1}; emit s <- {1, 2}; emit s <- {2, 1}; => 0 s[] = {1, 2}¶s[] = {2, 1}¶
+m: table maximum(2) of {k: string, v: map[string] of int} weight int; emit m <- {"a", {"b": 1}} weight 1; emit m <- {"a", {:}} weight 1; => 0 m[] = {"a", {:}} weight 1¶m[] = {"a", {"b": 1}} weight 1¶
+t: table collection of bytes; emit t <- B"a\n\xff\u00e9"; emit t <- B""; => 0 t[] = B""¶t[] = B"a\n\xff\xc3\xa9"¶
+
+== quotes, backslashes and bytes that control a device are printed as escapes
+< a"b\c→d\x01\x7fé¶
+t: table collection of string;¶s: string = input;¶emit t <- s;¶ => 0 t[] = "a\"b\\c\td\x01\x7fé"¶
+t: table sum[string] of int; s: string = input; emit t[s] <- 1; => 0 t["a\"b\\c\td\x01\x7fé"] = 1¶
+t: table collection of bytes; emit t <- input; => 0 t[] = B"a\"b\\c\td\x01\x7f\xc3\xa9"¶
+t: table collection of string; emit t <- "\r\n\t\'\x1f ~"; => 0 t[] = "\r\n\t'\x1f ~"¶
+
+== emits in functions and loops go to their tables
+< 3¶
+t: table collection of int; f: function(n: int): int { if (n > 0) { emit t <- n; return f(n - 1); } return 0; } x: int = input; y: int = f(x); => 0 t[] = 1¶t[] = 2¶t[] = 3¶
+s: table set(2) of int; t: table sum[even: bool] of int; x: int = input; for (i: int = 0; i < x; i++) { emit s <- i % 2; emit t[i % 2 == 0] <- i; } => 0 s[] = 0¶s[] = 1¶t[false] = 1¶t[true] = 2¶
+
+== an emit takes a tick and the weights of its parts
+< ¶
+$ [run p f --budget 10]
+m: table maximum(1)[string] of string weight int; emit m["ab"] <- "c" weight 7; => 0 m["ab"] = "c" weight 7¶
+$ [run p f --budget 9]
+m: table maximum(1)[string] of string weight int; emit m["ab"] <- "c" weight 7; => 3 ! record 1: budget passed at 1:51
+
+== tables are judged by the rules of their kinds
+$ [check p]
+t: table quantile(101) of int; => 2 ! program: not in this profile: quantile at 1:10
+t: table sample of int; => 2 ! program: not in this profile: sample at 1:10
+t: table weightedsample of int; => 2 ! program: not in this profile: weightedsample at 1:10
+t: table distinctsample of int; => 2 ! program: not in this profile: distinctsample at 1:10
+t: table top of int; => 2 ! program: not in this profile: top at 1:10
+t: table unique of int; => 2 ! program: not in this profile: unique at 1:10
+t: table inversehistogram of int; => 2 ! program: not in this profile: inversehistogram at 1:10
+t: table text of int; => 2 ! program: not in this profile: text at 1:10
+t: table recordio of int; => 2 ! program: not in this profile: recordio at 1:10
+t: table mrcounter of int; => 2 ! program: not in this profile: mrcounter at 1:10
+t: table total of int; => 2 ! program: unknown name: total at 1:10
+t: table map of int; => 2 ! program: syntax at 1:1
+t: table sum[int] of int;¶emit t <- 1; => 2 ! program: wrong count at 2:6
+t: table sum of int;¶emit t[1] <- 1; => 2 ! program: wrong count at 2:6
+t: table sum[int][int] of int; emit t[1] <- 1; => 2 ! program: wrong count at 1:37
+t: table sum[int] of int; emit t["a"] <- 1; => 2 ! program: wrong type at 1:34
+t: table sum of {a: int, b: int}; emit t <- 1; => 2 ! program: wrong type at 1:45
+t: table maximum(1) of int weight int; emit t <- 1 weight "a"; => 2 ! program: wrong type at 1:59
+t: table maximum(1) of int weight int; emit t <- 1; => 2 ! program: wrong weight at 1:40
+t: table collection of int; emit t <- 1 weight 1; => 2 ! program: wrong weight at 1:29
+t: table maximum of int weight int; => 2 ! program: bad table at 1:10
+t: table maximum(0) of int weight int; => 2 ! program: bad table at 1:10
+t: table maximum(10001) of int weight int; => 2 ! program: bad table at 1:10
+t: table maximum(2) of int; => 2 ! program: bad table at 1:10
+t: table maximum(2) of int weight string; => 2 ! program: bad table at 1:10
+t: table minimum of int weight int; => 2 ! program: bad table at 1:10
+t: table minimum(10001) of int weight int; => 2 ! program: bad table at 1:10
+t: table minimum(2) of int; => 2 ! program: bad table at 1:10
+t: table set of int; => 2 ! program: bad table at 1:10
+t: table set(0) of int; => 2 ! program: bad table at 1:10
+t: table set(1000001) of int; => 2 ! program: bad table at 1:10
+t: table set(2) of int weight int; => 2 ! program: bad table at 1:10
+t: table collection(2) of int; => 2 ! program: bad table at 1:10
+t: table collection of int weight int; => 2 ! program: bad table at 1:10
+t: table sum(1) of int; => 2 ! program: bad table at 1:10
+t: table sum of bool; => 2 ! program: bad table at 1:10
+t: table sum of string; => 2 ! program: bad table at 1:10
+t: table sum of {a: int, b: bool}; => 2 ! program: bad table at 1:10
+t: table sum of array of int; => 2 ! program: bad table at 1:10
+t: table sum of int weight int; => 2 ! program: bad table at 1:10
+t: table maximum(10000) of int weight int; => 0
+t: table minimum(1) of int weight time; => 0
+t: table set(1000000) of int; => 0
+t: table collection of map[string] of int; => 0
+t: table sum[a: int][b: string][bool] of {x: int, y: int}; => 0
+$ [run p f]
+t: table quantile(101) of int; => 2 ! program: not in this profile: quantile at 1:10
+t: table total of int; => 2 ! program: unknown name: total at 1:10
+t: table map of int; => 2 ! program: syntax at 1:1
+t: table sum[int] of int;¶emit t <- 1; => 2 ! program: wrong count at 2:6
+t: table sum of int;¶emit t[1] <- 1; => 2 ! program: wrong count at 2:6
+t: table maximum(1) of int weight int; emit t <- 1; => 2 ! program: wrong weight at 1:40
+t: table collection of int; emit t <- 1 weight 1; => 2 ! program: wrong weight at 1:29
+t: table maximum(2) of int; => 2 ! program: bad table at 1:10
+t: table set of int; => 2 ! program: bad table at 1:10
+t: table sum of bool; => 2 ! program: bad table at 1:10
+t: table maximum(10000) of int weight int; => 0
+t: table minimum(1) of int weight time; => 0
+t: table set(1000000) of int; => 0
+t: table collection of map[string] of int; => 0
+t: table sum[a: int][b: string][bool] of {x: int, y: int}; => 0
+
+== a proto type in a table isn't built
+t: table collection of proto {a: int @ 1}; => 2 ! program: not built yet at 1:1
+t: table sum[int][proto {a: int @ 1}] of int; => 2 ! program: not built yet at 1:1
+t: table maximum(1) of int weight w: proto {a: int @ 1}; => 2 ! program: not built yet at 1:1
+t: table set(2) of x: array of proto {a: int @ 1}; => 2 ! program: not built yet at 1:1
+
+== a log by tables of each kind
+< us 1 /index 120¶de 1 /news 300¶us 1 /index 80¶fr 1 /index 95¶us 2 /news 450¶us 2 /index -¶de 3 /index 60¶de 3 /news 300¶
+# Lines `country hour page bytes`: requests and bytes by country and hour.¶¶# The word with this number, counted from 0, of a line with a blank between two words; undefined where there are fewer.¶word: function(line: string, number: int): string {¶    blank: int = strfind(" ", line + " ");¶    if (number == 0) return line[0:blank];¶    return word(line[blank + 1:len(line)], number - 1);¶}¶¶hours: table sum[country: string][hour: int] of {requests: int, sent: int};¶¶line: string = input;¶hour: int = word(line, 1);¶sent: int = word(line, 3);¶¶if (!def(sent)) sent = 0;¶emit hours[word(line, 0)][hour] <- {1, sent};¶ => 0 hours["de"][1] = {1, 300}¶hours["de"][3] = {2, 360}¶hours["fr"][1] = {1, 95}¶hours["us"][1] = {2, 200}¶hours["us"][2] = {2, 450}¶
+# Lines `country hour page bytes`: the three largest answers, by their bytes.¶¶# The word with this number, counted from 0, of a line with a blank between two words; undefined where there are fewer.¶word: function(line: string, number: int): string {¶    blank: int = strfind(" ", line + " ");¶    if (number == 0) return line[0:blank];¶    return word(line[blank + 1:len(line)], number - 1);¶}¶¶largest: table maximum(3) of {country: string, page: string} weight sent: int;¶¶line: string = input;¶sent: int = word(line, 3);¶emit largest <- {word(line, 0), word(line, 2)} weight sent;¶ => 0 largest[] = {"us", "/news"} weight 450¶largest[] = {"de", "/news"} weight 300¶largest[] = {"de", "/news"} weight 300¶
+# Lines `country hour page bytes`: who asked for each page first.¶¶# The word with this number, counted from 0, of a line with a blank between two words; undefined where there are fewer.¶word: function(line: string, number: int): string {¶    blank: int = strfind(" ", line + " ");¶    if (number == 0) return line[0:blank];¶    return word(line[blank + 1:len(line)], number - 1);¶}¶¶first: table minimum(1)[page: string] of country: string weight hour: int;¶¶line: string = input;¶hour: int = word(line, 1);¶emit first[word(line, 2)] <- word(line, 0) weight hour;¶ => 0 first["/index"] = "fr" weight 1¶first["/news"] = "de" weight 1¶
+# Lines `country hour page bytes`: the countries that asked for each page, or that there are more than two.¶¶# The word with this number, counted from 0, of a line with a blank between two words; undefined where there are fewer.¶word: function(line: string, number: int): string {¶    blank: int = strfind(" ", line + " ");¶    if (number == 0) return line[0:blank];¶    return word(line[blank + 1:len(line)], number - 1);¶}¶¶countries: table set(2)[page: string] of country: string;¶¶line: string = input;¶emit countries[word(line, 2)] <- word(line, 0);¶ => 0 countries["/index"] = overflow¶countries["/news"] = "de"¶countries["/news"] = "us"¶
+# Lines `country hour page bytes`: those whose bytes are no number, as they are.¶¶# The word with this number, counted from 0, of a line with a blank between two words; undefined where there are fewer.¶word: function(line: string, number: int): string {¶    blank: int = strfind(" ", line + " ");¶    if (number == 0) return line[0:blank];¶    return word(line[blank + 1:len(line)], number - 1);¶}¶¶lines: table sum of int;¶unread: table collection of line: string;¶¶line: string = input;¶sent: int = word(line, 3);¶emit lines <- 1;¶if (!def(sent)) emit unread <- line;¶ => 0 lines[] = 8¶unread[] = "us 2 /index -"¶
+"#;
