@@ -14,7 +14,6 @@ use sz_types::{BinOp, Builtin, Ty, UnOp};
 use sz_value::{List, NoMemory, Pair, Pairs, Value};
 
 /// What the operator makes of an operand.
-#[inline(always)]
 pub fn unary_of(alloc: Global, op: UnOp, x: &Cell) -> Result<Cell, NoMemory>
     ensures value { IfOk result (λ made. made ≡ unary_of op x.now) }
 {
@@ -204,7 +203,6 @@ fn item_at(alloc: Global, n: usize, parts: &List) -> Result<Cell, NoMemory>
 }
 
 /// Whether an operand is defined.
-#[inline(always)]
 pub fn definedness(x: &Cell) -> Cell
     ensures value { result ≡ definedness x.now }
 {

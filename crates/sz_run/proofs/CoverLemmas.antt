@@ -11,7 +11,6 @@ use Rattle.sz_instr.specs.declared.routine.Routine.{Routine}
 use Rattle.sz_world.specs.Slots.{Slot}
 use Rattle.sz_machine.specs.States.{Caller}
 use Rattle.sz_machine.specs.Rows.{indexes_in}
-use Rattle.sz_types.specs.declared.operator.UnOp.{UnOp}
 use Rattle.sz_types.specs.declared.operator.BinOp.{BinOp}
 use Rattle.sz_run.specs.Acting.{IsInside, IsApart}
 use Rattle.sz_machine.specs.Covering.{OnOne, OnTwo, OnThree, HasConversion, HasArguments, HasCaller, HasList, StoresInto}
@@ -139,9 +138,7 @@ pub record IsUncommon (i : Instr) : Type 0 where
   pub no_keep : (n : ℕ) → i ≡ Keep n → ⊥
   pub no_clear : (n : ℕ) → i ≡ Clear n → ⊥
   pub no_store : (n : ℕ) (path : List Step) → i ≡ Store n path → ⊥
-  pub no_unary : (op : UnOp) → i ≡ Unary op → ⊥
   pub no_binary : (op : BinOp) → i ≡ Binary op → ⊥
-  pub no_def : i ≡ Def → ⊥
   pub no_tick : i ≡ Tick → ⊥
   pub no_jump : (n : ℕ) → i ≡ Jump n → ⊥
   pub no_test : (n : ℕ) → i ≡ Test n → ⊥
@@ -149,9 +146,6 @@ pub record IsUncommon (i : Instr) : Type 0 where
   pub no_ortest : (n : ℕ) → i ≡ OrTest n → ⊥
   pub no_emit : (t n : ℕ) (weighted : Bool) → i ≡ Emit t n weighted → ⊥
   pub no_endrecord : i ≡ EndRecord → ⊥
-  pub no_discard : i ≡ Discard → ⊥
-  pub no_meets : (n : ℕ) → i ≡ Meets n → ⊥
-  pub no_fails : (n : ℕ) → i ≡ Fails n → ⊥
 
 -- and then it stands apart
 pub is_apart : (i : Instr) → IsInside i → IsUncommon i → IsApart i
@@ -160,18 +154,18 @@ is_apart (Local x) h k = absurd (k.no_local x refl)
 is_apart (Keep x) h k = absurd (k.no_keep x refl)
 is_apart (Clear x) h k = absurd (k.no_clear x refl)
 is_apart (Store x y) h k = absurd (k.no_store x y refl)
-is_apart (Unary x) h k = absurd (k.no_unary x refl)
+is_apart (Unary x) h k = tt
 is_apart (Binary x) h k = absurd (k.no_binary x refl)
-is_apart Def h k = absurd (k.no_def refl)
+is_apart Def h k = tt
 is_apart Tick h k = absurd (k.no_tick refl)
 is_apart (Jump x) h k = absurd (k.no_jump x refl)
 is_apart (Test x) h k = absurd (k.no_test x refl)
 is_apart (AndTest x) h k = absurd (k.no_andtest x refl)
 is_apart (OrTest x) h k = absurd (k.no_ortest x refl)
 is_apart EndRecord h k = absurd (k.no_endrecord refl)
-is_apart Discard h k = absurd (k.no_discard refl)
-is_apart (Meets x) h k = absurd (k.no_meets x refl)
-is_apart (Fails x) h k = absurd (k.no_fails x refl)
+is_apart Discard h k = tt
+is_apart (Meets x) h k = tt
+is_apart (Fails x) h k = tt
 is_apart (Static x) h k = absurd h
 is_apart Input h k = absurd h
 is_apart (KeepStatic x) h k = absurd h

@@ -3,8 +3,8 @@ use Rattle.std.specs.Prelude.{◌≡◌, ℕ, suc, List, ◌∷◌, Option, Some
 use Rattle.sz_types.specs.declared.place.Place.{Place}
 use Rattle.sz_instr.specs.declared.instr.Instr.{Instr}
 use Rattle.sz_instr.specs.declared.instr.Instr.TheVariants.{Static, Input, KeepStatic, Next as NextCandidate}
-use Rattle.sz_instr.specs.declared.instr.Instr.TheVariants.{Apply, Convert, MakeArray, MakeTuple, MakeMap, Index, Slice, Field}
-use Rattle.sz_instr.specs.declared.instr.Instr.TheVariants.{Call, Return, Enter, Leave}
+use Rattle.sz_instr.specs.declared.instr.Instr.TheVariants.{Unary, Apply, Convert, MakeArray, MakeTuple, MakeMap, Index, Slice, Field}
+use Rattle.sz_instr.specs.declared.instr.Instr.TheVariants.{Def, Call, Return, Discard, Enter, Leave, Meets, Fails}
 use Rattle.sz_instr.specs.declared.code.Code.{Code}
 use Rattle.sz_value.specs.Data.{Datum}
 use Rattle.sz_world.specs.World.{World, spend, budget_passed}
@@ -98,6 +98,7 @@ IsInside _ = Unit {0}
 
 -- the instruction is none of those that the loop over the lines has in line
 abbrev pub IsApart : Instr → Type 0
+IsApart (Unary op) = Unit {0}
 IsApart (Apply which) = Unit {0}
 IsApart (Convert ty) = Unit {0}
 IsApart (MakeArray count) = Unit {0}
@@ -106,11 +107,15 @@ IsApart (MakeMap count) = Unit {0}
 IsApart Index = Unit {0}
 IsApart Slice = Unit {0}
 IsApart (Field n) = Unit {0}
+IsApart Def = Unit {0}
 IsApart (Call function) = Unit {0}
 IsApart Return = Unit {0}
+IsApart Discard = Unit {0}
 IsApart (Enter slice) = Unit {0}
 IsApart (NextCandidate n to) = Unit {0}
 IsApart Leave = Unit {0}
+IsApart (Meets to) = Unit {0}
+IsApart (Fails to) = Unit {0}
 IsApart _ = ⊥
 
 -- its row covers the run in place, whatever is around it but for the place of the line

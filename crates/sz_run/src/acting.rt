@@ -93,9 +93,7 @@ impl Held {
             Instr::Keep(n) => Ok(self.keep(*n)),
             Instr::Clear(n) => Ok(self.clear(*n)),
             Instr::Store(n, path) => self.store(alloc, *n, path),
-            Instr::Unary(op) => self.unary(alloc, *op),
             Instr::Binary(op) => self.binary(alloc, *op),
-            Instr::Def => self.def(),
             Instr::Tick => Ok(Next::On),
             Instr::Jump(to) => Ok(Next::To(*to)),
             Instr::Test(to) => Ok(self.test(*to)),
@@ -103,9 +101,6 @@ impl Held {
             Instr::OrTest(to) => Ok(self.or_test(*to)),
             Instr::Emit(table, indexes, weighted) => self.emit(alloc, *table, *indexes, *weighted),
             Instr::EndRecord => Ok(Next::End),
-            Instr::Discard => Ok(self.discard()),
-            Instr::Meets(to) => Ok(self.meets(*to)),
-            Instr::Fails(to) => Ok(self.fails(*to)),
             _ => self.act_apart(alloc, code, at, instr),
         }
     }
@@ -142,6 +137,7 @@ impl Held {
         ensures value { IfOk result (λ next. DoesWhere (λ a. a.at ≡ at) (weighs_and_acts code.now instr.now) self.old next self.new) }
     {
         match instr {
+            Instr::Unary(op) => self.unary(alloc, *op),
             Instr::Apply(which) => self.apply(alloc, *which),
             Instr::Convert(ty) => self.convert(alloc, code, *ty),
             Instr::MakeArray(count) => self.make_array(alloc, *count),
@@ -150,11 +146,15 @@ impl Held {
             Instr::Index => self.index(alloc),
             Instr::Slice => self.slice(alloc),
             Instr::Field(n) => self.field(alloc, *n),
+            Instr::Def => self.def(),
             Instr::Call(function) => self.call(code.functions.get(*function as usize), at),
             Instr::Return => Ok(self.give_back()),
+            Instr::Discard => Ok(self.discard()),
             Instr::Enter(slice) => self.enter_search(alloc, *slice),
             Instr::Next(n, to) => self.next_candidate(alloc, *n, *to),
             Instr::Leave => Ok(self.leave_search()),
+            Instr::Meets(to) => Ok(self.meets(*to)),
+            Instr::Fails(to) => Ok(self.fails(*to)),
             _ => unreachable!(),
         }
     }

@@ -60,7 +60,7 @@ impl Held {
     }
 
     /// Pops a slot, and goes to the place unless it is true.
-    #[inline(always)]
+    #[inline(never)]
     pub fn meets(&mut self, to: usize) -> Next
         requires some { 0 < length self.old.operands }
         ensures value { (code : Code) → Does (act code (instr.Meets to)) self.old result self.new }
@@ -73,7 +73,7 @@ impl Held {
     }
 
     /// Pops a slot, and goes to the place where it is false.
-    #[inline(always)]
+    #[inline(never)]
     pub fn fails(&mut self, to: usize) -> Next
         requires some { 0 < length self.old.operands }
         ensures value { (code : Code) → Does (act code (instr.Fails to)) self.old result self.new }
@@ -86,7 +86,7 @@ impl Held {
     }
 
     /// Pops a slot, which is to be defined.
-    #[inline(always)]
+    #[inline(never)]
     pub fn discard(&mut self) -> Next
         requires some { 0 < length self.old.operands }
         ensures value { (code : Code) → Does (act code instr.Discard) self.old result self.new }

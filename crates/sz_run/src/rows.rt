@@ -64,7 +64,7 @@ impl Held {
     }
 
     /// Pops an operand and pushes what the operator makes of it.
-    #[inline(always)]
+    #[inline(never)]
     pub fn unary(&mut self, alloc: Global, op: UnOp) -> Result<Next, NoMemory>
         requires some { 0 < length self.old.operands }
         ensures value { (code : Code) → IfOk result (λ next. Does (act code (instr.Unary op)) self.old next self.new) }
@@ -226,7 +226,7 @@ impl Held {
     }
 
     /// Pops a slot and pushes whether it was defined.
-    #[inline(always)]
+    #[inline(never)]
     pub fn def(&mut self) -> Result<Next, NoMemory>
         requires some { 0 < length self.old.operands }
         ensures value { (code : Code) → IfOk result (λ next. Does (act code instr.Def) self.old next self.new) }

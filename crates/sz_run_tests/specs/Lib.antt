@@ -1,2 +1,3 @@
 -- what the tests rest on
 pub mod Example
+pub mod Sharing

@@ -12,7 +12,7 @@ use sz_run::{RunEnd, StaticsEnd, run, run_statics};
 use sz_types::{NoMemory, Place, TableDecl, TableDecls, TableKind, Text, Ty, Tys};
 use sz_value::{List, Slot, Slots, Value, equal};
 
-fn line(instr: Instr, charge: u32, row: u32, column: u32) -> Line
+pub(crate) fn line(instr: Instr, charge: u32, row: u32, column: u32) -> Line
     ensures value { result ≡ line_of instr charge row column }
 {
     Line {
@@ -75,7 +75,7 @@ fn total(alloc: Global) -> Result<TableDecl, NoMemory>
     })
 }
 
-fn one_table(alloc: Global) -> Result<TableDecls, NoMemory>
+pub(crate) fn one_table(alloc: Global) -> Result<TableDecls, NoMemory>
     ensures value { IfOk result (λ made. made ≡ example.tables) }
 {
     let mut made = TableDecls::new(alloc);

@@ -14,9 +14,7 @@ act_apart-requires c = record {
     no_keep = c.in_default.not-Keep;
     no_clear = c.in_default.not-Clear;
     no_store = c.in_default.not-Store;
-    no_unary = c.in_default.not-Unary;
     no_binary = c.in_default.not-Binary;
-    no_def = c.in_default.not-Def;
     no_tick = c.in_default.not-Tick;
     no_jump = c.in_default.not-Jump;
     no_test = c.in_default.not-Test;
@@ -24,9 +22,6 @@ act_apart-requires c = record {
     no_ortest = c.in_default.not-OrTest;
     no_emit = c.in_default.not-Emit;
     no_endrecord = c.in_default.not-EndRecord;
-    no_discard = c.in_default.not-Discard;
-    no_meets = c.in_default.not-Meets;
-    no_fails = c.in_default.not-Fails;
   });
   covers = c.requires.covers;
 }
@@ -46,20 +41,10 @@ returns-in-Clear c =
     let is : c.args.instr.now ≡ instr.Clear c.in-Clear.n = search rules in
     record { value = λ place a at. rw is (c.clear.ensures.value c.args.code.now place a) }
 
-pub returns-in-Unary : goal.returns-in-Unary
-returns-in-Unary c =
-    let is : c.args.instr.now ≡ instr.Unary c.in-Unary.op = search rules in
-    record { value = IfOk-weaker c.unary.result _ _ (λ next does place a at. rw is (does place a)) (c.unary.ensures.value c.args.code.now) }
-
 pub returns-in-Binary : goal.returns-in-Binary
 returns-in-Binary c =
     let is : c.args.instr.now ≡ instr.Binary c.in-Binary.op = search rules in
     record { value = IfOk-weaker c.binary.result _ _ (λ next does place a at. rw is (does place a)) (c.binary.ensures.value c.args.code.now) }
-
-pub returns-in-Def : goal.returns-in-Def
-returns-in-Def c =
-    let is : c.args.instr.now ≡ instr.Def = search rules in
-    record { value = IfOk-weaker c.def.result _ _ (λ next does place a at. rw is (does place a)) (c.def.ensures.value c.args.code.now) }
 
 pub returns-in-Test : goal.returns-in-Test
 returns-in-Test c =
@@ -75,21 +60,6 @@ pub returns-in-OrTest : goal.returns-in-OrTest
 returns-in-OrTest c =
     let is : c.args.instr.now ≡ instr.OrTest c.in-OrTest.to = search rules in
     record { value = λ place a at. rw is (c.or_test.ensures.value c.args.code.now place a) }
-
-pub returns-in-Discard : goal.returns-in-Discard
-returns-in-Discard c =
-    let is : c.args.instr.now ≡ instr.Discard = search rules in
-    record { value = λ place a at. rw is (c.discard.ensures.value c.args.code.now place a) }
-
-pub returns-in-Meets : goal.returns-in-Meets
-returns-in-Meets c =
-    let is : c.args.instr.now ≡ instr.Meets c.in-Meets.to = search rules in
-    record { value = λ place a at. rw is (c.meets.ensures.value c.args.code.now place a) }
-
-pub returns-in-Fails : goal.returns-in-Fails
-returns-in-Fails c =
-    let is : c.args.instr.now ≡ instr.Fails c.in-Fails.to = search rules in
-    record { value = λ place a at. rw is (c.fails.ensures.value c.args.code.now place a) }
 
 pub returns-in-Emit : goal.returns-in-Emit
 returns-in-Emit c =

@@ -58,3 +58,28 @@ pub returns-in-Leave : goal.returns-in-Leave
 returns-in-Leave c =
     let is : c.args.instr.now ≡ instr.Leave = search rules in
     record { value = λ place a at. rw is (c.leave_search.ensures.value c.args.code.now place a) }
+
+pub returns-in-Unary : goal.returns-in-Unary
+returns-in-Unary c =
+    let is : c.args.instr.now ≡ instr.Unary c.in-Unary.op = search rules in
+    record { value = IfOk-weaker c.unary.result _ _ (λ next does place a at. rw is (does place a)) (c.unary.ensures.value c.args.code.now) }
+
+pub returns-in-Def : goal.returns-in-Def
+returns-in-Def c =
+    let is : c.args.instr.now ≡ instr.Def = search rules in
+    record { value = IfOk-weaker c.def.result _ _ (λ next does place a at. rw is (does place a)) (c.def.ensures.value c.args.code.now) }
+
+pub returns-in-Discard : goal.returns-in-Discard
+returns-in-Discard c =
+    let is : c.args.instr.now ≡ instr.Discard = search rules in
+    record { value = λ place a at. rw is (c.discard.ensures.value c.args.code.now place a) }
+
+pub returns-in-Meets : goal.returns-in-Meets
+returns-in-Meets c =
+    let is : c.args.instr.now ≡ instr.Meets c.in-Meets.to = search rules in
+    record { value = λ place a at. rw is (c.meets.ensures.value c.args.code.now place a) }
+
+pub returns-in-Fails : goal.returns-in-Fails
+returns-in-Fails c =
+    let is : c.args.instr.now ≡ instr.Fails c.in-Fails.to = search rules in
+    record { value = λ place a at. rw is (c.fails.ensures.value c.args.code.now place a) }
