@@ -56,7 +56,6 @@ fn weight_if(by_weight: bool, weight: i64) -> Option<i64>
 }
 
 // The rows of the three sides after the emits, merged in one of three orders.
-#[tactic(auto, using(crate::proofs::TestLemmas::fit_still))]
 fn merged_rows<A: Aggregator + Drop>(
     mut first: A,
     mut second: A,
