@@ -60,3 +60,10 @@ no_tables = (
 pub number_fits : (table : Declaration) (n : ℤ) (w : Option ℤ) → table.element ≡ Shape.int → is_some w ≡ is_some table.weight
     → Fits table (weighted (int n) w)
 number_fits table n w element weight = record { element = (λ i. has_type (int n) (element i)); weight = weight }
+
+-- what fits a table fits the same table
+pub fit_still : (now table : Declaration) (b : Bool) (n w : ℤ) (weight : Option ℤ)
+    → ((n w : ℤ) → Fits table (weighted (int n) (cond b (Some w) None))) → now ≡ table → weight ≡ cond b (Some w) None
+    → Fits now (weighted (int n) weight)
+fit_still now table b n w weight fit same is =
+    subst (λ d. Fits d (weighted (int n) weight)) (sym same) (subst (λ o. Fits table (weighted (int n) o)) (sym is) (fit n w))

@@ -48,6 +48,13 @@ fn small(number: u64) -> i64 {
     (number % 7) as i64 - 3
 }
 
+// The weight, where the table has weights.
+fn weight_if(by_weight: bool, weight: i64) -> Option<i64>
+    ensures value { result ≡ (if by_weight then Some weight else None) }
+{
+    if by_weight { Some(weight) } else { None }
+}
+
 // The rows of the three sides after the emits, merged in one of three orders.
 fn merged_rows<A: Aggregator + Drop>(
     mut first: A,
@@ -67,7 +74,7 @@ fn merged_rows<A: Aggregator + Drop>(
 {
     for (number, weight, side) in dealt {
         let value = Value::Int(*number);
-        let weight = if by_weight { Some(*weight) } else { None };
+        let weight = weight_if(by_weight, *weight);
         match *side {
             0 => first.add(&value, weight)?,
             1 => second.add(&value, weight)?,

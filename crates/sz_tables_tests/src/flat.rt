@@ -119,7 +119,8 @@ fn chain(alloc: Global, height: u64) -> Result<Vec<u8>, NoMemory> {
     Ok(flat)
 }
 
-fn handle_chain(alloc: Global, height: u64) -> Result<bool, NoMemory> {
+fn handle_chain(alloc: Global, height: u32) -> Result<bool, NoMemory> {
+    let height = u64::from(height);
     let flat = chain(alloc, height)?;
     Ok(is_spelled(alloc, &flat, height + 1).unwrap_or(false))
 }

@@ -1,5 +1,5 @@
 //! The text of values, of lines of rows, and of all tables.
-ghost use Rattle.std.specs.Prelude.{◌≡◌, ◌×◌, ◌∷◌, [], ◌<◌, ◌^◌, All, length};
+ghost use Rattle.std.specs.Prelude.{◌≡◌, ◌∷◌, [], ◌<◌, ◌^◌, All, length};
 ghost use Rattle.sz_types.specs.Data.{Shape};
 ghost use Rattle.sz_total.specs.Weights.{HaveTheirWeights};
 

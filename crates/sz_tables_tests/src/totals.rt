@@ -1,5 +1,5 @@
 //! All tables against plain aggregators: emits are drawn, dealt out to three totals, and these are merged in different orders.
-ghost use Rattle.std.specs.Prelude.{◌≡◌, ◌×◌, ◌∷◌, [], ◌≤◌, ◌<◌, ◌+◌, ◌^◌, All, is_some, length, IfOk, OnOk};
+ghost use Rattle.std.specs.Prelude.{◌≡◌, ◌∷◌, [], ◌≤◌, ◌<◌, ◌+◌, ◌^◌, All, is_some, length, IfOk, OnOk};
 ghost use Rattle.sz_types.specs.Data.{Shape};
 ghost use Rattle.sz_types.specs.SeenTables.{seen_table};
 ghost use Rattle.sz_value.specs.Data.{int};
