@@ -1,5 +1,5 @@
 -- The first shard that faults or is lost decides, and the emits of shards are those of all their records.
-use Rattle.std.proofs.Common.{◌≡◌, ℕ, ◌+◌, List, [], ◌∷◌, ◌++◌, length, Bool, true, false, ◌⊎◌, inl, inr, refl, sym, ap, ◌∙◌, subst}
+use Rattle.std.proofs.Common.{◌≡◌, ℕ, ◌+◌, List, [], ◌∷◌, ◌++◌, length, Bool, true, false, inl, inr, refl, sym, ap, ◌∙◌}
 use Rattle.std.specs.Prelude.{if◌then◌else◌}
 use Rattle.sz_tabs.specs.Data.{EmitDatum}
 use Rattle.sz_mean.specs.Records.{Records, Emitted, FaultedAt}
@@ -7,7 +7,7 @@ use Rattle.sz_attempt.specs.declared.job.Job.{Job}
 use Rattle.sz_attempt.specs.Shards.{ShardData}
 use Rattle.sz_attempt.specs.Attempts.{means, shard_means, is_lost, IsLost, HasFault}
 use Rattle.sz_attempt.proofs.ForCallers.{joined, means-append, is_lost_where}
-use Rattle.sz_workers.specs.Outcomes.{ShardsEnd, emitted, faulted, lost, then_shards, outcome_of, Decides, NoneDecides, IsFirst, IsOutcome, FollowFrom, all_records}
+use Rattle.sz_workers.specs.Outcomes.{ShardsEnd, emitted, faulted, lost, then_shards, outcome_of, Decides, IsFirst, IsOutcome, FollowFrom, all_records}
 
 module _ (job : Job) where
   is_not_lost : (shard : ShardData) → is_lost job shard ≡ false → ¬ IsLost job shard

@@ -1,5 +1,5 @@
 -- What comes of shards in parts, and which of them decides.
-use Rattle.std.proofs.Common.{◌≡◌, ℕ, zero, suc, ◌+◌, ◌<◌, ◌≤◌, List, [], ◌∷◌, ◌++◌, length, take, drop, Bool, true, false, Option, Some, None}
+use Rattle.std.proofs.Common.{◌≡◌, ℕ, zero, suc, ◌+◌, ◌<◌, ◌≤◌, List, [], ◌∷◌, ◌++◌, take, drop, Bool, true, false, Option, Some, None}
 use Rattle.std.proofs.Common.{◌⊎◌, inl, inr, refl, sym, ap, ◌∙◌, subst, arith, append_assoc}
 use Rattle.std.specs.Prelude.{slice_get, if◌then◌else◌, ◌&&◌}
 use Rattle.sz_tabs.specs.Data.{EmitDatum}
@@ -7,7 +7,7 @@ use Rattle.sz_world.specs.World.{Fault}
 use Rattle.sz_mean.specs.Records.{Records, Emitted, FaultedAt}
 use Rattle.sz_attempt.specs.declared.job.Job.{Job}
 use Rattle.sz_attempt.specs.Shards.{ShardData}
-use Rattle.sz_attempt.specs.Attempts.{End, gives, faults, dies, least_of, living_end, end_by, shard_means, deaths_of, end_of, dies_at, all_die, is_lost}
+use Rattle.sz_attempt.specs.Attempts.{gives, faults, dies, least_of, end_by, shard_means, deaths_of, end_of, dies_at, all_die, is_lost}
 use Rattle.sz_workers.specs.Outcomes.{ShardsEnd, emitted, faulted, lost, behind_front, then_shards, outcome_of, then_outcome}
 
 behind_nothing : (e : ShardsEnd) → e ≡ behind_front [] e

@@ -1,13 +1,11 @@
 -- What the events of one thread change in the ledger.
-use Rattle.std.proofs.Common.{◌≡◌, ℕ, zero, suc, ◌+◌, ◌<◌, ◌≤◌, List, [], length, Bool, true, false, Option, Some, None, refl, sym, ap, ◌∙◌, subst, arith}
+use Rattle.std.proofs.Common.{◌≡◌, ℕ, ◌+◌, ◌<◌, ◌≤◌, length, Bool, true, false, Option, Some, None, refl, sym, ap, ◌∙◌, subst, arith}
 use Rattle.std.specs.Prelude.{nat_lt, slice_index, slice_set, if◌then◌else◌, bit_or, ◌^◌}
 use Rattle.std.proofs.lemmas.Bool.Decides.{nat_tests}
-use Rattle.sz_book.specs.Plan.{PlanData, count_of}
-use Rattle.sz_book.specs.Machine.{LedgerState, claim_of, after, draw_reply, number_reply}
+use Rattle.sz_book.specs.Machine.{claim_of}
 use Rattle.sz_book.specs.Cores.{CoreData, Takes}
 use Rattle.sz_book.specs.declared.plan.Claim.{Claim}
-use Rattle.sz_book.specs.declared.event.Event.TheVariants.{Draw, Number, Died, Settle}
-use Rattle.sz_book.specs.declared.event.Reply.{Reply}
+use Rattle.sz_book.specs.declared.event.Event.TheVariants.{Draw, Number, Died}
 use Rattle.sz_book.specs.declared.event.Reply.TheVariants.{Ticket, Number as Numbered, Noted}
 
 is_less : (a b : ℕ) → a < b → nat_lt a b ≡ true

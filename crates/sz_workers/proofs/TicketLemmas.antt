@@ -1,7 +1,7 @@
 -- How a round begins, draws its tickets, and ends.
-use Rattle.std.proofs.Common.{◌≡◌, ℕ, zero, suc, ◌+◌, ◌<◌, ◌≤◌, List, [], ◌∷◌, ◌++◌, length, take, replicate, Option, Some, None}
+use Rattle.std.proofs.Common.{◌≡◌, ℕ, zero, suc, ◌+◌, ◌<◌, ◌≤◌, List, [], ◌∷◌, length, take, replicate, Option, Some, None}
 use Rattle.std.proofs.Common.{◌⊎◌, inl, inr, refl, sym, ap, ◌∙◌, subst, arith}
-use Rattle.std.specs.Prelude.{slice_get, slice_index}
+use Rattle.std.specs.Prelude.{slice_index}
 use Rattle.std.proofs.lemmas.List.{length-replicate}
 use Rattle.sz_core.specs.Programs.{tables_of}
 use Rattle.sz_tabs.specs.Data.{EmitDatum}
@@ -19,10 +19,10 @@ use Rattle.sz_book.specs.declared.event.Reply.TheVariants as replies
 use Rattle.sz_workers.specs.declared.progress.Progress.{Progress}
 use Rattle.sz_workers.specs.declared.round.Round.{Round}
 use Rattle.sz_workers.specs.declared.round.RoundEnd.{RoundEnd}
-use Rattle.sz_workers.specs.Outcomes.{ShardsEnd, emitted, outcome_of}
+use Rattle.sz_workers.specs.Outcomes.{emitted, outcome_of}
 use Rattle.sz_workers.specs.Rounds.{shards_of}
 use Rattle.sz_workers.specs.Tickets.{AllBelow, IsPlanOf}
-use Rattle.sz_workers.specs.Running.{Stands, IsUnderWay, AllDone, IsClaim, Keeps, Counted, ClaimEnds, TicketEnds}
+use Rattle.sz_workers.specs.Running.{IsUnderWay, AllDone, IsClaim, Counted, ClaimEnds, TicketEnds}
 use Rattle.sz_workers.proofs.RoundLemmas.{length-numbered}
 use Rattle.sz_workers.proofs.StepLemmas.{Drawn, finds_ticket}
 
@@ -98,23 +98,27 @@ module _ (job : Job) (round : Round) where
     pub draws : (core : CoreData) (found : Option Claim) → Takes x.core events.Draw (replies.Ticket found) core
         → (c : Claim) × (found ≡ Some c) × IsUnderWay job round (record x { core = core }) × IsClaim round (record x { core = core }) c × Drawn x.core c core
     draws core found takes =
-        let h = finds_ticket x.core core found left takes in
-        (h.0, h.1,
-        subst (λ q. IsUnderWay job round (record x { core = q })) (sym h.2.leaves) way_drawn,
-        subst (λ q. IsClaim round (record x { core = q }) h.0) (sym h.2.leaves)
-        (subst (IsClaim round drawn_more) (sym h.2.claim) claim_drawn),
-        h.2)
+        let h = finds_ticket x.core core found left takes in (
+          h.0,
+          h.1,
+          subst (λ q. IsUnderWay job round (record x { core = q })) (sym h.2.leaves) way_drawn,
+          subst (λ q. IsClaim round (record x { core = q }) h.0) (sym h.2.leaves)
+              (subst (IsClaim round drawn_more) (sym h.2.claim) claim_drawn),
+          h.2,
+        )
 
     -- and then its shard is won
     pub ticket_done : (core : CoreData) (c : Claim) (new : Progress) → Drawn x.core c core → Counted job round (record x { core = core }) c new
         → IsUnderWay job round new × AllDone new × (new.core.plan ≡ x.core.plan) × (new.core.state.drawn ≡ x.core.state.drawn + 1)
     ticket_done core c new drawn counted =
         let plan : new.core.plan ≡ x.core.plan = counted.keeps.plan ∙ ap (λ (q : CoreData). q.plan) drawn.leaves in
-        let more : new.core.state.drawn ≡ x.core.state.drawn + 1 = counted.keeps.drawn ∙ ap (λ (q : CoreData). q.state.drawn) drawn.leaves in
-        (counted.under_way,
-        subst (λ p. AllBelow p.tickets new.core.state.drawn new.won) (sym plan)
-        (λ t less. by t (order t x.core.state.drawn) (omega (arith, less, more))),
-        plan, more)
+        let more : new.core.state.drawn ≡ x.core.state.drawn + 1 = counted.keeps.drawn ∙ ap (λ (q : CoreData). q.state.drawn) drawn.leaves in (
+          counted.under_way,
+          subst (λ p. AllBelow p.tickets new.core.state.drawn new.won) (sym plan)
+              (λ t less. by t (order t x.core.state.drawn) (omega (arith, less, more))),
+          plan,
+          more,
+        )
       where
         order : (a b : ℕ) → (a ≡ b) ⊎ ((a < b) ⊎ (b < a))
         order a b = grind arith
@@ -136,7 +140,8 @@ module _ (job : Job) (round : Round) where
   pub ends : (x : Progress) → IsUnderWay job round x → AllDone x → length x.core.plan.tickets ≤ x.core.state.drawn
       → (es : List EmitDatum) × (outcome_of job (shards_of round) ≡ emitted es) × StandForEmits job.compiled x.total es
   ends x way done all =
-      let won = way.plan.last x.won (λ t less. done t (omega (arith, less, all))) in
-      (way.stands.emits,
-      ap (outcome_of job) (sym (take_all (shards_of round) x.won (omega (arith, won, way.plan.shards, long)))) ∙ way.stands.front,
-      way.stands.total)
+      let won = way.plan.last x.won (λ t less. done t (omega (arith, less, all))) in (
+        way.stands.emits,
+        ap (outcome_of job) (sym (take_all (shards_of round) x.won (omega (arith, won, way.plan.shards, long)))) ∙ way.stands.front,
+        way.stands.total,
+      )

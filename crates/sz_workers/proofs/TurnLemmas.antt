@@ -1,5 +1,5 @@
 -- What a turn of a ticket makes of a round.
-use Rattle.std.proofs.Common.{◌≡◌, ℕ, zero, suc, ◌+◌, ◌<◌, ◌≤◌, ◌^◌, List, [], ◌∷◌, ◌++◌, length, take, set, get_or, Bool, true, false, Option, Some, None, eqb}
+use Rattle.std.proofs.Common.{◌≡◌, ℕ, ◌+◌, ◌<◌, ◌≤◌, ◌^◌, List, ◌++◌, length, take, true, false, Some, None}
 use Rattle.std.proofs.Common.{◌⊎◌, inl, inr, refl, sym, ap, ◌∙◌, subst, arith, length-append}
 use Rattle.std.specs.Prelude.{slice_get, slice_index, slice_set, ◌==◌, if◌then◌else◌, bit_or}
 use Rattle.std.proofs.lemmas.List.{length-set, get_or-set_same, get_or-set_other}
@@ -7,14 +7,13 @@ use Rattle.std.proofs.lemmas.Bool.Decides.{nat_tests}
 use Rattle.sz_tabs.specs.Data.{EmitDatum}
 use Rattle.sz_mean.specs.Records.{Records, Emitted, FaultedAt}
 use Rattle.sz_world.specs.World.{Fault}
-use Rattle.sz_run.specs.Ends.{seen_fault}
 use Rattle.sz_attempt.specs.declared.job.Job.{Job}
 use Rattle.sz_attempt.specs.Shards.{ShardData, IsJob}
-use Rattle.sz_attempt.specs.Attempts.{End, gives, faults, dies, end_of, dies_at, all_die, is_lost, shard_means}
+use Rattle.sz_attempt.specs.Attempts.{gives, faults, dies, end_of, dies_at, all_die, shard_means}
 use Rattle.sz_attempt.specs.Ends.{StandForEmits}
 use Rattle.sz_total.specs.States.{TotalState, declarations, emit_count, shown}
-use Rattle.sz_total.specs.Totals.{StandsFor, Joins}
-use Rattle.sz_book.specs.Machine.{LedgerState, IsDrawn, IsTried, after}
+use Rattle.sz_total.specs.Totals.{Joins}
+use Rattle.sz_book.specs.Machine.{LedgerState, IsDrawn}
 use Rattle.sz_book.specs.Cores.{CoreData, Takes}
 use Rattle.sz_book.specs.declared.plan.Claim.{Claim}
 use Rattle.sz_book.specs.declared.event.Event.TheVariants as events
@@ -23,12 +22,11 @@ use Rattle.sz_workers.specs.declared.progress.Progress.{Progress}
 use Rattle.sz_workers.specs.declared.round.Round.{Round}
 use Rattle.sz_workers.specs.Outcomes.{emitted, faulted, lost, outcome_of}
 use Rattle.sz_workers.specs.Rounds.{shards_of, IsRound}
-use Rattle.sz_workers.specs.Tickets.{IsPlanOf}
 use Rattle.sz_workers.specs.Running.{Settles, Stands, IsUnderWay, IsClaim, IsTrying, Keeps, Counted, AsksAgain}
 use Rattle.sz_workers.proofs.OutcomeLemmas.{lost_at, faulted_at, more_at, clean_in_front, gives_means, faults_means, not_all, one_more_died, fewer_died}
 use Rattle.sz_workers.proofs.CountLemmas.{few_in_front}
 use Rattle.sz_workers.proofs.RoundLemmas.{same_there}
-use Rattle.sz_workers.proofs.StepLemmas.{GaveNumber, GaveAll, gave_number, gave_all, noted}
+use Rattle.sz_workers.proofs.StepLemmas.{gave_number, gave_all, noted}
 
 set_same : (xs : List ℕ) (i x : ℕ) → i < length xs → slice_index (slice_set xs i x) i ≡ x
 set_same xs i x less = get_or-set_same xs i x 0 less

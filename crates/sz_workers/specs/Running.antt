@@ -4,7 +4,7 @@ use Rattle.sz_tabs.specs.Data.{EmitDatum}
 use Rattle.sz_attempt.specs.declared.job.Job.{Job}
 use Rattle.sz_attempt.specs.declared.ends.AttemptEnd.{AttemptEnd}
 use Rattle.sz_attempt.specs.Shards.{ShardData}
-use Rattle.sz_attempt.specs.Attempts.{End, gives, end_of, all_die}
+use Rattle.sz_attempt.specs.Attempts.{gives, end_of, all_die}
 use Rattle.sz_attempt.specs.Ends.{StandForEmits, EndsSo}
 use Rattle.sz_total.specs.States.{TotalState}
 use Rattle.sz_book.specs.Machine.{IsDrawn, IsTried, after}

@@ -22,12 +22,7 @@ pub(crate) fn plan_of(alloc: Global, job: &Job, round: &Round) -> Result<Plan, N
 }
 
 // The tickets of so many shards, of which the first has this number.
-fn tickets_of(
-    alloc: Global,
-    twice: &[u32],
-    first: u64,
-    shards: usize,
-) -> Result<Tickets, NoMemory>
+fn tickets_of(alloc: Global, twice: &[u32], first: u64, shards: usize) -> Result<Tickets, NoMemory>
     requires few { shards ≤ 4096 }
     requires numbers { first + shards ≤ 2 ^ 31 + 1 }
     ensures value { IfOk result (λ tickets. AreTickets shards tickets) }

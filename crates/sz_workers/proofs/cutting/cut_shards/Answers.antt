@@ -1,4 +1,4 @@
-use Rattle.sz_workers.proofs.CutLemmas.{cut_none, cut_more, cut_all}
+use Rattle.sz_workers.proofs.CutLemmas.{cut_more, cut_all}
 use Rattle.sz_workers.proofs.cutting.cut_shards.Goals as goal
 
 -- one shard more

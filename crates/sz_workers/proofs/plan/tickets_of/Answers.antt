@@ -1,4 +1,3 @@
-use Rattle.std.proofs.Common.{◌+◌}
 use Rattle.sz_workers.proofs.PlanLemmas.{shard_more}
 use Rattle.sz_workers.proofs.plan.tickets_of.Goals as goal
 

@@ -1,7 +1,6 @@
-use Rattle.std.proofs.Common.{◌+◌, ap, sym, subst}
-use Rattle.std.specs.Prelude.{IfOk}
+use Rattle.std.proofs.Common.{◌+◌, ap, subst}
 use Rattle.std.proofs.lemmas.Result.{IfOk-weaker}
-use Rattle.sz_attempt.specs.Shards.{ShardData, shard_at}
+use Rattle.sz_attempt.specs.Shards.{shard_at}
 use Rattle.sz_attempt.specs.Attempts.{end_of}
 use Rattle.sz_attempt.specs.Ends.{EndsSo}
 use Rattle.sz_workers.specs.Running.{IsEndOf}
@@ -19,7 +18,10 @@ returns g c =
       value = IfOk-weaker c.attempt.result
           (EndsSo c.args.job.now.compiled (end_of c.args.job.now (shard_at (round.first_shard + c.from.result) round.records c.get-shard.result.now) c.args.number))
           (IsEndOf c.args.job.now round claim.shard c.args.number)
-          (λ end is. (shard_at (round.first_shard + claim.shard) round.records c.get-shard.result.now, there,
-          subst (λ n. EndsSo c.args.job.now.compiled (end_of c.args.job.now (shard_at n round.records c.get-shard.result.now) c.args.number) end) number is))
+          (λ end is. (
+            shard_at (round.first_shard + claim.shard) round.records c.get-shard.result.now,
+            there,
+            subst (λ n. EndsSo c.args.job.now.compiled (end_of c.args.job.now (shard_at n round.records c.get-shard.result.now) c.args.number) end) number is,
+          ))
           c.attempt.ensures.value;
     }

@@ -1,4 +1,4 @@
-use Rattle.std.proofs.Common.{◌+◌, length, refl, sym, ap, subst, ◌∙◌, arith}
+use Rattle.std.proofs.Common.{◌+◌, length, sym, ap, subst, ◌∙◌, arith}
 use Rattle.sz_book.specs.Cores.{CoreData}
 use Rattle.sz_book.specs.Plan.{PlanData}
 use Rattle.sz_total.specs.Totals.{IsNew}

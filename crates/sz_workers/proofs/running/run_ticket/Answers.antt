@@ -1,4 +1,4 @@
-use Rattle.std.proofs.Common.{◌≡◌, ℕ, Option, Some, refl, sym, subst, ◌∙◌}
+use Rattle.std.proofs.Common.{◌≡◌, Option, Some, subst}
 use Rattle.sz_book.specs.declared.plan.Claim.{Claim}
 use Rattle.sz_workers.specs.Running.{IsClaim}
 use Rattle.sz_workers.proofs.TicketLemmas.{draws}

@@ -1,5 +1,4 @@
-use Rattle.std.proofs.Common.{sym, ap, subst, ◌∙◌}
-use Rattle.sz_run.specs.Ends.{seen_fault}
+use Rattle.std.proofs.Common.{subst}
 use Rattle.sz_workers.specs.Running.{IsEndOf}
 use Rattle.sz_workers.proofs.TurnLemmas.{again, faulted_then}
 use Rattle.sz_workers.proofs.running.take_end.Goals as goal

@@ -1,7 +1,7 @@
-use Rattle.std.proofs.Common.{◌+◌, sym, subst, refl}
+use Rattle.std.proofs.Common.{◌+◌, subst, refl}
 use Rattle.std.specs.Prelude.{OnOk}
 use Rattle.sz_workers.specs.Running.{Settles, Counted}
-use Rattle.sz_workers.proofs.TurnLemmas.{has_room, counted_won, counted_late}
+use Rattle.sz_workers.proofs.TurnLemmas.{has_room, counted_won}
 use Rattle.sz_workers.proofs.running.take_part.Goals.{in-Ok, in-Err}
 use Rattle.sz_workers.proofs.running.take_part.Goals as goal
 
@@ -20,9 +20,9 @@ returns-then-branch c =
     let first = subst (λ b. Settles c.args.progress.now.core c.args.claim.now c.args.number b c.settle.new.core) c.if-branch.true c.in_ok-settle.ensures.value in
     record {
       value = elim c.match-merge.branch as (λ _. OnOk c.match-merge.result (Counted c.args.job.now c.args.round.now c.args.progress.now c.args.claim.now c.match-merge.progress)) [
-        in-Ok w ↦ rw (w.result-is, w.progress-is) (counted_won c.args.job.now c.args.round.now c.args.progress.now c.args.claim.now c.args.number
-        c.requires.trying gave.0 gave.1 c.args.part gave.2.0 gave.2.1 gave.2.2 c.settle.new.core c.merge.new.self (c.args.progress.now.won + 1) first
-        w.in-Ok.ensures.ok refl)
-      | in-Err w ↦ rw w.result-is tt
+        | in-Ok w ↦ rw (w.result-is, w.progress-is) (counted_won c.args.job.now c.args.round.now c.args.progress.now c.args.claim.now c.args.number
+            c.requires.trying gave.0 gave.1 c.args.part gave.2.0 gave.2.1 gave.2.2 c.settle.new.core c.merge.new.self (c.args.progress.now.won + 1) first
+            w.in-Ok.ensures.ok refl)
+        | in-Err w ↦ rw w.result-is tt
       ];
     }
