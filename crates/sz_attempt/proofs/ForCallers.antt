@@ -2,3 +2,4 @@
 pub use Rattle.sz_attempt.proofs.MeansLemmas.{joined, means-append, few_emits}
 pub use Rattle.sz_attempt.proofs.WeightLemmas.{have_their_weights}
 pub use Rattle.sz_attempt.proofs.ListedLemmas.{died_after, dies_by, lives_else, has_died, dies_where_died, all_died, died_all, is_lost_where}
+pub use Rattle.sz_attempt.proofs.RunLemmas.{length_of_range}
