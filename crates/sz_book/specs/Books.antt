@@ -1,7 +1,6 @@
 -- What a lock round a held ledger keeps, and what the calls of a book say.
-use Rattle.std.specs.Prelude.{◌≡◌, ◌⊎◌, ℕ, ◌+◌, ◌^◌, ◌<◌, ◌≤◌, true, false, List, [], ◌∷◌, ◌++◌, length, slice_index, slice_index_or, slice_set, Option, Some, None}
-use Rattle.std.specs.Int.{bit_at}
-use Rattle.sz_book.specs.Plan.{PlanData, IsPlan, count_of}
+use Rattle.std.specs.Prelude.{◌≡◌, ◌⊎◌, ℕ, ◌<◌, ◌≤◌, true, false, List, [], ◌∷◌, ◌++◌, length, slice_index, slice_index_or, slice_set, Option, Some, None}
+use Rattle.sz_book.specs.Plan.{PlanData, count_of}
 use Rattle.sz_book.specs.declared.plan.Claim.{Claim}
 use Rattle.sz_book.specs.declared.event.Event.{Event}
 use Rattle.sz_book.specs.declared.event.Event.TheVariants.{Draw, Number, Died, Settle, LaneOut, LaneBack, Bad}

@@ -1,8 +1,5 @@
-use Rattle.std.proofs.Common.{◌≡◌, ◌==◌, ◌∙◌, true, None, sym, subst, ap, set}
-use Rattle.std.specs.Prelude.{slice_index}
+use Rattle.std.proofs.Common.{◌∙◌, true, sym, ap}
 use Rattle.sz_book.specs.declared.event.Reply.TheVariants.{Lane}
-use Rattle.sz_book.specs.Machine.{LedgerState}
-use Rattle.sz_book.specs.Books.{AreInPlace}
 use Rattle.sz_book.proofs.ShelfLemmas.{home_by, in_place_lent}
 use Rattle.sz_book.proofs.shelf.Shelf.lend.Goals as goal
 

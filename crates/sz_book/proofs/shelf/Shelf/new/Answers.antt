@@ -1,4 +1,4 @@
-use Rattle.std.proofs.Common.{◌∙◌, arith, ap, length, map, Some}
+use Rattle.std.proofs.Common.{◌∙◌, arith, ap, length, Some}
 use Rattle.std.proofs.lemmas.List.{length-map}
 use Rattle.sz_book.specs.Lanes.{LaneData}
 use Rattle.sz_book.proofs.ShelfLemmas.{in_place_open}
