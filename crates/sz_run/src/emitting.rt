@@ -13,8 +13,9 @@ ghost use Rattle.sz_run.specs.Emitting.{emits_parts, emits_on_top};
 
 use crate::held::{BUDGET_PASSED, Held, Next, again};
 use std::alloc::Global;
+use std::mem;
 use sz_cells::Cell;
-use sz_tabs::Emit;
+use sz_tabs::{Emit, Emits};
 use sz_value::{List, NoMemory, Value, weight};
 
 impl Held {
@@ -87,7 +88,8 @@ impl Held {
         }
     }
 
-    // Emits a whole number, which weighs one tick.
+    // Emits a whole number, which weighs one tick. The vector behind the list is taken out for the push, which then stands in line: the
+    // emit is written where it stays, and not copied there.
     #[inline(always)]
     fn emit_number(&mut self, alloc: Global, table: u32, number: i64) -> Result<Next, NoMemory>
         ensures value { IfOk result (λ next. Does (emits_parts table (Some []) (Some (int number)) None) self.old next self.new) }
@@ -95,12 +97,14 @@ impl Held {
         if !self.pay(1) {
             return Ok(Next::Fault(BUDGET_PASSED));
         }
-        self.emits.push(Emit {
+        let mut emits = mem::replace(&mut self.emits, Emits::new(alloc)).into_vec();
+        emits.push(Emit {
             table,
             indexes: List::new(alloc),
             value: Value::Int(number),
             weight: None,
         })?;
+        self.emits = Emits::from_vec(emits);
         Ok(Next::On)
     }
 
