@@ -18,7 +18,7 @@ use Rattle.sz_tabs.specs.Rows.{compare_indexes, brought_by, brought_to, rows_of}
 use Rattle.sz_tabs.specs.Sorting.{distinct}
 use Rattle.sz_tabs.proofs.ForCallers.{rows_decide, brought_there, brought_elsewhere, no_rows}
 use Rattle.sz_total.specs.Tables.{indexes_to, table_rows}
-use Rattle.sz_total.specs.Aggregates.{declaration_of, count_of, shown_of}
+use Rattle.sz_total.specs.Aggregates.{declaration_of, count_of, shown_of, family_of, family_for}
 use Rattle.sz_total.specs.Held.{Held, same_indexes, rows_held, rows_in_order, IsHeld, AreHeld, TakesEmit}
 use Rattle.sz_total.specs.Laws.{indexes_shown}
 use Rattle.sz_total.specs.declared.aggregate.Aggregate.{Aggregate}
@@ -36,6 +36,16 @@ rows_of_held held indexes = all_rows_for (rows_held held) (keys_of held) none in
     none : (others : List Datum) → is_among others (keys_of held) ≡ false → rows_held held others ≡ []
     none others not_there = by_found (lookup (same_indexes others) held) (is_some-lookup (same_indexes others) held ∙ not_there)
 
+-- what an equation of rows says of each index list, and which index lists there are
+module _ (table : ℕ) (declaration : Declaration) (emits : List EmitDatum) (held : Held) (are : rows_in_order held ≡ table_rows table declaration emits) where
+  pub rows_stand : (indexes : List Datum) → rows_held held indexes ≡ rows_of declaration (brought_to table indexes emits)
+  rows_stand indexes = sym (rows_of_held held indexes) ∙ ap (λ rows. rows_among rows indexes) are ∙ rows_of_table table declaration emits indexes
+
+  pub lists_stand : distinct compare_indexes (keys_of held) ≡ distinct compare_indexes (indexes_to table emits)
+  lists_stand =
+      sym (indexes_for (rows_held held) (distinct compare_indexes (keys_of held))) ∙ ap indexes_shown are
+      ∙ indexes_for (λ indexes. rows_of declaration (brought_to table indexes emits)) (distinct compare_indexes (indexes_to table emits))
+
 -- where the aggregators took an emit, the rows are those of one emit more
 pub rows_with_emit : (table : ℕ) (declaration : Declaration) (emits : List EmitDatum) (emit : EmitDatum) (old new : Held) → emit.table ≡ table
     → TakesEmit declaration emit old new → rows_in_order old ≡ table_rows table declaration emits
@@ -46,18 +56,10 @@ rows_with_emit table declaration emits emit old new here takes before =
     went : nat_eq emit.table table ≡ true
     went = eq-eqb emit.table table here
 
-    -- what the equation of rows says of each index list
-    stood : (indexes : List Datum) → rows_held old indexes ≡ rows_of declaration (brought_to table indexes emits)
-    stood indexes = sym (rows_of_held old indexes) ∙ ap (λ rows. rows_among rows indexes) before ∙ rows_of_table table declaration emits indexes
-
-    old_lists : distinct compare_indexes (keys_of old) ≡ distinct compare_indexes (indexes_to table emits)
-    old_lists =
-        sym (indexes_for (rows_held old) (distinct compare_indexes (keys_of old))) ∙ ap indexes_shown before
-        ∙ indexes_for (λ indexes. rows_of declaration (brought_to table indexes emits)) (distinct compare_indexes (indexes_to table emits))
-
     lists : distinct compare_indexes (keys_of new) ≡ distinct compare_indexes (indexes_to table (emits ++ emit ∷ []))
     lists =
-        takes.indexes ∙ ap (λ l. insert_key compare_indexes l emit.indexes) old_lists ∙ sym (distinct_of_more (indexes_to table emits) emit.indexes)
+        takes.indexes ∙ ap (λ l. insert_key compare_indexes l emit.indexes) (lists_stand table declaration emits old before)
+        ∙ sym (distinct_of_more (indexes_to table emits) emit.indexes)
         ∙ ap (distinct compare_indexes) (sym (indexes_of_more table emits emit went))
 
     under : (indexes : List Datum) → rows_held new indexes ≡ rows_of declaration (brought_to table indexes (emits ++ emit ∷ []))
@@ -67,12 +69,12 @@ rows_with_emit table declaration emits emit old new here takes before =
             → rows_held new indexes ≡ rows_of declaration (brought_to table indexes (emits ++ emit ∷ []))
         by_test true same =
             let is = same_is emit.indexes indexes same in
-            ap (rows_held new) (sym is) ∙ takes.rows (brought_to table emit.indexes emits) (stood emit.indexes)
+            ap (rows_held new) (sym is) ∙ takes.rows (brought_to table emit.indexes emits) (rows_stand table declaration emits old before emit.indexes)
             ∙ ap (λ l. rows_of declaration (brought_to table l emits ++ brought_by emit ∷ [])) is
             ∙ ap (rows_of declaration)
             (sym (brought_there table indexes emits emit (λ i. went i && same i)))
         by_test false same =
-            takes.others indexes same ∙ stood indexes
+            takes.others indexes same ∙ rows_stand table declaration emits old before indexes
             ∙ ap (rows_of declaration) (sym (brought_elsewhere table indexes emits emit (λ i. went i && same i)))
 
 -- the rows of an aggregator that stands for some list are those of one emit more, for every list with the same rows
@@ -86,22 +88,39 @@ gained table old new emit emits others declared gains stands shown =
 
 -- an aggregator that takes an emit is one of the table
 held_more : (table : Declaration) (count : ℕ) (old new : Aggregate) (emit : Weighted) → IsHeld table count old
-    → Gains declaration_of count_of shown_of old new emit → IsHeld table (count + 1) new
-held_more table count old new emit held gains = record {
+    → Gains declaration_of count_of shown_of old new emit → family_of new ≡ family_of old → IsHeld table (count + 1) new
+held_more table count old new emit held gains family = record {
   declared = gains.same_table ∙ held.declared;
+  family = family ∙ held.family;
   few = omega (arith, held.few, gains.one_more);
   emits = held.emits ++ emit ∷ [];
   stands = gains.appended held.emits held.stands;
 }
 
 -- a new one is one of the table
-pub held_new : (table : Declaration) (a : Aggregate) → IsNew declaration_of count_of shown_of table a → IsHeld table 0 a
-held_new table a new = record { declared = new.declared; few = omega (arith, new.empty.counted); emits = []; stands = new.empty }
+pub held_new : (table : Declaration) (a : Aggregate) → IsNew declaration_of count_of shown_of table a → family_of a ≡ family_for table.kind
+    → IsHeld table 0 a
+held_new table a new family = record {
+  declared = new.declared;
+  family = family;
+  few = omega (arith, new.empty.counted);
+  emits = [];
+  stands = new.empty;
+}
 
-held_longer : (table : Declaration) (few many : ℕ) → few ≤ many → (held : Held) → AreHeld table few held → AreHeld table many held
+longer_one : (table : Declaration) (few many : ℕ) → few ≤ many → (a : Aggregate) → IsHeld table few a → IsHeld table many a
+longer_one table few many more a is = record {
+  declared = is.declared;
+  family = is.family;
+  few = omega (arith, is.few, more);
+  emits = is.emits;
+  stands = is.stands;
+}
+
+pub held_longer : (table : Declaration) (few many : ℕ) → few ≤ many → (held : Held) → AreHeld table few held → AreHeld table many held
 held_longer table few many more held =
     All-weaker (IsHeld table few) (IsHeld table many)
-    (λ a is. record { declared = is.declared; few = omega (arith, is.few, more); emits = is.emits; stands = is.stands }) (values_of held)
+    (λ a is. longer_one table few many more a is) (values_of held)
 
 -- an aggregator that is found is one of the table
 pub held_there : (table : Declaration) (count : ℕ) (indexes : List Datum) (held : Held) (a : Aggregate) → AreHeld table count held
@@ -109,17 +128,22 @@ pub held_there : (table : Declaration) (count : ℕ) (indexes : List Datum) (hel
 held_there table count indexes held a are there =
     subst (λ found. IfSome found (IsHeld table count)) there (IfSome-lookup_from_All (IsHeld table count) (same_indexes indexes) held are)
 
+-- what is found where one aggregator was replaced
+pub found_replaced : (indexes others : List Datum) (held : Held) (old new : Aggregate) → lookup (same_indexes indexes) held ≡ Some old
+    → lookup (same_indexes others) (set_value (same_indexes indexes) held new)
+    ≡ cond (same_indexes indexes others) (Some new) (lookup (same_indexes others) held)
+found_replaced indexes others held old new there =
+    lookup-set_value same_laws (same_indexes indexes) (λ x y same. same_laws.congr indexes x y same) others new held (ap is_some there)
+
 -- an aggregator that is there takes the emit
 module _ (table : Declaration) (emit : EmitDatum) (held : Held) (old new : Aggregate) (there : lookup (same_indexes emit.indexes) held ≡ Some old)
-    (gains : Gains declaration_of count_of shown_of old new (brought_by emit)) where
+    (gains : Gains declaration_of count_of shown_of old new (brought_by emit)) (family : family_of new ≡ family_of old) where
   abbrev set_now : Held
   set_now = set_value (same_indexes emit.indexes) held new
 
   found_now : (indexes : List Datum) → rows_held set_now indexes
       ≡ option_map_or shown_of (cond (same_indexes emit.indexes indexes) (Some new) (lookup (same_indexes indexes) held)) []
-  found_now indexes =
-      ap (λ found. option_map_or shown_of found [])
-      (lookup-set_value same_laws (same_indexes emit.indexes) (λ x y same. same_laws.congr emit.indexes x y same) indexes new held (ap is_some there))
+  found_now indexes = ap (λ found. option_map_or shown_of found []) (found_replaced emit.indexes indexes held old new there)
 
   pub taken_there : (count : ℕ) → AreHeld table count held → TakesEmit table emit held set_now
   taken_there count are = record {
@@ -136,16 +160,16 @@ module _ (table : Declaration) (emit : EmitDatum) (held : Held) (old new : Aggre
         found_now indexes ∙ ap (λ b. option_map_or shown_of (cond b (Some new) (lookup (same_indexes indexes) held)) []) other;
     held = λ most all.
         All-values-set_value (same_indexes emit.indexes) (IsHeld table (most + 1)) held new (held_longer table most (most + 1) (omega arith) held all)
-        (held_more table most old new (brought_by emit) (held_there table most emit.indexes held old all there) gains);
+        (held_more table most old new (brought_by emit) (held_there table most emit.indexes held old all there) gains family);
   }
 
 -- look-ups in front of one entry more
-found_in_front : (test : List Datum → Bool) (held : Held) (k : List Datum) (a : Aggregate) → test k ≡ false
+pub found_in_front : (test : List Datum → Bool) (held : Held) (k : List Datum) (a : Aggregate) → test k ≡ false
     → lookup test (held ++ (k, a) ∷ []) ≡ lookup test held
 found_in_front test [] k a other = ap (λ b. cond b (Some a) None) other
 found_in_front test (h ∷ hs) k a other = ap (cond (test h.0) (Some h.1)) (found_in_front test hs k a other)
 
-found_last : (test : List Datum → Bool) (held : Held) (k : List Datum) (a : Aggregate) → test k ≡ true → lookup test held ≡ None
+pub found_last : (test : List Datum → Bool) (held : Held) (k : List Datum) (a : Aggregate) → test k ≡ true → lookup test held ≡ None
     → lookup test (held ++ (k, a) ∷ []) ≡ Some a
 found_last test [] k a same none = ap (λ b. cond b (Some a) None) same
 found_last test (h ∷ hs) k a same none = by_test (test h.0) none (found_last test hs k a same)
@@ -157,7 +181,8 @@ found_last test (h ∷ hs) k a same none = by_test (test h.0) none (found_last t
 
 -- a new aggregator takes the emit, and stands behind the others
 module _ (table : Declaration) (emit : EmitDatum) (held : Held) (old new : Aggregate) (none : lookup (same_indexes emit.indexes) held ≡ None)
-    (is_new : IsNew declaration_of count_of shown_of table old) (gains : Gains declaration_of count_of shown_of old new (brought_by emit)) where
+    (is_new : IsNew declaration_of count_of shown_of table old) (is_of : family_of old ≡ family_for table.kind)
+    (gains : Gains declaration_of count_of shown_of old new (brought_by emit)) (family : family_of new ≡ family_of old) where
   pub taken_new : TakesEmit table emit held (held ++ (emit.indexes, new) ∷ [])
   taken_new = record {
     indexes =
@@ -173,8 +198,5 @@ module _ (table : Declaration) (emit : EmitDatum) (held : Held) (old new : Aggre
     held = λ most all.
         subst (All (IsHeld table (most + 1))) (sym (map-append (λ (p : List Datum × Aggregate). p.1) held ((emit.indexes, new) ∷ [])))
         (All-push (IsHeld table (most + 1)) (values_of held) new (held_longer table most (most + 1) (omega arith) held all)
-        (held_one most (held_more table 0 old new (brought_by emit) (held_new table old is_new) gains)));
+        (longer_one table 1 (most + 1) (omega arith) new (held_more table 0 old new (brought_by emit) (held_new table old is_new is_of) gains family)));
   }
-    where
-      held_one : (most : ℕ) → IsHeld table 1 new → IsHeld table (most + 1) new
-      held_one most is = record { declared = is.declared; few = omega (arith, is.few); emits = is.emits; stands = is.stands }

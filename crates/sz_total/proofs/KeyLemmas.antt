@@ -1,4 +1,5 @@
 -- Look-ups of keys are look-ups by their plain data.
+use Rattle.std.proofs.Common.{Result, Ok, Err, IsOk, IfOk, OnOk, Option, None, ℕ, ◌+◌, if◌then◌else◌, is_some, true≢false}
 use Rattle.std.proofs.Common.{◌≡◌, ◌∙◌, Bool, true, false, cond, Some, List, [], ◌∷◌, map, refl, sym, ap, subst, is_eq, Ordering, IsSorted}
 use Rattle.std.specs.Borrow.{Bor}
 use Rattle.std.specs.Cmp.{on_total}
@@ -92,3 +93,14 @@ keys_sorted old new in_order stable =
     ap (map seen_key) (stable_sort_is_sorted (on_total seen_key indexes_total) old new (subst (λ o. IsSorted o new) order_is in_order)
     (subst (λ o. IsStable o old new) order_is stable))
     ∙ sym (sorted_mapped compare_indexes seen_key old)
+
+-- what a sure answer says
+pub surely : {T E P : Type 0} (r : Result T E) → IsOk r → OnOk r P → P
+surely (Ok x) sure p = p
+surely (Err e) sure p = absurd (true≢false (sym sure))
+
+-- a map that takes a key that it hasn't is longer by one
+pub one_longer : {V E : Type 0} (r : Result (Option V) E) (found : Option V) (before after : ℕ) → IfOk r (λ old. old ≡ found) → found ≡ None
+    → IfOk r (λ old. after ≡ before + (if is_some old then 0 else 1)) → OnOk r (after ≡ before + 1)
+one_longer (Ok x) found before after is none long = long ∙ ap (λ o. before + (if is_some o then 0 else 1)) (is ∙ none)
+one_longer (Err e) found before after is none long = tt

@@ -1,6 +1,9 @@
 mod TablesLemmas
 mod ListLemmas
 mod HeldLemmas
+mod JoiningLemmas
+mod TurnLemmas
 mod KeyLemmas
 mod TotalLemmas
+mod MergingLemmas
 mod StandardFacts

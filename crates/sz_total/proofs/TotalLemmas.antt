@@ -17,50 +17,54 @@ use Rattle.sz_tabs.specs.Fitting.{Fits, IsEmitTo}
 use Rattle.sz_total.specs.Tables.{table_rows}
 use Rattle.sz_total.specs.Totals.{StandsFor, IsNew, Gains}
 use Rattle.sz_total.specs.States.{TotalState, declarations, emit_count, shown}
-use Rattle.sz_total.specs.Held.{Held, rows_in_order, TakesEmit}
-use Rattle.sz_total.specs.OneTable.{TableState, GainsEmit, AreTables, HasRoomFor, GainsAt, new_table}
+use Rattle.sz_total.specs.Held.{Held, TakesEmit}
+use Rattle.sz_total.specs.OneTable.{TableState, table_shown, GainsEmit, AreTables, HasRoomFor, GainsAt, new_table}
 use Rattle.sz_total.specs.Weights.{HasItsWeights, HaveTheirWeights}
 use Rattle.sz_total.proofs.HeldLemmas.{rows_with_emit}
 use Rattle.sz_total.proofs.ListLemmas.{rows_elsewhere}
 
 -- what the model of a table sees of its aggregators that took an emit
 pub table_gained : (table : Declaration) (count : ℕ) (emit : EmitDatum) (old new : Held) (state : TableState)
-    → (record { table = table; count = count; rows = rows_in_order old }) ≡ state → TakesEmit table emit old new
-    → GainsEmit state (record { table = table; count = count + 1; rows = rows_in_order new }) emit
-table_gained table count emit old new state is takes =
-    subst (λ s. GainsEmit s (record { table = table; count = count + 1; rows = rows_in_order new }) emit) is
+    → (room : ℕ) → (record { table = table; count = count; held = old; room = room }) ≡ state → TakesEmit table emit old new
+    → GainsEmit state (record { table = table; count = count + 1; held = new; room = room }) emit
+table_gained table count emit old new state room is takes =
+    subst (λ s. GainsEmit s (record { table = table; count = count + 1; held = new; room = room }) emit) is
     (record { same_table = refl; one_more = refl; rows = λ emits before. rows_with_emit emit.table table emits emit old new refl takes before })
+
+-- a declared table is held
+pub held_at : (tables : List Declaration) (held : List TableState) → map (λ (s : TableState). s.table) held ≡ tables → (at : ℕ) (table : Declaration)
+    → slice_get tables at ≡ Some table → (s : TableState) × (slice_get held at ≡ Some s) × (s.table ≡ table)
+held_at tables held are at table declared = by_found (slice_get held at) refl
+  where
+    same : option_map (λ (s : TableState). s.table) (slice_get held at) ≡ Some table
+    same = sym (slice_get-map (λ (s : TableState). s.table) held at) ∙ ap (λ l. slice_get l at) are ∙ declared
+
+    by_found : (found : Option TableState) → slice_get held at ≡ found → (s : TableState) × (slice_get held at ≡ Some s) × (s.table ≡ table)
+    by_found None is = absurd (let no = ap (option_map (λ (s : TableState). s.table)) is in let none = sym no ∙ same in cc)
+    by_found (Some s) is = (s, is, let yes = ap (option_map (λ (s : TableState). s.table)) is in let one = sym yes ∙ same in cc)
+
+-- a table that is held has few emits
+pub few_at : (count : ℕ) (held : List TableState) → All (λ (s : TableState). s.count ≤ count) held → (at : ℕ) (s : TableState)
+    → slice_get held at ≡ Some s → s.count ≤ count
+few_at count held few at s there =
+    subst (λ (s : TableState). s.count ≤ count) (get_or_from_slice_get held at s s there) (few at s (slice_get_within held at s there))
 
 -- the table of an emit that fits the declarations
 module _ (tables : List Declaration) (count : ℕ) (held : List TableState) (are : AreTables tables count held) where
-  -- a declared table is held
-  held_at : (at : ℕ) (table : Declaration) → slice_get tables at ≡ Some table
-      → (s : TableState) × (slice_get held at ≡ Some s) × (s.table ≡ table)
-  held_at at table declared = by_found (slice_get held at) refl
-    where
-      same : option_map (λ (s : TableState). s.table) (slice_get held at) ≡ Some table
-      same = sym (slice_get-map (λ (s : TableState). s.table) held at) ∙ ap (λ l. slice_get l at) are.declared ∙ declared
-
-      by_found : (found : Option TableState) → slice_get held at ≡ found → (s : TableState) × (slice_get held at ≡ Some s) × (s.table ≡ table)
-      by_found None is = absurd (let no = ap (option_map (λ (s : TableState). s.table)) is in let none = sym no ∙ same in cc)
-      by_found (Some s) is = (s, is, let yes = ap (option_map (λ (s : TableState). s.table)) is in let one = sym yes ∙ same in cc)
-
   pub room_for : (emit : EmitDatum) → IsEmitTo tables emit → count < 2 ^ 63 → HasRoomFor emit held
   room_for emit to room =
-      let found = held_at emit.table to.table to.declared in
+      let found = held_at tables held are.declared emit.table to.table to.declared in
+      let few = few_at count held are.few emit.table found.0 found.1 in
       record {
         state = found.0;
         there = found.1;
         fits = subst (λ d. Fits d (brought_by emit)) (sym found.2) to.fits;
-        room =
-            let few = subst (λ (s : TableState). s.count ≤ count) (get_or_from_slice_get held emit.table found.0 found.0 found.1)
-            (are.few emit.table found.0 (slice_get_within held emit.table found.0 found.1)) in
-            omega (arith, room, few);
+        room = omega (arith, room, few);
       }
 
 -- what the model of all tables sees
 abbrev pub state_of : List Declaration → ℕ → List TableState → TotalState
-state_of tables count held = record { tables = tables; count = count; rows = map (λ (s : TableState). s.rows) held }
+state_of tables count held = record { tables = tables; count = count; rows = map table_shown held }
 
 -- one table takes an emit
 module _ (emit : EmitDatum) (old new : List TableState) (gains : GainsAt emit old new) where
@@ -83,22 +87,22 @@ module _ (emit : EmitDatum) (old new : List TableState) (gains : GainsAt emit ol
             (All-weaker (λ (s : TableState). s.count ≤ count) (λ (s : TableState). s.count ≤ count + 1) (λ s less. omega (arith, less)) old are.few));
       }
 
-  rows_set : (table : ℕ) → slice_index_or (map (λ (s : TableState). s.rows) new) table []
-      ≡ slice_index_or (set (map (λ (s : TableState). s.rows) old) emit.table gains.after.rows) table []
+  rows_set : (table : ℕ) → slice_index_or (map table_shown new) table []
+      ≡ slice_index_or (set (map table_shown old) emit.table (table_shown gains.after)) table []
   rows_set table =
-      ap (λ l. slice_index_or (map (λ (s : TableState). s.rows) l) table []) gains.now
-      ∙ ap (λ l. slice_index_or l table []) (map-set (λ (s : TableState). s.rows) old emit.table gains.after)
+      ap (λ l. slice_index_or (map table_shown l) table []) gains.now
+      ∙ ap (λ l. slice_index_or l table []) (map-set table_shown old emit.table gains.after)
 
-  rows_before : slice_index_or (map (λ (s : TableState). s.rows) old) emit.table [] ≡ gains.before.rows
+  rows_before : slice_index_or (map table_shown old) emit.table [] ≡ (table_shown gains.before)
   rows_before =
-      get_or_from_slice_get (map (λ (s : TableState). s.rows) old) emit.table gains.before.rows []
-      (slice_get-map (λ (s : TableState). s.rows) old emit.table ∙ ap (option_map (λ (s : TableState). s.rows)) gains.there)
+      get_or_from_slice_get (map table_shown old) emit.table (table_shown gains.before) []
+      (slice_get-map table_shown old emit.table ∙ ap (option_map table_shown) gains.there)
 
-  rows_after : slice_index_or (map (λ (s : TableState). s.rows) new) emit.table [] ≡ gains.after.rows
+  rows_after : slice_index_or (map table_shown new) emit.table [] ≡ (table_shown gains.after)
   rows_after =
       rows_set emit.table
-      ∙ get_or-set_same (map (λ (s : TableState). s.rows) old) emit.table gains.after.rows []
-      (omega (arith, within, length-map old (λ (s : TableState). s.rows)))
+      ∙ get_or-set_same (map table_shown old) emit.table (table_shown gains.after) []
+      (omega (arith, within, length-map old table_shown))
 
   -- the rows of each table are those of one emit more
   module _ (tables : List Declaration) (count : ℕ) (are : AreTables tables count old) (emits : List EmitDatum)
@@ -109,7 +113,7 @@ module _ (emit : EmitDatum) (old new : List TableState) (gains : GainsAt emit ol
         ∙ ap (λ l. slice_get l emit.table) are.declared ∙ declared in cc
 
     rows_here : (declaration : Declaration) → slice_get tables emit.table ≡ Some declaration
-        → slice_index_or (map (λ (s : TableState). s.rows) new) emit.table [] ≡ table_rows emit.table declaration (emits ++ emit ∷ [])
+        → slice_index_or (map table_shown new) emit.table [] ≡ table_rows emit.table declaration (emits ++ emit ∷ [])
     rows_here declaration declared =
         let same = declared_before declaration declared in
         rows_after
@@ -117,20 +121,20 @@ module _ (emit : EmitDatum) (old new : List TableState) (gains : GainsAt emit ol
         ∙ ap (λ d. table_rows emit.table d (emits ++ emit ∷ [])) same
 
     pub rows_with : (table : ℕ) (declaration : Declaration) → slice_get tables table ≡ Some declaration
-        → slice_index_or (map (λ (s : TableState). s.rows) new) table [] ≡ table_rows table declaration (emits ++ emit ∷ [])
+        → slice_index_or (map table_shown new) table [] ≡ table_rows table declaration (emits ++ emit ∷ [])
     rows_with table declaration declared = by_test (nat_eq emit.table table) refl
       where
         by_test : (b : Bool) → nat_eq emit.table table ≡ b
-            → slice_index_or (map (λ (s : TableState). s.rows) new) table [] ≡ table_rows table declaration (emits ++ emit ∷ [])
+            → slice_index_or (map table_shown new) table [] ≡ table_rows table declaration (emits ++ emit ∷ [])
         by_test true here =
             let is = eqb-true emit.table table here in
             subst
             (λ t. slice_get tables t ≡ Some declaration
-            → slice_index_or (map (λ (s : TableState). s.rows) new) t [] ≡ table_rows t declaration (emits ++ emit ∷ []))
+            → slice_index_or (map table_shown new) t [] ≡ table_rows t declaration (emits ++ emit ∷ []))
             is (rows_here declaration) declared
         by_test false other =
             rows_set table
-            ∙ get_or-set_other (map (λ (s : TableState). s.rows) old) emit.table table gains.after.rows []
+            ∙ get_or-set_other (map table_shown old) emit.table table (table_shown gains.after) []
             (λ same. true≢false (sym (eq-eqb emit.table table (sym same)) ∙ other))
             ∙ stands.rows table declaration declared ∙ sym (rows_elsewhere table emits emit declaration other)
 
@@ -160,7 +164,7 @@ tables_new tables = record {
     again [] = refl
     again (d ∷ ds) = ap (λ l. d ∷ l) (again ds)
 
-none_at : (tables : List Declaration) (table : ℕ) → slice_index_or (map (λ (s : TableState). s.rows) (map new_table tables)) table [] ≡ []
+none_at : (tables : List Declaration) (table : ℕ) → slice_index_or (map table_shown (map new_table tables)) table [] ≡ []
 none_at [] zero = refl
 none_at [] (suc n) = refl
 none_at (d ∷ ds) zero = refl

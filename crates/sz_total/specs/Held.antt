@@ -15,7 +15,7 @@ use Rattle.sz_tabs.specs.Aggregating.{StandsFor}
 use Rattle.sz_tabs.specs.Rows.{compare_indexes, brought_by, rows_of}
 use Rattle.sz_tabs.specs.Sorting.{distinct}
 use Rattle.sz_total.specs.Tables.{Indexed}
-use Rattle.sz_total.specs.Aggregates.{declaration_of, count_of, shown_of}
+use Rattle.sz_total.specs.Aggregates.{declaration_of, count_of, shown_of, family_of, family_for}
 use Rattle.sz_total.specs.declared.aggregate.Aggregate.{Aggregate}
 
 -- aggregators under their index lists
@@ -50,9 +50,10 @@ indexed held indexes = record { indexes = indexes; rows = rows_held held indexes
 abbrev pub rows_in_order : Held → List Indexed
 rows_in_order held = map (indexed held) (distinct compare_indexes (keys_of held))
 
--- the aggregator is one of the table, counts at most so many emits, and stands for some list of emits
+-- the aggregator is one of the table and of the family that its kind needs, counts at most so many emits, and stands for some list of emits
 pub record IsHeld (table : Declaration) (count : ℕ) (aggregate : Aggregate) : Type 0 where
   pub declared : declaration_of aggregate ≡ table
+  pub family : family_of aggregate ≡ family_for table.kind
   pub few : count_of aggregate ≤ count
   pub emits : List Weighted
   pub stands : StandsFor declaration_of count_of shown_of aggregate emits

@@ -7,5 +7,7 @@ pub mod States
 -- what the functions inside the crate promise each other
 pub mod Aggregates
 pub mod Held
+pub mod Joining
 pub mod OneTable
+pub mod Merging
 pub mod Code

@@ -1,34 +1,59 @@
 -- What contracts see of one table, and what one emit more does to it.
-use Rattle.std.specs.Prelude.{◌≡◌, ℕ, ◌+◌, ◌^◌, ◌<◌, ◌≤◌, Some, List, [], ◌∷◌, ◌++◌, All, map, set, slice_get}
+use Rattle.std.specs.Prelude.{◌≡◌, ℕ, ◌+◌, ◌^◌, ◌<◌, ◌≤◌, Some, List, [], ◌∷◌, ◌++◌, All, length, map, set, slice_get}
 use Rattle.sz_types.specs.Tables.{Declaration}
 use Rattle.sz_tabs.specs.Data.{EmitDatum}
 use Rattle.sz_tabs.specs.Fitting.{Fits}
 use Rattle.sz_tabs.specs.Rows.{brought_by}
 use Rattle.sz_total.specs.Tables.{Indexed, table_rows}
-use Rattle.sz_total.specs.Held.{Held, AreHeld}
+use Rattle.sz_total.specs.Held.{Held, AreHeld, rows_in_order}
+use Rattle.sz_total.specs.Joining.{LooksTheSame, HaveRoomFor}
 use Rattle.sz_total.specs.Weights.{HasItsWeights}
 
--- a table's declaration, the number of emits to it, and its rows
+-- a table's declaration, the number of emits to it, its aggregators, and for how many there is room
 pub record TableState : Type 0 where
   pub table : Declaration
   pub count : ℕ
-  pub rows : List Indexed
+  pub held : Held
+  pub room : ℕ
 
--- the table has its weights, and its aggregators are of the table
-pub record IsKept (table : Declaration) (count : ℕ) (held : Held) : Type 0 where
+-- its rows
+abbrev pub table_shown : TableState → List Indexed
+table_shown s = rows_in_order s.held
+
+-- the table has its weights, its aggregators are of the table, and there is the room that was made
+pub record IsKept (table : Declaration) (count : ℕ) (held : Held) (room capacity : ℕ) : Type 0 where
   pub weights : HasItsWeights table
   pub aggregates : AreHeld table count held
+  pub taken : room ≤ capacity
 
 -- where the old rows are those of a list of emits, the new rows are those of one emit more
 pub record GainsEmit (old new : TableState) (emit : EmitDatum) : Type 0 where
   pub same_table : new.table ≡ old.table
   pub one_more : new.count ≡ old.count + 1
-  pub rows : (emits : List EmitDatum) → old.rows ≡ table_rows emit.table old.table emits
-      → new.rows ≡ table_rows emit.table old.table (emits ++ emit ∷ [])
+  pub rows : (emits : List EmitDatum) → table_shown old ≡ table_rows emit.table old.table emits
+      → table_shown new ≡ table_rows emit.table old.table (emits ++ emit ∷ [])
+
+-- nothing changed but the room
+pub record ChangesRoomAlone (old new : TableState) : Type 0 where
+  pub same_table : new.table ≡ old.table
+  pub same_count : new.count ≡ old.count
+  pub aggregates : LooksTheSame old.held new.held
+
+-- there is room for the other table: for its index lists, and in each aggregator
+pub record HasRoomToMerge (own other : TableState) : Type 0 where
+  pub lists : length own.held + length other.held ≤ own.room
+  pub aggregates : HaveRoomFor own.held other.held
+
+-- where the rows of both are those of lists of emits to the table with a number, the new rows are those of both lists
+pub record JoinsTable (old other new : TableState) : Type 0 where
+  pub same_table : new.table ≡ old.table
+  pub both_counts : new.count ≡ old.count + other.count
+  pub rows : (number : ℕ) (front behind : List EmitDatum) → table_shown old ≡ table_rows number old.table front
+      → table_shown other ≡ table_rows number old.table behind → table_shown new ≡ table_rows number old.table (front ++ behind)
 
 -- a declared table before any emit
 abbrev pub new_table : Declaration → TableState
-new_table table = record { table = table; count = 0; rows = [] }
+new_table table = record { table = table; count = 0; held = []; room = 0 }
 
 -- the emit fits the table with its number, which has room for it
 pub record HasRoomFor (emit : EmitDatum) (held : List TableState) : Type 0 where

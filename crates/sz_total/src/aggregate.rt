@@ -1,10 +1,10 @@
 //! The aggregator of a table of any kind.
-ghost use Rattle.std.specs.Prelude.{◌≡◌, ◌<◌, ◌^◌, IfOk, OnOk, OnErr};
+ghost use Rattle.std.specs.Prelude.{◌≡◌, ◌<◌, ◌≤◌, ◌+◌, ◌^◌, IfOk, OnOk, OnErr};
 ghost use Rattle.sz_types.specs.SeenTables.{seen_table};
 ghost use Rattle.sz_value.specs.Seen.{seen};
 ghost use Rattle.sz_tabs.specs.Aggregating.{weighted, IsNew, Gains};
 ghost use Rattle.sz_tabs.specs.Fitting.{Fits};
-ghost use Rattle.sz_total.specs.Aggregates.{declaration_of, count_of, shown_of};
+ghost use Rattle.sz_total.specs.Aggregates.{declaration_of, count_of, shown_of, family_of, family_for, HasRoomFor, ChangesRoomAlone, IsJoined};
 ghost use Rattle.sz_total.specs.Weights.{HasItsWeights};
 
 use std::alloc::Global;
@@ -30,6 +30,7 @@ pub(crate) fn new_aggregate<'a>(
 ) -> Result<Aggregate<'a>, NoMemory>
     requires weights { HasItsWeights (seen_table table.now) }
     ensures empty { IfOk result (IsNew declaration_of count_of shown_of (seen_table table.now)) }
+    ensures family { IfOk result (λ aggregate. family_of aggregate ≡ family_for (seen_table table.now).kind) }
 {
     match table.kind {
         TableKind::Sum => Ok(Aggregate::Sum(Sum::new(alloc, table)?)),
@@ -52,11 +53,50 @@ pub(crate) fn add_to<'a>(
     requires room { count_of aggregate.old < 2 ^ 63 }
     ensures ok { OnOk result (Gains declaration_of count_of shown_of aggregate.old aggregate.new (weighted (seen value.now) weight)) }
     ensures err { OnErr result (aggregate.new ≡ aggregate.old) }
+    ensures family { family_of aggregate.new ≡ family_of aggregate.old }
 {
     match aggregate {
         Aggregate::Sum(sum) => sum.add(value, weight),
         Aggregate::Extreme(extreme) => extreme.add(value, weight),
         Aggregate::Members(members) => members.add(value, weight),
+    }
+}
+
+// Makes room for a merge of the other side, which is of the same family.
+pub(crate) fn reserve_for<'a>(
+    aggregate: &mut Aggregate<'a>,
+    other: &Aggregate<'a>,
+) -> Result<(), NoMemory>
+    requires alike { family_of other.now ≡ family_of aggregate.old }
+    ensures ok { OnOk result (HasRoomFor aggregate.new other.now) }
+    ensures kept { ChangesRoomAlone aggregate.old aggregate.new }
+{
+    match (aggregate, other) {
+        (Aggregate::Sum(sum), Aggregate::Sum(other)) => sum.reserve(other),
+        (Aggregate::Extreme(extreme), Aggregate::Extreme(other)) => extreme.reserve(other),
+        (Aggregate::Members(members), Aggregate::Members(other)) => members.reserve(other),
+        _ => Ok(()),
+    }
+}
+
+// Merges the other side, for which there is room.
+pub(crate) fn merge_into<'a>(aggregate: &mut Aggregate<'a>, other: Aggregate<'a>)
+    requires declared { declaration_of other ≡ declaration_of aggregate.old }
+    requires few { count_of aggregate.old + count_of other ≤ 2 ^ 63 }
+    requires room { HasRoomFor aggregate.old other }
+    ensures value { IsJoined aggregate.old other.entry aggregate.new }
+{
+    match (aggregate, other) {
+        (Aggregate::Sum(sum), Aggregate::Sum(other)) => {
+            let _ = sum.merge(other);
+        }
+        (Aggregate::Extreme(extreme), Aggregate::Extreme(other)) => {
+            let _ = extreme.merge(other);
+        }
+        (Aggregate::Members(members), Aggregate::Members(other)) => {
+            let _ = members.merge(other);
+        }
+        _ => {}
     }
 }
 

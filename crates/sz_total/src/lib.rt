@@ -3,6 +3,7 @@
 
 mod aggregate;
 mod indexed;
+mod joining;
 mod laws;
 mod lists;
 mod one_table;

@@ -1,7 +1,8 @@
 //! The aggregators of one table, each found by hashing its index list.
-ghost use Rattle.std.specs.Prelude.{◌≡◌, ◌++◌, ◌∷◌, ◌-◌, ◌^◌, [], map, None, IfOk, OnOk, OnErr};
+ghost use Rattle.std.specs.Prelude.{◌≡◌, ◌≤◌, ◌+◌, ◌++◌, ◌∷◌, ◌-◌, ◌^◌, [], map, None, IfOk, OnOk, OnErr};
 ghost use Rattle.std.specs.List.{IsDistinct};
 ghost use Rattle.std.specs.Map.{keys_of, lookup};
+ghost use Rattle.indexmap.specs.IndexMap.{index_map_len, spare};
 ghost use Rattle.sz_types.specs.SeenTables.{seen_table};
 ghost use Rattle.sz_tabs.specs.Fitting.{Fits};
 ghost use Rattle.sz_tabs.specs.Rows.{compare_indexes, brought_by};
@@ -32,6 +33,7 @@ pub(crate) fn take_emit<'a>(
     requires held { AreHeld (seen_table table.now) (2 ^ 63 - 1) (held_of lists.old.entries) }
     ensures ok { OnOk result (TakesEmit (seen_table table.now) emit.now (held_of lists.old.entries) (held_of lists.new.entries)) }
     ensures err { OnErr result (lists.new.entries ≡ lists.old.entries) }
+    ensures capacity { index_map_len lists.old + spare lists.old ≤ index_map_len lists.new + spare lists.new }
 {
     match lists.get_mut(emit.indexes.as_slice()) {
         Some(aggregate) => add_to(aggregate, &emit.value, emit.weight),
@@ -51,6 +53,7 @@ fn put_emit<'a>(
     requires absent { lookup (same_indexes emit.now.indexes) (held_of lists.old.entries) ≡ None }
     ensures ok { OnOk result (TakesEmit (seen_table table.now) emit.now (held_of lists.old.entries) (held_of lists.new.entries)) }
     ensures err { OnErr result (lists.new.entries ≡ lists.old.entries) }
+    ensures capacity { index_map_len lists.old + spare lists.old ≤ index_map_len lists.new + spare lists.new }
 {
     let mut aggregate = new_aggregate(alloc, table)?;
     add_to(&mut aggregate, &emit.value, emit.weight)?;

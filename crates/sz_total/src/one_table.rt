@@ -1,12 +1,13 @@
 //! One table, and its calls.
-ghost use Rattle.std.specs.Prelude.{◌≡◌, ◌<◌, ◌^◌, [], IfOk, OnOk, OnErr};
+ghost use Rattle.std.specs.Prelude.{◌≡◌, ◌<◌, ◌≤◌, ◌+◌, ◌^◌, [], IfOk, OnOk, OnErr};
 ghost use Rattle.sz_types.specs.SeenTables.{seen_table};
 ghost use Rattle.sz_tabs.specs.Fitting.{Fits};
 ghost use Rattle.sz_tabs.specs.Rows.{brought_by};
-ghost use Rattle.sz_total.specs.OneTable.{GainsEmit};
+ghost use Rattle.sz_total.specs.OneTable.{table_shown, GainsEmit, ChangesRoomAlone, HasRoomToMerge, JoinsTable};
 ghost use Rattle.sz_total.specs.Weights.{HasItsWeights};
 
 use crate::indexed::TableRows;
+use crate::joining::{make_room, take_all};
 use crate::lists::{Lists, all_rows, take_emit};
 use indexmap::IndexMap;
 use std::alloc::Global;
@@ -14,12 +15,14 @@ use std::marker::Model;
 use sz_tabs::{Emit, NoMemory};
 use sz_types::TableDecl;
 
-/// What was emitted to one table, index list by index list. Contracts see its declaration, the number of emits and the rows.
+/// What was emitted to one table, index list by index list. Contracts see its declaration, the number of emits, the aggregators,
+/// and for how many there is room.
 #[derive(Drop)]
 pub(crate) struct OneTable<'a> {
     alloc: Global,
     table: &'a TableDecl,
     count: u64,
+    room: usize,
     lists: Lists<'a>,
 }
 
@@ -32,24 +35,27 @@ impl<'a> Model for OneTable<'a> {
     ghost coded = { table_code };
 
     ghost use Rattle.sz_types.specs.SeenTables.{seen_table};
-    ghost use Rattle.sz_total.specs.Held.{held_of, rows_in_order};
+    ghost use Rattle.std.specs.Prelude.{◌+◌};
+    ghost use Rattle.indexmap.specs.IndexMap.{index_map_len, spare};
+    ghost use Rattle.sz_total.specs.Held.{held_of};
     ghost use Rattle.sz_total.specs.OneTable.{IsKept};
 
-    ghost view = { λ t. record { table = seen_table t.table.now; count = t.count; rows = rows_in_order (held_of t.lists.entries) } };
+    ghost view = { λ t. record { table = seen_table t.table.now; count = t.count; held = held_of t.lists.entries; room = t.room } };
 
-    ghost invariant = { λ t. IsKept (seen_table t.table.now) t.count (held_of t.lists.entries) };
+    ghost invariant = { λ t. IsKept (seen_table t.table.now) t.count (held_of t.lists.entries) t.room (index_map_len t.lists + spare t.lists) };
 }
 
 impl<'a> OneTable<'a> {
     /// A table before any emit. It takes no memory.
     pub(crate) fn new(alloc: Global, table: &'a TableDecl) -> OneTable<'a>
         requires weights { HasItsWeights (seen_table table.now) }
-        ensures value { result ≡ record { table = seen_table table.now; count = 0; rows = [] } }
+        ensures value { result ≡ record { table = seen_table table.now; count = 0; held = []; room = 0 } }
     {
         OneTable {
             alloc,
             table,
             count: 0,
+            room: 0,
             lists: IndexMap::new(alloc),
         }
     }
@@ -66,9 +72,31 @@ impl<'a> OneTable<'a> {
         Ok(())
     }
 
+    /// Makes room for a merge of the other table, which has the same declaration.
+    pub(crate) fn reserve(&mut self, other: &OneTable<'a>) -> Result<(), NoMemory>
+        requires same { other.now.table ≡ self.old.table }
+        ensures ok { OnOk result (HasRoomToMerge self.new other.now) }
+        ensures kept { ChangesRoomAlone self.old self.new }
+    {
+        make_room(&mut self.lists, &other.lists)?;
+        self.room = self.lists.capacity();
+        Ok(())
+    }
+
+    /// Merges the other table, for which there is room.
+    pub(crate) fn merge(&mut self, other: OneTable<'a>)
+        requires same { other.table ≡ self.old.table }
+        requires few { self.old.count + other.count ≤ 2 ^ 63 }
+        requires room { HasRoomToMerge self.old other }
+        ensures value { JoinsTable self.old other.entry self.new }
+    {
+        self.count += other.count;
+        take_all(&mut self.lists, other.lists);
+    }
+
     /// The rows, with the index lists in value order.
     pub(crate) fn rows(&self) -> Result<TableRows, NoMemory>
-        ensures value { IfOk result (λ rows. rows ≡ self.now.rows) }
+        ensures value { IfOk result (λ rows. rows ≡ table_shown self.now) }
     {
         all_rows(self.alloc, &self.lists)
     }

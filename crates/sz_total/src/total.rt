@@ -1,9 +1,11 @@
 //! The tables of a program, and their calls.
-ghost use Rattle.std.specs.Prelude.{◌≡◌, ◌<◌, ◌^◌, length, map, IfOk, OnOk, OnErr};
+ghost use Rattle.std.specs.Prelude.{◌≡◌, ◌<◌, ◌≤◌, ◌+◌, ◌^◌, length, map, IfOk, IfErr, OnOk, OnErr};
 ghost use Rattle.sz_tabs.specs.Fitting.{IsEmitTo};
 ghost use Rattle.sz_total.specs.OneTable.{new_table, HasRoomFor, GainsAt};
+ghost use Rattle.sz_total.specs.Merging.{AreMatched, IsMatchedAt, HasRoomAt, ChangesRoomAt, ChangeRoomAlone, HaveRoomToMerge};
+ghost use Rattle.sz_total.specs.Merging.{AreFew, MayMergeAt, MergesAt, JoinTables};
 ghost use Rattle.sz_total.specs.States.{declarations, emit_count, shown};
-ghost use Rattle.sz_total.specs.Totals.{IsNew, Gains};
+ghost use Rattle.sz_total.specs.Totals.{IsNew, Gains, Joins};
 ghost use Rattle.sz_total.specs.Weights.{HaveTheirWeights};
 
 use crate::indexed::TableRows;
@@ -32,9 +34,9 @@ impl<'a> Model for Total<'a> {
     ghost coded = { total_code };
 
     ghost use Rattle.std.specs.Prelude.{map};
-    ghost use Rattle.sz_total.specs.OneTable.{TableState, AreTables};
+    ghost use Rattle.sz_total.specs.OneTable.{table_shown, AreTables};
 
-    ghost view = { λ t. record { tables = t.tables.now; count = t.count; rows = map (λ (s : TableState). s.rows) t.held.items } };
+    ghost view = { λ t. record { tables = t.tables.now; count = t.count; rows = map table_shown t.held.items } };
 
     ghost invariant = { λ t. AreTables t.tables.now t.count t.held.items };
 }
@@ -62,6 +64,22 @@ impl<'a> Total<'a> {
     {
         add_at(&mut self.held, emit)?;
         self.count += 1;
+        Ok(())
+    }
+
+    /// Merges the other side: afterwards the tables stand for what was emitted to either, in any order. It gives the other side back
+    /// where there is no memory, and both are then as before. The declarations of both are the same.
+    pub fn merge(&mut self, other: Total<'a>) -> Result<(), Total<'a>>
+        requires same { other.tables ≡ self.old.tables }
+        requires room { self.old.count + other.count ≤ 2 ^ 63 }
+        ensures ok { OnOk result (Joins declarations emit_count shown self.old other.entry self.new) }
+        ensures err { IfErr result (λ back. (back ≡ other.entry) × (self.new ≡ self.old)) }
+    {
+        if reserve_all(&mut self.held, &other.held).is_err() {
+            return Err(other);
+        }
+        self.count += other.count;
+        merge_all(&mut self.held, other.held);
         Ok(())
     }
 
@@ -102,4 +120,53 @@ fn add_at<'a>(held: &mut Vec<OneTable<'a>>, emit: &Emit) -> Result<(), NoMemory>
 {
     let table = &mut held[emit.table as usize];
     table.add(emit)
+}
+
+// Makes room in each table for that of the other side.
+fn reserve_all<'a>(held: &mut Vec<OneTable<'a>>, others: &Vec<OneTable<'a>>) -> Result<(), NoMemory>
+    requires matched { AreMatched held.old.items others.now.items }
+    ensures ok { OnOk result (HaveRoomToMerge held.new.items others.now.items) }
+    ensures kept { ChangeRoomAlone held.old.items held.new.items }
+{
+    for (at, other) in others.iter().enumerate() {
+        reserve_at(held, at, other)?;
+    }
+    Ok(())
+}
+
+// Makes room in the table at a place.
+fn reserve_at<'a>(
+    held: &mut Vec<OneTable<'a>>,
+    at: usize,
+    other: &OneTable<'a>,
+) -> Result<(), NoMemory>
+    requires matched { IsMatchedAt at other.now held.old.items }
+    ensures ok { OnOk result (HasRoomAt at other.now held.new.items) }
+    ensures kept { ChangesRoomAt at held.old.items held.new.items }
+{
+    let table = &mut held[at];
+    table.reserve(other)
+}
+
+// Merges each table of the other side, for which there is room.
+fn merge_all<'a>(held: &mut Vec<OneTable<'a>>, others: Vec<OneTable<'a>>)
+    requires matched { AreMatched held.old.items others.items }
+    requires few { AreFew held.old.items others.items }
+    requires room { HaveRoomToMerge held.old.items others.items }
+    ensures value { JoinTables held.old.items others.entry.items held.new.items }
+{
+    let mut at = 0;
+    for other in others {
+        merge_at(held, at, other);
+        at += 1;
+    }
+}
+
+// Merges a table with that at a place, which has room for it.
+fn merge_at<'a>(held: &mut Vec<OneTable<'a>>, at: usize, other: OneTable<'a>)
+    requires may { MayMergeAt at other held.old.items }
+    ensures value { MergesAt at other.entry held.old.items held.new.items }
+{
+    let table = &mut held[at];
+    table.merge(other);
 }

@@ -59,7 +59,7 @@ returns-in-Some-clause-ok c =
     on_ok_weaker c.add_to.result
     (λ gains. subst (TakesEmit table emit held) (sym written)
     (taken_there table emit held old new there
-    (subst (λ e. Gains declaration_of count_of shown_of old new (brought_by e)) c.emit.view_is gains) (2 ^ 63 - 1) c.requires.held))
+    (subst (λ e. Gains declaration_of count_of shown_of old new (brought_by e)) c.emit.view_is gains) c.add_to.ensures.family (2 ^ 63 - 1) c.requires.held))
     c.add_to.ensures.ok
 
 pub returns-in-Some-clause-err : goal.returns-in-Some-clause-err

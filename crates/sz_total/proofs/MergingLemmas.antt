@@ -1,0 +1,389 @@
+-- What a merge does to one table, and to all of them.
+use Rattle.std.proofs.Common.{◌≡◌, ◌∙◌, ℕ, zero, suc, ◌+◌, ◌≤◌, ◌<◌, ◌^◌, Bool, true, false, true≢false, Some, List}
+use Rattle.std.proofs.Common.{Result, Ok, Err, OnOk}
+use Rattle.std.specs.Result.{is_err}
+use Rattle.std.proofs.Common.{[], ◌∷◌, ◌++◌, map, length, refl, sym, ap, subst, arith, All, nat_eq}
+use Rattle.std.specs.Prelude.{slice_get, slice_index_or, set}
+use Rattle.std.specs.Map.{values_of}
+use Rattle.std.specs.Option.{option_map}
+use Rattle.std.proofs.Math.Seq.{map-set_same}
+use Rattle.std.proofs.lemmas.Bool.{eq-eqb, eqb-true}
+use Rattle.std.proofs.lemmas.List.{length-append, length-set}
+use Rattle.std.proofs.lemmas.List.Elements.{All-set, All-head, All-tail, All-cons, All-nil, All-weaker}
+use Rattle.std.proofs.lemmas.Option.{slice_get-map, slice_get_within, get_or_from_slice_get}
+use Rattle.sz_types.specs.Tables.{Declaration}
+use Rattle.sz_tabs.specs.Data.{EmitDatum}
+use Rattle.sz_tabs.specs.Rows.{compare_indexes}
+use Rattle.sz_tabs.specs.Sorting.{distinct}
+use Rattle.sz_total.specs.Tables.{table_rows}
+use Rattle.sz_total.specs.Totals.{StandsFor, Joins}
+use Rattle.sz_total.specs.States.{TotalState, declarations, emit_count, shown}
+use Rattle.sz_total.specs.Aggregates.{family_for}
+use Rattle.sz_total.specs.Held.{Held, rows_in_order, IsHeld, AreHeld}
+use Rattle.sz_total.specs.Joining.{AreAlike, LooksTheSame, HaveRoomFor, AreReady, TakesAll, JoinsHeld}
+use Rattle.sz_total.specs.OneTable.{TableState, table_shown, AreTables, HasRoomToMerge, JoinsTable}
+use Rattle.sz_total.specs.Merging.{tables_of, AreMatched, IsMatchedAt, HasRoomAt, ChangesRoomAt, ChangeRoomAlone, HaveRoomToMerge}
+use Rattle.sz_total.specs.Merging.{AreFew, MayMergeAt, MergesAt, JoinTables}
+use Rattle.sz_total.proofs.HeldLemmas.{held_longer}
+use Rattle.sz_total.proofs.JoiningLemmas.{are_ready, rows_of_both}
+use Rattle.sz_total.proofs.TotalLemmas.{held_at, few_at, state_of}
+
+-- aggregators of one table are of one family
+pub are_alike : (table : Declaration) (mine yours : ℕ) (held others : Held) → AreHeld table mine held → AreHeld table yours others → AreAlike held others
+are_alike table mine yours held others are beside = record {
+  family = family_for table.kind;
+  mine = All-weaker (IsHeld table mine) _ (λ a is. is.family) (values_of held) are;
+  others_too = All-weaker (IsHeld table yours) _ (λ a is. is.family) (values_of others) beside;
+}
+
+-- room alone changes no row
+pub same_rows : (old new : Held) → LooksTheSame old new → rows_in_order new ≡ rows_in_order old
+same_rows old new looks = (λ i. map (λ indexes. record { indexes = indexes; rows = looks.rows indexes i }) (distinct compare_indexes (looks.keys i)))
+
+-- aggregators that may be joined, and their rows after that
+module _ (table : Declaration) (mine yours : ℕ) (held others : Held) (are : AreHeld table mine held) (beside : AreHeld table yours others) where
+  pub may_join : mine + yours ≤ 2 ^ 63 → HaveRoomFor held others → AreReady (2 ^ 63) held others
+  may_join few room = are_ready table mine yours (2 ^ 63) few held others are beside room
+
+  module _ (room : HaveRoomFor held others) (new : Held) (joins : JoinsHeld others held new) where
+    takes : TakesAll table (mine + yours) others held new
+    takes =
+        joins.takes table (mine + yours) (held_longer table mine (mine + yours) (omega arith) held are)
+        (held_longer table yours (mine + yours) (omega arith) others beside)
+        (are_ready table mine yours (mine + yours) (omega arith) held others are beside room)
+
+    pub held_of_both : AreHeld table (mine + yours) new
+    held_of_both = takes.held
+
+    pub table_joined : (old other : TableState) (capacity further now : ℕ) → (record { table = table; count = mine; held = held; room = capacity }) ≡ old
+        → (record { table = table; count = yours; held = others; room = further }) ≡ other
+        → JoinsTable old other (record { table = table; count = mine + yours; held = new; room = now })
+    table_joined old other capacity further now is your_is =
+        subst (λ o. JoinsTable o other (record { table = table; count = mine + yours; held = new; room = now })) is
+        (subst
+        (λ o. JoinsTable (record { table = table; count = mine; held = held; room = capacity }) o
+        (record { table = table; count = mine + yours; held = new; room = now }))
+        your_is
+        (record {
+          same_table = refl;
+          both_counts = refl;
+          rows = λ number front behind before after. rows_of_both number table front behind (mine + yours) others held new takes before after;
+        }))
+
+-- what is known of both tables before a merge
+pub record AreSides (table its : Declaration) (mine yours : ℕ) (held others : Held) : Type 0 where
+  pub same : its ≡ table
+  pub are : AreHeld table mine held
+  pub beside : AreHeld table yours others
+  pub few : mine + yours ≤ 2 ^ 63
+  pub room : HaveRoomFor held others
+
+pub are_sides : (table its : Declaration) (mine yours : ℕ) (held others : Held) (capacity further : ℕ) (old other : TableState)
+    → (record { table = table; count = mine; held = held; room = capacity }) ≡ old
+    → (record { table = its; count = yours; held = others; room = further }) ≡ other → other.table ≡ old.table → old.count + other.count ≤ 2 ^ 63
+    → HasRoomToMerge old other → AreHeld table mine held → AreHeld its yours others → AreSides table its mine yours held others
+are_sides table its mine yours held others capacity further old other is your_is same few room are beside =
+    let one : its ≡ table =
+    ap (λ (s : TableState). s.table) your_is ∙ same ∙ sym (ap (λ (s : TableState). s.table) is) in
+    record {
+      same = one;
+      are = are;
+      beside = subst (λ t. AreHeld t yours others) one beside;
+      few = omega (arith, few, ap (λ (s : TableState). s.count) is, ap (λ (s : TableState). s.count) your_is);
+      room =
+          subst (λ (s : TableState). HaveRoomFor s.held others) (sym is)
+          (subst (λ (s : TableState). HaveRoomFor old.held s.held) (sym your_is) room.aggregates);
+    }
+
+-- what is found after a write
+set_here : {X : Type 0} (xs : List X) (i : ℕ) (x : X) → i < length xs → slice_get (set xs i x) i ≡ Some x
+set_here [] i x less = let no : ⊥ = omega (arith, less) in absurd no
+set_here (y ∷ ys) zero x less = refl
+set_here (y ∷ ys) (suc i) x less = set_here ys i x (omega (arith, less))
+
+set_elsewhere : {X : Type 0} (xs : List X) (i j : ℕ) (x : X) → (i ≡ j → ⊥) → slice_get (set xs i x) j ≡ slice_get xs j
+set_elsewhere [] i j x other = refl
+set_elsewhere (y ∷ ys) zero zero x other = absurd (other refl)
+set_elsewhere (y ∷ ys) zero (suc j) x other = refl
+set_elsewhere (y ∷ ys) (suc i) zero x other = refl
+set_elsewhere (y ∷ ys) (suc i) (suc j) x other = set_elsewhere ys i j x (λ same. other (ap suc same))
+
+-- places that a test tells apart
+apart_by : (i j : ℕ) → nat_eq i j ≡ false → i ≡ j → ⊥
+apart_by i j apart same = true≢false (sym (eq-eqb i j same) ∙ apart)
+
+at_length : {X : Type 0} (xs : List X) (y : X) (rest : List X) → slice_get (xs ++ y ∷ rest) (length xs) ≡ Some y
+at_length [] y rest = refl
+at_length (x ∷ xs) y rest = at_length xs y rest
+
+-- what stands behind a list is at the place of its length
+pub found_behind : {X : Type 0} (xs : List X) (y : X) (rest all : List X) (at : ℕ) → at ≡ length xs → xs ++ y ∷ rest ≡ all → slice_get all at ≡ Some y
+found_behind xs y rest all at place is = ap (slice_get all) place ∙ ap (λ l. slice_get l (length xs)) (sym is) ∙ at_length xs y rest
+
+-- the other side has a table at each place, with the same declaration
+pub matched_at : (held others : List TableState) → AreMatched held others → (at : ℕ) (other : TableState) → slice_get others at ≡ Some other
+    → IsMatchedAt at other held
+matched_at held others matched at other there =
+    let found = held_at (tables_of others) held (sym matched) at other.table
+    (slice_get-map (λ (s : TableState). s.table) others at ∙ ap (option_map (λ (s : TableState). s.table)) there) in
+    record { state = found.0; there = found.1; same = sym found.2 }
+
+-- room alone leaves what is known of tables
+module _ (at : ℕ) (old new : List TableState) (changes : ChangesRoomAt at old new) where
+  before_is : slice_index_or old at changes.before ≡ changes.before
+  before_is = get_or_from_slice_get old at changes.before changes.before changes.there
+
+  changed_maps : {X : Type 0} (f : TableState → X) → f changes.after ≡ f changes.before → map f new ≡ map f old
+  changed_maps f same =
+      ap (map f) changes.now ∙ map-set_same f old at changes.after changes.before (same ∙ ap f (sym before_is))
+
+  one_changed : ChangeRoomAlone old new
+  one_changed = record {
+    declared = changed_maps (λ (s : TableState). s.table) changes.changes.same_table;
+    rows = changed_maps table_shown (same_rows changes.before.held changes.after.held changes.changes.aggregates);
+    still = λ tables count are. record {
+      declared = changed_maps (λ (s : TableState). s.table) changes.changes.same_table ∙ are.declared;
+      few =
+          subst (All (λ (s : TableState). s.count ≤ count)) (sym changes.now)
+          (All-set (λ (s : TableState). s.count ≤ count) old at changes.after
+          (omega (arith, few_at count old are.few at changes.before changes.there, changes.changes.same_count)) are.few);
+    };
+  }
+
+-- room was made in the first tables
+pub record IsRoomMadeTo (at : ℕ) (others first current : List TableState) : Type 0 where
+  pub kept : ChangeRoomAlone first current
+  pub room : (i : ℕ) (own other : TableState) → i < at → slice_get current i ≡ Some own → slice_get others i ≡ Some other → HasRoomToMerge own other
+
+pub none_made : (others first : List TableState) → IsRoomMadeTo 0 others first first
+none_made others first = record {
+  kept = record { declared = refl; rows = refl; still = λ tables count are. are };
+  room = λ i own other less. let no : ⊥ = omega (arith, less) in absurd no;
+}
+
+pub kept_more : (at : ℕ) (others first current new : List TableState) → IsRoomMadeTo at others first current → ChangesRoomAt at current new
+    → ChangeRoomAlone first new
+kept_more at others first current new before changes =
+    let one = one_changed at current new changes in
+    record {
+      declared = one.declared ∙ before.kept.declared;
+      rows = one.rows ∙ before.kept.rows;
+      still = λ tables count are. one.still tables count (before.kept.still tables count are);
+    }
+
+pub made_more : (at : ℕ) (other : TableState) (others first current new : List TableState) → slice_get others at ≡ Some other
+    → IsRoomMadeTo at others first current → ChangesRoomAt at current new → HasRoomAt at other new → IsRoomMadeTo (at + 1) others first new
+made_more at other others first current new there before changes has = record {
+  kept = kept_more at others first current new before changes;
+  room = λ i own yours less mine beside. by_test i own yours less mine beside (nat_eq at i) refl;
+}
+  where
+    by_test : (i : ℕ) (own yours : TableState) → i < at + 1 → slice_get new i ≡ Some own → slice_get others i ≡ Some yours → (b : Bool)
+        → nat_eq at i ≡ b → HasRoomToMerge own yours
+    by_test i own yours less mine beside true here =
+        let is = eqb-true at i here in
+        let one : has.state ≡ own = let e = sym has.there ∙ ap (slice_get new) is ∙ mine in cc in
+        let two : other ≡ yours = let e = sym there ∙ ap (slice_get others) is ∙ beside in cc in
+        subst (λ o. HasRoomToMerge o yours) one (subst (HasRoomToMerge has.state) two has.room)
+    by_test i own yours less mine beside false apart =
+        before.room i own yours (omega (arith, less, apart_by at i apart))
+        (sym (set_elsewhere current at i changes.after (apart_by at i apart)) ∙ ap (λ l. slice_get l i) (sym changes.now) ∙ mine) beside
+
+-- all were made
+pub all_made : (at : ℕ) (others first current : List TableState) → length others ≤ at → IsRoomMadeTo at others first current → HaveRoomToMerge current others
+all_made at others first current end made = λ i own other mine beside.
+    made.room i own other (omega (arith, end, slice_get_within others i other beside)) mine beside
+
+-- the first tables were merged, and the others are as they were
+pub record IsMergedTo (at : ℕ) (others first current : List TableState) : Type 0 where
+  pub as_many : length current ≡ length first
+  pub joined : (i : ℕ) (own other : TableState) → i < at → slice_get first i ≡ Some own → slice_get others i ≡ Some other
+      → (now : TableState) × (slice_get current i ≡ Some now) × JoinsTable own other now
+  pub still : (i : ℕ) → at ≤ i → slice_get current i ≡ slice_get first i
+
+pub none_merged : (others first : List TableState) → IsMergedTo 0 others first first
+none_merged others first = record {
+  as_many = refl;
+  joined = λ i own other less. let no : ⊥ = omega (arith, less) in absurd no;
+  still = λ i more. refl;
+}
+
+-- the next table may be merged
+pub may_merge : (at : ℕ) (other : TableState) (others first current : List TableState) → slice_get others at ≡ Some other → AreMatched first others
+    → AreFew first others → HaveRoomToMerge first others → IsMergedTo at others first current → MayMergeAt at other current
+may_merge at other others first current there matched few room merged =
+    let own = matched_at first others matched at other there in
+    record {
+      state = own.state;
+      there = merged.still at (omega arith) ∙ own.there;
+      same = own.same;
+      few = few at own.state other own.there there;
+      room = room at own.state other own.there there;
+    }
+
+pub merged_more : (at : ℕ) (other : TableState) (others first current new : List TableState) → slice_get others at ≡ Some other
+    → IsMergedTo at others first current → MergesAt at other current new → IsMergedTo (at + 1) others first new
+merged_more at other others first current new there before merges = record {
+  as_many = ap length merges.now ∙ length-set current at merges.after ∙ before.as_many;
+  joined = λ i own yours less mine beside. by_test i own yours less mine beside (nat_eq at i) refl;
+  still = λ i more.
+      ap (λ l. slice_get l i) merges.now ∙ set_elsewhere current at i merges.after (higher i more) ∙ before.still i (omega (arith, more));
+}
+  where
+    higher : (i : ℕ) → at + 1 ≤ i → at ≡ i → ⊥
+    higher i more same = omega (arith, more, same)
+
+    by_test : (i : ℕ) (own yours : TableState) → i < at + 1 → slice_get first i ≡ Some own → slice_get others i ≡ Some yours → (b : Bool)
+        → nat_eq at i ≡ b → (now : TableState) × (slice_get new i ≡ Some now) × JoinsTable own yours now
+    by_test i own yours less mine beside true here =
+        let is = eqb-true at i here in
+        let one : merges.before ≡ own =
+        let e = sym merges.there ∙ before.still at (omega arith) ∙ ap (slice_get first) is ∙ mine in cc in
+        let two : other ≡ yours = let e = sym there ∙ ap (slice_get others) is ∙ beside in cc in (
+          merges.after,
+          ap (λ l. slice_get l i) merges.now ∙ ap (slice_get (set current at merges.after)) (sym is)
+              ∙ set_here current at merges.after (slice_get_within current at merges.before merges.there),
+          subst (λ o. JoinsTable o yours merges.after) one (subst (λ y. JoinsTable merges.before y merges.after) two merges.joins),
+        )
+    by_test i own yours less mine beside false apart =
+        let earlier = before.joined i own yours (omega (arith, less, apart_by at i apart)) mine beside in (
+          earlier.0,
+          ap (λ l. slice_get l i) merges.now ∙ set_elsewhere current at i merges.after (apart_by at i apart) ∙ earlier.1,
+          earlier.2,
+        )
+
+pub all_merged : (at : ℕ) (others first current : List TableState) → length others ≤ at → IsMergedTo at others first current → JoinTables first others current
+all_merged at others first current end merged = record {
+  as_many = merged.as_many;
+  joined = λ i own other mine beside. merged.joined i own other (omega (arith, end, slice_get_within others i other beside)) mine beside;
+}
+
+-- tables of which each is merged are tables still
+merged_tail : (o t n : TableState) (old others new : List TableState) → JoinTables (o ∷ old) (t ∷ others) (n ∷ new) → JoinTables old others new
+merged_tail o t n old others new joins = record {
+  as_many = omega (arith, joins.as_many);
+  joined = λ at own other mine beside. joins.joined (suc at) own other mine beside;
+}
+
+merged_head : (o t n : TableState) (old others new : List TableState) → JoinTables (o ∷ old) (t ∷ others) (n ∷ new) → JoinsTable o t n
+merged_head o t n old others new joins =
+    let first = joins.joined 0 o t refl refl in
+    subst (JoinsTable o t) (let e = first.1 in cc) first.2
+
+merged_declared : (old others new : List TableState) → length others ≡ length old → JoinTables old others new → tables_of new ≡ tables_of old
+merged_declared [] others [] as_many joins = refl
+merged_declared [] others (n ∷ new) as_many joins = let no : ⊥ = omega (arith, joins.as_many) in absurd no
+merged_declared (o ∷ old) [] new as_many joins = let no : ⊥ = omega (arith, as_many) in absurd no
+merged_declared (o ∷ old) (t ∷ others) [] as_many joins = let no : ⊥ = omega (arith, joins.as_many) in absurd no
+merged_declared (o ∷ old) (t ∷ others) (n ∷ new) as_many joins = λ i.
+    (merged_head o t n old others new joins).same_table i
+    ∷ merged_declared old others new (omega (arith, as_many)) (merged_tail o t n old others new joins) i
+
+merged_few : (mine yours : ℕ) (old others new : List TableState) → length others ≡ length old → JoinTables old others new
+    → All (λ (s : TableState). s.count ≤ mine) old → All (λ (s : TableState). s.count ≤ yours) others
+    → All (λ (s : TableState). s.count ≤ mine + yours) new
+merged_few mine yours [] others [] as_many joins few beside = All-nil (λ (s : TableState). s.count ≤ mine + yours)
+merged_few mine yours [] others (n ∷ new) as_many joins few beside = let no : ⊥ = omega (arith, joins.as_many) in absurd no
+merged_few mine yours (o ∷ old) [] new as_many joins few beside = let no : ⊥ = omega (arith, as_many) in absurd no
+merged_few mine yours (o ∷ old) (t ∷ others) [] as_many joins few beside = let no : ⊥ = omega (arith, joins.as_many) in absurd no
+merged_few mine yours (o ∷ old) (t ∷ others) (n ∷ new) as_many joins few beside =
+    let one : o.count ≤ mine = All-head (λ (s : TableState). s.count ≤ mine) o old few in
+    let two : t.count ≤ yours = All-head (λ (s : TableState). s.count ≤ yours) t others beside in
+    All-cons (λ (s : TableState). s.count ≤ mine + yours) n new
+    (omega (arith, one, two, (merged_head o t n old others new joins).both_counts))
+    (merged_few mine yours old others new (omega (arith, as_many)) (merged_tail o t n old others new joins)
+    (All-tail (λ (s : TableState). s.count ≤ mine) o old few) (All-tail (λ (s : TableState). s.count ≤ yours) t others beside))
+
+-- both sides have tables at the same places
+matched_length : (held others : List TableState) → AreMatched held others → length others ≡ length held
+matched_length held others matched =
+    sym (length-tables others) ∙ ap length matched ∙ length-tables held
+  where
+    length-tables : (l : List TableState) → length (tables_of l) ≡ length l
+    length-tables [] = refl
+    length-tables (s ∷ ss) = ap suc (length-tables ss)
+
+-- few enough to be merged
+pub are_few : (tables : List Declaration) (mine yours : ℕ) (held others : List TableState) → mine + yours ≤ 2 ^ 63 → AreTables tables mine held
+    → AreTables tables yours others → AreFew held others
+are_few tables mine yours held others room are beside = λ at own other there yours_there.
+    let one = few_at mine held are.few at own there in
+    let two = few_at yours others beside.few at other yours_there in
+    omega (arith, room, one, two)
+
+-- all tables after a merge
+module _ (tables : List Declaration) (mine yours : ℕ) (first held others new : List TableState) (are : AreTables tables mine first)
+    (beside : AreTables tables yours others) (kept : ChangeRoomAlone first held) (joins : JoinTables held others new) where
+  now_are : AreTables tables mine held
+  now_are = kept.still tables mine are
+
+  matched : AreMatched held others
+  matched = beside.declared ∙ sym now_are.declared
+
+  pub tables_joined : AreTables tables (mine + yours) new
+  tables_joined = record {
+    declared = merged_declared held others new (matched_length held others matched) joins ∙ now_are.declared;
+    few = merged_few mine yours held others new (matched_length held others matched) joins now_are.few beside.few;
+  }
+
+  -- what is shown of a table that is there
+  shown_there : (held : List TableState) (at : ℕ) (s : TableState) → slice_get held at ≡ Some s
+      → slice_index_or (map table_shown held) at [] ≡ table_shown s
+  shown_there held at s there =
+      get_or_from_slice_get (map table_shown held) at (table_shown s) []
+      (slice_get-map table_shown held at ∙ ap (option_map table_shown) there)
+
+  rows_joined : (front behind : List EmitDatum) → StandsFor declarations emit_count shown (state_of tables mine first) front
+      → StandsFor declarations emit_count shown (state_of tables yours others) behind → (table : ℕ) (declaration : Declaration)
+      → slice_get tables table ≡ Some declaration
+      → slice_index_or (map table_shown new) table [] ≡ table_rows table declaration (front ++ behind)
+  rows_joined front behind stands theirs table declaration declared =
+      let own = held_at tables held now_are.declared table declaration declared in
+      let other = held_at tables others beside.declared table declaration declared in
+      let now = joins.joined table own.0 other.0 own.1 other.1 in
+      shown_there new table now.0 now.1
+      ∙ now.2.rows table front behind
+      (sym (shown_there held table own.0 own.1) ∙ ap (λ l. slice_index_or l table []) kept.rows ∙ stands.rows table declaration declared
+      ∙ ap (λ d. table_rows table d front) (sym own.2))
+      (sym (shown_there others table other.0 other.1) ∙ theirs.rows table declaration declared ∙ ap (λ d. table_rows table d behind) (sym own.2))
+      ∙ ap (λ d. table_rows table d (front ++ behind)) own.2
+
+  pub total_joined : (old other : TotalState) → state_of tables mine first ≡ old → state_of tables yours others ≡ other
+      → Joins declarations emit_count shown old other (state_of tables (mine + yours) new)
+  total_joined old other is your_is =
+      subst (λ s. Joins declarations emit_count shown s other (state_of tables (mine + yours) new)) is
+      (subst (λ s. Joins declarations emit_count shown (state_of tables mine first) s (state_of tables (mine + yours) new)) your_is
+      (record {
+        same_tables = refl;
+        both_counts = refl;
+        joined = λ front behind stands theirs. record {
+          rows = rows_joined front behind stands theirs;
+          counted = (λ i. stands.counted i + theirs.counted i) ∙ sym (length-append front behind);
+        };
+      }))
+
+-- what is known of all tables of both sides before a merge
+pub record AreBoth (tables its : List Declaration) (mine yours : ℕ) (others : List TableState) : Type 0 where
+  pub same : its ≡ tables
+  pub beside : AreTables tables yours others
+  pub few : mine + yours ≤ 2 ^ 63
+
+pub its_state : (tables its : List Declaration) (yours : ℕ) (others : List TableState) (other : TotalState) → its ≡ tables
+    → state_of its yours others ≡ other → state_of tables yours others ≡ other
+its_state tables its yours others other same is = ap (λ t. state_of t yours others) (sym same) ∙ is
+
+pub are_both : (tables its : List Declaration) (mine yours : ℕ) (held others : List TableState) (old other : TotalState) → state_of tables mine held ≡ old
+    → state_of its yours others ≡ other → other.tables ≡ old.tables → old.count + other.count ≤ 2 ^ 63 → AreTables its yours others
+    → AreBoth tables its mine yours others
+are_both tables its mine yours held others old other is your_is same few beside =
+    let one : its ≡ tables = ap (λ (s : TotalState). s.tables) your_is ∙ same ∙ sym (ap (λ (s : TotalState). s.tables) is) in
+    record {
+      same = one;
+      beside = subst (λ t. AreTables t yours others) one beside;
+      few = omega (arith, few, ap (λ (s : TotalState). s.count) is, ap (λ (s : TotalState). s.count) your_is);
+    }
+
+-- what an answer says that is no refusal
+pub not_refused : {T E P : Type 0} (r : Result T E) → is_err r ≡ false → OnOk r P → P
+not_refused (Ok x) not p = p
+not_refused (Err e) not p = absurd (true≢false not)

@@ -1,0 +1,76 @@
+-- What a merge does to the aggregators of a table: first there is made room, and then each of the other side is taken.
+use Rattle.std.specs.Prelude.{◌≡◌, ◌≤◌, ◌+◌, ℕ, List, [], ◌∷◌, ◌++◌, All, IfSome, IfNone}
+use Rattle.std.specs.List.{AllByRecursion}
+use Rattle.std.specs.Map.{keys_of, values_of, lookup, set_value}
+use Rattle.sz_types.specs.Tables.{Declaration}
+use Rattle.sz_value.specs.Data.{Datum}
+use Rattle.sz_tabs.specs.Data.{Weighted}
+use Rattle.sz_tabs.specs.Rows.{compare_indexes, rows_of}
+use Rattle.sz_tabs.specs.Sorting.{distinct}
+use Rattle.sz_total.specs.Aggregates.{Family, family_of, declaration_of, count_of, HasRoomFor, ChangesRoomAlone, IsJoined}
+use Rattle.sz_total.specs.Held.{Held, same_indexes, rows_held, AreHeld}
+use Rattle.sz_total.specs.declared.aggregate.Aggregate.{Aggregate}
+
+-- each aggregator is of the family
+abbrev pub AreOf : Family → Held → Type 0
+AreOf family held = All (λ (a : Aggregate). family_of a ≡ family) (values_of held)
+
+-- the aggregators of both sides are of one family
+pub record AreAlike (held others : Held) : Type 0 where
+  pub family : Family
+  pub mine : AreOf family held
+  pub others_too : AreOf family others
+
+-- nothing changed but the room of the aggregator under these indexes, if there is one
+pub record GainsRoom (indexes : List Datum) (old new : Held) : Type 0 where
+  pub none : IfNone (lookup (same_indexes indexes) old) (new ≡ old)
+  pub some : IfSome (lookup (same_indexes indexes) old)
+      (λ own. (now : Aggregate) × ChangesRoomAlone own now × (new ≡ set_value (same_indexes indexes) old now))
+
+-- the same index lists have the same rows, and what was kept to still is
+pub record LooksTheSame (old new : Held) : Type 0 where
+  pub keys : keys_of new ≡ keys_of old
+  pub rows : (indexes : List Datum) → rows_held new indexes ≡ rows_held old indexes
+  pub held : (table : Declaration) (count : ℕ) → AreHeld table count old → AreHeld table count new
+  pub families : (family : Family) → AreOf family old → AreOf family new
+
+-- the aggregator under these indexes has room for the other, if there is one
+abbrev pub HasRoomUnder : Held → List Datum × Aggregate → Type 0
+HasRoomUnder held other = IfSome (lookup (same_indexes other.0) held) (λ own. HasRoomFor own other.1)
+
+-- each aggregator has room for that of the other side
+abbrev pub HaveRoomFor : Held → Held → Type 0
+HaveRoomFor held others = AllByRecursion (HasRoomUnder held) others
+
+-- the other is of the same table, and there is room for it
+pub record MayTake (count : ℕ) (own other : Aggregate) : Type 0 where
+  pub declared : declaration_of other ≡ declaration_of own
+  pub few : count_of own + count_of other ≤ count
+  pub room : HasRoomFor own other
+
+-- the aggregator under these indexes may take the other, if there is one
+abbrev pub MayTakeUnder : ℕ → Held → List Datum × Aggregate → Type 0
+MayTakeUnder count held other = IfSome (lookup (same_indexes other.0) held) (λ own. MayTake count own other.1)
+
+-- the other aggregator is joined with that under its indexes, or stands last where there is none
+pub record TakesOne (indexes : List Datum) (other : Aggregate) (old new : Held) : Type 0 where
+  pub none : IfNone (lookup (same_indexes indexes) old) (new ≡ old ++ (indexes, other) ∷ [])
+  pub some : IfSome (lookup (same_indexes indexes) old)
+      (λ own. (now : Aggregate) × IsJoined own other now × (new ≡ set_value (same_indexes indexes) old now))
+
+-- each aggregator may take that of the other side
+abbrev pub AreReady : ℕ → Held → Held → Type 0
+AreReady count held others = AllByRecursion (MayTakeUnder count held) others
+
+-- the index lists are those of both sides; where the rows of each are those of some emits, the new ones are those of both; and each
+-- aggregator is one of the table
+pub record TakesAll (table : Declaration) (count : ℕ) (others old new : Held) : Type 0 where
+  pub indexes : distinct compare_indexes (keys_of new) ≡ distinct compare_indexes (keys_of old ++ keys_of others)
+  pub rows : (indexes : List Datum) (front behind : List Weighted) → rows_held old indexes ≡ rows_of table front
+      → rows_held others indexes ≡ rows_of table behind → rows_held new indexes ≡ rows_of table (front ++ behind)
+  pub held : AreHeld table count new
+
+-- all aggregators of the other side are taken, whichever table both sides are of
+pub record JoinsHeld (others old new : Held) : Type 0 where
+  pub takes : (table : Declaration) (count : ℕ) → AreHeld table count old → AreHeld table count others → AreReady count old others
+      → TakesAll table count others old new
