@@ -1,0 +1,6 @@
+-- The generator stays in its range.
+use Rattle.std.proofs.Common.{◌≤◌}
+use Rattle.sz_tables_tests.proofs.totals.deal.Given as goal
+
+abbrev pub invariant-loop : goal.invariant-loop
+invariant-loop l = l.state ≤ 65536

@@ -1,0 +1,282 @@
+//! Aggregators against the plain one: emits are dealt out to three of them, which are merged in different orders.
+ghost use Rattle.std.specs.Prelude.{◌≡◌, ◌⊎◌, ◌≤◌, ◌<◌, ◌+◌, ◌^◌, ℤ, true, false, Some, None, if◌then◌else◌, is_some, length, IfOk};
+ghost use Rattle.sz_types.specs.Data.{Shape};
+ghost use Rattle.sz_types.specs.SeenTables.{seen_table};
+ghost use Rattle.sz_types.specs.declared.table.TableKind.TheVariants as kinds;
+ghost use Rattle.sz_value.specs.Data.{int};
+ghost use Rattle.sz_tabs.specs.Aggregating.{weighted};
+ghost use Rattle.sz_tabs.specs.Fitting.{Fits};
+
+use crate::tables::{numbers_in, table_of_numbers};
+use std::alloc::Global;
+use std::test::Fail;
+use sz_extreme::Extreme;
+use sz_members::Members;
+use sz_sum::Sum;
+use sz_tabs::{Aggregator, NoMemory, PlainAggregator, Rows};
+use sz_types::{TableDecl, TableKind};
+use sz_value::Value;
+
+// A whole number, its weight, and the aggregator that it is dealt to.
+type Dealt = (i64, i64, u64);
+
+// The next of the numbers that a generator draws.
+fn drawn(last: u64) -> u64
+    requires { last ≤ 65536 }
+    ensures below { result ≤ 65536 }
+{
+    (75 * last + 74) % 65_537
+}
+
+// So many emits of few different numbers and weights.
+fn deal(alloc: Global, seed: u64, count: u64) -> Result<Vec<Dealt>, NoMemory>
+    requires seed { seed ≤ 65536 }
+{
+    let mut dealt = Vec::new(alloc);
+    let mut state = seed;
+    for _ in 0..count {
+        let number = drawn(state);
+        let weight = drawn(number);
+        state = drawn(weight);
+        dealt.push((small(number), small(weight), state % 3))?;
+    }
+    Ok(dealt)
+}
+
+// A number from -3 to 3.
+fn small(number: u64) -> i64 {
+    (number % 7) as i64 - 3
+}
+
+// The weight, where the table has weights.
+fn weight_if(by_weight: bool, weight: i64) -> Option<i64>
+    ensures value { result ≡ (if by_weight then Some weight else None) }
+{
+    if by_weight { Some(weight) } else { None }
+}
+
+// The rows of the three sides after the emits, merged in one of three orders.
+fn merged_rows<A: Aggregator + Drop>(
+    mut first: A,
+    mut second: A,
+    mut third: A,
+    dealt: &[Dealt],
+    by_weight: bool,
+    order: u64,
+) -> Result<Rows, NoMemory>
+    requires fit { (n w : ℤ) → Fits (A.declaration first) (weighted (int n) (if by_weight then Some w else None)) }
+    requires second_same { A.declaration second ≡ A.declaration first }
+    requires third_same { A.declaration third ≡ A.declaration first }
+    requires first_empty { A.count first ≡ 0 }
+    requires second_empty { A.count second ≡ 0 }
+    requires third_empty { A.count third ≡ 0 }
+    requires few { length dealt.now < 2 ^ 32 }
+{
+    for (number, weight, side) in dealt {
+        let value = Value::Int(*number);
+        let weight = weight_if(by_weight, *weight);
+        match *side {
+            0 => first.add(&value, weight)?,
+            1 => second.add(&value, weight)?,
+            _ => third.add(&value, weight)?,
+        }
+    }
+    match order {
+        0 => merged(merged(first, second)?, third)?.rows(),
+        1 => merged(first, merged(second, third)?)?.rows(),
+        _ => merged(merged(third, first)?, second)?.rows(),
+    }
+}
+
+// The first side with the second merged into it.
+fn merged<A: Aggregator + Drop>(mut first: A, second: A) -> Result<A, NoMemory>
+    requires same { A.declaration second ≡ A.declaration first }
+    requires room { A.count first + A.count second ≤ 2 ^ 63 }
+    ensures same { IfOk result (λ both. A.declaration both ≡ A.declaration first) }
+    ensures count { IfOk result (λ both. A.count both ≡ A.count first + A.count second) }
+{
+    match first.merge(second) {
+        Ok(()) => Ok(first),
+        Err(_) => Err(NoMemory),
+    }
+}
+
+// The rows that a plain aggregator has of the emits, in numbers.
+#[tactic(auto, using(crate::proofs::TestLemmas::numbers_fit))]
+fn plain_rows(
+    alloc: Global,
+    table: &TableDecl,
+    dealt: &[Dealt],
+    by_weight: bool,
+) -> Result<Vec<i128>, NoMemory>
+    requires element { (seen_table table.now).element ≡ Shape.int }
+    requires weight { is_some (seen_table table.now).weight ≡ by_weight }
+    requires few { length dealt.now < 2 ^ 32 }
+{
+    let first = PlainAggregator::new(alloc, table)?;
+    let second = PlainAggregator::new(alloc, table)?;
+    let third = PlainAggregator::new(alloc, table)?;
+    let rows = merged_rows(first, second, third, dealt, by_weight, 0)?;
+    numbers_in(alloc, &rows)
+}
+
+// The rows that a sum has of the emits, in numbers.
+#[tactic(auto, using(crate::proofs::TestLemmas::numbers_fit))]
+fn sum_rows(
+    alloc: Global,
+    table: &TableDecl,
+    dealt: &[Dealt],
+    order: u64,
+) -> Result<Vec<i128>, NoMemory>
+    requires kind { (seen_table table.now).kind ≡ kinds.Sum }
+    requires element { (seen_table table.now).element ≡ Shape.int }
+    requires weight { is_some (seen_table table.now).weight ≡ false }
+    requires few { length dealt.now < 2 ^ 32 }
+{
+    let first = Sum::new(alloc, table)?;
+    let second = Sum::new(alloc, table)?;
+    let third = Sum::new(alloc, table)?;
+    let rows = merged_rows(first, second, third, dealt, false, order)?;
+    numbers_in(alloc, &rows)
+}
+
+// The rows that an aggregator of extremes has of the emits, in numbers.
+#[tactic(auto, using(crate::proofs::TestLemmas::numbers_fit))]
+fn extreme_rows(
+    alloc: Global,
+    table: &TableDecl,
+    dealt: &[Dealt],
+    order: u64,
+) -> Result<Vec<i128>, NoMemory>
+    requires kind { ((seen_table table.now).kind ≡ kinds.Maximum) ⊎ ((seen_table table.now).kind ≡ kinds.Minimum) }
+    requires element { (seen_table table.now).element ≡ Shape.int }
+    requires weight { is_some (seen_table table.now).weight ≡ true }
+    requires few { length dealt.now < 2 ^ 32 }
+{
+    let first = Extreme::new(alloc, table);
+    let second = Extreme::new(alloc, table);
+    let third = Extreme::new(alloc, table);
+    let rows = merged_rows(first, second, third, dealt, true, order)?;
+    numbers_in(alloc, &rows)
+}
+
+// The rows that an aggregator of members has of the emits, in numbers.
+#[tactic(auto, using(crate::proofs::TestLemmas::numbers_fit))]
+fn members_rows(
+    alloc: Global,
+    table: &TableDecl,
+    dealt: &[Dealt],
+    order: u64,
+) -> Result<Vec<i128>, NoMemory>
+    requires kind { ((seen_table table.now).kind ≡ kinds.Set) ⊎ ((seen_table table.now).kind ≡ kinds.Collection) }
+    requires element { (seen_table table.now).element ≡ Shape.int }
+    requires weight { is_some (seen_table table.now).weight ≡ false }
+    requires few { length dealt.now < 2 ^ 32 }
+{
+    let first = Members::new(alloc, table);
+    let second = Members::new(alloc, table);
+    let third = Members::new(alloc, table);
+    let rows = merged_rows(first, second, third, dealt, false, order)?;
+    numbers_in(alloc, &rows)
+}
+
+// How many emits there are, around the limit of the tables and above it.
+const COUNTS: &[u64] = &[0, 1, 2, 3, 4, 5, 40];
+
+fn counts() -> &'static [u64] {
+    COUNTS
+}
+
+#[test]
+fn sums_are_those_of_the_plain_aggregator(rt: HostRuntime) -> Result<(), Fail> {
+    let alloc = rt.alloc();
+    let table = table_of_numbers(alloc, TableKind::Sum, 0, false)?;
+    for count in counts() {
+        for seed in 1..10u64 {
+            let dealt = deal(alloc, seed, *count)?;
+            if dealt.len() < 1000 {
+                let want = plain_rows(alloc, &table, &dealt, false)?;
+                let sums = sum_rows(alloc, &table, &dealt, seed % 3)?;
+                assert!(rt; sums == want, "at {count} from {seed}");
+            }
+        }
+    }
+    Ok(())
+}
+
+#[test]
+fn maxima_are_those_of_the_plain_aggregator(rt: HostRuntime) -> Result<(), Fail> {
+    let alloc = rt.alloc();
+    let table = table_of_numbers(alloc, TableKind::Maximum, 3, true)?;
+    for count in counts() {
+        for seed in 1..10u64 {
+            let dealt = deal(alloc, seed, *count)?;
+            if dealt.len() < 1000 {
+                let want = plain_rows(alloc, &table, &dealt, true)?;
+                let rows = extreme_rows(alloc, &table, &dealt, seed % 3)?;
+                assert!(rt; rows == want, "at {count} from {seed}");
+            }
+        }
+    }
+    Ok(())
+}
+
+#[test]
+fn minima_are_those_of_the_plain_aggregator(rt: HostRuntime) -> Result<(), Fail> {
+    let alloc = rt.alloc();
+    let table = table_of_numbers(alloc, TableKind::Minimum, 3, true)?;
+    for count in counts() {
+        for seed in 1..10u64 {
+            let dealt = deal(alloc, seed, *count)?;
+            if dealt.len() < 1000 {
+                let want = plain_rows(alloc, &table, &dealt, true)?;
+                let rows = extreme_rows(alloc, &table, &dealt, seed % 3)?;
+                assert!(rt; rows == want, "at {count} from {seed}");
+            }
+        }
+    }
+    Ok(())
+}
+
+#[test]
+fn collections_are_those_of_the_plain_aggregator(rt: HostRuntime) -> Result<(), Fail> {
+    let alloc = rt.alloc();
+    let table = table_of_numbers(alloc, TableKind::Collection, 0, false)?;
+    for count in counts() {
+        for seed in 1..10u64 {
+            let dealt = deal(alloc, seed, *count)?;
+            if dealt.len() < 1000 {
+                let want = plain_rows(alloc, &table, &dealt, false)?;
+                let rows = members_rows(alloc, &table, &dealt, seed % 3)?;
+                assert!(rt; rows == want, "at {count} from {seed}");
+            }
+        }
+    }
+    Ok(())
+}
+
+// The limits of sets: there are seven different numbers, so forty emits fill the first two sets and just fit the third.
+const LIMITS: &[u32] = &[1, 3, 7];
+
+fn limits() -> &'static [u32] {
+    LIMITS
+}
+
+#[test]
+fn sets_are_those_of_the_plain_aggregator(rt: HostRuntime) -> Result<(), Fail> {
+    let alloc = rt.alloc();
+    for limit in limits() {
+        let table = table_of_numbers(alloc, TableKind::Set, *limit, false)?;
+        for count in counts() {
+            for seed in 1..10u64 {
+                let dealt = deal(alloc, seed, *count)?;
+                if dealt.len() < 1000 {
+                    let want = plain_rows(alloc, &table, &dealt, false)?;
+                    let rows = members_rows(alloc, &table, &dealt, seed % 3)?;
+                    assert!(rt; rows == want, "at {limit} and {count} from {seed}");
+                }
+            }
+        }
+    }
+    Ok(())
+}

@@ -1,0 +1,138 @@
+//! Values as bytes: what is read is written again, and what spells nothing isn't read.
+use std::alloc::Global;
+use std::test::Fail;
+use std::thread::Builder;
+use sz_flat::{FlatError, from_flat, to_flat};
+use sz_value::{NoMemory, Value, weight};
+
+// The bytes of values, and what the values weigh.
+const SPELLED: &[(&[u8], u64)] = &[
+    (&[1, 0], 1),
+    (&[1, 1], 1),
+    (&[2, 0x80, 0, 0, 0, 0, 0, 0, 0], 1),
+    (&[3, 255, 255, 255, 255, 255, 255, 255, 255], 1),
+    (&[4, 0, 0, 0, 0], 1),
+    (&[4, 0, 0, 0, 2, 0xc3, 0xa9], 3),
+    (&[5, 0, 0, 0, 2, 0xc3, 0xff], 3),
+    (&[6, 0, 0, 0, 0], 1),
+    (&[6, 0, 0, 0, 2, 1, 1, 6, 0, 0, 0, 1, 1, 0], 4),
+    (
+        &[
+            7, 0, 0, 0, 2, 2, 0, 0, 0, 0, 0, 0, 0, 1, 4, 0, 0, 0, 1, 0x61,
+        ],
+        4,
+    ),
+    (&[8, 0, 0, 0, 0], 1),
+    (&[8, 0, 0, 0, 2, 1, 0, 1, 1, 1, 1, 1, 0], 5),
+];
+
+// Bytes that spell nothing.
+const UNSPELLED: &[&[u8]] = &[
+    &[],
+    &[0],
+    &[9],
+    &[1],
+    &[1, 2],
+    &[1, 0, 0],
+    &[2, 0, 0, 0, 0, 0, 0, 0],
+    &[4, 0, 0, 0, 1],
+    &[4, 0, 0, 0],
+    &[4, 0, 0, 0, 1, 0xff],
+    &[4, 0, 0, 0, 1, 0x61, 0x62],
+    &[5, 0, 0, 0, 2, 7],
+    &[6, 0, 0, 0, 1],
+    &[6, 255, 255, 255, 255, 1, 0],
+    &[7, 0, 0, 0, 2, 1, 0],
+    &[
+        7, 0, 0, 0, 2, 2, 0, 0, 0, 0, 0, 0, 0, 1, 4, 0, 0, 0, 1, 0x61, 0x62,
+    ],
+    &[8, 0, 0, 0, 1, 1, 0],
+    &[8, 0, 0, 0, 2, 1, 1, 1, 1, 1, 0, 1, 0],
+    &[8, 0, 0, 0, 2, 1, 1, 1, 1, 1, 1, 1, 0],
+];
+
+// The tables behind calls, so that no proof sees what stands in them.
+fn spelled() -> &'static [(&'static [u8], u64)] {
+    SPELLED
+}
+
+fn unspelled() -> &'static [&'static [u8]] {
+    UNSPELLED
+}
+
+// Whether the bytes spell a value of this weight, and are written again.
+#[tactic(auto, using(sz_flat::proofs::ForCallers::short_spelling))]
+fn is_spelled(alloc: Global, flat: &[u8], weighs: u64) -> Result<bool, FlatError> {
+    let value = from_flat(alloc, flat)?;
+    let again = to_flat(alloc, &value)?;
+    Ok(again.as_slice() == flat && weight(&value) == weighs)
+}
+
+#[test]
+fn what_is_read_is_written_again(rt: HostRuntime) -> Result<(), Fail> {
+    for (flat, weighs) in spelled() {
+        let same = is_spelled(rt.alloc(), flat, *weighs).unwrap_or(false);
+        assert!(rt; same, "at {flat:?}");
+    }
+    Ok(())
+}
+
+#[test]
+fn what_spells_nothing_is_refused(rt: HostRuntime) -> Result<(), Fail> {
+    for flat in unspelled() {
+        let refused = matches!(&from_flat(rt.alloc(), flat), Err(FlatError::NotFlat));
+        assert!(rt; refused, "at {flat:?}");
+    }
+    Ok(())
+}
+
+// The parts of the worked example: a number and a text.
+fn parts_of(value: &Value) -> Option<(i64, &str)> {
+    match value {
+        Value::Tuple(parts) => match parts.as_slice() {
+            [Value::Int(number), Value::Str(text)] => Some((*number, text.as_str())),
+            _ => None,
+        },
+        _ => None,
+    }
+}
+
+#[test]
+fn a_tuple_has_its_parts(rt: HostRuntime) -> Result<(), Fail> {
+    let flat = [
+        7, 0, 0, 0, 2, 2, 0, 0, 0, 0, 0, 0, 0, 1, 4, 0, 0, 0, 1, 0x61,
+    ];
+    match from_flat(rt.alloc(), &flat) {
+        Ok(value) => assert!(rt; parts_of(&value) == Some((1, "a"))),
+        Err(_) => assert!(rt; false),
+    }
+    Ok(())
+}
+
+// The bytes of an array in an array in an array, and so on, with a truth value in the last.
+fn chain(alloc: Global, height: u64) -> Result<Vec<u8>, NoMemory> {
+    let mut flat = Vec::new(alloc);
+    for _ in 0..height {
+        flat.extend_from_slice(&[6, 0, 0, 0, 1])?;
+    }
+    flat.extend_from_slice(&[1, 0])?;
+    Ok(flat)
+}
+
+fn handle_chain(alloc: Global, height: u32) -> Result<bool, NoMemory> {
+    let height = u64::from(height);
+    let flat = chain(alloc, height)?;
+    Ok(is_spelled(alloc, &flat, height + 1).unwrap_or(false))
+}
+
+#[test]
+fn a_value_of_thirty_thousand_levels_fits_a_stack_of_256_mebibytes(
+    rt: HostRuntime,
+) -> Result<(), Fail> {
+    let alloc = rt.alloc();
+    let thread = Builder::new()
+        .stack_size(256 << 20)
+        .spawn(&rt, move || handle_chain(alloc, 30_000))?;
+    assert!(rt; thread.join(&rt)?);
+    Ok(())
+}
