@@ -67,7 +67,8 @@ gains_one old now next es e h more = record {
 }
 
 -- the emits up to a place were added
-module _ (old now : TotalState) (es : List EmitDatum) (i : ℕ) (e : EmitDatum) (there : i < length es) (is : e ≡ get_or es i e) (h : GainsAll old now (take i es)) where
+module _ (old now : TotalState) (es : List EmitDatum) (i : ℕ) (e : EmitDatum) (there : i < length es) (is : e ≡ get_or es i e)
+    (h : GainsAll old now (take i es)) where
   -- the next one fits its table
   pub next_fits : All (IsEmitTo old.tables) es → IsEmitTo now.tables e
   next_fits all =
