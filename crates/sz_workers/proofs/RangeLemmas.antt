@@ -1,10 +1,10 @@
 -- Records that are cut into shards make rounds.
-use Rattle.std.proofs.Common.{◌≡◌, ℕ, zero, suc, ◌+◌, ◌-◌, ◌^◌, ◌<◌, ◌≤◌, List, [], ◌∷◌, ◌++◌, length, take, drop, All}
+use Rattle.std.proofs.Common.{◌≡◌, ℕ, zero, suc, ◌+◌, ◌-◌, ◌^◌, ◌≤◌, List, [], ◌∷◌, ◌++◌, length, take, drop, All}
 use Rattle.std.proofs.Common.{refl, sym, ap, ◌∙◌, subst, arith}
 use Rattle.std.proofs.lemmas.List.Elements.{All-nil, All-cons}
-use Rattle.sz_records.specs.Shards.{AreShards, IsShard}
+use Rattle.sz_records.specs.Shards.{AreShards}
 use Rattle.sz_attempt.specs.declared.job.Shard.{Shard}
-use Rattle.sz_attempt.specs.Shards.{ShardData, IsShardIn, shard_at}
+use Rattle.sz_attempt.specs.Shards.{IsShardIn}
 use Rattle.sz_workers.specs.Outcomes.{FollowFrom, all_records}
 use Rattle.sz_workers.specs.Rounds.{numbered, AreNext}
 use Rattle.sz_workers.specs.Cuts.{ranges_of, cut_into, AreCut, MakesRounds}
@@ -52,11 +52,13 @@ pub numbered_cut : (number : ℕ) (records : List (List ℕ)) (place first : ℕ
 numbered_cut number records place first [] = refl
 numbered_cut number records place first (n ∷ sizes) =
     let same : place + n - place ≡ n = omega arith in
-    ap (λ m. record { number = number; first = first; records = take m (drop place records) } ∷ numbered (suc number) records (ranges_of (place + n) (first + n) sizes)) same
+    ap (λ m. record { number = number; first = first; records = take m (drop place records) } ∷ numbered (suc number) records (ranges_of (place + n)
+    (first + n) sizes)) same
     ∙ ap (λ l. record { number = number; first = first; records = take n (drop place records) } ∷ l)
     (numbered_cut (suc number) records (place + n) (first + n) sizes ∙ ap (λ rs. cut_into (suc number) (first + n) rs sizes) (sym (drop_more place n records)))
 
-follow : (most number first : ℕ) (records : List (List ℕ)) (sizes : List ℕ) → AreShards most records sizes → FollowFrom first (cut_into number first records sizes)
+follow : (most number first : ℕ) (records : List (List ℕ)) (sizes : List ℕ) → AreShards most records sizes
+    → FollowFrom first (cut_into number first records sizes)
 follow most number first records [] are = tt
 follow most number first records (n ∷ sizes) are =
     let long = length-take_within n records are.0.within in (
@@ -65,7 +67,8 @@ follow most number first records (n ∷ sizes) are =
           (follow most (suc number) (first + n) (drop n records) sizes are.1),
     )
 
-whole : (most number first : ℕ) (records : List (List ℕ)) (sizes : List ℕ) → AreShards most records sizes → all_records (cut_into number first records sizes) ≡ records
+whole : (most number first : ℕ) (records : List (List ℕ)) (sizes : List ℕ) → AreShards most records sizes
+    → all_records (cut_into number first records sizes) ≡ records
 whole most number first records [] are = sym are
 whole most number first records (n ∷ sizes) are =
     ap (λ rs. take n records ++ rs) (whole most (suc number) (first + n) (drop n records) sizes are.1) ∙ both_parts n records
