@@ -8,8 +8,8 @@ use Rattle.sz_attempt.specs.Shards.{ShardData}
 use Rattle.sz_attempt.specs.Attempts.{means, shard_means, is_lost, IsLost, HasFault, living_end, end_by, end_of, least_of, kills_of, has_effect, dies_at}
 use Rattle.sz_attempt.proofs.ForCallers.{joined, means-append, is_lost_where}
 use Rattle.sz_workers.proofs.OutcomeLemmas.{not_all}
-use Rattle.sz_attempt.specs.Attempts.{means, shard_means, is_lost, IsLost, HasFault, living_end, end_by, end_of, least_of}
-use Rattle.sz_attempt.specs.Attempts.{kills_of, has_effect, dies_at}
+use Rattle.sz_workers.specs.Outcomes.{ShardsEnd, emitted, faulted, lost, then_shards, of_records, outcome_of, Decides, IsFirst, IsOutcome}
+use Rattle.sz_workers.specs.Outcomes.{FollowFrom, all_records}
 
 module _ (job : Job) where
   is_not_lost : (shard : ShardData) → is_lost job shard ≡ false → ¬ IsLost job shard
