@@ -1,5 +1,6 @@
 -- Which of several numbers is the least, and by which kill an attempt dies.
-use Rattle.std.proofs.Common.{◌≡◌, ℕ, ◌<◌, ◌≤◌, ◌⊎◌, inl, inr, List, [], ◌∷◌, ◌++◌, length, take, min, Bool, true, false, cond, Option, Some, None, refl, sym, ap, ◌∙◌, arith}
+use Rattle.std.proofs.Common.{◌≡◌, ℕ, ◌<◌, ◌≤◌, ◌⊎◌, inl, inr, List, [], ◌∷◌, ◌++◌, length, take, min, Bool, true, false, cond, Option, Some, None}
+use Rattle.std.proofs.Common.{refl, sym, ap, ◌∙◌, arith}
 use Rattle.std.specs.Prelude.{filter, nat_le, ◌&&◌, if◌then◌else◌}
 use Rattle.std.proofs.lemmas.Bool.Decides.{nat_tests}
 use Rattle.sz_tabs.specs.Data.{EmitDatum}
@@ -27,19 +28,22 @@ kept p (Some n) = if p n then Some n else None
 
 -- the least of the numbers that pass is the least of all, if that one passes, where with a number all lesser ones pass
 module _ (p : ℕ → Bool) (closed : (a b : ℕ) → b ≤ a → p a ≡ true → p b ≡ true) where
-  both : (n m : ℕ) (a b : Bool) → p n ≡ a → p m ≡ b → kept p (Some (min n m)) ≡ (if a then Some (lesser n (if b then Some m else None)) else if b then Some m else None)
+  both : (n m : ℕ) (a b : Bool) → p n ≡ a → p m ≡ b
+      → kept p (Some (min n m)) ≡ (if a then Some (lesser n (if b then Some m else None)) else if b then Some m else None)
   both n m a b is_n is_m = by_order (order n m)
     where
       order : (x y : ℕ) → (x ≤ y) ⊎ (y ≤ x)
       order x y = grind arith
 
-      least_first : n ≤ m → (a b : Bool) → p n ≡ a → p m ≡ b → (if a then Some n else None) ≡ (if a then Some (lesser n (if b then Some m else None)) else if b then Some m else None)
+      least_first : n ≤ m → (a b : Bool) → p n ≡ a → p m ≡ b
+          → (if a then Some n else None) ≡ (if a then Some (lesser n (if b then Some m else None)) else if b then Some m else None)
       least_first le true true e f = let same : min n m ≡ n = omega (arith, le) in ap Some (sym same)
       least_first le true false e f = refl
       least_first le false true e f = absurd (let bad = closed m n le f in cc)
       least_first le false false e f = refl
 
-      least_last : m ≤ n → (a b : Bool) → p n ≡ a → p m ≡ b → (if b then Some m else None) ≡ (if a then Some (lesser n (if b then Some m else None)) else if b then Some m else None)
+      least_last : m ≤ n → (a b : Bool) → p n ≡ a → p m ≡ b
+          → (if b then Some m else None) ≡ (if a then Some (lesser n (if b then Some m else None)) else if b then Some m else None)
       least_last le true true e f = let same : min n m ≡ m = omega (arith, le) in ap Some (sym same)
       least_last le true false e f = absurd (let bad = closed n m le e in cc)
       least_last le false true e f = refl
@@ -57,7 +61,8 @@ module _ (p : ℕ → Bool) (closed : (a b : ℕ) → b ≤ a → p a ≡ true �
   least_kept [] = refl
   least_kept (n ∷ ns) = by (p n) refl (least_of ns) (least_kept ns)
     where
-      by : (a : Bool) → p n ≡ a → (o : Option ℕ) → least_of (filter p ns) ≡ kept p o → least_of (cond a (n ∷ filter p ns) (filter p ns)) ≡ kept p (Some (lesser n o))
+      by : (a : Bool) → p n ≡ a → (o : Option ℕ) → least_of (filter p ns) ≡ kept p o
+          → least_of (cond a (n ∷ filter p ns) (filter p ns)) ≡ kept p (Some (lesser n o))
       by true is None rest = ap (λ q. Some (lesser n q)) rest ∙ sym (ap (λ c. if c then Some n else None) is)
       by false is None rest = rest ∙ sym (ap (λ c. if c then Some n else None) is)
       by true is (Some m) rest = ap (λ q. Some (lesser n q)) rest ∙ sym (both n m true (p m) is refl)
@@ -87,7 +92,8 @@ module _ (job : Job) (shard : ShardData) where
   pub end_by_least : (k : ℕ) → end_of job shard k ≡ end_by (kept (has_effect job shard) (least_of (kills_of shard.number k job.kills))) (shard_means job shard)
   end_by_least k = ap (λ o. end_by o (shard_means job shard)) (least_kept (has_effect job shard) effect_closed (kills_of shard.number k job.kills))
 
-  effect_is : (after : ℕ) (c : Bool) → after ≤ length shard.records → is_clean (means job shard.first (take after shard.records)) ≡ c → has_effect job shard after ≡ c
+  effect_is : (after : ℕ) (c : Bool) → after ≤ length shard.records → is_clean (means job shard.first (take after shard.records)) ≡ c
+      → has_effect job shard after ≡ c
   effect_is after c le is = ap (λ b. b && is_clean (means job shard.first (take after shard.records))) (tested after (length shard.records) le) ∙ is
     where
       tested : (x n : ℕ) → x ≤ n → nat_le x n ≡ true
@@ -110,7 +116,8 @@ module _ (job : Job) (shard : ShardData) where
   lives : (k : ℕ) → IsDeath (kills_of shard.number k job.kills) (length shard.records) None → end_of job shard k ≡ living_end (shard_means job shard)
   lives k death = end_by_least k ∙ by (least_of (kills_of shard.number k job.kills)) refl
     where
-      by : (o : Option ℕ) → least_of (kills_of shard.number k job.kills) ≡ o → end_by (kept (has_effect job shard) o) (shard_means job shard) ≡ living_end (shard_means job shard)
+      by : (o : Option ℕ) → least_of (kills_of shard.number k job.kills) ≡ o
+          → end_by (kept (has_effect job shard) o) (shard_means job shard) ≡ living_end (shard_means job shard)
       by None is = refl
       by (Some after) is = ap (λ c. end_by (if c then Some after else None) (shard_means job shard)) (no_effect after (death after is))
 

@@ -27,7 +27,8 @@ module _ (job : Job) (records : List (List ℕ)) (shard : Shard) (is : IsShardIn
   long = length_of_range records shard.start shard.end is.within
 
   death_is : IsDeath (kills_of s k job.kills) (length (records_of records shard)) death
-  death_is = subst (λ ks. IsDeath (kills_of s k ks) (length (records_of records shard)) death) same (subst (λ n. IsDeath (kills_of s k kills) n death) (sym long) looked)
+  death_is = subst (λ ks. IsDeath (kills_of s k ks) (length (records_of records shard)) death) same (subst (λ n. IsDeath
+      (kills_of s k kills) n death) (sym long) looked)
 
   run_is : (d : Option ℕ) → death ≡ d → count ≡ run_of d (length (records_of records shard))
   run_is d e = counted ∙ ap (λ q. run_of q (shard.end - shard.start)) e ∙ ap (run_of d) (sym long)
@@ -38,7 +39,9 @@ module _ (job : Job) (records : List (List ℕ)) (shard : Shard) (is : IsShardIn
       (ap (λ n. means job shard.first (take n (records_of records shard))) (sym (run_is death refl))
       ∙ subst (RunsRecords job shard.first (take count (records_of records shard)) total) e ran)
 
-  whole : (d : Option ℕ) → death ≡ d → found ≡ None → (es : List EmitDatum) × (means job shard.first (take (run_of d (length (records_of records shard))) (records_of records shard)) ≡ Emitted es) × StandForEmits job.compiled total es
+  whole : (d : Option ℕ) → death ≡ d → found ≡ None
+      → (es : List EmitDatum) × (means job shard.first (take (run_of d (length (records_of records shard))) (records_of records shard))
+      ≡ Emitted es) × StandForEmits job.compiled total es
   whole d e none =
       let all = subst (RunsRecords job shard.first (take count (records_of records shard)) total) none ran in
       (all.0, ap (λ n. means job shard.first (take n (records_of records shard))) (sym (run_is d e)) ∙ all.1, all.2)
@@ -51,5 +54,9 @@ module _ (job : Job) (records : List (List ℕ)) (shard : Shard) (is : IsShardIn
   pub part_ends : found ≡ None → death ≡ None
       → (es : List EmitDatum) × (end_of job (shard_at s records shard) k ≡ gives es) × StandForEmits job.compiled total es
   part_ends none e =
-      let all = whole None e none in
-      (all.0, gives_so job (shard_at s records shard) k all.0 (subst (IsDeath (kills_of s k job.kills) (length (records_of records shard))) e death_is) all.1, all.2)
+      let all = whole None e none in (
+        all.0,
+        gives_so job (shard_at s records shard) k all.0 (subst (IsDeath (kills_of s k job.kills) (length
+            (records_of records shard))) e death_is) all.1,
+        all.2,
+      )

@@ -1,5 +1,6 @@
 -- What the kill list says of an attempt, and that the words name no attempt twice.
-use Rattle.std.proofs.Common.{◌≡◌, ℕ, zero, suc, ◌<◌, ◌≤◌, ◌⊎◌, inl, inr, List, [], ◌∷◌, ◌++◌, length, take, map, min, Bool, true, false, cond, Option, Some, None, refl, sym, ap, ◌∙◌, subst, arith, append-nil}
+use Rattle.std.proofs.Common.{◌≡◌, ℕ, zero, suc, ◌<◌, ◌≤◌, ◌⊎◌, inl, inr, List, [], ◌∷◌, ◌++◌, length, take, map, min, Bool, true, false, cond}
+use Rattle.std.proofs.Common.{Option, Some, None, refl, sym, ap, ◌∙◌, subst, arith, append-nil}
 use Rattle.std.specs.Prelude.{filter, nat_eq, nat_le, nat_lt, not, ◌&&◌, ◌||◌, if◌then◌else◌, ◌↔◌}
 use Rattle.std.specs.List.{Contains}
 use Rattle.std.specs.Option.{option_and_then}
@@ -12,7 +13,8 @@ use Rattle.sz_words.specs.declared.settings.Kill.{Kill}
 use Rattle.sz_mean.specs.Records.{Records, Emitted, FaultedAt}
 use Rattle.sz_attempt.specs.declared.job.Job.{Job}
 use Rattle.sz_attempt.specs.Shards.{ShardData}
-use Rattle.sz_attempt.specs.Attempts.{End, gives, faults, dies, kills_of, lesser, least_of, is_clean, living_end, end_by, means, shard_means, has_effect, deaths_of, end_of, DiedAfter, HasDied, IsLost, dies_at, all_die, is_lost}
+use Rattle.sz_attempt.specs.Attempts.{End, gives, faults, dies, kills_of, lesser, least_of, is_clean, living_end, end_by, means, shard_means}
+use Rattle.sz_attempt.specs.Attempts.{has_effect, deaths_of, end_of, DiedAfter, HasDied, IsLost, dies_at, all_die, is_lost}
 use Rattle.sz_attempt.specs.Running.{least_with}
 use Rattle.sz_attempt.proofs.DeathLemmas.{kept, least_push, effect_closed, end_by_least}
 
@@ -104,7 +106,8 @@ listed_least s k [] i (n, less, at) = absurd (omega arith)
 listed_least s k (one ∷ ks) i (zero, less, at) =
     let same : is_of s k one ≡ true = ap (is_of s k) at ∙ same_of s k i in
     let first = ap (λ (x : Kill). x.after) at in
-    by (least_of (kills_of s k ks)) first (kills_step s k one ks ∙ ap (λ b. if b then Some (lesser one.after (least_of (kills_of s k ks))) else least_of (kills_of s k ks)) same)
+    by (least_of (kills_of s k ks)) first (kills_step s k one ks
+    ∙ ap (λ b. if b then Some (lesser one.after (least_of (kills_of s k ks))) else least_of (kills_of s k ks)) same)
   where
     by : (o : Option ℕ) → one.after ≡ i → least_of (kills_of s k (one ∷ ks)) ≡ Some (lesser one.after o) → AtMost (least_of (kills_of s k (one ∷ ks))) i
     by None e is = record { least = one.after; is = is; below = omega (arith, e) }
@@ -128,7 +131,8 @@ module _ (job : Job) (shard : ShardData) (k : ℕ) where
   by_effect false after (Emitted es) j e = absurd (cc)
   by_effect false after (FaultedAt n f) j e = absurd (cc)
 
-  parts_of : (after : ℕ) → has_effect job shard after ≡ true → (after ≤ length shard.records) × (is_clean (means job shard.first (take after shard.records)) ≡ true)
+  parts_of : (after : ℕ) → has_effect job shard after ≡ true
+      → (after ≤ length shard.records) × (is_clean (means job shard.first (take after shard.records)) ≡ true)
   parts_of after h = by (nat_le after (length shard.records)) (is_clean (means job shard.first (take after shard.records))) refl refl h
     where
       at_most : (a b : ℕ) → nat_le a b ≡ true → a ≤ b
@@ -140,7 +144,8 @@ module _ (job : Job) (shard : ShardData) (k : ℕ) where
       by true false e f g = absurd (cc)
       by false y e f g = absurd (cc)
 
-  effect_of : (after : ℕ) → after ≤ length shard.records → ¬ (is_clean (means job shard.first (take after shard.records)) ≡ false) → has_effect job shard after ≡ true
+  effect_of : (after : ℕ) → after ≤ length shard.records → ¬ (is_clean (means job shard.first (take after shard.records)) ≡ false)
+      → has_effect job shard after ≡ true
   effect_of after le clean = by (nat_le after (length shard.records)) (is_clean (means job shard.first (take after shard.records))) refl refl
     where
       tested : (a b : ℕ) → a ≤ b → nat_le a b ≡ true
@@ -159,7 +164,8 @@ module _ (job : Job) (shard : ShardData) (k : ℕ) where
       not_dead (Emitted es) e = absurd (cc)
       not_dead (FaultedAt n f) e = absurd (cc)
 
-      dead : (after : ℕ) → least_of (kills_of shard.number k job.kills) ≡ Some after → (has_effect job shard after ≡ true) × (after ≡ j) → DiedAfter job shard k j
+      dead : (after : ℕ) → least_of (kills_of shard.number k job.kills) ≡ Some after → (has_effect job shard after ≡ true) × (after ≡ j)
+          → DiedAfter job shard k j
       dead after at h =
           let parts = parts_of after h.0 in
           subst (DiedAfter job shard k) h.1 (record {
@@ -168,7 +174,8 @@ module _ (job : Job) (shard : ShardData) (k : ℕ) where
             clean = λ bad. absurd (let good = parts.1 in cc);
           })
 
-      by : (o : Option ℕ) → least_of (kills_of shard.number k job.kills) ≡ o → end_by (kept (has_effect job shard) o) (shard_means job shard) ≡ dies j → DiedAfter job shard k j
+      by : (o : Option ℕ) → least_of (kills_of shard.number k job.kills) ≡ o
+          → end_by (kept (has_effect job shard) o) (shard_means job shard) ≡ dies j → DiedAfter job shard k j
       by None at e = absurd (not_dead (shard_means job shard) e)
       by (Some after) at e = dead after at (by_effect (has_effect job shard after) after (shard_means job shard) j e)
 
@@ -257,7 +264,8 @@ different_more ks one free h s k i j first second = by (Contains-push_cases ks o
     by (inr a) (inl b) = absurd (among j b i a)
     by (inr a) (inr b) = ap (λ (x : Kill). x.after) (sym a ∙ b)
 
-different_with : (ks : List Kill) (entries : List (List ℕ)) (result : List Kill) → kills_with ks entries ≡ Some result → AreOfDifferentAttempts ks → AreOfDifferentAttempts result
+different_with : (ks : List Kill) (entries : List (List ℕ)) (result : List Kill) → kills_with ks entries ≡ Some result → AreOfDifferentAttempts ks
+    → AreOfDifferentAttempts result
 different_with ks [] result is h = subst AreOfDifferentAttempts (kills_same ks result is) h
   where
     kills_same : (a b : List Kill) → Some a ≡ Some b → a ≡ b

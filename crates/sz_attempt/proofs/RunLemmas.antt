@@ -1,5 +1,6 @@
 -- How the records of a shard are run one after the other.
-use Rattle.std.proofs.Common.{◌≡◌, ℕ, zero, suc, ◌+◌, ◌-◌, ◌*◌, ◌^◌, ◌<◌, ◌≤◌, List, [], ◌∷◌, ◌++◌, length, get_or, take, drop, Some, All, refl, sym, ap, ◌∙◌, subst, arith, append_assoc, append-nil, length-append}
+use Rattle.std.proofs.Common.{◌≡◌, ℕ, zero, suc, ◌+◌, ◌-◌, ◌*◌, ◌^◌, ◌<◌, ◌≤◌, List, [], ◌∷◌, ◌++◌, length, get_or, take, drop, Some, All, refl, sym}
+use Rattle.std.proofs.Common.{ap, ◌∙◌, subst, arith, append_assoc, append-nil, length-append}
 use Rattle.std.specs.Prelude.{slice_get}
 use Rattle.std.specs.List.{slice_range}
 use Rattle.std.proofs.lemmas.List.Elements.{All-get_or}
@@ -79,7 +80,8 @@ gains_one old now next es e h more = record {
 }
 
 -- the emits up to a place were added
-module _ (old now : TotalState) (es : List EmitDatum) (i : ℕ) (e : EmitDatum) (there : i < length es) (is : e ≡ get_or es i e) (h : GainsAll old now (take i es)) where
+module _ (old now : TotalState) (es : List EmitDatum) (i : ℕ) (e : EmitDatum) (there : i < length es) (is : e ≡ get_or es i e) (h : GainsAll old now
+    (take i es)) where
   -- the next one fits its table
   pub next_fits : All (IsEmitTo old.tables) es → IsEmitTo now.tables e
   next_fits all =

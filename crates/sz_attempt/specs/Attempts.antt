@@ -1,5 +1,6 @@
 -- Which attempts die, what the others give, and which shards are lost or fault.
-use Rattle.std.specs.Prelude.{◌≡◌, ℕ, zero, suc, ◌<◌, ◌≤◌, List, [], ◌∷◌, length, take, map, filter, min, Bool, true, false, ◌&&◌, nat_eq, nat_le, Option, Some, None}
+use Rattle.std.specs.Prelude.{◌≡◌, ℕ, zero, suc, ◌<◌, ◌≤◌, List, [], ◌∷◌, length, take, map, filter, min, Bool, true, false, ◌&&◌, nat_eq, nat_le}
+use Rattle.std.specs.Prelude.{Option, Some, None}
 use Rattle.std.specs.List.{Contains}
 use Rattle.sz_tabs.specs.Data.{EmitDatum}
 use Rattle.sz_world.specs.World.{Fault}

@@ -9,7 +9,7 @@ drop_nothing : {A : Type 0} (n : ℕ) → drop {A = A} n [] ≡ []
 drop_nothing zero = refl
 drop_nothing (suc n) = refl
 
-drop_more : {A : Type 0} (s n : ℕ) (xs : List A) → drop n (drop s xs) ≡ drop (s + n) xs
+pub drop_more : {A : Type 0} (s n : ℕ) (xs : List A) → drop n (drop s xs) ≡ drop (s + n) xs
 drop_more zero n xs = let same : n ≡ 0 + n = omega arith in ap (λ m. drop m xs) same
 drop_more (suc s) n [] = drop_nothing n ∙ sym (drop_nothing (suc s + n))
 drop_more (suc s) n (x ∷ xs) = let next : suc s + n ≡ suc (s + n) = omega arith in drop_more s n xs ∙ ap (λ m. drop m (x ∷ xs)) (sym next)
@@ -25,7 +25,7 @@ abbrev pub total : List ℕ → ℕ
 total [] = 0
 total (size ∷ sizes) = size + total sizes
 
-abbrev shard_of : ℕ → ℕ → ℕ → Shard
+abbrev pub shard_of : ℕ → ℕ → ℕ → Shard
 shard_of first start end = record { first = first; start = start; end = end }
 
 -- one shard more behind the others

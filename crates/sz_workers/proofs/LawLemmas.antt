@@ -1,13 +1,15 @@
 -- The first shard that faults or is lost decides, and the emits of shards are those of all their records.
-use Rattle.std.proofs.Common.{◌≡◌, ℕ, ◌+◌, List, [], ◌∷◌, ◌++◌, length, Bool, true, false, inl, inr, refl, sym, ap, ◌∙◌}
-use Rattle.std.specs.Prelude.{if◌then◌else◌}
+use Rattle.std.proofs.Common.{◌≡◌, ℕ, ◌+◌, ◌≤◌, List, [], ◌∷◌, ◌++◌, length, Bool, true, false, inl, inr, refl, sym, ap, ◌∙◌, arith}
+use Rattle.std.specs.Prelude.{if◌then◌else◌, filter}
 use Rattle.sz_tabs.specs.Data.{EmitDatum}
 use Rattle.sz_mean.specs.Records.{Records, Emitted, FaultedAt}
 use Rattle.sz_attempt.specs.declared.job.Job.{Job}
 use Rattle.sz_attempt.specs.Shards.{ShardData}
-use Rattle.sz_attempt.specs.Attempts.{means, shard_means, is_lost, IsLost, HasFault}
+use Rattle.sz_attempt.specs.Attempts.{means, shard_means, is_lost, IsLost, HasFault, living_end, end_by, end_of, least_of, kills_of, has_effect, dies_at}
 use Rattle.sz_attempt.proofs.ForCallers.{joined, means-append, is_lost_where}
-use Rattle.sz_workers.specs.Outcomes.{ShardsEnd, emitted, faulted, lost, then_shards, outcome_of, Decides, IsFirst, IsOutcome, FollowFrom, all_records}
+use Rattle.sz_workers.proofs.OutcomeLemmas.{not_all}
+use Rattle.sz_workers.specs.Outcomes.{ShardsEnd, emitted, faulted, lost, then_shards, of_records, outcome_of, Decides, IsFirst, IsOutcome}
+use Rattle.sz_workers.specs.Outcomes.{FollowFrom, all_records}
 
 module _ (job : Job) where
   is_not_lost : (shard : ShardData) → is_lost job shard ≡ false → ¬ IsLost job shard
@@ -70,3 +72,30 @@ module _ (job : Job) where
           means-append job first s.records (all_records shards)
           ∙ ap (λ r. joined r (means job (first + length s.records) (all_records shards))) (here (Emitted fs) gives)
           ∙ ap (joined (Emitted fs)) (rest gs refl) ∙ ap Emitted (same (fs ++ gs) es h)
+
+-- without kills no attempt dies
+module _ (job : Job) (none : job.kills ≡ []) (some : 1 ≤ job.attempts) where
+  lives : (shard : ShardData) (k : ℕ) → end_of job shard k ≡ living_end (shard_means job shard)
+  lives shard k = ap (λ ks. end_by (least_of (filter (has_effect job shard) (kills_of shard.number k ks))) (shard_means job shard)) none
+
+  not_lost : (shard : ShardData) → is_lost job shard ≡ false
+  not_lost shard = not_all job shard job.attempts 0 (omega (arith, some)) (ap dies_at (lives shard 0) ∙ living (shard_means job shard))
+    where
+      living : (r : Records) → dies_at (living_end r) ≡ false
+      living (Emitted es) = refl
+      living (FaultedAt n f) = refl
+
+  then_of : (r q : Records) → then_shards r (of_records q) ≡ of_records (joined r q)
+  then_of (Emitted es) (Emitted fs) = refl
+  then_of (Emitted es) (FaultedAt n f) = refl
+  then_of (FaultedAt n f) q = refl
+
+  pub records_decide : (first : ℕ) (shards : List ShardData) → FollowFrom first shards
+      → outcome_of job shards ≡ of_records (means job first (all_records shards))
+  records_decide first [] follow = refl
+  records_decide first (s ∷ shards) follow =
+      ap (λ b. if b then lost s.number else then_shards (shard_means job s) (outcome_of job shards)) (not_lost s)
+      ∙ ap (then_shards (shard_means job s)) (records_decide (first + length s.records) shards follow.1)
+      ∙ then_of (shard_means job s) (means job (first + length s.records) (all_records shards))
+      ∙ ap (λ n. of_records (joined (means job n s.records) (means job (first + length s.records) (all_records shards)))) follow.0
+      ∙ ap of_records (sym (means-append job first s.records (all_records shards)))

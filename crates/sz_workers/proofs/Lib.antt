@@ -7,3 +7,4 @@ pub mod TicketLemmas
 pub mod LawLemmas
 pub mod PlanLemmas
 pub mod CutLemmas
+pub mod RangeLemmas

@@ -1,13 +1,14 @@
 -- Tickets in order of shards, made one shard after the other.
 use Rattle.std.proofs.Common.{◌≡◌, ℕ, zero, suc, ◌+◌, ◌<◌, ◌≤◌, List, [], ◌∷◌, ◌++◌, length, Bool, true, false}
-use Rattle.std.proofs.Common.{◌⊎◌, inl, inr, refl, sym, ap, ◌∙◌, subst, arith, length-append}
+use Rattle.std.proofs.Common.{◌⊎◌, inl, inr, refl, sym, ap, ◌∙◌, subst, arith, length-append, append_assoc, append-nil}
 use Rattle.std.specs.Prelude.{slice_index, ◌==◌, if◌then◌else◌}
 use Rattle.std.proofs.lemmas.Bool.Decides.{nat_tests}
 use Rattle.sz_book.specs.Plan.{IsPlan, tickets_of}
+use Rattle.sz_words.specs.Lists.{is_among}
 use Rattle.sz_attempt.specs.declared.job.Job.{Job}
 use Rattle.sz_workers.specs.declared.round.Round.{Round}
 use Rattle.sz_workers.specs.Rounds.{IsRound}
-use Rattle.sz_workers.specs.Tickets.{AllBelow, AreInOrder, AreTickets, IsPlanOf}
+use Rattle.sz_workers.specs.Tickets.{AllBelow, AreInOrder, AreTickets, IsPlanOf, tickets_for, tickets_upto}
 
 -- a list with one item behind it, at its places
 push_front : (ts : List ℕ) (x i : ℕ) → i < length ts → slice_index (ts ++ x ∷ []) i ≡ slice_index ts i
@@ -82,7 +83,7 @@ order_push ts x h last t n there below = by (order t (length ts)) (omega (arith,
         omega (arith, front, is)
     by (inr (inr above)) l = absurd (omega (arith, above, l))
 
-pub no_tickets : AreTickets 0 []
+no_tickets : AreTickets 0 []
 no_tickets = record {
   below = λ t less. absurd (omega arith);
   order = λ t s less below. absurd (omega arith);
@@ -148,7 +149,7 @@ second_ticket n ts h =
     by s less (inr (inr above)) = absurd (omega (arith, less, above))
 
 -- one shard more, with one or two tickets
-pub shard_more : (n : ℕ) (ts more new : List ℕ) → AreTickets n ts → new ≡ (ts ++ n ∷ []) ++ more → (more ≡ []) ⊎ (more ≡ n ∷ []) → AreTickets (n + 1) new
+shard_more : (n : ℕ) (ts more new : List ℕ) → AreTickets n ts → new ≡ (ts ++ n ∷ []) ++ more → (more ≡ []) ⊎ (more ≡ n ∷ []) → AreTickets (n + 1) new
 shard_more n ts more new h is (inl none) =
     subst (AreTickets (n + 1)) (sym (is ∙ ap (λ ms. (ts ++ n ∷ []) ++ ms) none ∙ nothing (ts ++ n ∷ []))) (first_ticket n ts h)
   where
@@ -157,23 +158,45 @@ shard_more n ts more new h is (inl none) =
     nothing (x ∷ xs) = ap (λ ys. x ∷ ys) (nothing xs)
 shard_more n ts more new h is (inr one) = subst (AreTickets (n + 1)) (sym (is ∙ ap (λ ms. (ts ++ n ∷ []) ++ ms) one)) (second_ticket n ts h)
 
--- the tickets of a round's shards make its plan
-pub makes_plan : (job : Job) (round : Round) (shards : ℕ) (tickets : List ℕ) → (1 ≤ job.attempts) × (job.attempts ≤ 8) → IsRound round
-    → shards ≡ length round.shards → AreTickets shards tickets → IsPlan (record { shards = shards; attempts = job.attempts; tickets = tickets })
-makes_plan job round shards tickets attempts is same h = record {
-  shards = omega (arith, is.few, same);
-  attempts = attempts;
-  tickets = omega (arith, is.few, same, h.few);
-  within = h.below;
-  each = h.each;
-}
+-- the tickets of so many shards are these
+pub upto_more : (twice : List ℕ) (first n : ℕ) (old new : List ℕ) (doubled : Bool) → old ≡ tickets_upto twice first n → doubled ≡ is_among (first + n) twice
+    → new ≡ old ++ tickets_for doubled n → new ≡ tickets_upto twice first (n + 1)
+upto_more twice first n old new doubled so test is =
+    let next : n + 1 ≡ suc n = omega arith in
+    is ∙ ap (λ ts. ts ++ tickets_for doubled n) so ∙ ap (λ b. tickets_upto twice first n ++ tickets_for b n) test ∙ ap (tickets_upto twice first) (sym next)
 
-pub plan_of_round : (job : Job) (round : Round) (shards : ℕ) (tickets : List ℕ) → (1 ≤ job.attempts) × (job.attempts ≤ 8) → IsRound round
-    → shards ≡ length round.shards → AreTickets shards tickets → IsPlanOf job round (record { shards = shards; attempts = job.attempts; tickets = tickets })
-plan_of_round job round shards tickets attempts is same h = record {
-  plan = makes_plan job round shards tickets attempts is same h;
-  shards = same;
-  attempts = refl;
-  order = h.order;
-  last = h.last;
-}
+upto_are : (twice : List ℕ) (first n : ℕ) → AreTickets n (tickets_upto twice first n)
+upto_are twice first zero = no_tickets
+upto_are twice first (suc n) =
+    let next : n + 1 ≡ suc n = omega arith in
+    subst (λ m. AreTickets m (tickets_upto twice first (suc n))) next
+    (by (is_among (first + n) twice) (tickets_upto twice first n) (upto_are twice first n))
+  where
+    by : (b : Bool) (ts : List ℕ) → AreTickets n ts → AreTickets (n + 1) (ts ++ tickets_for b n)
+    by true ts h = shard_more n ts (n ∷ []) (ts ++ n ∷ n ∷ []) h (sym (append_assoc ts (n ∷ []) (n ∷ []))) (inr refl)
+    by false ts h = shard_more n ts [] (ts ++ n ∷ []) h (sym (append-nil (ts ++ n ∷ []))) (inl refl)
+
+-- they make the plan of a round
+module _ (job : Job) (round : Round) (shards : ℕ) (tickets : List ℕ) (attempts : (1 ≤ job.attempts) × (job.attempts ≤ 8)) (is : IsRound round)
+    (same : shards ≡ length round.shards) (made : tickets ≡ tickets_upto job.twice round.first_shard shards) where
+  are : AreTickets shards tickets
+  are = subst (AreTickets shards) (sym made) (upto_are job.twice round.first_shard shards)
+
+  pub makes_plan : IsPlan (record { shards = shards; attempts = job.attempts; tickets = tickets })
+  makes_plan = record {
+    shards = omega (arith, is.few, same);
+    attempts = attempts;
+    tickets = omega (arith, is.few, same, are.few);
+    within = are.below;
+    each = are.each;
+  }
+
+  pub plan_of_round : IsPlanOf job round (record { shards = shards; attempts = job.attempts; tickets = tickets })
+  plan_of_round = record {
+    plan = makes_plan;
+    shards = same;
+    attempts = refl;
+    tickets = made;
+    order = are.order;
+    last = are.last;
+  }

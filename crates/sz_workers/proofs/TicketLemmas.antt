@@ -126,7 +126,8 @@ module _ (job : Job) (round : Round) where
         by : (t : ℕ) → (t ≡ x.core.state.drawn) ⊎ ((t < x.core.state.drawn) ⊎ (x.core.state.drawn < t)) → t < x.core.state.drawn + 1
             → slice_index x.core.plan.tickets t < new.won
         by t (inl same) l =
-            let shard : c.shard ≡ slice_index x.core.plan.tickets t = ap (λ (q : Claim). q.shard) drawn.claim ∙ ap (slice_index x.core.plan.tickets) (sym same) in
+            let shard : c.shard ≡ slice_index x.core.plan.tickets t = ap (λ (q : Claim). q.shard) drawn.claim
+            ∙ ap (slice_index x.core.plan.tickets) (sym same) in
             omega (arith, counted.won, shard)
         by t (inr (inl below)) l = let before = done t below in omega (arith, before, counted.keeps.won)
         by t (inr (inr above)) l = absurd (omega (arith, above, l))

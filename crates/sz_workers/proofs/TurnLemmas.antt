@@ -138,7 +138,8 @@ module _ (job : Job) (round : Round) where
         let at : slice_get ss x.won ≡ Some shard = subst (λ s. slice_get ss s ≡ Some shard) here there in
         let all = gave_all x.core core c takes in
         let enough : job.attempts ≤ way.given =
-        subst (λ n. n ≤ way.given) way.plan.attempts (subst (λ n. x.core.plan.attempts ≤ n) (ap (λ s. slice_index x.core.state.given s) here ∙ way.stands.numbers) all.all) in
+        subst (λ n. n ≤ way.given) way.plan.attempts (subst (λ n. x.core.plan.attempts ≤ n) (ap (λ s. slice_index x.core.state.given s) here
+        ∙ way.stands.numbers) all.all) in
         lost_at job ss x.won shard at way.stands.emits way.stands.front
         (fewer_died job shard job.attempts way.given enough (way.stands.all_died shard at))
 
@@ -283,14 +284,29 @@ module _ (job : Job) (round : Round) where
         unplaced : List ℕ
         unplaced = slice_set x.core.state.unplaced c.shard (0 + 1)
 
-        new_core : core ≡ record x.core { state = record x.core.state { winners = slice_set x.core.state.winners c.shard (k + 1); unplaced = slice_set x.core.state.unplaced c.shard (0 + 1) } }
+        new_core : core ≡ record x.core {
+          state = record x.core.state {
+            winners = slice_set x.core.state.winners c.shard (k + 1);
+            unplaced = slice_set x.core.state.unplaced c.shard (0 + 1);
+          };
+        }
         new_core =
             settles.leaves
-            ∙ ap (λ b. record x.core { state = if b then record x.core.state { winners = slice_set x.core.state.winners c.shard (k + 1); unplaced = slice_set x.core.state.unplaced c.shard (0 + 1) } else x.core.state }) (sym settles.first)
+            ∙ ap (λ b. record x.core {
+              state = if b then record x.core.state {
+                winners = slice_set x.core.state.winners c.shard (k + 1);
+                unplaced = slice_set x.core.state.unplaced c.shard (0 + 1);
+              } else x.core.state;
+            }) (sym settles.first)
 
         counted : c.shard ≡ x.won → Stands job ss (k + 1) k x
             → Counted job round x c (record {
-              core = record x.core { state = record x.core.state { winners = slice_set x.core.state.winners c.shard (k + 1); unplaced = slice_set x.core.state.unplaced c.shard (0 + 1) } };
+              core = record x.core {
+                state = record x.core.state {
+                  winners = slice_set x.core.state.winners c.shard (k + 1);
+                  unplaced = slice_set x.core.state.unplaced c.shard (0 + 1);
+                };
+              };
               total = total;
               won = x.won + 1;
             })
@@ -319,7 +335,8 @@ module _ (job : Job) (round : Round) where
             order : (a b : ℕ) → (a ≡ b) ⊎ ((a < b) ⊎ (b < a))
             order a b = grind arith
 
-            settled_by : (s : ℕ) → s < x.won + 1 → (s ≡ x.won) ⊎ ((s < x.won) ⊎ (x.won < s)) → 0 < slice_index (slice_set x.core.state.winners c.shard (k + 1)) s
+            settled_by : (s : ℕ) → s < x.won + 1 → (s ≡ x.won) ⊎ ((s < x.won) ⊎ (x.won < s))
+                → 0 < slice_index (slice_set x.core.state.winners c.shard (k + 1)) s
             settled_by s less (inl e) =
                 let same : c.shard ≡ s = here ∙ sym e in
                 let set = set_same x.core.state.winners c.shard (k + 1) (omega (arith, is.within, stands.rows.1)) in
@@ -340,7 +357,12 @@ module _ (job : Job) (round : Round) where
         same_core : core ≡ x.core
         same_core =
             settles.leaves
-            ∙ ap (λ b. record x.core { state = if b then record x.core.state { winners = slice_set x.core.state.winners c.shard (k + 1); unplaced = slice_set x.core.state.unplaced c.shard (0 + 1) } else x.core.state }) (sym settles.first)
+            ∙ ap (λ b. record x.core {
+              state = if b then record x.core.state {
+                winners = slice_set x.core.state.winners c.shard (k + 1);
+                unplaced = slice_set x.core.state.unplaced c.shard (0 + 1);
+              } else x.core.state;
+            }) (sym settles.first)
 
         by : ((c.shard ≡ x.won) × Stands job ss (k + 1) k x) ⊎ ((c.shard < x.won) × ((g : ℕ) × Stands job ss g g x)) → Counted job round x c x
         by (inl (here, stands)) = let none = stands.unsettled c.shard (omega (arith, here)) in absurd (omega (arith, some, none))

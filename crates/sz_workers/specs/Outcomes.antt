@@ -59,6 +59,11 @@ IsOutcome job shards (faulted number fault) =
     (shard : ShardData) × IsFirst job shards shard × ¬ IsLost job shard × (shard_means job shard ≡ FaultedAt number fault)
 IsOutcome job shards (lost number) = (shard : ShardData) × IsFirst job shards shard × IsLost job shard × (shard.number ≡ number)
 
+-- what comes of records that are run as one shard that isn't lost
+abbrev pub of_records : Records → ShardsEnd
+of_records (Emitted emits) = emitted emits
+of_records (FaultedAt number fault) = faulted number fault
+
 -- the shards lie behind each other: each begins with the record behind those of the one before it, and the first with this number
 abbrev pub FollowFrom : ℕ → List ShardData → Type 0
 FollowFrom first [] = Unit {0}

@@ -11,7 +11,8 @@ mod running;
 
 pub use cutting::cut_shards;
 pub use laws::{
-    emits_of_shards_are_those_of_all_records, rounds_follow_each_other, the_first_shard_decides,
+    cuts_make_rounds, emits_of_shards_are_those_of_all_records, records_decide_without_kills,
+    rounds_follow_each_other, the_first_shard_decides,
 };
 pub use round::{Round, RoundEnd};
 pub use running::run_round;

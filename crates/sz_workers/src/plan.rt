@@ -1,7 +1,8 @@
 //! The plan of a round.
-ghost use Rattle.std.specs.Prelude.{◌≡◌, ◌+◌, ◌<◌, ◌≤◌, ◌∷◌, ◌++◌, ◌^◌, ◌⊎◌, [], ℕ, List, length, IfOk, OnOk};
+ghost use Rattle.std.specs.Prelude.{◌≡◌, ◌+◌, ◌<◌, ◌≤◌, ◌++◌, ◌^◌, length, IfOk, OnOk};
 ghost use Rattle.sz_workers.specs.Rounds.{IsRound};
-ghost use Rattle.sz_workers.specs.Tickets.{IsPlanOf, AreTickets};
+ghost use Rattle.sz_workers.specs.Tickets.{IsPlanOf, tickets_for, tickets_upto};
+ghost use Rattle.sz_words.specs.Lists.{is_among};
 
 use crate::round::Round;
 use std::alloc::Global;
@@ -25,7 +26,7 @@ pub(crate) fn plan_of(alloc: Global, job: &Job, round: &Round) -> Result<Plan, N
 fn tickets_of(alloc: Global, twice: &[u32], first: u64, shards: usize) -> Result<Tickets, NoMemory>
     requires few { shards ≤ 4096 }
     requires numbers { first + shards ≤ 2 ^ 31 + 1 }
-    ensures value { IfOk result (λ tickets. AreTickets shards tickets) }
+    ensures value { IfOk result (λ tickets. tickets ≡ tickets_upto twice.now first shards) }
 {
     let mut tickets = Items::new(alloc);
     for shard in 0..shards {
@@ -37,7 +38,7 @@ fn tickets_of(alloc: Global, twice: &[u32], first: u64, shards: usize) -> Result
 
 // Adds the ticket of a shard, and a second one where it is doubled.
 fn add_tickets(tickets: &mut Tickets, shard: u32, doubled: bool) -> Result<(), NoMemory>
-    ensures value { OnOk result ((more : List ℕ) × (tickets.new ≡ (tickets.old ++ shard ∷ []) ++ more) × ((more ≡ []) ⊎ (more ≡ shard ∷ []))) }
+    ensures value { OnOk result (tickets.new ≡ tickets.old ++ tickets_for doubled shard) }
 {
     tickets.push(shard)?;
     if doubled {
@@ -47,6 +48,13 @@ fn add_tickets(tickets: &mut Tickets, shard: u32, doubled: bool) -> Result<(), N
 }
 
 // Whether the shard has a second ticket.
-fn is_doubled(twice: &[u32], shard: u64) -> bool {
-    twice.iter().any(|other| u64::from(*other) == shard)
+fn is_doubled(twice: &[u32], shard: u64) -> bool
+    ensures value { result ≡ is_among shard twice.now }
+{
+    for other in twice {
+        if u64::from(*other) == shard {
+            return true;
+        }
+    }
+    false
 }

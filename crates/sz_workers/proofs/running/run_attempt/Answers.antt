@@ -16,7 +16,8 @@ returns g c =
     let number = ap (λ n. round.first_shard + n) c.from.ensures in
     record {
       value = IfOk-weaker c.attempt.result
-          (EndsSo c.args.job.now.compiled (end_of c.args.job.now (shard_at (round.first_shard + c.from.result) round.records c.get-shard.result.now) c.args.number))
+          (EndsSo c.args.job.now.compiled (end_of c.args.job.now (shard_at
+          (round.first_shard + c.from.result) round.records c.get-shard.result.now) c.args.number))
           (IsEndOf c.args.job.now round claim.shard c.args.number)
           (λ end is. (
             shard_at (round.first_shard + claim.shard) round.records c.get-shard.result.now,
