@@ -106,19 +106,11 @@ table_sound k n f = bind_holds (known (kind_of f.kind)) (λ kind is_kind.
 seen_by_static : (locals : List Shape) (seen : List ℕ) (d : Declared) (m : Meaning) → is_seen_by_statics m ≡ true
     → Fits (record_sight locals seen d) m → Fits (static_sight d) m
 seen_by_static locals seen d (names.variable n t) is f = absurd (true≢false (sym is))
+seen_by_static locals seen d (names.quantified n t) is f = absurd (true≢false (sym is))
 seen_by_static locals seen d (names.static n t) is f = record { here = f.here; formed = f.formed }
 seen_by_static locals seen d (names.type_name t) is f = f
 seen_by_static locals seen d (names.table n e) is f = absurd (true≢false (sym is))
-seen_by_static locals seen d (names.function n s) is f = record {
-  seen = f.seen;
-  here = f.here;
-  parameters = f.parameters;
-  result = f.result;
-  emits = λ e may. ap (λ b. not b || false) (sym e ∙ f.exact refl) ∙ may;
-  exact = λ i. absurd (true≢false (sym i));
-  takes = f.takes;
-  gives = f.gives;
-}
+seen_by_static locals seen d (names.function n s) is f = record { here = f.here; takes = f.takes; gives = f.gives }
 seen_by_static locals seen d (names.predeclared b) is f = tt
 seen_by_static locals seen d names.input is f = absurd (true≢false (sym is))
 

@@ -1,10 +1,16 @@
 mod SceneLemmas
+mod BoundLemmas
+mod WhenSound
 mod PathLemmas
 mod StatementLemmas
 mod StatementSound
 mod ItemLemmas
 mod TopLemmas
 mod ItemSound
+mod ExpressionEmits
+mod HiddenLemmas
+mod StatementEmits
+mod FunctionEmits
 mod FunctionSound
 mod ProgramSound
 mod StandardFacts

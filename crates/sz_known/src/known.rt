@@ -205,8 +205,8 @@ impl Known {
         self.types.add(written)
     }
 
-    // What the name stands for, if anything that is seen has it.
-    fn find(&self, site: Site, name: &Name) -> Option<Means<'_>>
+    /// What the name stands for where an expression stands, if anything that is seen has it.
+    pub fn find(&self, site: Site, name: &Name) -> Option<Means<'_>>
         ensures value { maybe_means_of result ≡ names.meaning_of name.now.text (blocks_for self.now site) }
         ensures types { IfSome result (IsOfTypes self.now.outside.types) }
     {
@@ -307,13 +307,6 @@ impl Known {
         self.declare(alloc, name, Meaning::Quantified(number, copy))?;
         self.locals.push(ty)?;
         Ok(number)
-    }
-
-    /// Takes the newest name out of the innermost block.
-    pub fn undeclare(&mut self)
-        ensures value { (n : Named) (b : Block) → self.old.innermost ≡ n ∷ b → self.new ≡ record self.old { innermost = b } }
-    {
-        self.scopes.undeclare();
     }
 
     /// An empty block more, inside.
