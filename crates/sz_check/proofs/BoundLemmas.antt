@@ -23,7 +23,7 @@ use Rattle.sz_known.specs.JudgingTypes.{judge_type}
 use Rattle.sz_known.specs.Scene.{Scene, with_quantified}
 use Rattle.sz_check_expr.specs.JudgingExpressions.{judge_exp}
 use Rattle.sz_check.specs.EmittingTrees.{is_seen_inside}
-use Rattle.sz_check.specs.Quantifying.{Variable, Declared, judge_names, judge_quantifier, judge_quantifiers, bind, bind_inside, all_last, are_of, checked}
+use Rattle.sz_check.specs.Quantifying.{Variable, Declared, judge_names, judge_quantifier, judge_quantifiers, bind, bind_inside, all_must_be_last, all_last, are_of, checked}
 use Rattle.sz_check.specs.Quantifying.{Based, judge_base, judge_bases}
 use Rattle.sz_core.proofs.ForCallers.{some_has, formed_at}
 use Rattle.sz_known.proofs.Holds.{Holds, good, ok_holds, err_holds, bind_holds, known, weaker, if_holds, unless_holds}
@@ -312,18 +312,29 @@ abbrev last_of : Bool → List core.Quantified → Bool
 last_of true qs = are_for_all qs
 last_of false qs = is_all_last qs
 
-pub last_those : (after : Bool) (vs : List Variable) (qs : List core.Quantified) → AreThose vs qs → Holds (all_last after vs) (λ u. last_of after qs ≡ true)
+pub last_those : (after : Bool) (vs : List Variable) (qs : List core.Quantified) → AreThose vs qs → Holds (all_last vs after) (λ b. last_of after qs ≡ true)
 unfolding all_last
-last_those true [] [] h = ok_holds _ tt refl
-last_those false [] [] h = ok_holds _ tt refl
+last_those true [] [] h = ok_holds _ true refl
+last_those false [] [] h = ok_holds _ false refl
 last_those after [] (q ∷ qs) h = absurd h
 last_those after (v ∷ vs) [] h = absurd h
-last_those true (v ∷ vs) (q ∷ qs) h = if_holds (is_seen_inside v.quantity) (λ seen. err_holds _ _) (λ all. weaker (last_those true vs qs h.2) (λ u rest.
-    (λ i. (seen_those v q h.1 ∙ ap not all) i && rest i)))
-last_those false (v ∷ vs) (q ∷ qs) h =
-    if_holds (is_seen_inside v.quantity)
-    (λ seen. weaker (last_those false vs qs h.2) (λ u rest. ap (λ b. if b then are_for_all qs else is_all_last qs) (seen_those v q h.1 ∙ ap not seen) ∙ rest))
-    (λ all. weaker (last_those true vs qs h.2) (λ u rest. ap (λ b. if b then are_for_all qs else is_all_last qs) (seen_those v q h.1 ∙ ap not all) ∙ rest))
+last_those after (v ∷ vs) (q ∷ qs) h = by (is_seen_inside v.quantity) after (seen_those v q h.1)
+    (last_those true vs qs h.2) (last_those false vs qs h.2)
+  where
+    Goal : Bool → Bool → Type 0
+    Goal after d = (if after then (d && are_for_all qs) else (if d then are_for_all qs else is_all_last qs)) ≡ true
+
+    as_last : (after d : Bool) → is_for_all q ≡ d → Goal after d → last_of after (q ∷ qs) ≡ true
+    as_last true d e g = ap (λ x. x && are_for_all qs) e ∙ g
+    as_last false d e g = ap (λ x. if x then are_for_all qs else is_all_last qs) e ∙ g
+
+    by : (c after : Bool) → is_for_all q ≡ not c
+        → Holds (all_last vs true) (λ b. are_for_all qs ≡ true) → Holds (all_last vs false) (λ b. is_all_last qs ≡ true)
+        → Holds ((if c then (if after then all_must_be_last v.name.place else Ok false) else Ok true) >>= all_last vs) (λ b. last_of after (q ∷ qs) ≡ true)
+    by true true e all other = err_holds _ _
+    by true false e all other = weaker other (λ b h. as_last false false e h)
+    by false true e all other = weaker all (λ b h. as_last true true e h)
+    by false false e all other = weaker all (λ b h. as_last false true e h)
 
 -- candidates are of the type
 are_those : (o : Option Shape) (t : Shape) → are_of o t ≡ true → o ≡ Some t

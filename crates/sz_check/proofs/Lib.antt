@@ -16,6 +16,8 @@ mod ProgramSound
 mod StandardFacts
 mod StatementParts
 mod StatementLoops
+mod FoldLemmas
+mod WhenLemmas
 mod FunctionLemmas
 mod ProgramLemmas
 mod EmitLemmas

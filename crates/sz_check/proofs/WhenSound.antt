@@ -1,5 +1,5 @@
 -- A `when` that is judged is sound, where the statement inside is.
-use Rattle.std.proofs.Common.{◌≡◌, ℕ, ◌≤◌, true, false, List, [], ◌∷◌, ◌++◌, length, Option, None, refl, sym, ap, ◌∙◌, subst, arith}
+use Rattle.std.proofs.Common.{◌≡◌, ℕ, ◌≤◌, Bool, true, false, List, [], ◌∷◌, ◌++◌, length, Option, None, refl, sym, ap, ◌∙◌, subst, arith}
 use Rattle.std.specs.Prelude.{Ok}
 use Rattle.sz_types.specs.Data.{Shape}
 use Rattle.sz_types.specs.declared.place.Place.{Place}
@@ -43,14 +43,14 @@ front_sound s qs c = bind_holds (quantifiers_made qs (none_declared s)) (λ d ma
 -- how the variables of the checked tree were judged
 record IsQuantified (s : Scene) (vs : List Variable) (c : Exp) (qs : List core.Quantified) : Type 0 where
   bounds : List BoundForm
-  unit : Unit {0}
-  last : all_last false vs ≡ good unit
+  after : Bool
+  last : all_last vs false ≡ good after
   bases : judge_bases ([] ∷ s.blocks) vs bounds ≡ good qs
 
 quantified_as : (s : Scene) (vs : List Variable) (c : Exp) → Holds (quantify s vs c) (IsQuantified s vs c)
-quantified_as s vs c = bind_holds (known (all_bounded vs (bounds_of (names_of vs) c))) (λ bs found. bind_holds (known (all_last false vs)) (λ u last.
+quantified_as s vs c = bind_holds (known (all_bounded vs (bounds_of (names_of vs) c))) (λ bs found. bind_holds (known (all_last vs false)) (λ after last.
     bind_holds (known (judge_bases ([] ∷ s.blocks) vs bs)) (λ qs is.
-    ok_holds (IsQuantified s vs c) qs (record { bounds = bs; unit = u; last = last; bases = is }))))
+    ok_holds (IsQuantified s vs c) qs (record { bounds = bs; after = after; last = last; bases = is }))))
 
 -- what is seen in a condition
 condition_wider : (g : Sight) → IsWider g (in_condition g)
@@ -142,7 +142,7 @@ module _ (a : Around) (s : Scene) (p : Place) (c : Exp) (front : Front) (blocks 
     here = body_is.is_sound inner inner_sees (subst (BeginsWith body.scene.locals) (sym (bound_locals (inside news) g)) final)
 
     last : is_all_last qs ≡ true
-    last = (last_those false news qs based.those).holds quantified.unit (subst (λ vs. all_last false vs ≡ good quantified.unit) is.variables quantified.last)
+    last = (last_those false news qs based.those).holds quantified.after (subst (λ vs. all_last vs false ≡ good quantified.after) is.variables quantified.last)
 
     when_here : IsStm g a (core.when p qs front.condition body.stm)
     unfolding IsStm

@@ -115,11 +115,14 @@ all_bounded (v ∷ vs) (Some b ∷ bs) = do
   Ok (b ∷ rest)
 all_bounded vs bs = Ok []
 
--- no variable of another kind stands behind one that speaks of all candidates, of which there was one or not
-unfoldable pub all_last : Bool → List Variable → Judged Unit
-all_last after [] = Ok tt
-all_last after (v ∷ vs) =
-    if is_seen_inside v.quantity then (if after then all_must_be_last v.name.place else all_last false vs) else all_last true vs
+-- whether a variable speaks of all candidates, behind one that does or doesn't; one that doesn't may not stand behind one that does
+abbrev pub may_follow : Variable → Bool → Judged Bool
+may_follow v after = if is_seen_inside v.quantity then (if after then all_must_be_last v.name.place else Ok false) else Ok true
+
+-- no variable of another kind stands behind one that speaks of all candidates; whether the last one does
+unfoldable pub all_last : List Variable → Bool → Judged Bool
+all_last [] after = Ok after
+all_last (v ∷ vs) after = may_follow v after >>= all_last vs
 
 -- whether candidates of this type are of the other
 abbrev pub are_of : Option Shape → Shape → Bool
@@ -158,5 +161,5 @@ judge_bases blocks (v ∷ vs) (b ∷ bs) = do
 abbrev pub quantify : Scene → List Variable → Exp → Judged (List core.Quantified)
 quantify s vs c = do
   bs ← all_bounded vs (bounds_of (names_of vs) c)
-  _ ← all_last false vs
+  _ ← all_last vs false
   judge_bases ([] ∷ s.blocks) vs bs

@@ -9,7 +9,7 @@ ghost use Rattle.sz_core.specs.View.{quantity_of, quantified_of};
 ghost use Rattle.sz_known.specs.Holding.{blocks_of, outside_of, scene_of};
 ghost use Rattle.sz_known.specs.Outcome.{Judges};
 ghost use Rattle.sz_check.specs.Quantifying.{judge_names, judge_quantifier, judge_quantifiers, none_declared, judge_front, bind, bind_inside, judge_bound};
-ghost use Rattle.sz_check.specs.Quantifying.{names_of, all_bounded, all_last, are_of, checked, judge_base, judge_bases, quantify};
+ghost use Rattle.sz_check.specs.Quantifying.{names_of, all_bounded, may_follow, all_last, are_of, checked, judge_base, judge_bases, quantify};
 ghost use Rattle.sz_check.specs.Quantified.{variable_of, declared_of, front_of, based_of};
 
 use crate::emitting::is_seen_inside;
@@ -222,19 +222,28 @@ fn all_bounded(
     }
 }
 
-// No variable of another kind stands behind one that speaks of all candidates.
-fn all_last(variables: &[Variable<'_>]) -> Result<(), CheckError>
-    ensures value { Judges (λ x. x) result (all_last false (each variable_of variables.now)) }
+// Whether a variable speaks of all candidates, behind one that does or doesn't.
+fn may_follow(variable: &Variable<'_>, after: bool) -> Result<bool, CheckError>
+    ensures value { Judges (λ x. x) result (may_follow (variable_of variable.now) after) }
+{
+    if !is_seen_inside(variable.quantity) {
+        Ok(true)
+    } else if after {
+        Err(CheckError::at(20, variable.name.place()))
+    } else {
+        Ok(false)
+    }
+}
+
+// No variable of another kind stands behind one that speaks of all candidates. Whether the last one does.
+fn all_last(variables: &[Variable<'_>]) -> Result<bool, CheckError>
+    ensures value { Judges (λ x. x) result (all_last (each variable_of variables.now) false) }
 {
     let mut after = false;
     for variable in variables {
-        if !is_seen_inside(variable.quantity) {
-            after = true;
-        } else if after {
-            return Err(CheckError::at(20, variable.name.place()));
-        }
+        after = may_follow(variable, after)?;
     }
-    Ok(())
+    Ok(after)
 }
 
 // Whether the candidates that a value of a type has are of the other type.
@@ -298,10 +307,10 @@ fn judge_bases(
 {
     let mut made = Vec::new(alloc);
     for i in 0..variables.len() {
-        if i >= bounds.len() {
+        let Some(bound) = bounds.get(i) else {
             return Err(CheckError::of(alloc, 19, variables[i].name));
-        }
-        made.push(judge_base(alloc, known, &variables[i], &bounds[i])?)?;
+        };
+        made.push(judge_base(alloc, known, &variables[i], bound)?)?;
     }
     Ok(made)
 }
@@ -318,7 +327,7 @@ pub fn quantify(
     ensures kept { IfOk result (λ _. known.new ≡ known.old) }
 {
     let found = all_bounded(alloc, variables, condition)?;
-    all_last(variables)?;
+    let _after = all_last(variables)?;
     known.open()?;
     let made = judge_bases(alloc, known, variables, found.as_slice())?;
     known.close();
