@@ -9,7 +9,7 @@ use Rattle.sz_types.specs.declared.operator.Builtin.{Builtin}
 use Rattle.sz_tree.specs.declared.operator.UnaryOp.{UnaryOp}
 use Rattle.sz_tree.specs.Names.{Ident}
 use Rattle.sz_tree.specs.Expressions.{Exp, literal, named, call, def, paren, convert, list, mapping, index, slice, field, Exps, end, more, Pairs, no_pairs}
-use Rattle.sz_tree.specs.Expressions.{pair, place_of, Lit, number, string, bytes, character, boolean}
+use Rattle.sz_tree.specs.Expressions.{pair, place_of, Lit}
 use Rattle.sz_tree.specs.Expressions as trees
 use Rattle.sz_core.specs.Nodes.{Node, node, Form, Nodes, no_nodes, with_node, Pairings, no_pairings, with_pairing, type_of, types_of}
 use Rattle.sz_core.specs.Nodes as forms
@@ -20,11 +20,11 @@ use Rattle.sz_known.specs.Names.{Block, Meaning, meaning_of, look_up}
 use Rattle.sz_known.specs.Names as names
 use Rattle.sz_known.specs.JudgingTypes.{shape_of}
 use Rattle.sz_check_expr.specs.Agreeing.{Asks, nothing, each, in_turn, agree, counted, pairs_agree, arguments_fit, arity, asked_first, asked_behind, field_types}
-use Rattle.sz_check_expr.specs.Agreeing.{fields_count}
+use Rattle.sz_check_expr.specs.Agreeing.{fields_count, taken}
 use Rattle.sz_check_expr.specs.JudgingExpressions.{judge_exp, judge_exps, judge_pairs, literal_node, variable_node}
 use Rattle.sz_check_expr.specs.JudgingCalls.{callee_of, asks_of_callee, conversion_node, conversion_call, declared_call, predeclared_call, made_call}
 use Rattle.sz_check_expr.specs.JudgingComposites.{asks_of_list, made_tuple, made_list, asked_of_keys, asked_of_values, made_mapping}
-use Rattle.sz_check_expr.specs.JudgingParts.{taken, has_index, made_index, whole, made_slice, field_in, made_field}
+use Rattle.sz_check_expr.specs.JudgingParts.{has_index, made_index, whole, made_slice, field_in, made_field}
 use Rattle.sz_check_expr.specs.JudgingOperators.{unary_of, made_unary, Operation, both, either, of, operation_of, asked_of_right, takes_left, made_operator}
 use Rattle.sz_check_expr.specs.JudgingOperators.{test, made_binary}
 use Rattle.sz_check.specs.EmittingTrees.{calls, exp_emits, exps_emit, pairs_emit, part_emits}
@@ -60,11 +60,11 @@ module _ (fs : List Signature) where
 
   literal_gives : (p : Place) (l : Lit) → Gives false (literal_node p l)
   unfolding node_emits form_emits
-  literal_gives p (number n) = refl
-  literal_gives p (string s) = refl
-  literal_gives p (bytes s) = refl
-  literal_gives p (character c) = refl
-  literal_gives p (boolean b) = refl
+  literal_gives p (trees.number n) = refl
+  literal_gives p (trees.string s) = refl
+  literal_gives p (trees.bytes s) = refl
+  literal_gives p (trees.character c) = refl
+  literal_gives p (trees.boolean b) = refl
 
   variable_gives : (n : Ident) (m : Meaning) → Holds (variable_node n m) (Gives false)
   unfolding form_emits

@@ -150,6 +150,12 @@ module _ (k : TopScene) (n : Ident) (ps : Params) (t : Typ) (ss : Stms) (s : Sig
   pub body_makes : (body : Body) → judge_body own ps s ss ≡ Ok body → judge_function k n ps t ss ≡ Ok (finished k own s body)
   body_makes body made = sym (goes_on (judge_body own ps s ss) (λ body. Ok (finished k own s body)) (judge_function k n ps t ss) body made left)
 
+-- what is made of a function goes by these
+pub finished_same : (k j : TopScene) (own more : List Block) (s : Signature) (body : Body) → k.scene.locals ≡ j.scene.locals → k.tables ≡ j.tables
+    → k.statics ≡ j.statics → k.functions ≡ j.functions → own ≡ more → finished k own s body ≡ finished j more s body
+finished_same k j own more s body locals tables statics functions blocks i =
+    finished (record { scene = record { blocks = []; locals = locals i }; tables = tables i; statics = statics i; functions = functions i }) (blocks i) s body
+
 -- ---- turns of the loop over parameters whose types are known
 
 module _ (s : Scene) (ps : List Param) (us : List Ty) (i : ℕ) where

@@ -23,8 +23,8 @@ use Rattle.sz_known.proofs.Sights.{AreFormed, AllFit, IsWider, all_fit_wider}
 use Rattle.sz_check_expr.proofs.AgreeLemmas.{IsTyped}
 use Rattle.sz_check_expr.proofs.NodeLemmas.{test_holds}
 use Rattle.sz_check_expr.proofs.ExpressionSound.{expression_typed}
-use Rattle.sz_check.proofs.SceneLemmas.{Sees, sees_closed, begins_on, begins_length, AreBelow, below_more, IsBehind, IsInside}
-use Rattle.sz_check.proofs.BoundLemmas.{bound, bound_locals, bound_emits, inside, rise_inside, have_inside, bound_below, bound_fixed, inside_bound, AreMade}
+use Rattle.sz_check.proofs.SceneLemmas.{Sees, sees_closed, begins_on, begins_length, AreBelow, below_more, IsBehind, IsInside, IsSoundPart}
+use Rattle.sz_check.proofs.BoundLemmas.{bound, Rise, bound_locals, bound_emits, inside, rise_inside, have_inside, bound_below, bound_fixed, inside_bound, AreMade}
 use Rattle.sz_check.proofs.BoundLemmas.{quantifiers_made, bound_those, inside_those, last_those, AreBased, bases_sound}
 
 -- how the variables and the condition were judged
@@ -114,7 +114,7 @@ module _ (a : Around) (s : Scene) (p : Place) (c : Exp) (front : Front) (blocks 
     inner : Sight
     inner = bound (inside news) g
 
-    inner_rise : _
+    inner_rise : Rise (length s.locals) (length d.scene.locals) (inside news)
     inner_rise = rise_inside (length s.locals) (length d.scene.locals) news is.made.rise
 
     longer : length s.locals ≤ length d.scene.locals
@@ -138,7 +138,7 @@ module _ (a : Around) (s : Scene) (p : Place) (c : Exp) (front : Front) (blocks 
           (below_more (length s.locals) (length d.scene.locals) g.fixed longer sees.fixed);
     })
 
-    here : _
+    here : IsSoundPart inner (out_of_loops a) body
     here = body_is.is_sound inner inner_sees (subst (BeginsWith body.scene.locals) (sym (bound_locals (inside news) g)) final)
 
     last : is_all_last qs ≡ true

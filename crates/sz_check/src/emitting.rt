@@ -271,12 +271,12 @@ fn stm_emits<'t>(
             Ok(body || asked)
         }
         Stmt::For(_, first, test, between, body) => {
-            for_emits(known, hidden, first, test, between, body)
+            for_emits(known, hidden, body, first, test, between)
         }
         Stmt::Return(_, value) => Ok(part_emits(known, hidden.as_slice(), value)),
         Stmt::Emit(_, _, _, _, _) => Ok(true),
         Stmt::When(_, quantifiers, test, body) => {
-            when_emits(known, hidden, quantifiers.as_slice(), test, body)
+            when_emits(known, hidden, body, quantifiers.as_slice(), test)
         }
     }
 }
@@ -318,10 +318,10 @@ fn block_emits<'t>(
 fn for_emits<'t>(
     known: &Known,
     hidden: &mut Vec<&'t Name>,
+    body: &'t Stmt,
     first: &'t Option<First>,
     test: &Option<Expr>,
     between: &Option<Simple>,
-    body: &'t Stmt,
 ) -> Result<bool, AllocError>
     ensures value { IfOk result (λ emits. emits ≡ for_emits (emits_by (blocks_of known.now)) (hidden_of hidden.old.items)
         (option_map first_of first.now) (option_map tree_of test.now) (option_map simple_of between.now) (stm_of body.now)) }
@@ -341,9 +341,9 @@ fn for_emits<'t>(
 fn when_emits<'t>(
     known: &Known,
     hidden: &mut Vec<&'t Name>,
+    body: &'t Stmt,
     quantifiers: &'t [Quantifier],
     test: &Expr,
-    body: &'t Stmt,
 ) -> Result<bool, AllocError>
     ensures value { IfOk result (λ emits. emits ≡ when_emits (emits_by (blocks_of known.now)) (hidden_of hidden.old.items)
         (each quantifier_of quantifiers.now) (tree_of test.now) (stm_of body.now)) }

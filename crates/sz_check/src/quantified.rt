@@ -1,5 +1,5 @@
 //! The variables of a `when`.
-ghost use Rattle.std.specs.Prelude.{◌≡◌, IfOk, map as each};
+ghost use Rattle.std.specs.Prelude.{◌≡◌, ◌∷◌, [], false, IfOk, map as each};
 ghost use Rattle.sz_types.specs.Seen.{seen};
 ghost use Rattle.sz_tree.specs.View.{tree_of, quantifier_of};
 ghost use Rattle.sz_quant.specs.Fitting.{bounds_of as bound_forms};
@@ -102,16 +102,16 @@ fn judge_quantifiers<'t>(
     alloc: Global,
     known: &mut Known,
     quantifiers: &'t [Quantifier],
-    variables: &mut Vec<Variable<'t>>,
-) -> Result<(), CheckError>
-    ensures value { Judges (λ _. declared_of known.new variables.new.items) result
-        (judge_quantifiers (each quantifier_of quantifiers.now) (declared_of known.old variables.old.items)) }
+) -> Result<Vec<Variable<'t>>, CheckError>
+    ensures value { Judges (λ made. declared_of known.new made.items) result
+        (judge_quantifiers (each quantifier_of quantifiers.now) (declared_of known.old [])) }
     ensures outside { IfOk result (λ _. known.new.outside ≡ known.old.outside) }
 {
+    let mut variables = Vec::new(alloc);
     for quantifier in quantifiers {
-        judge_quantifier(alloc, known, quantifier, variables)?;
+        judge_quantifier(alloc, known, quantifier, &mut variables)?;
     }
-    Ok(())
+    Ok(variables)
 }
 
 // The variables and the condition of a `when`, in a block of their own.
@@ -125,9 +125,8 @@ pub fn judge_front<'t>(
         (judge_front (scene_of known.old) (each quantifier_of quantifiers.now) (tree_of condition.now)) }
     ensures outside { IfOk result (λ _. known.new.outside ≡ known.old.outside) }
 {
-    let mut variables = Vec::new(alloc);
     known.open()?;
-    judge_quantifiers(alloc, known, quantifiers, &mut variables)?;
+    let variables = judge_quantifiers(alloc, known, quantifiers)?;
     let condition = judge_exp(alloc, known, Site::Condition, None, condition)?;
     known.close();
     Ok(Front {

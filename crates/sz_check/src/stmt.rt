@@ -116,9 +116,9 @@ pub fn judge_stm(
                 known,
                 around,
                 *place,
+                body,
                 quantifiers.as_slice(),
                 condition,
-                body,
             )
         }
     }
@@ -343,8 +343,8 @@ fn judge_bound_body(
     alloc: Global,
     known: &mut Known,
     around: Around<'_>,
-    variables: &[Variable<'_>],
     tree: &Stmt,
+    variables: &[Variable<'_>],
 ) -> Result<CoreStmt, CheckError>
     ensures value { Judges (λ s. behind_of known.new s) result
         (judge_bound_body (around_of around.entry) (scene_of known.old) (each variable_of variables.now) (stm_of tree.now)) }
@@ -363,9 +363,9 @@ fn judge_when(
     known: &mut Known,
     around: Around<'_>,
     place: Place,
+    body: &Stmt,
     quantifiers: &[Quantifier],
     condition: &Expr,
-    body: &Stmt,
 ) -> Result<CoreStmt, CheckError>
     ensures value { Judges (λ s. behind_of known.new s) result
         (judge_stm (around_of around.entry) (scene_of known.old)
@@ -374,7 +374,7 @@ fn judge_when(
 {
     let front = judge_front(alloc, known, quantifiers, condition)?;
     let variables = front.variables.as_slice();
-    let body = judge_bound_body(alloc, known, around, variables, body)?;
+    let body = judge_bound_body(alloc, known, around, body, variables)?;
     test(condition, &front.condition)?;
     let variables = quantify(alloc, known, variables, condition)?;
     let body = Box::new(alloc, body)?;
