@@ -382,6 +382,10 @@ bases_sound locals a b g (v ∷ vs) (x ∷ xs) blocks quiet formed begins have r
     let made = made_of v x is.node in
     ok_holds (AreBased g (v ∷ vs)) (first.variable ∷ rest) (subst (λ q. AreBased g (v ∷ vs) (q ∷ rest)) (sym is.is) (record {
       those = (refl, refl, are.those);
-      quantified = (is.typed, is_none v.local g.seen here,
-          (v.type, get_on locals g.locals v.local v.type begins have.0, is.candidates), are.quantified);
+      quantified = (
+        is.typed,
+        is_none v.local g.seen here,
+        (v.type, get_on locals g.locals v.local v.type begins have.0, is.candidates),
+        are.quantified,
+      );
     }))))

@@ -87,11 +87,13 @@ module _ (g : Sight) where
   unfolding LeadTo
   begins n (names.variable k t) h =
       let target : Target = record { local = k; steps = []; type = t; assignable = true } in
-      ok_holds (λ t. IsTarget g t × (t.assignable ≡ true → IsVariable g t.local t.type)) target
-      (record {
-        assigned = λ may. record { seen = h.readable.seen; free = h.free; root = t; here = h.readable.here; leads = refl };
-        formed = h.readable.formed;
-      }, λ may. h)
+      ok_holds (λ t. IsTarget g t × (t.assignable ≡ true → IsVariable g t.local t.type)) target (
+        record {
+          assigned = λ may. record { seen = h.readable.seen; free = h.free; root = t; here = h.readable.here; leads = refl };
+          formed = h.readable.formed;
+        },
+        λ may. h,
+      )
   begins n (names.quantified k t) h =
       let target : Target = record { local = k; steps = []; type = t; assignable = false } in
       ok_holds (λ t. IsTarget g t × (t.assignable ≡ true → IsVariable g t.local t.type)) target
@@ -167,7 +169,11 @@ module _ (g : Sight) where
         λ t u. core.store n.place t.local [] (node n.place u (forms.binary o (node n.place t.type (forms.local t.local)) one)) in
         bind_holds {f = λ t. by_option (wrong_type n.place) (λ u. good (changed t u)) (row t.type Shape.int)} (root_path n) (λ t h.
         option_holds _ (λ none. err_holds _ _) (λ u is. ok_holds (IsSimple g a) (changed t u) (record {
-          stm = (h.readable.seen, ((h.readable.seen, h.readable.here), refl, same t.type ∙ is, tt),
-              (t.type, h.readable.here, some_has (λ v. v ≡ t.type) (keeps t.type) is), h.free);
+          stm = (
+            h.readable.seen,
+            ((h.readable.seen, h.readable.here), refl, same t.type ∙ is, tt),
+            (t.type, h.readable.here, some_has (λ v. v ≡ t.type) (keeps t.type) is),
+            h.free,
+          );
           between = tt;
         })))

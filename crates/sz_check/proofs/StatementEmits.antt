@@ -76,8 +76,8 @@ module _ (fs : List Signature) (emits : List ℕ → Bool) where
     initialised_does : (n : Ident) (t : Typ) (e : Exp) → Holds (judge_initialised s n t e) (DoesBehind (exp_emits emits h e) (h ++ n.text ∷ []))
     unfolding core_emits
     initialised_does n t e = bind_holds (known (judge_type s.blocks t)) (λ u typed. bind_holds (judged_gives (Some u) e) (λ m is.
-        bind_holds (converted_gives u e m) (λ value as. bind_holds (variable_hides fs emits h n u s same) (λ after more.
-        ok_holds (DoesBehind (exp_emits emits h e) (h ++ n.text ∷ [])) _ (record { stm = as ∙ is; agrees = more })))))
+        bind_holds (converted_gives u e m) (λ value kept. bind_holds (variable_hides fs emits h n u s same) (λ after more.
+        ok_holds (DoesBehind (exp_emits emits h e) (h ++ n.text ∷ [])) _ (record { stm = kept ∙ is; agrees = more })))))
 
     definition_does : (n : Ident) (e : Exp) → Holds (judge_definition s n e) (DoesBehind (exp_emits emits h e) (h ++ n.text ∷ []))
     unfolding core_emits

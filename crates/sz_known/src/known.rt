@@ -220,12 +220,7 @@ impl Known {
 
     /// What the name stands for, or the refusal 6 (or 16, for a name that is left out of the language) where nothing that is seen
     /// has it. The value of a static sees less than a statement.
-    pub fn look_up(
-        &self,
-        alloc: Global,
-        site: Site,
-        name: &Name,
-    ) -> Result<Means<'_>, CheckError>
+    pub fn look_up(&self, alloc: Global, site: Site, name: &Name) -> Result<Means<'_>, CheckError>
         ensures value { Judges means_of result (look_up name.now (blocks_for self.now site)) }
         ensures types { IfOk result (IsOfTypes self.now.outside.types) }
     {
