@@ -61,15 +61,16 @@ unfolding judge_quantifiers
 quantifiers_go = record { more = λ q qs d. refl; none = λ d. refl }
 
 -- the variables that the statement inside sees
+inside_more : (v : Variable) (vs : List Variable) (blocks : List Block) (b : Bool)
+    → (if b then (bind v blocks >>= bind_inside vs) else bind_inside vs blocks)
+    ≡ ((if b then (bind v blocks >>= bind_inside []) else bind_inside [] blocks) >>= bind_inside vs)
+unfolding bind_inside
+inside_more v vs blocks true = assoc (bind v blocks) (bind_inside []) (bind_inside vs)
+inside_more v vs blocks false = refl
+
 pub inside_go : Goes (λ v. bind_inside (v ∷ [])) bind_inside
 unfolding bind_inside
-inside_go = record { more = λ v vs blocks. by v vs blocks (is_seen_inside v.quantity); none = λ blocks. refl }
-  where
-    by : (v : Variable) (vs : List Variable) (blocks : List Block) (b : Bool)
-        → (if b then (bind v blocks >>= bind_inside vs) else bind_inside vs blocks)
-        ≡ ((if b then (bind v blocks >>= bind_inside []) else bind_inside [] blocks) >>= bind_inside vs)
-    by v vs blocks true = assoc (bind v blocks) (bind_inside []) (bind_inside vs)
-    by v vs blocks false = refl
+inside_go = record { more = λ v vs blocks. inside_more v vs blocks (is_seen_inside v.quantity); none = λ blocks. refl }
 
 -- the variables that speak of all candidates
 pub last_go : Goes may_follow all_last

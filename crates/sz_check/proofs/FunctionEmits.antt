@@ -45,6 +45,9 @@ variable_stands : (n : Ident) (k : ℕ) (t : Shape) (s : Scene) (locals : List S
     → Holds (names.declare n (names.variable k t) s.blocks) (λ blocks. AreVariables s (record { blocks = blocks; locals = locals }))
 variable_stands n k t s locals = by s.blocks refl
   where
+    here : Named
+    here = record { name = n.text; meaning = names.variable k t }
+
     Stands : List Block → Type 0
     Stands blocks = AreVariables s (record { blocks = blocks; locals = locals })
 
@@ -55,7 +58,7 @@ variable_stands n k t s locals = by s.blocks refl
         none h = cc
     by (b ∷ bs) e = if_holds _ (λ twice. err_holds _ _) (λ free. ok_holds Stands _ (record {
       inside = λ all. (tt, subst (λ (x : List Block). MeansIn IsVariable (innermost x)) e all);
-      outside = λ block blocks f. ap (λ (x : List Block). innermost _ ∷ round x) (sym e ∙ f);
+      outside = λ block blocks f. ap (λ (x : List Block). (here ∷ b) ∷ round x) (sym e ∙ f);
     }))
 
 stand_on : (s next after : Scene) → AreVariables s next → AreVariables next after → AreVariables s after
@@ -70,8 +73,10 @@ parameters_stand s no_params = ok_holds (AreVariables s) s (record {
   inside = λ all. all;
   outside = λ block blocks e. e ∙ ap (λ (x : List Block). innermost x ∷ blocks) (sym e);
 })
-parameters_stand s (param n t ps) = bind_holds (known (judge_type s.blocks t)) (λ u typed. bind_holds (variable_stands n _ u s _) (λ blocks first.
-    weaker (parameters_stand _ ps) (λ after rest. stand_on s _ after first rest)))
+parameters_stand s (param n t ps) = bind_holds (known (judge_type s.blocks t)) (λ u typed.
+    bind_holds (variable_stands n (length s.locals) u s (s.locals ++ u ∷ [])) (λ blocks first.
+    let next : Scene = record { blocks = blocks; locals = s.locals ++ u ∷ [] } in
+    weaker (parameters_stand next ps) (λ after rest. stand_on s next after first rest)))
 
 -- ---- what is outside
 

@@ -1,5 +1,5 @@
 -- Names that variables hide.
-use Rattle.std.proofs.Common.{◌≡◌, ℕ, Bool, true, false, List, [], ◌∷◌, ◌++◌, Option, Some, None, refl, sym, ap, ◌∙◌, subst, append_assoc, append-nil}
+use Rattle.std.proofs.Common.{◌≡◌, ℕ, length, Bool, true, false, List, [], ◌∷◌, ◌++◌, Option, Some, None, refl, sym, ap, ◌∙◌, subst, append_assoc, append-nil}
 use Rattle.std.specs.Prelude.{◌&&◌, ◌||◌, not, if◌then◌else◌, bytes_eq, map, Ok}
 use Rattle.std.specs.Option.{option_or}
 use Rattle.std.specs.List.{list_any}
@@ -100,7 +100,7 @@ module _ (fs : List Signature) (emits : List ℕ → Bool) where
       → Holds (bind_inside vs blocks) (Agrees fs emits (h ++ inside_names vs))
   unfolding bind_inside
   bound_hide h [] blocks agrees = ok_holds (Agrees fs emits (h ++ [])) blocks (subst (λ l. Agrees fs emits l blocks) (sym (append-nil h)) agrees)
-  bound_hide h (v ∷ vs) blocks agrees = by (is_seen_inside v.quantity) (λ bs a k. bound_hide k vs bs a)
+  bound_hide h (v ∷ vs) blocks agrees = by (is_seen_inside v.quantity) (λ bs k a. bound_hide k vs bs a)
     where
       by : (b : Bool) → ((bs : List Block) → (k : List (List ℕ)) → Agrees fs emits k bs → Holds (bind_inside vs bs) (Agrees fs emits (k ++ inside_names vs)))
           → Holds (if b then (bind v blocks >>= bind_inside vs) else bind_inside vs blocks)
@@ -139,8 +139,9 @@ variables_of_names q t [] d = ok_holds (λ (r : Declared). inside_names r.variab
     none true = sym (append-nil (inside_names d.variables))
     none false = sym (append-nil (inside_names d.variables))
 variables_of_names q t (n ∷ ns) d = bind_holds (known (with_quantified n t d.scene)) (λ next is.
+    let v : Variable = record { name = n; quantity = q; local = length d.scene.locals; type = t } in
     weaker (variables_of_names q t ns _) (λ r rest.
-    rest ∙ ap (λ l. l ++ names_inside q ns) (inside_append d.variables _)
+    rest ∙ ap (λ l. l ++ names_inside q ns) (inside_append d.variables (v ∷ []))
     ∙ names_inside_more (is_seen_inside q) (inside_names d.variables) n.text (texts_of ns)))
 
 pub variables_of : (qs : List QuantifierForm) (d : Declared)

@@ -19,7 +19,7 @@ use Rattle.sz_core.specs.Statements.{Step, at_index, at_field}
 use Rattle.sz_core.specs.Programs.{Signature}
 use Rattle.sz_core.specs.Emitting.{node_emits, form_emits, steps_emit as steps_emit_core, test_emits, stm_emits as core_emits, stms_emit as all_emit}
 use Rattle.sz_known.specs.Refusals.{Judged, ◌>>=◌, wrong_type}
-use Rattle.sz_known.specs.Names.{Block, look_up}
+use Rattle.sz_known.specs.Names.{Block, Meaning, look_up}
 use Rattle.sz_known.specs.Names as names
 use Rattle.sz_known.specs.JudgingTypes.{judge_type}
 use Rattle.sz_known.specs.Scene.{Scene, opened, with_variable}
@@ -37,6 +37,20 @@ use Rattle.sz_check.specs.JudgingStatements.{Around, in_block, in_loop, out_of_l
 use Rattle.sz_known.proofs.Holds.{Holds, good, ok_holds, err_holds, bind_holds, known, weaker, both_hold, if_holds, by_option, option_holds}
 use Rattle.sz_check.proofs.ExpressionEmits.{Agrees, Gives, expression_gives}
 use Rattle.sz_check.proofs.HiddenLemmas.{inside_names, variable_hides, quantifiers_hide, bound_hide, variables_of}
+
+-- one that holds nowhere, behind one or two
+or_none : (b : Bool) → (b || false) ≡ b
+or_none true = refl
+or_none false = refl
+
+or_only : (b c : Bool) → (b || c || false) ≡ (b || c)
+or_only true c = refl
+or_only false true = refl
+or_only false false = refl
+
+or_assoc : (a b c : Bool) → (a || b || c) ≡ (a || (b || c))
+or_assoc true b c = refl
+or_assoc false b c = refl
 
 module _ (fs : List Signature) (emits : List ℕ → Bool) where
   -- the statement emits so
@@ -88,16 +102,9 @@ module _ (fs : List Signature) (emits : List ℕ → Bool) where
 
     steps_more : (xs : List Step) (e : Node) → steps_emit_core fs (xs ++ at_index e ∷ []) ≡ (steps_emit_core fs xs || node_emits fs e)
     unfolding steps_emit_core
-    steps_more [] e = none (node_emits fs e)
-      where
-        none : (b : Bool) → (b || false) ≡ b
-        none true = refl
-        none false = refl
-    steps_more (at_index d ∷ xs) e = ap (λ b. node_emits fs d || b) (steps_more xs e) ∙ assoc (node_emits fs d) (steps_emit_core fs xs) (node_emits fs e)
-      where
-        assoc : (a b c : Bool) → (a || (b || c)) ≡ (a || b || c)
-        assoc true b c = refl
-        assoc false b c = refl
+    steps_more [] e = or_none (node_emits fs e)
+    steps_more (at_index d ∷ xs) e =
+        ap (λ b. node_emits fs d || b) (steps_more xs e) ∙ sym (or_assoc (node_emits fs d) (steps_emit_core fs xs) (node_emits fs e))
     steps_more (at_field n ∷ xs) e = steps_more xs e
 
     fields_more : (xs : List Step) (n : ℕ) → steps_emit_core fs (xs ++ at_field n ∷ []) ≡ steps_emit_core fs xs
@@ -112,49 +119,41 @@ module _ (fs : List Signature) (emits : List ℕ → Bool) where
 
     index_leads : (p : Place) (t : Target) (u : Shape) (e : Exp) (n : Node)
         → Holds (indexed p t u e n) (Leads (steps_emit_core fs t.steps || node_emits fs n))
-    index_leads p t (Shape.array u) e n = bind_holds (known (whole e n)) (λ v is. ok_holds (Leads _) (stepped t (at_index n) u) (steps_more t.steps n))
+    index_leads p t (Shape.array u) e n = bind_holds (known (whole e n)) (λ v is. ok_holds (Leads (steps_emit_core fs t.steps || node_emits fs n)) (stepped t (at_index n) u) (steps_more t.steps n))
     index_leads p t (Shape.mapping k v) e n =
-        bind_holds (known (agrees (Some k) e n)) (λ u is. ok_holds (Leads _) (stepped t (at_index n) v) (steps_more t.steps n))
-    index_leads p t Shape.str e n = bind_holds (known (whole e n)) (λ v is. ok_holds (Leads _) _ (steps_more t.steps n))
-    index_leads p t Shape.bytes e n = bind_holds (known (whole e n)) (λ v is. ok_holds (Leads _) _ (steps_more t.steps n))
+        bind_holds (known (agrees (Some k) e n)) (λ u is. ok_holds (Leads (steps_emit_core fs t.steps || node_emits fs n)) (stepped t (at_index n) v) (steps_more t.steps n))
+    index_leads p t Shape.str e n = bind_holds (known (whole e n)) (λ v is. ok_holds (Leads (steps_emit_core fs t.steps || node_emits fs n)) _ (steps_more t.steps n))
+    index_leads p t Shape.bytes e n = bind_holds (known (whole e n)) (λ v is. ok_holds (Leads (steps_emit_core fs t.steps || node_emits fs n)) _ (steps_more t.steps n))
     index_leads p t _ e n = err_holds _ _
 
     steps_lead : (p : Place) (t : Target) (steps : List StepForm)
         → Holds (judge_steps s p t steps) (Leads (steps_emit_core fs t.steps || steps_emit emits h steps))
     unfolding judge_steps steps_emit
-    steps_lead p t [] = ok_holds (Leads _) t (none (steps_emit_core fs t.steps))
-      where
-        none : (b : Bool) → b ≡ (b || false)
-        none true = refl
-        none false = refl
+    steps_lead p t [] = ok_holds (Leads (steps_emit_core fs t.steps || false)) t (sym (or_none (steps_emit_core fs t.steps)))
     steps_lead p t (trees.at_index e ∷ steps) = bind_holds (judged_gives None e) (λ n is. bind_holds (index_leads p t t.type e n) (λ next here.
         weaker (steps_lead p next steps) (λ r rest.
         rest ∙ (λ i. here i || steps_emit emits h steps) ∙ (λ i. steps_emit_core fs t.steps || is i || steps_emit emits h steps)
-        ∙ assoc (steps_emit_core fs t.steps) (exp_emits emits h e) (steps_emit emits h steps))))
-      where
-        assoc : (a b c : Bool) → (a || b || c) ≡ (a || (b || c))
-        assoc true b c = refl
-        assoc false b c = refl
+        ∙ or_assoc (steps_emit_core fs t.steps) (exp_emits emits h e) (steps_emit emits h steps))))
     steps_lead p t (trees.at_field f ∷ steps) = bind_holds (known (field_in p t.type f)) (λ x found.
         weaker (steps_lead p (stepped t (at_field x.place) x.type) steps) (λ r rest.
         rest ∙ ap (λ b. b || steps_emit emits h steps) (fields_more t.steps x.place)))
 
+    path_begins : (n : Ident) (m : Meaning) → Holds (target_of n m) (Leads false)
+    unfolding steps_emit_core
+    path_begins n (names.variable k t) = ok_holds (Leads false) _ refl
+    path_begins n (names.quantified k t) = ok_holds (Leads false) _ refl
+    path_begins n (names.static k t) = ok_holds (Leads false) _ refl
+    path_begins n (names.type_name t) = err_holds _ _
+    path_begins n (names.table k d) = err_holds _ _
+    path_begins n (names.function k x) = err_holds _ _
+    path_begins n (names.predeclared b) = err_holds _ _
+    path_begins n names.input = ok_holds (Leads false) _ refl
+
     -- a path's steps emit as its tree does
     path_leads : (path : PathForm) → Holds (judge_path s path) (Leads (steps_emit emits h path.steps))
-    unfolding steps_emit_core
-    path_leads path = bind_holds (known (look_up path.name s.blocks)) (λ m found. bind_holds (begins path.name m) (λ begin none.
+    path_leads path = bind_holds (known (look_up path.name s.blocks)) (λ m found. bind_holds (path_begins path.name m) (λ begin none.
         bind_holds (steps_lead path.name.place begin path.steps) (λ t is. bind_holds (known _) (λ u may.
         ok_holds (Leads (steps_emit emits h path.steps)) t (is ∙ ap (λ b. b || steps_emit emits h path.steps) none)))))
-      where
-        begins : (n : Ident) (m : names.Meaning) → Holds (target_of n m) (Leads false)
-        begins n (names.variable k t) = ok_holds (Leads false) _ refl
-        begins n (names.quantified k t) = ok_holds (Leads false) _ refl
-        begins n (names.static k t) = ok_holds (Leads false) _ refl
-        begins n (names.type_name t) = err_holds _ _
-        begins n (names.table k d) = err_holds _ _
-        begins n (names.function k x) = err_holds _ _
-        begins n (names.predeclared b) = err_holds _ _
-        begins n names.input = ok_holds (Leads false) _ refl
 
     -- ---- assignments and calls
 
@@ -163,10 +162,10 @@ module _ (fs : List Signature) (emits : List ℕ → Bool) where
     unfolding core_emits
     assignment_does path e = bind_holds (path_leads path) (λ t leads. bind_holds (judged_gives (Some t.type) e) (λ value is.
         bind_holds (known (agrees (Some t.type) e value)) (λ u fits.
-        ok_holds (Does _) (core.store path.name.place t.local t.steps value) (λ i. leads i || is i))))
+        ok_holds (Does (steps_emit emits h path.steps || exp_emits emits h e)) (core.store path.name.place t.local t.steps value) (λ i. leads i || is i))))
 
     change_does : (n : Ident) (o : BinOp) (row : Shape → Shape → Option Shape) → Holds (judge_change s n o row) (Does false)
-    unfolding core_emits node_emits form_emits judge_steps steps_emit_core
+    unfolding core_emits node_emits form_emits steps_emit_core
     change_does n o row =
         let one = node n.place Shape.int (forms.constant (Datum.int (pos 1))) in
         let changed : Target → Shape → core.Stm =
@@ -180,7 +179,7 @@ module _ (fs : List Signature) (emits : List ℕ → Bool) where
     simple_does (assign path e) = assignment_does path e
     simple_does (increment n) = change_does n _ _
     simple_does (decrement n) = change_does n _ _
-    simple_does (call_of n es) = bind_holds (judged_gives None (exps.call n es)) (λ m is. ok_holds (Does _) (core.evaluate n.place m) is)
+    simple_does (call_of n es) = bind_holds (judged_gives None (exps.call n es)) (λ m is. ok_holds (Does (calls emits h n.text || exps_emit emits h es)) (core.evaluate n.place m) is)
 
     between_does : (t : Option SimpleForm) → Holds (judge_between s t) (Does (between_emits emits h t))
     unfolding core_emits all_emit
@@ -204,7 +203,7 @@ module _ (fs : List Signature) (emits : List ℕ → Bool) where
     return_does p None (Some e) = err_holds _ _
     return_does p (Some t) None = err_holds _ _
     return_does p (Some t) (Some e) = bind_holds (judged_gives (Some t) e) (λ value is. bind_holds (known (agrees (Some t) e value)) (λ u fits.
-        ok_holds (Does _) (core.return_value p value) is))
+        ok_holds (Does (exp_emits emits h e)) (core.return_value p value) is))
 
     emit_does : (p : Place) (n : Ident) (es : Exps) (e : Exp) (w : Option Exp) → Holds (judge_emit s p n es e w) (Does true)
     unfolding core_emits
@@ -239,12 +238,7 @@ module _ (fs : List Signature) (emits : List ℕ → Bool) where
     statement_does h a s (if_only p c t) g = bind_holds (judged_gives h s g None c) (λ n asked.
         bind_holds (inside_does _ h _ s _ g (statement_does h a (opened s) t g)) (λ taken is. bind_holds (known (test c n)) (λ u tested.
         ok_holds (DoesBehind (exp_emits emits h c || stm_emits emits h t) h) (record { scene = taken.scene; stm = core.branch p n taken.stm core.nothing })
-        (record { stm = only (node_emits fs n) (core_emits fs taken.stm) ∙ (λ i. asked i || is.stm i); agrees = is.agrees }))))
-      where
-        only : (b c : Bool) → (b || c || false) ≡ (b || c)
-        only true c = refl
-        only false true = refl
-        only false false = refl
+        (record { stm = or_only (node_emits fs n) (core_emits fs taken.stm) ∙ (λ i. asked i || is.stm i); agrees = is.agrees }))))
     statement_does h a s (if_else p c t e) g = bind_holds (judged_gives h s g None c) (λ n asked.
         bind_holds (inside_does _ h _ s _ g (statement_does h a (opened s) t g)) (λ taken is.
         bind_holds (inside_does _ h _ taken.scene _ is.agrees (statement_does h a (opened taken.scene) e is.agrees)) (λ other also.
@@ -269,11 +263,7 @@ module _ (fs : List Signature) (emits : List ℕ → Bool) where
         ok_holds (DoesBehind (first_emits emits h f
         || turns_emit emits (hidden_behind_first h f) c between (stm_emits emits (hidden_behind_first h f) t)) h)
         (record { scene = closed s body.scene; stm = core.block (core.stms_of (first.stm ∷ core.for_loop p n step body.stm ∷ [])) })
-        (record { stm = (λ i. start.stm i || (asked i || turn i || is.stm i || false)) ∙ ap (λ b. first_emits emits h f || b) (none _); agrees = g }))))))
-      where
-        none : (b : Bool) → (b || false) ≡ b
-        none true = refl
-        none false = refl
+        (record { stm = (λ i. start.stm i || (asked i || turn i || is.stm i || false)) ∙ ap (λ b. first_emits emits h f || b) (or_none _); agrees = g }))))))
     statement_does h a s (trees.break p) g = done_does h s g _ _ (if_holds a.loop (λ loop. ok_holds (Does false) core.break refl) (λ none. err_holds _ _))
     statement_does h a s (trees.continue p) g =
         done_does h s g _ _ (if_holds a.loop (λ loop. ok_holds (Does false) core.continue refl) (λ none. err_holds _ _))

@@ -1,10 +1,9 @@
 -- A `when` by its parts.
-use Rattle.std.proofs.Common.{◌≡◌, ℕ, ◌<◌, ◌+◌, Bool, true, false, List, [], ◌∷◌, ◌++◌, length, map, drop, get_or, Option, Some, None, refl, sym, ap, ◌∙◌, subst, arith}
-use Rattle.std.proofs.Common.{append_assoc, append-nil}
-use Rattle.std.proofs.lemmas.Bool.{ltb-true}
+use Rattle.std.proofs.Common.{◌≡◌, ℕ, zero, suc, ◌<◌, ◌+◌, true≢false, Bool, true, false, List, [], ◌∷◌, ◌++◌, length, map, drop, get_or, Option, Some, None, refl, sym, ap, ◌∙◌, subst, arith}
 use Rattle.std.proofs.lemmas.Option.{same_Some, none-some}
-use Rattle.std.specs.Prelude.{Result, Ok, Err, slice_get, nat_lt, if◌then◌else◌}
-use Rattle.std.specs.List.{position, position_or_len}
+use Rattle.std.specs.Prelude.{Result, Ok, Err, slice_get}
+use Rattle.std.specs.List.{position}
+use Rattle.std.proofs.lemmas.List.Quantifiers.{position-Some}
 use Rattle.std.specs.Option.{is_none}
 use Rattle.sz_types.specs.Data.{Shape}
 use Rattle.sz_types.specs.declared.place.Place.{Place}
@@ -122,47 +121,38 @@ all_found c (v ∷ vs) (b ∷ bs) h =
     rest (o ∷ os) = os
 
 -- the first variable that has none is refused
-first_lacks : (vs : List Variable) (os : List (Option BoundForm)) (v : Variable) → position_or_len is_none os < length os
-    → slice_get vs (position_or_len is_none os) ≡ Some v → all_bounded vs os ≡ unbounded v.name
+lacks_at : (vs : List Variable) (os : List (Option BoundForm)) (v : Variable) (k : ℕ) → k < length os → is_none (get_or os k None) ≡ true
+    → ((j : ℕ) → j < k → is_none (get_or os j None) ≡ false) → slice_get vs k ≡ Some v → all_bounded vs os ≡ unbounded v.name
 unfolding all_bounded
-first_lacks vs [] v h g = absurd (omega (arith, h))
-first_lacks [] (None ∷ os) v h g = absurd (none-some v g)
-first_lacks [] (Some b ∷ os) v h g = absurd (none-some v g)
-first_lacks (w ∷ vs) (None ∷ os) v h g = ap (λ (x : Variable). unbounded x.name) (same_Some w v g)
-first_lacks (w ∷ vs) (Some b ∷ os) v h g =
-    ap (λ (j : Judged (List BoundForm)). j >>= λ rest. Ok (b ∷ rest)) (first_lacks vs os v (omega (arith, h)) g)
-
--- the place of the first
-record IsFirst (os : List (Option BoundForm)) (k : ℕ) : Type 0 where
-  within : position_or_len is_none os < length os
-  is : position_or_len is_none os ≡ k
-
-first_at : (os : List (Option BoundForm)) (k : ℕ) → position is_none os ≡ Some k → IsFirst os k
-first_at os k h = by (nat_lt (position_or_len is_none os) (length os)) refl h
-  where
-    by : (b : Bool) → nat_lt (position_or_len is_none os) (length os) ≡ b → (if b then Some (position_or_len is_none os) else None) ≡ Some k → IsFirst os k
-    by true e g = record { within = ltb-true (position_or_len is_none os) (length os) e; is = same_Some _ k g }
-    by false e g = absurd (none-some k g)
+lacks_at vs [] v k within none before g = absurd (omega (arith, within))
+lacks_at [] (o ∷ os) v k within none before g = absurd (none-some v g)
+lacks_at (w ∷ vs) (None ∷ os) v zero within none before g = ap (λ (x : Variable). unbounded x.name) (same_Some w v g)
+lacks_at (w ∷ vs) (Some b ∷ os) v zero within none before g = absurd (true≢false (sym none))
+lacks_at (w ∷ vs) (None ∷ os) v (suc k) within none before g = absurd (true≢false (before 0 (omega arith)))
+lacks_at (w ∷ vs) (Some b ∷ os) v (suc k) within none before g =
+    ap (λ (j : Judged (List BoundForm)). j >>= λ rest. Ok (b ∷ rest))
+    (lacks_at vs os v k (omega (arith, within)) none (λ j l. before (suc j) (omega (arith, l))) g)
 
 pub lacks : (vs : List Variable) (os : List (Option BoundForm)) (k : ℕ) (v : Variable) → position is_none os ≡ Some k → slice_get vs k ≡ Some v
     → all_bounded vs os ≡ unbounded v.name
 lacks vs os k v h g =
-    let first = first_at os k h in
-    first_lacks vs os v first.within (ap (slice_get vs) first.is ∙ g)
+    let first = position-Some is_none os k None h in
+    lacks_at vs os v k first.0 first.1 first.2 g
 
 bounds_length : (ns : List (List ℕ)) (c : Exp) → length (bounds_of ns c) ≡ length ns
 bounds_length [] c = refl
-bounds_length (n ∷ ns) c = ap (λ m. m + 1) (bounds_length ns c)
+bounds_length (n ∷ ns) c = ap (λ m. suc m) (bounds_length ns c)
+
+count_names : {X : Type 0} (view : X → Variable) (vs : List X) → length (names_of (map view vs)) ≡ length vs
+count_names view [] = refl
+count_names view (v ∷ vs) = ap (λ m. suc m) (count_names view vs)
 
 -- the number of the first variable that has none is one of them
-pub lack_within : {X : Type 0} (view : X → Variable) (vs : List X) (c : Exp) (k : ℕ) → position is_none (bounds_of (names_of (map view vs)) c) ≡ Some k → k < length vs
+pub lack_within : {X : Type 0} (view : X → Variable) (vs : List X) (c : Exp) (k : ℕ) → position is_none (bounds_of (names_of (map view vs)) c) ≡ Some k
+    → k < length vs
 lack_within view vs c k h =
-    let first = first_at (bounds_of (names_of (map view vs)) c) k h in
-    omega (arith, first.within, first.is, bounds_length (names_of (map view vs)) c, count vs)
-  where
-    count : (vs : List _) → length (names_of (map view vs)) ≡ length vs
-    count [] = refl
-    count (v ∷ vs) = ap (λ m. m + 1) (count vs)
+    let first = position-Some is_none (bounds_of (names_of (map view vs)) c) k None h in
+    omega (arith, first.0, bounds_length (names_of (map view vs)) c, count_names view vs)
 
 -- ---- the variables of the checked tree
 

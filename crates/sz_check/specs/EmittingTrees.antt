@@ -35,6 +35,18 @@ abbrev pub quantified_names : (inside : Bool) → List QuantifierForm → List (
 quantified_names inside [] = []
 quantified_names inside (q ∷ qs) = (if not inside || is_seen_inside q.quantity then texts_of q.names else []) ++ quantified_names inside qs
 
+-- the names that are hidden behind the first part of a `for`
+abbrev pub hidden_behind_first : List (List ℕ) → Option FirstForm → List (List ℕ)
+hidden_behind_first h (Some (first_declare n t e)) = h ++ n.text ∷ []
+hidden_behind_first h (Some (first_define n e)) = h ++ n.text ∷ []
+hidden_behind_first h _ = h
+
+-- the names that are hidden behind a statement
+abbrev pub hidden_behind : List (List ℕ) → Stm → List (List ℕ)
+hidden_behind h (declare n t e) = h ++ n.text ∷ []
+hidden_behind h (define n e) = h ++ n.text ∷ []
+hidden_behind h _ = h
+
 -- which names call what emits
 module _ (emits : List ℕ → Bool) where
   -- whether the name calls what emits, where variables have these names
@@ -88,23 +100,12 @@ module _ (emits : List ℕ → Bool) where
   between_emits h None = false
   between_emits h (Some s) = simple_emits h s
 
-  -- whether the first part of a `for` can emit, and the names that are hidden behind it
+  -- whether the first part of a `for` can emit
   abbrev pub first_emits : List (List ℕ) → Option FirstForm → Bool
   first_emits h None = false
   first_emits h (Some (first_declare n t e)) = exp_emits h e
   first_emits h (Some (first_define n e)) = exp_emits h e
   first_emits h (Some (first_simple s)) = simple_emits h s
-
-  abbrev pub hidden_behind_first : List (List ℕ) → Option FirstForm → List (List ℕ)
-  hidden_behind_first h (Some (first_declare n t e)) = h ++ n.text ∷ []
-  hidden_behind_first h (Some (first_define n e)) = h ++ n.text ∷ []
-  hidden_behind_first h _ = h
-
-  -- the names that are hidden behind a statement
-  abbrev pub hidden_behind : List (List ℕ) → Stm → List (List ℕ)
-  hidden_behind h (declare n t e) = h ++ n.text ∷ []
-  hidden_behind h (define n e) = h ++ n.text ∷ []
-  hidden_behind h _ = h
 
   -- whether the turns of a `for` can emit: by its test, by what is done between them, or by what is done in them
   abbrev pub turns_emit : List (List ℕ) → Option Exp → Option SimpleForm → Bool → Bool
