@@ -1,5 +1,6 @@
 -- What is seen where the variables of a `when` are bound.
-use Rattle.std.proofs.Common.{◌≡◌, ℕ, zero, suc, ◌+◌, ◌≤◌, ◌<◌, Bool, true, false, List, [], ◌∷◌, ◌++◌, length, Option, Some, None, refl, sym, ap, ◌∙◌, subst, arith}
+use Rattle.std.proofs.Common.{◌≡◌, ℕ, zero, suc, ◌+◌, ◌≤◌, ◌<◌, Bool, true, false, List, [], ◌∷◌, ◌++◌, length, Option, Some, None, refl, sym, ap, ◌∙◌, subst}
+use Rattle.std.proofs.Common.{arith}
 use Rattle.std.proofs.Common.{true≢false, append_assoc, append-nil}
 use Rattle.std.specs.Prelude.{◌&&◌, not, slice_get, slice_index_or, filter, if◌then◌else◌, IfSome, Ok}
 use Rattle.std.specs.List.{Contains}
@@ -23,7 +24,8 @@ use Rattle.sz_known.specs.JudgingTypes.{judge_type}
 use Rattle.sz_known.specs.Scene.{Scene, with_quantified}
 use Rattle.sz_check_expr.specs.JudgingExpressions.{judge_exp}
 use Rattle.sz_check.specs.EmittingTrees.{is_seen_inside}
-use Rattle.sz_check.specs.Quantifying.{Variable, Declared, judge_names, judge_quantifier, judge_quantifiers, bind, bind_inside, all_must_be_last, all_last, are_of, checked}
+use Rattle.sz_check.specs.Quantifying.{Variable, Declared, judge_names, judge_quantifier, judge_quantifiers, bind, bind_inside, all_must_be_last, all_last}
+use Rattle.sz_check.specs.Quantifying.{are_of, checked}
 use Rattle.sz_check.specs.Quantifying.{Based, judge_base, judge_bases}
 use Rattle.sz_core.proofs.ForCallers.{some_has, formed_at}
 use Rattle.sz_known.proofs.Holds.{Holds, good, ok_holds, err_holds, bind_holds, known, weaker, if_holds, unless_holds}

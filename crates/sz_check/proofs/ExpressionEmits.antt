@@ -19,7 +19,8 @@ use Rattle.sz_known.specs.Refusals.{Judged, ◌>>=◌, unless, wrong_type, wrong
 use Rattle.sz_known.specs.Names.{Block, Meaning, meaning_of, look_up}
 use Rattle.sz_known.specs.Names as names
 use Rattle.sz_known.specs.JudgingTypes.{shape_of}
-use Rattle.sz_check_expr.specs.Agreeing.{Asks, nothing, each, in_turn, agree, counted, pairs_agree, arguments_fit, arity, asked_first, asked_behind, field_types}
+use Rattle.sz_check_expr.specs.Agreeing.{Asks, nothing, each, in_turn, agree, counted, pairs_agree, arguments_fit, arity, asked_first, asked_behind}
+use Rattle.sz_check_expr.specs.Agreeing.{field_types}
 use Rattle.sz_check_expr.specs.Agreeing.{fields_count, taken}
 use Rattle.sz_check_expr.specs.JudgingExpressions.{judge_exp, judge_exps, judge_pairs, literal_node, variable_node}
 use Rattle.sz_check_expr.specs.JudgingCalls.{callee_of, asks_of_callee, conversion_node, conversion_call, declared_call, predeclared_call, made_call}

@@ -1,5 +1,6 @@
 -- Turns of the loops that carry what is known from one element to the next.
-use Rattle.std.proofs.Common.{◌≡◌, ℕ, ◌+◌, ◌<◌, ◌≤◌, Bool, true, false, List, [], ◌∷◌, ◌++◌, length, get_or, drop, map, refl, sym, ap, ◌∙◌, append_assoc, append-nil}
+use Rattle.std.proofs.Common.{◌≡◌, ℕ, ◌+◌, ◌<◌, ◌≤◌, Bool, true, false, List, [], ◌∷◌, ◌++◌, length, get_or, drop, map, refl, sym, ap, ◌∙◌, append_assoc}
+use Rattle.std.proofs.Common.{append-nil}
 use Rattle.std.specs.Prelude.{Ok, Err, if◌then◌else◌}
 use Rattle.std.proofs.lemmas.List.{drop_more, map-append}
 use Rattle.std.proofs.Math.ListN.{drop_of_length-le}
@@ -78,7 +79,8 @@ unfolding all_last
 last_go = record { more = λ v vs after. refl; none = λ after. refl }
 
 -- the names of variables
-pub names_more : {X : Type 0} (view : X → Variable) (made : List (List ℕ)) (vs : List X) (i : ℕ) (v : X) (whole : List (List ℕ)) → i < length vs → v ≡ get_or vs i v
+pub names_more : {X : Type 0} (view : X → Variable) (made : List (List ℕ)) (vs : List X) (i : ℕ) (v : X) (whole : List (List ℕ)) → i < length vs
+    → v ≡ get_or vs i v
     → made ++ names_of (map view (drop i vs)) ≡ whole → (made ++ (view v).name.text ∷ []) ++ names_of (map view (drop (i + 1) vs)) ≡ whole
 names_more view made vs i v whole within is so_far =
     append_assoc made ((view v).name.text ∷ []) (names_of (map view (drop (i + 1) vs)))

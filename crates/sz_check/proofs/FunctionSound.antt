@@ -126,7 +126,8 @@ module _ (k : TopScene) (n : Ident) (t : Typ) (ss : Stms) (front : Scene) (u : S
         gives = function_formed.gives;
       }
 
-      with_itself : Holds (names.declare n (names.function (length k.functions) (signature_of n ss front u)) (blocks_of k)) (Mean (InFunction (sight variables)))
+      with_itself : Holds (names.declare n (names.function (length k.functions) (signature_of n ss front u)) (blocks_of k))
+          (Mean (InFunction (sight variables)))
       with_itself = declared (InFunction (sight variables)) n (names.function (length k.functions) (signature_of n ss front u)) (blocks_of k) (λ kept. itself)
           (outside_fits variables)
 

@@ -20,7 +20,8 @@ use Rattle.sz_known.specs.Names as names
 use Rattle.sz_check_expr.specs.Agreeing.{converted}
 use Rattle.sz_known.specs.JudgingTypes.{judge_type}
 use Rattle.sz_check_expr.specs.JudgingExpressions.{judge_exp}
-use Rattle.sz_check.specs.JudgingPrograms.{TopScene, blocks_of, with_blocks, kind_of, limit_of, judge_elems, judge_weight, most_tables, judge_table, judge_static}
+use Rattle.sz_check.specs.JudgingPrograms.{TopScene, blocks_of, with_blocks, kind_of, limit_of, judge_elems, judge_weight, most_tables, judge_table}
+use Rattle.sz_check.specs.JudgingPrograms.{judge_static}
 use Rattle.sz_check.specs.JudgingPrograms.{judge_typedef, judge_statement}
 use Rattle.sz_known.proofs.Holds.{Holds, good, ok_holds, bind_holds, known, unless_holds}
 use Rattle.sz_known.proofs.Meanings.{kept_only}

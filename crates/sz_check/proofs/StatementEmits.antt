@@ -9,8 +9,10 @@ use Rattle.sz_tree.specs.Names.{Ident}
 use Rattle.sz_tree.specs.Types.{Typ}
 use Rattle.sz_tree.specs.Expressions.{Exp, Exps, place_of}
 use Rattle.sz_tree.specs.Expressions as exps
-use Rattle.sz_tree.specs.Statements.{StepForm, PathForm, SimpleForm, assign, increment, decrement, call_of, FirstForm, first_declare, first_define, first_simple}
-use Rattle.sz_tree.specs.Statements.{QuantifierForm, Stm, empty, declare, define, static, typedef, table, function, simple, if_only, if_else, return, when, Stms}
+use Rattle.sz_tree.specs.Statements.{StepForm, PathForm, SimpleForm, assign, increment, decrement, call_of, FirstForm, first_declare, first_define}
+use Rattle.sz_tree.specs.Statements.{first_simple}
+use Rattle.sz_tree.specs.Statements.{QuantifierForm, Stm, empty, declare, define, static, typedef, table, function, simple, if_only, if_else, return, when}
+use Rattle.sz_tree.specs.Statements.{Stms}
 use Rattle.sz_tree.specs.Statements as trees
 use Rattle.sz_core.specs.Nodes.{Node, node, type_of}
 use Rattle.sz_core.specs.Nodes as forms
@@ -117,13 +119,17 @@ module _ (fs : List Signature) (emits : List ℕ → Bool) where
     abbrev Leads : Bool → Target → Type 0
     Leads b t = steps_emit_core fs t.steps ≡ b
 
+    abbrev LeadsTo : Target → Node → Target → Type 0
+    LeadsTo t n = Leads (steps_emit_core fs t.steps || node_emits fs n)
+
     index_leads : (p : Place) (t : Target) (u : Shape) (e : Exp) (n : Node)
-        → Holds (indexed p t u e n) (Leads (steps_emit_core fs t.steps || node_emits fs n))
-    index_leads p t (Shape.array u) e n = bind_holds (known (whole e n)) (λ v is. ok_holds (Leads (steps_emit_core fs t.steps || node_emits fs n)) (stepped t (at_index n) u) (steps_more t.steps n))
+        → Holds (indexed p t u e n) (LeadsTo t n)
+    index_leads p t (Shape.array u) e n =
+        bind_holds (known (whole e n)) (λ v is. ok_holds (LeadsTo t n) (stepped t (at_index n) u) (steps_more t.steps n))
     index_leads p t (Shape.mapping k v) e n =
-        bind_holds (known (agrees (Some k) e n)) (λ u is. ok_holds (Leads (steps_emit_core fs t.steps || node_emits fs n)) (stepped t (at_index n) v) (steps_more t.steps n))
-    index_leads p t Shape.str e n = bind_holds (known (whole e n)) (λ v is. ok_holds (Leads (steps_emit_core fs t.steps || node_emits fs n)) _ (steps_more t.steps n))
-    index_leads p t Shape.bytes e n = bind_holds (known (whole e n)) (λ v is. ok_holds (Leads (steps_emit_core fs t.steps || node_emits fs n)) _ (steps_more t.steps n))
+        bind_holds (known (agrees (Some k) e n)) (λ u is. ok_holds (LeadsTo t n) (stepped t (at_index n) v) (steps_more t.steps n))
+    index_leads p t Shape.str e n = bind_holds (known (whole e n)) (λ v is. ok_holds (LeadsTo t n) _ (steps_more t.steps n))
+    index_leads p t Shape.bytes e n = bind_holds (known (whole e n)) (λ v is. ok_holds (LeadsTo t n) _ (steps_more t.steps n))
     index_leads p t _ e n = err_holds _ _
 
     steps_lead : (p : Place) (t : Target) (steps : List StepForm)
@@ -179,7 +185,8 @@ module _ (fs : List Signature) (emits : List ℕ → Bool) where
     simple_does (assign path e) = assignment_does path e
     simple_does (increment n) = change_does n _ _
     simple_does (decrement n) = change_does n _ _
-    simple_does (call_of n es) = bind_holds (judged_gives None (exps.call n es)) (λ m is. ok_holds (Does (calls emits h n.text || exps_emit emits h es)) (core.evaluate n.place m) is)
+    simple_does (call_of n es) = bind_holds (judged_gives None (exps.call n es)) (λ m is.
+        ok_holds (Does (calls emits h n.text || exps_emit emits h es)) (core.evaluate n.place m) is)
 
     between_does : (t : Option SimpleForm) → Holds (judge_between s t) (Does (between_emits emits h t))
     unfolding core_emits all_emit
@@ -293,5 +300,6 @@ module _ (fs : List Signature) (emits : List ℕ → Bool) where
     statements_do h a s trees.no_stms g = ok_holds (AllDo false) (record { scene = s; stms = core.no_stms }) (record { stms = refl })
     statements_do h a s (trees.stm t ts) g = bind_holds (statement_does h a s t g) (λ first is.
         bind_holds (statements_do (hidden_behind h t) a first.scene ts is.agrees) (λ rest are.
-        ok_holds (AllDo (stm_emits emits h t || stms_emit emits (hidden_behind h t) ts)) (record { scene = rest.scene; stms = core.with_stm first.stm rest.stms })
+        ok_holds (AllDo (stm_emits emits h t || stms_emit emits (hidden_behind h t) ts))
+        (record { scene = rest.scene; stms = core.with_stm first.stm rest.stms })
         (record { stms = λ i. is.stm i || are.stms i })))

@@ -27,7 +27,8 @@ use Rattle.sz_known.proofs.TurnLemmas.{stops_then, goes_on}
 use Rattle.sz_core.specs.declared.stmt.CoreStmt.{CoreStmt}
 use Rattle.sz_core.specs.View.{stm_of}
 use Rattle.sz_known.specs.Holding.{Held, outside_of, scene_of}
-use Rattle.sz_check.specs.Behind.{behind_of, branch_of, judge_inside, judge_else, judge_turns, judge_for, Emitted, judge_emitted, emitted_fits, judge_emit_by_parts}
+use Rattle.sz_check.specs.Behind.{behind_of, branch_of, judge_inside, judge_else, judge_turns, judge_for, Emitted, judge_emitted, emitted_fits}
+use Rattle.sz_check.specs.Behind.{judge_emit_by_parts}
 
 tested : {A B : Type 0} (u : Judged Unit) (x : A) (f : A → B) → (u >>= λ _. Ok (f x)) ≡ ((u >>= λ _. Ok x) >>= λ y. Ok (f y))
 tested (Ok t) x f = refl

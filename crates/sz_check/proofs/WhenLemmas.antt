@@ -1,5 +1,6 @@
 -- A `when` by its parts.
-use Rattle.std.proofs.Common.{◌≡◌, ℕ, zero, suc, ◌<◌, ◌+◌, true≢false, Bool, true, false, List, [], ◌∷◌, ◌++◌, length, map, drop, get_or, Option, Some, None, refl, sym, ap, ◌∙◌, subst, arith}
+use Rattle.std.proofs.Common.{◌≡◌, ℕ, zero, suc, ◌<◌, ◌+◌, true≢false, Bool, true, false, List, [], ◌∷◌, ◌++◌, length, map, drop, get_or, Option, Some, None}
+use Rattle.std.proofs.Common.{refl, sym, ap, ◌∙◌, subst, arith}
 use Rattle.std.proofs.lemmas.Option.{same_Some, none-some}
 use Rattle.std.specs.Prelude.{Result, Ok, Err, slice_get}
 use Rattle.std.specs.List.{position}
@@ -42,13 +43,15 @@ module _ (k inner : Held) (qs : List QuantifierForm) (c : Exp) (opening : inner 
   begin : (judge_quantifiers qs (record { scene = scene_of inner; variables = [] }) >>= condition_of (scene_of k) c) ≡ judge_front (scene_of k) qs c
   begin = ap (λ (u : Held). judge_quantifiers qs (record { scene = scene_of u; variables = [] }) >>= condition_of (scene_of k) c) opening
 
-  pub front_stops : (e : CheckError) → Stops e (judge_quantifiers qs (record { scene = scene_of inner; variables = [] })) → Stops e (judge_front (scene_of k) qs c)
+  pub front_stops : (e : CheckError) → Stops e (judge_quantifiers qs (record { scene = scene_of inner; variables = [] }))
+      → Stops e (judge_front (scene_of k) qs c)
   front_stops e h = stops_then e _ (condition_of (scene_of k) c) _ h begin
 
   pub condition_stops : (d : Declared) (e : CheckError) → judge_quantifiers qs (record { scene = scene_of inner; variables = [] }) ≡ Ok d
       → Stops e (judge_exp d.scene.blocks false None c) → Stops e (judge_front (scene_of k) qs c)
   condition_stops d e made h = stops_then e (judge_exp d.scene.blocks false None c)
-      (λ n. Ok (record { scene = closed (scene_of k) d.scene; variables = d.variables; condition = n })) _ h (goes_on _ (condition_of (scene_of k) c) _ d made begin)
+      (λ n. Ok (record { scene = closed (scene_of k) d.scene; variables = d.variables; condition = n })) _ h
+      (goes_on _ (condition_of (scene_of k) c) _ d made begin)
 
   pub front_made : (done after : Held) (vs : List Variable) (n : Node)
       → judge_quantifiers qs (record { scene = scene_of inner; variables = [] }) ≡ Ok (record { scene = scene_of done; variables = vs })
@@ -93,7 +96,8 @@ module _ (a in_body : Around) (k inner : Held) (vs : List Variable) (t : Tree) (
 -- ---- the bounds
 
 -- where a refusal is that of a name, it is that of what is the same
-pub stops_as : {A : Type 0} (e : CheckError) (number : ℕ) (n : Ident) (j : Judged A) → Stops {Y = Unit} e (refused_for number n) → j ≡ refused_for number n → Stops e j
+pub stops_as : {A : Type 0} (e : CheckError) (number : ℕ) (n : Ident) (j : Judged A) → Stops {Y = Unit} e (refused_for number n)
+    → j ≡ refused_for number n → Stops e j
 stops_as errors.NoMemory number n j h same = tt
 stops_as (errors.Refused m p name) number n j h same = same ∙ ap (λ (x : Judged Unit). as_refusal x) h
   where
@@ -194,7 +198,8 @@ pub bases_end : (front : List core.Quantified) (blocks : List Block) (vs : List 
     → vs ≡ [] → behind put front (judge_bases blocks vs bs) ≡ whole → whole ≡ Ok front
 unfolding judge_bases
 bases_end front blocks vs bs whole vs_is so_far =
-    sym so_far ∙ ap (λ (l : List Variable). behind put front (judge_bases blocks l bs)) vs_is ∙ behind_ends put front [] ∙ ap (λ (l : _). Ok l) (put_bases front)
+    sym so_far ∙ ap (λ (l : List Variable). behind put front (judge_bases blocks l bs)) vs_is ∙ behind_ends put front []
+    ∙ ap (λ (l : _). Ok l) (put_bases front)
 
 -- the rules of the variables, and then what their candidates are made of, in a block of their own
 module _ (k inner : Held) (vs : List Variable) (c : Exp) (bs : List BoundForm) (after : Bool) (opening : inner ≡ inside_of k)

@@ -24,7 +24,8 @@ use Rattle.sz_check_expr.proofs.AgreeLemmas.{IsTyped}
 use Rattle.sz_check_expr.proofs.NodeLemmas.{test_holds}
 use Rattle.sz_check_expr.proofs.ExpressionSound.{expression_typed}
 use Rattle.sz_check.proofs.SceneLemmas.{Sees, sees_closed, begins_on, begins_length, AreBelow, below_more, IsBehind, IsInside, IsSoundPart}
-use Rattle.sz_check.proofs.BoundLemmas.{bound, Rise, bound_locals, bound_emits, inside, rise_inside, have_inside, bound_below, bound_fixed, inside_bound, AreMade}
+use Rattle.sz_check.proofs.BoundLemmas.{bound, Rise, bound_locals, bound_emits, inside, rise_inside, have_inside, bound_below, bound_fixed, inside_bound}
+use Rattle.sz_check.proofs.BoundLemmas.{AreMade}
 use Rattle.sz_check.proofs.BoundLemmas.{quantifiers_made, bound_those, inside_those, last_those, AreBased, bases_sound}
 
 -- how the variables and the condition were judged

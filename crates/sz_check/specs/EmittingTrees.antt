@@ -6,7 +6,8 @@ use Rattle.sz_tree.specs.Names.{Ident}
 use Rattle.sz_tree.specs.Expressions.{Exp, literal, named, call, def, paren, convert, list, mapping, index, slice, field, unary, binary, Exps, end, more, Pairs}
 use Rattle.sz_tree.specs.Expressions.{no_pairs, pair}
 use Rattle.sz_tree.specs.Statements.{StepForm, at_index, at_field, SimpleForm, assign, increment, decrement, call_of, FirstForm, first_declare, first_define}
-use Rattle.sz_tree.specs.Statements.{first_simple, QuantifierForm, Stm, block, declare, define, simple, if_only, if_else, while, do_while, for_loop, return, emit}
+use Rattle.sz_tree.specs.Statements.{first_simple, QuantifierForm, Stm, block, declare, define, simple, if_only, if_else, while, do_while, for_loop, return}
+use Rattle.sz_tree.specs.Statements.{emit}
 use Rattle.sz_tree.specs.Statements.{when, Stms, no_stms, stm}
 use Rattle.sz_known.specs.Refusals.{has_name}
 use Rattle.sz_known.specs.Names.{Block, Meaning, meaning_of}
