@@ -2,7 +2,7 @@
 use Rattle.std.proofs.Common.{◌≡◌, ℕ, zero, suc, ◌<◌, ◌+◌, true≢false, Bool, true, false, List, [], ◌∷◌, ◌++◌, length, map, drop, get_or, Option, Some, None}
 use Rattle.std.proofs.Common.{refl, sym, ap, ◌∙◌, subst, arith}
 use Rattle.std.proofs.lemmas.Option.{same_Some, none-some}
-use Rattle.std.specs.Prelude.{Result, Ok, Err, slice_get}
+use Rattle.std.specs.Prelude.{Result, Ok, Err, IfOk, slice_get}
 use Rattle.std.specs.List.{position}
 use Rattle.std.proofs.lemmas.List.Quantifiers.{position-Some}
 use Rattle.std.specs.Option.{is_none}
@@ -66,15 +66,21 @@ module _ (k inner : Held) (qs : List QuantifierForm) (c : Exp) (opening : inner 
 
 -- the variables that it sees, in a block of their own
 pub bound_is : (k inner behind : Held) (vs : List Variable) (r : Result Unit CheckError) → inner ≡ inside_of k
-    → Judges (λ u. blocks_of behind) r (bind_inside vs (blocks_of inner)) → behind.locals ≡ k.locals
+    → Judges (λ u. blocks_of behind) r (bind_inside vs (blocks_of inner)) → IfOk r (λ u. behind.locals ≡ inner.locals)
     → Judges (λ u. scene_of behind) r (judge_bound (scene_of k) vs)
 bound_is k inner behind vs (Ok u) opening h locals =
     ap (λ (b : Held). bind_inside vs (blocks_of b) >>= λ blocks. Ok (record { blocks = blocks; locals = k.locals })) (sym opening)
     ∙ ap (λ (j : Judged (List Block)). j >>= λ blocks. Ok (record { blocks = blocks; locals = k.locals })) h
-    ∙ ap (λ (l : List Shape). Ok (record { blocks = blocks_of behind; locals = l })) (sym locals)
+    ∙ ap (λ (l : List Shape). Ok (record { blocks = blocks_of behind; locals = l })) (sym (locals ∙ ap (λ (b : Held). b.locals) opening))
 bound_is k inner behind vs (Err e) opening h locals =
     stops_then e (bind_inside vs (blocks_of inner)) (λ blocks. Ok (record { blocks = blocks; locals = k.locals })) _ h
     (ap (λ (b : Held). bind_inside vs (blocks_of b) >>= λ blocks. Ok (record { blocks = blocks; locals = k.locals })) opening)
+
+-- what is outside the block is what was known
+pub bound_outside : (k inner behind : Held) (r : Result Unit CheckError) → inner ≡ inside_of k → IfOk r (λ u. behind.outside ≡ inner.outside)
+    → IfOk r (λ u. behind.outside ≡ outside_of k)
+bound_outside k inner behind (Ok u) opening h = h ∙ ap (λ (b : Held). b.outside) opening
+bound_outside k inner behind (Err e) opening h = tt
 
 abbrev body_end : Scene → Behind → Judged Behind
 body_end s body = Ok (record { scene = closed s body.scene; stm = body.stm })
