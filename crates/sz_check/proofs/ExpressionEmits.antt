@@ -18,6 +18,7 @@ use Rattle.sz_core.specs.Emitting.{is_emitting, node_emits, form_emits, nodes_em
 use Rattle.sz_known.specs.Refusals.{Judged, ◌>>=◌, unless, wrong_type, wrong_count, emit_here}
 use Rattle.sz_known.specs.Names.{Block, Meaning, meaning_of, look_up}
 use Rattle.sz_known.specs.Names as names
+use Rattle.sz_types.specs.Conversions.{converts_to}
 use Rattle.sz_known.specs.JudgingTypes.{shape_of}
 use Rattle.sz_check_expr.specs.Agreeing.{Asks, nothing, each, in_turn, agree, counted, pairs_agree, arguments_fit, arity, asked_first, asked_behind}
 use Rattle.sz_check_expr.specs.Agreeing.{field_types}
@@ -80,7 +81,7 @@ module _ (fs : List Signature) where
 
   conversion_gives : (p : Place) (t : Shape) (e : Exp) (n : Node) → Holds (conversion_node p t e n) (Gives (node_emits fs n))
   unfolding form_emits
-  conversion_gives p t e n = if_holds _ (λ row. gives _ p t (forms.convert n) refl) (λ none. err_holds _ _)
+  conversion_gives p t e n = if_holds {n = wrong_type (place_of e)} (converts_to (type_of n) t) (λ row. gives (node_emits fs n) p t (forms.convert n) refl) (λ none. err_holds _ _)
 
   declared_gives : (may_emit : Bool) (n : Ident) (k : ℕ) (s : Signature) (es : Exps) (ns : Nodes)
       → Holds (declared_call may_emit n k s es ns) (Gives (is_emitting (slice_get fs k) || nodes_emit fs ns))
@@ -96,7 +97,8 @@ module _ (fs : List Signature) where
       let given : Judged Node = by_option (wrong_count n.place) (λ t. good (node n.place t (forms.builtin b ns))) (builtin_row b (types_of ns)) in
       bind_holds {f = λ u. counted (arity b) es n.place >>= (λ v. given)} (known (arguments_fit b es ns)) (λ u fit.
       bind_holds {f = λ v. given} (known (counted (arity b) es n.place)) (λ v count.
-      option_holds _ (λ none. err_holds _ _) (λ t row. gives _ n.place t (forms.builtin b ns) refl)))
+      option_holds {r = wrong_count n.place} (builtin_row b (types_of ns)) (λ none. err_holds _ _)
+      (λ t row. gives (nodes_emit fs ns) n.place t (forms.builtin b ns) refl)))
 
   -- one that emits nothing behind it
   or_none : (b : Bool) → b ≡ (b || false)
@@ -117,8 +119,8 @@ module _ (fs : List Signature) where
   unfolding form_emits
   index_gives p e i n m =
       bind_holds {f = λ u. by_option (wrong_type (place_of i)) (λ t. good (node p t (forms.index n m))) (index_row (type_of n) (type_of m))}
-      (known (unless (has_index (type_of n)) (wrong_type (place_of e)))) (λ u has. option_holds _ (λ none. err_holds _ _) (λ t row.
-      gives _ p t (forms.index n m) refl))
+      (known (unless (has_index (type_of n)) (wrong_type (place_of e)))) (λ u has. option_holds {r = wrong_type (place_of i)} (index_row (type_of n) (type_of m)) (λ none. err_holds _ _) (λ t row.
+      gives (node_emits fs n || node_emits fs m) p t (forms.index n m) refl))
 
   slice_gives : (p : Place) (e i j : Exp) (n m o : Node)
       → Holds (made_slice p e i j n m o) (Gives (node_emits fs n || node_emits fs m || node_emits fs o))
@@ -132,14 +134,15 @@ module _ (fs : List Signature) where
 
   unary_gives : (p : Place) (o : UnaryOp) (e : Exp) (n : Node) → Holds (made_unary p o e n) (Gives (node_emits fs n))
   unfolding form_emits
-  unary_gives p o e n = option_holds _ (λ none. err_holds _ _) (λ t row. gives _ p t (forms.unary (unary_of o) n) refl)
+  unary_gives p o e n = option_holds {r = wrong_type (place_of e)} (unary_row (unary_of o) (type_of n)) (λ none. err_holds _ _)
+      (λ t row. gives (node_emits fs n) p t (forms.unary (unary_of o) n) refl)
 
   operator_gives : (p : Place) (o : BinOp) (l r : Exp) (n m : Node) → Holds (made_operator p o l r n m) (Gives (node_emits fs n || node_emits fs m))
   unfolding form_emits
   operator_gives p o l r n m =
       bind_holds {f = λ u. by_option (wrong_type (place_of r)) (λ t. good (node p t (forms.binary o n m))) (binary_row o (type_of n) (type_of m))}
-      (known (unless (takes_left o (type_of n)) (wrong_type (place_of l)))) (λ u takes. option_holds _ (λ none. err_holds _ _) (λ t row.
-      gives _ p t (forms.binary o n m) refl))
+      (known (unless (takes_left o (type_of n)) (wrong_type (place_of l)))) (λ u takes. option_holds {r = wrong_type (place_of r)} (binary_row o (type_of n) (type_of m)) (λ none. err_holds _ _) (λ t row.
+      gives (node_emits fs n || node_emits fs m) p t (forms.binary o n m) refl))
 
   binary_gives : (p : Place) (o : Operation) (l r : Exp) (n m : Node) → Holds (made_binary p o l r n m) (Gives (node_emits fs n || node_emits fs m))
   unfolding form_emits
@@ -182,30 +185,31 @@ module _ (fs : List Signature) where
     called : (n : Ident) (m : Meaning) → meaning_of n.text blocks ≡ Some m → calls emits h n.text ≡ by_signatures (Some m)
     called n m is = agrees n.text ∙ ap by_signatures is
 
+    -- a call, by what its name stands for
+    call_gives : (n : Ident) (m : Meaning) (es : Exps) → meaning_of n.text blocks ≡ Some m
+        → ((asks : Asks) → Holds (judge_exps blocks may_emit asks es) (AllGive (exps_emit emits h es)))
+        → Holds (callee_of n m >>= λ c. judge_exps blocks may_emit (asks_of_callee c) es >>= λ ns. made_call may_emit n c es ns)
+        (Gives (calls emits h n.text || exps_emit emits h es))
+    call_gives n (names.variable k t) es is give = err_holds _ _
+    call_gives n (names.quantified k t) es is give = err_holds _ _
+    call_gives n (names.static k t) es is give = err_holds _ _
+    call_gives n (names.table k d) es is give = err_holds _ _
+    call_gives n names.input es is give = err_holds _ _
+    call_gives n (names.function k s) es is give = bind_holds (give (in_turn s.parameters)) (λ ns parts.
+        weaker (declared_gives may_emit n k s es ns) (λ x here. here ∙ (λ i. sym (called n (names.function k s) is) i || parts i)))
+    call_gives n (names.predeclared b) es is give = bind_holds (give nothing) (λ ns parts.
+        weaker (predeclared_gives n b es ns) (λ x here. here ∙ (λ i. sym (called n (names.predeclared b) is) i || parts i)))
+    call_gives n (names.type_name t) es is give = bind_holds (give nothing) (λ ns parts.
+        weaker (conversion_call_gives n t es ns) (λ x here. here ∙ (λ i. sym (called n (names.type_name t) is) i || parts i)))
+
     mutual
       unfolding judge_exp judge_exps judge_pairs exp_emits exps_emit pairs_emit node_emits form_emits nodes_emit pairings_emit
-
-      -- a call, by what its name stands for
-      call_gives : (n : Ident) (m : Meaning) (es : Exps) → meaning_of n.text blocks ≡ Some m
-          → Holds (callee_of n m >>= λ c. judge_exps blocks may_emit (asks_of_callee c) es >>= λ ns. made_call may_emit n c es ns)
-          (Gives (calls emits h n.text || exps_emit emits h es))
-      call_gives n (names.variable k t) es is = err_holds _ _
-      call_gives n (names.quantified k t) es is = err_holds _ _
-      call_gives n (names.static k t) es is = err_holds _ _
-      call_gives n (names.table k d) es is = err_holds _ _
-      call_gives n names.input es is = err_holds _ _
-      call_gives n (names.function k s) es is = bind_holds (expressions_give (in_turn s.parameters) es) (λ ns parts.
-          weaker (declared_gives may_emit n k s es ns) (λ x here. here ∙ (λ i. sym (called n (names.function k s) is) i || parts i)))
-      call_gives n (names.predeclared b) es is = bind_holds (expressions_give nothing es) (λ ns parts.
-          weaker (predeclared_gives n b es ns) (λ x here. here ∙ (λ i. sym (called n (names.predeclared b) is) i || parts i)))
-      call_gives n (names.type_name t) es is = bind_holds (expressions_give nothing es) (λ ns parts.
-          weaker (conversion_call_gives n t es ns) (λ x here. here ∙ (λ i. sym (called n (names.type_name t) is) i || parts i)))
 
       -- an expression that is judged emits as its tree does
       pub expression_gives : (asked : Option Shape) (e : Exp) → Holds (judge_exp blocks may_emit asked e) (Gives (exp_emits emits h e))
       expression_gives asked (literal p l) = ok_holds (Gives false) (literal_node p l) (literal_gives p l)
       expression_gives asked (named n) = bind_holds (known (look_up n blocks)) (λ m is. variable_gives n m)
-      expression_gives asked (call n es) = bind_holds (found_as n blocks) (λ m is. call_gives n m es is)
+      expression_gives asked (call n es) = bind_holds (found_as n blocks) (λ m is. call_gives n m es is (λ asks. expressions_give asks es))
       expression_gives asked (def p e) = bind_holds (expression_gives None e) (λ n part. gives _ p Shape.truth (forms.def n) part)
       expression_gives asked (paren p e) = expression_gives asked e
       expression_gives asked (convert p b e) = bind_holds (expression_gives None e) (λ n part.

@@ -60,7 +60,7 @@ seen_by_function locals seen d s variables count (names.predeclared b) f is = tt
 seen_by_function locals seen d s variables count names.input f is = absurd (true≢false (sym is))
 
 -- nothing is in a list of none
-none_in : (n : ℕ) → Contains {A = ℕ} [] n → ⊥
+none_in : (n : ℕ) → Contains [] n → ⊥
 none_in n c = absurd (omega (arith, c.1))
 
 -- what is kept of the blocks is true of what the function sees

@@ -1,6 +1,6 @@
 -- A statement that is judged emits as its tree does.
 use Rattle.std.proofs.Common.{◌≡◌, ℕ, Bool, true, false, List, [], ◌∷◌, ◌++◌, Option, Some, None, refl, sym, ap, ◌∙◌, subst, append-nil}
-use Rattle.std.specs.Prelude.{◌||◌, Ok, pos}
+use Rattle.std.specs.Prelude.{◌||◌, Ok, pos, is_some, length, if◌then◌else◌}
 use Rattle.sz_types.specs.Data.{Shape}
 use Rattle.sz_types.specs.declared.place.Place.{Place}
 use Rattle.sz_types.specs.declared.operator.BinOp.{BinOp}
@@ -20,12 +20,15 @@ use Rattle.sz_core.specs.Statements as core
 use Rattle.sz_core.specs.Statements.{Step, at_index, at_field}
 use Rattle.sz_core.specs.Programs.{Signature}
 use Rattle.sz_core.specs.Emitting.{node_emits, form_emits, steps_emit as steps_emit_core, test_emits, stm_emits as core_emits, stms_emit as all_emit}
-use Rattle.sz_known.specs.Refusals.{Judged, ◌>>=◌, wrong_type}
+use Rattle.sz_known.specs.Refusals.{Judged, ◌>>=◌, unless, wrong_type, wrong_weight}
 use Rattle.sz_known.specs.Names.{Block, Meaning, look_up}
 use Rattle.sz_known.specs.Names as names
 use Rattle.sz_known.specs.JudgingTypes.{judge_type}
 use Rattle.sz_known.specs.Scene.{Scene, opened, with_variable}
-use Rattle.sz_check_expr.specs.Agreeing.{converted, agrees}
+use Rattle.sz_types.specs.Same.{alike}
+use Rattle.sz_types.specs.Conversions.{converts_to}
+use Rattle.sz_check_expr.specs.Agreeing.{converted, in_turn, agree, agrees, counted}
+use Rattle.sz_check_expr.specs.JudgingExpressions.{judge_exps}
 use Rattle.sz_check_expr.specs.JudgingParts.{whole, field_in}
 use Rattle.sz_check_expr.specs.JudgingOperators.{test}
 use Rattle.sz_check.specs.Scenes.{Behind, AllBehind, judge, judge_if_some, closed}
@@ -34,7 +37,7 @@ use Rattle.sz_check.specs.EmittingTrees.{hidden_behind, turns_emit, stm_emits, s
 use Rattle.sz_check.specs.Quantifying.{Front, none_declared, judge_quantifiers, judge_front, judge_bound, in_bound, quantify}
 use Rattle.sz_check.specs.JudgingPaths.{Target, target_of, stepped, indexed, judge_steps, judge_path}
 use Rattle.sz_check.specs.JudgingSimple.{judge_declaration, judge_initialised, judge_definition, judge_assignment, judge_change, judge_simple, judge_first}
-use Rattle.sz_check.specs.JudgingSimple.{judge_between, test_if_some, judge_return, table_named, judge_emit, done}
+use Rattle.sz_check.specs.JudgingSimple.{judge_between, test_if_some, judge_return, table_named, weight_agrees, same_presence, judge_emit, done}
 use Rattle.sz_check.specs.JudgingStatements.{Around, in_block, in_loop, out_of_loops, judge_stm, judge_stms}
 use Rattle.sz_known.proofs.Holds.{Holds, good, ok_holds, err_holds, bind_holds, known, weaker, both_hold, if_holds, by_option, option_holds}
 use Rattle.sz_check.proofs.ExpressionEmits.{Agrees, Gives, expression_gives}
@@ -79,8 +82,10 @@ module _ (fs : List Signature) (emits : List ℕ → Bool) where
 
     converted_gives : (t : Shape) (e : Exp) (n : Node) → Holds (converted t e n) (Gives fs (node_emits fs n))
     unfolding node_emits form_emits
-    converted_gives t e n = if_holds _ (λ alike. ok_holds (Gives fs (node_emits fs n)) n refl)
-        (λ other. if_holds _ (λ row. ok_holds (Gives fs (node_emits fs n)) (node (place_of e) t (forms.convert n)) refl) (λ none. err_holds _ _))
+    converted_gives t e n = if_holds {n = if converts_to (type_of n) t then Ok (node (place_of e) t (forms.convert n)) else wrong_type (place_of e)}
+        (alike (type_of n) t) (λ equal. ok_holds (Gives fs (node_emits fs n)) n refl)
+        (λ other. if_holds {n = wrong_type (place_of e)} (converts_to (type_of n) t)
+        (λ row. ok_holds (Gives fs (node_emits fs n)) (node (place_of e) t (forms.convert n)) refl) (λ none. err_holds _ _))
 
     -- ---- declarations
 
@@ -215,8 +220,13 @@ module _ (fs : List Signature) (emits : List ℕ → Bool) where
     emit_does : (p : Place) (n : Ident) (es : Exps) (e : Exp) (w : Option Exp) → Holds (judge_emit s p n es e w) (Does true)
     unfolding core_emits
     emit_does p n es e w = bind_holds (known (look_up n s.blocks)) (λ m found. bind_holds (known (table_named n m)) (λ t table.
-        bind_holds (known _) (λ indexes a. bind_holds (known _) (λ value b. bind_holds (known _) (λ weight c. bind_holds (known _) (λ u d.
-        bind_holds (known _) (λ v f. bind_holds (known _) (λ x g. bind_holds (known _) (λ y i. bind_holds (known _) (λ z j.
+        bind_holds (known (judge_exps s.blocks true (in_turn t.declaration.indexes) es)) (λ indexes a.
+        bind_holds (known (judge s (Some t.declaration.element) e)) (λ value b. bind_holds (known (judge_if_some s t.declaration.weight w)) (λ weight c.
+        bind_holds (known (agree (in_turn t.declaration.indexes) es indexes)) (λ u d.
+        bind_holds (known (agrees (Some t.declaration.element) e value)) (λ v f.
+        bind_holds (known (weight_agrees t.declaration.weight w weight)) (λ x g.
+        bind_holds (known (counted (length t.declaration.indexes) es n.place)) (λ y i.
+        bind_holds (known (unless (same_presence (is_some t.declaration.weight) (is_some w)) (wrong_weight p))) (λ z j.
         ok_holds (Does true) (core.emit p t.number indexes value weight) refl))))))))))
 
   -- a part statement, in a block of its own

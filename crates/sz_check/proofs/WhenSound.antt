@@ -18,7 +18,7 @@ use Rattle.sz_check_expr.specs.JudgingOperators.{test}
 use Rattle.sz_check.specs.Scenes.{Behind, closed}
 use Rattle.sz_check.specs.Quantifying.{Variable, Declared, Front, none_declared, judge_quantifiers, judge_front, bind_inside, judge_bound, in_bound, names_of}
 use Rattle.sz_check.specs.Quantifying.{all_bounded, all_last, judge_bases, quantify}
-use Rattle.sz_known.proofs.Holds.{Holds, good, ok_holds, bind_holds, known, both_hold}
+use Rattle.sz_known.proofs.Holds.{Holds, good, ok_holds, bind_holds, known, weaker}
 use Rattle.sz_known.proofs.Sights.{AreFormed, AllFit, IsWider, all_fit_wider}
 use Rattle.sz_check_expr.proofs.AgreeLemmas.{IsTyped}
 use Rattle.sz_check_expr.proofs.NodeLemmas.{test_holds}
@@ -42,7 +42,7 @@ front_sound s qs c = bind_holds (quantifiers_made qs (none_declared s)) (λ d ma
     (record { declared = d; made = made; scene = refl; variables = made.variables; judged = is })))
 
 -- how the variables of the checked tree were judged
-record IsQuantified (s : Scene) (vs : List Variable) (c : Exp) (qs : List core.Quantified) : Type 0 where
+pub record IsQuantified (s : Scene) (vs : List Variable) (c : Exp) (qs : List core.Quantified) : Type 0 where
   bounds : List BoundForm
   after : Bool
   last : all_last vs false ≡ good after
@@ -50,8 +50,7 @@ record IsQuantified (s : Scene) (vs : List Variable) (c : Exp) (qs : List core.Q
 
 quantified_as : (s : Scene) (vs : List Variable) (c : Exp) → Holds (quantify s vs c) (IsQuantified s vs c)
 quantified_as s vs c = bind_holds (known (all_bounded vs (bounds_of (names_of vs) c))) (λ bs found. bind_holds (known (all_last vs false)) (λ after last.
-    bind_holds (known (judge_bases ([] ∷ s.blocks) vs bs)) (λ qs is.
-    ok_holds (IsQuantified s vs c) qs (record { bounds = bs; after = after; last = last; bases = is }))))
+    weaker (known (judge_bases ([] ∷ s.blocks) vs bs)) (λ qs is. record { bounds = bs; after = after; last = last; bases = is })))
 
 -- what is seen in a condition
 condition_wider : (g : Sight) → IsWider g (in_condition g)
@@ -72,10 +71,10 @@ module _ (a : Around) (s : Scene) (p : Place) (c : Exp) (front : Front) (blocks 
     (body_is : IsInside (out_of_loops a) (record { blocks = blocks; locals = front.scene.locals }) body)
     (tested : test c front.condition ≡ good u)
     (quantified : IsQuantified (closed front.scene body.scene) front.variables c qs) where
-  d : Declared
+  abbrev d : Declared
   d = is.declared
 
-  news : List Variable
+  abbrev news : List Variable
   news = is.made.news
 
   grows_to_body : BeginsWith d.scene.locals body.scene.locals
@@ -88,7 +87,7 @@ module _ (a : Around) (s : Scene) (p : Place) (c : Exp) (front : Front) (blocks 
     final_front : BeginsWith d.scene.locals g.locals
     final_front = begins_on d.scene.locals body.scene.locals g.locals grows_to_body final
 
-    quiet : Sight
+    abbrev quiet : Sight
     quiet = in_condition g
 
     quiet_fit : AllFit quiet ([] ∷ s.blocks)
@@ -112,7 +111,7 @@ module _ (a : Around) (s : Scene) (p : Place) (c : Exp) (front : Front) (blocks 
         (subst (λ (x : Scene). judge_bases ([] ∷ x.blocks) front.variables quantified.bounds ≡ good qs) is.scene quantified.bases))
 
     -- what the statement inside sees
-    inner : Sight
+    abbrev inner : Sight
     inner = bound (inside news) g
 
     inner_rise : Rise (length s.locals) (length d.scene.locals) (inside news)
