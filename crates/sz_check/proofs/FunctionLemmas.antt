@@ -18,6 +18,7 @@ use Rattle.sz_known.specs.Names.{Meaning, Named, Block, has, only, is_seen_by_fu
 use Rattle.sz_known.specs.Names as names
 use Rattle.sz_known.specs.JudgingTypes.{judge_type}
 use Rattle.sz_known.specs.Scene.{Scene, with_variable}
+use Rattle.sz_check.specs.EmittingTrees.{emits_by, stms_emit}
 use Rattle.sz_check.specs.JudgingStatements.{judge_stms}
 use Rattle.sz_check.specs.JudgingPrograms.{TopScene, Found, blocks_of, judge_parameters, innermost_on, in_function, judge_function}
 use Rattle.sz_check.specs.Functions.{front_of, judge_header, declare_parameters, Body, judge_body, finished, judge_function_by_parts}
@@ -89,35 +90,36 @@ declared_again ps blocks own front h =
     ap (declare_parameters (front_of own) ps) are.grown ∙ are.declared (only is_seen_by_functions own)
 
 module _ (k : TopScene) (n : Ident) (ps : Params) (t : Typ) (ss : Stms) where
-  -- the signature, as long as it isn't known whether the function emits
-  abbrev unknown : Scene → Shape → Signature
-  unknown front u = record { parameters = front.locals; result = u; emits = false }
+  -- the signature
+  abbrev signature : Scene → Shape → Signature
+  signature front u = record { parameters = front.locals; result = u; emits = stms_emit (emits_by front.blocks) (n.text ∷ []) ss }
 
   -- what is behind the parameters and the result: as it is judged, and by parts
   abbrev whole : Scene → Shape → Judged Found
   whole front u =
-      names.declare n (names.function (length k.functions) (unknown front u)) (blocks_of k) >>= λ own.
+      names.declare n (names.function (length k.functions) (signature front u)) (blocks_of k) >>= λ own.
       judge_stms (in_function u) (moved front (only is_seen_by_functions own)) ss >>= λ body.
-      finished k n (unknown front u) (record { locals = body.scene.locals; statements = body.stms })
+      Ok (finished k own (signature front u) (record { locals = body.scene.locals; statements = body.stms }))
 
   abbrev by_parts : Signature → Judged Found
-  by_parts s = names.declare n (names.function (length k.functions) s) (blocks_of k) >>= λ own. judge_body own ps s ss >>= finished k n s
+  by_parts s =
+      names.declare n (names.function (length k.functions) s) (blocks_of k) >>= λ own. judge_body own ps s ss >>= λ body. Ok (finished k own s body)
 
-  whole_is : (front : Scene) (u : Shape) → judge_parameters (front_of (blocks_of k)) ps ≡ good front → whole front u ≡ by_parts (unknown front u)
+  whole_is : (front : Scene) (u : Shape) → judge_parameters (front_of (blocks_of k)) ps ≡ good front → whole front u ≡ by_parts (signature front u)
   whole_is front u h =
-      ap (λ (f : List Block → Judged Found). names.declare n (names.function (length k.functions) (unknown front u)) (blocks_of k) >>= f) (fun_ext (λ own.
+      ap (λ (f : List Block → Judged Found). names.declare n (names.function (length k.functions) (signature front u)) (blocks_of k) >>= f) (fun_ext (λ own.
       rw (declared_again ps (blocks_of k) own front h)
       (assoc (judge_stms (in_function u) (moved front (only is_seen_by_functions own)) ss)
-      (λ body. Ok (record { locals = body.scene.locals; statements = body.stms })) (finished k n (unknown front u)))))
+      (λ body. Ok (record { locals = body.scene.locals; statements = body.stms })) (λ body. Ok (finished k own (signature front u) body)))))
 
   by_result : (front : Scene) → judge_parameters (front_of (blocks_of k)) ps ≡ good front → (j : Judged Shape)
-      → (j >>= λ u. whole front u) ≡ ((j >>= λ u. Ok (unknown front u)) >>= by_parts)
+      → (j >>= λ u. whole front u) ≡ ((j >>= λ u. Ok (signature front u)) >>= by_parts)
   by_result front h (Ok u) = whole_is front u h
   by_result front h (Err r) = refl
 
   by_front : (j : Judged Scene) → judge_parameters (front_of (blocks_of k)) ps ≡ j
       → (j >>= λ front. judge_type front.blocks t >>= λ u. whole front u)
-      ≡ ((j >>= λ front. judge_type front.blocks t >>= λ u. Ok (unknown front u)) >>= by_parts)
+      ≡ ((j >>= λ front. judge_type front.blocks t >>= λ u. Ok (signature front u)) >>= by_parts)
   by_front (Ok front) h = by_result front h (judge_type front.blocks t)
   by_front (Err r) h = refl
 
@@ -127,50 +129,32 @@ function_is k n ps t ss = by_front k n ps t ss (judge_parameters (front_of (bloc
 
 -- ---- a function whose header is judged and whose own name is declared
 
-module _ (k : TopScene) (n : Ident) (ps : Params) (t : Typ) (ss : Stms) (unknown : Signature) (number : ℕ) (blocks own : List Block)
-    (header : judge_header (blocks_of k) ps t ≡ Ok unknown) (next : number ≡ length k.functions) (same : blocks ≡ blocks_of k)
-    (is : names.declare n (names.function number unknown) blocks ≡ Ok own) where
+module _ (k : TopScene) (n : Ident) (ps : Params) (t : Typ) (ss : Stms) (s : Signature) (number : ℕ) (blocks own : List Block)
+    (header : judge_header (blocks_of k) n ps t ss ≡ Ok s) (next : number ≡ length k.functions) (same : blocks ≡ blocks_of k)
+    (is : names.declare n (names.function number s) blocks ≡ Ok own) where
   -- its statements are left
-  left : (judge_body own ps unknown ss >>= finished k n unknown) ≡ judge_function k n ps t ss
+  left : (judge_body own ps s ss >>= λ body. Ok (finished k own s body)) ≡ judge_function k n ps t ss
   left =
-      let here : names.declare n (names.function (length k.functions) unknown) (blocks_of k) ≡ Ok own =
-      subst (λ (bs : List Block). names.declare n (names.function (length k.functions) unknown) bs ≡ Ok own) same
-      (subst (λ (m : ℕ). names.declare n (names.function m unknown) blocks ≡ Ok own) next is) in
-      goes_on (names.declare n (names.function (length k.functions) unknown) (blocks_of k)) (λ bs. judge_body bs ps unknown ss >>= finished k n unknown)
-      (judge_function k n ps t ss) own here
-      (goes_on (judge_header (blocks_of k) ps t) (by_parts k n ps t ss) (judge_function k n ps t ss) unknown header (sym (function_is k n ps t ss)))
+      let here : names.declare n (names.function (length k.functions) s) (blocks_of k) ≡ Ok own =
+      subst (λ (bs : List Block). names.declare n (names.function (length k.functions) s) bs ≡ Ok own) same
+      (subst (λ (m : ℕ). names.declare n (names.function m s) blocks ≡ Ok own) next is) in
+      goes_on (names.declare n (names.function (length k.functions) s) (blocks_of k))
+      (λ bs. judge_body bs ps s ss >>= λ body. Ok (finished k bs s body)) (judge_function k n ps t ss) own here
+      (goes_on (judge_header (blocks_of k) n ps t ss) (by_parts k n ps t ss) (judge_function k n ps t ss) s header (sym (function_is k n ps t ss)))
 
   -- a refusal of its statements is that of the function
-  pub body_fails : (e : CheckError) → Stops e (judge_body own ps unknown ss) → Stops e (judge_function k n ps t ss)
-  body_fails e h = stops_then e (judge_body own ps unknown ss) (finished k n unknown) (judge_function k n ps t ss) h left
+  pub body_fails : (e : CheckError) → Stops e (judge_body own ps s ss) → Stops e (judge_function k n ps t ss)
+  body_fails e h = stops_then e (judge_body own ps s ss) (λ body. Ok (finished k own s body)) (judge_function k n ps t ss) h left
 
   -- what its statements make of it is the function
-  pub body_makes : {X : Type 0} (view : X → Found) (r : Result X CheckError) (body : Body) (j : TopScene) → judge_body own ps unknown ss ≡ Ok body → j ≡ k
-      → Judges view r (finished j n unknown body) → Judges view r (judge_function k n ps t ss)
-  body_makes view r body j made again h =
-      subst (Judges view r)
-      (ap (λ (i : TopScene). finished i n unknown body) again
-      ∙ goes_on (judge_body own ps unknown ss) (finished k n unknown) (judge_function k n ps t ss) body made left)
-      h
+  pub body_makes : (body : Body) → judge_body own ps s ss ≡ Ok body → judge_function k n ps t ss ≡ Ok (finished k own s body)
+  body_makes body made = sym (goes_on (judge_body own ps s ss) (λ body. Ok (finished k own s body)) (judge_function k n ps t ss) body made left)
 
--- ---- what is known where a name that was declared is taken back
-
-pub known_again : (k declared there back : Held) (n : Ident) (m : Meaning) → names.declare n m (seen_of k) ≡ Ok (seen_of declared)
-    → declared.outside ≡ k.outside → declared.locals ≡ k.locals → there ≡ declared
-    → ((x : Named) (b : Block) → there.innermost ≡ x ∷ b → back ≡ record there { innermost = b }) → back ≡ k
-known_again k declared there back n m named outside locals same undone =
-    let first : declared.innermost ≡ record { name = n.text; meaning = m } ∷ k.innermost =
-    ap (λ (bs : List Block). head bs) (declared_is n m k.innermost k.outside.seen (seen_of declared) named) in
-    undone (record { name = n.text; meaning = m }) k.innermost (ap (λ (h : Held). h.innermost) same ∙ first)
-    ∙ (λ i. record {
-      innermost = k.innermost;
-      outside = (ap (λ (h : Held). h.outside) same ∙ outside) i;
-      locals = (ap (λ (h : Held). h.locals) same ∙ locals) i;
-    })
-  where
-    head : List Block → Block
-    head [] = []
-    head (b ∷ bs) = b
+-- what is made of a function goes by these
+pub finished_same : (k j : TopScene) (own more : List Block) (s : Signature) (body : Body) → k.scene.locals ≡ j.scene.locals → k.tables ≡ j.tables
+    → k.statics ≡ j.statics → k.functions ≡ j.functions → own ≡ more → finished k own s body ≡ finished j more s body
+finished_same k j own more s body locals tables statics functions blocks i =
+    finished (record { scene = record { blocks = []; locals = locals i }; tables = tables i; statics = statics i; functions = functions i }) (blocks i) s body
 
 -- ---- turns of the loop over parameters whose types are known
 

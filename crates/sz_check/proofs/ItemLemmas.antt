@@ -63,6 +63,7 @@ declaration_holds n word kind (Some limit) indexes element weight =
 pub record IsKnown (g : Sight) (s : Scene) : Type 0 where
   pub fit : AllFit g s.blocks
   pub formed : AreFormed s.locals
+  pub free : (n : ℕ) → Contains g.fixed n → ⊥
 
 -- the first variables are seen, as many as these
 abbrev pub AreSeen : Sight → List Shape → Type 0
@@ -85,13 +86,17 @@ more_parameters s next after n t u is_type h rest =
           let formed = (type_formed g s.blocks is.fit t).holds u is_type in
           let here = begins_on next.locals after.locals g.locals rest.grows final in
           let variable : IsVariable g (length s.locals) u = record {
-            seen = numbers (length s.locals) (omega (arith, longer, begins_length next.locals after.locals rest.grows));
-            here = get_next s.locals g.locals u (subst (λ x. BeginsWith x g.locals) h.locals here);
-            formed = formed;
+            readable = record {
+              seen = numbers (length s.locals) (omega (arith, longer, begins_length next.locals after.locals rest.grows));
+              here = get_next s.locals g.locals u (subst (λ x. BeginsWith x g.locals) h.locals here);
+              formed = formed;
+            };
+            free = is.free (length s.locals);
           } in
           let known_next : IsKnown g next = record {
             fit = (declared (Fits g) n (names.variable (length s.locals) u) s.blocks variable is.fit).holds next.blocks h.blocks;
             formed = subst AreFormed (sym h.locals) (formed_more s.locals u is.formed formed);
+            free = is.free;
           } in
           rest.seen g known_next final numbers;
     }

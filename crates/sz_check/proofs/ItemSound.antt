@@ -20,7 +20,8 @@ use Rattle.sz_known.specs.Names as names
 use Rattle.sz_check_expr.specs.Agreeing.{converted}
 use Rattle.sz_known.specs.JudgingTypes.{judge_type}
 use Rattle.sz_check_expr.specs.JudgingExpressions.{judge_exp}
-use Rattle.sz_check.specs.JudgingPrograms.{TopScene, blocks_of, with_blocks, kind_of, limit_of, judge_elems, judge_weight, most_tables, judge_table, judge_static}
+use Rattle.sz_check.specs.JudgingPrograms.{TopScene, blocks_of, with_blocks, kind_of, limit_of, judge_elems, judge_weight, most_tables, judge_table}
+use Rattle.sz_check.specs.JudgingPrograms.{judge_static}
 use Rattle.sz_check.specs.JudgingPrograms.{judge_typedef, judge_statement}
 use Rattle.sz_known.proofs.Holds.{Holds, good, ok_holds, bind_holds, known, unless_holds}
 use Rattle.sz_known.proofs.Meanings.{kept_only}
@@ -106,19 +107,11 @@ table_sound k n f = bind_holds (known (kind_of f.kind)) (λ kind is_kind.
 seen_by_static : (locals : List Shape) (seen : List ℕ) (d : Declared) (m : Meaning) → is_seen_by_statics m ≡ true
     → Fits (record_sight locals seen d) m → Fits (static_sight d) m
 seen_by_static locals seen d (names.variable n t) is f = absurd (true≢false (sym is))
+seen_by_static locals seen d (names.quantified n t) is f = absurd (true≢false (sym is))
 seen_by_static locals seen d (names.static n t) is f = record { here = f.here; formed = f.formed }
 seen_by_static locals seen d (names.type_name t) is f = f
 seen_by_static locals seen d (names.table n e) is f = absurd (true≢false (sym is))
-seen_by_static locals seen d (names.function n s) is f = record {
-  seen = f.seen;
-  here = f.here;
-  parameters = f.parameters;
-  result = f.result;
-  emits = λ e may. ap (λ b. not b || false) (sym e ∙ f.exact refl) ∙ may;
-  exact = λ i. absurd (true≢false (sym i));
-  takes = f.takes;
-  gives = f.gives;
-}
+seen_by_static locals seen d (names.function n s) is f = record { here = f.here; takes = f.takes; gives = f.gives }
 seen_by_static locals seen d (names.predeclared b) is f = tt
 seen_by_static locals seen d names.input is f = absurd (true≢false (sym is))
 

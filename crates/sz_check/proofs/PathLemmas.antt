@@ -53,6 +53,7 @@ field_leads g _ x h = absurd h.has
 -- a variable that is seen, with its type, and the steps lead from it to a value of this type
 pub record Leads (g : Sight) (t : Target) : Type 0 where
   pub seen : Contains g.seen t.local
+  pub free : Contains g.fixed t.local → ⊥
   pub root : Shape
   pub here : slice_get g.locals t.local ≡ Some root
   pub leads : LeadTo g root t.steps t.type
@@ -68,6 +69,7 @@ pub stepped_target : (g : Sight) (t : Target) (step : Step) (s u : Shape) → t.
 stepped_target g t step s u is h k formed = record {
   assigned = λ may. let l = h.assigned may in record {
     seen = l.seen;
+    free = l.free;
     root = l.root;
     here = l.here;
     leads = lead_on g t.steps l.root s u step (subst (λ x. LeadTo g l.root t.steps x) is l.leads) k;
@@ -85,8 +87,17 @@ module _ (g : Sight) where
   unfolding LeadTo
   begins n (names.variable k t) h =
       let target : Target = record { local = k; steps = []; type = t; assignable = true } in
+      ok_holds (λ t. IsTarget g t × (t.assignable ≡ true → IsVariable g t.local t.type)) target (
+        record {
+          assigned = λ may. record { seen = h.readable.seen; free = h.free; root = t; here = h.readable.here; leads = refl };
+          formed = h.readable.formed;
+        },
+        λ may. h,
+      )
+  begins n (names.quantified k t) h =
+      let target : Target = record { local = k; steps = []; type = t; assignable = false } in
       ok_holds (λ t. IsTarget g t × (t.assignable ≡ true → IsVariable g t.local t.type)) target
-      (record { assigned = λ may. record { seen = h.seen; root = t; here = h.here; leads = refl }; formed = h.formed }, λ may. h)
+      (never_assigned g target refl h.formed, λ may. absurd (true≢false (sym may)))
   begins n (names.static k t) h =
       let target : Target = record { local = k; steps = []; type = t; assignable = false } in
       ok_holds (λ t. IsTarget g t × (t.assignable ≡ true → IsVariable g t.local t.type)) target
@@ -144,7 +155,7 @@ module _ (g : Sight) where
     unfolding IsStm
     assignment_sound a path e = bind_holds (path_leads path) (λ t h. bind_holds (judged g s sees (Some t.type) e h.formed) (λ value k.
         bind_holds (agrees_holds t.type e value) (λ u same. ok_holds (IsSimple g a) (core.store path.name.place t.local t.steps value) (record {
-          stm = (h.leads.seen, k.typed, (h.leads.root, h.leads.here, subst (λ x. LeadTo g h.leads.root t.steps x) (sym same) h.leads.leads));
+          stm = (h.leads.seen, k.typed, (h.leads.root, h.leads.here, subst (λ x. LeadTo g h.leads.root t.steps x) (sym same) h.leads.leads), h.leads.free);
           between = tt;
         }))))
 
@@ -158,6 +169,11 @@ module _ (g : Sight) where
         λ t u. core.store n.place t.local [] (node n.place u (forms.binary o (node n.place t.type (forms.local t.local)) one)) in
         bind_holds {f = λ t. by_option (wrong_type n.place) (λ u. good (changed t u)) (row t.type Shape.int)} (root_path n) (λ t h.
         option_holds _ (λ none. err_holds _ _) (λ u is. ok_holds (IsSimple g a) (changed t u) (record {
-          stm = (h.seen, ((h.seen, h.here), refl, same t.type ∙ is, tt), (t.type, h.here, some_has (λ v. v ≡ t.type) (keeps t.type) is));
+          stm = (
+            h.readable.seen,
+            ((h.readable.seen, h.readable.here), refl, same t.type ∙ is, tt),
+            (t.type, h.readable.here, some_has (λ v. v ≡ t.type) (keeps t.type) is),
+            h.free,
+          );
           between = tt;
         })))

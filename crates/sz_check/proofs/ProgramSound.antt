@@ -42,7 +42,7 @@ all_sound k (stm s ss) = bind_holds (top_sound k s) (λ first is. bind_holds (al
 -- at first nothing is declared, and the predeclared names are known
 known_first : (locals : List Shape) → Knows locals [] nothing_declared known_at_first
 known_first locals = record {
-  sees = record { fit = (tt, ((refl, (tt, (tt, (tt, (tt, tt))))), tt)); formed = refl; emits = refl; numbers = tt };
+  sees = record { fit = (tt, ((refl, (tt, (tt, (tt, (tt, tt))))), tt)); formed = refl; emits = refl; numbers = tt; fixed = tt };
   tables = refl;
   statics = refl;
   functions = refl;

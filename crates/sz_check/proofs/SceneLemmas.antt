@@ -87,6 +87,7 @@ pub record Sees (g : Sight) (s : Scene) : Type 0 where
   pub formed : AreFormed s.locals
   pub emits : g.may_emit ≡ true
   pub numbers : AreBelow (length s.locals) g.seen
+  pub fixed : AreBelow (length s.locals) g.fixed
 
 -- what is seen, with a variable more
 abbrev pub with_seen : ℕ → Sight → Sight
@@ -103,7 +104,7 @@ fits_more g n s h = all_fit_wider g (with_seen n g) s.blocks wider h
       functions = λ k f e. e;
       tables = λ k d e. e;
       input = refl;
-      emits = refl;
+      free = λ k c f. f;
     }
 
 -- the variables are the same behind a statement
@@ -114,7 +115,7 @@ locals_behind g _ = refl
 
 -- the same in a block, and behind it
 pub sees_opened : (g : Sight) (s : Scene) → Sees g s → Sees g (opened s)
-sees_opened g s h = record { fit = (tt, h.fit); formed = h.formed; emits = h.emits; numbers = h.numbers }
+sees_opened g s h = record { fit = (tt, h.fit); formed = h.formed; emits = h.emits; numbers = h.numbers; fixed = h.fixed }
 
 pub sees_closed : (g : Sight) (s inside : Scene) → Sees g s → BeginsWith s.locals inside.locals → AreFormed inside.locals → Sees g (closed s inside)
 sees_closed g s inside h grows formed = record {
@@ -122,6 +123,7 @@ sees_closed g s inside h grows formed = record {
   formed = formed;
   emits = h.emits;
   numbers = below_more (length s.locals) (length inside.locals) g.seen (begins_length s.locals inside.locals grows) h.numbers;
+  fixed = below_more (length s.locals) (length inside.locals) g.fixed (begins_length s.locals inside.locals grows) h.fixed;
 }
 
 -- an expression in a statement has its type
@@ -151,7 +153,10 @@ pub added : (g : Sight) (n : Ident) (t : Shape) (s after : Scene) → HasVariabl
 added g n t s after h sees formed final =
     let more = with_seen (length s.locals) g in
     let here : slice_get g.locals (length s.locals) ≡ Some t = get_next s.locals g.locals t (subst (λ x. BeginsWith x g.locals) h.locals final) in
-    let is : IsVariable more (length s.locals) t = record { seen = (0, omega arith, refl); here = here; formed = formed } in
+    let is : IsVariable more (length s.locals) t = record {
+      readable = record { seen = (0, omega arith, refl); here = here; formed = formed };
+      free = is_none (length s.locals) g.fixed sees.fixed;
+    } in
     let longer : length after.locals ≡ length s.locals + 1 = ap length h.locals ∙ length-append s.locals (t ∷ []) in
     record {
       here = here;
@@ -161,6 +166,7 @@ added g n t s after h sees formed final =
         formed = subst AreFormed (sym h.locals) (formed_more s.locals t sees.formed formed);
         emits = sees.emits;
         numbers = (omega (arith, longer), below_more (length s.locals) (length after.locals) g.seen (omega (arith, longer)) sees.numbers);
+        fixed = below_more (length s.locals) (length after.locals) g.fixed (omega (arith, longer)) sees.fixed;
       };
     }
 

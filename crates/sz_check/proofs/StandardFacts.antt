@@ -1,18 +1,20 @@
 -- Worked examples of the definitions.
-use Rattle.std.proofs.Common.{◌≡◌, [], Some, None, refl}
+use Rattle.std.proofs.Common.{◌≡◌, [], ◌∷◌, true, Some, None, refl}
 use Rattle.std.specs.Prelude.{Ok, pos, codes}
 use Rattle.sz_tree.specs.declared.types.BasicType.TheVariants as basics
+use Rattle.sz_tree.specs.declared.stmt.Quantity.TheVariants as quantities
 use Rattle.sz_tree.specs.Types.{basic}
-use Rattle.sz_tree.specs.Expressions.{number, bytes, literal, named}
-use Rattle.sz_tree.specs.Statements.{Stm, declare, simple, assign, break, table, Stms, no_stms, stm}
+use Rattle.sz_tree.specs.Expressions.{number, bytes, boolean, literal, named}
+use Rattle.sz_tree.specs.Statements.{Stm, empty, declare, simple, assign, break, table, when, Stms, no_stms, stm}
 use Rattle.sz_core.specs.Programs.{core_of}
 use Rattle.sz_core.specs.Example.{column, small_items}
 use Rattle.sz_core.specs.WellFormed.{is_well_formed}
-use Rattle.sz_core.specs.Emitting.{stm_emits, node_emits}
 use Rattle.sz_known.specs.Refusals.{refused_at, refused_for}
 use Rattle.sz_check_expr.specs.Agreeing.{agree}
 use Rattle.sz_known.specs.JudgingTypes.{judge_type}
 use Rattle.sz_check_expr.specs.JudgingExpressions.{judge_exp}
+use Rattle.sz_check.specs.EmittingTrees.{exp_emits, stm_emits}
+use Rattle.sz_check.specs.Quantifying.{judge_names, judge_quantifiers, bind_inside, all_bounded}
 use Rattle.sz_check.specs.JudgingStatements.{judge_stm}
 use Rattle.sz_check.specs.JudgingPaths.{judge_steps}
 use Rattle.sz_check.specs.JudgingPrograms.{judge_program, judge_all, judge_elems, judge_parameters}
@@ -20,7 +22,7 @@ use Rattle.sz_check.specs.Example.{name_at, small_tree}
 
 -- the tree of the small program is judged to be that program
 pub small_is_judged : judge_program small_tree ≡ Ok (core_of small_items [])
-unfolding judge_all judge_elems judge_parameters judge_stm judge_exp judge_type agree stm_emits node_emits is_well_formed
+unfolding judge_all judge_elems judge_parameters judge_stm judge_exp judge_type agree stm_emits exp_emits is_well_formed
 small_is_judged = refl
 
 -- a program of one statement
@@ -66,3 +68,12 @@ left_out_kind : judge_program (one (table (name_at 1 (codes "t")) (record {
 }))) ≡ refused_for 16 (name_at 10 (codes "quantile"))
 unfolding judge_all
 left_out_kind = refl
+
+-- when (i: some int; true) ;
+no_bound : judge_program (one (when (column 1) (record {
+  names = name_at 7 (codes "i") ∷ [];
+  quantity = quantities.«Some»;
+  of = basic (column 15) basics.Int;
+} ∷ []) (literal (column 20) (boolean true)) (empty (column 26)))) ≡ refused_for 19 (name_at 7 (codes "i"))
+unfolding judge_all judge_stm judge_exp judge_type judge_names judge_quantifiers bind_inside all_bounded
+no_bound = refl

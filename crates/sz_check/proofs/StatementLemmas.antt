@@ -148,6 +148,7 @@ module _ (a : Around) (g : Sight) (s : Scene) (sees : Sees g s) where
   -- the table that a name stands for
   table_found : (n : Ident) (m : Meaning) → Fits g m → Holds (table_named n m) (λ t. IsTableOf g t.number t.declaration)
   table_found n (names.variable k t) h = err_holds _ _
+  table_found n (names.quantified k t) h = err_holds _ _
   table_found n (names.static k t) h = err_holds _ _
   table_found n (names.type_name t) h = err_holds _ _
   table_found n (names.table k d) h = ok_holds (λ (t : Numbered). IsTableOf g t.number t.declaration) (record { number = k; declaration = d }) h

@@ -5,13 +5,13 @@ use Rattle.std.specs.Prelude.{Result, Ok, Err, is_some, if◌then◌else◌}
 use Rattle.sz_types.specs.declared.place.Place.{Place}
 use Rattle.sz_tree.specs.Names.{Ident}
 use Rattle.sz_tree.specs.Expressions.{Exp, Exps}
-use Rattle.sz_tree.specs.Statements.{SimpleForm, FirstForm, TableForm, QuantifierForm, Stm as Tree, Stms as Trees, block, for_loop}
+use Rattle.sz_tree.specs.Statements.{SimpleForm, FirstForm, TableForm, Stm as Tree, Stms as Trees, block, for_loop}
 use Rattle.sz_tree.specs.Statements as trees
 use Rattle.sz_tree.specs.Types.{Typ, Params}
 use Rattle.sz_core.specs.Nodes.{Node, Nodes}
 use Rattle.sz_core.specs.Statements.{Stm, Stms, stms_of}
 use Rattle.sz_core.specs.Statements as core
-use Rattle.sz_known.specs.Refusals.{Judged, ◌>>=◌, unless, wrong_weight, misplaced, not_built}
+use Rattle.sz_known.specs.Refusals.{Judged, ◌>>=◌, unless, wrong_weight, misplaced}
 use Rattle.sz_known.specs.Names.{look_up, Meaning}
 use Rattle.sz_check_expr.specs.Agreeing.{in_turn, agree, agrees, counted}
 use Rattle.sz_check_expr.specs.JudgingExpressions.{judge_exps}
@@ -27,7 +27,8 @@ use Rattle.sz_known.proofs.TurnLemmas.{stops_then, goes_on}
 use Rattle.sz_core.specs.declared.stmt.CoreStmt.{CoreStmt}
 use Rattle.sz_core.specs.View.{stm_of}
 use Rattle.sz_known.specs.Holding.{Held, outside_of, scene_of}
-use Rattle.sz_check.specs.Behind.{behind_of, branch_of, judge_inside, judge_else, judge_turns, judge_for, Emitted, judge_emitted, emitted_fits, judge_emit_by_parts}
+use Rattle.sz_check.specs.Behind.{behind_of, branch_of, judge_inside, judge_else, judge_turns, judge_for, Emitted, judge_emitted, emitted_fits}
+use Rattle.sz_check.specs.Behind.{judge_emit_by_parts}
 
 tested : {A B : Type 0} (u : Judged Unit) (x : A) (f : A → B) → (u >>= λ _. Ok (f x)) ≡ ((u >>= λ _. Ok x) >>= λ y. Ok (f y))
 tested (Ok t) x f = refl
@@ -289,10 +290,6 @@ module _ (a : Around) (s : Scene) where
       → judge_stm a s (trees.emit p n es e w) ≡ done s (judge_emit_by_parts s p n es e w)
   unfolding judge_stm
   emitting_is p n es e w = ap (done s) (emit_is s p n es e w)
-
-  pub when_is : (p : Place) (qs : List QuantifierForm) (c : Exp) (t : Tree) → judge_stm a s (trees.when p qs c t) ≡ not_built p
-  unfolding judge_stm
-  when_is p qs c t = refl
 
 -- a statement that declares nothing leaves what is known as it was
 pub done_is : (k : Held) (r : Result CoreStmt CheckError) (j : Judged Stm) → Judges stm_of r j → Judges (λ s. behind_of k s) r (done (scene_of k) j)

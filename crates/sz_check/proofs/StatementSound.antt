@@ -12,12 +12,13 @@ use Rattle.sz_known.specs.Refusals.{Judged}
 use Rattle.sz_check_expr.specs.JudgingOperators.{test}
 use Rattle.sz_known.specs.Scene.{Scene, opened}
 use Rattle.sz_check.specs.Scenes.{Behind, judge, judge_if_some, closed}
-use Rattle.sz_check.specs.JudgingStatements.{Around, in_loop, in_block, judge_stm, judge_stms}
+use Rattle.sz_check.specs.JudgingStatements.{Around, in_loop, out_of_loops, in_block, judge_stm, judge_stms}
 use Rattle.sz_check.specs.JudgingSimple.{judge_between, judge_return, judge_emit, test_if_some}
 use Rattle.sz_known.proofs.Holds.{Holds, good, ok_holds, err_holds, bind_holds, known, if_holds}
 use Rattle.sz_known.proofs.Sights.{IsFormed}
 use Rattle.sz_check_expr.proofs.NodeLemmas.{test_holds}
 use Rattle.sz_check.proofs.SceneLemmas.{Sees, sees_opened, sees_closed, locals_behind, judged, begins_itself, begins_on, IsDone, IsBehind, IsInside, AreBehind}
+use Rattle.sz_check.proofs.WhenSound.{when_sound}
 use Rattle.sz_check.proofs.StatementLemmas.{declaration_sound, initialised_sound, definition_sound, done_sound, simple_behind, between_sound, maybe_judged}
 use Rattle.sz_check.proofs.StatementLemmas.{maybe_test, return_sound, emit_sound, first_sound}
 
@@ -118,7 +119,8 @@ mutual
       if_holds a.loop (λ loop. ok_holds (IsDone g a) core.continue (record { stm = loop; same = refl })) (λ none. err_holds _ _))
   statement_sound a s (return p e) r = done_sound a s (judge_return s p a.result e) (λ g sees. return_sound a g s sees p e r)
   statement_sound a s (trees.emit p n es e w) r = done_sound a s (judge_emit s p n es e w) (λ g sees. emit_sound a g s sees p n es e w)
-  statement_sound a s (when p qs c t) r = err_holds _ _
+  statement_sound a s (when p qs c t) r = when_sound a s p qs c (λ inner. in_block inner (judge_stm (out_of_loops a) (opened inner) t))
+      (λ inner. inside_sound (out_of_loops a) inner _ (statement_sound (out_of_loops a) (opened inner) t r))
 
   -- so is each of several
   pub statements_sound : (a : Around) (s : Scene) (ts : Stms) → IfSome a.result IsFormed → Holds (judge_stms a s ts) (AreBehind a s)

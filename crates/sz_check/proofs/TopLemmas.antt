@@ -73,6 +73,7 @@ sees_on locals seen d e s more is =
       formed = is.formed;
       emits = refl;
       numbers = is.numbers;
+      fixed = tt;
     }
   where
     wider : IsWider (record_sight locals seen d) (record_sight locals seen e)
@@ -83,7 +84,7 @@ sees_on locals seen d e s more is =
       functions = more.functions;
       tables = more.tables;
       input = refl;
-      emits = refl;
+      free = λ n c h. h;
     }
 
 -- what is last in a list of so many
@@ -98,4 +99,5 @@ declares g n m k blocks is fits h = record {
   formed = h.formed;
   emits = h.emits;
   numbers = h.numbers;
+  fixed = h.fixed;
 }

@@ -28,7 +28,8 @@ use Rattle.sz_check_expr.specs.JudgingOperators.{test}
 use Rattle.sz_known.specs.Scene.{Scene, opened}
 use Rattle.sz_check.specs.Scenes.{Behind, AllBehind, judge, judge_if_some, closed}
 use Rattle.sz_check.specs.JudgingSimple.{Numbered, judge_first, judge_between, test_if_some, table_named, weight_agrees, same_presence, done}
-use Rattle.sz_check.specs.JudgingStatements.{Around, in_block, in_loop, judge_stm}
+use Rattle.sz_check.specs.JudgingStatements.{Around, in_block, in_loop, out_of_loops, judge_stm}
+use Rattle.sz_check.specs.Quantifying.{Variable, in_bound}
 use Rattle.sz_check_expr.specs.Asking.{asked_of}
 use Rattle.sz_known.specs.Holding.{Held, scene_of}
 
@@ -60,6 +61,10 @@ around_of a = record { result = asked_of a.result; loop = a.in_loop }
 -- a part statement, which is judged in a block of its own
 abbrev pub judge_inside : Around → Scene → Tree → Judged Behind
 judge_inside a s t = in_block s (judge_stm a (opened s) t)
+
+-- the statement inside a `when`
+abbrev pub judge_bound_body : Around → Scene → List Variable → Tree → Judged Behind
+judge_bound_body a s vs t = in_bound s vs (λ inner. judge_inside (out_of_loops a) inner t)
 
 -- a branch over a test, which must be a truth value
 abbrev pub branch_of : Place → Exp → Node → Stm → Stm → Judged Stm

@@ -27,6 +27,7 @@ pub record Target : Type 0 where
 -- where a path begins
 abbrev pub target_of : Ident → Meaning → Judged Target
 target_of n (names.variable k t) = Ok (record { local = k; steps = []; type = t; assignable = true })
+target_of n (names.quantified k t) = Ok (record { local = k; steps = []; type = t; assignable = false })
 target_of n (names.static k t) = Ok (record { local = k; steps = []; type = t; assignable = false })
 target_of n names.input = Ok (record { local = 0; steps = []; type = Shape.bytes; assignable = false })
 target_of n _ = wrong_kind n

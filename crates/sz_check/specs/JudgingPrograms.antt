@@ -12,7 +12,6 @@ use Rattle.sz_tree.specs.Statements.{ElemForm, TableForm, Stm, static, typedef, 
 use Rattle.sz_tree.specs.Types.{Typ, Params, no_params, param}
 use Rattle.sz_core.specs.Programs.{Signature, Function, Item, Core}
 use Rattle.sz_core.specs.Programs as items
-use Rattle.sz_core.specs.Emitting.{body_emits}
 use Rattle.sz_core.specs.WellFormed.{is_allowed}
 use Rattle.sz_known.specs.Refusals.{Judged, ◌>>=◌, unless, no_kind, bad_table, too_many}
 use Rattle.sz_known.specs.Names.{Block, Meaning, only, is_seen_by_functions, is_seen_by_statics, predeclared_names}
@@ -21,6 +20,7 @@ use Rattle.sz_known.specs.JudgingTypes.{judge_type}
 use Rattle.sz_check_expr.specs.JudgingExpressions.{judge_exp}
 use Rattle.sz_check_expr.specs.Agreeing.{converted}
 use Rattle.sz_known.specs.Scene.{Scene}
+use Rattle.sz_check.specs.EmittingTrees.{emits_by, stms_emit}
 use Rattle.sz_check.specs.JudgingStatements.{Around, judge_stm, judge_stms}
 
 -- what is known in front of a statement at the top level: the scene, and how much of each kind is declared
@@ -123,19 +123,16 @@ abbrev pub in_function : Shape → Around
 in_function t = record { result = Some t; loop = false }
 
 -- `name: function(parameters): type {statements}`: the parameters and the type of the result, then the function's own name,
--- and then its statements, which see it
+-- and then its statements, which see it. Whether it emits goes by its text; a call of itself adds nothing.
 abbrev pub judge_function : TopScene → Ident → Params → Typ → Stms → Judged Found
 judge_function k n ps t ss = do
   front ← judge_parameters (record { blocks = [] ∷ only is_seen_by_functions (blocks_of k); locals = [] }) ps
   u ← judge_type front.blocks t
-  let number = length k.functions
-  let unknown : Signature = record { parameters = front.locals; result = u; emits = false }
-  own ← names.declare n (names.function number unknown) (blocks_of k)
+  let signature : Signature = record { parameters = front.locals; result = u; emits = stms_emit (emits_by front.blocks) (n.text ∷ []) ss }
+  own ← names.declare n (names.function (length k.functions) signature) (blocks_of k)
   body ← judge_stms (in_function u) (record { blocks = innermost_on front.blocks (only is_seen_by_functions own); locals = front.locals }) ss
-  let signature : Signature = record unknown { emits = body_emits k.functions body.stms }
-  blocks ← names.declare n (names.function number signature) (blocks_of k)
   Ok (record {
-    known = record (with_blocks k blocks) { functions = k.functions ++ signature ∷ [] };
+    known = record (with_blocks k own) { functions = k.functions ++ signature ∷ [] };
     items = items.function (record { signature = signature; locals = body.scene.locals; body = body.stms }) ∷ [];
   })
 

@@ -3,13 +3,14 @@ use Rattle.std.specs.Prelude.{[], ◌∷◌, if◌then◌else◌, Some, None, Ok
 use Rattle.sz_tree.specs.Statements.{Stm, empty, declare, define, static, typedef, table, function, simple, if_only, if_else, return, when, Stms}
 use Rattle.sz_tree.specs.Statements as trees
 use Rattle.sz_core.specs.Statements as core
-pub use Rattle.sz_core.specs.Sound.{Around, in_loop}
-use Rattle.sz_known.specs.Refusals.{Judged, ◌>>=◌, misplaced, not_built}
+pub use Rattle.sz_core.specs.Sound.{Around, in_loop, out_of_loops}
+use Rattle.sz_known.specs.Refusals.{Judged, ◌>>=◌, misplaced}
 use Rattle.sz_check_expr.specs.JudgingOperators.{test}
 use Rattle.sz_known.specs.Scene.{Scene, opened}
 use Rattle.sz_check.specs.Scenes.{Behind, AllBehind, judge, judge_if_some, closed}
 use Rattle.sz_check.specs.JudgingSimple.{judge_declaration, judge_initialised, judge_definition, judge_simple, judge_first, judge_between, test_if_some}
 use Rattle.sz_check.specs.JudgingSimple.{judge_return, judge_emit, done}
+use Rattle.sz_check.specs.Quantifying.{judge_front, in_bound, quantify}
 
 -- a part statement, which was judged in a block of its own
 abbrev pub in_block : Scene → Judged Behind → Judged Behind
@@ -67,7 +68,12 @@ unfoldable mutual
   judge_stm a s (trees.continue p) = done s (if a.loop then Ok core.continue else misplaced p)
   judge_stm a s (return p e) = done s (judge_return s p a.result e)
   judge_stm a s (trees.emit p n es e w) = done s (judge_emit s p n es e w)
-  judge_stm a s (when p qs c t) = not_built p
+  judge_stm a s (when p qs c t) = do
+    front ← judge_front s qs c
+    body ← in_bound front.scene front.variables (λ inner. in_block inner (judge_stm (out_of_loops a) (opened inner) t))
+    _ ← test c front.condition
+    vs ← quantify body.scene front.variables c
+    Ok (record { scene = body.scene; stm = core.when p vs front.condition body.stm })
 
   -- statements in order
   pub judge_stms : Around → Scene → Stms → Judged AllBehind

@@ -15,7 +15,7 @@ ghost use Rattle.sz_known.specs.Outcome.{Judges};
 use std::alloc::Global;
 use sz_check_expr::{Asks, agree, agrees, counted, judge_exp, judge_exps};
 use sz_core::{CoreExpr, CoreStmt};
-use sz_known::{CheckError, Known, Means};
+use sz_known::{CheckError, Known, Means, Site};
 use sz_tree::{Expr, Name};
 use sz_types::{Place, TableDecl, Ty};
 
@@ -52,7 +52,7 @@ fn judge_weight(
         (judge_if_some (scene_of known.now) (option_map seen asked.now) (option_map tree_of tree.now)) }
 {
     match tree {
-        Some(tree) => Ok(Some(judge_exp(alloc, known, true, asked.as_ref(), tree)?)),
+        Some(tree) => Ok(Some(judge_exp(alloc, known, Site::Statement, asked.as_ref(), tree)?)),
         None => Ok(None),
     }
 }
@@ -86,8 +86,8 @@ fn judge_parts(
         (option_map tree_of weight.now)) }
 {
     let asks = Asks::Types(table.indexes.as_slice());
-    let indexes = judge_exps(alloc, known, true, asks, indexes)?;
-    let value = judge_exp(alloc, known, true, Some(&table.element), value)?;
+    let indexes = judge_exps(alloc, known, Site::Statement, asks, indexes)?;
+    let value = judge_exp(alloc, known, Site::Statement, Some(&table.element), value)?;
     let weight = judge_weight(alloc, known, &table.weight, weight)?;
     Ok(Parts {
         indexes,
@@ -136,7 +136,7 @@ pub fn judge_emit(
         (judge_emit_by_parts (scene_of known.now) place name.now (exps_of (each tree_of indexes.now)) (tree_of value.now)
         (option_map tree_of weight.now)) }
 {
-    let (number, table) = table_named(alloc, name, known.look_up(alloc, true, name)?)?;
+    let (number, table) = table_named(alloc, name, known.look_up(alloc, Site::Statement, name)?)?;
     let parts = judge_parts(alloc, known, table, indexes, value, weight)?;
     parts_fit(table, place, name.place(), indexes, value, weight, &parts)?;
     Ok(CoreStmt::Emit(place, number, parts.indexes, parts.value, parts.weight))

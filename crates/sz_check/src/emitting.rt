@@ -1,64 +1,84 @@
-//! Whether a statement emits, itself or through a function that it calls.
-ghost use Rattle.std.specs.Prelude.{◌≡◌, ◌∷◌, [], map as each, slice_get};
+//! Whether a statement emits, by its tree.
+ghost use Rattle.std.specs.Prelude.{◌≡◌, ◌++◌, ◌∷◌, [], take, length, map as each, IfOk, OnOk};
 ghost use Rattle.std.specs.Option.{option_map};
-ghost use Rattle.sz_core.specs.Nodes.{nodes_of, pairings_of};
-ghost use Rattle.sz_core.specs.Statements.{stms_of};
-ghost use Rattle.sz_core.specs.View.{node_of, pairing_of, step_of, stm_of, signature_of, form_of};
-ghost use Rattle.sz_core.specs.Emitting.{is_emitting, node_emits, form_emits, nodes_emit, pairings_emit, steps_emit, test_emits, stm_emits, stms_emit};
+ghost use Rattle.sz_tree.specs.Expressions.{exps_of, pairs_of};
+ghost use Rattle.sz_tree.specs.Statements.{stms_of, when, for_loop};
+ghost use Rattle.sz_tree.specs.View.{tree_of, pair_of, step_of, simple_of, first_of, quantifier_of, stm_of};
+ghost use Rattle.sz_known.specs.Refusals.{has_name};
+ghost use Rattle.sz_known.specs.Holding.{blocks_of, maybe_means_of};
+ghost use Rattle.sz_check.specs.EmittingTrees.{means_emitting, emits_by, is_seen_inside, texts_of, quantified_names, calls, exp_emits, exps_emit};
+ghost use Rattle.sz_check.specs.EmittingTrees.{pairs_emit, part_emits, steps_emit, simple_emits, between_emits, first_emits, hidden_behind_first};
+ghost use Rattle.sz_check.specs.EmittingTrees.{hidden_behind, stm_emits, stms_emit, for_emits, when_emits};
+ghost use Rattle.sz_check.specs.Hidden.{hidden_of};
 
-use sz_core::{CoreExpr, CorePair, CoreStep, CoreStmt, Form, Signature};
+use std::alloc::{AllocError, Global};
+use sz_known::{Known, Means, Site};
+use sz_tree::{Expr, First, Name, Pair, Quantifier, Quantity, Simple, Step, Stmt};
 
-// Whether the function with this number is known to emit.
-fn is_emitting(functions: &[Signature], number: u32) -> bool
-    ensures value { result ≡ is_emitting (slice_get (each signature_of functions.now) number) }
+// Whether a name calls what emits, by what it stands for.
+fn means_emitting(means: Option<Means<'_>>) -> bool
+    ensures value { result ≡ means_emitting (maybe_means_of means.entry) }
 {
-    match functions.get(number as usize) {
-        Some(signature) => signature.emits,
-        None => false,
+    match means {
+        Some(Means::Function(_, signature)) => signature.emits,
+        _ => false,
     }
+}
+
+// Whether a variable has the name.
+fn has_name(hidden: &[&Name], name: &Name) -> bool
+    ensures value { result ≡ has_name name.now.text (hidden_of hidden.now) }
+{
+    for other in hidden {
+        if name.text().as_bytes() == other.text().as_bytes() {
+            return true;
+        }
+    }
+    false
+}
+
+// Whether the name calls what emits, where variables have these names.
+fn calls(known: &Known, hidden: &[&Name], name: &Name) -> bool
+    ensures value { result ≡ calls (emits_by (blocks_of known.now)) (hidden_of hidden.now) name.now.text }
+{
+    means_emitting(known.find(Site::Statement, name)) && !has_name(hidden, name)
 }
 
 // Whether evaluating the expression can emit.
 #[cycle(emits)]
-#[tactic(auto, unfolding(sz_core::specs::Emitting::node_emits))]
-fn node_emits(functions: &[Signature], node: &CoreExpr) -> bool
-    ensures value { result ≡ node_emits (each signature_of functions.now) (node_of node.now) }
+#[tactic(auto, unfolding(crate::specs::EmittingTrees::exp_emits), using(sz_tree::proofs::RowLemmas::tree_of_call, sz_tree::proofs::RowLemmas::tree_of_list, sz_tree::proofs::RowLemmas::tree_of_map))]
+fn exp_emits(known: &Known, hidden: &[&Name], tree: &Expr) -> bool
+    ensures value { result ≡ exp_emits (emits_by (blocks_of known.now)) (hidden_of hidden.now) (tree_of tree.now) }
 {
-    form_emits(functions, &node.form)
-}
-
-#[cycle(emits)]
-#[tactic(auto, unfolding(sz_core::specs::Emitting::form_emits), using(sz_core::proofs::ForCallers::form_of_call, sz_core::proofs::ForCallers::form_of_builtin, sz_core::proofs::ForCallers::form_of_array, sz_core::proofs::ForCallers::form_of_tuple, sz_core::proofs::ForCallers::form_of_map))]
-fn form_emits(functions: &[Signature], form: &Form) -> bool
-    ensures value { result ≡ form_emits (each signature_of functions.now) (form_of form.now) }
-{
-    match form {
-        Form::Constant(_) | Form::Local(_) | Form::Static(_) | Form::Input => false,
-        Form::Call(number, arguments) => {
-            is_emitting(functions, *number) || nodes_emit(functions, arguments.as_slice())
+    match tree {
+        Expr::Literal(_, _) | Expr::Named(_) => false,
+        Expr::Call(name, items) => {
+            calls(known, hidden, name) || exps_emit(known, hidden, items.as_slice())
         }
-        Form::Builtin(_, parts) => nodes_emit(functions, parts.as_slice()),
-        Form::Array(parts) => nodes_emit(functions, parts.as_slice()),
-        Form::Tuple(parts) => nodes_emit(functions, parts.as_slice()),
-        Form::Map(pairs) => pairings_emit(functions, pairs.as_slice()),
-        Form::Def(part) | Form::Convert(part) => node_emits(functions, part),
-        Form::Field(part, _) | Form::Unary(_, part) => node_emits(functions, part),
-        Form::Index(a, b) | Form::Binary(_, a, b) | Form::And(a, b) | Form::Or(a, b) => {
-            node_emits(functions, a) || node_emits(functions, b)
+        Expr::List(_, items) => exps_emit(known, hidden, items.as_slice()),
+        Expr::Map(_, pairs) => pairs_emit(known, hidden, pairs.as_slice()),
+        Expr::Def(_, part) | Expr::Paren(_, part) => exp_emits(known, hidden, part),
+        Expr::Convert(_, _, part) | Expr::Field(_, part, _) | Expr::Unary(_, _, part) => {
+            exp_emits(known, hidden, part)
         }
-        Form::Slice(a, b, c) => {
-            node_emits(functions, a) || node_emits(functions, b) || node_emits(functions, c)
+        Expr::Index(_, a, b) | Expr::Binary(_, _, a, b) => {
+            exp_emits(known, hidden, a) || exp_emits(known, hidden, b)
+        }
+        Expr::Slice(_, a, b, c) => {
+            exp_emits(known, hidden, a)
+                || exp_emits(known, hidden, b)
+                || exp_emits(known, hidden, c)
         }
     }
 }
 
 #[cycle(emits)]
-#[tactic(auto, using(crate::proofs::EmitLemmas::nodes_turn, crate::proofs::EmitLemmas::nodes_over))]
-fn nodes_emit(functions: &[Signature], nodes: &[CoreExpr]) -> bool
-    ensures value { result ≡ nodes_emit (each signature_of functions.now) (nodes_of (each node_of nodes.now)) }
+#[tactic(auto, using(crate::proofs::EmitLemmas::exps_turn, crate::proofs::EmitLemmas::exps_over))]
+fn exps_emit(known: &Known, hidden: &[&Name], trees: &[Expr]) -> bool
+    ensures value { result ≡ exps_emit (emits_by (blocks_of known.now)) (hidden_of hidden.now) (exps_of (each tree_of trees.now)) }
 {
-    for node in nodes {
-        if node_emits(functions, node) {
+    for tree in trees {
+        if exp_emits(known, hidden, tree) {
             return true;
         }
     }
@@ -66,94 +86,308 @@ fn nodes_emit(functions: &[Signature], nodes: &[CoreExpr]) -> bool
 }
 
 #[cycle(emits)]
-#[tactic(auto, using(crate::proofs::EmitLemmas::pairings_turn, crate::proofs::EmitLemmas::pairings_over))]
-fn pairings_emit(functions: &[Signature], pairs: &[CorePair]) -> bool
-    ensures value { result ≡ pairings_emit (each signature_of functions.now) (pairings_of (each pairing_of pairs.now)) }
+#[tactic(auto, using(crate::proofs::EmitLemmas::pairs_turn, crate::proofs::EmitLemmas::pairs_over))]
+fn pairs_emit(known: &Known, hidden: &[&Name], pairs: &[Pair]) -> bool
+    ensures value { result ≡ pairs_emit (emits_by (blocks_of known.now)) (hidden_of hidden.now) (pairs_of (each pair_of pairs.now)) }
 {
     for pair in pairs {
-        if node_emits(functions, &pair.key) || node_emits(functions, &pair.value) {
+        if exp_emits(known, hidden, &pair.key) || exp_emits(known, hidden, &pair.value) {
             return true;
         }
     }
     false
+}
+
+// Whether an expression that may be missing can emit.
+fn part_emits(known: &Known, hidden: &[&Name], tree: &Option<Expr>) -> bool
+    ensures value { result ≡ part_emits (emits_by (blocks_of known.now)) (hidden_of hidden.now) (option_map tree_of tree.now) }
+{
+    match tree {
+        Some(tree) => exp_emits(known, hidden, tree),
+        None => false,
+    }
 }
 
 // Whether a step is by an index that can emit.
-#[tactic(auto, unfolding(sz_core::specs::Emitting::steps_emit))]
-fn step_emits(functions: &[Signature], step: &CoreStep) -> bool
-    ensures value { result ≡ steps_emit (each signature_of functions.now) (step_of step.now ∷ []) }
+#[tactic(auto, unfolding(crate::specs::EmittingTrees::steps_emit))]
+fn step_emits(known: &Known, hidden: &[&Name], step: &Step) -> bool
+    ensures value { result ≡ steps_emit (emits_by (blocks_of known.now)) (hidden_of hidden.now) (step_of step.now ∷ []) }
 {
     match step {
-        CoreStep::Index(node) => node_emits(functions, node),
-        CoreStep::Field(_) => false,
+        Step::Index(tree) => exp_emits(known, hidden, tree),
+        Step::Field(_) => false,
     }
 }
 
 // Whether an index among the steps can emit.
 #[tactic(auto, using(crate::proofs::EmitLemmas::steps_turn, crate::proofs::EmitLemmas::steps_over))]
-fn steps_emit(functions: &[Signature], steps: &[CoreStep]) -> bool
-    ensures value { result ≡ steps_emit (each signature_of functions.now) (each step_of steps.now) }
+fn steps_emit(known: &Known, hidden: &[&Name], steps: &[Step]) -> bool
+    ensures value { result ≡ steps_emit (emits_by (blocks_of known.now)) (hidden_of hidden.now) (each step_of steps.now) }
 {
     for step in steps {
-        if step_emits(functions, step) {
+        if step_emits(known, hidden, step) {
             return true;
         }
     }
     false
 }
 
-// Whether the test can emit, where there is one.
-fn test_emits(functions: &[Signature], test: &Option<CoreExpr>) -> bool
-    ensures value { result ≡ test_emits (each signature_of functions.now) (option_map node_of test.now) }
+// Whether an assignment or a call can emit.
+fn simple_emits(known: &Known, hidden: &[&Name], tree: &Simple) -> bool
+    ensures value { result ≡ simple_emits (emits_by (blocks_of known.now)) (hidden_of hidden.now) (simple_of tree.now) }
 {
-    match test {
-        Some(node) => node_emits(functions, node),
+    match tree {
+        Simple::Assign(path, value) => {
+            steps_emit(known, hidden, path.steps.as_slice()) || exp_emits(known, hidden, value)
+        }
+        Simple::Increment(_) | Simple::Decrement(_) => false,
+        Simple::Call(name, items) => {
+            calls(known, hidden, name) || exps_emit(known, hidden, items.as_slice())
+        }
+    }
+}
+
+// Whether what is done between the turns of a `for` can emit.
+fn between_emits(known: &Known, hidden: &[&Name], tree: &Option<Simple>) -> bool
+    ensures value { result ≡ between_emits (emits_by (blocks_of known.now)) (hidden_of hidden.now) (option_map simple_of tree.now) }
+{
+    match tree {
+        Some(tree) => simple_emits(known, hidden, tree),
         None => false,
     }
 }
 
-// Whether the statement can emit.
-#[cycle(stm_emits)]
-#[tactic(auto, unfolding(sz_core::specs::Emitting::stm_emits), using(sz_core::proofs::ForCallers::stm_of_block))]
-fn stm_emits(functions: &[Signature], statement: &CoreStmt) -> bool
-    ensures value { result ≡ stm_emits (each signature_of functions.now) (stm_of statement.now) }
+// Whether the value of a variable can emit. The variable's name is hidden behind it.
+fn value_emits<'t>(
+    known: &Known,
+    hidden: &mut Vec<&'t Name>,
+    name: &'t Name,
+    value: &Expr,
+) -> Result<bool, AllocError>
+    ensures value { IfOk result (λ emits. emits ≡ exp_emits (emits_by (blocks_of known.now)) (hidden_of hidden.old.items) (tree_of value.now)) }
+    ensures hidden { OnOk result (hidden_of hidden.new.items ≡ hidden_of hidden.old.items ++ name.now.text ∷ []) }
 {
-    match statement {
-        CoreStmt::Block(statements) => stms_emit(functions, statements.as_slice()),
-        CoreStmt::Clear(_) | CoreStmt::Break | CoreStmt::Continue | CoreStmt::EndRecord(_) => false,
-        CoreStmt::Keep(_, _, node) => node_emits(functions, node),
-        CoreStmt::Evaluate(_, node) | CoreStmt::Return(_, node) => node_emits(functions, node),
-        CoreStmt::Store(_, _, steps, node) => {
-            steps_emit(functions, steps.as_slice()) || node_emits(functions, node)
+    let emits = exp_emits(known, hidden.as_slice(), value);
+    hidden.push(name)?;
+    Ok(emits)
+}
+
+// Whether the first part of a `for` can emit. Its variable's name is hidden behind it.
+fn first_emits<'t>(
+    known: &Known,
+    hidden: &mut Vec<&'t Name>,
+    first: &'t Option<First>,
+) -> Result<bool, AllocError>
+    ensures value { IfOk result (λ emits. emits ≡ first_emits (emits_by (blocks_of known.now)) (hidden_of hidden.old.items) (option_map first_of first.now)) }
+    ensures hidden { OnOk result (hidden_of hidden.new.items ≡ hidden_behind_first (hidden_of hidden.old.items) (option_map first_of first.now)) }
+{
+    match first {
+        None => Ok(false),
+        Some(First::Declare(name, _, value)) | Some(First::Define(name, value)) => {
+            value_emits(known, hidden, name, value)
         }
-        CoreStmt::Branch(_, test, taken, other) => {
-            node_emits(functions, test)
-                || stm_emits(functions, taken)
-                || stm_emits(functions, other)
-        }
-        CoreStmt::While(_, test, body) => {
-            node_emits(functions, test) || stm_emits(functions, body)
-        }
-        CoreStmt::DoWhile(_, body, test) => {
-            stm_emits(functions, body) || node_emits(functions, test)
-        }
-        CoreStmt::For(_, test, step, body) => {
-            test_emits(functions, test) || stm_emits(functions, step) || stm_emits(functions, body)
-        }
-        CoreStmt::Emit(_, _, _, _, _) => true,
+        Some(First::Simple(tree)) => Ok(simple_emits(known, hidden.as_slice(), tree)),
     }
 }
 
-// Whether one of the statements can emit.
-#[cycle(stm_emits)]
-#[tactic(auto, using(crate::proofs::EmitLemmas::stms_turn, crate::proofs::EmitLemmas::stms_over))]
-pub fn stms_emit(functions: &[Signature], statements: &[CoreStmt]) -> bool
-    ensures value { result ≡ stms_emit (each signature_of functions.now) (stms_of (each stm_of statements.now)) }
+// Hides these names.
+fn hide_names<'t>(hidden: &mut Vec<&'t Name>, names: &'t [Name]) -> Result<(), AllocError>
+    ensures ok { OnOk result (hidden_of hidden.new.items ≡ hidden_of hidden.old.items ++ texts_of names.now) }
 {
-    for statement in statements {
-        if stm_emits(functions, statement) {
-            return true;
+    for name in names {
+        hidden.push(name)?;
+    }
+    Ok(())
+}
+
+// Whether the statement inside a `when` sees such a variable.
+pub fn is_seen_inside(quantity: Quantity) -> bool
+    ensures value { result ≡ is_seen_inside quantity }
+{
+    match quantity {
+        Quantity::All => false,
+        Quantity::Some | Quantity::Each => true,
+    }
+}
+
+// Hides the names that quantifiers declare: in the condition all, and inside those that the statement inside sees.
+fn hide_quantified<'t>(
+    hidden: &mut Vec<&'t Name>,
+    quantifiers: &'t [Quantifier],
+    inside: bool,
+) -> Result<(), AllocError>
+    ensures ok { OnOk result (hidden_of hidden.new.items ≡ hidden_of hidden.old.items ++ quantified_names inside (each quantifier_of quantifiers.now)) }
+{
+    for quantifier in quantifiers {
+        if !inside || is_seen_inside(quantifier.quantity) {
+            hide_names(hidden, quantifier.names.as_slice())?;
         }
     }
-    false
+    Ok(())
+}
+
+// Whether the statement can emit. A variable that it declares is hidden behind it.
+#[cycle(stm_emits)]
+#[tactic(auto, unfolding(crate::specs::EmittingTrees::stm_emits), using(sz_tree::proofs::RowLemmas::stm_of_block))]
+fn stm_emits<'t>(
+    known: &Known,
+    hidden: &mut Vec<&'t Name>,
+    tree: &'t Stmt,
+) -> Result<bool, AllocError>
+    ensures value { IfOk result (λ emits. emits ≡ stm_emits (emits_by (blocks_of known.now)) (hidden_of hidden.old.items) (stm_of tree.now)) }
+    ensures hidden { OnOk result (hidden_of hidden.new.items ≡ hidden_behind (hidden_of hidden.old.items) (stm_of tree.now)) }
+{
+    match tree {
+        Stmt::Empty(_) | Stmt::Break(_) | Stmt::Continue(_) => Ok(false),
+        Stmt::Static(_, _, _, _) | Stmt::Type(_, _, _) => Ok(false),
+        Stmt::Table(_, _) | Stmt::Function(_, _, _, _) => Ok(false),
+        Stmt::Block(_, trees) => block_emits(known, hidden, trees.as_slice()),
+        Stmt::Declare(name, _, value) => {
+            let emits = part_emits(known, hidden.as_slice(), value);
+            hidden.push(name)?;
+            Ok(emits)
+        }
+        Stmt::Define(name, value) => value_emits(known, hidden, name, value),
+        Stmt::Simple(tree) => Ok(simple_emits(known, hidden.as_slice(), tree)),
+        Stmt::If(_, test, taken, None) => {
+            let asked = exp_emits(known, hidden.as_slice(), test);
+            let taken = inside_emits(known, hidden, taken)?;
+            Ok(asked || taken)
+        }
+        Stmt::If(_, test, taken, Some(other)) => {
+            let asked = exp_emits(known, hidden.as_slice(), test);
+            let taken = inside_emits(known, hidden, taken)?;
+            let other = inside_emits(known, hidden, other)?;
+            Ok(asked || taken || other)
+        }
+        Stmt::While(_, test, body) => {
+            let asked = exp_emits(known, hidden.as_slice(), test);
+            let body = inside_emits(known, hidden, body)?;
+            Ok(asked || body)
+        }
+        Stmt::DoWhile(_, body, test) => {
+            let asked = exp_emits(known, hidden.as_slice(), test);
+            let body = inside_emits(known, hidden, body)?;
+            Ok(body || asked)
+        }
+        Stmt::For(_, first, test, between, body) => {
+            for_emits(known, hidden, body, first, test, between)
+        }
+        Stmt::Return(_, value) => Ok(part_emits(known, hidden.as_slice(), value)),
+        Stmt::Emit(_, _, _, _, _) => Ok(true),
+        Stmt::When(_, quantifiers, test, body) => {
+            when_emits(known, hidden, body, quantifiers.as_slice(), test)
+        }
+    }
+}
+
+// Whether a part statement can emit.
+#[cycle(stm_emits)]
+fn inside_emits<'t>(
+    known: &Known,
+    hidden: &mut Vec<&'t Name>,
+    tree: &'t Stmt,
+) -> Result<bool, AllocError>
+    ensures value { IfOk result (λ emits. emits ≡ stm_emits (emits_by (blocks_of known.now)) (hidden_of hidden.old.items) (stm_of tree.now)) }
+    ensures kept { OnOk result (hidden_of hidden.new.items ≡ hidden_of hidden.old.items) }
+{
+    let count = hidden.len();
+    let emits = stm_emits(known, hidden, tree)?;
+    hidden.truncate(count);
+    Ok(emits)
+}
+
+// Whether one of the statements of a block can emit.
+#[cycle(stm_emits)]
+fn block_emits<'t>(
+    known: &Known,
+    hidden: &mut Vec<&'t Name>,
+    trees: &'t [Stmt],
+) -> Result<bool, AllocError>
+    ensures value { IfOk result (λ emits. emits ≡ stms_emit (emits_by (blocks_of known.now)) (hidden_of hidden.old.items) (stms_of (each stm_of trees.now))) }
+    ensures kept { OnOk result (hidden_of hidden.new.items ≡ hidden_of hidden.old.items) }
+{
+    let count = hidden.len();
+    let emits = stms_emit(known, hidden, trees)?;
+    hidden.truncate(count);
+    Ok(emits)
+}
+
+// Whether a `for` can emit.
+#[cycle(stm_emits)]
+fn for_emits<'t>(
+    known: &Known,
+    hidden: &mut Vec<&'t Name>,
+    body: &'t Stmt,
+    first: &'t Option<First>,
+    test: &Option<Expr>,
+    between: &Option<Simple>,
+) -> Result<bool, AllocError>
+    ensures value { IfOk result (λ emits. emits ≡ for_emits (emits_by (blocks_of known.now)) (hidden_of hidden.old.items)
+        (option_map first_of first.now) (option_map tree_of test.now) (option_map simple_of between.now) (stm_of body.now)) }
+    ensures kept { OnOk result (hidden_of hidden.new.items ≡ hidden_of hidden.old.items) }
+{
+    let count = hidden.len();
+    let start = first_emits(known, hidden, first)?;
+    let asked = part_emits(known, hidden.as_slice(), test);
+    let step = between_emits(known, hidden.as_slice(), between);
+    let body = inside_emits(known, hidden, body)?;
+    hidden.truncate(count);
+    Ok(start || (asked || step || body))
+}
+
+// Whether a `when` can emit.
+#[cycle(stm_emits)]
+fn when_emits<'t>(
+    known: &Known,
+    hidden: &mut Vec<&'t Name>,
+    body: &'t Stmt,
+    quantifiers: &'t [Quantifier],
+    test: &Expr,
+) -> Result<bool, AllocError>
+    ensures value { IfOk result (λ emits. emits ≡ when_emits (emits_by (blocks_of known.now)) (hidden_of hidden.old.items)
+        (each quantifier_of quantifiers.now) (tree_of test.now) (stm_of body.now)) }
+    ensures kept { OnOk result (hidden_of hidden.new.items ≡ hidden_of hidden.old.items) }
+{
+    let count = hidden.len();
+    hide_quantified(hidden, quantifiers, false)?;
+    let asked = exp_emits(known, hidden.as_slice(), test);
+    hidden.truncate(count);
+    hide_quantified(hidden, quantifiers, true)?;
+    let body = inside_emits(known, hidden, body)?;
+    hidden.truncate(count);
+    Ok(asked || body)
+}
+
+// Whether one of the statements can emit. The variables that they declare are hidden behind them.
+#[cycle(stm_emits)]
+fn stms_emit<'t>(
+    known: &Known,
+    hidden: &mut Vec<&'t Name>,
+    trees: &'t [Stmt],
+) -> Result<bool, AllocError>
+    ensures value { IfOk result (λ emits. emits ≡ stms_emit (emits_by (blocks_of known.now)) (hidden_of hidden.old.items) (stms_of (each stm_of trees.now))) }
+    ensures front { OnOk result (take (length hidden.old.items) (hidden_of hidden.new.items) ≡ hidden_of hidden.old.items) }
+{
+    let mut emits = false;
+    for tree in trees {
+        let here = stm_emits(known, hidden, tree)?;
+        emits = emits || here;
+    }
+    Ok(emits)
+}
+
+// Whether a function with this name and these statements emits, where what it sees is known, its parameters too. A call of itself adds
+// nothing.
+pub fn body_emits(
+    alloc: Global,
+    known: &Known,
+    name: &Name,
+    trees: &[Stmt],
+) -> Result<bool, AllocError>
+    ensures value { IfOk result (λ emits. emits ≡ stms_emit (emits_by (blocks_of known.now)) (name.now.text ∷ []) (stms_of (each stm_of trees.now))) }
+{
+    let mut hidden = Vec::new(alloc);
+    hidden.push(name)?;
+    stms_emit(known, &mut hidden, trees)
 }

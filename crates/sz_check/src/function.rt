@@ -13,7 +13,7 @@ ghost use Rattle.sz_check.specs.FunctionParts.{body_of};
 ghost use Rattle.sz_check.specs.Top.{found_one, top_of};
 ghost use Rattle.sz_known.specs.Outcome.{Judges};
 
-use crate::emitting::stms_emit;
+use crate::emitting::body_emits;
 use crate::stmt::{Around, judge_stms};
 use crate::top::Top;
 use std::alloc::{AllocError, Global};
@@ -66,25 +66,28 @@ fn declare_parameters(
     Ok(())
 }
 
-// The parameters of a function and the type of its result, as long as it isn't known whether it emits.
+// The parameters of a function and the type of its result, and whether it emits by its text.
 fn judge_header(
     alloc: Global,
     known: &mut Known,
+    name: &Name,
     params: &[Param],
     of: &TypeTree,
+    trees: &[Stmt],
 ) -> Result<Signature, CheckError>
     ensures value { Judges signature_of result
-        (judge_header (blocks_of known.old) (params_of (each param_of params.now)) (type_of of.now)) }
+        (judge_header (blocks_of known.old) name.now (params_of (each param_of params.now)) (type_of of.now) (stms_of (each stm_of trees.now))) }
     ensures kept { IfOk result (λ _. known.new ≡ known.old) }
 {
     let aside = known.enter_function(alloc)?;
     judge_parameters(alloc, known, params)?;
     let result = judge_type(alloc, known, of)?;
+    let emits = body_emits(alloc, known, name, trees)?;
     let parameters = known.leave_function(aside);
     Ok(Signature {
         parameters,
         result,
-        emits: false,
+        emits,
     })
 }
 
@@ -139,24 +142,16 @@ fn judge_body(
     Ok(Body { locals, statements })
 }
 
-// What the statements of a function make of it.
+// What the statements of a function make of it, whose own name is known.
 fn finished(
     alloc: Global,
     top: &mut Top,
-    name: &Name,
-    unknown: Signature,
+    signature: Signature,
     body: Body,
-) -> Result<Item, CheckError>
-    ensures value { Judges (λ i. found_one top.new i) result
-        (finished (top_of top.old) name.now (signature_of unknown) (body_of body)) }
+) -> Result<Item, AllocError>
+    ensures value { IfOk result
+        (λ i. found_one top.new i ≡ finished (top_of top.old) (blocks_of top.old.known) (signature_of signature) (body_of body)) }
 {
-    let emits = stms_emit(top.functions.as_slice(), body.statements.as_slice());
-    let signature = Signature {
-        parameters: unknown.parameters,
-        result: unknown.result,
-        emits,
-    };
-    declare_function(alloc, top, name, &signature)?;
     top.functions.push(copy_signature(alloc, &signature)?)?;
     Ok(Item::Function(Function {
         signature,
@@ -179,9 +174,8 @@ pub fn judge_function(
         (judge_function (top_of top.old) name.now (params_of (each param_of params.now)) (type_of of.now)
         (stms_of (each stm_of trees.now))) }
 {
-    let unknown = judge_header(alloc, &mut top.known, params, of)?;
-    declare_function(alloc, top, name, &unknown)?;
-    let body = judge_body(alloc, &mut top.known, params, &unknown, trees)?;
-    top.known.undeclare();
-    finished(alloc, top, name, unknown, body)
+    let signature = judge_header(alloc, &mut top.known, name, params, of, trees)?;
+    declare_function(alloc, top, name, &signature)?;
+    let body = judge_body(alloc, &mut top.known, params, &signature, trees)?;
+    Ok(finished(alloc, top, signature, body)?)
 }

@@ -7,6 +7,7 @@ mod emitting;
 mod function;
 mod laws;
 mod program;
+mod quantified;
 mod simple;
 mod stmt;
 mod table;

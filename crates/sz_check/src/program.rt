@@ -14,7 +14,7 @@ use crate::top::Top;
 use std::alloc::{AllocError, Global};
 use sz_check_expr::{converted, judge_exp};
 use sz_core::{Item, Program, Static};
-use sz_known::{CheckError, Known, Meaning, judge_type, judge_written, small};
+use sz_known::{CheckError, Known, Meaning, Site, judge_type, judge_written, small};
 use sz_tree::{Expr, Name, Stmt, Tree, TypeTree};
 use sz_types::{Place, Tys, copy_ty};
 
@@ -31,7 +31,7 @@ fn judge_static(
         (judge_static (top_of top.old) place name.now (type_of of.now) (tree_of tree.now)) }
 {
     let ty = judge_type(alloc, &top.known, of)?;
-    let node = judge_exp(alloc, &top.known, false, Some(&ty), tree)?;
+    let node = judge_exp(alloc, &top.known, Site::Static, Some(&ty), tree)?;
     let value = converted(alloc, &ty, tree, node)?;
     let statics = small(top.statics as usize + 1)?;
     let meaning = Meaning::Static(top.statics, copy_ty(alloc, &ty)?);

@@ -18,7 +18,7 @@ use crate::target::{judge_path, judge_variable};
 use std::alloc::{AllocError, Global};
 use sz_check_expr::{agrees, converted, difference_row, judge_call, judge_exp, sum_row, test};
 use sz_core::{CoreExpr, CoreStmt, Form};
-use sz_known::{CheckError, Known, judge_type};
+use sz_known::{CheckError, Known, Site, judge_type};
 use sz_tree::{Expr, First, Name, Path, Simple, TypeTree};
 use sz_types::{BinOp, Place, Ty, copy_ty};
 use sz_value::Value;
@@ -52,7 +52,7 @@ pub fn judge_initialised(
     ensures outside { known.new.outside ≡ known.old.outside }
 {
     let ty = judge_type(alloc, known, tree)?;
-    let node = judge_exp(alloc, known, true, Some(&ty), value)?;
+    let node = judge_exp(alloc, known, Site::Statement, Some(&ty), value)?;
     let node = converted(alloc, &ty, value, node)?;
     let number = known.declare_variable(alloc, name, ty)?;
     Ok(CoreStmt::Keep(name.place(), number, node))
@@ -69,7 +69,7 @@ pub fn judge_definition(
         (judge_definition (scene_of known.old) name.now (tree_of value.now)) }
     ensures outside { known.new.outside ≡ known.old.outside }
 {
-    let node = judge_exp(alloc, known, true, None, value)?;
+    let node = judge_exp(alloc, known, Site::Statement, None, value)?;
     let ty = copy_ty(alloc, &node.ty)?;
     let number = known.declare_variable(alloc, name, ty)?;
     Ok(CoreStmt::Keep(name.place(), number, node))
@@ -85,7 +85,7 @@ fn judge_assignment(
     ensures value { Judges stm_of result (judge_assignment (scene_of known.now) (path_of path.now) (tree_of value.now)) }
 {
     let target = judge_path(alloc, known, &path.name, path.steps.as_slice())?;
-    let node = judge_exp(alloc, known, true, Some(&target.ty), value)?;
+    let node = judge_exp(alloc, known, Site::Statement, Some(&target.ty), value)?;
     agrees(Some(&target.ty), value, &node)?;
     let place = path.name.place();
     Ok(CoreStmt::Store(place, target.local, target.steps, node))
@@ -139,7 +139,7 @@ pub fn judge_simple(alloc: Global, known: &Known, tree: &Simple) -> Result<CoreS
         Simple::Increment(name) => judge_change(alloc, known, name, BinOp::Add),
         Simple::Decrement(name) => judge_change(alloc, known, name, BinOp::Sub),
         Simple::Call(name, arguments) => {
-            let node = judge_call(alloc, known, true, name, arguments.as_slice())?;
+            let node = judge_call(alloc, known, Site::Statement, name, arguments.as_slice())?;
             Ok(CoreStmt::Evaluate(name.place(), node))
         }
     }
@@ -196,7 +196,7 @@ pub fn judge_test(
         (judge_if_some (scene_of known.now) Nothing (option_map tree_of tree.now)) }
 {
     match tree {
-        Some(tree) => Ok(Some(judge_exp(alloc, known, true, None, tree)?)),
+        Some(tree) => Ok(Some(judge_exp(alloc, known, Site::Statement, None, tree)?)),
         None => Ok(None),
     }
 }
@@ -225,7 +225,7 @@ pub fn judge_return(
     match (result_type, tree) {
         (None, None) => Ok(CoreStmt::EndRecord(place)),
         (Some(ty), Some(tree)) => {
-            let node = judge_exp(alloc, known, true, Some(ty), tree)?;
+            let node = judge_exp(alloc, known, Site::Statement, Some(ty), tree)?;
             agrees(Some(ty), tree, &node)?;
             Ok(CoreStmt::Return(place, node))
         }

@@ -1,17 +1,19 @@
 //! Statements.
 ghost use Rattle.std.specs.Prelude.{◌≡◌, ◌∷◌, [], true, IfOk, map as each};
 ghost use Rattle.std.specs.Option.{option_map};
-ghost use Rattle.sz_tree.specs.Statements.{stms_of, block, if_only, while, do_while};
-ghost use Rattle.sz_tree.specs.View.{tree_of, stm_of, simple_of, first_of};
+ghost use Rattle.sz_tree.specs.Statements.{stms_of, block, if_only, while, do_while, when};
+ghost use Rattle.sz_tree.specs.View.{tree_of, stm_of, simple_of, first_of, quantifier_of};
 ghost use Rattle.sz_core.specs.Statements.{block as core_block, stms_of as core_stms_of};
 ghost use Rattle.sz_core.specs.View.{node_of, stm_of as core_stm_of};
 ghost use Rattle.sz_check.specs.JudgingStatements.{judge_stm, judge_stms};
 ghost use Rattle.sz_known.specs.Holding.{scene_of};
-ghost use Rattle.sz_check.specs.Behind.{behind_of, all_behind_of, around_of, branch_of, judge_inside, judge_else, judge_turns, judge_for};
+ghost use Rattle.sz_check.specs.Behind.{behind_of, all_behind_of, around_of, branch_of, judge_inside, judge_else, judge_turns, judge_for, judge_bound_body};
+ghost use Rattle.sz_check.specs.Quantified.{variable_of};
 ghost use Rattle.sz_known.specs.Outcome.{Judges};
 
 use crate::declared::judge_declared;
 use crate::emitted::judge_emit;
+use crate::quantified::{Variable, judge_bound, judge_front, quantify};
 use crate::simple::{
     judge_between, judge_definition, judge_first, judge_return, judge_simple, judge_test, nothing,
     test_if_some,
@@ -19,8 +21,8 @@ use crate::simple::{
 use std::alloc::{AllocError, Global};
 use sz_check_expr::{judge_exp, test};
 use sz_core::{CoreExpr, CoreStmt};
-use sz_known::{CheckError, Known};
-use sz_tree::{Expr, First, Simple, Stmt};
+use sz_known::{CheckError, Known, Site};
+use sz_tree::{Expr, First, Quantifier, Simple, Stmt};
 use sz_types::{Place, Ty};
 
 // Where a statement stands: the type of the function's result, if it is in one, and whether `break` and `continue` have a loop
@@ -41,11 +43,21 @@ impl<'t> Around<'t> {
             in_loop: true,
         }
     }
+
+    // The same where no loop is reached.
+    fn out_of_loops(self) -> Around<'t>
+        ensures value { result ≡ record self.entry { in_loop = false } }
+    {
+        Around {
+            result: self.result,
+            in_loop: false,
+        }
+    }
 }
 
 // The statement.
 #[cycle(stmt)]
-#[tactic(auto, using(crate::proofs::StatementParts::for_is, crate::proofs::StatementParts::empty_is, crate::proofs::StatementParts::define_is, crate::proofs::StatementParts::static_is, crate::proofs::StatementParts::typedef_is, crate::proofs::StatementParts::table_is, crate::proofs::StatementParts::nested_is, crate::proofs::StatementParts::simple_is, crate::proofs::StatementParts::break_is, crate::proofs::StatementParts::continue_is, crate::proofs::StatementParts::return_is, crate::proofs::StatementParts::emitting_is, crate::proofs::StatementParts::when_is, crate::proofs::StatementParts::if_else_is, crate::proofs::StatementParts::done_is))]
+#[tactic(auto, using(crate::proofs::StatementParts::for_is, crate::proofs::StatementParts::empty_is, crate::proofs::StatementParts::define_is, crate::proofs::StatementParts::static_is, crate::proofs::StatementParts::typedef_is, crate::proofs::StatementParts::table_is, crate::proofs::StatementParts::nested_is, crate::proofs::StatementParts::simple_is, crate::proofs::StatementParts::break_is, crate::proofs::StatementParts::continue_is, crate::proofs::StatementParts::return_is, crate::proofs::StatementParts::emitting_is, crate::proofs::StatementParts::if_else_is, crate::proofs::StatementParts::done_is))]
 pub fn judge_stm(
     alloc: Global,
     known: &mut Known,
@@ -71,7 +83,7 @@ pub fn judge_stm(
             judge_if_only(alloc, known, around, *place, taken, test)
         }
         Stmt::If(place, test, taken, Some(other)) => {
-            let node = judge_exp(alloc, known, true, None, test)?;
+            let node = judge_exp(alloc, known, Site::Statement, None, test)?;
             let taken = judge_inside(alloc, known, around, taken)?;
             judge_else(alloc, known, around, *place, other, test, node, taken)
         }
@@ -98,7 +110,17 @@ pub fn judge_stm(
                 weight,
             )
         }
-        Stmt::When(place, _, _, _) => Err(CheckError::at(23, *place)),
+        Stmt::When(place, quantifiers, condition, body) => {
+            judge_when(
+                alloc,
+                known,
+                around,
+                *place,
+                body,
+                quantifiers.as_slice(),
+                condition,
+            )
+        }
     }
 }
 
@@ -190,7 +212,7 @@ fn judge_if_only(
         (judge_stm (around_of around.entry) (scene_of known.old) (if_only place (tree_of condition.now) (stm_of taken.now))) }
     ensures outside { IfOk result (λ _. known.new.outside ≡ known.old.outside) }
 {
-    let node = judge_exp(alloc, known, true, None, condition)?;
+    let node = judge_exp(alloc, known, Site::Statement, None, condition)?;
     let taken = judge_inside(alloc, known, around, taken)?;
     branch(alloc, place, condition, node, taken, nothing(alloc))
 }
@@ -231,7 +253,7 @@ fn judge_while(
         (judge_stm (around_of around.entry) (scene_of known.old) (while place (tree_of condition.now) (stm_of body.now))) }
     ensures outside { IfOk result (λ _. known.new.outside ≡ known.old.outside) }
 {
-    let node = judge_exp(alloc, known, true, None, condition)?;
+    let node = judge_exp(alloc, known, Site::Statement, None, condition)?;
     let body = judge_inside(alloc, known, around.inside_loop(), body)?;
     test(condition, &node)?;
     Ok(CoreStmt::While(place, node, Box::new(alloc, body)?))
@@ -252,7 +274,7 @@ fn judge_do_while(
     ensures outside { IfOk result (λ _. known.new.outside ≡ known.old.outside) }
 {
     let body = judge_inside(alloc, known, around.inside_loop(), body)?;
-    let node = judge_exp(alloc, known, true, None, condition)?;
+    let node = judge_exp(alloc, known, Site::Statement, None, condition)?;
     test(condition, &node)?;
     Ok(CoreStmt::DoWhile(place, Box::new(alloc, body)?, node))
 }
@@ -313,4 +335,48 @@ fn judge_for(
     let turns = judge_turns(alloc, known, around, place, body, condition, between)?;
     known.close();
     Ok(joined(alloc, start, turns)?)
+}
+
+// The statement inside a `when`, where it sees these variables.
+#[cycle(stmt)]
+fn judge_bound_body(
+    alloc: Global,
+    known: &mut Known,
+    around: Around<'_>,
+    tree: &Stmt,
+    variables: &[Variable<'_>],
+) -> Result<CoreStmt, CheckError>
+    ensures value { Judges (λ s. behind_of known.new s) result
+        (judge_bound_body (around_of around.entry) (scene_of known.old) (each variable_of variables.now) (stm_of tree.now)) }
+    ensures outside { IfOk result (λ _. known.new.outside ≡ known.old.outside) }
+{
+    judge_bound(alloc, known, variables)?;
+    let statement = judge_inside(alloc, known, around.out_of_loops(), tree)?;
+    known.close();
+    Ok(statement)
+}
+
+#[cycle(stmt)]
+#[tactic(auto, unfolding(crate::specs::JudgingStatements::judge_stm))]
+fn judge_when(
+    alloc: Global,
+    known: &mut Known,
+    around: Around<'_>,
+    place: Place,
+    body: &Stmt,
+    quantifiers: &[Quantifier],
+    condition: &Expr,
+) -> Result<CoreStmt, CheckError>
+    ensures value { Judges (λ s. behind_of known.new s) result
+        (judge_stm (around_of around.entry) (scene_of known.old)
+        (when place (each quantifier_of quantifiers.now) (tree_of condition.now) (stm_of body.now))) }
+    ensures outside { IfOk result (λ _. known.new.outside ≡ known.old.outside) }
+{
+    let front = judge_front(alloc, known, quantifiers, condition)?;
+    let variables = front.variables.as_slice();
+    let body = judge_bound_body(alloc, known, around, body, variables)?;
+    test(condition, &front.condition)?;
+    let variables = quantify(alloc, known, variables, condition)?;
+    let body = Box::new(alloc, body)?;
+    Ok(CoreStmt::When(place, variables, front.condition, body))
 }

@@ -11,7 +11,7 @@ ghost use Rattle.sz_known.specs.Outcome.{Judges};
 use std::alloc::{AllocError, Global};
 use sz_check_expr::{Kind, agrees, field_in, judge_exp, type_kind, whole};
 use sz_core::{CoreExpr, CoreStep};
-use sz_known::{CheckError, Known, Means, small};
+use sz_known::{CheckError, Known, Means, Site, small};
 use sz_tree::{Expr, Name, Step};
 use sz_types::{Place, Ty, copy_ty};
 
@@ -31,7 +31,9 @@ fn target_of(alloc: Global, name: &Name, means: Means<'_>) -> Result<Target, Che
 {
     let (local, ty, assignable) = match means {
         Means::Variable(number, ty) => (number, copy_ty(alloc, ty)?, true),
-        Means::Static(number, ty) => (number, copy_ty(alloc, ty)?, false),
+        Means::Quantified(number, ty) | Means::Static(number, ty) => {
+            (number, copy_ty(alloc, ty)?, false)
+        }
         Means::Input => (0, Ty::Bytes, false),
         _ => return Err(CheckError::of(alloc, 8, name)),
     };
@@ -108,7 +110,7 @@ fn judge_step(
 {
     match step {
         Step::Index(tree) => {
-            let node = judge_exp(alloc, known, true, None, tree)?;
+            let node = judge_exp(alloc, known, Site::Statement, None, tree)?;
             indexed(alloc, place, target, tree, node)
         }
         Step::Field(name) => {
@@ -158,7 +160,7 @@ pub fn judge_path(
 ) -> Result<Target, CheckError>
     ensures value { Judges target_seen result (judge_path (scene_of known.now) (path_form name.now (each step_of steps.now))) }
 {
-    let first = target_of(alloc, name, known.look_up(alloc, true, name)?)?;
+    let first = target_of(alloc, name, known.look_up(alloc, Site::Statement, name)?)?;
     let target = judge_steps(alloc, known, name.place(), first, steps)?;
     assignable(alloc, name, target)
 }
@@ -168,6 +170,6 @@ pub fn judge_path(
 pub fn judge_variable(alloc: Global, known: &Known, name: &Name) -> Result<Target, CheckError>
     ensures value { Judges target_seen result (judge_path (scene_of known.now) (path_form name.now [])) }
 {
-    let target = target_of(alloc, name, known.look_up(alloc, true, name)?)?;
+    let target = target_of(alloc, name, known.look_up(alloc, Site::Statement, name)?)?;
     assignable(alloc, name, target)
 }

@@ -1,6 +1,6 @@
 -- What is made of parts that have their types has its type.
-use Rattle.std.proofs.Common.{◌≡◌, ℕ, Bool, true, false, Option, Some, None, refl, sym, ◌∙◌}
-use Rattle.std.specs.Prelude.{if◌then◌else◌, slice_get, IfSome}
+use Rattle.std.proofs.Common.{◌≡◌, ℕ, Bool, true, false, Option, Some, None, refl, sym, ◌∙◌, true≢false}
+use Rattle.std.specs.Prelude.{if◌then◌else◌, ◌||◌, not, slice_get, IfSome}
 use Rattle.sz_types.specs.Data.{Shape, FieldShapes}
 use Rattle.sz_types.specs.Rows.{binary_row, index_row, builtin_row}
 use Rattle.sz_types.specs.declared.place.Place.{Place}
@@ -60,7 +60,11 @@ module _ (g : Sight) where
   -- so has a name that stands for a value
   pub variable_typed : (n : Ident) (m : Meaning) → Fits g m → Holds (variable_node n m) (IsTyped g)
   unfolding IsNode IsForm is_well_formed
-  variable_typed n (names.variable k t) h = ok_holds (IsTyped g) (node n.place t (forms.local k)) (record { typed = (h.seen, h.here); formed = h.formed })
+  variable_typed n (names.variable k t) h = ok_holds (IsTyped g) (node n.place t (forms.local k)) (record {
+    typed = (h.readable.seen, h.readable.here);
+    formed = h.readable.formed;
+  })
+  variable_typed n (names.quantified k t) h = ok_holds (IsTyped g) (node n.place t (forms.local k)) (record { typed = (h.seen, h.here); formed = h.formed })
   variable_typed n (names.static k t) h = ok_holds (IsTyped g) (node n.place t (forms.static k)) (record { typed = h.here; formed = h.formed })
   variable_typed n (names.type_name t) h = err_holds _ _
   variable_typed n (names.table k d) h = err_holds _ _
@@ -77,6 +81,7 @@ module _ (g : Sight) where
   -- what is called is known
   pub callee_fits : (n : Ident) (m : Meaning) → Fits g m → Holds (callee_of n m) CalleeFits
   callee_fits n (names.variable k t) h = err_holds _ _
+  callee_fits n (names.quantified k t) h = err_holds _ _
   callee_fits n (names.static k t) h = err_holds _ _
   callee_fits n (names.type_name t) h = ok_holds CalleeFits (conversion t) h
   callee_fits n (names.table k d) h = err_holds _ _
@@ -89,12 +94,17 @@ module _ (g : Sight) where
   callee_asks (predeclared b) h = tt
   callee_asks (conversion t) h = tt
 
+  -- a call that emits is made where it may be
+  emits_there : (emits may_emit : Bool) → emits ≡ true → (not emits || may_emit) ≡ true → may_emit ≡ true
+  emits_there true may_emit e h = h
+  emits_there false may_emit e h = absurd (true≢false (sym e))
+
   declared_typed : (n : Ident) (k : ℕ) (s : Signature) (es : Exps) (ns : Nodes) → IsCalled g k s → AreTyped g es ns
       → Holds (declared_call g.may_emit n k s es ns) (IsTyped g)
   unfolding IsNode IsForm
   declared_typed n k s es ns c h = bind_holds (agree_in_turn g s.parameters es ns h) (λ u types. bind_holds (counted_holds _ es _) (λ v count.
       bind_holds (unless_holds _ _) (λ w may. ok_holds (IsTyped g) (node n.place s.result (forms.call k ns)) (record {
-        typed = (all_nodes g es ns h, (c.seen, c.here, types count ∙ sym c.parameters, sym c.result, λ e. c.emits e may));
+        typed = (all_nodes g es ns h, (s, c.here, types count, refl, λ e. emits_there s.emits g.may_emit e may));
         formed = c.gives;
       }))))
 

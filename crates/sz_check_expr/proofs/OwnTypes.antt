@@ -69,6 +69,7 @@ call_made may_emit n (conversion t) es ns = conversion_made n t es ns
 module _ (asked : Option Shape) where
   variable_own : (n : Ident) (m : Meaning) → Holds (variable_node n m) (IsOwnOrAsked asked)
   variable_own n (names.variable k t) = own_by_itself asked (node n.place t (forms.local k)) tt
+  variable_own n (names.quantified k t) = own_by_itself asked (node n.place t (forms.local k)) tt
   variable_own n (names.static k t) = own_by_itself asked (node n.place t (forms.static k)) tt
   variable_own n (names.type_name t) = err_holds _ _
   variable_own n (names.table k d) = err_holds _ _

@@ -31,6 +31,7 @@ literal_node p (boolean b) = node p Shape.truth (forms.constant (Datum.truth b))
 -- a name as a value
 abbrev pub variable_node : Ident → Meaning → Judged Node
 variable_node n (names.variable k t) = Ok (node n.place t (forms.local k))
+variable_node n (names.quantified k t) = Ok (node n.place t (forms.local k))
 variable_node n (names.static k t) = Ok (node n.place t (forms.static k))
 variable_node n names.input = Ok (node n.place Shape.bytes forms.input)
 variable_node n _ = wrong_kind n

@@ -30,7 +30,9 @@ pub fn variable_node(alloc: Global, name: &Name, means: Means<'_>) -> Result<Cor
     ensures value { Judges node_of result (variable_node name.now (means_of means.entry)) }
 {
     let (ty, form) = match means {
-        Means::Variable(number, ty) => (copy_ty(alloc, ty)?, Form::Local(number)),
+        Means::Variable(number, ty) | Means::Quantified(number, ty) => {
+            (copy_ty(alloc, ty)?, Form::Local(number))
+        }
         Means::Static(number, ty) => (copy_ty(alloc, ty)?, Form::Static(number)),
         Means::Input => (Ty::Bytes, Form::Input),
         _ => return Err(CheckError::of(alloc, 8, name)),

@@ -8,6 +8,7 @@ ghost use Rattle.sz_core.specs.View.{node_of, pairing_of};
 ghost use Rattle.sz_check_expr.specs.JudgingExpressions.{judge_exp, judge_exps, judge_pairs};
 ghost use Rattle.sz_check_expr.specs.Asking.{asks_of, asked_of};
 ghost use Rattle.sz_known.specs.Holding.{blocks_for};
+ghost use Rattle.sz_known.specs.Sites.{may_emit};
 ghost use Rattle.sz_check_expr.specs.Lists.{judge_pair};
 ghost use Rattle.sz_known.specs.Outcome.{Judges};
 
@@ -19,7 +20,7 @@ use crate::operator::{asked_of_right, made_binary, made_unary};
 use crate::path::{conversion_node, made_field, made_index, made_slice};
 use std::alloc::Global;
 use sz_core::{CoreExpr, CorePair, Form};
-use sz_known::{CheckError, Known, basic_type};
+use sz_known::{CheckError, Known, Site, basic_type};
 use sz_tree::{BasicType, Expr, Name, Pair, UnaryOp};
 use sz_types::{Place, Ty};
 
@@ -29,45 +30,45 @@ use sz_types::{Place, Ty};
 pub fn judge_exp(
     alloc: Global,
     known: &Known,
-    may_emit: bool,
+    site: Site,
     asked: Option<&Ty>,
     tree: &Expr,
 ) -> Result<CoreExpr, CheckError>
     ensures value { Judges node_of result
-        (judge_exp (blocks_for known.now may_emit) may_emit (asked_of asked.entry) (tree_of tree.now)) }
+        (judge_exp (blocks_for known.now site) (may_emit site) (asked_of asked.entry) (tree_of tree.now)) }
 {
     match tree {
         Expr::Literal(place, literal) => Ok(literal_node(alloc, *place, literal)?),
-        Expr::Named(name) => judge_named(alloc, known, may_emit, name),
-        Expr::Call(name, items) => judge_call(alloc, known, may_emit, name, items.as_slice()),
-        Expr::Def(place, part) => judge_def(alloc, known, may_emit, *place, part),
-        Expr::Paren(_, inner) => judge_exp(alloc, known, may_emit, asked, inner),
+        Expr::Named(name) => judge_named(alloc, known, site, name),
+        Expr::Call(name, items) => judge_call(alloc, known, site, name, items.as_slice()),
+        Expr::Def(place, part) => judge_def(alloc, known, site, *place, part),
+        Expr::Paren(_, inner) => judge_exp(alloc, known, site, asked, inner),
         Expr::Convert(place, basic, part) => {
-            judge_conversion(alloc, known, may_emit, *place, *basic, part)
+            judge_conversion(alloc, known, site, *place, *basic, part)
         }
         Expr::List(place, items) => {
-            judge_list(alloc, known, may_emit, asked, *place, items.as_slice())
+            judge_list(alloc, known, site, asked, *place, items.as_slice())
         }
         Expr::Map(place, pairs) => {
-            judge_mapping(alloc, known, may_emit, asked, *place, pairs.as_slice())
+            judge_mapping(alloc, known, site, asked, *place, pairs.as_slice())
         }
         Expr::Index(place, part, key) => {
-            let node = judge_exp(alloc, known, may_emit, None, part)?;
-            let at = judge_exp(alloc, known, may_emit, None, key)?;
+            let node = judge_exp(alloc, known, site, None, part)?;
+            let at = judge_exp(alloc, known, site, None, key)?;
             made_index(alloc, *place, part, key, node, at)
         }
         Expr::Slice(place, part, from, to) => {
-            let node = judge_exp(alloc, known, may_emit, None, part)?;
-            let first = judge_exp(alloc, known, may_emit, None, from)?;
-            let last = judge_exp(alloc, known, may_emit, None, to)?;
+            let node = judge_exp(alloc, known, site, None, part)?;
+            let first = judge_exp(alloc, known, site, None, from)?;
+            let last = judge_exp(alloc, known, site, None, to)?;
             made_slice(alloc, *place, part, from, to, node, first, last)
         }
-        Expr::Field(place, part, name) => judge_field(alloc, known, may_emit, *place, part, name),
-        Expr::Unary(place, op, part) => judge_unary(alloc, known, may_emit, *place, *op, part),
+        Expr::Field(place, part, name) => judge_field(alloc, known, site, *place, part, name),
+        Expr::Unary(place, op, part) => judge_unary(alloc, known, site, *place, *op, part),
         Expr::Binary(place, op, left, right) => {
-            let first = judge_exp(alloc, known, may_emit, None, left)?;
+            let first = judge_exp(alloc, known, site, None, left)?;
             let asked = asked_of_right(*op, &first.ty);
-            let second = judge_exp(alloc, known, may_emit, asked, right)?;
+            let second = judge_exp(alloc, known, site, asked, right)?;
             made_binary(alloc, *place, *op, left, right, first, second)
         }
     }
@@ -78,13 +79,13 @@ pub fn judge_exp(
 fn judge_named(
     alloc: Global,
     known: &Known,
-    may_emit: bool,
+    site: Site,
     name: &Name,
 ) -> Result<CoreExpr, CheckError>
     ensures value { (asked : Option Shape) → Judges node_of result
-        (judge_exp (blocks_for known.now may_emit) may_emit asked (named name.now)) }
+        (judge_exp (blocks_for known.now site) (may_emit site) asked (named name.now)) }
 {
-    variable_node(alloc, name, known.look_up(alloc, may_emit, name)?)
+    variable_node(alloc, name, known.look_up(alloc, site, name)?)
 }
 
 /// A checked call, or its first refusal: what the name calls, the arguments, and then the call of them.
@@ -93,16 +94,16 @@ fn judge_named(
 pub fn judge_call(
     alloc: Global,
     known: &Known,
-    may_emit: bool,
+    site: Site,
     name: &Name,
     arguments: &[Expr],
 ) -> Result<CoreExpr, CheckError>
     ensures value { (asked : Option Shape) → Judges node_of result
-        (judge_exp (blocks_for known.now may_emit) may_emit asked (call name.now (exps_of (each tree_of arguments.now)))) }
+        (judge_exp (blocks_for known.now site) (may_emit site) asked (call name.now (exps_of (each tree_of arguments.now)))) }
 {
-    let callee = callee_of(alloc, name, known.look_up(alloc, may_emit, name)?)?;
-    let nodes = judge_exps(alloc, known, may_emit, asks_of_callee(&callee), arguments)?;
-    made_call(alloc, may_emit, name, callee, arguments, nodes)
+    let callee = callee_of(alloc, name, known.look_up(alloc, site, name)?)?;
+    let nodes = judge_exps(alloc, known, site, asks_of_callee(&callee), arguments)?;
+    made_call(alloc, site.may_emit(), name, callee, arguments, nodes)
 }
 
 // `def(e)`.
@@ -111,14 +112,14 @@ pub fn judge_call(
 fn judge_def(
     alloc: Global,
     known: &Known,
-    may_emit: bool,
+    site: Site,
     place: Place,
     tree: &Expr,
 ) -> Result<CoreExpr, CheckError>
     ensures value { (asked : Option Shape) → Judges node_of result
-        (judge_exp (blocks_for known.now may_emit) may_emit asked (def place (tree_of tree.now))) }
+        (judge_exp (blocks_for known.now site) (may_emit site) asked (def place (tree_of tree.now))) }
 {
-    let node = judge_exp(alloc, known, may_emit, None, tree)?;
+    let node = judge_exp(alloc, known, site, None, tree)?;
     let form = Form::Def(Box::new(alloc, node)?);
     Ok(CoreExpr {
         place,
@@ -133,15 +134,15 @@ fn judge_def(
 fn judge_conversion(
     alloc: Global,
     known: &Known,
-    may_emit: bool,
+    site: Site,
     place: Place,
     basic: BasicType,
     tree: &Expr,
 ) -> Result<CoreExpr, CheckError>
     ensures value { (asked : Option Shape) → Judges node_of result
-        (judge_exp (blocks_for known.now may_emit) may_emit asked (convert place basic (tree_of tree.now))) }
+        (judge_exp (blocks_for known.now site) (may_emit site) asked (convert place basic (tree_of tree.now))) }
 {
-    let node = judge_exp(alloc, known, may_emit, None, tree)?;
+    let node = judge_exp(alloc, known, site, None, tree)?;
     conversion_node(alloc, place, basic_type(basic), tree, node)
 }
 
@@ -151,16 +152,16 @@ fn judge_conversion(
 fn judge_list(
     alloc: Global,
     known: &Known,
-    may_emit: bool,
+    site: Site,
     asked: Option<&Ty>,
     place: Place,
     trees: &[Expr],
 ) -> Result<CoreExpr, CheckError>
     ensures value { Judges node_of result
-        (judge_exp (blocks_for known.now may_emit) may_emit (asked_of asked.entry)
+        (judge_exp (blocks_for known.now site) (may_emit site) (asked_of asked.entry)
         (list place (exps_of (each tree_of trees.now)))) }
 {
-    let nodes = judge_exps(alloc, known, may_emit, asks_of_list(asked, trees), trees)?;
+    let nodes = judge_exps(alloc, known, site, asks_of_list(asked, trees), trees)?;
     made_list(alloc, place, asked, trees, nodes)
 }
 
@@ -170,17 +171,17 @@ fn judge_list(
 fn judge_mapping(
     alloc: Global,
     known: &Known,
-    may_emit: bool,
+    site: Site,
     asked: Option<&Ty>,
     place: Place,
     trees: &[Pair],
 ) -> Result<CoreExpr, CheckError>
     ensures value { Judges node_of result
-        (judge_exp (blocks_for known.now may_emit) may_emit (asked_of asked.entry)
+        (judge_exp (blocks_for known.now site) (may_emit site) (asked_of asked.entry)
         (mapping place (pairs_of (each pair_of trees.now)))) }
 {
     let (key, value) = (asked_of_keys(asked), asked_of_values(asked));
-    let nodes = judge_pairs(alloc, known, may_emit, key, value, trees)?;
+    let nodes = judge_pairs(alloc, known, site, key, value, trees)?;
     made_mapping(alloc, place, asked, trees, nodes)
 }
 
@@ -190,15 +191,15 @@ fn judge_mapping(
 fn judge_field(
     alloc: Global,
     known: &Known,
-    may_emit: bool,
+    site: Site,
     place: Place,
     tree: &Expr,
     name: &Name,
 ) -> Result<CoreExpr, CheckError>
     ensures value { (asked : Option Shape) → Judges node_of result
-        (judge_exp (blocks_for known.now may_emit) may_emit asked (field place (tree_of tree.now) name.now)) }
+        (judge_exp (blocks_for known.now site) (may_emit site) asked (field place (tree_of tree.now) name.now)) }
 {
-    let node = judge_exp(alloc, known, may_emit, None, tree)?;
+    let node = judge_exp(alloc, known, site, None, tree)?;
     made_field(alloc, place, tree, node, name)
 }
 
@@ -208,15 +209,15 @@ fn judge_field(
 fn judge_unary(
     alloc: Global,
     known: &Known,
-    may_emit: bool,
+    site: Site,
     place: Place,
     op: UnaryOp,
     tree: &Expr,
 ) -> Result<CoreExpr, CheckError>
     ensures value { (asked : Option Shape) → Judges node_of result
-        (judge_exp (blocks_for known.now may_emit) may_emit asked (unary place op (tree_of tree.now))) }
+        (judge_exp (blocks_for known.now site) (may_emit site) asked (unary place op (tree_of tree.now))) }
 {
-    let node = judge_exp(alloc, known, may_emit, None, tree)?;
+    let node = judge_exp(alloc, known, site, None, tree)?;
     made_unary(alloc, place, op, tree, node)
 }
 
@@ -225,17 +226,17 @@ fn judge_unary(
 pub fn judge_exps(
     alloc: Global,
     known: &Known,
-    may_emit: bool,
+    site: Site,
     asks: Asks<'_>,
     trees: &[Expr],
 ) -> Result<Vec<CoreExpr>, CheckError>
     ensures value { Judges (λ made. nodes_of (each node_of made.items)) result
-        (judge_exps (blocks_for known.now may_emit) may_emit (asks_of asks.entry) (exps_of (each tree_of trees.now))) }
+        (judge_exps (blocks_for known.now site) (may_emit site) (asks_of asks.entry) (exps_of (each tree_of trees.now))) }
 {
     let mut nodes = Vec::new(alloc);
     let mut asks = asks;
     for tree in trees {
-        let node = judge_exp(alloc, known, may_emit, asks.first(), tree)?;
+        let node = judge_exp(alloc, known, site, asks.first(), tree)?;
         nodes.push(node)?;
         asks = asks.behind();
     }
@@ -247,16 +248,16 @@ pub fn judge_exps(
 fn judge_pair(
     alloc: Global,
     known: &Known,
-    may_emit: bool,
+    site: Site,
     key: Option<&Ty>,
     value: Option<&Ty>,
     tree: &Pair,
 ) -> Result<CorePair, CheckError>
     ensures value { Judges pairing_of result
-        (judge_pair (blocks_for known.now may_emit) may_emit (asked_of key.entry) (asked_of value.entry) (pair_of tree.now)) }
+        (judge_pair (blocks_for known.now site) (may_emit site) (asked_of key.entry) (asked_of value.entry) (pair_of tree.now)) }
 {
-    let key = judge_exp(alloc, known, may_emit, key, &tree.key)?;
-    let value = judge_exp(alloc, known, may_emit, value, &tree.value)?;
+    let key = judge_exp(alloc, known, site, key, &tree.key)?;
+    let value = judge_exp(alloc, known, site, value, &tree.value)?;
     Ok(CorePair { key, value })
 }
 
@@ -265,18 +266,18 @@ fn judge_pair(
 fn judge_pairs(
     alloc: Global,
     known: &Known,
-    may_emit: bool,
+    site: Site,
     key: Option<&Ty>,
     value: Option<&Ty>,
     trees: &[Pair],
 ) -> Result<Vec<CorePair>, CheckError>
     ensures value { Judges (λ made. pairings_of (each pairing_of made.items)) result
-        (judge_pairs (blocks_for known.now may_emit) may_emit (asked_of key.entry) (asked_of value.entry)
+        (judge_pairs (blocks_for known.now site) (may_emit site) (asked_of key.entry) (asked_of value.entry)
         (pairs_of (each pair_of trees.now))) }
 {
     let mut nodes = Vec::new(alloc);
     for tree in trees {
-        let pair = judge_pair(alloc, known, may_emit, key, value, tree)?;
+        let pair = judge_pair(alloc, known, site, key, value, tree)?;
         nodes.push(pair)?;
     }
     Ok(nodes)

@@ -20,4 +20,4 @@ pub use kind::{Kind, type_kind};
 pub use laws::first_types_are_those_of_the_rows;
 pub use operator::test;
 pub use path::{field_in, whole};
-pub use rows::{difference_row, sum_row};
+pub use rows::{alike, difference_row, sum_row};

@@ -3,6 +3,7 @@
 
 use crate::declarations::{EMITS, PROTO_TYPES, TABLES};
 use crate::programs::{EXPRESSIONS, PROGRAMS, STATEMENTS};
+use crate::quantified::WHENS;
 use std::alloc::{AllocError, Global};
 use std::fmt::Write;
 use std::test::Fail;
@@ -15,6 +16,7 @@ use sz_tree::Tree;
 const ROWS: &[&str] = &[
     PROGRAMS,
     STATEMENTS,
+    WHENS,
     EXPRESSIONS,
     TABLES,
     EMITS,

@@ -7,3 +7,5 @@ mod declarations;
 mod judged;
 #[cfg(test)]
 mod programs;
+#[cfg(test)]
+mod quantified;

@@ -8,8 +8,8 @@ x: int = input;$while (x > 0) x = x - 1; => fine
 best: table maximum(2) of string weight w: int;$s: string = input;$emit best <- s weight 5; => fine
 s: table set(2) of string;$r: string = input;$emit s <- r; => fine
 t: table collection of string;$s: string = input;$emit t <- s; => fine
-at: table collection of {i: int, j: int};$a: array of int = {1, 2, 2};$b: array of int = {2};$when (i, j: some int; a[i] == b[j]) emit at <- {i, j}; => 23 at 4:1
-c: table sum of int;$a: array of int = {};$b: array of int = {1, 2, 3};$when (i: all int; a[i] > 0) emit c <- 1; => 23 at 4:1
+at: table collection of {i: int, j: int};$a: array of int = {1, 2, 2};$b: array of int = {2};$when (i, j: some int; a[i] == b[j]) emit at <- {i, j}; => fine
+c: table sum of int;$a: array of int = {};$b: array of int = {1, 2, 3};$when (i: all int; a[i] > 0) emit c <- 1; => fine
 type M = proto { a: int @ 1, b: array of int @ 2 };$m: M = input;$out: table collection of {a: int, b: array of int};$emit out <- {m.a, m.b}; => fine
 type Query = proto { country: string @ 1, at: time @ 2, text: string @ 3 };$q: Query = input;$hits: table sum[country: string][hour: int] of int;$emit hits[q.country][int(q.at) / 3600000000 % 24] <- 1; => fine
 t: table collection of int;$s: string = input;$emit t <- len(s);$emit t <- s[1];$emit t <- strfind(\"b\", s);$emit t <- len(bytes(s));$emit t <- s[9]; => fine
@@ -94,7 +94,7 @@ x: int; x: function(): int { return 1; } => 7 at 1:9: x
 f: function(a: int, a: int): int { return 1; } => 7 at 1:21: a
 x: int; x := 1; => 7 at 1:9: x
 x: int; y: x; => 8 at 1:12: x
-when (i: some int; i > 0) ; => 23 at 1:1";
+when (i: some int; i > 0) ; => 19 at 1:7: i";
 
 /// Each form of expression, and the refusals that are its own.
 pub const EXPRESSIONS: &str =

@@ -3,7 +3,7 @@ use Rattle.std.specs.Prelude.{List, [], ◌∷◌, Bool, true, false, ◌||◌, 
 use Rattle.sz_core.specs.Nodes.{Node, node, Form, constant, local, static, input, call, builtin, def, convert, array, tuple, mapping, index, slice, field}
 use Rattle.sz_core.specs.Nodes.{unary, binary, both, either, Nodes, no_nodes, with_node, Pairings, no_pairings, with_pairing}
 use Rattle.sz_core.specs.Statements.{Step, at_index, at_field, Stm, block, clear, keep, store, evaluate, branch, while, do_while, for_loop, break, continue}
-use Rattle.sz_core.specs.Statements.{return_value, end_record, emit, Stms, no_stms, with_stm}
+use Rattle.sz_core.specs.Statements.{return_value, end_record, emit, when, Stms, no_stms, with_stm}
 use Rattle.sz_core.specs.Programs.{Signature}
 
 -- whether the function is known to emit; one that isn't among them doesn't
@@ -73,6 +73,8 @@ module _ (functions : List Signature) where
     stm_emits (return_value p e) = node_emits e
     stm_emits (end_record p) = false
     stm_emits (emit p n es e w) = true
+    -- what the candidates are made of are parts of the condition
+    stm_emits (when p vs c s) = node_emits c || stm_emits s
 
     pub stms_emit : Stms → Bool
     stms_emit no_stms = false

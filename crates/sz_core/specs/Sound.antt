@@ -1,12 +1,13 @@
 -- Which checked programs are sound: each name is seen where it stands, each expression has its type, and no rule of
 -- statements and declarations is broken.
-use Rattle.std.specs.Prelude.{◌≡◌, ℕ, zero, suc, ◌<◌, List, [], ◌∷◌, ◌++◌, length, map, slice_get, Bool, true, false, Option, Some, None, IfSome}
+use Rattle.std.specs.Prelude.{◌≡◌, ℕ, zero, suc, ◌<◌, List, [], ◌∷◌, ◌++◌, length, map, filter, slice_get, Bool, true, false, ◌&&◌, not, if◌then◌else◌}
+use Rattle.std.specs.Prelude.{Option, Some, None, IfSome}
 use Rattle.std.specs.List.{Contains}
 use Rattle.sz_types.specs.Data.{Shape}
 use Rattle.sz_types.specs.Tables.{Declaration}
 use Rattle.sz_core.specs.Nodes.{Node, type_of, types_of}
 use Rattle.sz_core.specs.Statements.{Step, at_index, at_field, Stm, block, clear, keep, store, evaluate, branch, while, do_while, for_loop, break, continue}
-use Rattle.sz_core.specs.Statements.{return_value, end_record, emit, Stms, no_stms, with_stm}
+use Rattle.sz_core.specs.Statements.{return_value, end_record, emit, Quantity, all, Quantified, when, Stms, no_stms, with_stm}
 use Rattle.sz_core.specs.Programs.{Signature, Function, Static, Item, Core, tables_of, functions_of, statics_of}
 use Rattle.sz_core.specs.Programs as items
 use Rattle.sz_core.specs.Emitting.{body_emits}
@@ -31,6 +32,10 @@ pub record Around : Type 0 where
 -- the place inside a loop's body
 abbrev pub in_loop : Around → Around
 in_loop a = record a { loop = true }
+
+-- the place inside a `when`: no loop outside is reached
+abbrev pub out_of_loops : Around → Around
+out_of_loops a = record a { loop = false }
 
 -- what is seen behind a statement
 abbrev pub seen_behind : Sight → Stm → Sight
@@ -59,13 +64,64 @@ IsWeightOf g None None = Unit {0}
 IsWeightOf g (Some t) (Some e) = IsNode g e × (type_of e ≡ t)
 IsWeightOf g _ _ = ⊥
 
+-- the type of the candidates that a value of a type has: of bounds of its slices, or of indexes and keys
+abbrev pub candidate_type : Bool → Shape → Option Shape
+candidate_type slice (Shape.array t) = Some Shape.int
+candidate_type slice Shape.str = Some Shape.int
+candidate_type slice Shape.bytes = Some Shape.int
+candidate_type false (Shape.mapping k v) = Some k
+candidate_type _ _ = None
+
+-- a place where nothing that emits may be called
+abbrev pub in_condition : Sight → Sight
+in_condition g = record g { may_emit = false }
+
+-- what is seen where the variable is bound, which nothing assigns
+abbrev pub with_bound : Quantified → Sight → Sight
+with_bound v g = record g { seen = v.local ∷ g.seen; fixed = v.local ∷ g.fixed }
+
+-- so where all of these are
+abbrev pub with_all_bound : List Quantified → Sight → Sight
+with_all_bound [] g = g
+with_all_bound (v ∷ vs) g = with_all_bound vs (with_bound v g)
+
+-- whether the variable speaks of all candidates
+abbrev pub is_for_all : Quantified → Bool
+is_for_all v = is_all v.quantity
+  where
+    is_all : Quantity → Bool
+    is_all all = true
+    is_all _ = false
+
+-- the variables that are bound where the statement inside runs: some candidate, or each, but not all
+abbrev pub bound_inside : List Quantified → List Quantified
+bound_inside vs = filter (λ v. not (is_for_all v)) vs
+
+-- whether no other variable stands behind one that speaks of all candidates
+abbrev pub are_for_all : List Quantified → Bool
+are_for_all [] = true
+are_for_all (v ∷ vs) = is_for_all v && are_for_all vs
+
+abbrev pub is_all_last : List Quantified → Bool
+is_all_last [] = true
+is_all_last (v ∷ vs) = if is_for_all v then are_for_all vs else is_all_last vs
+
+-- each variable can be declared, has the type of its candidates, and those are made of what is seen before it is bound
+abbrev pub AreQuantified : Sight → List Quantified → Type 0
+AreQuantified g [] = Unit {0}
+AreQuantified g (v ∷ vs) =
+    IsNode g v.base × IsFree g v.local × ((t : Shape) × (slice_get g.locals v.local ≡ Some t) × (candidate_type v.slice (type_of v.base) ≡ Some t))
+    × AreQuantified (with_bound v g) vs
+
 unfoldable mutual
   -- the statement is sound
   pub IsStm : Sight → Around → Stm → Type 0
   IsStm g a (block ss) = AreStms g a ss
   IsStm g a (clear n) = (n < length g.locals) × IsFree g n
   IsStm g a (keep p n e) = IsNode g e × (slice_get g.locals n ≡ Some (type_of e)) × IsFree g n
-  IsStm g a (store p n steps e) = Contains g.seen n × IsNode g e × ((t : Shape) × (slice_get g.locals n ≡ Some t) × LeadTo g t steps (type_of e))
+  IsStm g a (store p n steps e) =
+      Contains g.seen n × IsNode g e × ((t : Shape) × (slice_get g.locals n ≡ Some t) × LeadTo g t steps (type_of e))
+      × (Contains g.fixed n → ⊥)
   IsStm g a (evaluate p e) = IsNode g e × IsCall e
   IsStm g a (branch p c s t) = IsTest g c × IsStm g a s × IsStm g a t
   IsStm g a (while p c s) = IsTest g c × IsStm g (in_loop a) s
@@ -78,6 +134,9 @@ unfoldable mutual
   IsStm g a (emit p n es e w) =
       AreNodes g es × IsNode g e × ((d : Declaration) × (slice_get g.tables n ≡ Some d) × (types_of es ≡ d.indexes) × (type_of e ≡ d.element)
       × IsWeightOf g d.weight w)
+  IsStm g a (when p vs c s) =
+      AreQuantified (in_condition g) vs × IsTest (with_all_bound vs (in_condition g)) c × (is_all_last vs ≡ true)
+      × IsStm (with_all_bound (bound_inside vs) g) (out_of_loops a) s
 
   -- each statement is sound, and sees what those before it declare
   pub AreStms : Sight → Around → Stms → Type 0
@@ -108,6 +167,7 @@ abbrev pub static_sight : Declared → Sight
 static_sight d = record {
   locals = [];
   seen = [];
+  fixed = [];
   statics = d.statics;
   functions = d.functions;
   tables = [];
@@ -120,6 +180,7 @@ abbrev pub function_sight : Declared → Function → Sight
 function_sight d f = record {
   locals = f.locals;
   seen = first_numbers (length f.signature.parameters);
+  fixed = [];
   statics = d.statics;
   functions = d.functions ++ f.signature ∷ [];
   tables = d.tables;
@@ -156,6 +217,7 @@ abbrev pub record_sight : List Shape → List ℕ → Declared → Sight
 record_sight locals seen d = record {
   locals = locals;
   seen = seen;
+  fixed = [];
   statics = d.statics;
   functions = d.functions;
   tables = d.tables;

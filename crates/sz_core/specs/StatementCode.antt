@@ -1,13 +1,13 @@
 -- How the logic stores checked statements.
-use Rattle.std.specs.Prelude.{◌≡◌, ℕ, List, Option, ◌⊎◌}
+use Rattle.std.specs.Prelude.{◌≡◌, ℕ, zero, suc, List, Option, Bool, ◌⊎◌}
 use Rattle.std.proofs.Common.{refl, ap, arith, inl, inr}
-use Rattle.std.specs.Coded.{Coded, code_by, coded_ℕ, coded_list, coded_option, coded⊎}
+use Rattle.std.specs.Coded.{Coded, code_by, coded_ℕ, coded_bool, coded_list, coded_option, coded×, coded⊎}
 use base.Stored.{Gv, gnil, gnum, gcons, num}
 use Rattle.sz_core.specs.OperatorCode.{place_code}
 use Rattle.sz_core.specs.Nodes.{Node}
 use Rattle.sz_core.specs.NodeCode.{head, tail, is_pair, node_tree, node_apart, nodes_tree, nodes_apart, node_code}
 use Rattle.sz_core.specs.Statements.{Step, at_index, at_field, Stm, block, clear, keep, store, evaluate, branch, while, do_while, for_loop, break, continue}
-use Rattle.sz_core.specs.Statements.{return_value, end_record, emit, Stms, no_stms, with_stm}
+use Rattle.sz_core.specs.Statements.{Quantity, some, each, all, Quantified, when, return_value, end_record, emit, Stms, no_stms, with_stm}
 
 -- a step as an expression or a place
 abbrev step_parts : Step → Node ⊎ ℕ
@@ -28,6 +28,28 @@ steps_code = coded_list (code_by (Node ⊎ ℕ) (coded⊎ node_code coded_ℕ) s
 abbrev option_code : Coded (Option Node)
 option_code = coded_option node_code
 
+-- how a variable is quantified, as a number
+abbrev quantity_number : Quantity → ℕ
+quantity_number some = 0
+quantity_number each = 1
+quantity_number all = 2
+
+abbrev quantity_at : ℕ → Quantity
+quantity_at zero = some
+quantity_at (suc zero) = each
+quantity_at (suc (suc n)) = all
+
+pub quantity_again : (q : Quantity) → quantity_at (quantity_number q) ≡ q
+quantity_again some = refl
+quantity_again each = refl
+quantity_again all = refl
+
+abbrev quantified_code : Coded (List Quantified)
+quantified_code = coded_list (code_by (ℕ × (ℕ × (Node × Bool))) (coded× coded_ℕ (coded× coded_ℕ (coded× node_code coded_bool)))
+    (λ v. (quantity_number v.quantity, (v.local, (v.base, v.slice))))
+    (λ p. record { quantity = quantity_at p.0; local = p.1.0; base = p.1.1.0; slice = p.1.1.1 })
+    (λ v i. record { quantity = quantity_again v.quantity i; local = v.local; base = v.base; slice = v.slice }))
+
 abbrev mutual
   pub stm_tree : Stm → Gv
   stm_tree (block ss) = gcons (gnum 0) (stms_tree ss)
@@ -45,6 +67,8 @@ abbrev mutual
   stm_tree (end_record p) = gcons (gnum 12) (place_code.code p)
   stm_tree (emit p n es e w) =
       gcons (gnum 13) (gcons (place_code.code p) (gcons (gnum n) (gcons (nodes_tree es) (gcons (node_tree e) (option_code.code w)))))
+  stm_tree (when p vs c s) =
+      gcons (gnum 14) (gcons (place_code.code p) (gcons (quantified_code.code vs) (gcons (node_tree c) (stm_tree s))))
 
   pub stms_tree : Stms → Gv
   stms_tree no_stms = gnil
@@ -94,6 +118,9 @@ mutual
   stm_apart (emit p m es e w) (emit q n fs f x) h =
       λ i. emit (place_code.inj p q (ap first h) i) (num (second (h i))) (nodes_apart es fs (ap third h) i)
       (node_apart e f (ap fourth h) i) (option_code.inj w x (ap (λ g. tail (tail (tail (tail (tail g))))) h) i)
+  stm_apart (when p vs c s) (when q ws d t) h =
+      λ i. when (place_code.inj p q (ap first h) i) (quantified_code.inj vs ws (ap second h) i) (node_apart c d (ap third h) i)
+      (stm_apart s t (ap (λ g. tail (tail (tail (tail g)))) h) i)
   stm_apart s t h = absurd (let kinds = ap (λ g. num (head g)) h in omega arith)
 
   pub stms_apart : (x y : Stms) → stms_tree x ≡ stms_tree y → x ≡ y

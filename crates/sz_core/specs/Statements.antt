@@ -1,5 +1,5 @@
 -- Checked statements. Each has the place of its first token where a run can end there.
-use Rattle.std.specs.Prelude.{ℕ, Option, List, [], ◌∷◌}
+use Rattle.std.specs.Prelude.{ℕ, Bool, Option, List, [], ◌∷◌}
 use Rattle.sz_types.specs.declared.place.Place.{Place}
 use Rattle.sz_core.specs.Nodes.{Node, Nodes}
 
@@ -7,6 +7,20 @@ use Rattle.sz_core.specs.Nodes.{Node, Nodes}
 pub data Step : Type 0 where
   at_index : Node → Step
   at_field : ℕ → Step
+
+-- how many of its candidates a variable of `when` speaks of
+pub data Quantity : Type 0 where
+  some : Quantity
+  each : Quantity
+  all : Quantity
+
+-- a variable of `when`: how it is quantified, its number, what its candidates are made of, and whether they are the bounds of
+-- slices of it and not its indexes or keys
+pub record Quantified : Type 0 where
+  pub quantity : Quantity
+  pub local : ℕ
+  pub base : Node
+  pub slice : Bool
 
 mutual
   -- a statement
@@ -29,6 +43,8 @@ mutual
     return_value : Place → Node → Stm
     end_record : Place → Stm
     emit : Place → (table : ℕ) → Nodes → Node → Option Node → Stm
+    -- the variables in order, the condition, and what is done where it holds
+    when : Place → List Quantified → Node → Stm → Stm
 
   -- statements, one after the other
   pub data Stms : Type 0 where

@@ -13,12 +13,13 @@ use Rattle.sz_core.specs.Nodes.{field as part, unary, binary, both, either, Node
 use Rattle.sz_core.specs.Programs.{Signature}
 use Rattle.sz_core.specs.WellFormed.{is_well_formed, are_well_formed}
 
--- what can be used at a place: the variables of the routine with their types, and the numbers of those that are seen; the
--- statics, functions and tables that are declared before; whether the record is seen; and whether a function that emits may
--- be called
+-- what can be used at a place: the variables of the routine with their types, the numbers of those that are seen, and the
+-- numbers of those that can't be assigned; the statics, functions and tables that are declared before; whether the record is
+-- seen; and whether a function that emits may be called
 pub record Sight : Type 0 where
   pub locals : List Shape
   pub seen : List ℕ
+  pub fixed : List ℕ
   pub statics : List Shape
   pub functions : List Signature
   pub tables : List Declaration

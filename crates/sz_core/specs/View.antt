@@ -11,6 +11,9 @@ use Rattle.sz_core.specs.declared.expr.Form.{more_of-CorePair}
 use Rattle.sz_core.specs.declared.expr.Form.TheVariants as forms
 use Rattle.sz_core.specs.declared.stmt.CoreStep.{CoreStep}
 use Rattle.sz_core.specs.declared.stmt.CoreStep.TheVariants as steps
+use Rattle.sz_core.specs.declared.stmt.CoreQuantity.{CoreQuantity}
+use Rattle.sz_core.specs.declared.stmt.CoreQuantity.TheVariants as quantities
+use Rattle.sz_core.specs.declared.stmt.Quantified.{Quantified as CoreQuantified}
 use Rattle.sz_core.specs.declared.stmt.CoreStmt.{CoreStmt, Row_of-CoreStmt, end_of-CoreStmt, more_of-CoreStmt}
 use Rattle.sz_core.specs.declared.stmt.CoreStmt.TheVariants as stmts
 use Rattle.sz_core.specs.declared.program.Signature.{Signature as CoreSignature}
@@ -21,7 +24,7 @@ use Rattle.sz_core.specs.declared.program.Item.TheVariants as items
 use Rattle.sz_core.specs.Nodes.{nodes_of, Node, node, Form, constant, local, static, input, call, builtin, def, convert, array, tuple, mapping, index, slice}
 use Rattle.sz_core.specs.Nodes.{field, unary, binary, both, either, Nodes, no_nodes, with_node, Pairings, no_pairings, with_pairing}
 use Rattle.sz_core.specs.Statements.{Step, at_index, at_field, Stm, block, clear, keep, store, evaluate, branch, while, do_while, for_loop, break, continue}
-use Rattle.sz_core.specs.Statements.{return_value, end_record, emit, Stms, no_stms, with_stm, stms_of}
+use Rattle.sz_core.specs.Statements.{Quantity, some, each, all, Quantified, when, return_value, end_record, emit, Stms, no_stms, with_stm, stms_of}
 use Rattle.sz_core.specs.Programs.{Signature, Function, Static, Item, table, function, statement}
 use Rattle.sz_core.specs.Programs as program
 
@@ -71,6 +74,15 @@ abbrev pub step_of : CoreStep → Step
 step_of (steps.Index e) = at_index (node_of e)
 step_of (steps.Field n) = at_field n
 
+-- a variable of `when`, and how it is quantified
+abbrev pub quantity_of : CoreQuantity → Quantity
+quantity_of quantities.«Some» = some
+quantity_of quantities.Each = each
+quantity_of quantities.All = all
+
+abbrev pub quantified_of : CoreQuantified → Quantified
+quantified_of v = record { quantity = quantity_of v.quantity; local = v.local; base = node_of v.base; slice = v.slice }
+
 abbrev mutual
   -- a statement
   pub stm_of : CoreStmt → Stm
@@ -88,6 +100,7 @@ abbrev mutual
   stm_of (stmts.Return p e) = return_value p (node_of e)
   stm_of (stmts.EndRecord p) = end_record p
   stm_of (stmts.Emit p n es e w) = emit p n (nodes_of (map node_of es.items)) (node_of e) (option_map node_of w)
+  stm_of (stmts.When' p vs c a s) = when p (map quantified_of vs.items) (node_of c) (stm_of s)
 
   -- the statements of a row
   pub stms_of_row : {m : _} → Row_of-CoreStmt m → Stms

@@ -15,4 +15,4 @@ pub use laws::{
     what_is_declared_before_is_a_front,
 };
 pub use program::{Function, Item, Program, Signature, Static};
-pub use stmt::{CoreStep, CoreStmt};
+pub use stmt::{CoreQuantity, CoreStep, CoreStmt, Quantified};

@@ -15,6 +15,26 @@ pub enum CoreStep {
     Field(u32),
 }
 
+/// How many of its candidates a variable of a `when` speaks of.
+#[derive(Clone, Copy)]
+pub enum CoreQuantity {
+    Some,
+    Each,
+    All,
+}
+
+/// A variable of a `when`. Contracts see it by `quantified_of` of `specs/View.antt`.
+#[derive(Drop)]
+pub struct Quantified {
+    pub quantity: CoreQuantity,
+    /// Its number among the variables, counted from 0.
+    pub local: u32,
+    /// What its candidates are made of: an array, a string, a byte string or a map.
+    pub base: CoreExpr,
+    /// Whether the candidates are the bounds of slices of the base, and not its indexes or keys.
+    pub slice: bool,
+}
+
 /// A statement. Variables and tables go by their numbers, each kind from 0. A `Place` is where the statement begins: its first
 /// token, which for a declaration or an assignment is the name. Contracts see it by `stm_of` of `specs/View.antt`.
 #[derive(Drop)]
@@ -47,6 +67,8 @@ pub enum CoreStmt {
     EndRecord(Place),
     /// The table, the indexes, the value, and the weight where the table has one.
     Emit(Place, u32, Vec<CoreExpr>, CoreExpr, Option<CoreExpr>),
+    /// The variables in order, the condition, and what is done where it holds.
+    When(Place, Vec<Quantified>, CoreExpr, Box<CoreStmt>),
 }
 
 impl CoreStmt {

@@ -16,11 +16,13 @@ use Rattle.sz_scope.specs.declared.error.ScopeError.{ScopeError}
 use Rattle.sz_scope.specs.declared.error.ScopeError.TheVariants.{Twice, NoMemory}
 use Rattle.sz_scope.specs.declared.sight.Sight.{Sight}
 use Rattle.sz_scope.specs.declared.sight.Sight.TheVariants as sights
+use Rattle.sz_known.specs.declared.site.Site.{Site}
+use Rattle.sz_known.specs.declared.site.Site.TheVariants as sites
 use Rattle.sz_known.specs.declared.meaning.Meaning.{Meaning as Kept}
 use Rattle.sz_known.specs.declared.meaning.Meaning.TheVariants as held
 use Rattle.sz_known.specs.Names.{Meaning, Named, Block, has, meaning_in, only, is_seen_by_functions, is_seen_by_statics}
 use Rattle.sz_known.specs.Names as names
-use Rattle.sz_known.specs.Holding.{meaning_of, Held, blocks_for, in_function}
+use Rattle.sz_known.specs.Holding.{meaning_of, Held, blocks_of, blocks_for, in_function}
 use Rattle.sz_known.specs.Keeping.{floor_of, seen_from, sits_in, fitting, sight_for, place_of, placed, is_new, kept_at, meaning_by, block_by, blocks_by}
 use Rattle.sz_known.specs.Keeping.{held_of, with_name, with_type, IsPlaced, ArePlacedIn, ArePlaced, IsTyped, AreTyped, IsKept}
 
@@ -47,6 +49,7 @@ module _ (types : List Shape) (meanings : List Kept) where
   of_routine : (sight : Sight) (count depth : ℕ) (place : ℕ) (m : Kept) → sits_in sight count ≡ true
       → is_seen sight [] depth (placed place m) ≡ (nat_le (floor_of sight) depth || is_seen_by_functions (meaning_of types m))
   of_routine sights.Record count depth place (held.Variable v t) s = sym (ap (λ b. b || false) (le-leb 0 depth (omega arith)))
+  of_routine sights.Record count depth place (held.Quantified v t) s = sym (ap (λ b. b || false) (le-leb 0 depth (omega arith)))
   of_routine sights.Record count depth place (held.Static v t) s = sym (ap (λ b. b || true) (le-leb 0 depth (omega arith)))
   of_routine sights.Record count depth place (held.«Type» t) s = sym (ap (λ b. b || true) (le-leb 0 depth (omega arith)))
   of_routine sights.Record count depth place (held.Table v t) s = sym (ap (λ b. b || true) (le-leb 0 depth (omega arith)))
@@ -54,6 +57,7 @@ module _ (types : List Shape) (meanings : List Kept) where
   of_routine sights.Record count depth place (held.Predeclared b) s = sym (ap (λ b. b || true) (le-leb 0 depth (omega arith)))
   of_routine sights.Record count depth place held.Input s = sym (ap (λ b. b || false) (le-leb 0 depth (omega arith)))
   of_routine (sights.Function outside) count depth place (held.Variable v t) s = refl
+  of_routine (sights.Function outside) count depth place (held.Quantified v t) s = refl
   of_routine (sights.Function outside) count depth place (held.Static v t) s = refl
   of_routine (sights.Function outside) count depth place (held.«Type» t) s = refl
   of_routine (sights.Function outside) count depth place (held.Table v t) s = refl
@@ -65,6 +69,7 @@ module _ (types : List Shape) (meanings : List Kept) where
   of_static : (depth : ℕ) (place : ℕ) (m : Kept)
       → is_seen sights.Static [] depth (placed place m) ≡ is_seen_by_statics (meaning_of types m)
   of_static depth place (held.Variable v t) = refl
+  of_static depth place (held.Quantified v t) = refl
   of_static depth place (held.Static v t) = refl
   of_static depth place (held.«Type» t) = refl
   of_static depth place (held.Table v t) = refl
@@ -195,6 +200,7 @@ only_seen test strict sight (block ∷ blocks) = λ i. by (nat_le (floor_of sigh
 
 statics_see_less : (m : Meaning) → is_seen_by_functions m ≡ false → is_seen_by_statics m ≡ false
 statics_see_less (names.variable n t) e = refl
+statics_see_less (names.quantified n t) e = refl
 statics_see_less (names.static n t) e = e
 statics_see_less (names.type_name t) e = e
 statics_see_less (names.table n d) e = refl
@@ -258,11 +264,10 @@ module _ (types : List Shape) (meanings : List Kept) where
       (λ what p. static_sees types meanings (length blocks) what p) block h.0 i
       ∷ seen_by_static blocks h.1 i
 
-  blocks_seen : (sight : Sight) (locals : List Shape) (may_emit : Bool) (blocks : List scopes.Block) → IsKept types meanings blocks sight
-      → blocks_by types meanings (seen_blocks (sight_for sight may_emit) [] blocks)
-      ≡ blocks_for (held_of (blocks_by types meanings blocks) sight types locals) may_emit
-  blocks_seen sight locals may_emit [] k = absurd (omega (arith, k.some))
-  blocks_seen sight locals true (block ∷ blocks) k =
+  seen_by_statement : (sight : Sight) (locals : List Shape) (blocks : List scopes.Block) → IsKept types meanings blocks sight
+      → blocks_by types meanings (seen_blocks sight [] blocks) ≡ blocks_of (held_of (blocks_by types meanings blocks) sight types locals)
+  seen_by_statement sight locals [] k = absurd (omega (arith, k.some))
+  seen_by_statement sight locals (block ∷ blocks) k =
       seen_by_routine sight (length (block ∷ blocks) - 1) k.sits (block ∷ blocks) k.placed
       ∙ ap (λ (b : Block). b ∷ seen_from sight (blocks_by types meanings blocks))
       (cond-true (nat_le (floor_of sight) (length (blocks_by types meanings blocks))) (block_by types meanings block)
@@ -271,19 +276,26 @@ module _ (types : List Shape) (meanings : List Kept) where
     where
       within : floor_of sight ≤ length (blocks_by types meanings blocks)
       within = omega (arith, sits_floor sight (length (block ∷ blocks) - 1) k.sits, length_by types meanings blocks)
-  blocks_seen sight locals false (block ∷ blocks) k =
+
+  blocks_seen : (sight : Sight) (locals : List Shape) (site : Site) (blocks : List scopes.Block) → IsKept types meanings blocks sight
+      → blocks_by types meanings (seen_blocks (sight_for sight site) [] blocks)
+      ≡ blocks_for (held_of (blocks_by types meanings blocks) sight types locals) site
+  blocks_seen sight locals site [] k = absurd (omega (arith, k.some))
+  blocks_seen sight locals sites.Statement blocks k = seen_by_statement sight locals blocks k
+  blocks_seen sight locals sites.Condition blocks k = seen_by_statement sight locals blocks k
+  blocks_seen sight locals sites.Static (block ∷ blocks) k =
       seen_by_static (block ∷ blocks) k.placed
       ∙ ap (λ (bs : List Block). filter (λ (n : Named). is_seen_by_statics n.meaning) (block_by types meanings block) ∷ bs)
       (sym (only_seen is_seen_by_statics statics_see_less sight (blocks_by types meanings blocks)))
 
   -- what is found by the list of meanings is what the name stands for
-  pub find_is : (name : List ℕ) (locals : List Shape) (may_emit : Bool) (blocks : List scopes.Block) (sight : Sight) → IsKept types meanings blocks sight
-      → (o : Option Place) → o ≡ found name (seen_blocks (sight_for sight may_emit) [] blocks)
-      → option_map (meaning_by types meanings) o ≡ names.meaning_of name (blocks_for (held_of (blocks_by types meanings blocks) sight types locals) may_emit)
-  find_is name locals may_emit blocks sight k o p =
+  pub find_is : (name : List ℕ) (locals : List Shape) (site : Site) (blocks : List scopes.Block) (sight : Sight) → IsKept types meanings blocks sight
+      → (o : Option Place) → o ≡ found name (seen_blocks (sight_for sight site) [] blocks)
+      → option_map (meaning_by types meanings) o ≡ names.meaning_of name (blocks_for (held_of (blocks_by types meanings blocks) sight types locals) site)
+  find_is name locals site blocks sight k o p =
       ap (option_map (meaning_by types meanings)) p
-      ∙ found_means types meanings name (seen_blocks (sight_for sight may_emit) [] blocks)
-      ∙ ap (names.meaning_of name) (blocks_seen sight locals may_emit blocks k)
+      ∙ found_means types meanings name (seen_blocks (sight_for sight site) [] blocks)
+      ∙ ap (names.meaning_of name) (blocks_seen sight locals site blocks k)
 
   pub found_placed : (name : List ℕ) (sees : Sight) (blocks : List scopes.Block) (sight : Sight) → IsKept types meanings blocks sight
       → (what : Place) → Some what ≡ found name (seen_blocks sees [] blocks) → IsPlaced meanings what
@@ -368,6 +380,7 @@ module _ (types : List Shape) (meanings : List Kept) (m : Kept) where
 
 placed_last : (meanings : List Kept) (m : Kept) → IsPlaced (meanings ++ m ∷ []) (placed (length meanings) m)
 placed_last meanings (held.Variable v t) = ap (option_map (placed (length meanings))) (get_last meanings (held.Variable v t))
+placed_last meanings (held.Quantified v t) = ap (option_map (placed (length meanings))) (get_last meanings (held.Quantified v t))
 placed_last meanings (held.Static v t) = ap (option_map (placed (length meanings))) (get_last meanings (held.Static v t))
 placed_last meanings (held.«Type» t) = ap (option_map (placed (length meanings))) (get_last meanings (held.«Type» t))
 placed_last meanings (held.Table v t) = ap (option_map (placed (length meanings))) (get_last meanings (held.Table v t))
@@ -377,6 +390,7 @@ placed_last meanings held.Input = refl
 
 means_last : (types : List Shape) (meanings : List Kept) (m : Kept) → meaning_by types (meanings ++ m ∷ []) (placed (length meanings) m) ≡ meaning_of types m
 means_last types meanings (held.Variable v t) = ap (λ o. option_map_or (meaning_of types) o names.input) (get_last meanings (held.Variable v t))
+means_last types meanings (held.Quantified v t) = ap (λ o. option_map_or (meaning_of types) o names.input) (get_last meanings (held.Quantified v t))
 means_last types meanings (held.Static v t) = ap (λ o. option_map_or (meaning_of types) o names.input) (get_last meanings (held.Static v t))
 means_last types meanings (held.«Type» t) = ap (λ o. option_map_or (meaning_of types) o names.input) (get_last meanings (held.«Type» t))
 means_last types meanings (held.Table v t) = ap (λ o. option_map_or (meaning_of types) o names.input) (get_last meanings (held.Table v t))
@@ -420,6 +434,7 @@ has_is types meanings name (block ∷ blocks) sight locals = in_block block
 module _ (types : List Shape) (t : Shape) (meanings : List Kept) where
   meaning_same : (m : Kept) → IsTyped (length types) m → meaning_of (types ++ t ∷ []) m ≡ meaning_of types m
   meaning_same (held.Variable n s) h = refl
+  meaning_same (held.Quantified n s) h = refl
   meaning_same (held.Static n s) h = refl
   meaning_same (held.«Type» n) h = ap (λ o. names.type_name (unwrap_or o Shape.truth)) (get_before types t n h)
   meaning_same (held.Table n d) h = refl
@@ -456,6 +471,7 @@ module _ (types : List Shape) (t : Shape) (meanings : List Kept) where
     where
       one : (m : Kept) → IsTyped (length types) m → IsTyped (length (types ++ t ∷ [])) m
       one (held.Variable n s) h = tt
+      one (held.Quantified n s) h = tt
       one (held.Static n s) h = tt
       one (held.«Type» n) h = omega (arith, h, length_push types t)
       one (held.Table n d) h = tt

@@ -20,7 +20,8 @@ module _ (P : Meaning → Type 0) where
   found_next true m o p h = p
   found_next false m o p h = h
 
-  found_in : (name : List ℕ) (block : Block) → MeansIn block → IfSome (meaning_in name block) P
+  -- what a name stands for in a block, and in blocks, has the property
+  pub found_in : (name : List ℕ) (block : Block) → MeansIn block → IfSome (meaning_in name block) P
   found_in name [] h = tt
   found_in name (n ∷ block) h = found_next (bytes_eq name n.name) n.meaning (meaning_in name block) h.0 (found_in name block h.1)
 
@@ -28,7 +29,7 @@ module _ (P : Meaning → Type 0) where
   either (Some x) y h k = h
   either None y h k = k
 
-  found : (name : List ℕ) (blocks : List Block) → Mean blocks → IfSome (meaning_of name blocks) P
+  pub found : (name : List ℕ) (blocks : List Block) → Mean blocks → IfSome (meaning_of name blocks) P
   found name [] h = tt
   found name (block ∷ blocks) h = either (meaning_in name block) (meaning_of name blocks) (found_in name block h.0) (found name blocks h.1)
 

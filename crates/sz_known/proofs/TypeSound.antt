@@ -35,6 +35,7 @@ basic_formed basics.Time = refl
 -- so is the type that a name stands for
 pub named_formed : (g : Sight) (n : Ident) (m : Meaning) → Fits g m → Holds (type_named n m) IsFormed
 named_formed g n (names.variable k t) h = err_holds _ _
+named_formed g n (names.quantified k t) h = err_holds _ _
 named_formed g n (names.static k t) h = err_holds _ _
 named_formed g n (names.type_name t) h = ok_holds _ t h
 named_formed g n (names.table k d) h = err_holds _ _

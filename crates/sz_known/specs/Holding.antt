@@ -7,6 +7,8 @@ use Rattle.sz_types.specs.SeenTables.{seen_table}
 use Rattle.sz_scope.specs.declared.sight.Sight.{Sight}
 use Rattle.sz_scope.specs.declared.sight.Sight.TheVariants.{Function}
 use Rattle.sz_core.specs.View.{signature_of}
+use Rattle.sz_known.specs.declared.site.Site.{Site}
+use Rattle.sz_known.specs.declared.site.Site.TheVariants as sites
 use Rattle.sz_known.specs.declared.meaning.Meaning.{Meaning as Kept}
 use Rattle.sz_known.specs.declared.meaning.Meaning.TheVariants as held
 use Rattle.sz_known.specs.declared.meaning.Means.{Means}
@@ -19,6 +21,7 @@ use Rattle.sz_known.specs.Written.{type_at}
 -- what a name stands for, where types have these numbers
 abbrev pub meaning_of : List Shape → Kept → Meaning
 meaning_of types (held.Variable n t) = names.variable n (seen t)
+meaning_of types (held.Quantified n t) = names.quantified n (seen t)
 meaning_of types (held.Static n t) = names.static n (seen t)
 meaning_of types (held.«Type» n) = names.type_name (type_at types n)
 meaning_of types (held.Table n d) = names.table n (seen_table d)
@@ -29,6 +32,7 @@ meaning_of types held.Input = names.input
 -- the same, lent
 abbrev pub means_of : Means → Meaning
 means_of (lent.Variable n t) = names.variable n (seen t.now)
+means_of (lent.Quantified n t) = names.quantified n (seen t.now)
 means_of (lent.Static n t) = names.static n (seen t.now)
 means_of (lent.«Type» t) = names.type_name (type_at t.types.now t.number)
 means_of (lent.Table n d) = names.table n (seen_table d.now)
@@ -66,10 +70,11 @@ pub record Held : Type 0 where
 abbrev pub blocks_of : Held → List Block
 blocks_of k = k.innermost ∷ k.outside.seen
 
--- the same for whom may call what emits, or for the value of a static, who may not
-abbrev pub blocks_for : Held → Bool → List Block
-blocks_for k true = blocks_of k
-blocks_for k false = only is_seen_by_statics (blocks_of k)
+-- the same where an expression stands: the value of a static sees less
+abbrev pub blocks_for : Held → Site → List Block
+blocks_for k sites.Statement = blocks_of k
+blocks_for k sites.Condition = blocks_of k
+blocks_for k sites.Static = only is_seen_by_statics (blocks_of k)
 
 -- the scene that is known
 abbrev pub scene_of : Held → Scene

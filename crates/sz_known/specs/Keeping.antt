@@ -11,6 +11,8 @@ use Rattle.sz_scope.specs.declared.error.ScopeError.{ScopeError}
 use Rattle.sz_scope.specs.declared.error.ScopeError.TheVariants.{Twice, NoMemory}
 use Rattle.sz_scope.specs.declared.sight.Sight.{Sight}
 use Rattle.sz_scope.specs.declared.sight.Sight.TheVariants as sights
+use Rattle.sz_known.specs.declared.site.Site.{Site}
+use Rattle.sz_known.specs.declared.site.Site.TheVariants as sites
 use Rattle.sz_known.specs.declared.meaning.Meaning.{Meaning as Kept}
 use Rattle.sz_known.specs.declared.meaning.Meaning.TheVariants as held
 use Rattle.sz_known.specs.Names.{Meaning, Named, Block, input, is_seen_by_functions}
@@ -38,10 +40,11 @@ abbrev pub fitting : Sight → ℕ → Sight
 fitting (sights.Function outside) count = if nat_le outside count then sights.Function outside else sights.Record
 fitting _ count = sights.Record
 
--- the sight of who may call what emits, or of the value of a static, who may not
-abbrev pub sight_for : Sight → Bool → Sight
-sight_for sight true = sight
-sight_for sight false = sights.Static
+-- the sight of a routine's expressions, or of the value of a static
+abbrev pub sight_for : Sight → Site → Sight
+sight_for sight sites.Statement = sight
+sight_for sight sites.Condition = sight
+sight_for sight sites.Static = sights.Static
 
 -- the place in the list of meanings by which a name's meaning goes; the record has none
 abbrev pub place_of : Place → Option ℕ
@@ -57,6 +60,7 @@ place_of Input = None
 -- a meaning at a place, as the blocks keep it
 abbrev pub placed : ℕ → Kept → Place
 placed n (held.Variable v t) = Var n
+placed n (held.Quantified v t) = Quantified n
 placed n (held.Static s t) = Static n
 placed n (held.«Type» t) = TypeName n
 placed n (held.Table t d) = Table n

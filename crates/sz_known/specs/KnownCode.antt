@@ -11,15 +11,16 @@ use Rattle.sz_scope.specs.declared.sight.Sight.TheVariants.{Record, Function, St
 use Rattle.sz_core.specs.OperatorCode.{builtin_code}
 use Rattle.sz_core.specs.ProgramCode.{signature_code}
 use Rattle.sz_core.specs.Programs.{Signature}
-use Rattle.sz_known.specs.Names.{Meaning, Block, variable, static, type_name, table, function, predeclared, input}
+use Rattle.sz_known.specs.Names.{Meaning, Block, variable, quantified, static, type_name, table, function, predeclared, input}
 use Rattle.sz_known.specs.Holding.{Outside, Held}
 
 -- a meaning as one of several things: a list of at most one declaration stands for a table, or for the record itself
 abbrev Kinds : Type 0
-Kinds = ((ℕ × Shape) ⊎ (ℕ × Shape)) ⊎ (((ℕ × List Declaration) ⊎ (ℕ × Signature)) ⊎ (Shape ⊎ Builtin))
+Kinds = (((ℕ × Shape) ⊎ (ℕ × Shape)) ⊎ (ℕ × Shape)) ⊎ (((ℕ × List Declaration) ⊎ (ℕ × Signature)) ⊎ (Shape ⊎ Builtin))
 
 abbrev kinds_of : Meaning → Kinds
-kinds_of (variable n t) = inl (inl (n, t))
+kinds_of (variable n t) = inl (inl (inl (n, t)))
+kinds_of (quantified n t) = inl (inl (inr (n, t)))
 kinds_of (static n t) = inl (inr (n, t))
 kinds_of (table n d) = inr (inl (inl (n, d ∷ [])))
 kinds_of input = inr (inl (inl (0, [])))
@@ -28,7 +29,8 @@ kinds_of (type_name t) = inr (inr (inl t))
 kinds_of (predeclared b) = inr (inr (inr b))
 
 abbrev meaning_of : Kinds → Meaning
-meaning_of (inl (inl x)) = variable x.0 x.1
+meaning_of (inl (inl (inl x))) = variable x.0 x.1
+meaning_of (inl (inl (inr x))) = quantified x.0 x.1
 meaning_of (inl (inr x)) = static x.0 x.1
 meaning_of (inr (inl (inl (n, [])))) = input
 meaning_of (inr (inl (inl (n, (d ∷ ds))))) = table n d
@@ -38,6 +40,7 @@ meaning_of (inr (inr (inr b))) = predeclared b
 
 pub meaning_again : (m : Meaning) → meaning_of (kinds_of m) ≡ m
 meaning_again (variable n t) = refl
+meaning_again (quantified n t) = refl
 meaning_again (static n t) = refl
 meaning_again (type_name t) = refl
 meaning_again (table n d) = refl
@@ -47,7 +50,7 @@ meaning_again input = refl
 
 abbrev meaning_code : Coded Meaning
 meaning_code =
-    code_by Kinds (coded⊎ (coded⊎ (coded× coded_ℕ shape_code) (coded× coded_ℕ shape_code))
+    code_by Kinds (coded⊎ (coded⊎ (coded⊎ (coded× coded_ℕ shape_code) (coded× coded_ℕ shape_code)) (coded× coded_ℕ shape_code))
     (coded⊎ (coded⊎ (coded× coded_ℕ declarations_code) (coded× coded_ℕ signature_code)) (coded⊎ shape_code builtin_code)))
     kinds_of meaning_of meaning_again
 

@@ -2,6 +2,7 @@
 pub mod Refusals
 pub mod Outcome
 pub mod Names
+pub mod Sites
 pub mod JudgingTypes
 pub mod Scene
 pub mod Written

@@ -13,6 +13,8 @@ use Rattle.sz_known.specs.Refusals.{Judged, unseen, declared_twice}
 -- what a name stands for, with its number among those of its kind
 pub data Meaning : Type 0 where
   variable : ℕ → Shape → Meaning
+  -- a variable that a `when` quantifies, which has a number among the variables
+  quantified : ℕ → Shape → Meaning
   static : ℕ → Shape → Meaning
   type_name : Shape → Meaning
   table : ℕ → Declaration → Meaning
@@ -52,12 +54,14 @@ declare n m (block ∷ blocks) =
 -- whether a function sees what this name stands for outside it: not the record, and not its variables
 abbrev pub is_seen_by_functions : Meaning → Bool
 is_seen_by_functions (variable n t) = false
+is_seen_by_functions (quantified n t) = false
 is_seen_by_functions input = false
 is_seen_by_functions _ = true
 
 -- whether a static's value sees it: statics, functions and types alone
 abbrev pub is_seen_by_statics : Meaning → Bool
 is_seen_by_statics (variable n t) = false
+is_seen_by_statics (quantified n t) = false
 is_seen_by_statics input = false
 is_seen_by_statics (table n d) = false
 is_seen_by_statics _ = true

@@ -20,3 +20,9 @@ abbrev pub with_variable : Ident → Shape → Scene → Judged Scene
 with_variable n t s = do
   blocks ← names.declare n (names.variable (length s.locals) t) s.blocks
   Ok (record { blocks = blocks; locals = s.locals ++ t ∷ [] })
+
+-- the scene with a variable more that a `when` quantifies, which has the next number of all variables
+abbrev pub with_quantified : Ident → Shape → Scene → Judged Scene
+with_quantified n t s = do
+  blocks ← names.declare n (names.quantified (length s.locals) t) s.blocks
+  Ok (record { blocks = blocks; locals = s.locals ++ t ∷ [] })

@@ -6,7 +6,7 @@ ghost use Rattle.sz_known.specs.Names.{Block, Named, has, look_up, declare, type
 ghost use Rattle.sz_known.specs.Names as names;
 ghost use Rattle.sz_known.specs.Outcome.{Judges, Stops};
 ghost use Rattle.sz_known.specs.Refusals.{unseen, has_name, left_out_names};
-ghost use Rattle.sz_known.specs.Scene.{with_variable};
+ghost use Rattle.sz_known.specs.Scene.{with_variable, with_quantified};
 ghost use Rattle.sz_known.specs.Holding.{at_first, meaning_of, means_of, maybe_means_of, IsOfTypes, Held, blocks_of, blocks_for, scene_of, outside_of, in_function, IsRoundFunction};
 ghost use Rattle.sz_known.specs.Keeping.{floor_of, sits_in, place_of, placed, sight_for, fitting, with_name, with_type, IsBySight, IsTyped, without_innermost, at_no_name};
 ghost use Rattle.sz_known.specs.Written.{shape_in};
@@ -15,6 +15,7 @@ ghost use Rattle.sz_scope.specs.declared.sight.Sight.TheVariants.{Static as for_
 use crate::error::CheckError;
 use crate::meaning::{Meaning, Means};
 use crate::number::small;
+use crate::site::Site;
 use crate::taken::is_new;
 use crate::written::{NamedTypes, Written};
 use std::alloc::{AllocError, Global};
@@ -53,11 +54,14 @@ fn floor(sight: Sight) -> usize
     }
 }
 
-// The sight of who may call what emits, or of the value of a static, who may not.
-fn sight_for(sight: Sight, may_emit: bool) -> Sight
-    ensures value { result ≡ sight_for sight may_emit }
+// The sight of a routine's expressions, or of the value of a static.
+fn sight_for(sight: Sight, site: Site) -> Sight
+    ensures value { result ≡ sight_for sight site }
 {
-    if may_emit { sight } else { Sight::Static }
+    match site {
+        Site::Statement | Site::Condition => sight,
+        Site::Static => Sight::Static,
+    }
 }
 
 // The sight of a routine inside this many blocks, where it is one.
@@ -92,6 +96,7 @@ fn placed(place: u32, meaning: &Meaning) -> sz_scope::Meaning
 {
     match meaning {
         Meaning::Variable(_, _) => sz_scope::Meaning::Var(place),
+        Meaning::Quantified(_, _) => sz_scope::Meaning::Quantified(place),
         Meaning::Static(_, _) => sz_scope::Meaning::Static(place),
         Meaning::Type(_) => sz_scope::Meaning::TypeName(place),
         Meaning::Table(_, _) => sz_scope::Meaning::Table(place),
@@ -200,12 +205,12 @@ impl Known {
         self.types.add(written)
     }
 
-    // What the name stands for, if anything that is seen has it.
-    fn find(&self, may_emit: bool, name: &Name) -> Option<Means<'_>>
-        ensures value { maybe_means_of result ≡ names.meaning_of name.now.text (blocks_for self.now may_emit) }
+    /// What the name stands for where an expression stands, if anything that is seen has it.
+    pub fn find(&self, site: Site, name: &Name) -> Option<Means<'_>>
+        ensures value { maybe_means_of result ≡ names.meaning_of name.now.text (blocks_for self.now site) }
         ensures types { IfSome result (IsOfTypes self.now.outside.types) }
     {
-        let sight = sight_for(self.sight, may_emit);
+        let sight = sight_for(self.sight, site);
         let found = self.scopes.find_seen(name.text().as_str(), sight, &[])?;
         match place_of(*found) {
             Some(place) => Some(self.meanings[place].means(&self.types)),
@@ -214,17 +219,12 @@ impl Known {
     }
 
     /// What the name stands for, or the refusal 6 (or 16, for a name that is left out of the language) where nothing that is seen
-    /// has it. The value of a static, which may call nothing that emits, sees less than a statement.
-    pub fn look_up(
-        &self,
-        alloc: Global,
-        may_emit: bool,
-        name: &Name,
-    ) -> Result<Means<'_>, CheckError>
-        ensures value { Judges means_of result (look_up name.now (blocks_for self.now may_emit)) }
+    /// has it. The value of a static sees less than a statement.
+    pub fn look_up(&self, alloc: Global, site: Site, name: &Name) -> Result<Means<'_>, CheckError>
+        ensures value { Judges means_of result (look_up name.now (blocks_for self.now site)) }
         ensures types { IfOk result (IsOfTypes self.now.outside.types) }
     {
-        match self.find(may_emit, name) {
+        match self.find(site, name) {
             Some(means) => Ok(means),
             None => Err(unseen(alloc, name)),
         }
@@ -286,11 +286,22 @@ impl Known {
         Ok(number)
     }
 
-    /// Takes the newest name out of the innermost block.
-    pub fn undeclare(&mut self)
-        ensures value { (n : Named) (b : Block) → self.old.innermost ≡ n ∷ b → self.new ≡ record self.old { innermost = b } }
+    /// A variable more that a `when` quantifies, which has the next number of all variables of its routine; or the refusal 7.
+    pub fn declare_quantified(
+        &mut self,
+        alloc: Global,
+        name: &Name,
+        ty: Ty,
+    ) -> Result<u32, CheckError>
+        ensures value { Judges (λ _. scene_of self.new) result (with_quantified name.now (seen ty) (scene_of self.old)) }
+        ensures number { IfOk result (λ number. number ≡ length self.old.locals) }
+        ensures outside { self.new.outside ≡ self.old.outside }
     {
-        self.scopes.undeclare();
+        let number = small(self.locals.len())?;
+        let copy = copy_ty(alloc, &ty)?;
+        self.declare(alloc, name, Meaning::Quantified(number, copy))?;
+        self.locals.push(ty)?;
+        Ok(number)
     }
 
     /// An empty block more, inside.

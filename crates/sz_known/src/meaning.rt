@@ -10,6 +10,8 @@ use sz_types::{Builtin, TableDecl, Ty};
 #[derive(Drop)]
 pub enum Meaning {
     Variable(u32, Ty),
+    /// A variable that a `when` quantifies, which can't be assigned.
+    Quantified(u32, Ty),
     Static(u32, Ty),
     Type(u32),
     Table(u32, TableDecl),
@@ -22,6 +24,7 @@ pub enum Meaning {
 #[derive(Clone, Copy)]
 pub enum Means<'k> {
     Variable(u32, &'k Ty),
+    Quantified(u32, &'k Ty),
     Static(u32, &'k Ty),
     Type(NamedType<'k>),
     Table(u32, &'k TableDecl),
@@ -38,6 +41,7 @@ impl Meaning {
     {
         match self {
             Meaning::Variable(number, ty) => Means::Variable(*number, ty),
+            Meaning::Quantified(number, ty) => Means::Quantified(*number, ty),
             Meaning::Static(number, ty) => Means::Static(*number, ty),
             Meaning::Type(number) => Means::Type(NamedType {
                 types,

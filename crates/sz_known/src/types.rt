@@ -14,6 +14,7 @@ ghost use Rattle.sz_known.specs.Outcome.{Judges};
 use crate::error::CheckError;
 use crate::known::Known;
 use crate::meaning::Means;
+use crate::site::Site;
 use crate::taken::{TakenNames, TakenNumbers};
 use crate::written::{NamedTypes, Written, WrittenField};
 use std::alloc::Global;
@@ -158,7 +159,7 @@ pub fn judge_written(alloc: Global, known: &Known, tree: &TypeTree) -> Result<Wr
     match tree {
         TypeTree::Basic(_, basic) => Ok(basic_written(*basic)),
         TypeTree::Named(name) => {
-            let means = known.look_up(alloc, true, name)?;
+            let means = known.look_up(alloc, Site::Statement, name)?;
             type_named(alloc, known.types(), name, means)
         }
         TypeTree::Array(_, element) => {

@@ -9,6 +9,8 @@ use Rattle.sz_check.specs.JudgingStatements.{judge_stm}
 use Rattle.sz_known.specs.Holding.{Held, scene_of}
 use Rattle.sz_check.specs.Behind.{around_of, behind_of, judge_else}
 use Rattle.sz_known.proofs.TurnLemmas.{map_push, judged_as}
+use Rattle.sz_check.specs.Quantified.{variable_of}
+use Rattle.sz_check.proofs.WhenLemmas.{body_stops, body_made}
 use Rattle.sz_check.proofs.StatementLoops.{stms_fail, stms_go, stms_end}
 use Rattle.sz_check.proofs.StatementParts.{inside_made, inside_stops, block_made, block_stops, for_first_stops, for_turns_stop, for_made}
 use Rattle.sz_check.proofs.StatementParts.{while_stops, else_test_stops, else_part_stops, else_goes_on, other_stops}
@@ -109,6 +111,26 @@ judge_for-returns-clause-outside t c =
     ap (λ (k : Held). k.outside)
     (c.close.ensures.value c.args.known.now (c.in_ok-turns.ensures.outside ∙ c.judge_first.ensures.outside
     ∙ ap (λ (k : Held). k.outside) c.in_ok-open.ensures.value))
+
+-- ---- the statement inside a `when`
+
+pub judge_bound_body-returns-in_err-statement-clause-value : goal.judge_bound_body-returns-in_err-statement-clause-value
+judge_bound_body-returns-in_err-statement-clause-value t c =
+    let p = err_from_is_err_and c.from_residual-in_err-statement.result c.from_residual-in_err-statement.ensures.1 in
+    rw (p.1, p.2)
+    (body_stops (around_of c.args.around) _ c.args.known.now c.judge_bound.new.known (map variable_of c.args.variables.now) (stm_of c.args.tree.now)
+    (ap around_of c.out_of_loops.ensures.value) c.in_ok-judge_bound.ensures.value c.in_err-statement.field-0.0 c.in_err-statement.ensures.value)
+
+pub judge_bound_body-returns-clause-value : goal.judge_bound_body-returns-clause-value
+judge_bound_body-returns-clause-value t c =
+    body_made (around_of c.args.around) _ c.args.known.now c.judge_bound.new.known (map variable_of c.args.variables.now) (stm_of c.args.tree.now)
+    (ap around_of c.out_of_loops.ensures.value) c.in_ok-judge_bound.ensures.value c.judge_inside.new.known c.close.new.self
+    (core_stm_of c.in_ok-statement.statement) c.in_ok-statement.ensures.value
+    (c.close.ensures.value c.args.known.now (c.in_ok-statement.ensures.outside ∙ c.in_ok-judge_bound.ensures.outside))
+
+pub judge_bound_body-returns-clause-outside : goal.judge_bound_body-returns-clause-outside
+judge_bound_body-returns-clause-outside t c =
+    ap (λ (k : Held). k.outside) (c.close.ensures.value c.args.known.now (c.in_ok-statement.ensures.outside ∙ c.in_ok-judge_bound.ensures.outside))
 
 -- ---- a test behind what it chooses
 

@@ -3,6 +3,7 @@ use Rattle.std.proofs.lemmas.Result.{err_from_is_err_and}
 use Rattle.sz_core.specs.View.{node_of, pairing_of}
 use Rattle.sz_check_expr.specs.Asking.{asks_of, asked_of}
 use Rattle.sz_known.specs.Holding.{blocks_for}
+use Rattle.sz_known.specs.Sites.{may_emit}
 use Rattle.sz_known.specs.Outcome.{Stops}
 use Rattle.sz_tree.specs.View.{tree_of}
 use Rattle.sz_tree.proofs.RowLemmas.{tree_of_call, tree_of_list, tree_of_map}
@@ -14,29 +15,29 @@ use Rattle.sz_check_expr.proofs.expr.+expr.Goals as goal
 pub judge_exps-returns-in_err-node : goal.judge_exps-returns-in_err-node
 judge_exps-returns-in_err-node t c =
     let p = err_from_is_err_and c.from_residual.result c.from_residual.ensures.1 in
-    let blocks = blocks_for c.args.known.now c.args.may_emit in
+    let blocks = blocks_for c.args.known.now c.args.site in
     let front = map node_of c.loop-tree.nodes.items in
     record {
-      value = rw (p.1, p.2) (exps_fails blocks c.args.may_emit front (asks_of c.loop-tree.asks) c.args.trees.now c.loop-tree.tree-index
+      value = rw (p.1, p.2) (exps_fails blocks (may_emit c.args.site) front (asks_of c.loop-tree.asks) c.args.trees.now c.loop-tree.tree-index
           c.tree-item.result c.in_err-node.field-0.0 _ (omega arith) c.tree-item.is
           (rw c.first.ensures.value at c.in_err-node.ensures.value) c.loop-tree.invariant);
     }
 
 pub judge_exps-loop-tree-preserved : goal.judge_exps-loop-tree-preserved
 judge_exps-loop-tree-preserved t c =
-    let blocks = blocks_for c.args.known.now c.args.may_emit in
+    let blocks = blocks_for c.args.known.now c.args.site in
     let front = map node_of c.loop-tree.nodes.items in
     rw (c.behind-asks.ensures.value, c.in_ok-push.ensures.items, map_push node_of c.loop-tree.nodes.items c.in_ok-node.node)
-    (exps_goes blocks c.args.may_emit front (asks_of c.loop-tree.asks) c.args.trees.now c.loop-tree.tree-index c.tree-item.result
+    (exps_goes blocks (may_emit c.args.site) front (asks_of c.loop-tree.asks) c.args.trees.now c.loop-tree.tree-index c.tree-item.result
     (node_of c.in_ok-node.node) _ (omega arith) c.tree-item.is
     (rw c.first.ensures.value at c.in_ok-node.ensures.value) c.loop-tree.invariant)
 
 pub judge_exps-returns : goal.judge_exps-returns
 judge_exps-returns t c =
-    let blocks = blocks_for c.args.known.now c.args.may_emit in
+    let blocks = blocks_for c.args.known.now c.args.site in
     let front = map node_of c.loop-tree.nodes.items in
     record {
-      value = exps_ends blocks c.args.may_emit front (asks_of c.loop-tree.asks) c.args.trees.now c.loop-tree.tree-index _ (omega arith)
+      value = exps_ends blocks (may_emit c.args.site) front (asks_of c.loop-tree.asks) c.args.trees.now c.loop-tree.tree-index _ (omega arith)
           c.loop-tree.invariant;
     }
 
@@ -44,14 +45,14 @@ judge_exps-returns t c =
 pub judge_exp-returns-in_err-last-in-Slice : goal.judge_exp-returns-in_err-last-in-Slice
 judge_exp-returns-in_err-last-in-Slice t c =
     let p = err_from_is_err_and c.from_residual-in_err-last-in-Slice.result c.from_residual-in_err-last-in-Slice.ensures.1 in
-    let blocks = blocks_for c.args.known.now c.args.may_emit in
-    let stopped = slice_stops blocks c.args.may_emit (asked_of c.args.asked) c.in-Slice.place (tree_of c.in-Slice.part.value) (tree_of c.in-Slice.from.value)
+    let blocks = blocks_for c.args.known.now c.args.site in
+    let stopped = slice_stops blocks (may_emit c.args.site) (asked_of c.args.asked) c.in-Slice.place (tree_of c.in-Slice.part.value) (tree_of c.in-Slice.from.value)
     (tree_of c.in-Slice.to.value) (node_of c.in_ok-node-in-Slice.node) (node_of c.in_ok-first-in-Slice.first) c.in_err-last-in-Slice.field-0.0
     (rw c.deref-in-Slice.ensures at c.in_ok-node-in-Slice.ensures.value) (rw c.deref-in-Slice-2.ensures at c.in_ok-first-in-Slice.ensures.value)
     (rw c.deref-in-Slice-3.ensures at c.in_err-last-in-Slice.ensures.value) in
     record {
       value = rw (p.1, p.2)
-          (subst (λ (e : _). Stops c.in_err-last-in-Slice.field-0.0 (judge_exp blocks c.args.may_emit (asked_of c.args.asked) (tree_of e)))
+          (subst (λ (e : _). Stops c.in_err-last-in-Slice.field-0.0 (judge_exp blocks (may_emit c.args.site) (asked_of c.args.asked) (tree_of e)))
           (sym c.in-Slice.is) stopped);
     }
 
@@ -59,7 +60,7 @@ judge_exp-returns-in_err-last-in-Slice t c =
 
 pub judge_exp-returns-in-Call : goal.judge_exp-returns-in-Call
 judge_exp-returns-in-Call t c =
-    let judge = judge_exp (blocks_for c.args.known.now c.args.may_emit) c.args.may_emit (asked_of c.args.asked) in
+    let judge = judge_exp (blocks_for c.args.known.now c.args.site) (may_emit c.args.site) (asked_of c.args.asked) in
     record {
       value = judged_as node_of c.judge_call.result judge _ _ (ap tree_of c.in-Call.is ∙ tree_of_call _ _)
           (rw c.as_slice.ensures.value at (c.judge_call.ensures.value (asked_of c.args.asked)));
@@ -67,7 +68,7 @@ judge_exp-returns-in-Call t c =
 
 pub judge_exp-returns-in-List : goal.judge_exp-returns-in-List
 judge_exp-returns-in-List t c =
-    let judge = judge_exp (blocks_for c.args.known.now c.args.may_emit) c.args.may_emit (asked_of c.args.asked) in
+    let judge = judge_exp (blocks_for c.args.known.now c.args.site) (may_emit c.args.site) (asked_of c.args.asked) in
     record {
       value = judged_as node_of c.judge_list.result judge _ _ (ap tree_of c.in-List.is ∙ tree_of_list _ _)
           (rw c.as_slice-in-List.ensures.value at c.judge_list.ensures.value);
@@ -75,7 +76,7 @@ judge_exp-returns-in-List t c =
 
 pub judge_exp-returns-in-Map : goal.judge_exp-returns-in-Map
 judge_exp-returns-in-Map t c =
-    let judge = judge_exp (blocks_for c.args.known.now c.args.may_emit) c.args.may_emit (asked_of c.args.asked) in
+    let judge = judge_exp (blocks_for c.args.known.now c.args.site) (may_emit c.args.site) (asked_of c.args.asked) in
     record {
       value = judged_as node_of c.judge_mapping.result judge _ _ (ap tree_of c.in-Map.is ∙ tree_of_map _ _)
           (rw c.as_slice-in-Map.ensures.value at c.judge_mapping.ensures.value);
@@ -84,27 +85,27 @@ judge_exp-returns-in-Map t c =
 pub judge_pairs-returns-in_err-pair : goal.judge_pairs-returns-in_err-pair
 judge_pairs-returns-in_err-pair t c =
     let p = err_from_is_err_and c.from_residual.result c.from_residual.ensures.1 in
-    let blocks = blocks_for c.args.known.now c.args.may_emit in
+    let blocks = blocks_for c.args.known.now c.args.site in
     let front = map pairing_of c.loop-tree.nodes.items in
     record {
-      value = rw (p.1, p.2) (pairs_fails blocks c.args.may_emit front (asked_of c.args.key) (asked_of c.args.value) c.args.trees.now
+      value = rw (p.1, p.2) (pairs_fails blocks (may_emit c.args.site) front (asked_of c.args.key) (asked_of c.args.value) c.args.trees.now
           c.loop-tree.tree-index c.tree-item.result c.in_err-pair.field-0.0 _ (omega arith) c.tree-item.is
           c.in_err-pair.ensures.value c.loop-tree.invariant);
     }
 
 pub judge_pairs-loop-tree-preserved : goal.judge_pairs-loop-tree-preserved
 judge_pairs-loop-tree-preserved t c =
-    let blocks = blocks_for c.args.known.now c.args.may_emit in
+    let blocks = blocks_for c.args.known.now c.args.site in
     let front = map pairing_of c.loop-tree.nodes.items in
     rw (c.in_ok-push.ensures.items, map_push pairing_of c.loop-tree.nodes.items c.in_ok-pair.pair)
-    (pairs_goes blocks c.args.may_emit front (asked_of c.args.key) (asked_of c.args.value) c.args.trees.now c.loop-tree.tree-index
+    (pairs_goes blocks (may_emit c.args.site) front (asked_of c.args.key) (asked_of c.args.value) c.args.trees.now c.loop-tree.tree-index
     c.tree-item.result (pairing_of c.in_ok-pair.pair) _ (omega arith) c.tree-item.is c.in_ok-pair.ensures.value c.loop-tree.invariant)
 
 pub judge_pairs-returns : goal.judge_pairs-returns
 judge_pairs-returns t c =
-    let blocks = blocks_for c.args.known.now c.args.may_emit in
+    let blocks = blocks_for c.args.known.now c.args.site in
     let front = map pairing_of c.loop-tree.nodes.items in
     record {
-      value = pairs_ends blocks c.args.may_emit front (asked_of c.args.key) (asked_of c.args.value) c.args.trees.now c.loop-tree.tree-index
+      value = pairs_ends blocks (may_emit c.args.site) front (asked_of c.args.key) (asked_of c.args.value) c.args.trees.now c.loop-tree.tree-index
           _ (omega arith) c.loop-tree.invariant;
     }

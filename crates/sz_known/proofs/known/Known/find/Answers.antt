@@ -15,8 +15,8 @@ returns-in_err-found c =
     ∙ (λ i. found ((c.as_str.ensures.value ∙ c.text.ensures.value) i) (seen_blocks (c.sight_for-sight.ensures.value i) [] k.scopes)) in
     record {
       value = ap maybe_means_of c.from_residual.ensures
-          ∙ find_is k.types k.meanings.items c.args.name.now.text k.locals c.args.may_emit k.scopes k.sight c.self.invariant _ asked
-          ∙ ap (λ held. meaning_of c.args.name.now.text (blocks_for held c.args.may_emit)) c.self.view_is;
+          ∙ find_is k.types k.meanings.items c.args.name.now.text k.locals c.args.site k.scopes k.sight c.self.invariant _ asked
+          ∙ ap (λ held. meaning_of c.args.name.now.text (blocks_for held c.args.site)) c.self.view_is;
       types = subst (λ o. IfSome o (IsOfTypes c.args.self.now.outside.types)) (sym c.from_residual.ensures) tt;
     }
 
@@ -43,8 +43,8 @@ returns-in-Some c =
     record {
       value = ap (λ m. Some m) (c.means.ensures.value
           ∙ place_means k.types k.meanings.items c.in_ok-found.found.now c.in-Some.place c.index.result.now placed read)
-          ∙ find_is k.types k.meanings.items c.args.name.now.text k.locals c.args.may_emit k.scopes k.sight c.self.invariant _ asked
-          ∙ ap (λ held. meaning_of c.args.name.now.text (blocks_for held c.args.may_emit)) c.self.view_is;
+          ∙ find_is k.types k.meanings.items c.args.name.now.text k.locals c.args.site k.scopes k.sight c.self.invariant _ asked
+          ∙ ap (λ held. meaning_of c.args.name.now.text (blocks_for held c.args.site)) c.self.view_is;
       types = subst (λ ts. IsOfTypes ts c.means.result)
           (types_are k.types k.meanings.items k.scopes k.sight k.locals c.args.self.now c.self.view_is) c.means.ensures.types;
     }
@@ -57,7 +57,7 @@ returns-in-None c =
     ∙ (λ i. found ((c.as_str.ensures.value ∙ c.text.ensures.value) i) (seen_blocks (c.sight_for-sight.ensures.value i) [] k.scopes)) in
     record {
       value = ap (λ m. Some m) (record_means k.types k.meanings.items c.in_ok-found.found.now (sym c.place_of.ensures.value ∙ c.in-None.is))
-          ∙ find_is k.types k.meanings.items c.args.name.now.text k.locals c.args.may_emit k.scopes k.sight c.self.invariant _ asked
-          ∙ ap (λ held. meaning_of c.args.name.now.text (blocks_for held c.args.may_emit)) c.self.view_is;
+          ∙ find_is k.types k.meanings.items c.args.name.now.text k.locals c.args.site k.scopes k.sight c.self.invariant _ asked
+          ∙ ap (λ held. meaning_of c.args.name.now.text (blocks_for held c.args.site)) c.self.view_is;
       types = tt;
     }
