@@ -5,7 +5,8 @@ use Rattle.sz_instr.specs.declared.line.Line.{Line}
 use Rattle.sz_types.specs.declared.place.Place.{Place}
 use Rattle.sz_gen_expr.specs.Tables.{line}
 use Rattle.sz_gen_expr.specs.Building.{patched}
-use Rattle.sz_gen_stmt.specs.StatementCode.{goes, branch_code, loop_code, loop_behind_code}
+use Rattle.sz_gen_stmt.specs.FreeLines.{goes}
+use Rattle.sz_gen_stmt.specs.StatementCode.{branch_code, loop_code, loop_behind_code}
 
 pub length-patched : (lines : List Line) (at to : ℕ) → length (patched lines at to) ≡ length lines
 length-patched [] at to = refl
@@ -35,7 +36,7 @@ suc_plus : (m n : ℕ) → suc m + n ≡ suc (m + n)
 suc_plus m n = omega arith
 
 -- what brings code in the making and its definition to one form
-ruleset patches = (append_assoc, length-append, add_assoc, patched-append, patched-append_end, one_add, two_add, three_add, suc_plus, length-patched)
+pub ruleset patches = (append_assoc, length-append, add_assoc, patched-append, patched-append_end, one_add, two_add, three_add, suc_plus, length-patched)
 
 pub branch_lines : (base ce : List Line) (ca cb : ℕ → List Line) (c1 c2 c3 c4 c5 c6 c7 : List Line) (p : Place) (skip over : ℕ)
     → c1 ≡ base ++ ce → skip ≡ length c1 → c2 ≡ c1 ++ line (Test 0) 1 p ∷ [] → c3 ≡ c2 ++ ca (length c2) → over ≡ length c3 → c4 ≡ c3 ++ goes 0 ∷ []
