@@ -13,26 +13,26 @@ length-patched [] at to = refl
 length-patched (l ∷ lines) zero to = refl
 length-patched (l ∷ lines) (suc at) to = ap suc (length-patched lines at to)
 
-patched-append : (a b : List Line) (n to : ℕ) → patched (a ++ b) (length a + n) to ≡ a ++ patched b n to
+pub patched-append : (a b : List Line) (n to : ℕ) → patched (a ++ b) (length a + n) to ≡ a ++ patched b n to
 patched-append [] b n to = let e : 0 + n ≡ n = omega arith in ap (λ k. patched b k to) e
 patched-append (x ∷ a) b n to =
     let e : length (x ∷ a) + n ≡ suc (length a + n) = omega arith in
     ap (λ k. patched (x ∷ (a ++ b)) k to) e ∙ ap (λ k. x ∷ k) (patched-append a b n to)
 
-patched-append_end : (a b : List Line) (to : ℕ) → patched (a ++ b) (length a) to ≡ a ++ patched b 0 to
+pub patched-append_end : (a b : List Line) (to : ℕ) → patched (a ++ b) (length a) to ≡ a ++ patched b 0 to
 patched-append_end [] b to = refl
 patched-append_end (x ∷ a) b to = ap (λ k. x ∷ k) (patched-append_end a b to)
 
-one_add : (n : ℕ) → 1 + n ≡ suc n
+pub one_add : (n : ℕ) → 1 + n ≡ suc n
 one_add n = omega arith
 
-two_add : (n : ℕ) → 2 + n ≡ suc (suc n)
+pub two_add : (n : ℕ) → 2 + n ≡ suc (suc n)
 two_add n = omega arith
 
-three_add : (n : ℕ) → 3 + n ≡ suc (suc (suc n))
+pub three_add : (n : ℕ) → 3 + n ≡ suc (suc (suc n))
 three_add n = omega arith
 
-suc_plus : (m n : ℕ) → suc m + n ≡ suc (m + n)
+pub suc_plus : (m n : ℕ) → suc m + n ≡ suc (m + n)
 suc_plus m n = omega arith
 
 -- what brings code in the making and its definition to one form

@@ -21,24 +21,23 @@ use Rattle.sz_mean.specs.Search.{Finding, Succeeds, Misses, Searching, and_also,
 use Rattle.sz_mean.specs.Statements.{variable_of}
 use Rattle.sz_machine.specs.States.{State, After, Goes}
 use Rattle.sz_machine.specs.Running.{ComesTo}
-use Rattle.sz_gen_expr.specs.Tables.{tables_in, constant_number, line}
+use Rattle.sz_gen_expr.specs.Tables.{tables_in, constant_number, HasConstant, line}
 use Rattle.sz_gen_expr.specs.Runs.{HasAt}
 use Rattle.sz_gen_expr.proofs.Steps.{has_front, has_back, at_line}
 use Rattle.sz_gen_stmt.specs.FreeLines.{free, goes}
 use Rattle.sz_gen_stmt.specs.StatementCode.{Exits, variable_code_of}
 use Rattle.sz_gen_stmt.specs.SearchCode.{flag, holds_code, some_code, each_code, variable_code, search_code, when_code}
-use Rattle.sz_gen_stmt.specs.Named.{QuantityHasNames}
+use Rattle.sz_gen_stmt.specs.Named.{QuantityHasNames, FlagsHaveNames}
 use Rattle.sz_gen_stmt.specs.Running.{AreFlags, AfterExec}
 use Rattle.sz_gen_stmt.proofs.Candidates.{candidates_are, base_covered}
 use Rattle.sz_gen_stmt.proofs.Findings.{AfterFinding, finding_later, after_slot, met_by, refuted_by, after_part, after_inside, after_search}
 use Rattle.sz_gen_stmt.proofs.Searches.{elsewhere, SlotRuns, SearchRuns, InsideRuns, VariableRuns, any_runs, all_runs, each_runs}
 
 module _ (code : Code) (set : Setting) (types : List Shape) (s : State) (x : After) where
-  -- what is known of variables, and the flags of those for each candidate are among the constants
+  -- what is known of variables
   abbrev pub AllRun : List Quantified → Type 0
   AllRun [] = Unit {0}
-  AllRun (v ∷ vs) =
-      VariableRuns code types s x (variable_code_of (tables_in code) v) (λ l. eval set l v.base) × QuantityHasNames (tables_in code) v.quantity × AllRun vs
+  AllRun (v ∷ vs) = VariableRuns code types s x (variable_code_of (tables_in code) v) (λ l. eval set l v.base) × AllRun vs
 
 module _ (code : Code) (set : Setting) (types : List Shape) (s : State) (x : After) (a : Around) (out : Exits) (place : Place)
     (condition_code : ℕ → List Line) (body_code : ℕ → ℕ → List Line) (condition : List Slot → Doing Slot) (body : Running)
@@ -76,12 +75,12 @@ module _ (code : Code) (set : Setting) (types : List Shape) (s : State) (x : Aft
 
   -- one variable for each candidate
   each_of_runs : (v : Quantified) → VariableRuns code types s x (variable_code_of (tables_in code) v) (λ l. eval set l v.base)
-      → QuantityHasNames (tables_in code) each
+      → HasConstant (tables_in code) (truth false) → HasConstant (tables_in code) (truth true)
       → (flags : ℕ) (rest_code : ℕ → ℕ → List Line) (rest : Searching) → SearchRuns code a.result types s x (suc flags) rest_code rest
       → SearchRuns code a.result types s x flags
       (each_code place (tables_in code) (variable_code_of (tables_in code) v) rest_code)
       (λ l w. and_then (eval set l v.base w) (λ y. each_of place condition body v.local rest (candidates v.slice y) false l))
-  each_of_runs v known names flags rest_code rest rest_runs at end fail stack l lists w are fit has en h =
+  each_of_runs v known has_false has_true flags rest_code rest rest_runs at end fail stack l lists w are fit has en h =
       let lines = code.lines in
       let tables = tables_in code in
       let b = elsewhere s at stack l lists w in
@@ -109,10 +108,10 @@ module _ (code : Code) (set : Setting) (types : List Shape) (s : State) (x : Aft
       (after_slot code a.result types x flags b end fail known.of b at1 _ (λ y w1 k h1.
       at_line code (elsewhere s at1 (y ∷ stack) l lists w1) (free (Enter v.slice)) x has1.0 (base_covered v.slice known.of known.type y k.typed known.candidates)
       (at_line code (s1 (suc at1) stack y w1) no x has1.1.0
-      (slice_get_within code.constants (constant_number tables (truth false)) (truth false) names.0)
-      (subst (λ z. ComesTo code (s1 (suc (suc at1)) (z ∷ stack) y w1) x) (sym names.0)
+      (slice_get_within code.constants (constant_number tables (truth false)) (truth false) has_false)
+      (subst (λ z. ComesTo code (s1 (suc (suc at1)) (z ∷ stack) y w1) x) (sym has_false)
       (subst (λ m. ComesTo code (s1 m (Some (truth false) ∷ stack) y w1) x) (sym two)
-      (each_runs code a.result types x place condition body v.local known.type known.local rest b top last end fail flags names.1 len f1
+      (each_runs code a.result types x place condition body v.local known.type known.local rest b top last end fail flags has_true len f1
       has3.0 has3.1.0 has3.1.1.0 has3.1.1.1.0
       (λ found cs l2 w2 fit2 h2. rest_runs (suc top) last top (Some (truth found) ∷ stack) l2 (cs ∷ lists) w2 are fit2
       (has_front lines (suc top) tried ends has2) refl h2)
@@ -172,7 +171,7 @@ module _ (code : Code) (set : Setting) (types : List Shape) (s : State) (x : Aft
       (all_runs code a.result types x place condition body v.local var.type var.local (holds place condition body (map (variable_of set) vs))
       b top last end fail flags away has2.0 has2.1.0 f3 (has_back lines (away + 3) tried (goes top ∷ []) has3).0
       (λ cs l2 w2 fit2 h2. subst (λ m. ComesTo code (elsewhere s m stack l2 (cs ∷ lists) w2) x) three
-      (holds_runs vs known.2 flags (away + 3) last away stack l2 (cs ∷ lists) w2 are fit2 (has_front lines (away + 3) tried (goes top ∷ []) has3) refl
+      (holds_runs vs known.1 flags (away + 3) last away stack l2 (cs ∷ lists) w2 are fit2 (has_front lines (away + 3) tried (goes top ∷ []) has3) refl
       (finding_later code a.result types x flags (elsewhere s (suc top) stack l2 (cs ∷ lists) w2) last away (away + 3) l2 w2 (omega arith)
       (holds place condition body (map (variable_of set) vs) l2 w2) h2)))
       (candidates v.slice y) (candidates_are v.slice var.of var.type y k.typed var.candidates) l w1 fit k.left h1)))
@@ -186,18 +185,19 @@ module _ (code : Code) (set : Setting) (types : List Shape) (s : State) (x : Aft
   based flags b end fail (Stops fault) k go h = h
 
   -- a variable, by how it is quantified, over the rest of the search
-  quantity_runs : (q : Quantity) (v : Quantified) (vs : List Quantified) → AllRun code set types s x (v ∷ vs) → QuantityHasNames (tables_in code) q
-      → (flags : ℕ) (rest_code flagged_code : ℕ → ℕ → List Line) (rest : Searching)
-      → SearchRuns code a.result types s x flags rest_code rest → SearchRuns code a.result types s x (suc flags) flagged_code rest
+  quantity_runs : (q : Quantity) (v : Quantified) (vs : List Quantified) → AllRun code set types s x (v ∷ vs)
+      → QuantityHasNames (tables_in code) q (FlagsHaveNames (tables_in code) vs) → (flags : ℕ) (rest_code flagged_code : ℕ → ℕ → List Line) (rest : Searching)
+      → (FlagsHaveNames (tables_in code) vs → SearchRuns code a.result types s x flags rest_code rest)
+      → (FlagsHaveNames (tables_in code) vs → SearchRuns code a.result types s x (suc flags) flagged_code rest)
       → SearchRuns code a.result types s x flags
       (variable_code (tables_in code) place condition_code body_code q (variable_code_of (tables_in code) v) rest_code flagged_code
       (holds_code place condition_code (map (variable_code_of (tables_in code)) (v ∷ vs))) flags)
       (λ l w. and_then (eval set l v.base w)
       (λ y. search_by place condition body q v.local (candidates v.slice y) rest (holds place condition body (map (variable_of set) vs)) l))
   quantity_runs some v vs known names flags rest_code flagged_code rest rest_runs flagged_runs at end fail stack l lists w are fit has en h =
-      some_runs v known.0 flags rest_code rest rest_runs at end fail stack l lists w are fit has en h
+      some_runs v known.0 flags rest_code rest (rest_runs names) at end fail stack l lists w are fit has en h
   quantity_runs each v vs known names flags rest_code flagged_code rest rest_runs flagged_runs at end fail stack l lists w are fit has en h =
-      each_of_runs v known.0 names flags flagged_code rest flagged_runs at end fail stack l lists w are fit has en h
+      each_of_runs v known.0 names.0 names.1 flags flagged_code rest (flagged_runs names.2) at end fail stack l lists w are fit has en h
   quantity_runs all v vs known names flags rest_code flagged_code rest rest_runs flagged_runs at end fail stack l lists w are fit has en h =
       let lines = code.lines in
       let b = elsewhere s at stack l lists w in
@@ -215,11 +215,11 @@ module _ (code : Code) (set : Setting) (types : List Shape) (s : State) (x : Aft
       (λ f. and_also f (λ l2 w2. and_then (body l2 w2) succeeded)) h))
 
   -- the search over all variables
-  search_runs : (vs : List Quantified) → AllRun code set types s x vs → (flags : ℕ)
+  search_runs : (vs : List Quantified) → AllRun code set types s x vs → FlagsHaveNames (tables_in code) vs → (flags : ℕ)
       → SearchRuns code a.result types s x flags
       (search_code (tables_in code) place condition_code body_code (map (variable_code_of (tables_in code)) vs) flags)
       (search place condition body (map (variable_of set) vs))
-  search_runs [] known flags at end fail stack l lists w are fit has en h =
+  search_runs [] known names flags at end fail stack l lists w are fit has en h =
       let lines = code.lines in
       let b = elsewhere s at stack l lists w in
       let asked = condition_code at in
@@ -239,17 +239,17 @@ module _ (code : Code) (set : Setting) (types : List Shape) (s : State) (x : Aft
       (after_inside code a.result types x flags b end fail a out (at1 + 1) l w1 k.left refl (body l w1) h2)))
       (λ h2. h2 (record { left = k.left; typed = fit }))
       y h1)) (condition l w) h)
-  search_runs (v ∷ vs) known flags at end fail stack l lists w are fit has en h =
-      quantity_runs v.quantity v vs known known.1 flags _ _ (search place condition body (map (variable_of set) vs))
-      (search_runs vs known.2 flags) (search_runs vs known.2 (suc flags)) at end fail stack l lists w are fit has en h
+  search_runs (v ∷ vs) known names flags at end fail stack l lists w are fit has en h =
+      quantity_runs v.quantity v vs known names flags _ _ (search place condition body (map (variable_of set) vs))
+      (λ more. search_runs vs known.1 more flags) (λ more. search_runs vs known.1 more (suc flags)) at end fail stack l lists w are fit has en h
 
   -- the whole statement
-  pub when_runs : (vs : List Quantified) → AllRun code set types s x vs → (end : ℕ) → AreFlags out.flags s.stack → AllFit s.locals types
+  pub when_runs : (vs : List Quantified) → AllRun code set types s x vs → FlagsHaveNames (tables_in code) vs → (end : ℕ) → AreFlags out.flags s.stack → AllFit s.locals types
       → HasAt code.lines s.at
       (when_code (tables_in code) place condition_code body_code (map (variable_code_of (tables_in code)) vs) out.flags s.at)
       → s.at + length (when_code (tables_in code) place condition_code body_code (map (variable_code_of (tables_in code)) vs) out.flags s.at) ≡ end
       → AfterExec code a types out s end x (exec_when place condition body (map (variable_of set) vs) s.locals s.world) → ComesTo code s x
-  when_runs vs known end are fit has en h =
+  when_runs vs known names end are fit has en h =
       let lines = code.lines in
       let search_lines =
       search_code (tables_in code) place condition_code body_code (map (variable_code_of (tables_in code)) vs) out.flags (s.at + 1) (s.at + 2) in
@@ -259,7 +259,7 @@ module _ (code : Code) (set : Setting) (types : List Shape) (s : State) (x : Aft
       let f1 : slice_get lines (s.at + 1) ≡ Some (goes end) =
       subst (λ k. slice_get lines k ≡ Some (goes end)) one (subst (λ k. slice_get lines (suc s.at) ≡ Some (goes k)) len has.1.0) in
       at_line code s (goes (s.at + 2)) x has.0 tt
-      (search_runs vs known out.flags (s.at + 2) end (s.at + 1) s.stack s.locals s.lists s.world are fit
+      (search_runs vs known names out.flags (s.at + 2) end (s.at + 1) s.stack s.locals s.lists s.world are fit
       (subst (λ k. HasAt lines k search_lines) two has.1.1) len
       (after_search code a.result types x a out s end (s.at + 1) (s.at + 2) refl
       (λ l w k. at_line code (record s { at = s.at + 1; locals = l; world = w }) (goes end) x f1 tt k)

@@ -28,7 +28,7 @@ use Rattle.sz_gen_expr.proofs.Stacks.{length-all_fit}
 use Rattle.sz_gen_expr.proofs.Steps.{has_front, has_back, at_line}
 use Rattle.sz_gen_stmt.specs.FreeLines.{no_place, goes}
 use Rattle.sz_gen_stmt.specs.StatementCode.{Exits, in_loop, in_search, variable_code_of, discards, bare_step, statement_code, statements_code}
-use Rattle.sz_gen_stmt.specs.Named.{VariablesHaveNames, StmHasNames, StmsHaveNames}
+use Rattle.sz_gen_stmt.specs.Named.{BasesHaveNames, StmHasNames, StmsHaveNames}
 use Rattle.sz_gen_stmt.specs.Running.{seeing, IfIn, AreFlags, MayReturn, AfterReturn, AfterExec, IsFixed}
 use Rattle.sz_gen_stmt.proofs.Outcomes.{from_later, ends_at, after_value, after_some, after_values, pays_for, after_then, discards_run}
 use Rattle.sz_gen_stmt.proofs.Parts.{leads_on, nodes_counted, expression_runs, nodes_run, steps_run}
@@ -87,7 +87,7 @@ module _ (code : Code) (g : Sight) (set : Setting) (room : ℕ) (below : (limit 
       (eval set s.locals e w1) h)
 
   -- what is known of the variables of a `when`, each of which sees those before it
-  variables_run : (vs : List Quantified) (seen : Sight) (s : State) → AreQuantified (seeing g seen) vs → VariablesHaveNames (tables_in code) vs
+  variables_run : (vs : List Quantified) (seen : Sight) (s : State) → AreQuantified (seeing g seen) vs → BasesHaveNames (tables_in code) vs
       → IsFixed g set room s.callers s.statics s.input → AllRun code set g.locals s x vs
   variables_run [] seen s sound of fixed = tt
   variables_run (v ∷ vs) seen s sound of fixed =
@@ -99,7 +99,7 @@ module _ (code : Code) (g : Sight) (set : Setting) (room : ℕ) (below : (limit 
         candidates = sound.2.2;
         local = sound.2.1;
       } in
-      (known, of.1, variables_run vs (with_bound v (seeing g seen)) s sound.3 of.2 fixed)
+      (known, variables_run vs (with_bound v (seeing g seen)) s sound.3 of.1 fixed)
 
   mutual
     unfolding IsStm AreStms
@@ -278,11 +278,11 @@ module _ (code : Code) (g : Sight) (set : Setting) (room : ℕ) (below : (limit 
         when_runs code set g.locals s x a out p (expression_code (tables_in code) c) (λ f. statement_code (tables_in code) body (in_search out f))
         (λ l. eval set l c) (exec set body)
         (λ at end1 stack l lists w fit1 has1 en1 h1. expression_runs code g set room below decodes asking c (elsewhere s at stack l lists w) end1 x
-        sound1.0 of.1 fit1 fixed has1 en1
+        sound1.0 of.2 fit1 fixed has1 en1
         (subst (λ t. AfterEval code t (elsewhere s at stack l lists w) end1 x (eval set l c w)) (sym sound1.1) h1))
         (λ f at end1 stack l lists w are fit1 has1 en1 h1. exec_runs body within (out_of_loops a) (in_search out f) (elsewhere s at stack l lists w) end1
-        sound2 of.2 fit1 fixed may are has1 en1 h1)
-        vs (variables_run vs tested s sound.0 of.0 fixed) end flags fit has en h
+        sound2 of.3 fit1 fixed may are has1 en1 h1)
+        vs (variables_run vs tested s sound.0 of.0 fixed) of.1 end flags fit has en h
 
     pub all_run : (cs : Stms) (seen : Sight) (a : Around) (out : Exits) (s : State) (end : ℕ) → AreStms (seeing g seen) a cs
         → StmsHaveNames (tables_in code) cs

@@ -20,7 +20,7 @@ use Rattle.sz_gen_expr.specs.Named.{HasNames}
 use Rattle.sz_gen_expr.proofs.Parts.{indexes_of_path}
 use Rattle.sz_gen_stmt.specs.FreeLines.{goes}
 use Rattle.sz_gen_stmt.specs.StatementCode.{Exits, in_loop, in_search, discards, bare_step, test_code, loop_code, loop_behind_code, statement_code, statements_code}
-use Rattle.sz_gen_stmt.specs.Named.{VariablesHaveNames, StmHasNames, StmsHaveNames}
+use Rattle.sz_gen_stmt.specs.Named.{BasesHaveNames, StmHasNames, StmsHaveNames}
 use Rattle.sz_gen_stmt.proofs.Statements.{seen_more, bound_more}
 use Rattle.sz_gen_stmt.proofs.ExpressionsInRange.{AreInRange, both_in_range, IsRoomFor, local_in_range, closed_in_range, front_fits, back_fits}
 use Rattle.sz_gen_stmt.proofs.SearchesInRange.{AllInRange, when_in_range}
@@ -112,13 +112,12 @@ module _ (code : Code) (g : Sight) (room : IsRoomFor code g) where
       (front_fits code ce (line (Test away) 1 p ∷ []) at fits))
       (lt-ltb away (length code.lines) few, tt)
 
-  variables_in_range : (vs : List Quantified) (seen : Sight) → AreQuantified (seeing g seen) vs → VariablesHaveNames (tables_in code) vs → AllInRange code vs
+  variables_in_range : (vs : List Quantified) (seen : Sight) → AreQuantified (seeing g seen) vs → BasesHaveNames (tables_in code) vs → AllInRange code vs
   variables_in_range [] seen sound names = tt
   variables_in_range (v ∷ vs) seen sound names = (
     λ at fits. node_in_range code g room seen v.base at sound.0 names.0 fits,
     local_in_range code g room v.local sound.2.0 sound.2.1,
-    names.1,
-    variables_in_range vs (with_bound v (seeing g seen)) sound.3 names.2,
+    variables_in_range vs (with_bound v (seeing g seen)) sound.3 names.1,
   )
 
   mutual
@@ -220,9 +219,9 @@ module _ (code : Code) (g : Sight) (room : IsRoomFor code g) where
         let sound1 : IsTest (seeing g asking) c = subst (λ v. IsTest v c) (bound_more g tested vs) sound.1 in
         let sound2 : IsStm (seeing g within) (out_of_loops a) body = subst (λ v. IsStm v (out_of_loops a) body) (bound_more g seen (bound_inside vs)) sound.3 in
         when_in_range code p (expression_code (tables_in code) c) (λ f. statement_code (tables_in code) body (in_search out f))
-        (λ n h. node_in_range code g room asking c n sound1.0 names.1 h)
-        (λ f n h. stm_in_range body within (out_of_loops a) (in_search out f) n sound2 names.2 b k h)
-        vs (variables_in_range vs tested sound.0 names.0) out.flags at fits
+        (λ n h. node_in_range code g room asking c n sound1.0 names.2 h)
+        (λ f n h. stm_in_range body within (out_of_loops a) (in_search out f) n sound2 names.3 b k h)
+        vs (variables_in_range vs tested sound.0 names.0) names.1 out.flags at fits
 
     pub stms_in_range : (cs : Stms) (seen : Sight) (a : Around) (out : Exits) (at : ℕ) → AreStms (seeing g seen) a cs
         → StmsHaveNames (tables_in code) cs

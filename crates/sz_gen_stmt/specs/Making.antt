@@ -15,7 +15,7 @@ use Rattle.sz_gen_expr.specs.Building.{tables_made, Grows, Appends}
 use Rattle.sz_gen_stmt.specs.StatementCode as codes
 use Rattle.sz_gen_stmt.specs.StatementCode.{in_search, variable_code_of, statement_code, statements_code}
 use Rattle.sz_gen_stmt.specs.SearchCode.{holds_code, search_code}
-use Rattle.sz_gen_stmt.specs.Named.{VariablesHaveNames, StmHasNames, StmsHaveNames, FunctionsHaveNames, StaticsHaveNames}
+use Rattle.sz_gen_stmt.specs.Named.{FlagsHaveNames, BasesHaveNames, StmHasNames, StmsHaveNames, FunctionsHaveNames, StaticsHaveNames}
 use Rattle.sz_gen_stmt.specs.ProgramCode.{function_code, functions_code, function_routines, static_code, statics_code, static_routines}
 use Rattle.sz_gen_stmt.specs.declared.generate.Exits.{Exits}
 
@@ -36,13 +36,13 @@ abbrev pub AppendsSearch : Builder → Builder → Place → List Quantified →
 AppendsSearch old new place vs condition body out fail = Appends old new
     (λ tables at. search_code tables place (expression_code tables condition) (λ flags. statement_code tables body (in_search out flags))
     (map (variable_code_of tables) vs) out.flags fail at)
-    (λ tables. VariablesHaveNames tables vs × HasNames tables condition × StmHasNames tables body)
+    (λ tables. BasesHaveNames tables vs × FlagsHaveNames tables vs × HasNames tables condition × StmHasNames tables body)
 
 -- the code of whether the condition is true or undefined for all candidates of these variables
 abbrev pub AppendsHolds : Builder → Builder → Place → List Quantified → Node → (fail : ℕ) → Type 0
 AppendsHolds old new place vs condition fail = Appends old new
     (λ tables at. holds_code place (expression_code tables condition) (map (variable_code_of tables) vs) fail at)
-    (λ tables. VariablesHaveNames tables vs × HasNames tables condition)
+    (λ tables. BasesHaveNames tables vs × HasNames tables condition)
 
 -- the code of the indexes among steps more
 abbrev pub AppendsIndexes : Builder → Builder → List Step → Type 0

@@ -9,16 +9,21 @@ use Rattle.sz_gen_expr.specs.Tables.{Tables, HasConstant}
 use Rattle.sz_gen_expr.specs.Named.{HasNames, HaveNames, StepsHaveNames}
 
 module _ (tables : Tables) where
-  -- a variable for each candidate has flags, which are truth values
-  abbrev pub QuantityHasNames : Quantity → Type 0
-  QuantityHasNames some = Unit {0}
-  QuantityHasNames each = HasConstant tables (Datum.truth false) × HasConstant tables (Datum.truth true)
-  QuantityHasNames all = Unit {0}
+  -- a variable for each candidate has flags, which are truth values. Behind one for all candidates there are none.
+  abbrev pub QuantityHasNames : Quantity → (rest : Type 0) → Type 0
+  QuantityHasNames some rest = rest
+  QuantityHasNames each rest = HasConstant tables (Datum.truth false) × HasConstant tables (Datum.truth true) × rest
+  QuantityHasNames all rest = Unit {0}
 
-  -- the tables have what the code of the variables of a `when` names
-  abbrev pub VariablesHaveNames : List Quantified → Type 0
-  VariablesHaveNames [] = Unit {0}
-  VariablesHaveNames (v ∷ vs) = HasNames tables v.base × QuantityHasNames v.quantity × VariablesHaveNames vs
+  -- the tables have the flags of the variables of a `when`
+  abbrev pub FlagsHaveNames : List Quantified → Type 0
+  FlagsHaveNames [] = Unit {0}
+  FlagsHaveNames (v ∷ vs) = QuantityHasNames v.quantity (FlagsHaveNames vs)
+
+  -- the tables have what the code of the bases of these variables names
+  abbrev pub BasesHaveNames : List Quantified → Type 0
+  BasesHaveNames [] = Unit {0}
+  BasesHaveNames (v ∷ vs) = HasNames tables v.base × BasesHaveNames vs
 
   abbrev mutual
     -- the tables have what the code of a statement names
@@ -37,7 +42,7 @@ module _ (tables : Tables) where
     StmHasNames (return_value place e) = HasNames tables e
     StmHasNames (end_record place) = Unit {0}
     StmHasNames (emit place n es e w) = HaveNames tables es × HasNames tables e × IfSome w (HasNames tables)
-    StmHasNames (when place vs c s) = VariablesHaveNames vs × HasNames tables c × StmHasNames s
+    StmHasNames (when place vs c s) = BasesHaveNames vs × FlagsHaveNames vs × HasNames tables c × StmHasNames s
 
     -- the same of statements
     pub StmsHaveNames : Stms → Type 0

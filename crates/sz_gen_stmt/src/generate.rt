@@ -170,8 +170,8 @@ fn gen_search(
     into: &mut Builder,
 ) -> Result<(), NoMemory>
     requires within { from ≤ length variables.now }
-    ensures made { OnOk result (AppendsSearch into.old into.new search.place (map quantified_of (drop from variables.now)) (node_of search.condition.now)
-        (stm_of search.body.now) (exits_of out) fail) }
+    ensures made { OnOk result (AppendsSearch into.old into.new search.entry.place (map quantified_of (drop from variables.now))
+        (node_of search.entry.condition.now) (stm_of search.entry.body.now) (exits_of out) fail) }
 {
     if from == variables.len() {
         gen_expr(search.condition, into)?;
