@@ -194,10 +194,11 @@ fn gen_search(
             gen_flag(false, into)?;
             let top = into.here();
             into.close(Instr::Next(variable.local, 0), search.place)?;
+            let flags = small(out.flags as usize + 1)?;
             let flagged = Exits {
                 on_break: out.on_break,
                 on_continue: out.on_continue,
-                flags: small(out.flags as usize + 1)?,
+                flags,
             };
             gen_search(variables, from + 1, search, flagged, top, into)?;
             free(Instr::Discard, into)?;
@@ -239,11 +240,11 @@ fn gen_holds(
     free(Instr::Leave, into)?;
     free(Instr::Jump(fail), into)?;
     into.land(entry);
-    let top = into.here();
+    let next = into.here();
     into.close(Instr::Next(variable.local, 0), place)?;
     gen_holds(variables, from + 1, place, condition, away, into)?;
-    free(Instr::Jump(top), into)?;
-    into.land(top);
+    free(Instr::Jump(next), into)?;
+    into.land(next);
     Ok(())
 }
 

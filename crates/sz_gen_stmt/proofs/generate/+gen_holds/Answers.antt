@@ -18,7 +18,7 @@ land-requires t c = record {
 
 pub land-requires-2 : goal.land-requires-2
 land-requires-2 t c = record {
-  within = stays (stays (starts c.here-top.ensures.value c.in_ok-close.ensures.made) c.in_ok-gen_holds.ensures.made) c.in_ok-free-5.ensures.made;
+  within = stays (stays (starts c.here-next.ensures.value c.in_ok-close.ensures.made) c.in_ok-gen_holds.ensures.made) c.in_ok-free-5.ensures.made;
 }
 
 -- no variable is left
@@ -42,8 +42,8 @@ returns t c =
           (renamed (λ tables n. ((n.0, n.1.0), n.1.1))
           (all_made (λ tables. variable_code_of tables (quantified_of v))
           (λ tables f at. holds_code c.args.place (expression_code tables (node_of c.args.condition.now)) (map (variable_code_of tables) more) f at)
-          c.args.place c.here-entry.result c.here-away.result c.here-top.result c.args.fail
+          c.args.place c.here-entry.result c.here-away.result c.here-next.result c.args.fail
           c.in_ok-gen_expr-2.ensures.made c.in_ok-free.ensures.made c.here-entry.ensures.value c.in_ok-free-2.ensures.made
           c.here-away.ensures.value c.in_ok-free-3.ensures.made c.in_ok-free-4.ensures.made c.land.ensures.made
-          c.here-top.ensures.value c.in_ok-close.ensures.made c.in_ok-gen_holds.ensures.made c.in_ok-free-5.ensures.made c.land-2.ensures.made));
+          c.here-next.ensures.value c.in_ok-close.ensures.made c.in_ok-gen_holds.ensures.made c.in_ok-free-5.ensures.made c.land-2.ensures.made));
     }
