@@ -1,7 +1,7 @@
 -- What has to hold behind each way in which a search ends, and what goes on from there.
-use Rattle.std.proofs.Common.{◌≡◌, ℕ, suc, ◌+◌, ◌≤◌, List, [], ◌∷◌, Bool, true, false, Option, Some, None, sym, subst, arith}
+use Rattle.std.proofs.Common.{◌≡◌, ℕ, ◌+◌, ◌≤◌, List, ◌∷◌, true, false, Option, Some, None, sym, subst, arith}
 use Rattle.sz_types.specs.Data.{Shape}
-use Rattle.sz_value.specs.Data.{Datum, truth, int, time, str, bytes, array, tuple, mapping}
+use Rattle.sz_value.specs.Data.{truth, int, time, str, bytes, array, tuple, mapping}
 use Rattle.sz_core.specs.Sound.{Around, out_of_loops}
 use Rattle.sz_instr.specs.declared.line.Line.{Line}
 use Rattle.sz_instr.specs.declared.code.Code.{Code}

@@ -10,7 +10,7 @@ use Rattle.sz_gen_expr.specs.declared.builder.Builder.{Builder}
 use Rattle.sz_gen_expr.specs.Tables.{Tables, HasConstant, constant_number}
 use Rattle.sz_gen_expr.specs.ExpressionCode.{expression_code}
 use Rattle.sz_gen_expr.specs.Named.{HasNames}
-use Rattle.sz_gen_expr.specs.Building.{tables_made, Grows, Appends, AppendsLine, AppendsNode, Lands, Nothing}
+use Rattle.sz_gen_expr.specs.Building.{Appends, AppendsLine, AppendsNode, Lands, Nothing}
 use Rattle.sz_gen_expr.proofs.Builds.{grows_on, behind, renamed}
 use Rattle.sz_gen_stmt.specs.FreeLines.{no_place, free, goes}
 use Rattle.sz_gen_stmt.specs.StatementCode as codes

@@ -1,5 +1,5 @@
 -- The code of one variable of a search does what the search over it means, over what the code of the rest does.
-use Rattle.std.proofs.Common.{◌≡◌, ℕ, suc, ◌+◌, ◌≤◌, List, [], ◌∷◌, ◌++◌, length, Bool, true, false, Option, Some, None, refl, sym, subst, arith, length-append, drop}
+use Rattle.std.proofs.Common.{◌≡◌, ℕ, suc, ◌+◌, ◌≤◌, List, [], ◌∷◌, length, Bool, true, false, Option, Some, None, refl, sym, subst, arith}
 use Rattle.std.specs.Prelude.{slice_get}
 use Rattle.std.proofs.lemmas.Option.{slice_get_within}
 use Rattle.sz_types.specs.Data.{Shape}
@@ -7,29 +7,27 @@ use Rattle.sz_types.specs.declared.place.Place.{Place}
 use Rattle.sz_value.specs.Data.{Datum, truth}
 use Rattle.sz_typed.specs.Types.{has_type}
 use Rattle.sz_core.specs.Sound.{Around, out_of_loops, candidate_type}
-use Rattle.sz_instr.specs.declared.instr.Instr.TheVariants.{Push, Discard, Enter, Next, Leave, Meets}
+use Rattle.sz_instr.specs.declared.instr.Instr.TheVariants.{Push, Discard, Next, Leave, Meets}
 use Rattle.sz_instr.specs.declared.line.Line.{Line}
 use Rattle.sz_instr.specs.declared.code.Code.{Code}
 use Rattle.sz_world.specs.World.{World, Given, Gives, Stops, Doing, and_then, spend}
 use Rattle.sz_world.specs.Slots.{Slot}
 use Rattle.sz_world.specs.Typed.{AllFit}
-use Rattle.sz_world.specs.Candidates.{candidates}
-use Rattle.sz_mean.specs.Endings.{Ending, Running, with_local}
+use Rattle.sz_mean.specs.Endings.{Running, with_local}
 use Rattle.sz_mean.specs.Search.{Finding, Succeeds, Misses, Leaves, Searching, or_else, and_also, and_each, found_one, tried, any_of, each_of, all_of}
 use Rattle.sz_machine.specs.States.{State, After}
-use Rattle.sz_machine.specs.Rows.{act}
 use Rattle.sz_machine.specs.Running.{ComesTo}
 use Rattle.sz_gen_expr.specs.Tables.{tables_in, constant_number, HasConstant, line}
-use Rattle.sz_gen_expr.specs.Runs.{AllKept, NextComes, AfterEval, HasAt}
-use Rattle.sz_gen_expr.proofs.Steps.{has_front, has_back, at_line}
+use Rattle.sz_gen_expr.specs.Runs.{AllKept, AfterEval, HasAt}
+use Rattle.sz_gen_expr.proofs.Steps.{at_line}
 use Rattle.sz_gen_stmt.specs.FreeLines.{free, goes}
 use Rattle.sz_gen_stmt.specs.StatementCode.{Exits, in_search}
-use Rattle.sz_gen_stmt.specs.SearchCode.{VariableCode, flag, some_code, each_code}
+use Rattle.sz_gen_stmt.specs.SearchCode.{VariableCode}
 use Rattle.sz_gen_stmt.specs.Running.{AreFlags, AfterReturn, AfterExec}
 use Rattle.sz_gen_stmt.proofs.Slots.{fit_at, fit_set}
 use Rattle.sz_gen_stmt.proofs.Outcomes.{kept_since, all_kept_since}
-use Rattle.sz_gen_stmt.proofs.Candidates.{AreOf, candidates_are, base_covered}
-use Rattle.sz_gen_stmt.proofs.Findings.{AfterFinding, after_slot, pays_to_try}
+use Rattle.sz_gen_stmt.proofs.Candidates.{AreOf}
+use Rattle.sz_gen_stmt.proofs.Findings.{AfterFinding, pays_to_try}
 
 -- the run elsewhere in the same routine
 abbrev pub elsewhere : State → ℕ → List Slot → List Slot → List (List Datum) → World → State

@@ -1,11 +1,10 @@
 -- The code of `when` does what `when` means, over what the code of its bases, its condition and its statement does.
-use Rattle.std.proofs.Common.{◌≡◌, ℕ, suc, ◌+◌, List, [], ◌∷◌, ◌++◌, length, map, true, false, Option, Some, refl, sym, subst, arith, length-append}
+use Rattle.std.proofs.Common.{◌≡◌, ℕ, suc, ◌+◌, List, [], ◌∷◌, ◌++◌, length, map, true, false, Some, refl, sym, subst, arith, length-append}
 use Rattle.std.specs.Prelude.{slice_get}
 use Rattle.std.proofs.lemmas.Option.{slice_get_within}
 use Rattle.sz_types.specs.Data.{Shape}
 use Rattle.sz_types.specs.declared.place.Place.{Place}
 use Rattle.sz_value.specs.Data.{truth}
-use Rattle.sz_core.specs.Nodes.{type_of}
 use Rattle.sz_core.specs.Statements.{Quantity, some, each, all, Quantified}
 use Rattle.sz_core.specs.Sound.{Around}
 use Rattle.sz_instr.specs.declared.instr.Instr.TheVariants.{Push, Discard, Enter, Next, Leave, Meets, Fails}
@@ -13,7 +12,7 @@ use Rattle.sz_instr.specs.declared.line.Line.{Line}
 use Rattle.sz_instr.specs.declared.code.Code.{Code}
 use Rattle.sz_world.specs.World.{World, Given, Gives, Stops, Doing, and_then, give}
 use Rattle.sz_world.specs.Slots.{Slot}
-use Rattle.sz_world.specs.Typed.{Fits, AllFit}
+use Rattle.sz_world.specs.Typed.{AllFit}
 use Rattle.sz_world.specs.Candidates.{candidates}
 use Rattle.sz_mean.specs.Expressions.{Setting, eval}
 use Rattle.sz_mean.specs.Endings.{Running}
@@ -26,7 +25,7 @@ use Rattle.sz_gen_expr.specs.Runs.{HasAt}
 use Rattle.sz_gen_expr.proofs.Steps.{has_front, has_back, at_line}
 use Rattle.sz_gen_stmt.specs.FreeLines.{free, goes}
 use Rattle.sz_gen_stmt.specs.StatementCode.{Exits, variable_code_of}
-use Rattle.sz_gen_stmt.specs.SearchCode.{flag, holds_code, some_code, each_code, variable_code, search_code, when_code}
+use Rattle.sz_gen_stmt.specs.SearchCode.{holds_code, some_code, each_code, variable_code, search_code, when_code}
 use Rattle.sz_gen_stmt.specs.Named.{QuantityHasNames, FlagsHaveNames}
 use Rattle.sz_gen_stmt.specs.Running.{AreFlags, AfterExec}
 use Rattle.sz_gen_stmt.proofs.Candidates.{candidates_are, base_covered}

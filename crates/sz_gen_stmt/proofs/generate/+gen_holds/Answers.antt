@@ -1,5 +1,5 @@
 -- The code for all candidates of one variable after the other, and of the condition behind all.
-use Rattle.std.proofs.Common.{◌≡◌, ◌+◌, ◌<◌, ◌∷◌, length, map, drop, sym, subst, arith}
+use Rattle.std.proofs.Common.{◌+◌, ◌<◌, length, map, drop, sym, subst, arith}
 use Rattle.std.proofs.lemmas.Result.{on_ok_weaker}
 use Rattle.sz_core.specs.View.{node_of, quantified_of}
 use Rattle.sz_gen_expr.specs.ExpressionCode.{expression_code}
