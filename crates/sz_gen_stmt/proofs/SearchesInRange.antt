@@ -57,9 +57,22 @@ module _ (code : Code) (place : Place) (condition : ℕ → List Line) (body : �
       let tail = free (Enter v.slice) ∷ goes (away + 2) ∷ free Leave ∷ goes fail ∷ next ∷ (rest ++ back ∷ []) in
       let end : at + length base + length rest + 6 < length code.lines = omega (arith, fits, length-append base tail, length-append rest (back ∷ [])) in
       let jump : is_in_range code (back).instr ≡ true = lt-ltb (away + 2) (length code.lines) (omega (arith, end)) in
-      both_in_range code base tail (known.0 at (omega (arith, end)))
-      (refl, (jump, (refl, (lt-ltb fail (length code.lines) few, (next_in_range v.local (away + 3 + length rest + 1) known.1 (omega (arith, end)),
-      both_in_range code rest (back ∷ []) (holds_in_range vs known.2 away (away + 3) (omega (arith, end)) (omega (arith, end))) (jump, tt))))))
+      both_in_range code base tail (known.0 at (omega (arith, end))) (
+        refl,
+        (
+          jump,
+          (
+            refl,
+            (
+              lt-ltb fail (length code.lines) few,
+              (
+                next_in_range v.local (away + 3 + length rest + 1) known.1 (omega (arith, end)),
+                both_in_range code rest (back ∷ []) (holds_in_range vs known.2 away (away + 3) (omega (arith, end)) (omega (arith, end))) (jump, tt),
+              ),
+            ),
+          ),
+        ),
+      )
 
   some_in_range : (v : VariableCode) (rest_code : ℕ → ℕ → List Line) → EndsInRange code v.base → v.local < most_locals code → FailsInRange code rest_code
       → FailsInRange code (some_code place v rest_code)
@@ -70,9 +83,13 @@ module _ (code : Code) (place : Place) (condition : ℕ → List Line) (body : �
       let tail = free (Enter v.slice) ∷ line (Next v.local fail) 1 place ∷ (rest ++ free Leave ∷ []) in
       let end : at + length base + length rest + 3 < length code.lines =
       omega (arith, fits, length-append base tail, length-append rest (free Leave ∷ [])) in
-      both_in_range code base tail (base_in at (omega (arith, end)))
-      (refl, (next_in_range v.local fail local few,
-      both_in_range code rest (free Leave ∷ []) (rest_in top (suc top) (omega (arith, end)) (omega (arith, end))) (refl, tt)))
+      both_in_range code base tail (base_in at (omega (arith, end))) (
+        refl,
+        (
+          next_in_range v.local fail local few,
+          both_in_range code rest (free Leave ∷ []) (rest_in top (suc top) (omega (arith, end)) (omega (arith, end))) (refl, tt),
+        ),
+      )
 
   each_in_range : (v : VariableCode) (rest_code : ℕ → ℕ → List Line) → HasConstant (tables_in code) (truth false)
       → HasConstant (tables_in code) (truth true) → EndsInRange code v.base
@@ -87,10 +104,17 @@ module _ (code : Code) (place : Place) (condition : ℕ → List Line) (body : �
       let next = line (Next v.local (suc top + length rest + 3)) 1 place in
       let tail = free (Enter v.slice) ∷ flag (tables_in code) false ∷ next ∷ (rest ++ ends) in
       let end : at + length base + length rest + 7 < length code.lines = omega (arith, fits, length-append base tail, length-append rest ends) in
-      both_in_range code base tail (base_in at (omega (arith, end)))
-      (refl, (flag_in_range false has_false, (next_in_range v.local (suc top + length rest + 3) local (omega (arith, end)),
-      both_in_range code rest ends (rest_in top (suc top) (omega (arith, end)) (omega (arith, end)))
-      (refl, (flag_in_range true has_true, (lt-ltb top (length code.lines) (omega (arith, end)), (lt-ltb fail (length code.lines) few, tt)))))))
+      both_in_range code base tail (base_in at (omega (arith, end))) (
+        refl,
+        (
+          flag_in_range false has_false,
+          (
+            next_in_range v.local (suc top + length rest + 3) local (omega (arith, end)),
+            both_in_range code rest ends (rest_in top (suc top) (omega (arith, end)) (omega (arith, end)))
+                (refl, (flag_in_range true has_true, (lt-ltb top (length code.lines) (omega (arith, end)), (lt-ltb fail (length code.lines) few, tt)))),
+          ),
+        ),
+      )
 
   quantity_in_range : (q : Quantity) (v : Quantified) (vs : List Quantified) → AllInRange code (v ∷ vs)
       → QuantityHasNames (tables_in code) q (FlagsHaveNames (tables_in code) vs) → (flags : ℕ)
@@ -124,6 +148,10 @@ module _ (code : Code) (place : Place) (condition : ℕ → List Line) (body : �
       → AreInRange code (when_code (tables_in code) place condition body (map (variable_code_of (tables_in code)) vs) flags at)
   when_in_range vs known names flags at fits =
       let searches = search_code (tables_in code) place condition body (map (variable_code_of (tables_in code)) vs) flags (at + 1) (at + 2) in
-      let end : at + 2 + length searches < length code.lines = omega (arith, fits) in
-      (lt-ltb (at + 2) (length code.lines) (omega (arith, end)), (lt-ltb (at + 2 + length searches) (length code.lines) end,
-      search_in_range vs known names flags (at + 1) (at + 2) (omega (arith, end)) end))
+      let end : at + 2 + length searches < length code.lines = omega (arith, fits) in (
+        lt-ltb (at + 2) (length code.lines) (omega (arith, end)),
+        (
+          lt-ltb (at + 2 + length searches) (length code.lines) end,
+          search_in_range vs known names flags (at + 1) (at + 2) (omega (arith, end)) end,
+        ),
+      )

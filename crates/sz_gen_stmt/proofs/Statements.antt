@@ -268,7 +268,6 @@ module _ (code : Code) (g : Sight) (set : Setting) (room : ℕ) (below : (limit 
         (omega (arith, length-append (cs ++ ce) cw)) (has_back lines s.at ((cs ++ ce) ++ cw) (l ∷ []) has).0 len (omega arith) (tables_there table d sound.2.1)
         (subst (λ ts. AllFit vs ts) sound.2.2 k1.typed) (subst (λ t. Fits v t) sound.2.3 k2.typed) (ap length (sym sound.2.2) ∙ sym (nodes_counted es)) h2)
         (eval set s.locals e w1) h1)) (eval_all set s.locals es s.world) h)
-
     exec_runs (when p vs c body) seen a out s end sound of fit fixed may flags has en h =
         let tested = in_condition (seeing g seen) in
         let asking = with_all_bound vs (seeing g tested) in

@@ -211,7 +211,6 @@ module _ (code : Code) (g : Sight) (room : IsRoomFor code g) where
         (some_in_range code g room seen w (at + length (cs ++ ce)) (weight_sound (seeing g seen) sound.2.0.weight w sound.2.4) names.2
         (back_fits code (cs ++ ce) cw at f2)))
         (lt-ltb table (length code.tables) (room.tables table sound.2.0 sound.2.1))
-
     stm_in_range (when p vs c body) seen a out at sound names b k fits =
         let tested = in_condition (seeing g seen) in
         let asking = with_all_bound vs (seeing g tested) in
