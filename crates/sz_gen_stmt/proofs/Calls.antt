@@ -26,7 +26,7 @@ use Rattle.sz_gen_expr.specs.Tables.{tables_in, HasConstant, constant_number}
 use Rattle.sz_gen_expr.specs.Runs.{NextComes, AfterEval, CallsBelow, HasAt}
 use Rattle.sz_gen_expr.proofs.Steps.{has_front, has_back, at_line}
 use Rattle.sz_gen_stmt.specs.StatementCode.{no_exits, statements_code}
-use Rattle.sz_gen_stmt.specs.SearchCode.{free}
+use Rattle.sz_gen_stmt.specs.FreeLines.{free}
 use Rattle.sz_gen_stmt.specs.ProgramCode.{zero_pushed, returns_undefined}
 use Rattle.sz_gen_stmt.specs.Running.{AfterExec, IsFixed}
 use Rattle.sz_gen_stmt.proofs.Slots.{fit_at, fit_fresh}
@@ -156,7 +156,7 @@ module _ (code : Code) (functions : List Function) (whole : Declared)
         subst (λ (y : Bool). NextComes code (if y then enter r arguments s stack else faults calls_too_deep place) x) (sym b)
         (subst (λ y. NextComes code (enter y arguments s stack) x) (sym routine)
         (all_run code sight set room below refl
-        (λ n d e. subst (λ l. slice_get l n ≡ Some d) (sym tables_same) (st.before.tables n d e)) x fn.body sight.seen
+        (λ n d e. subst (λ l. slice_get l n ≡ Some d) (sym tables_same) (st.before.tables n d e)) x fn.body sight
         (record { result = Some fn.signature.result; loop = false }) no_exits s1 at1
         st.sound.body st.names fit1 fixed tt tt (has_front lines st.entry front (returns_undefined tables) st.has) refl
         (body_ends code fn.signature.result fn.locals x st.zero s stack st.entry at1 locals (has_back lines st.entry front (returns_undefined tables) st.has)

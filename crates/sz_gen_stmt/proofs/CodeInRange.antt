@@ -24,7 +24,7 @@ use Rattle.sz_mean.specs.Programs.{body_of}
 use Rattle.sz_gen_expr.specs.Tables.{tables_in, constant_number, line, HasConstant}
 use Rattle.sz_gen_expr.specs.ExpressionCode.{expression_code}
 use Rattle.sz_gen_stmt.specs.StatementCode.{no_exits, statement_code, statements_code}
-use Rattle.sz_gen_stmt.specs.SearchCode.{free}
+use Rattle.sz_gen_stmt.specs.FreeLines.{free}
 use Rattle.sz_gen_stmt.specs.Named.{StmsHaveNames, FunctionsHaveNames, StaticsHaveNames}
 use Rattle.sz_gen_stmt.specs.ProgramCode.{IsCodeOf, returns_undefined, function_code, functions_code, function_routines, static_code, statics_code, static_routines, record_code}
 use Rattle.sz_gen_stmt.proofs.Declared.{IsFrontOf, IsWhole, is_before, behind_table, behind_function, behind_static}
@@ -102,7 +102,7 @@ module _ (code : Code) (whole : Declared) (statics_there : (n : ℕ) (t : Shape)
       let next = functions_in_range locals rest seen d1 (at + length own) sound.1 is1 names.2 (back_fits code own later at fits) (λ n h e. most (suc n) h e) in
       let first : AreInRange code own =
       both_in_range code body (returns_undefined (tables_in code))
-      (stms_in_range code (function_sight d f) room f.body (function_sight d f).seen
+      (stms_in_range code (function_sight d f) room f.body (function_sight d f)
       (record { result = Some f.signature.result; loop = false }) no_exits at sound.0.body names.1
       (omega (arith, low)) (omega (arith, low)) (omega (arith, low))) (returns_in_range names.0) in
       let params = params_first f.signature.parameters f.locals sound.0.parameters in (
@@ -142,7 +142,7 @@ module _ (code : Code) (whole : Declared) (statics_there : (n : ℕ) (t : Shape)
       let next = statics_in_range locals rest seen d1 (suc n) (at + length own) sound.1 (behind_static d v rest whole is)
       (omega (arith, count, length-append d.statics (v.type ∷ []))) names.1 (back_fits code own later at fits) in
       let first : AreInRange code own =
-      both_in_range code ce last (node_in_range code (static_sight d) room [] v.value at sound.0.value names.0 (omega (arith, low)))
+      both_in_range code ce last (node_in_range code (static_sight d) room (static_sight d) v.value at sound.0.value names.0 (omega (arith, low)))
       (lt-ltb n (length code.statics) (statics_there n v.type there), (refl, tt)) in
       (both_in_range code own later first next.0, (both_in (lt-ltb at (length code.lines) (omega (arith, low))) refl, next.1))
 
@@ -166,7 +166,7 @@ module _ (code : Code) (whole : Declared) (statics_there : (n : ℕ) (t : Shape)
       let front = statement_code (tables_in code) c no_exits at in
       let later = statements_code (tables_in code) (stms_of (statements_of rest)) no_exits (at + length front) in
       let a1 = length-append front later in
-      both_in_range code front later (stm_in_range code g room c seen top no_exits at sound.0 names.0 (omega (arith, fits)) (omega (arith, fits))
+      both_in_range code front later (stm_in_range code g room c g top no_exits at sound.0 names.0 (omega (arith, fits)) (omega (arith, fits))
       (omega (arith, fits, a1)))
       (body_in_range locals most rest (seen_behind g c).seen d (at + length front) sound.1
       (record { statics = is.statics; functions = is.functions; tables = is.tables }) names.1 (omega (arith, fits, a1)))

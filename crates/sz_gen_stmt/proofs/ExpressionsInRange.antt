@@ -21,6 +21,7 @@ use Rattle.sz_gen_expr.specs.Tables.{tables_in, constant_number, type_number}
 use Rattle.sz_gen_expr.specs.ExpressionCode.{closed, conversion, decided, expression_code, form_code, expressions_code, pairings_code, indexes_code, code_if_some, count_of, pair_count_of}
 use Rattle.sz_gen_expr.specs.Named.{HasTarget, HasNames, FormHasNames, HaveNames, PairingsHaveNames, StepsHaveNames}
 use Rattle.sz_gen_expr.proofs.Parts.{AreIndexes}
+use Rattle.sz_gen_stmt.specs.Running.{seeing}
 
 -- each number in the lines is that of something that the code has
 abbrev pub AreInRange : Code → List Line → Type 0
@@ -54,7 +55,7 @@ pub back_fits : (code : Code) (front rest : List Line) (at : ℕ) → at + lengt
     → at + length front + length rest ≤ length code.lines
 back_fits code front rest at h = omega (arith, h, length-append front rest)
 
-module _ (code : Code) (g : Sight) (room : IsRoomFor code g) (seen : List ℕ) where
+module _ (code : Code) (g : Sight) (room : IsRoomFor code g) (seen : Sight) where
   -- the code of `&&` or `||` behind that of the left operand
   decided_in_range : (test : ℕ → Instr) (p : Place) (right : ℕ → List Line) (at : ℕ) → ((to : ℕ) → to < length code.lines → is_in_range code (test to) ≡ true)
       → at + length (decided test p right at) ≤ length code.lines → AreInRange code (right (suc at)) → AreInRange code (decided test p right at)
@@ -80,11 +81,11 @@ module _ (code : Code) (g : Sight) (room : IsRoomFor code g) (seen : List ℕ) w
   mutual
     unfolding IsNode IsForm AreNodes ArePairings
 
-    pub node_in_range : (e : Node) (at : ℕ) → IsNode (record g { seen = seen }) e → HasNames (tables_in code) e
+    pub node_in_range : (e : Node) (at : ℕ) → IsNode (seeing g seen) e → HasNames (tables_in code) e
         → at + length (expression_code (tables_in code) e at) ≤ length code.lines → AreInRange code (expression_code (tables_in code) e at)
     node_in_range (node p t form) at sound names fits = form_in_range p t form at sound names fits
 
-    form_in_range : (p : Place) (t : Shape) (form : Form) (at : ℕ) → IsForm (record g { seen = seen }) t form → FormHasNames (tables_in code) t form
+    form_in_range : (p : Place) (t : Shape) (form : Form) (at : ℕ) → IsForm (seeing g seen) t form → FormHasNames (tables_in code) t form
         → at + length (form_code (tables_in code) p t form at) ≤ length code.lines → AreInRange code (form_code (tables_in code) p t form at)
     form_in_range p t (constant d) at sound names fits =
         let n = constant_number (tables_in code) d in (lt-ltb n (length code.constants) (slice_get_within code.constants n d names), tt)
@@ -162,7 +163,7 @@ module _ (code : Code) (g : Sight) (room : IsRoomFor code g) (seen : List ℕ) w
         (decided_in_range OrTest p right at1 (λ to few. lt-ltb to (length code.lines) few) f1
         (node_in_range b (suc at1) sound.1 names.1 (decided_fits OrTest p right at1 f1)))
 
-    pub nodes_in_range : (es : Nodes) (at : ℕ) → AreNodes (record g { seen = seen }) es → HaveNames (tables_in code) es
+    pub nodes_in_range : (es : Nodes) (at : ℕ) → AreNodes (seeing g seen) es → HaveNames (tables_in code) es
         → at + length (expressions_code (tables_in code) es at) ≤ length code.lines → AreInRange code (expressions_code (tables_in code) es at)
     nodes_in_range no_nodes at sound names fits = tt
     nodes_in_range (with_node e es) at sound names fits =
@@ -171,7 +172,7 @@ module _ (code : Code) (g : Sight) (room : IsRoomFor code g) (seen : List ℕ) w
         both_in_range code ca cb (node_in_range e at sound.0 names.0 (front_fits code ca cb at fits))
         (nodes_in_range es (at + length ca) sound.1 names.1 (back_fits code ca cb at fits))
 
-    pairings_in_range : (k v : Shape) (ps : Pairings) (at : ℕ) → ArePairings (record g { seen = seen }) k v ps → PairingsHaveNames (tables_in code) ps
+    pairings_in_range : (k v : Shape) (ps : Pairings) (at : ℕ) → ArePairings (seeing g seen) k v ps → PairingsHaveNames (tables_in code) ps
         → at + length (pairings_code (tables_in code) ps at) ≤ length code.lines → AreInRange code (pairings_code (tables_in code) ps at)
     pairings_in_range k v no_pairings at sound names fits = tt
     pairings_in_range k v (with_pairing a b ps) at sound names fits =
@@ -184,7 +185,7 @@ module _ (code : Code) (g : Sight) (room : IsRoomFor code g) (seen : List ℕ) w
         (node_in_range b (at + length ca) sound.1 names.1 (back_fits code ca cb at f1)))
         (pairings_in_range k v ps (at + length (ca ++ cb)) sound.4 names.2 (back_fits code (ca ++ cb) cd at fits))
 
-  pub steps_in_range : (steps : List Step) (at : ℕ) → AreIndexes (record g { seen = seen }) steps → StepsHaveNames (tables_in code) steps
+  pub steps_in_range : (steps : List Step) (at : ℕ) → AreIndexes (seeing g seen) steps → StepsHaveNames (tables_in code) steps
       → at + length (indexes_code (tables_in code) steps at) ≤ length code.lines → AreInRange code (indexes_code (tables_in code) steps at)
   steps_in_range [] at sound names fits = tt
   steps_in_range (at_index e ∷ steps) at sound names fits =
@@ -194,7 +195,7 @@ module _ (code : Code) (g : Sight) (room : IsRoomFor code g) (seen : List ℕ) w
       (steps_in_range steps (at + length ca) sound.1 names.1 (back_fits code ca cb at fits))
   steps_in_range (at_field n ∷ steps) at sound names fits = steps_in_range steps at sound names fits
 
-  pub some_in_range : (e : Option Node) (at : ℕ) → IfSome e (IsNode (record g { seen = seen })) → IfSome e (HasNames (tables_in code))
+  pub some_in_range : (e : Option Node) (at : ℕ) → IfSome e (IsNode (seeing g seen)) → IfSome e (HasNames (tables_in code))
       → at + length (code_if_some (tables_in code) e at) ≤ length code.lines → AreInRange code (code_if_some (tables_in code) e at)
   some_in_range None at sound names fits = tt
   some_in_range (Some e) at sound names fits = node_in_range e at sound names fits

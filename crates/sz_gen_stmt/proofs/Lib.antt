@@ -10,6 +10,12 @@ mod Parts
 mod LastLines
 mod Loops
 mod LoopCode
+-- what the code of `when` does
+mod Candidates
+mod Findings
+mod Searches
+mod SearchesInOrder
+-- what the code of all statements does
 mod Statements
 -- what the code of programs does
 mod Declared
@@ -19,8 +25,12 @@ mod Records
 mod Simulation
 -- each number in code is in range
 mod ExpressionsInRange
+mod SearchesInRange
 mod StatementsInRange
 mod CodeInRange
 mod Patches
+mod SearchPatches
 mod Made
+mod SearchMade
+mod Sizes
 mod Compilation

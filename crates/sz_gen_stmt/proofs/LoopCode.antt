@@ -23,8 +23,9 @@ use Rattle.sz_gen_expr.specs.Tables.{tables_in, line}
 use Rattle.sz_gen_expr.specs.Named.{HasNames}
 use Rattle.sz_gen_expr.specs.Runs.{CallsBelow, HasAt}
 use Rattle.sz_gen_expr.proofs.Steps.{has_front, has_back, at_line}
-use Rattle.sz_gen_stmt.specs.StatementCode.{Exits, in_loop, goes, test_code, loop_code, loop_behind_code}
-use Rattle.sz_gen_stmt.specs.Running.{AfterExec, IsFixed}
+use Rattle.sz_gen_stmt.specs.FreeLines.{goes}
+use Rattle.sz_gen_stmt.specs.StatementCode.{Exits, in_loop, test_code, loop_code, loop_behind_code}
+use Rattle.sz_gen_stmt.specs.Running.{seeing, AfterExec, IsFixed}
 use Rattle.sz_gen_stmt.proofs.Loops.{test_runs, loop_turns, behind_turns}
 
 -- code does what this means with locals of their types, wherever it stands in a routine
@@ -34,8 +35,8 @@ BodyRuns code a types out s x lines body =
     → AfterExec code a types out (record s { at = at; locals = l; world = w }) end x (body l w) → ComesTo code (record s { at = at; locals = l; world = w }) x
 
 module _ (code : Code) (g : Sight) (set : Setting) (room : ℕ) (below : (limit : ℕ) → CallsBelow code g.functions set.statics room limit set.calls)
-    (decodes : set.decode ≡ no_messages) (seen : List ℕ) (x : After) (a : Around) (out : Exits) (s : State) (end : ℕ) (p : Place)
-    (e : Option Node) (sound : IfSome e (IsTest (record g { seen = seen }))) (of : IfSome e (HasNames (tables_in code))) (fit : AllFit s.locals g.locals)
+    (decodes : set.decode ≡ no_messages) (seen : Sight) (x : After) (a : Around) (out : Exits) (s : State) (end : ℕ) (p : Place)
+    (e : Option Node) (sound : IfSome e (IsTest (seeing g seen))) (of : IfSome e (HasNames (tables_in code))) (fit : AllFit s.locals g.locals)
     (fixed : IsFixed g set room s.callers s.statics s.input) where
   pub loop_runs : (between_code body_code : ℕ → List Line) (between body : Running)
       → HasAt code.lines s.at (loop_code p between_code (test_code (tables_in code) p e (s.at + 1)) body_code s.at)

@@ -23,8 +23,9 @@ use Rattle.sz_gen_expr.specs.ExpressionCode.{expression_code}
 use Rattle.sz_gen_expr.specs.Named.{HasNames}
 use Rattle.sz_gen_expr.specs.Runs.{CallsBelow, AllKept, HasAt}
 use Rattle.sz_gen_expr.proofs.Steps.{has_front, has_back, at_line}
-use Rattle.sz_gen_stmt.specs.StatementCode.{Exits, in_loop, goes, test_code}
-use Rattle.sz_gen_stmt.specs.Running.{AfterExec, IsFixed}
+use Rattle.sz_gen_stmt.specs.FreeLines.{goes}
+use Rattle.sz_gen_stmt.specs.StatementCode.{Exits, in_loop, test_code}
+use Rattle.sz_gen_stmt.specs.Running.{seeing, AfterExec, IsFixed}
 use Rattle.sz_gen_stmt.proofs.Parts.{expression_runs}
 use Rattle.sz_gen_stmt.proofs.Outcomes.{after_value, pays_for, chosen_by, after_then, after_body}
 
@@ -38,9 +39,9 @@ Asks code a types out s x end start at1 away p test =
     → ComesTo code (record s { at = start; locals = l; world = w }) x
 
 module _ (code : Code) (g : Sight) (set : Setting) (room : ℕ) (below : (limit : ℕ) → CallsBelow code g.functions set.statics room limit set.calls)
-    (decodes : set.decode ≡ no_messages) (seen : List ℕ) (x : After) (a : Around) (out : Exits) where
+    (decodes : set.decode ≡ no_messages) (seen : Sight) (x : After) (a : Around) (out : Exits) where
   -- the code of a test
-  pub test_runs : (e : Option Node) (p : Place) (s : State) (end start at1 away : ℕ) → IfSome e (IsTest (record g { seen = seen }))
+  pub test_runs : (e : Option Node) (p : Place) (s : State) (end start at1 away : ℕ) → IfSome e (IsTest (seeing g seen))
       → IfSome e (HasNames (tables_in code))
       → IsFixed g set room s.callers s.statics s.input → HasAt code.lines start (test_code (tables_in code) p e away start)
       → start + length (test_code (tables_in code) p e away start) ≡ at1

@@ -25,7 +25,8 @@ use Rattle.sz_gen_expr.specs.ExpressionCode.{followed}
 use Rattle.sz_gen_expr.specs.Building.{tables_made, Grows, Appends, AppendsLine, AppendsNode, Lands, Nothing}
 use Rattle.sz_gen_expr.proofs.Builds.{grows_itself, grows_on, grows_same, behind, no_shorter, one_longer}
 use Rattle.sz_gen_stmt.specs.StatementCode as codes
-use Rattle.sz_gen_stmt.specs.StatementCode.{no_place, no_exits, branch_code, loop_code, loop_behind_code}
+use Rattle.sz_gen_stmt.specs.FreeLines.{no_place}
+use Rattle.sz_gen_stmt.specs.StatementCode.{no_exits, branch_code, loop_code, loop_behind_code}
 use Rattle.sz_gen_stmt.specs.ProgramCode.{IsCodeOf, returns_undefined, function_code, functions_code, function_routines, static_code, statics_code, static_routines, record_code}
 use Rattle.sz_gen_stmt.specs.Named.{StmsHaveNames}
 use Rattle.sz_gen_stmt.specs.Making.{AppendsStm, AppendsStms, Extends, ExtendsFunction, ExtendsFunctions, ExtendsStatic, ExtendsStatics}

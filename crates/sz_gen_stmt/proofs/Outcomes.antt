@@ -17,7 +17,8 @@ use Rattle.sz_machine.specs.Running.{charged, ComesTo}
 use Rattle.sz_gen_expr.specs.Tables.{line}
 use Rattle.sz_gen_expr.specs.Runs.{Kept, AllKept, NextComes, AfterEval, AfterAll, with_all, HasAt}
 use Rattle.sz_gen_expr.proofs.Steps.{at_line, spend_left}
-use Rattle.sz_gen_stmt.specs.StatementCode.{Exits, in_loop, no_place, discards}
+use Rattle.sz_gen_stmt.specs.FreeLines.{no_place}
+use Rattle.sz_gen_stmt.specs.StatementCode.{Exits, in_loop, discards}
 use Rattle.sz_gen_stmt.specs.Running.{IfIn, AreFlags, AfterReturn, AfterExec}
 
 pub if_in : (b : Bool) (P Q : Type 0) → (P → Q) → IfIn b P → IfIn b Q
@@ -37,7 +38,7 @@ module _ (code : Code) (types : List Shape) (x : After) where
   pub jumps : (s : State) (to : ℕ) (p : Place) → HasAt code.lines s.at (line (Jump to) 0 p ∷ []) → ComesTo code (record s { at = to }) x → ComesTo code s x
   jumps s to p has h = at_line code s (line (Jump to) 0 p) x has.0 tt h
 
-  return_later : (r : Option Shape) (flags : ℕ) (s : State) (at : ℕ) (l : List Slot) (w1 : World) → w1.left ≤ s.world.left
+  pub return_later : (r : Option Shape) (flags : ℕ) (s : State) (at : ℕ) (l : List Slot) (w1 : World) → w1.left ≤ s.world.left
       → (v : Slot) (w : World) → AfterReturn code r flags s x v w → AfterReturn code r flags (record s { at = at; locals = l; world = w1 }) x v w
   return_later None flags s at l w1 le v w h = h
   return_later (Some t) flags s at l w1 le v w h = λ k. h (kept_since s.world w1 t v w le k)

@@ -21,7 +21,7 @@ use Rattle.sz_gen_expr.specs.Runs.{AfterEval, AfterAll, CallsBelow, Ready, HasAt
 use Rattle.sz_gen_expr.proofs.Expressions.{eval_runs, all_run}
 use Rattle.sz_gen_expr.proofs.Parts.{index_types, AreIndexes, indexes_run}
 use Rattle.sz_gen_stmt.specs.StatementCode.{bare_step}
-use Rattle.sz_gen_stmt.specs.Running.{IsFixed}
+use Rattle.sz_gen_stmt.specs.Running.{seeing, IsFixed}
 use Rattle.sz_gen_stmt.proofs.Slots.{fit_at}
 
 -- steps that lead on lead on in the machine, by indexes of their types
@@ -51,8 +51,8 @@ nodes_counted no_nodes = refl
 nodes_counted (with_node e es) = ap suc (nodes_counted es)
 
 -- what an expression sees is there
-ready_with : (g : Sight) (set : Setting) (room : ℕ) (seen : List ℕ) (s : State) → AllFit s.locals g.locals → IsFixed g set room s.callers s.statics s.input
-    → Ready (record g { seen = seen }) set room s
+ready_with : (g : Sight) (set : Setting) (room : ℕ) (seen : Sight) (s : State) → AllFit s.locals g.locals → IsFixed g set room s.callers s.statics s.input
+    → Ready (seeing g seen) set room s
 ready_with g set room seen s fit fixed = record {
   locals_typed = λ n t is. fit_at s.locals g.locals n t fit is;
   statics_typed = fixed.statics_typed;
@@ -62,33 +62,33 @@ ready_with g set room seen s fit fixed = record {
 }
 
 module _ (code : Code) (g : Sight) (set : Setting) (room : ℕ) (below : (limit : ℕ) → CallsBelow code g.functions set.statics room limit set.calls)
-    (decodes : set.decode ≡ no_messages) (seen : List ℕ) where
+    (decodes : set.decode ≡ no_messages) (seen : Sight) where
   -- an expression
-  pub expression_runs : (e : Node) (s : State) (end : ℕ) (x : After) → IsNode (record g { seen = seen }) e → HasNames (tables_in code) e
+  pub expression_runs : (e : Node) (s : State) (end : ℕ) (x : After) → IsNode (seeing g seen) e → HasNames (tables_in code) e
       → AllFit s.locals g.locals
       → IsFixed g set room s.callers s.statics s.input → HasAt code.lines s.at (expression_code (tables_in code) e s.at)
       → s.at + length (expression_code (tables_in code) e s.at) ≡ end
       → AfterEval code (type_of e) s end x (eval set s.locals e s.world) → ComesTo code s x
   expression_runs e s end x sound names fit fixed has en h =
-      eval_runs code (record g { seen = seen }) set room s.world.left (below s.world.left) decodes e s end x sound names
+      eval_runs code (seeing g seen) set room s.world.left (below s.world.left) decodes e s end x sound names
       (ready_with g set room seen s fit fixed) (omega arith) has en h
 
   -- several
-  pub nodes_run : (es : Nodes) (s : State) (end : ℕ) (x : After) → AreNodes (record g { seen = seen }) es → HaveNames (tables_in code) es
+  pub nodes_run : (es : Nodes) (s : State) (end : ℕ) (x : After) → AreNodes (seeing g seen) es → HaveNames (tables_in code) es
       → AllFit s.locals g.locals
       → IsFixed g set room s.callers s.statics s.input → HasAt code.lines s.at (expressions_code (tables_in code) es s.at)
       → s.at + length (expressions_code (tables_in code) es s.at) ≡ end
       → AfterAll code (types_of es) s end x (eval_all set s.locals es s.world) → ComesTo code s x
   nodes_run es s end x sound names fit fixed has en h =
-      all_run code (record g { seen = seen }) set room s.world.left (below s.world.left) decodes es s end x sound names
+      all_run code (seeing g seen) set room s.world.left (below s.world.left) decodes es s end x sound names
       (ready_with g set room seen s fit fixed) (omega arith) has en h
 
   -- the indexes among steps
-  pub steps_run : (steps : List Step) (s : State) (end : ℕ) (x : After) → AreIndexes (record g { seen = seen }) steps → StepsHaveNames (tables_in code) steps
+  pub steps_run : (steps : List Step) (s : State) (end : ℕ) (x : After) → AreIndexes (seeing g seen) steps → StepsHaveNames (tables_in code) steps
       → AllFit s.locals g.locals
       → IsFixed g set room s.callers s.statics s.input → HasAt code.lines s.at (indexes_code (tables_in code) steps s.at)
       → s.at + length (indexes_code (tables_in code) steps s.at) ≡ end
       → AfterAll code (index_types steps) s end x (eval_indexes set s.locals steps s.world) → ComesTo code s x
   steps_run steps s end x sound names fit fixed has en h =
-      indexes_run code (record g { seen = seen }) set room s.world.left (below s.world.left) decodes steps s end x sound names
+      indexes_run code (seeing g seen) set room s.world.left (below s.world.left) decodes steps s end x sound names
       (ready_with g set room seen s fit fixed) (omega arith) has en h

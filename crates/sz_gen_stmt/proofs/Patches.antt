@@ -5,37 +5,38 @@ use Rattle.sz_instr.specs.declared.line.Line.{Line}
 use Rattle.sz_types.specs.declared.place.Place.{Place}
 use Rattle.sz_gen_expr.specs.Tables.{line}
 use Rattle.sz_gen_expr.specs.Building.{patched}
-use Rattle.sz_gen_stmt.specs.StatementCode.{goes, branch_code, loop_code, loop_behind_code}
+use Rattle.sz_gen_stmt.specs.FreeLines.{goes}
+use Rattle.sz_gen_stmt.specs.StatementCode.{branch_code, loop_code, loop_behind_code}
 
 pub length-patched : (lines : List Line) (at to : ℕ) → length (patched lines at to) ≡ length lines
 length-patched [] at to = refl
 length-patched (l ∷ lines) zero to = refl
 length-patched (l ∷ lines) (suc at) to = ap suc (length-patched lines at to)
 
-patched-append : (a b : List Line) (n to : ℕ) → patched (a ++ b) (length a + n) to ≡ a ++ patched b n to
+pub patched-append : (a b : List Line) (n to : ℕ) → patched (a ++ b) (length a + n) to ≡ a ++ patched b n to
 patched-append [] b n to = let e : 0 + n ≡ n = omega arith in ap (λ k. patched b k to) e
 patched-append (x ∷ a) b n to =
     let e : length (x ∷ a) + n ≡ suc (length a + n) = omega arith in
     ap (λ k. patched (x ∷ (a ++ b)) k to) e ∙ ap (λ k. x ∷ k) (patched-append a b n to)
 
-patched-append_end : (a b : List Line) (to : ℕ) → patched (a ++ b) (length a) to ≡ a ++ patched b 0 to
+pub patched-append_end : (a b : List Line) (to : ℕ) → patched (a ++ b) (length a) to ≡ a ++ patched b 0 to
 patched-append_end [] b to = refl
 patched-append_end (x ∷ a) b to = ap (λ k. x ∷ k) (patched-append_end a b to)
 
-one_add : (n : ℕ) → 1 + n ≡ suc n
+pub one_add : (n : ℕ) → 1 + n ≡ suc n
 one_add n = omega arith
 
-two_add : (n : ℕ) → 2 + n ≡ suc (suc n)
+pub two_add : (n : ℕ) → 2 + n ≡ suc (suc n)
 two_add n = omega arith
 
-three_add : (n : ℕ) → 3 + n ≡ suc (suc (suc n))
+pub three_add : (n : ℕ) → 3 + n ≡ suc (suc (suc n))
 three_add n = omega arith
 
-suc_plus : (m n : ℕ) → suc m + n ≡ suc (m + n)
+pub suc_plus : (m n : ℕ) → suc m + n ≡ suc (m + n)
 suc_plus m n = omega arith
 
 -- what brings code in the making and its definition to one form
-ruleset patches = (append_assoc, length-append, add_assoc, patched-append, patched-append_end, one_add, two_add, three_add, suc_plus, length-patched)
+pub ruleset patches = (append_assoc, length-append, add_assoc, patched-append, patched-append_end, one_add, two_add, three_add, suc_plus, length-patched)
 
 pub branch_lines : (base ce : List Line) (ca cb : ℕ → List Line) (c1 c2 c3 c4 c5 c6 c7 : List Line) (p : Place) (skip over : ℕ)
     → c1 ≡ base ++ ce → skip ≡ length c1 → c2 ≡ c1 ++ line (Test 0) 1 p ∷ [] → c3 ≡ c2 ++ ca (length c2) → over ≡ length c3 → c4 ≡ c3 ++ goes 0 ∷ []

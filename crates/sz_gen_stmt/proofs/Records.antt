@@ -22,7 +22,7 @@ use Rattle.sz_gen_expr.specs.Tables.{tables_in}
 use Rattle.sz_gen_expr.specs.Runs.{CallsBelow, HasAt}
 use Rattle.sz_gen_expr.proofs.Steps.{has_front, has_back, at_line}
 use Rattle.sz_gen_stmt.specs.StatementCode.{no_exits, statement_code, statements_code}
-use Rattle.sz_gen_stmt.specs.SearchCode.{free}
+use Rattle.sz_gen_stmt.specs.FreeLines.{free}
 use Rattle.sz_gen_stmt.specs.Running.{AfterExec, IsFixed}
 use Rattle.sz_gen_stmt.specs.Named.{StmsHaveNames}
 use Rattle.sz_gen_stmt.proofs.Outcomes.{from_later, after_then}
@@ -98,7 +98,7 @@ module _ (code : Code) (functions : List Function) (whole : Declared)
         room_left = room;
       } in
       exec_runs code g set most_open_calls below refl (λ n t e. subst (λ l. slice_get l n ≡ Some t) (sym tables_same) (before.tables n t e)) x
-      c seen top no_exits s at1 sound.0 of.0 fit fixed tt tt (has_front lines s.at front later has) refl
+      c g top no_exits s at1 sound.0 of.0 fit fixed tt tt (has_front lines s.at front later has) refl
       (after_then code locals x top no_exits s end at1 s.at s.locals s.world (exec_all set behind) (omega arith)
       (λ l w k h1. (let le = k.left in
       body_runs rest (seen_behind g c).seen d (record s { at = at1; locals = l; world = w }) end sound.1

@@ -20,7 +20,7 @@ use Rattle.sz_gen_expr.specs.Tables.{Tables, tables_in}
 use Rattle.sz_gen_expr.specs.Runs.{CallsBelow, HasAt}
 use Rattle.sz_gen_expr.proofs.Steps.{has_front, has_back}
 use Rattle.sz_gen_stmt.specs.StatementCode.{no_exits, statements_code}
-use Rattle.sz_gen_stmt.specs.SearchCode.{free}
+use Rattle.sz_gen_stmt.specs.FreeLines.{free}
 use Rattle.sz_gen_stmt.specs.ProgramCode.{IsCodeOf, functions_code, statics_code, static_routines, record_code}
 use Rattle.sz_gen_stmt.specs.Simulates.{Simulates, static_types}
 use Rattle.sz_gen_stmt.proofs.Slots.{fit_undefined}

@@ -6,9 +6,9 @@ use Rattle.sz_types.specs.Tables.{Declaration}
 use Rattle.sz_types.specs.declared.place.Place.{Place}
 use Rattle.sz_core.specs.Nodes.{Node, type_of, types_of}
 use Rattle.sz_core.specs.Statements.{Stm, block, clear, keep, store, evaluate, branch, while, do_while, for_loop, break, continue}
-use Rattle.sz_core.specs.Statements.{return_value, end_record, emit, Stms, no_stms, with_stm}
+use Rattle.sz_core.specs.Statements.{return_value, end_record, emit, Quantified, when, Stms, no_stms, with_stm}
 use Rattle.sz_core.specs.Typing.{Sight, IsNode}
-use Rattle.sz_core.specs.Sound.{Around, IsWeightOf, seen_behind, IsStm, AreStms}
+use Rattle.sz_core.specs.Sound.{Around, IsTest, IsWeightOf, seen_behind, out_of_loops, in_condition, with_bound, with_all_bound, bound_inside, AreQuantified, IsStm, AreStms}
 use Rattle.sz_instr.specs.declared.instr.Instr.TheVariants.{Keep, Clear, Store, Test, Return, EndRecord, Discard, Emit}
 use Rattle.sz_instr.specs.declared.code.Code.{Code}
 use Rattle.sz_world.specs.World.{World, and_then, spend}
@@ -23,12 +23,13 @@ use Rattle.sz_machine.specs.Running.{ComesTo}
 use Rattle.sz_gen_expr.specs.Tables.{tables_in, line}
 use Rattle.sz_gen_expr.specs.ExpressionCode.{expression_code, expressions_code, indexes_code, code_if_some, count_of}
 use Rattle.sz_gen_expr.specs.Named.{HasNames}
-use Rattle.sz_gen_expr.specs.Runs.{CallsBelow, AllKept, with_all, HasAt}
+use Rattle.sz_gen_expr.specs.Runs.{AfterEval, CallsBelow, AllKept, with_all, HasAt}
 use Rattle.sz_gen_expr.proofs.Stacks.{length-all_fit}
 use Rattle.sz_gen_expr.proofs.Steps.{has_front, has_back, at_line}
-use Rattle.sz_gen_stmt.specs.StatementCode.{Exits, in_loop, no_place, goes, discards, bare_step, statement_code, statements_code}
-use Rattle.sz_gen_stmt.specs.Named.{StmHasNames, StmsHaveNames}
-use Rattle.sz_gen_stmt.specs.Running.{IfIn, AreFlags, MayReturn, AfterReturn, AfterExec, IsFixed}
+use Rattle.sz_gen_stmt.specs.FreeLines.{no_place, goes}
+use Rattle.sz_gen_stmt.specs.StatementCode.{Exits, in_loop, in_search, variable_code_of, discards, bare_step, statement_code, statements_code}
+use Rattle.sz_gen_stmt.specs.Named.{BasesHaveNames, StmHasNames, StmsHaveNames}
+use Rattle.sz_gen_stmt.specs.Running.{seeing, IfIn, AreFlags, MayReturn, AfterReturn, AfterExec, IsFixed}
 use Rattle.sz_gen_stmt.proofs.Outcomes.{from_later, ends_at, after_value, after_some, after_values, pays_for, after_then, discards_run}
 use Rattle.sz_gen_stmt.proofs.Parts.{leads_on, nodes_counted, expression_runs, nodes_run, steps_run}
 use Rattle.sz_gen_expr.proofs.Parts.{index_types, indexes_of_path}
@@ -36,12 +37,18 @@ use Rattle.sz_gen_stmt.proofs.Slots.{fit_set, fit_clear, fit_at}
 use Rattle.sz_gen_stmt.proofs.LastLines.{store_runs, discard_runs, emit_runs}
 use Rattle.sz_gen_stmt.proofs.Loops.{test_runs}
 use Rattle.sz_gen_stmt.proofs.LoopCode.{loop_runs, loop_behind_runs}
+use Rattle.sz_gen_stmt.proofs.Searches.{elsewhere, VariableRuns}
+use Rattle.sz_gen_stmt.proofs.SearchesInOrder.{AllRun, when_runs}
 
--- a statement changes no more of what is seen than which variables are
-pub seen_more : (g : Sight) (c : Stm) → seen_behind g c ≡ record g { seen = (seen_behind g c).seen }
-seen_more g (clear n) = refl
-seen_more g (keep p n e) = refl
-seen_more g c = refl
+-- behind a statement the routine is the same
+pub seen_more : (g seen : Sight) (c : Stm) → seen_behind (seeing g seen) c ≡ seeing g (seen_behind (seeing g seen) c)
+seen_more g seen (clear n) = refl
+seen_more g seen (keep p n e) = refl
+seen_more g seen c = refl
+
+pub bound_more : (g seen : Sight) (vs : List Quantified) → with_all_bound vs (seeing g seen) ≡ seeing g (with_all_bound vs (seeing g seen))
+bound_more g seen [] = refl
+bound_more g seen (v ∷ vs) = bound_more g (with_bound v (seeing g seen)) vs
 
 no_weight : (g : Sight) (t : Option Shape) → IsWeightOf g t None → WeightFits None t
 no_weight g None h = tt
@@ -55,9 +62,9 @@ module _ (code : Code) (g : Sight) (set : Setting) (room : ℕ) (below : (limit 
     (decodes : set.decode ≡ no_messages)
     (tables_there : (n : ℕ) (d : Declaration) → slice_get g.tables n ≡ Some d → slice_get code.tables n ≡ Some d) (x : After) where
   -- the weight of an emit, if it has one, and the emit
-  weight_runs : (seen : List ℕ) (w : Option Node) (a : Around) (out : Exits) (s : State) (end at at1 : ℕ) (p : Place) (table n : ℕ) (d : Declaration)
+  weight_runs : (seen : Sight) (w : Option Node) (a : Around) (out : Exits) (s : State) (end at at1 : ℕ) (p : Place) (table n : ℕ) (d : Declaration)
       (indexes : List Slot) (value : Slot) (w1 : World)
-      → IsWeightOf (record g { seen = seen }) d.weight w → IfSome w (HasNames (tables_in code)) → AllFit s.locals g.locals
+      → IsWeightOf (seeing g seen) d.weight w → IfSome w (HasNames (tables_in code)) → AllFit s.locals g.locals
       → IsFixed g set room s.callers s.statics s.input
       → HasAt code.lines at (code_if_some (tables_in code) w at) → at + length (code_if_some (tables_in code) w at) ≡ at1
       → slice_get code.lines at1 ≡ Some (line (Emit table n (is_some w)) 1 p)
@@ -68,21 +75,36 @@ module _ (code : Code) (g : Sight) (set : Setting) (room : ℕ) (below : (limit 
   weight_runs seen None a out s end at at1 p table n d indexes value w1 sound of fit fixed has en found len le there fi fv count h =
       let same : at1 ≡ at = omega (arith, en) in
       emit_runs code g.locals x a out s end at (ap suc (sym same) ∙ len) fit p table n d indexes value None w1 le there fi fv
-      (no_weight (record g { seen = seen }) d.weight sound) count
+      (no_weight (seeing g seen) d.weight sound) count
       (subst (λ k. slice_get code.lines k ≡ Some (line (Emit table n false) 1 p)) same found) h
   weight_runs seen (Some e) a out s end at at1 p table n d indexes value w1 sound of fit fixed has en found len le there fi fv count h =
       let s1 : State = record s { at = at; stack = value ∷ with_all indexes s.stack; world = w1 } in
-      let weight = some_weight (record g { seen = seen }) d.weight e sound in
+      let weight = some_weight (seeing g seen) d.weight e sound in
       expression_runs code g set room below decodes seen e s1 at1 x weight.0 of fit fixed has en
       (after_some code g.locals x a out (type_of e) s s1 end at1 _ (λ v w2 k h1.
       let le1 = k.left in
       emit_runs code g.locals x a out s end at1 len fit p table n d indexes value (Some v) w2 (omega arith) there fi fv (weight.1 v k.typed) count found h1)
       (eval set s.locals e w1) h)
 
+  -- what is known of the variables of a `when`, each of which sees those before it
+  variables_run : (vs : List Quantified) (seen : Sight) (s : State) → AreQuantified (seeing g seen) vs → BasesHaveNames (tables_in code) vs
+      → IsFixed g set room s.callers s.statics s.input → AllRun code set g.locals s x vs
+  variables_run [] seen s sound of fixed = tt
+  variables_run (v ∷ vs) seen s sound of fixed =
+      let known : VariableRuns code g.locals s x (variable_code_of (tables_in code) v) (λ l. eval set l v.base) = record {
+        of = type_of v.base;
+        type = sound.2.0;
+        runs = λ at end stack l lists w fit has en h.
+            expression_runs code g set room below decodes seen v.base (elsewhere s at stack l lists w) end x sound.0 of.0 fit fixed has en h;
+        candidates = sound.2.2;
+        local = sound.2.1;
+      } in
+      (known, variables_run vs (with_bound v (seeing g seen)) s sound.3 of.1 fixed)
+
   mutual
     unfolding IsStm AreStms
 
-    pub exec_runs : (c : Stm) (seen : List ℕ) (a : Around) (out : Exits) (s : State) (end : ℕ) → IsStm (record g { seen = seen }) a c
+    pub exec_runs : (c : Stm) (seen : Sight) (a : Around) (out : Exits) (s : State) (end : ℕ) → IsStm (seeing g seen) a c
         → StmHasNames (tables_in code) c
         → AllFit s.locals g.locals → IsFixed g set room s.callers s.statics s.input → MayReturn a.result s.callers → AreFlags out.flags s.stack
         → HasAt code.lines s.at (statement_code (tables_in code) c out s.at) → s.at + length (statement_code (tables_in code) c out s.at) ≡ end
@@ -117,7 +139,7 @@ module _ (code : Code) (g : Sight) (set : Setting) (room : ℕ) (below : (limit 
         let len : suc at2 ≡ end = omega (arith, en, length-append (ci ++ ce) (l ∷ [])) in
         let parts = has_front lines s.at (ci ++ ce) (l ∷ []) has in
         let t = sound.2.0 in
-        steps_run code g set room below decodes seen steps s at1 x (indexes_of_path (record g { seen = seen }) t steps (type_of e) sound.2.2) of.0 fit fixed
+        steps_run code g set room below decodes seen steps s at1 x (indexes_of_path (seeing g seen) t steps (type_of e) sound.2.2) of.0 fit fixed
         (has_front lines s.at ci ce parts) refl
         (after_values code g.locals x a out (index_types steps) s s end at1 _ (λ vs w1 k1 h1.
         let s1 : State = record s { at = at1; stack = with_all vs s.stack; world = w1 } in
@@ -126,7 +148,7 @@ module _ (code : Code) (g : Sight) (set : Setting) (room : ℕ) (below : (limit 
         (after_value code g.locals x a out (type_of e) s s1 end at2 _ (λ v w2 k2 h2.
         let le1 = k1.left in let le2 = k2.left in
         store_runs code g.locals x a out s end at2 len fit p n steps t (type_of e) vs v w2 (omega arith) sound.2.1
-        (leads_on (record g { seen = seen }) t steps (type_of e) sound.2.2) k1.typed k2.typed (has_back lines s.at (ci ++ ce) (l ∷ []) has).0 h2)
+        (leads_on (seeing g seen) t steps (type_of e) sound.2.2) k1.typed k2.typed (has_back lines s.at (ci ++ ce) (l ∷ []) has).0 h2)
         (eval set s.locals e w1) h1)) (eval_indexes set s.locals steps s.world) h)
     exec_runs (evaluate p e) seen a out s end sound of fit fixed may flags has en h =
         let ce = expression_code (tables_in code) e s.at in
@@ -246,8 +268,22 @@ module _ (code : Code) (g : Sight) (set : Setting) (room : ℕ) (below : (limit 
         (omega (arith, length-append (cs ++ ce) cw)) (has_back lines s.at ((cs ++ ce) ++ cw) (l ∷ []) has).0 len (omega arith) (tables_there table d sound.2.1)
         (subst (λ ts. AllFit vs ts) sound.2.2 k1.typed) (subst (λ t. Fits v t) sound.2.3 k2.typed) (ap length (sym sound.2.2) ∙ sym (nodes_counted es)) h2)
         (eval set s.locals e w1) h1)) (eval_all set s.locals es s.world) h)
+    exec_runs (when p vs c body) seen a out s end sound of fit fixed may flags has en h =
+        let tested = in_condition (seeing g seen) in
+        let asking = with_all_bound vs (seeing g tested) in
+        let within = with_all_bound (bound_inside vs) (seeing g seen) in
+        let sound1 : IsTest (seeing g asking) c = subst (λ v. IsTest v c) (bound_more g tested vs) sound.1 in
+        let sound2 : IsStm (seeing g within) (out_of_loops a) body = subst (λ v. IsStm v (out_of_loops a) body) (bound_more g seen (bound_inside vs)) sound.3 in
+        when_runs code set g.locals s x a out p (expression_code (tables_in code) c) (λ f. statement_code (tables_in code) body (in_search out f))
+        (λ l. eval set l c) (exec set body)
+        (λ at end1 stack l lists w fit1 has1 en1 h1. expression_runs code g set room below decodes asking c (elsewhere s at stack l lists w) end1 x
+        sound1.0 of.2 fit1 fixed has1 en1
+        (subst (λ t. AfterEval code t (elsewhere s at stack l lists w) end1 x (eval set l c w)) (sym sound1.1) h1))
+        (λ f at end1 stack l lists w are fit1 has1 en1 h1. exec_runs body within (out_of_loops a) (in_search out f) (elsewhere s at stack l lists w) end1
+        sound2 of.3 fit1 fixed may are has1 en1 h1)
+        vs (variables_run vs tested s sound.0 of.0 fixed) of.1 end flags fit has en h
 
-    pub all_run : (cs : Stms) (seen : List ℕ) (a : Around) (out : Exits) (s : State) (end : ℕ) → AreStms (record g { seen = seen }) a cs
+    pub all_run : (cs : Stms) (seen : Sight) (a : Around) (out : Exits) (s : State) (end : ℕ) → AreStms (seeing g seen) a cs
         → StmsHaveNames (tables_in code) cs
         → AllFit s.locals g.locals → IsFixed g set room s.callers s.statics s.input → MayReturn a.result s.callers → AreFlags out.flags s.stack
         → HasAt code.lines s.at (statements_code (tables_in code) cs out s.at) → s.at + length (statements_code (tables_in code) cs out s.at) ≡ end
@@ -260,8 +296,8 @@ module _ (code : Code) (g : Sight) (set : Setting) (room : ℕ) (below : (limit 
         let at1 = s.at + length front in
         let rest = statements_code (tables_in code) cs out at1 in
         let len : at1 + length rest ≡ end = omega (arith, en, length-append front rest) in
-        let more = (seen_behind (record g { seen = seen }) c).seen in
-        let sound1 : AreStms (record g { seen = more }) a cs = subst (λ v. AreStms v a cs) (seen_more (record g { seen = seen }) c) sound.1 in
+        let more = seen_behind (seeing g seen) c in
+        let sound1 : AreStms (seeing g more) a cs = subst (λ v. AreStms v a cs) (seen_more g seen c) sound.1 in
         exec_runs c seen a out s at1 sound.0 of.0 fit fixed may flags (has_front code.lines s.at front rest has) refl
         (after_then code g.locals x a out s end at1 s.at s.locals s.world (exec_all set cs) (omega arith)
         (λ l w k h1. (let le = k.left in all_run cs more a out (record s { at = at1; locals = l; world = w }) end sound1 of.1 k.typed fixed may flags

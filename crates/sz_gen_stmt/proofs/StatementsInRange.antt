@@ -6,9 +6,9 @@ use Rattle.sz_types.specs.Data.{Shape}
 use Rattle.sz_types.specs.declared.place.Place.{Place}
 use Rattle.sz_core.specs.Nodes.{Node, type_of}
 use Rattle.sz_core.specs.Statements.{Stm, block, clear, keep, store, evaluate, branch, while, do_while, for_loop, break, continue}
-use Rattle.sz_core.specs.Statements.{return_value, end_record, emit, Stms, no_stms, with_stm}
+use Rattle.sz_core.specs.Statements.{return_value, end_record, emit, Quantified, when, Stms, no_stms, with_stm}
 use Rattle.sz_core.specs.Typing.{Sight, IsNode}
-use Rattle.sz_core.specs.Sound.{Around, IsTest, IsWeightOf, seen_behind, IsStm, AreStms}
+use Rattle.sz_core.specs.Sound.{Around, IsTest, IsWeightOf, seen_behind, out_of_loops, in_condition, with_bound, with_all_bound, bound_inside, AreQuantified, IsStm, AreStms}
 use Rattle.sz_core.specs.Sound.{in_loop as inner}
 use Rattle.sz_instr.specs.WellFormed.{most_locals}
 use Rattle.sz_instr.specs.declared.instr.Instr.TheVariants.{Keep, Store, Tick, Test, Return, Discard, Emit}
@@ -18,11 +18,14 @@ use Rattle.sz_gen_expr.specs.Tables.{tables_in, line}
 use Rattle.sz_gen_expr.specs.ExpressionCode.{expression_code, expressions_code, indexes_code, code_if_some, count_of}
 use Rattle.sz_gen_expr.specs.Named.{HasNames}
 use Rattle.sz_gen_expr.proofs.Parts.{indexes_of_path}
-use Rattle.sz_gen_stmt.specs.StatementCode.{Exits, in_loop, goes, discards, bare_step, test_code, loop_code, loop_behind_code, statement_code, statements_code}
-use Rattle.sz_gen_stmt.specs.Named.{StmHasNames, StmsHaveNames}
-use Rattle.sz_gen_stmt.proofs.Statements.{seen_more}
+use Rattle.sz_gen_stmt.specs.FreeLines.{goes}
+use Rattle.sz_gen_stmt.specs.StatementCode.{Exits, in_loop, in_search, discards, bare_step, test_code, loop_code, loop_behind_code, statement_code, statements_code}
+use Rattle.sz_gen_stmt.specs.Named.{BasesHaveNames, StmHasNames, StmsHaveNames}
+use Rattle.sz_gen_stmt.proofs.Statements.{seen_more, bound_more}
 use Rattle.sz_gen_stmt.proofs.ExpressionsInRange.{AreInRange, both_in_range, IsRoomFor, local_in_range, closed_in_range, front_fits, back_fits}
+use Rattle.sz_gen_stmt.proofs.SearchesInRange.{AllInRange, when_in_range}
 use Rattle.sz_gen_stmt.proofs.ExpressionsInRange.{node_in_range, nodes_in_range, steps_in_range, some_in_range}
+use Rattle.sz_gen_stmt.specs.Running.{seeing}
 
 weight_sound : (g : Sight) (t : Option Shape) (e : Option Node) → IsWeightOf g t e → IfSome e (IsNode g)
 weight_sound g None None h = tt
@@ -98,7 +101,7 @@ module _ (code : Code) where
       )
 
 module _ (code : Code) (g : Sight) (room : IsRoomFor code g) where
-  test_in_range : (seen : List ℕ) (e : Option Node) (p : Place) (away at : ℕ) → IfSome e (IsTest (record g { seen = seen }))
+  test_in_range : (seen : Sight) (e : Option Node) (p : Place) (away at : ℕ) → IfSome e (IsTest (seeing g seen))
       → IfSome e (HasNames (tables_in code))
       → away < length code.lines → at + length (test_code (tables_in code) p e away at) ≤ length code.lines
       → AreInRange code (test_code (tables_in code) p e away at)
@@ -109,10 +112,18 @@ module _ (code : Code) (g : Sight) (room : IsRoomFor code g) where
       (front_fits code ce (line (Test away) 1 p ∷ []) at fits))
       (lt-ltb away (length code.lines) few, tt)
 
+  variables_in_range : (vs : List Quantified) (seen : Sight) → AreQuantified (seeing g seen) vs → BasesHaveNames (tables_in code) vs → AllInRange code vs
+  variables_in_range [] seen sound names = tt
+  variables_in_range (v ∷ vs) seen sound names = (
+    λ at fits. node_in_range code g room seen v.base at sound.0 names.0 fits,
+    local_in_range code g room v.local sound.2.0 sound.2.1,
+    variables_in_range vs (with_bound v (seeing g seen)) sound.3 names.1,
+  )
+
   mutual
     unfolding IsStm AreStms
 
-    pub stm_in_range : (c : Stm) (seen : List ℕ) (a : Around) (out : Exits) (at : ℕ) → IsStm (record g { seen = seen }) a c → StmHasNames (tables_in code) c
+    pub stm_in_range : (c : Stm) (seen : Sight) (a : Around) (out : Exits) (at : ℕ) → IsStm (seeing g seen) a c → StmHasNames (tables_in code) c
         → out.on_break < length code.lines → out.on_continue < length code.lines → at + length (statement_code (tables_in code) c out at) < length code.lines
         → AreInRange code (statement_code (tables_in code) c out at)
     stm_in_range (block cs) seen a out at sound names b k fits = stms_in_range cs seen a out at sound names b k fits
@@ -129,7 +140,7 @@ module _ (code : Code) (g : Sight) (room : IsRoomFor code g) where
         let f1 = front_fits code (ci ++ ce) (line (Store n (map bare_step steps)) 1 p ∷ []) at (omega (arith, fits)) in
         closed_in_range code (ci ++ ce) (Store n (map bare_step steps)) p
         (both_in_range code ci ce
-        (steps_in_range code g room seen steps at (indexes_of_path (record g { seen = seen }) sound.2.0 steps (type_of e) sound.2.2) names.0
+        (steps_in_range code g room seen steps at (indexes_of_path (seeing g seen) sound.2.0 steps (type_of e) sound.2.2) names.0
         (front_fits code ci ce at f1))
         (node_in_range code g room seen e (at + length ci) sound.1 names.1 (back_fits code ci ce at f1)))
         (lt-ltb n (most_locals code) (local_in_range code g room n sound.2.0 sound.2.1))
@@ -197,11 +208,21 @@ module _ (code : Code) (g : Sight) (room : IsRoomFor code g) where
         (both_in_range code (cs ++ ce) cw
         (both_in_range code cs ce (nodes_in_range code g room seen es at sound.0 names.0 (front_fits code cs ce at f1))
         (node_in_range code g room seen e (at + length cs) sound.1 names.1 (back_fits code cs ce at f1)))
-        (some_in_range code g room seen w (at + length (cs ++ ce)) (weight_sound (record g { seen = seen }) sound.2.0.weight w sound.2.4) names.2
+        (some_in_range code g room seen w (at + length (cs ++ ce)) (weight_sound (seeing g seen) sound.2.0.weight w sound.2.4) names.2
         (back_fits code (cs ++ ce) cw at f2)))
         (lt-ltb table (length code.tables) (room.tables table sound.2.0 sound.2.1))
+    stm_in_range (when p vs c body) seen a out at sound names b k fits =
+        let tested = in_condition (seeing g seen) in
+        let asking = with_all_bound vs (seeing g tested) in
+        let within = with_all_bound (bound_inside vs) (seeing g seen) in
+        let sound1 : IsTest (seeing g asking) c = subst (λ v. IsTest v c) (bound_more g tested vs) sound.1 in
+        let sound2 : IsStm (seeing g within) (out_of_loops a) body = subst (λ v. IsStm v (out_of_loops a) body) (bound_more g seen (bound_inside vs)) sound.3 in
+        when_in_range code p (expression_code (tables_in code) c) (λ f. statement_code (tables_in code) body (in_search out f))
+        (λ n h. node_in_range code g room asking c n sound1.0 names.2 h)
+        (λ f n h. stm_in_range body within (out_of_loops a) (in_search out f) n sound2 names.3 b k h)
+        vs (variables_in_range vs tested sound.0 names.0) names.1 out.flags at fits
 
-    pub stms_in_range : (cs : Stms) (seen : List ℕ) (a : Around) (out : Exits) (at : ℕ) → AreStms (record g { seen = seen }) a cs
+    pub stms_in_range : (cs : Stms) (seen : Sight) (a : Around) (out : Exits) (at : ℕ) → AreStms (seeing g seen) a cs
         → StmsHaveNames (tables_in code) cs
         → out.on_break < length code.lines → out.on_continue < length code.lines → at + length (statements_code (tables_in code) cs out at) < length code.lines
         → AreInRange code (statements_code (tables_in code) cs out at)
@@ -209,8 +230,8 @@ module _ (code : Code) (g : Sight) (room : IsRoomFor code g) where
     stms_in_range (with_stm c cs) seen a out at sound names b k fits =
         let front = statement_code (tables_in code) c out at in
         let rest = statements_code (tables_in code) cs out (at + length front) in
-        let more = (seen_behind (record g { seen = seen }) c).seen in
-        let sound1 : AreStms (record g { seen = more }) a cs = subst (λ v. AreStms v a cs) (seen_more (record g { seen = seen }) c) sound.1 in
+        let more = seen_behind (seeing g seen) c in
+        let sound1 : AreStms (seeing g more) a cs = subst (λ v. AreStms v a cs) (seen_more g seen c) sound.1 in
         let a1 = length-append front rest in
         both_in_range code front rest (stm_in_range c seen a out at sound.0 names.0 b k (omega (arith, fits, a1)))
         (stms_in_range cs more a out (at + length front) sound1 names.1 b k (omega (arith, fits, a1)))

@@ -23,7 +23,7 @@ use Rattle.sz_gen_expr.specs.Tables.{tables_in, line}
 use Rattle.sz_gen_expr.specs.ExpressionCode.{expression_code}
 use Rattle.sz_gen_expr.specs.Runs.{NextComes, AfterEval, CallsBelow, HasAt}
 use Rattle.sz_gen_expr.proofs.Steps.{has_front, has_back, at_line}
-use Rattle.sz_gen_stmt.specs.SearchCode.{free}
+use Rattle.sz_gen_stmt.specs.FreeLines.{free}
 use Rattle.sz_gen_stmt.specs.Named.{StaticsHaveNames}
 use Rattle.sz_gen_stmt.specs.Running.{IsFixed}
 use Rattle.sz_gen_stmt.specs.ProgramCode.{static_code, statics_code, static_routines}
@@ -165,7 +165,7 @@ module _ (code : Code) (functions : List Function) (whole : Declared)
         room_left = refl;
       } in
       let comes : (x : After) → AfterEval code (type_of v.value) s0 at1 x (eval set [] v.value w) → ComesTo code s0 x =
-      λ x h. expression_runs code g set most_open_calls below refl [] v.value s0 at1 x sound.0.value of.0 tt fixed
+      λ x h. expression_runs code g set most_open_calls below refl g v.value s0 at1 x sound.0.value of.0 tt fixed
       (has_front lines at ce (keep ∷ free EndRecord ∷ []) own_has) refl h in
       let fits = gives_typed code (type_of v.value) s0 at1 (eval set [] v.value w) comes in
       static_follows v.place slots n code whole.statics v.type s0 (static_routines tables (suc n) (statics_of rest) later)

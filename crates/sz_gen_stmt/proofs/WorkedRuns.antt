@@ -4,21 +4,17 @@ use Rattle.std.specs.Int.{int_wrap}
 use Rattle.sz_types.specs.Data.{Shape}
 use Rattle.sz_value.specs.Data.{truth, int, str}
 use Rattle.sz_tabs.specs.Data.{EmitDatum}
+use Rattle.sz_core.specs.Statements.{some, each, all}
 use Rattle.sz_core.specs.Programs.{Core, functions_of, statics_of, tables_of}
-use Rattle.sz_instr.specs.declared.instr.Instr.TheVariants.{EndRecord}
 use Rattle.sz_instr.specs.declared.line.Line.{Line}
 use Rattle.sz_instr.specs.declared.code.Code.{Code}
-use Rattle.sz_world.specs.World.{Outcome, Done, Faulted, budget_passed}
+use Rattle.sz_world.specs.World.{Outcome, Done, Faulted}
 use Rattle.sz_mean.specs.Programs.{mean}
-use Rattle.sz_mean.specs.Search.{some}
-use Rattle.sz_mean.proofs.WorkedTrees.{at, variable, emits_sum, joins_texts, counts_down, counts_up, emits_if, stores_outside, calls_on}
-use Rattle.sz_mean.proofs.WorkedTrees.{emits_without_weight, undefined_left, two_numbers, is_five, emits_place}
+use Rattle.sz_mean.proofs.WorkedTrees.{at, number, emits_sum, joins_texts, counts_down, counts_up, emits_if, stores_outside, calls_on}
+use Rattle.sz_mean.proofs.WorkedTrees.{emits_without_weight, undefined_left, nothing, emits_place, emits_seven, searches}
 use Rattle.sz_machine.specs.States.{State, After, Goes, Halts, Faults, Stuck}
 use Rattle.sz_machine.specs.Running.{does, record_start}
 use Rattle.sz_gen_expr.specs.Tables.{Tables}
-use Rattle.sz_gen_expr.specs.ExpressionCode.{expression_code}
-use Rattle.sz_gen_stmt.specs.StatementCode.{no_exits, statement_code}
-use Rattle.sz_gen_stmt.specs.SearchCode.{VariableCode, when_code}
 use Rattle.sz_gen_stmt.specs.ProgramCode.{functions_code, function_routines, statics_code, static_routines, record_code}
 
 -- what the line at the state's place leads to
@@ -42,7 +38,7 @@ outcome Stuck = None
 
 tables : Tables
 tables = record {
-  constants = truth false ∷ truth true ∷ int (pos 0) ∷ int (pos 1) ∷ int (pos 2) ∷ int (pos 3) ∷ int (pos 5) ∷ str (codes "ab") ∷ str (codes "c") ∷ [];
+  constants = truth false ∷ truth true ∷ int (pos 0) ∷ int (pos 1) ∷ int (pos 2) ∷ int (pos 3) ∷ int (pos 5) ∷ int (pos 7) ∷ str (codes "ab") ∷ str (codes "c") ∷ [];
   types = Shape.int ∷ [];
 }
 
@@ -134,32 +130,29 @@ too_deep : ends calls_on (2 ^ 24) [] ≡ means calls_on (2 ^ 24) []
 unfolding ends means outcome code_of tables run carry_on step_by int_wrap
 too_deep = refl
 
--- a: array of int = {3, 5};
--- when (i: some int; a[i] == 5) emit c <- i;
-search_lines : List Line
-search_lines =
-    let first = statement_code tables two_numbers no_exits 0 in
-    let i : VariableCode = record { quantity = some; local = 1; slice = false; base = expression_code tables (variable (at 3 20) (Shape.array Shape.int) 0) } in
-    first ++ when_code tables (at 3 1) (expression_code tables is_five) (λ flags. statement_code tables emits_place no_exits) (i ∷ []) 0 (length first)
+-- the first candidate with which the condition is true
+some_enough : ends (searches some (number (at 3 28) 3) emits_place) 17 [] ≡ means (searches some (number (at 3 28) 3) emits_place) 17 []
+unfolding ends means outcome code_of tables run carry_on step_by int_wrap
+some_enough = refl
 
-search_code : Code
-search_code = record {
-  lines = search_lines ++ record { instr = EndRecord; charge = 0; place = at 1 1 } ∷ [];
-  functions = [];
-  statics = [];
-  main = record { entry = 0; params = 0; locals = 2 };
-  constants = tables.constants;
-  types = [];
-  tables = [];
-}
+some_less : ends (searches some (number (at 3 28) 3) emits_place) 16 [] ≡ means (searches some (number (at 3 28) 3) emits_place) 16 []
+unfolding ends means outcome code_of tables run carry_on step_by int_wrap
+some_less = refl
 
-searches : ℕ → Option (Outcome (List EmitDatum))
-searches budget = outcome (run search_code 200 (record_start search_code [] [] budget))
+-- each candidate
+each_enough : ends (searches each (number (at 3 28) 3) emits_place) 23 [] ≡ means (searches each (number (at 3 28) 3) emits_place) 23 []
+unfolding ends means outcome code_of tables run carry_on step_by int_wrap
+each_enough = refl
 
-search_enough : searches 23 ≡ Some (Done (record { table = 0; indexes = []; value = int (pos 1); weight = None } ∷ []))
-unfolding searches search_code search_lines outcome tables run carry_on step_by int_wrap
-search_enough = refl
+each_less : ends (searches each (number (at 3 28) 3) emits_place) 22 [] ≡ means (searches each (number (at 3 28) 3) emits_place) 22 []
+unfolding ends means outcome code_of tables run carry_on step_by int_wrap
+each_less = refl
 
-search_less : searches 22 ≡ Some (Faulted (record { kind = budget_passed; place = at 3 31 }))
-unfolding searches search_code search_lines outcome tables run carry_on step_by int_wrap
-search_less = refl
+-- all candidates: with one the condition is false, or it is undefined with each
+all_refuted : ends (searches all (number (at 3 28) 3) emits_seven) 20 [] ≡ means (searches all (number (at 3 28) 3) emits_seven) 20 []
+unfolding ends means outcome code_of tables run carry_on step_by int_wrap
+all_refuted = refl
+
+all_undefined : ends (searches all nothing emits_seven) 27 [] ≡ means (searches all nothing emits_seven) 27 []
+unfolding ends means outcome code_of tables run carry_on step_by int_wrap
+all_undefined = refl

@@ -1,6 +1,7 @@
 -- what the public contracts rest on
-pub mod StatementCode
+pub mod FreeLines
 pub mod SearchCode
+pub mod StatementCode
 pub mod Named
 pub mod ProgramCode
 pub mod Simulates

@@ -1,24 +1,27 @@
 -- Code in the making, with the code of statements and routines behind what it has.
-use Rattle.std.specs.Prelude.{◌≡◌, ℕ, pos, List, [], ◌∷◌, ◌++◌, length}
+use Rattle.std.specs.Prelude.{◌≡◌, ℕ, pos, List, [], ◌∷◌, ◌++◌, length, map}
 use Rattle.sz_value.specs.Data.{Datum}
 use Rattle.sz_core.specs.Programs.{Function, Static}
-use Rattle.sz_core.specs.Statements.{Step, Stm, Stms}
+use Rattle.sz_types.specs.declared.place.Place.{Place}
+use Rattle.sz_core.specs.Nodes.{Node}
+use Rattle.sz_core.specs.Statements.{Step, Quantified, Stm, Stms}
 use Rattle.sz_instr.specs.declared.line.Line.{Line}
 use Rattle.sz_instr.specs.declared.routine.Routine.{Routine}
 use Rattle.sz_gen_expr.specs.declared.builder.Builder.{Builder}
 use Rattle.sz_gen_expr.specs.Tables.{Tables, HasConstant}
-use Rattle.sz_gen_expr.specs.ExpressionCode.{indexes_code}
+use Rattle.sz_gen_expr.specs.ExpressionCode.{expression_code, indexes_code}
 use Rattle.sz_gen_expr.specs.Named.{HasNames, StepsHaveNames}
 use Rattle.sz_gen_expr.specs.Building.{tables_made, Grows, Appends}
 use Rattle.sz_gen_stmt.specs.StatementCode as codes
-use Rattle.sz_gen_stmt.specs.StatementCode.{statement_code, statements_code}
-use Rattle.sz_gen_stmt.specs.Named.{StmHasNames, StmsHaveNames, FunctionsHaveNames, StaticsHaveNames}
+use Rattle.sz_gen_stmt.specs.StatementCode.{in_search, variable_code_of, statement_code, statements_code}
+use Rattle.sz_gen_stmt.specs.SearchCode.{holds_code, search_code}
+use Rattle.sz_gen_stmt.specs.Named.{FlagsHaveNames, BasesHaveNames, StmHasNames, StmsHaveNames, FunctionsHaveNames, StaticsHaveNames}
 use Rattle.sz_gen_stmt.specs.ProgramCode.{function_code, functions_code, function_routines, static_code, statics_code, static_routines}
 use Rattle.sz_gen_stmt.specs.declared.generate.Exits.{Exits}
 
--- the exits as the code's definition has them: outside of any search
+-- the exits as the code's definition has them
 abbrev pub exits_of : Exits → codes.Exits
-exits_of out = record { on_break = out.on_break; on_continue = out.on_continue; flags = 0 }
+exits_of out = record { on_break = out.on_break; on_continue = out.on_continue; flags = out.flags }
 
 -- the code of a statement more
 abbrev pub AppendsStm : Builder → Builder → Stm → codes.Exits → Type 0
@@ -27,6 +30,19 @@ AppendsStm old new s out = Appends old new (λ tables at. statement_code tables 
 -- the code of statements more
 abbrev pub AppendsStms : Builder → Builder → Stms → codes.Exits → Type 0
 AppendsStms old new ss out = Appends old new (λ tables at. statements_code tables ss out at) (λ tables. StmsHaveNames tables ss)
+
+-- the code of a search over these variables more, which goes to a line where it fails
+abbrev pub AppendsSearch : Builder → Builder → Place → List Quantified → Node → Stm → codes.Exits → (fail : ℕ) → Type 0
+AppendsSearch old new place vs condition body out fail = Appends old new
+    (λ tables at. search_code tables place (expression_code tables condition) (λ flags. statement_code tables body (in_search out flags))
+    (map (variable_code_of tables) vs) out.flags fail at)
+    (λ tables. BasesHaveNames tables vs × FlagsHaveNames tables vs × HasNames tables condition × StmHasNames tables body)
+
+-- the code of whether the condition is true or undefined for all candidates of these variables
+abbrev pub AppendsHolds : Builder → Builder → Place → List Quantified → Node → (fail : ℕ) → Type 0
+AppendsHolds old new place vs condition fail = Appends old new
+    (λ tables at. holds_code place (expression_code tables condition) (map (variable_code_of tables) vs) fail at)
+    (λ tables. BasesHaveNames tables vs × HasNames tables condition)
 
 -- the code of the indexes among steps more
 abbrev pub AppendsIndexes : Builder → Builder → List Step → Type 0

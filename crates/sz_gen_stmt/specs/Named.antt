@@ -2,15 +2,29 @@
 use Rattle.std.specs.Prelude.{List, [], ◌∷◌, pos, true, false, IfSome}
 use Rattle.sz_value.specs.Data.{Datum}
 use Rattle.sz_core.specs.Statements.{Stm, block, clear, keep, store, evaluate, branch, while, do_while, for_loop, break, continue}
-use Rattle.sz_core.specs.Statements.{return_value, end_record, emit, Stms, no_stms, with_stm}
+use Rattle.sz_core.specs.Statements.{return_value, end_record, emit, Quantity, some, each, all, Quantified, when, Stms, no_stms, with_stm}
 use Rattle.sz_core.specs.Programs.{Function, Static, Core, functions_of, statics_of}
 use Rattle.sz_mean.specs.Programs.{body_of}
-use Rattle.sz_mean.specs.Search.{Quantity, some, each, all}
 use Rattle.sz_gen_expr.specs.Tables.{Tables, HasConstant}
 use Rattle.sz_gen_expr.specs.Named.{HasNames, HaveNames, StepsHaveNames}
-use Rattle.sz_gen_stmt.specs.SearchCode.{VariableCode}
 
 module _ (tables : Tables) where
+  -- a variable for each candidate has flags, which are truth values. Behind one for all candidates there are none.
+  abbrev pub QuantityHasNames : Quantity → (rest : Type 0) → Type 0
+  QuantityHasNames some rest = rest
+  QuantityHasNames each rest = HasConstant tables (Datum.truth false) × HasConstant tables (Datum.truth true) × rest
+  QuantityHasNames all rest = Unit {0}
+
+  -- the tables have the flags of the variables of a `when`
+  abbrev pub FlagsHaveNames : List Quantified → Type 0
+  FlagsHaveNames [] = Unit {0}
+  FlagsHaveNames (v ∷ vs) = QuantityHasNames v.quantity (FlagsHaveNames vs)
+
+  -- the tables have what the code of the bases of these variables names
+  abbrev pub BasesHaveNames : List Quantified → Type 0
+  BasesHaveNames [] = Unit {0}
+  BasesHaveNames (v ∷ vs) = HasNames tables v.base × BasesHaveNames vs
+
   abbrev mutual
     -- the tables have what the code of a statement names
     pub StmHasNames : Stm → Type 0
@@ -28,22 +42,12 @@ module _ (tables : Tables) where
     StmHasNames (return_value place e) = HasNames tables e
     StmHasNames (end_record place) = Unit {0}
     StmHasNames (emit place n es e w) = HaveNames tables es × HasNames tables e × IfSome w (HasNames tables)
+    StmHasNames (when place vs c s) = BasesHaveNames vs × FlagsHaveNames vs × HasNames tables c × StmHasNames s
 
     -- the same of statements
     pub StmsHaveNames : Stms → Type 0
     StmsHaveNames no_stms = Unit {0}
     StmsHaveNames (with_stm s ss) = StmHasNames s × StmsHaveNames ss
-
-  -- a variable for each candidate has flags, which are truth values
-  abbrev pub QuantityHasNames : Quantity → Type 0
-  QuantityHasNames some = Unit {0}
-  QuantityHasNames each = HasConstant tables (Datum.truth false) × HasConstant tables (Datum.truth true)
-  QuantityHasNames all = Unit {0}
-
-  -- the tables have what the code of a search over these variables names by itself
-  abbrev pub VariablesHaveNames : List VariableCode → Type 0
-  VariablesHaveNames [] = Unit {0}
-  VariablesHaveNames (v ∷ vs) = QuantityHasNames v.quantity × VariablesHaveNames vs
 
   -- the same of functions, at whose end zero is divided by zero
   abbrev pub FunctionsHaveNames : List Function → Type 0

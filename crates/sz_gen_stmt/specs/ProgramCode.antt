@@ -11,7 +11,7 @@ use Rattle.sz_mean.specs.Programs.{body_of}
 use Rattle.sz_gen_expr.specs.Tables.{Tables, tables_in, constant_number, line}
 use Rattle.sz_gen_expr.specs.ExpressionCode.{expression_code}
 use Rattle.sz_gen_stmt.specs.StatementCode.{no_exits, statements_code}
-use Rattle.sz_gen_stmt.specs.SearchCode.{free}
+use Rattle.sz_gen_stmt.specs.FreeLines.{free}
 use Rattle.sz_gen_stmt.specs.Named.{ProgramHasNames}
 
 module _ (tables : Tables) where

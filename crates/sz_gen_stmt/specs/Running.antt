@@ -18,6 +18,10 @@ use Rattle.sz_machine.specs.Running.{ComesTo}
 use Rattle.sz_gen_expr.specs.Runs.{Kept, AllKept, NextComes, HaveTypes}
 use Rattle.sz_gen_stmt.specs.StatementCode.{Exits}
 
+-- what is seen at one place of a routine, with what is there in the whole routine
+abbrev pub seeing : Sight → Sight → Sight
+seeing g seen = record g { seen = seen.seen; fixed = seen.fixed; may_emit = seen.may_emit }
+
 -- what is asked only inside a loop
 abbrev pub IfIn : Bool → Type 0 → Type 0
 IfIn true P = P

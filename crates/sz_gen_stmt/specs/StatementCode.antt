@@ -4,14 +4,16 @@ use Rattle.std.specs.Prelude.{ℕ, zero, suc, ◌+◌, List, [], ◌∷◌, ◌+
 use Rattle.sz_types.specs.declared.place.Place.{Place}
 use Rattle.sz_core.specs.Nodes.{Node, Nodes}
 use Rattle.sz_core.specs.Statements.{at_index, at_field, Stm, block, clear, keep, store, evaluate, branch, while, do_while, for_loop, break, continue}
-use Rattle.sz_core.specs.Statements.{return_value, end_record, emit, Stms, no_stms, with_stm}
+use Rattle.sz_core.specs.Statements.{return_value, end_record, emit, Quantified, when, Stms, no_stms, with_stm}
 use Rattle.sz_core.specs.Statements as core
-use Rattle.sz_instr.specs.declared.instr.Instr.TheVariants.{Keep, Clear, Store, Tick, Jump, Test, Return, EndRecord, Discard, Emit}
+use Rattle.sz_instr.specs.declared.instr.Instr.TheVariants.{Keep, Clear, Store, Tick, Test, Return, EndRecord, Discard, Emit}
 use Rattle.sz_instr.specs.declared.step.Step.{Step}
 use Rattle.sz_instr.specs.declared.step.Step.TheVariants as steps
 use Rattle.sz_instr.specs.declared.line.Line.{Line}
 use Rattle.sz_gen_expr.specs.Tables.{Tables, line}
 use Rattle.sz_gen_expr.specs.ExpressionCode.{followed, closed, expression_code, expressions_code, indexes_code, code_if_some, count_of}
+use Rattle.sz_gen_stmt.specs.FreeLines.{free, goes}
+use Rattle.sz_gen_stmt.specs.SearchCode.{VariableCode, when_code}
 
 -- where a statement's code is left: the lines that `break` and `continue` go to, and how many flags of searches are on the stack
 pub record Exits : Type 0 where
@@ -23,22 +25,18 @@ pub record Exits : Type 0 where
 abbrev pub no_exits : Exits
 no_exits = record { on_break = 0; on_continue = 0; flags = 0 }
 
+-- the exits inside a search with so many flags, from where no loop outside is reached
+abbrev pub in_search : Exits → ℕ → Exits
+in_search out flags = record { on_break = out.on_break; on_continue = out.on_continue; flags = flags }
+
 -- the exits inside a loop
 abbrev pub in_loop : Exits → (on_break on_continue : ℕ) → Exits
 in_loop out on_break on_continue = record { on_break = on_break; on_continue = on_continue; flags = out.flags }
 
--- the place of a line that takes no ticks and never faults
-abbrev pub no_place : Place
-no_place = record { line = 1; column = 1 }
-
--- a line that takes no ticks
-abbrev pub goes : ℕ → Line
-goes to = line (Jump to) 0 no_place
-
 -- so many flags are taken off the stack
 abbrev pub discards : ℕ → List Line
 discards zero = []
-discards (suc n) = line Discard 0 no_place ∷ discards n
+discards (suc n) = free Discard ∷ discards n
 
 -- a step without its index
 abbrev pub bare_step : core.Step → Step
@@ -86,11 +84,15 @@ module _ (tables : Tables) where
       closed (followed at (followed at (expressions_code tables es at) (expression_code tables e)) (code_if_some tables w))
       (Emit table (count_of es) (is_some w)) place
 
+  -- a variable of `when`, with the code of its base
+  abbrev pub variable_code_of : Quantified → VariableCode
+  variable_code_of v = record { quantity = v.quantity; local = v.local; slice = v.slice; base = expression_code tables v.base }
+
   abbrev mutual
     -- the code of a statement that begins at a line, with the exits around it
     pub statement_code : Stm → Exits → ℕ → List Line
     statement_code (block ss) out at = statements_code ss out at
-    statement_code (clear n) out at = line (Clear n) 0 no_place ∷ []
+    statement_code (clear n) out at = free (Clear n) ∷ []
     statement_code (keep place n e) out at = closed (expression_code tables e at) (Keep n) place
     statement_code (store place n path e) out at =
         closed (followed at (indexes_code tables path at) (expression_code tables e)) (Store n (map bare_step path)) place
@@ -108,6 +110,8 @@ module _ (tables : Tables) where
     statement_code (return_value place e) out at = closed (followed at (discards out.flags) (expression_code tables e)) Return place
     statement_code (end_record place) out at = line EndRecord 1 place ∷ []
     statement_code (emit place table es e w) out at = emit_code place table es e w at
+    statement_code (when place vs c body) out at =
+        when_code tables place (expression_code tables c) (λ flags. statement_code body (in_search out flags)) (map variable_code_of vs) out.flags at
 
     -- the code of statements, one after the other
     pub statements_code : Stms → Exits → ℕ → List Line

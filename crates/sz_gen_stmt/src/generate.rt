@@ -1,27 +1,32 @@
 //! The code of statements.
-ghost use Rattle.std.specs.Prelude.{◌≡◌, [], map, OnOk, IfOk, IfSome, Some};
+ghost use Rattle.std.specs.Prelude.{◌≡◌, ◌≤◌, [], length, map, drop, OnOk, IfOk, IfSome, Some};
 ghost use Rattle.std.specs.Option.{option_map};
 ghost use Rattle.sz_core.specs.Nodes.{nodes_of};
 ghost use Rattle.sz_core.specs.Statements.{store, emit, stms_of};
-ghost use Rattle.sz_core.specs.View.{node_of, step_of, stm_of};
+ghost use Rattle.sz_core.specs.View.{node_of, step_of, quantified_of, stm_of};
+ghost use Rattle.sz_instr.specs.declared.instr.Instr.TheVariants.{Push};
+ghost use Rattle.sz_value.specs.Data.{truth};
+ghost use Rattle.sz_gen_expr.specs.Tables.{constant_number, HasConstant};
 ghost use Rattle.sz_gen_expr.specs.ExpressionCode.{code_if_some};
 ghost use Rattle.sz_gen_expr.specs.Named.{HasNames};
 ghost use Rattle.sz_gen_expr.specs.Building.{Appends, AppendsLine, Nothing};
-ghost use Rattle.sz_gen_stmt.specs.StatementCode.{no_place, no_exits, test_code, bare_step};
-ghost use Rattle.sz_gen_stmt.specs.Making.{exits_of, AppendsStm, AppendsStms, AppendsIndexes};
+ghost use Rattle.sz_gen_stmt.specs.FreeLines.{no_place};
+ghost use Rattle.sz_gen_stmt.specs.StatementCode.{no_exits, discards, test_code, bare_step};
+ghost use Rattle.sz_gen_stmt.specs.Making.{exits_of, AppendsStm, AppendsStms, AppendsSearch, AppendsHolds, AppendsIndexes};
 
 use std::alloc::Global;
-use sz_core::{CoreExpr, CoreStep, CoreStmt};
-use sz_gen_expr::{Builder, count, gen_all, gen_expr};
+use sz_core::{CoreExpr, CoreQuantity, CoreStep, CoreStmt, Quantified};
+use sz_gen_expr::{Builder, count, gen_all, gen_expr, small};
 use sz_instr::{Instr, Step, Steps};
 use sz_types::Place;
-use sz_value::NoMemory;
+use sz_value::{NoMemory, Value};
 
-/// The lines that `break` and `continue` go to.
+/// Where a statement's code is left: the lines that `break` and `continue` go to, and how many flags of searches are on the stack.
 #[derive(Clone, Copy)]
 pub struct Exits {
     pub on_break: usize,
     pub on_continue: usize,
+    pub flags: u32,
 }
 
 /// Appends the code of a statement, with the exits around it.
@@ -67,6 +72,7 @@ pub fn gen_stmt(s: &CoreStmt, out: Exits, into: &mut Builder) -> Result<(), NoMe
             let inside = Exits {
                 on_break: past,
                 on_continue: again,
+                flags: out.flags,
             };
             gen_stmt(body, inside, into)?;
             free(Instr::Jump(again), into)?;
@@ -85,6 +91,7 @@ pub fn gen_stmt(s: &CoreStmt, out: Exits, into: &mut Builder) -> Result<(), NoMe
             let inside = Exits {
                 on_break: past,
                 on_continue: to_test,
+                flags: out.flags,
             };
             gen_stmt(body, inside, into)?;
             into.land(to_test);
@@ -107,6 +114,7 @@ pub fn gen_stmt(s: &CoreStmt, out: Exits, into: &mut Builder) -> Result<(), NoMe
             let inside = Exits {
                 on_break: past,
                 on_continue: to_step,
+                flags: out.flags,
             };
             gen_stmt(body, inside, into)?;
             free(Instr::Jump(to_step), into)?;
@@ -116,6 +124,7 @@ pub fn gen_stmt(s: &CoreStmt, out: Exits, into: &mut Builder) -> Result<(), NoMe
         CoreStmt::Break => free(Instr::Jump(out.on_break), into),
         CoreStmt::Continue => free(Instr::Jump(out.on_continue), into),
         CoreStmt::Return(place, value) => {
+            gen_discards(out.flags, into)?;
             gen_expr(value, into)?;
             into.close(Instr::Return, *place)
         }
@@ -123,7 +132,137 @@ pub fn gen_stmt(s: &CoreStmt, out: Exits, into: &mut Builder) -> Result<(), NoMe
         CoreStmt::Emit(place, table, indexes, value, weight) => {
             gen_emit(*place, *table, indexes.as_slice(), value, weight, into)
         }
+        CoreStmt::When(place, variables, condition, body) => {
+            let entry = into.here();
+            free(Instr::Jump(0), into)?;
+            let past = into.here();
+            free(Instr::Jump(0), into)?;
+            into.land(entry);
+            let search = Search {
+                place: *place,
+                condition,
+                body,
+            };
+            gen_search(variables.as_slice(), 0, search, out, past, into)?;
+            into.land(past);
+            Ok(())
+        }
     }
+}
+
+// What the code of all variables of a `when` is made with: the place of the statement, its condition, and the statement inside.
+#[derive(Clone, Copy)]
+struct Search<'a> {
+    place: Place,
+    condition: &'a CoreExpr,
+    body: &'a CoreStmt,
+}
+
+// Appends the code of a search over the variables from one on, which goes to a line where it fails. The exits have the flags that are
+// on the stack.
+#[cycle(statements)]
+fn gen_search(
+    variables: &[Quantified],
+    from: usize,
+    search: Search<'_>,
+    out: Exits,
+    fail: usize,
+    into: &mut Builder,
+) -> Result<(), NoMemory>
+    requires within { from ≤ length variables.now }
+    ensures made { OnOk result (AppendsSearch into.old into.new search.entry.place (map quantified_of (drop from variables.now))
+        (node_of search.entry.condition.now) (stm_of search.entry.body.now) (exits_of out) fail) }
+{
+    if from == variables.len() {
+        gen_expr(search.condition, into)?;
+        free(Instr::Meets(fail), into)?;
+        return gen_stmt(search.body, out, into);
+    }
+    let variable = &variables[from];
+    match variable.quantity {
+        CoreQuantity::Some => {
+            gen_expr(&variable.base, into)?;
+            free(Instr::Enter(variable.slice), into)?;
+            let top = into.here();
+            into.close(Instr::Next(variable.local, fail), search.place)?;
+            gen_search(variables, from + 1, search, out, top, into)?;
+            free(Instr::Leave, into)
+        }
+        CoreQuantity::Each => {
+            gen_expr(&variable.base, into)?;
+            free(Instr::Enter(variable.slice), into)?;
+            gen_flag(false, into)?;
+            let top = into.here();
+            into.close(Instr::Next(variable.local, 0), search.place)?;
+            let flags = small(out.flags as usize + 1)?;
+            let flagged = Exits {
+                on_break: out.on_break,
+                on_continue: out.on_continue,
+                flags,
+            };
+            gen_search(variables, from + 1, search, flagged, top, into)?;
+            free(Instr::Discard, into)?;
+            gen_flag(true, into)?;
+            free(Instr::Jump(top), into)?;
+            into.land(top);
+            free(Instr::Meets(fail), into)
+        }
+        CoreQuantity::All => {
+            gen_holds(variables, from, search.place, search.condition, fail, into)?;
+            gen_stmt(search.body, out, into)
+        }
+    }
+}
+
+// Appends the code of whether the condition is true or undefined for all candidates of the variables from one on, which goes to a line
+// where it is false for one.
+fn gen_holds(
+    variables: &[Quantified],
+    from: usize,
+    place: Place,
+    condition: &CoreExpr,
+    fail: usize,
+    into: &mut Builder,
+) -> Result<(), NoMemory>
+    requires within { from ≤ length variables.now }
+    ensures made { OnOk result (AppendsHolds into.old into.new place (map quantified_of (drop from variables.now)) (node_of condition.now) fail) }
+{
+    if from == variables.len() {
+        gen_expr(condition, into)?;
+        return free(Instr::Fails(fail), into);
+    }
+    let variable = &variables[from];
+    gen_expr(&variable.base, into)?;
+    free(Instr::Enter(variable.slice), into)?;
+    let entry = into.here();
+    free(Instr::Jump(0), into)?;
+    let away = into.here();
+    free(Instr::Leave, into)?;
+    free(Instr::Jump(fail), into)?;
+    into.land(entry);
+    let next = into.here();
+    into.close(Instr::Next(variable.local, 0), place)?;
+    gen_holds(variables, from + 1, place, condition, away, into)?;
+    free(Instr::Jump(next), into)?;
+    into.land(next);
+    Ok(())
+}
+
+// Appends a line that pushes the flag of a variable for each candidate.
+fn gen_flag(flag: bool, into: &mut Builder) -> Result<(), NoMemory>
+    ensures made { OnOk result (AppendsLine into.old into.new (λ tables. Push (constant_number tables (truth flag))) 0 no_place (λ tables. HasConstant tables (truth flag))) }
+{
+    into.push_constant(&Value::Bool(flag), 0, Place { line: 1, column: 1 })
+}
+
+// Appends lines that take so many flags off the stack.
+fn gen_discards(count: u32, into: &mut Builder) -> Result<(), NoMemory>
+    ensures made { OnOk result (Appends into.old into.new (λ tables at. discards count) Nothing) }
+{
+    for _ in 0..count {
+        free(Instr::Discard, into)?;
+    }
+    Ok(())
 }
 
 /// Appends the code of statements, one after the other.

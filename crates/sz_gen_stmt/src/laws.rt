@@ -5,7 +5,7 @@ ghost use Rattle.sz_core.specs.Sound.{IsSound};
 ghost use Rattle.sz_instr.specs.declared.code.Code.{Code};
 ghost use Rattle.sz_instr.specs.declared.instr.Instr.TheVariants.{EndRecord};
 ghost use Rattle.sz_gen_expr.specs.Tables.{Tables};
-ghost use Rattle.sz_gen_stmt.specs.SearchCode.{free};
+ghost use Rattle.sz_gen_stmt.specs.FreeLines.{free};
 ghost use Rattle.sz_gen_stmt.specs.ProgramCode.{IsCodeOf, record_code};
 ghost use Rattle.sz_gen_stmt.specs.Compiled.{IsCompiled};
 

@@ -94,6 +94,7 @@ fn gen_function(function: &Function, into: &mut Builder) -> Result<(), NoMemory>
     let outside = Exits {
         on_break: 0,
         on_continue: 0,
+        flags: 0,
     };
     gen_stmts(function.body.as_slice(), outside, into)?;
     gen_undefined(into)
@@ -140,6 +141,7 @@ fn gen_statements(items: &[Item], into: &mut Builder) -> Result<(), NoMemory>
     let outside = Exits {
         on_break: 0,
         on_continue: 0,
+        flags: 0,
     };
     for item in items {
         let Item::Statement(statement) = item else {

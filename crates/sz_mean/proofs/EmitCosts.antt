@@ -1,5 +1,5 @@
 -- Each emit takes a tick: so a run has at most as many emits as ticks.
-use Rattle.std.proofs.Common.{◌≡◌, ℕ, zero, suc, ◌+◌, ◌-◌, ◌<◌, ◌≤◌, List, [], ◌∷◌, length, Bool, true, false, Option, Some, None, refl, arith, ap, subst, length-append}
+use Rattle.std.proofs.Common.{◌≡◌, ℕ, zero, suc, ◌+◌, ◌-◌, ◌<◌, ◌≤◌, List, [], ◌∷◌, length, map, Bool, true, false, Option, Some, None, refl, arith, ap, subst, length-append}
 use Rattle.std.specs.Prelude.{nat_lt, slice_get, if◌then◌else◌}
 use Rattle.std.proofs.lemmas.Bool.Decides.{nat_tests}
 use Rattle.sz_types.specs.declared.place.Place.{Place}
@@ -10,7 +10,7 @@ use Rattle.sz_tabs.specs.Data.{EmitDatum}
 use Rattle.sz_core.specs.Nodes.{Node, node, Form, constant, local, static, input, call, builtin, def, convert, array, tuple, mapping, index, slice, field, unary, binary}
 use Rattle.sz_core.specs.Nodes.{both, either, Nodes, no_nodes, with_node, Pairings, no_pairings, with_pairing}
 use Rattle.sz_core.specs.Statements.{Step, at_index, at_field, Stm, Stms, no_stms, with_stm, block, clear, keep, store, evaluate, branch, while, do_while, for_loop, break, continue}
-use Rattle.sz_core.specs.Statements.{return_value, end_record, emit}
+use Rattle.sz_core.specs.Statements.{return_value, end_record, emit, Quantity, some, each, all, Quantified, when}
 use Rattle.sz_core.specs.Programs.{Core, Function, functions_of}
 use Rattle.sz_world.specs.World.{most_open_calls, World, new_world, Given, Gives, Stops, Doing, and_then, ◌>>=◌, give, fails, spend, paid, pay, Done}
 use Rattle.sz_world.specs.Slots.{Slot, slot_at, all_defined}
@@ -20,7 +20,9 @@ use Rattle.sz_world.specs.Emits.{EmitParts, emit_weight, emit_of, with_emit}
 use Rattle.sz_world.specs.Stores.{Stored, Holds, Undefined, Outside}
 use Rattle.sz_mean.specs.Expressions.{Setting, results, called, if_true, if_false, eval, eval_form, eval_all, eval_pairings, eval_indexes, eval_if_some}
 use Rattle.sz_mean.specs.Endings.{Ending, Normal, Breaks, Continues, Returns, Running, then_run, then_loop, chosen, turns, turns_behind}
-use Rattle.sz_mean.specs.Statements.{assigned, if_defined, emits, test_of, idle, exec, exec_all}
+use Rattle.sz_mean.specs.Search.{Variable, Finding, Succeeds, Misses, Leaves, Searching, or_else, and_also, and_each, found_one, if_met, if_refuted, succeeded}
+use Rattle.sz_mean.specs.Search.{ending_of, tried, any_of, each_of, all_of, holds, search_by, search, exec_when}
+use Rattle.sz_mean.specs.Statements.{assigned, if_defined, emits, test_of, idle, variable_of, exec, exec_all}
 use Rattle.sz_mean.specs.Programs.{run_function, calls_at, emits_given, body_of, run_record, mean}
 
 -- what was emitted was paid for: emits and ticks that are left are together no more than before
@@ -251,7 +253,113 @@ test_pays : (s : Setting) → CallsPay s → (e : Option Node) (locals : List Sl
 test_pays s calls None locals = given {X = Slot} (Some (truth true))
 test_pays s calls (Some e) locals = eval_pays s calls locals e
 
+-- a search with the variables as they are
+abbrev SearchPays : Searching → Type 0
+SearchPays search = (locals : List Slot) → Paying (search locals)
+
+or_else_pays : (finding : Finding) (next : Searching) → SearchPays next → Paying (or_else finding next)
+or_else_pays (Succeeds locals) next h = given (Succeeds locals)
+or_else_pays (Misses locals) next h = h locals
+or_else_pays (Leaves x) next h = given (Leaves x)
+
+and_also_pays : (finding : Finding) (next : Searching) → SearchPays next → Paying (and_also finding next)
+and_also_pays (Succeeds locals) next h = h locals
+and_also_pays (Misses locals) next h = given (Misses locals)
+and_also_pays (Leaves x) next h = given (Leaves x)
+
+and_each_pays : (finding : Finding) (found : Bool) (next : Bool → Searching) → ((b : Bool) → SearchPays (next b)) → Paying (and_each finding found next)
+and_each_pays (Succeeds locals) found next h = h true locals
+and_each_pays (Misses locals) found next h = h found locals
+and_each_pays (Leaves x) found next h = given (Leaves x)
+
+found_one_pays : (found : Bool) → SearchPays (found_one found)
+found_one_pays true locals = given (Succeeds locals)
+found_one_pays false locals = given (Misses locals)
+
+met_pays : (x : Slot) (first second : Doing Finding) → Paying first → Paying second → Paying (if_met x first second)
+met_pays None first second h k = k
+met_pays (Some (truth true)) first second h k = h
+met_pays (Some (truth false)) first second h k = k
+met_pays (Some (int n)) first second h k = k
+met_pays (Some (time n)) first second h k = k
+met_pays (Some (str t)) first second h k = k
+met_pays (Some (bytes t)) first second h k = k
+met_pays (Some (datum.array ds)) first second h k = k
+met_pays (Some (datum.tuple ds)) first second h k = k
+met_pays (Some (datum.mapping es)) first second h k = k
+
+refuted_pays : (x : Slot) (first second : Doing Finding) → Paying first → Paying second → Paying (if_refuted x first second)
+refuted_pays None first second h k = k
+refuted_pays (Some (truth true)) first second h k = k
+refuted_pays (Some (truth false)) first second h k = h
+refuted_pays (Some (int n)) first second h k = k
+refuted_pays (Some (time n)) first second h k = k
+refuted_pays (Some (str t)) first second h k = k
+refuted_pays (Some (bytes t)) first second h k = k
+refuted_pays (Some (datum.array ds)) first second h k = k
+refuted_pays (Some (datum.tuple ds)) first second h k = k
+refuted_pays (Some (datum.mapping es)) first second h k = k
+
+succeeded_pays : (ending : Ending) → Paying (succeeded ending)
+succeeded_pays (Normal locals) = given (Succeeds locals)
+succeeded_pays (Breaks locals) = given (Succeeds locals)
+succeeded_pays (Continues locals) = given (Succeeds locals)
+succeeded_pays (Returns x) = given (Leaves x)
+
+-- so do the bases of variables
+abbrev BasesPay : List Variable → Type 0
+BasesPay [] = Unit {0}
+BasesPay (v ∷ vs) = ((locals : List Slot) → Paying (v.base locals)) × BasesPay vs
+
+module _ (place : Place) (condition : List Slot → Doing Slot) (body : Running) (c : (locals : List Slot) → Paying (condition locals)) (b : RunPays body) where
+  tried_pays : (n : ℕ) (d : Datum) (rest : Searching) → SearchPays rest → SearchPays (tried place condition body n d rest)
+  tried_pays n d rest h locals = then_pays (pay 1 place) _ (ticks 1 place) (λ _. h _)
+
+  any_pays : (n : ℕ) (rest : Searching) → SearchPays rest → (cs : List Datum) → SearchPays (any_of place condition body n rest cs)
+  any_pays n rest h [] locals = given (Misses locals)
+  any_pays n rest h (d ∷ ds) locals =
+      then_pays (tried place condition body n d rest locals) _ (tried_pays n d rest h locals) (λ f. or_else_pays f _ (any_pays n rest h ds))
+
+  each_pays : (n : ℕ) (rest : Searching) → SearchPays rest → (cs : List Datum) (found : Bool) → SearchPays (each_of place condition body n rest cs found)
+  each_pays n rest h [] found locals = found_one_pays found locals
+  each_pays n rest h (d ∷ ds) found locals =
+      then_pays (tried place condition body n d rest locals) _ (tried_pays n d rest h locals) (λ f. and_each_pays f found _ (each_pays n rest h ds))
+
+  all_pays : (n : ℕ) (rest : Searching) → SearchPays rest → (cs : List Datum) → SearchPays (all_of place condition body n rest cs)
+  all_pays n rest h [] locals = given (Succeeds locals)
+  all_pays n rest h (d ∷ ds) locals =
+      then_pays (tried place condition body n d rest locals) _ (tried_pays n d rest h locals) (λ f. and_also_pays f _ (all_pays n rest h ds))
+
+  holds_pays : (vs : List Variable) → BasesPay vs → SearchPays (holds place condition body vs)
+  holds_pays [] h locals =
+      then_pays (condition locals) _ (c locals) (λ x. refuted_pays x _ _ (given (Misses locals)) (given (Succeeds locals)))
+  holds_pays (v ∷ vs) h locals =
+      then_pays (v.base locals) _ (h.0 locals) (λ x. all_pays v.local _ (holds_pays vs h.1) _ locals)
+
+  by_pays : (q : Quantity) (n : ℕ) (cs : List Datum) (rest others : Searching) → SearchPays rest → SearchPays others
+      → SearchPays (search_by place condition body q n cs rest others)
+  by_pays some n cs rest others h k locals = any_pays n rest h cs locals
+  by_pays each n cs rest others h k locals = each_pays n rest h cs false locals
+  by_pays all n cs rest others h k locals =
+      then_pays (all_of place condition body n others cs locals) _ (all_pays n others k cs locals)
+      (λ f. and_also_pays f _ (λ l. then_pays (body l) _ (b l) (λ ending. succeeded_pays ending)))
+
+  search_pays : (vs : List Variable) → BasesPay vs → SearchPays (search place condition body vs)
+  search_pays [] h locals =
+      then_pays (condition locals) _ (c locals)
+      (λ x. met_pays x _ _ (then_pays (body locals) _ (b locals) (λ ending. succeeded_pays ending)) (given (Misses locals)))
+  search_pays (v ∷ vs) h locals =
+      then_pays (v.base locals) _ (h.0 locals)
+      (λ x. by_pays v.quantity v.local _ _ _ (search_pays vs h.1) (holds_pays vs h.1) locals)
+
+  when_pays : (vs : List Variable) → BasesPay vs → RunPays (exec_when place condition body vs)
+  when_pays vs h locals = then_pays (search place condition body vs locals) _ (search_pays vs h locals) (λ f. given (ending_of f))
+
 module _ (s : Setting) (calls : CallsPay s) where
+  bases_pay : (vs : List Quantified) → BasesPay (map (variable_of s) vs)
+  bases_pay [] = tt
+  bases_pay (v ∷ vs) = (λ l. eval_pays s calls l v.base, bases_pay vs)
+
   mutual
     exec_pays : (statement : Stm) → RunPays (exec s statement)
     exec_pays (block ss) locals = all_run_pays ss locals
@@ -282,6 +390,8 @@ module _ (s : Setting) (calls : CallsPay s) where
         then_pays (eval_all s locals es) _ (all_pay s calls locals es)
         (λ xs. then_pays (eval s locals e) _ (eval_pays s calls locals e)
         (λ x. then_pays (eval_if_some s locals weight) _ (optional_pays s calls locals weight) (λ y. emits_pay place table (record { indexes = xs; value = x; weight = y }) locals)))
+    exec_pays (when place vs c body) locals =
+        when_pays place (λ l. eval s l c) (exec s body) (λ l. eval_pays s calls l c) (exec_pays body) (map (variable_of s) vs) (bases_pay vs) locals
 
     all_run_pays : (ss : Stms) → RunPays (exec_all s ss)
     all_run_pays no_stms locals = given _

@@ -1,22 +1,17 @@
 -- Worked examples: each program with the budget that is enough, and what it comes to with one tick less.
-use Rattle.std.specs.Prelude.{◌≡◌, ℕ, ◌^◌, pos, List, [], ◌∷◌, false, None, codes, refl}
+use Rattle.std.specs.Prelude.{◌≡◌, ℕ, ◌^◌, pos, List, [], ◌∷◌, None, codes, refl}
 use Rattle.std.specs.Int.{int_wrap}
-use Rattle.sz_types.specs.Data.{Shape}
 use Rattle.sz_types.specs.declared.place.Place.{Place}
 use Rattle.sz_value.specs.Data.{Datum}
 use Rattle.sz_tabs.specs.Data.{EmitDatum}
+use Rattle.sz_core.specs.Statements.{some, each, all}
 use Rattle.sz_core.specs.Programs.{Core}
-use Rattle.sz_world.specs.World.{Doing, ◌>>=◌, new_world, Outcome, Done, Faulted, budget_passed, undefined_used, store_outside, calls_too_deep}
-use Rattle.sz_world.specs.Slots.{undefined_slots}
+use Rattle.sz_world.specs.World.{Outcome, Done, Faulted, budget_passed, undefined_used, store_outside, calls_too_deep}
 use Rattle.sz_world.specs.Operations.{Decoding}
-use Rattle.sz_mean.specs.Expressions.{eval}
-use Rattle.sz_mean.specs.Endings.{Ending, then_run}
-use Rattle.sz_mean.specs.Statements.{exec}
-use Rattle.sz_mean.specs.Search.{Variable, some, exec_when}
-use Rattle.sz_mean.specs.Programs.{outer_setting, emits_given, mean}
+use Rattle.sz_mean.specs.Programs.{mean}
 use Rattle.sz_mean.specs.Records.{FaultedAt, mean_all}
-use Rattle.sz_mean.proofs.WorkedTrees.{at, variable, emits_sum, joins_texts, counts_down, counts_up, emits_if, stores_outside, calls_on}
-use Rattle.sz_mean.proofs.WorkedTrees.{emits_without_weight, undefined_left, two_numbers, is_five, emits_place}
+use Rattle.sz_mean.proofs.WorkedTrees.{at, number, emits_sum, joins_texts, counts_down, counts_up, emits_if, stores_outside, calls_on}
+use Rattle.sz_mean.proofs.WorkedTrees.{emits_without_weight, undefined_left, nothing, emits_place, emits_seven, searches}
 
 module _ (decode : Decoding) where
   ends : Core → ℕ → List ℕ → Outcome (List EmitDatum)
@@ -103,20 +98,39 @@ module _ (decode : Decoding) where
   unfolding ends fault int_wrap
   too_deep = refl
 
-  -- a: array of int = {3, 5};
-  -- when (i: some int; a[i] == 5) emit c <- i;
-  searches : ℕ → Outcome (List EmitDatum)
-  searches budget =
-      let s = outer_setting decode [] [] None in
-      let i : Variable = record { quantity = some; local = 1; slice = false; base = λ l. eval s l (variable (at 3 20) (Shape.array Shape.int) 0) } in
-      let whole = exec_when (at 3 1) (λ l. eval s l is_five) (exec s emits_place) (i ∷ []) in
-      let all : Doing Ending = exec s two_numbers (undefined_slots 2) >>= λ ending. then_run ending whole in
-      emits_given (all (new_world budget))
+  -- the first candidate with which the condition is true is enough: seven ticks for the array, one for the base, six for a candidate
+  -- with its condition, and three for the emit
+  some_enough : ends (searches some (number (at 3 28) 3) emits_place) 17 [] ≡ Done (of_number 0 ∷ [])
+  unfolding ends of_number int_wrap
+  some_enough = refl
 
-  search_enough : searches 23 ≡ Done (of_number 1 ∷ [])
-  unfolding searches of_number int_wrap
-  search_enough = refl
+  some_less : ends (searches some (number (at 3 28) 3) emits_place) 16 [] ≡ fault budget_passed (at 3 31)
+  unfolding ends fault int_wrap
+  some_less = refl
 
-  search_less : searches 22 ≡ fault budget_passed (at 3 31)
-  unfolding searches fault int_wrap
-  search_less = refl
+  second_enough : ends (searches some (number (at 3 28) 5) emits_place) 23 [] ≡ Done (of_number 1 ∷ [])
+  unfolding ends of_number int_wrap
+  second_enough = refl
+
+  -- each candidate is tried, also behind one with which the condition is true
+  each_enough : ends (searches each (number (at 3 28) 3) emits_place) 23 [] ≡ Done (of_number 0 ∷ [])
+  unfolding ends of_number int_wrap
+  each_enough = refl
+
+  each_less : ends (searches each (number (at 3 28) 3) emits_place) 22 [] ≡ fault budget_passed (at 3 20)
+  unfolding ends fault int_wrap
+  each_less = refl
+
+  -- a condition that is false for one candidate is not true for all
+  all_refuted : ends (searches all (number (at 3 28) 3) emits_seven) 20 [] ≡ Done []
+  unfolding ends int_wrap
+  all_refuted = refl
+
+  -- an undefined one refutes nothing, and is met by none
+  all_undefined : ends (searches all nothing emits_seven) 27 [] ≡ Done (of_number 7 ∷ [])
+  unfolding ends of_number int_wrap
+  all_undefined = refl
+
+  some_undefined : ends (searches some nothing emits_seven) 24 [] ≡ Done []
+  unfolding ends int_wrap
+  some_undefined = refl

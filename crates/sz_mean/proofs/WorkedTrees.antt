@@ -7,7 +7,7 @@ use Rattle.sz_types.specs.declared.operator.BinOp.{BinOp}
 use Rattle.sz_types.specs.declared.operator.BinOp.TheVariants.{Add, Sub, Div, Less, Greater, Equal}
 use Rattle.sz_value.specs.Data.{Datum}
 use Rattle.sz_core.specs.Nodes.{Node, node, Nodes, no_nodes, with_node, constant, local, input, call, convert, array, index, binary, both}
-use Rattle.sz_core.specs.Statements.{Stm, at_index, block, clear, keep, store, while, for_loop, return_value, emit, stms_of, branch}
+use Rattle.sz_core.specs.Statements.{Stm, at_index, block, clear, keep, store, while, for_loop, return_value, emit, stms_of, branch, Quantity, when}
 use Rattle.sz_core.specs.Programs.{Function, Item, table, function, statement, Core, core_of}
 
 abbrev pub at : ℕ → ℕ → Place
@@ -126,12 +126,30 @@ undefined_left = core_of
 abbrev pub two_numbers : Stm
 two_numbers = keep (at 2 1) 0 (node (at 2 19) (Shape.array Shape.int) (array (with_node (number (at 2 20) 3) (with_node (number (at 2 23) 5) no_nodes))))
 
--- a[i] == 5
-abbrev pub is_five : Node
-is_five =
+-- a[i] == e
+abbrev pub element_is : Node → Node
+element_is e =
     let element = node (at 3 20) Shape.int (index (variable (at 3 20) (Shape.array Shape.int) 0) (variable (at 3 22) Shape.int 1)) in
-    operated (at 3 20) Shape.truth Equal element (number (at 3 28) 5)
+    operated (at 3 20) Shape.truth Equal element e
+
+-- 3 / 0
+abbrev pub nothing : Node
+nothing = operated (at 3 28) Shape.int Div (number (at 3 28) 3) (number (at 3 32) 0)
 
 -- emit c <- i;
 abbrev pub emits_place : Stm
 emits_place = emit (at 3 31) 0 no_nodes (variable (at 3 41) Shape.int 1) None
+
+-- emit c <- 7;
+abbrev pub emits_seven : Stm
+emits_seven = emit (at 3 36) 0 no_nodes (number (at 3 46) 7) None
+
+-- c: table sum of int;
+-- a: array of int = {3, 5};
+-- when (i: some int; a[i] == 3) emit c <- i;
+abbrev pub searches : Quantity → Node → Stm → Core
+searches quantity e body = core_of
+    (sum_table ∷ statement two_numbers
+    ∷ statement (when (at 3 1) (record { quantity = quantity; local = 1; base = variable (at 3 20) (Shape.array Shape.int) 0; slice = false } ∷ [])
+    (element_is e) body) ∷ [])
+    (Shape.array Shape.int ∷ Shape.int ∷ [])

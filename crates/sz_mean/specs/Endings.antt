@@ -1,5 +1,5 @@
 -- How statements end, and what runs on from there: one statement behind another, and the turns of loops.
-use Rattle.std.specs.Prelude.{ℕ, zero, suc, List, true, Some, None}
+use Rattle.std.specs.Prelude.{ℕ, zero, suc, List, slice_set, true, Some, None}
 use Rattle.sz_types.specs.declared.place.Place.{Place}
 use Rattle.sz_value.specs.Data.{truth}
 use Rattle.sz_world.specs.World.{Doing, ◌>>=◌, ◌>>◌, give, pay, fails, undefined_used, budget_passed}
@@ -15,6 +15,10 @@ pub data Ending : Type 0 where
 -- what runs with the variables as they are
 abbrev pub Running : Type 0
 Running = List Slot → Doing Ending
+
+-- the variables with one that holds a slot
+abbrev pub with_local : ℕ → Slot → List Slot → List Slot
+with_local n x locals = slice_set locals n x
 
 -- behind a statement the run goes on where it came to its end
 abbrev pub then_run : Ending → Running → Doing Ending

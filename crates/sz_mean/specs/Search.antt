@@ -2,17 +2,11 @@
 use Rattle.std.specs.Prelude.{ℕ, List, [], ◌∷◌, Bool, true, false, Some}
 use Rattle.sz_types.specs.declared.place.Place.{Place}
 use Rattle.sz_value.specs.Data.{Datum, truth}
+use Rattle.sz_core.specs.Statements.{Quantity, some, each, all}
 use Rattle.sz_world.specs.World.{Doing, ◌>>=◌, ◌>>◌, give, pay}
 use Rattle.sz_world.specs.Slots.{Slot}
 use Rattle.sz_world.specs.Candidates.{candidates}
-use Rattle.sz_mean.specs.Endings.{Ending, Normal, Breaks, Continues, Returns, Running}
-use Rattle.sz_mean.specs.Statements.{with_local}
-
--- how a variable is quantified
-pub data Quantity : Type 0 where
-  some : Quantity
-  each : Quantity
-  all : Quantity
+use Rattle.sz_mean.specs.Endings.{Ending, Normal, Breaks, Continues, Returns, Running, with_local}
 
 -- a quantified variable: how it is quantified, its number, whether it is a bound of a slice and no index, and what its base gives
 pub record Variable : Type 0 where

@@ -1,21 +1,18 @@
 -- What statements do. At one statement the budget is asked first, then whether a value is undefined, then where a store leads.
-use Rattle.std.specs.Prelude.{ℕ, suc, ◌+◌, List, map, slice_set, true, Option, Some, None}
+use Rattle.std.specs.Prelude.{ℕ, suc, ◌+◌, List, map, true, Option, Some, None}
 use Rattle.sz_types.specs.declared.place.Place.{Place}
 use Rattle.sz_value.specs.Data.{truth}
 use Rattle.sz_core.specs.Nodes.{Node}
 use Rattle.sz_core.specs.Statements.{Step, at_index, at_field, Stm, block, clear, keep, store, evaluate, branch, while, do_while, for_loop, break, continue}
-use Rattle.sz_core.specs.Statements.{return_value, end_record, emit, Stms, no_stms, with_stm}
+use Rattle.sz_core.specs.Statements.{return_value, end_record, emit, Quantified, when, Stms, no_stms, with_stm}
 use Rattle.sz_world.specs.World.{Gives, Doing, ◌>>=◌, ◌>>◌, give, pay, fails, undefined_used, store_outside}
 use Rattle.sz_world.specs.Slots.{Slot, slot_at}
 use Rattle.sz_world.specs.Emits.{EmitParts, emit_of, emit_weight, with_emit}
 use Rattle.sz_world.specs.Stores.{by_index, by_field, Stored, Holds, Undefined, Outside, stored}
 use Rattle.sz_world.specs.Stores as stores
 use Rattle.sz_mean.specs.Expressions.{Setting, eval, eval_all, eval_indexes, eval_if_some}
-use Rattle.sz_mean.specs.Endings.{Ending, Normal, Breaks, Continues, Returns, Running, then_run, chosen, turns, turns_behind}
-
--- the variables with one that holds a slot
-abbrev pub with_local : ℕ → Slot → List Slot → List Slot
-with_local n x locals = slice_set locals n x
+use Rattle.sz_mean.specs.Endings.{Ending, Normal, Breaks, Continues, Returns, Running, with_local, then_run, chosen, turns, turns_behind}
+use Rattle.sz_mean.specs.Search.{Variable, exec_when}
 
 -- a step without its index
 abbrev pub bare : Step → stores.Step
@@ -53,6 +50,10 @@ abbrev pub while_ticks : (ℕ → Running) → Running
 while_ticks loop locals = λ w. loop (suc w.left) locals w
 
 module _ (s : Setting) where
+  -- a variable of `when`, with what its base gives
+  abbrev pub variable_of : Quantified → Variable
+  variable_of v = record { quantity = v.quantity; local = v.local; slice = v.slice; base = λ l. eval s l v.base }
+
   abbrev mutual
     -- what a statement does, in a setting
     pub exec : Stm → Running
@@ -91,6 +92,7 @@ module _ (s : Setting) where
       value ← eval s locals e
       weight ← eval_if_some s locals w
       emits place table (record { indexes = indexes; value = value; weight = weight }) locals
+    exec (when place vs c body) locals = exec_when place (λ l. eval s l c) (exec body) (map variable_of vs) locals
 
     -- what statements do, one after the other
     pub exec_all : Stms → Running

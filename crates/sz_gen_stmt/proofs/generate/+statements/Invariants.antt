@@ -1,12 +1,22 @@
 -- What is left to append, behind what there is now, makes the whole.
-use Rattle.std.proofs.Common.{map, drop}
+use Rattle.std.proofs.Common.{suc, ◌+◌, ◌-◌, length, map, drop}
 use Rattle.sz_core.specs.Statements.{stms_of}
 use Rattle.sz_core.specs.View.{stm_of}
 use Rattle.sz_gen_expr.specs.declared.builder.Builder.{Builder}
 use Rattle.sz_gen_stmt.specs.Making.{exits_of, AppendsStms}
+use Rattle.sz_gen_stmt.proofs.Sizes.{stm_size, stms_size}
 use Rattle.sz_gen_stmt.proofs.generate.+statements.Given as goal
 
 abbrev pub invariant-gen_stmts-loop-statement : goal.invariant-gen_stmts-loop-statement
 invariant-gen_stmts-loop-statement l =
     (new : Builder) → AppendsStms l.into new (stms_of (map stm_of (drop l.statement-index l.statements))) (exits_of l.out)
     → AppendsStms l.fn.into new (stms_of (map stm_of l.statements)) (exits_of l.out)
+
+abbrev pub decreases-gen_stmt : goal.decreases-gen_stmt
+decreases-gen_stmt l = stm_size (stm_of l.s.now)
+
+abbrev pub decreases-gen_stmts : goal.decreases-gen_stmts
+decreases-gen_stmts l = stms_size (stms_of (map stm_of l.statements.now))
+
+abbrev pub decreases-gen_search : goal.decreases-gen_search
+decreases-gen_search l = suc (stm_size (stm_of l.search.body.now) + (length l.variables.now - l.from))
