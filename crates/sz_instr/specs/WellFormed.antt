@@ -1,9 +1,10 @@
 -- What it is that code is well formed: each number in it is that of something that the code has.
-use Rattle.std.specs.Prelude.{ℕ, List, [], ◌∷◌, ◌++◌, Bool, true, ◌&&◌, length, max, nat_lt, nat_le}
+use Rattle.std.specs.Prelude.{ℕ, List, [], ◌∷◌, ◌++◌, Bool, true, false, ◌&&◌, length, max, nat_lt, nat_le, slice_get, Option, Some}
 use Rattle.std.specs.List.{list_all}
+use Rattle.sz_types.specs.Data.{Shape}
 use Rattle.sz_instr.specs.declared.instr.Instr.{Instr}
 use Rattle.sz_instr.specs.declared.instr.Instr.TheVariants.{Push, Local, Static, Input, Keep, KeepStatic, Clear, Store, Unary, Binary, Apply}
-use Rattle.sz_instr.specs.declared.instr.Instr.TheVariants.{Convert, MakeArray, MakeTuple, MakeMap, Index, Slice, Field, Def, Tick}
+use Rattle.sz_instr.specs.declared.instr.Instr.TheVariants.{Convert, Decode, MakeArray, MakeTuple, MakeMap, Index, Slice, Field, Def, Tick}
 use Rattle.sz_instr.specs.declared.instr.Instr.TheVariants.{Jump, Test, AndTest, OrTest, Call, Return, EndRecord, Discard, Emit}
 use Rattle.sz_instr.specs.declared.instr.Instr.TheVariants.{Enter, Next, Leave, Meets, Fails}
 use Rattle.sz_instr.specs.declared.routine.Routine.{Routine}
@@ -22,8 +23,13 @@ most_of (r ∷ rs) = max r.locals (most_of rs)
 unfoldable pub most_locals : Code → ℕ
 most_locals code = most_of (routines_of code)
 
+-- whether a type is there and is a proto type
+abbrev pub is_message_type : Option Shape → Bool
+is_message_type (Some (Shape.proto _)) = true
+is_message_type _ = false
+
 -- whether each number of the instruction is in range: a place is that of a line, a local is one of some routine, and constants,
--- statics, types, functions and tables are there. Counts of parts, and places of parts, are no numbers of the code's own.
+-- statics, types, functions and tables are there; a message is decoded by a proto type. Counts of parts, and places of parts, are no numbers of the code's own.
 abbrev pub is_in_range : Code → Instr → Bool
 is_in_range code (Push constant) = nat_lt constant (length code.constants)
 is_in_range code (Local n) = nat_lt n (most_locals code)
@@ -37,6 +43,7 @@ is_in_range code (Unary op) = true
 is_in_range code (Binary op) = true
 is_in_range code (Apply builtin) = true
 is_in_range code (Convert ty) = nat_lt ty (length code.types)
+is_in_range code (Decode ty) = is_message_type (slice_get code.types ty)
 is_in_range code (MakeArray count) = true
 is_in_range code (MakeTuple count) = true
 is_in_range code (MakeMap count) = true

@@ -20,7 +20,7 @@ pub struct Code {
     pub main: Routine,
     /// The values that `Push` pushes.
     pub constants: List,
-    /// The types that `Convert` converts to.
+    /// The types that `Convert` converts to, and those that `Decode` decodes by.
     pub types: Tys,
     /// The tables that `Emit` emits to, in the order of their declarations.
     pub tables: TableDecls,

@@ -33,8 +33,10 @@ pub enum Instr {
     Binary(BinOp),
     /// Pops the arguments, the last one first, and pushes what the function makes of them.
     Apply(Builtin),
-    /// Pops a slot and pushes it converted to the type.
+    /// Pops a slot and pushes it converted to the type, which is no proto type.
     Convert(u32),
+    /// Pops bytes and pushes the message that they are by the type, which is a proto type.
+    Decode(u32),
     /// Pops this many elements, the last one first, and pushes the array of them.
     MakeArray(u32),
     /// Pops this many parts, the last one first, and pushes the tuple of them.

@@ -1,15 +1,18 @@
 //! Whether each number in code is in range.
-ghost use Rattle.std.specs.Prelude.{◌≡◌};
+ghost use Rattle.std.specs.Prelude.{◌≡◌, slice_get, Some};
 ghost use Rattle.std.specs.List.{list_all};
-ghost use Rattle.sz_instr.specs.WellFormed.{most_of, most_locals, is_in_range, is_routine, is_well_formed};
+ghost use Rattle.sz_types.specs.Seen.{seen};
+ghost use Rattle.sz_instr.specs.WellFormed.{most_of, most_locals, is_message_type, is_in_range, is_routine, is_well_formed};
 
 use crate::code::Code;
 use crate::instr::Instr;
 use crate::line::Line;
 use crate::routine::Routine;
+use sz_types::Ty;
 
 /// Whether the code is well formed: each routine begins at a line and has its parameters among its locals, and each number of
-/// an instruction is in range. A place is in range where a line stands there, and a local where some routine has as many.
+/// an instruction is in range. A place is in range where a line stands there, a local where some routine has as many, and a type
+/// that a message is decoded by where it is a proto type.
 #[tactic(auto, using(crate::proofs::WellFormedLemmas::well_formed_by_list))]
 pub fn well_formed(code: &Code) -> bool
     ensures value { result ≡ is_well_formed code.now }
@@ -68,6 +71,30 @@ fn are_in_range(code: &Code, locals: u32, lines: &[Line]) -> bool
     true
 }
 
+// Whether the type is a proto type.
+fn is_proto(ty: &Ty) -> bool
+    ensures value { result ≡ is_message_type (Some (seen ty.now)) }
+{
+    match ty {
+        Ty::Proto(_) => true,
+        Ty::Bool => false,
+        Ty::Int => false,
+        Ty::Time => false,
+        Ty::Str => false,
+        Ty::Bytes => false,
+        Ty::Array(_) => false,
+        Ty::Map(_, _) => false,
+        Ty::Tuple(_) => false,
+    }
+}
+
+// Whether the number is that of a proto type of the code.
+fn is_message_number(code: &Code, number: usize) -> bool
+    ensures value { result ≡ is_message_type (slice_get code.now.types number) }
+{
+    number < code.types.len() && is_proto(code.types.get(number))
+}
+
 // Whether each number of the instruction is in range, where the routines have at most this many locals.
 fn is_in_range(code: &Code, locals: u32, instr: &Instr) -> bool
     requires most { locals ≡ most_locals code.now }
@@ -78,6 +105,7 @@ fn is_in_range(code: &Code, locals: u32, instr: &Instr) -> bool
         Instr::Local(n) | Instr::Keep(n) | Instr::Clear(n) | Instr::Store(n, _) => *n < locals,
         Instr::Static(n) | Instr::KeepStatic(n) => (*n as usize) < code.statics.len(),
         Instr::Convert(ty) => (*ty as usize) < code.types.len(),
+        Instr::Decode(ty) => is_message_number(code, *ty as usize),
         Instr::Call(function) => (*function as usize) < code.functions.len(),
         Instr::Next(n, to) => *n < locals && *to < code.lines.len(),
         Instr::Jump(to) | Instr::Test(to) | Instr::Meets(to) | Instr::Fails(to) => {

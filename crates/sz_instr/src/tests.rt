@@ -7,7 +7,7 @@ use super::*;
 use std::alloc::Global;
 use std::test::Fail;
 use sz_types::{
-    BinOp, Builtin, NoMemory, Place, TableDecl, TableDecls, TableKind, Text, Ty, Tys, UnOp,
+    BinOp, Builtin, Fields, NoMemory, Place, TableDecl, TableDecls, TableKind, Text, Ty, Tys, UnOp,
 };
 use sz_value::{List, Value};
 
@@ -129,8 +129,16 @@ fn path(alloc: Global) -> Result<Steps, NoMemory> {
     Ok(steps)
 }
 
+// The type of whole numbers, and that of messages without fields.
+fn number_and_message(alloc: Global) -> Result<Tys, NoMemory> {
+    let mut types = Tys::new(alloc);
+    types.push(Ty::Int)?;
+    types.push(Ty::Proto(Fields::new(alloc)))?;
+    Ok(types)
+}
+
 // Whether code of two lines, the second with this instruction, is well formed with these routines: a function, a static, and that
-// of the record. It has one constant, one type and one table.
+// of the record. It has one constant, two types, of which the second is a proto type, and one table.
 fn is_formed(
     alloc: Global,
     instr: Instr,
@@ -153,7 +161,7 @@ fn is_formed(
         statics,
         main,
         constants: one(alloc)?,
-        types: whole_numbers(alloc)?,
+        types: number_and_message(alloc)?,
         tables,
     };
     Ok(well_formed(&code))
@@ -186,6 +194,7 @@ fn numbers_are_in_range_up_to_the_last(rt: HostRuntime) -> Result<(), Fail> {
         Instr::Binary(BinOp::Add),
         Instr::Apply(Builtin::Len),
         Instr::Convert(0),
+        Instr::Decode(1),
         Instr::MakeArray(9),
         Instr::MakeTuple(9),
         Instr::MakeMap(9),
@@ -202,7 +211,7 @@ fn numbers_are_in_range_up_to_the_last(rt: HostRuntime) -> Result<(), Fail> {
         assert!(rt; is_instr_in_range(rt.alloc(), instr)?, "at {count}");
         count = count.saturating_add(1);
     }
-    assert_eq!(rt; count, 24);
+    assert_eq!(rt; count, 25);
     Ok(())
 }
 
@@ -239,7 +248,9 @@ fn numbers_behind_the_last_are_out_of_range(rt: HostRuntime) -> Result<(), Fail>
         Instr::KeepStatic(1),
         Instr::Clear(3),
         Instr::Store(3, path(rt.alloc())?),
-        Instr::Convert(1),
+        Instr::Convert(2),
+        Instr::Decode(0),
+        Instr::Decode(2),
         Instr::Jump(2),
         Instr::Test(2),
         Instr::AndTest(2),
@@ -254,7 +265,7 @@ fn numbers_behind_the_last_are_out_of_range(rt: HostRuntime) -> Result<(), Fail>
         assert!(rt; !is_instr_in_range(rt.alloc(), instr)?, "at {count}");
         count = count.saturating_add(1);
     }
-    assert_eq!(rt; count, 18);
+    assert_eq!(rt; count, 20);
     Ok(())
 }
 
