@@ -13,7 +13,7 @@ use Rattle.sz_tabs.specs.Data.{EmitDatum}
 use Rattle.sz_tabs.specs.Fitting.{IsEmitTo}
 use Rattle.sz_instr.specs.declared.instr.Instr.{Instr}
 use Rattle.sz_instr.specs.declared.instr.Instr.TheVariants.{Push, Local, Static, Input, Keep, KeepStatic, Clear, Store, Unary, Binary, Apply}
-use Rattle.sz_instr.specs.declared.instr.Instr.TheVariants.{Convert, MakeArray, MakeTuple, MakeMap, Index, Slice, Field, Def, Tick, Jump, Test}
+use Rattle.sz_instr.specs.declared.instr.Instr.TheVariants.{Convert, Decode, MakeArray, MakeTuple, MakeMap, Index, Slice, Field, Def, Tick, Jump, Test}
 use Rattle.sz_instr.specs.declared.instr.Instr.TheVariants.{AndTest, OrTest, Call, Return, EndRecord, Discard, Emit, Enter, Next, Leave, Meets, Fails}
 use Rattle.sz_instr.specs.declared.step.Step.{Step}
 use Rattle.sz_instr.specs.declared.routine.Routine.{Routine}
@@ -190,6 +190,7 @@ module _ (code : Code) where
   act_fits (Binary op) place s w covers all = on_top_two s.stack _ (λ x y rest. all)
   act_fits (Apply b) place s w covers all = all
   act_fits (Convert ty) place s w covers all = on_top s.stack _ (λ x rest. all)
+  act_fits (Decode ty) place s w covers all = on_top s.stack _ (λ x rest. all)
   act_fits (MakeArray count) place s w covers all = all
   act_fits (MakeTuple count) place s w covers all = all
   act_fits (MakeMap count) place s w covers all = all

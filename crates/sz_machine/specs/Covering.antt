@@ -12,7 +12,7 @@ use Rattle.sz_value.specs.Data.{Datum, str, bytes, array, mapping}
 use Rattle.sz_core.specs.Typing.{field_types}
 use Rattle.sz_instr.specs.declared.instr.Instr.{Instr}
 use Rattle.sz_instr.specs.declared.instr.Instr.TheVariants.{Push, Local, Static, Input, Keep, KeepStatic, Clear, Store, Unary, Binary, Apply}
-use Rattle.sz_instr.specs.declared.instr.Instr.TheVariants.{Convert, MakeArray, MakeTuple, MakeMap, Index, Slice, Field, Def, Tick, Jump, Test}
+use Rattle.sz_instr.specs.declared.instr.Instr.TheVariants.{Convert, Decode, MakeArray, MakeTuple, MakeMap, Index, Slice, Field, Def, Tick, Jump, Test}
 use Rattle.sz_instr.specs.declared.instr.Instr.TheVariants.{AndTest, OrTest, Call, Return, EndRecord, Discard, Emit, Enter, Next, Leave, Meets, Fails}
 use Rattle.sz_instr.specs.declared.step.Step.{Step}
 use Rattle.sz_instr.specs.declared.routine.Routine.{Routine}
@@ -65,10 +65,16 @@ HasBinaryRow op x y = (s t u : Shape) × (binary_row op s t ≡ Some u) × Fits 
 abbrev pub HasBuiltinRow : Builtin → List Slot → Type 0
 HasBuiltinRow b xs = (ts : List Shape) × (u : Shape) × (builtin_row b ts ≡ Some u) × AllFit xs ts
 
--- a type of the operand converts to the type
+-- a type of the operand converts to the type, which is no proto type
 abbrev pub HasConversion : Option Shape → Slot → Type 0
 HasConversion None x = ⊥
+HasConversion (Some (Shape.proto _)) x = ⊥
 HasConversion (Some t) x = (s : Shape) × (converts_to s t ≡ true) × Fits x s
+
+-- the operand is bytes, if it is defined, and the type is a proto type
+abbrev pub IsDecoded : Option Shape → Slot → Type 0
+IsDecoded (Some (Shape.proto _)) x = Fits x Shape.bytes
+IsDecoded _ x = ⊥
 
 -- there is a row of indexes for the types of the two
 abbrev pub HasIndexRow : Slot → Slot → Type 0
@@ -150,6 +156,7 @@ Covers code (Unary op) s = OnOne s.stack (HasUnaryRow op)
 Covers code (Binary op) s = OnTwo s.stack (HasBinaryRow op)
 Covers code (Apply b) s = OnMany (arity b) s.stack (HasBuiltinRow b)
 Covers code (Convert ty) s = OnOne s.stack (HasConversion (slice_get code.types ty))
+Covers code (Decode ty) s = OnOne s.stack (IsDecoded (slice_get code.types ty))
 Covers code (MakeArray count) s = count ≤ length s.stack
 Covers code (MakeTuple count) s = count ≤ length s.stack
 Covers code (MakeMap count) s = 2 * count ≤ length s.stack

@@ -6,7 +6,7 @@ use Rattle.sz_types.specs.declared.place.Place.{Place}
 use Rattle.sz_value.specs.Data.{Datum, truth}
 use Rattle.sz_instr.specs.declared.instr.Instr.{Instr}
 use Rattle.sz_instr.specs.declared.instr.Instr.TheVariants.{Push, Local, Static, Input, Keep, KeepStatic, Clear, Store, Unary, Binary, Apply}
-use Rattle.sz_instr.specs.declared.instr.Instr.TheVariants.{Convert, MakeArray, MakeTuple, MakeMap, Index, Slice, Field, Def, Tick, Jump, Test}
+use Rattle.sz_instr.specs.declared.instr.Instr.TheVariants.{Convert, Decode, MakeArray, MakeTuple, MakeMap, Index, Slice, Field, Def, Tick, Jump, Test}
 use Rattle.sz_instr.specs.declared.instr.Instr.TheVariants.{AndTest, OrTest, Call, Return, EndRecord, Discard, Emit, Enter, Next, Leave, Meets, Fails}
 use Rattle.sz_instr.specs.declared.step.Step.{Step}
 use Rattle.sz_instr.specs.declared.step.Step.TheVariants as steps
@@ -14,7 +14,7 @@ use Rattle.sz_instr.specs.declared.routine.Routine.{Routine}
 use Rattle.sz_instr.specs.declared.code.Code.{Code}
 use Rattle.sz_world.specs.World.{undefined_used, store_outside, calls_too_deep, most_open_calls}
 use Rattle.sz_world.specs.Slots.{Slot, slot_at, all_defined, fresh}
-use Rattle.sz_world.specs.Operations.{unary_of, binary_of, arity, applied, converted, no_messages, array_of, tuple_of, map_of}
+use Rattle.sz_world.specs.Operations.{unary_of, binary_of, arity, applied, converted_plainly, decoded_as, array_of, tuple_of, map_of}
 use Rattle.sz_world.specs.Operations.{element_of, slice_of, part_of, definedness}
 use Rattle.sz_world.specs.Emits.{EmitParts, emit_of, with_emit}
 use Rattle.sz_world.specs.Candidates.{candidates}
@@ -33,10 +33,10 @@ indexes_in [] = 0
 indexes_in (steps.Index ∷ path) = suc (indexes_in path)
 indexes_in (steps.Field n ∷ path) = indexes_in path
 
--- the operand that a conversion to a type leaves
-abbrev pub converted_to : Option Shape → Slot → Slot
-converted_to None x = None
-converted_to (Some t) x = converted no_messages t x
+-- what an operand becomes by a type, if it is there
+abbrev pub by_type : (Shape → Slot → Slot) → Option Shape → Slot → Slot
+by_type made None x = None
+by_type made (Some t) x = made t x
 
 -- the local holds what came of a store, or the store's fault
 abbrev pub after_store : Stored → Place → ℕ → State → List Slot → After
@@ -136,7 +136,8 @@ act code (Store n path) place s = store path (indexes_in path) place n s
 act code (Unary op) place s = on_one s.stack (λ x stack. goes_on s (unary_of op x ∷ stack))
 act code (Binary op) place s = on_two s.stack (λ x y stack. goes_on s (binary_of op x y ∷ stack))
 act code (Apply b) place s = goes_on s (applied b (popped (arity b) s.stack) ∷ drop (arity b) s.stack)
-act code (Convert ty) place s = on_one s.stack (λ x stack. goes_on s (converted_to (slice_get code.types ty) x ∷ stack))
+act code (Convert ty) place s = on_one s.stack (λ x stack. goes_on s (by_type converted_plainly (slice_get code.types ty) x ∷ stack))
+act code (Decode ty) place s = on_one s.stack (λ x stack. goes_on s (by_type decoded_as (slice_get code.types ty) x ∷ stack))
 act code (MakeArray count) place s = goes_on s (array_of (popped count s.stack) ∷ drop count s.stack)
 act code (MakeTuple count) place s = goes_on s (tuple_of (popped count s.stack) ∷ drop count s.stack)
 act code (MakeMap count) place s = goes_on s (map_of (popped (2 * count) s.stack) ∷ drop (2 * count) s.stack)

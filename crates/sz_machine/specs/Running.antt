@@ -4,29 +4,30 @@ use Rattle.sz_types.specs.Data.{Shape}
 use Rattle.sz_value.specs.Data.{Datum, bytes}
 use Rattle.sz_tabs.specs.Data.{EmitDatum}
 use Rattle.sz_instr.specs.declared.instr.Instr.{Instr}
-use Rattle.sz_instr.specs.declared.instr.Instr.TheVariants.{Binary, Apply, Convert, MakeArray, MakeTuple, MakeMap, Slice, Emit, Next}
+use Rattle.sz_instr.specs.declared.instr.Instr.TheVariants.{Binary, Apply, Convert, Decode, MakeArray, MakeTuple, MakeMap, Slice, Emit, Next}
 use Rattle.sz_instr.specs.declared.line.Line.{Line}
 use Rattle.sz_instr.specs.declared.routine.Routine.{Routine}
 use Rattle.sz_instr.specs.declared.code.Code.{Code}
 use Rattle.sz_world.specs.World.{World, new_world, spend, budget_passed, Outcome, Done, Faulted}
 use Rattle.sz_world.specs.Slots.{Slot, undefined_slots}
-use Rattle.sz_world.specs.Operations.{binary_of, arity, applied, converted, no_messages, array_of, tuple_of, map_of, slice_of}
+use Rattle.sz_world.specs.Operations.{binary_of, arity, applied, converted_plainly, decoded_as, array_of, tuple_of, map_of, slice_of}
 use Rattle.sz_world.specs.Ticks.{result_weight, binary_weight, builtin_weight, conversion_weight}
 use Rattle.sz_world.specs.Emits.{emit_weight}
 use Rattle.sz_machine.specs.States.{State, After, Goes, Halts, Faults, Stuck, faults, entered, popped}
-use Rattle.sz_machine.specs.Rows.{act, emit_parts}
+use Rattle.sz_machine.specs.Rows.{by_type, act, emit_parts}
 use Rattle.sz_machine.specs.Covering.{Covers}
 
 -- what a conversion to a type adds
 abbrev pub conversion_added : Option Shape → Slot → ℕ
 conversion_added None x = 0
-conversion_added (Some t) x = conversion_weight t x (converted no_messages t x)
+conversion_added (Some t) x = conversion_weight t x (converted_plainly t x)
 
 -- the weight that an instruction's result adds to the charge of its line
 abbrev pub weight_added : Code → Instr → List Slot → ℕ
 weight_added code (Binary op) (y ∷ x ∷ stack) = binary_weight op (binary_of op x y)
 weight_added code (Apply b) stack = builtin_weight b (applied b (popped (arity b) stack))
 weight_added code (Convert ty) (x ∷ stack) = conversion_added (slice_get code.types ty) x
+weight_added code (Decode ty) (x ∷ stack) = result_weight (by_type decoded_as (slice_get code.types ty) x)
 weight_added code (MakeArray count) stack = result_weight (array_of (popped count stack))
 weight_added code (MakeTuple count) stack = result_weight (tuple_of (popped count stack))
 weight_added code (MakeMap count) stack = result_weight (map_of (popped (2 * count) stack))

@@ -14,7 +14,7 @@ use Rattle.sz_core.specs.Statements.{return_value, end_record, emit, Quantity, s
 use Rattle.sz_core.specs.Programs.{Core, Function, functions_of}
 use Rattle.sz_world.specs.World.{most_open_calls, World, new_world, Given, Gives, Stops, Doing, and_then, ◌>>=◌, give, fails, spend, paid, pay, Done}
 use Rattle.sz_world.specs.Slots.{Slot, slot_at, all_defined}
-use Rattle.sz_world.specs.Operations.{Decoding, unary_of, binary_of, applied, element_of, slice_of, part_of, definedness, converted, array_of, tuple_of, map_of}
+use Rattle.sz_world.specs.Operations.{unary_of, binary_of, applied, element_of, slice_of, part_of, definedness, converted, array_of, tuple_of, map_of}
 use Rattle.sz_world.specs.Ticks.{no_weight, result_weight, binary_weight, builtin_weight, conversion_weight}
 use Rattle.sz_world.specs.Emits.{EmitParts, emit_weight, emit_of, with_emit}
 use Rattle.sz_world.specs.Stores.{Stored, Holds, Undefined, Outside}
@@ -113,7 +113,7 @@ module _ (s : Setting) (calls : CallsPay s) (locals : List Slot) where
         then_pays (eval_all s locals es) _ (all_pay es) (λ xs. then_pays (pay 1 place) _ (ticks 1 place) (λ _. call_pays s calls f place (all_defined xs)))
     form_pays place t (builtin b es) = then_pays (eval_all s locals es) _ (all_pay es) (λ xs. result place (builtin_weight b) (applied b xs))
     form_pays place t (def e) = then_pays (eval s locals e) _ (eval_pays e) (λ x. result place no_weight (definedness x))
-    form_pays place t (convert e) = then_pays (eval s locals e) _ (eval_pays e) (λ x. result place (conversion_weight t x) (converted s.decode t x))
+    form_pays place t (convert e) = then_pays (eval s locals e) _ (eval_pays e) (λ x. result place (conversion_weight t x) (converted t x))
     form_pays place t (array es) = then_pays (eval_all s locals es) _ (all_pay es) (λ xs. result place result_weight (array_of xs))
     form_pays place t (tuple es) = then_pays (eval_all s locals es) _ (all_pay es) (λ xs. result place result_weight (tuple_of xs))
     form_pays place t (mapping ps) = then_pays (eval_pairings s locals ps) _ (pairings_pay ps) (λ xs. result place result_weight (map_of xs))
@@ -398,21 +398,21 @@ module _ (s : Setting) (calls : CallsPay s) where
     all_run_pays (with_stm first rest) locals =
         then_pays (exec s first locals) _ (exec_pays first locals) (λ ending. then_run_pays ending _ (all_run_pays rest))
 
-module _ (decode : Decoding) (functions : List Function) (statics : List Slot) where
-  function_pays : (f : Option Function) (room : ℕ) → ((g : ℕ) (place : Place) (arguments : List Datum) → Paying (calls_at decode functions statics room g place arguments))
-      → (arguments : List Datum) → Paying (run_function decode functions f (calls_at decode functions statics room) statics arguments)
+module _ (functions : List Function) (statics : List Slot) where
+  function_pays : (f : Option Function) (room : ℕ) → ((g : ℕ) (place : Place) (arguments : List Datum) → Paying (calls_at functions statics room g place arguments))
+      → (arguments : List Datum) → Paying (run_function functions f (calls_at functions statics room) statics arguments)
   function_pays None room calls arguments = given {X = Slot} None
   function_pays (Some f) room calls arguments = then_pays _ _ (all_run_pays _ calls f.body _) (λ ending. given _)
 
-  calls_pay : (room : ℕ) (f : ℕ) (place : Place) (arguments : List Datum) → Paying (calls_at decode functions statics room f place arguments)
+  calls_pay : (room : ℕ) (f : ℕ) (place : Place) (arguments : List Datum) → Paying (calls_at functions statics room f place arguments)
   calls_pay zero f place arguments = failed _ place
   calls_pay (suc room) f place arguments = function_pays (slice_get functions f) room (calls_pay room) arguments
 
 -- a record has at most as many emits as its budget has ticks
-pub emits_are_paid : (decode : Decoding) (core : Core) (slots : List Slot) (budget : ℕ) (text : List ℕ) (es : List EmitDatum)
-    → mean decode core slots budget text ≡ Done es → length es ≤ budget
-emits_are_paid decode core slots budget text es is =
-    by (run_record decode core slots budget text) ((all_run_pays _ (calls_pay decode (functions_of core.items) slots most_open_calls) (body_of core) _).pays (new_world budget)) is
+pub emits_are_paid : (core : Core) (slots : List Slot) (budget : ℕ) (text : List ℕ) (es : List EmitDatum)
+    → mean core slots budget text ≡ Done es → length es ≤ budget
+emits_are_paid core slots budget text es is =
+    by (run_record core slots budget text) ((all_run_pays _ (calls_pay (functions_of core.items) slots most_open_calls) (body_of core) _).pays (new_world budget)) is
   where
     same : (a b : List EmitDatum) → Done a ≡ Done b → a ≡ b
     same a b e = cc

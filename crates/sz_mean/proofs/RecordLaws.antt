@@ -4,7 +4,6 @@ use Rattle.sz_tabs.specs.Data.{EmitDatum}
 use Rattle.sz_core.specs.Programs.{Core}
 use Rattle.sz_world.specs.World.{Fault, Outcome, Done, Faulted}
 use Rattle.sz_world.specs.Slots.{Slot}
-use Rattle.sz_world.specs.Operations.{Decoding}
 use Rattle.sz_mean.specs.Programs.{mean}
 use Rattle.sz_mean.specs.Records.{Records, Emitted, FaultedAt, behind_emits, then_records, mean_from}
 
@@ -13,11 +12,11 @@ pub behind_both : (front more : List EmitDatum) (r : Records) → behind_emits f
 behind_both front more (Emitted es) = ap Emitted (sym (append_assoc front more es))
 behind_both front more (FaultedAt n f) = refl
 
-module _ (decode : Decoding) (core : Core) (slots : List Slot) (budget : ℕ) where
+module _ (core : Core) (slots : List Slot) (budget : ℕ) where
   -- the number of a record that faults is that of one of the records
-  pub fault_number : (n : ℕ) (rs : List (List ℕ)) (k : ℕ) (f : Fault) → mean_from decode core slots budget n rs ≡ FaultedAt k f → n ≤ k
+  pub fault_number : (n : ℕ) (rs : List (List ℕ)) (k : ℕ) (f : Fault) → mean_from core slots budget n rs ≡ FaultedAt k f → n ≤ k
   fault_number n [] k f e = absurd (cc)
-  fault_number n (r ∷ rs) k f e = by (mean decode core slots budget r) (fault_number (suc n) rs) e
+  fault_number n (r ∷ rs) k f e = by (mean core slots budget r) (fault_number (suc n) rs) e
     where
       same : (a b : ℕ) (f g : Fault) → FaultedAt a f ≡ FaultedAt b g → a ≡ b
       same a b f g e = cc
@@ -27,7 +26,7 @@ module _ (decode : Decoding) (core : Core) (slots : List Slot) (budget : ℕ) wh
       behind es (Emitted more) h e = absurd (cc)
       behind es (FaultedAt j g) h e = let le = h k f e in omega (arith, le)
 
-      by : (o : Outcome (List EmitDatum)) → ((k : ℕ) (f : Fault) → mean_from decode core slots budget (suc n) rs ≡ FaultedAt k f → suc n ≤ k)
-          → then_records n o (mean_from decode core slots budget (suc n) rs) ≡ FaultedAt k f → n ≤ k
-      by (Done es) h e = behind es (mean_from decode core slots budget (suc n) rs) h e
+      by : (o : Outcome (List EmitDatum)) → ((k : ℕ) (f : Fault) → mean_from core slots budget (suc n) rs ≡ FaultedAt k f → suc n ≤ k)
+          → then_records n o (mean_from core slots budget (suc n) rs) ≡ FaultedAt k f → n ≤ k
+      by (Done es) h e = behind es (mean_from core slots budget (suc n) rs) h e
       by (Faulted g) h e = let one = same n k g f e in omega (arith, one)

@@ -7,130 +7,128 @@ use Rattle.sz_tabs.specs.Data.{EmitDatum}
 use Rattle.sz_core.specs.Statements.{some, each, all}
 use Rattle.sz_core.specs.Programs.{Core}
 use Rattle.sz_world.specs.World.{Outcome, Done, Faulted, budget_passed, undefined_used, store_outside, calls_too_deep}
-use Rattle.sz_world.specs.Operations.{Decoding}
 use Rattle.sz_mean.specs.Programs.{mean}
 use Rattle.sz_mean.specs.Records.{FaultedAt, mean_all}
 use Rattle.sz_mean.proofs.WorkedTrees.{at, number, emits_sum, joins_texts, counts_down, counts_up, emits_if, stores_outside, calls_on}
 use Rattle.sz_mean.proofs.WorkedTrees.{emits_without_weight, undefined_left, nothing, emits_place, emits_seven, searches}
 
-module _ (decode : Decoding) where
-  ends : Core → ℕ → List ℕ → Outcome (List EmitDatum)
-  ends core budget input = mean decode core [] budget input
+ends : Core → ℕ → List ℕ → Outcome (List EmitDatum)
+ends core budget input = mean core [] budget input
 
-  fault : ℕ → Place → Outcome (List EmitDatum)
-  fault kind place = Faulted (record { kind = kind; place = place })
+fault : ℕ → Place → Outcome (List EmitDatum)
+fault kind place = Faulted (record { kind = kind; place = place })
 
-  of_number : ℕ → EmitDatum
-  of_number n = record { table = 0; indexes = []; value = Datum.int (pos n); weight = None }
+of_number : ℕ → EmitDatum
+of_number n = record { table = 0; indexes = []; value = Datum.int (pos n); weight = None }
 
-  sum_enough : ends emits_sum 5 [] ≡ Done (of_number 3 ∷ [])
-  unfolding ends of_number int_wrap
-  sum_enough = refl
+sum_enough : ends emits_sum 5 [] ≡ Done (of_number 3 ∷ [])
+unfolding ends of_number int_wrap
+sum_enough = refl
 
-  sum_less : ends emits_sum 4 [] ≡ fault budget_passed (at 2 1)
-  unfolding ends fault int_wrap
-  sum_less = refl
+sum_less : ends emits_sum 4 [] ≡ fault budget_passed (at 2 1)
+unfolding ends fault int_wrap
+sum_less = refl
 
-  texts_enough : ends joins_texts 8 [] ≡ Done []
-  unfolding ends
-  texts_enough = refl
+texts_enough : ends joins_texts 8 [] ≡ Done []
+unfolding ends
+texts_enough = refl
 
-  texts_less : ends joins_texts 7 [] ≡ fault budget_passed (at 1 1)
-  unfolding ends fault
-  texts_less = refl
+texts_less : ends joins_texts 7 [] ≡ fault budget_passed (at 1 1)
+unfolding ends fault
+texts_less = refl
 
-  texts_two_less : ends joins_texts 6 [] ≡ fault budget_passed (at 1 13)
-  unfolding ends fault
-  texts_two_less = refl
+texts_two_less : ends joins_texts 6 [] ≡ fault budget_passed (at 1 13)
+unfolding ends fault
+texts_two_less = refl
 
-  down_enough : ends counts_down 25 (codes "2") ≡ Done []
-  unfolding ends int_wrap
-  down_enough = refl
+down_enough : ends counts_down 25 (codes "2") ≡ Done []
+unfolding ends int_wrap
+down_enough = refl
 
-  down_less : ends counts_down 24 (codes "2") ≡ fault budget_passed (at 2 1)
-  unfolding ends fault int_wrap
-  down_less = refl
+down_less : ends counts_down 24 (codes "2") ≡ fault budget_passed (at 2 1)
+unfolding ends fault int_wrap
+down_less = refl
 
-  up_enough : ends counts_up 42 [] ≡ Done (of_number 0 ∷ of_number 1 ∷ of_number 2 ∷ [])
-  unfolding ends of_number int_wrap
-  up_enough = refl
+up_enough : ends counts_up 42 [] ≡ Done (of_number 0 ∷ of_number 1 ∷ of_number 2 ∷ [])
+unfolding ends of_number int_wrap
+up_enough = refl
 
-  up_less : ends counts_up 41 [] ≡ fault budget_passed (at 2 1)
-  unfolding ends fault int_wrap
-  up_less = refl
+up_less : ends counts_up 41 [] ≡ fault budget_passed (at 2 1)
+unfolding ends fault int_wrap
+up_less = refl
 
-  -- an undefined left operand leaves the right one unseen: three ticks, one for each of `x`, `&&` and the declaration
-  left_enough : ends undefined_left 3 [] ≡ Done []
-  unfolding ends
-  left_enough = refl
+-- an undefined left operand leaves the right one unseen: three ticks, one for each of `x`, `&&` and the declaration
+left_enough : ends undefined_left 3 [] ≡ Done []
+unfolding ends
+left_enough = refl
 
-  left_less : ends undefined_left 2 [] ≡ fault budget_passed (at 2 1)
-  unfolding ends fault
-  left_less = refl
+left_less : ends undefined_left 2 [] ≡ fault budget_passed (at 2 1)
+unfolding ends fault
+left_less = refl
 
-  -- an emit with an undefined weight is ignored, and takes one tick behind those of its parts
-  weight_enough : ends emits_without_weight 5 [] ≡ Done []
-  unfolding ends int_wrap
-  weight_enough = refl
+-- an emit with an undefined weight is ignored, and takes one tick behind those of its parts
+weight_enough : ends emits_without_weight 5 [] ≡ Done []
+unfolding ends int_wrap
+weight_enough = refl
 
-  weight_less : ends emits_without_weight 4 [] ≡ fault budget_passed (at 2 1)
-  unfolding ends fault int_wrap
-  weight_less = refl
+weight_less : ends emits_without_weight 4 [] ≡ fault budget_passed (at 2 1)
+unfolding ends fault int_wrap
+weight_less = refl
 
-  undefined_test : ends emits_if 100 [] ≡ fault undefined_used (at 3 1)
-  unfolding ends fault
-  undefined_test = refl
+undefined_test : ends emits_if 100 [] ≡ fault undefined_used (at 3 1)
+unfolding ends fault
+undefined_test = refl
 
-  -- a fault is a fault of all records
-  second_faults : mean_all decode emits_if [] 100 (codes "1" ∷ [] ∷ codes "1" ∷ []) ≡ FaultedAt 2 (record { kind = undefined_used; place = at 3 1 })
-  second_faults = refl
+-- a fault is a fault of all records
+second_faults : mean_all emits_if [] 100 (codes "1" ∷ [] ∷ codes "1" ∷ []) ≡ FaultedAt 2 (record { kind = undefined_used; place = at 3 1 })
+second_faults = refl
 
-  -- the budget is asked before where a store leads
-  outside_enough : ends stores_outside 8 [] ≡ fault store_outside (at 2 1)
-  unfolding ends fault
-  outside_enough = refl
+-- the budget is asked before where a store leads
+outside_enough : ends stores_outside 8 [] ≡ fault store_outside (at 2 1)
+unfolding ends fault
+outside_enough = refl
 
-  outside_less : ends stores_outside 7 [] ≡ fault budget_passed (at 2 1)
-  unfolding ends fault
-  outside_less = refl
+outside_less : ends stores_outside 7 [] ≡ fault budget_passed (at 2 1)
+unfolding ends fault
+outside_less = refl
 
-  too_deep : ends calls_on (2 ^ 24) [] ≡ fault calls_too_deep (at 1 35)
-  unfolding ends fault int_wrap
-  too_deep = refl
+too_deep : ends calls_on (2 ^ 24) [] ≡ fault calls_too_deep (at 1 35)
+unfolding ends fault int_wrap
+too_deep = refl
 
-  -- the first candidate with which the condition is true is enough: seven ticks for the array, one for the base, six for a candidate
-  -- with its condition, and three for the emit
-  some_enough : ends (searches some (number (at 3 28) 3) emits_place) 17 [] ≡ Done (of_number 0 ∷ [])
-  unfolding ends of_number int_wrap
-  some_enough = refl
+-- the first candidate with which the condition is true is enough: seven ticks for the array, one for the base, six for a candidate
+-- with its condition, and three for the emit
+some_enough : ends (searches some (number (at 3 28) 3) emits_place) 17 [] ≡ Done (of_number 0 ∷ [])
+unfolding ends of_number int_wrap
+some_enough = refl
 
-  some_less : ends (searches some (number (at 3 28) 3) emits_place) 16 [] ≡ fault budget_passed (at 3 31)
-  unfolding ends fault int_wrap
-  some_less = refl
+some_less : ends (searches some (number (at 3 28) 3) emits_place) 16 [] ≡ fault budget_passed (at 3 31)
+unfolding ends fault int_wrap
+some_less = refl
 
-  second_enough : ends (searches some (number (at 3 28) 5) emits_place) 23 [] ≡ Done (of_number 1 ∷ [])
-  unfolding ends of_number int_wrap
-  second_enough = refl
+second_enough : ends (searches some (number (at 3 28) 5) emits_place) 23 [] ≡ Done (of_number 1 ∷ [])
+unfolding ends of_number int_wrap
+second_enough = refl
 
-  -- each candidate is tried, also behind one with which the condition is true
-  each_enough : ends (searches each (number (at 3 28) 3) emits_place) 23 [] ≡ Done (of_number 0 ∷ [])
-  unfolding ends of_number int_wrap
-  each_enough = refl
+-- each candidate is tried, also behind one with which the condition is true
+each_enough : ends (searches each (number (at 3 28) 3) emits_place) 23 [] ≡ Done (of_number 0 ∷ [])
+unfolding ends of_number int_wrap
+each_enough = refl
 
-  each_less : ends (searches each (number (at 3 28) 3) emits_place) 22 [] ≡ fault budget_passed (at 3 20)
-  unfolding ends fault int_wrap
-  each_less = refl
+each_less : ends (searches each (number (at 3 28) 3) emits_place) 22 [] ≡ fault budget_passed (at 3 20)
+unfolding ends fault int_wrap
+each_less = refl
 
-  -- a condition that is false for one candidate is not true for all
-  all_refuted : ends (searches all (number (at 3 28) 3) emits_seven) 20 [] ≡ Done []
-  unfolding ends int_wrap
-  all_refuted = refl
+-- a condition that is false for one candidate is not true for all
+all_refuted : ends (searches all (number (at 3 28) 3) emits_seven) 20 [] ≡ Done []
+unfolding ends int_wrap
+all_refuted = refl
 
-  -- an undefined one refutes nothing, and is met by none
-  all_undefined : ends (searches all nothing emits_seven) 27 [] ≡ Done (of_number 7 ∷ [])
-  unfolding ends of_number int_wrap
-  all_undefined = refl
+-- an undefined one refutes nothing, and is met by none
+all_undefined : ends (searches all nothing emits_seven) 27 [] ≡ Done (of_number 7 ∷ [])
+unfolding ends of_number int_wrap
+all_undefined = refl
 
-  some_undefined : ends (searches some nothing emits_seven) 24 [] ≡ Done []
-  unfolding ends int_wrap
-  some_undefined = refl
+some_undefined : ends (searches some nothing emits_seven) 24 [] ≡ Done []
+unfolding ends int_wrap
+some_undefined = refl

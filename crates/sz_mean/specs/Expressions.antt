@@ -8,19 +8,18 @@ use Rattle.sz_core.specs.Nodes.{field, unary, binary, both, either, Nodes, no_no
 use Rattle.sz_core.specs.Statements.{Step, at_index, at_field}
 use Rattle.sz_world.specs.World.{Doing, ◌>>=◌, ◌>>◌, give, pay}
 use Rattle.sz_world.specs.Slots.{Slot, slot_at, all_defined}
-use Rattle.sz_world.specs.Operations.{Decoding, unary_of, binary_of, applied, element_of, slice_of, part_of, definedness, converted, array_of, tuple_of, map_of}
+use Rattle.sz_world.specs.Operations.{unary_of, binary_of, applied, element_of, slice_of, part_of, definedness, converted, array_of, tuple_of, map_of}
 use Rattle.sz_world.specs.Ticks.{no_weight, result_weight, binary_weight, builtin_weight, conversion_weight}
 
 -- what calls do: of the function with this number, made at this place, with these arguments
 abbrev pub Calls : Type 0
 Calls = ℕ → Place → List Datum → Doing Slot
 
--- what stays fixed while statements run: what calls do, the statics, the record, and what messages mean
+-- what stays fixed while statements run: what calls do, the statics, and the record
 pub record Setting : Type 0 where
   pub calls : Calls
   pub statics : List Slot
   pub input : Slot
-  pub decode : Decoding
 
 -- an expression's own tick is taken, with what its result adds to it, and then it gives the result
 abbrev pub results : Place → (Slot → ℕ) → Slot → Doing Slot
@@ -67,7 +66,7 @@ module _ (s : Setting) (locals : List Slot) where
       results place no_weight (definedness x)
     eval_form place t (convert e) = do
       x ← eval e
-      results place (conversion_weight t x) (converted s.decode t x)
+      results place (conversion_weight t x) (converted t x)
     eval_form place t (array es) = do
       elements ← eval_all es
       results place result_weight (array_of elements)

@@ -4,18 +4,17 @@ ghost use Rattle.sz_tabs.specs.Data.{EmitDatum};
 ghost use Rattle.sz_core.specs.Programs.{Core};
 ghost use Rattle.sz_world.specs.World.{Fault, Done};
 ghost use Rattle.sz_world.specs.Slots.{Slot};
-ghost use Rattle.sz_world.specs.Operations.{Decoding};
 ghost use Rattle.sz_mean.specs.Programs.{mean};
 ghost use Rattle.sz_mean.specs.Records.{FaultedAt, mean_all};
 
 /// A record has at most as many emits as its budget has ticks: each takes one.
 pub fn each_emit_takes_a_tick()
-    ensures few { (decode : Decoding) (core : Core) (slots : List Slot) (budget : ℕ) (input : List ℕ) (emits : List EmitDatum)
-        → mean decode core slots budget input ≡ Done emits → length emits ≤ budget }
+    ensures few { (core : Core) (slots : List Slot) (budget : ℕ) (input : List ℕ) (emits : List EmitDatum)
+        → mean core slots budget input ≡ Done emits → length emits ≤ budget }
 {}
 
 /// Records are numbered from 1: the number 0 is free for a fault in a static.
 pub fn records_are_numbered_from_one()
-    ensures number { (decode : Decoding) (core : Core) (slots : List Slot) (budget : ℕ) (records : List (List ℕ)) (number : ℕ) (fault : Fault)
-        → mean_all decode core slots budget records ≡ FaultedAt number fault → 1 ≤ number }
+    ensures number { (core : Core) (slots : List Slot) (budget : ℕ) (records : List (List ℕ)) (number : ℕ) (fault : Fault)
+        → mean_all core slots budget records ≡ FaultedAt number fault → 1 ≤ number }
 {}

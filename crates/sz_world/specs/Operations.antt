@@ -1,7 +1,7 @@
 -- What operators, predeclared functions, conversions and composites make of slots: undefined where an operand is.
 use Rattle.std.specs.Prelude.{ℕ, List, [], ◌∷◌, slice_get, Option, Some, None, option_map, is_some}
 use Rattle.std.specs.Option.{option_and_then}
-use Rattle.sz_types.specs.Data.{Shape, FieldShapes}
+use Rattle.sz_types.specs.Data.{Shape}
 use Rattle.sz_types.specs.declared.operator.UnOp.{UnOp}
 use Rattle.sz_types.specs.declared.operator.BinOp.{BinOp}
 use Rattle.sz_types.specs.declared.operator.Builtin.{Builtin}
@@ -12,6 +12,7 @@ use Rattle.sz_builtin.specs.Operators.{unary, binary}
 use Rattle.sz_builtin.specs.Places.{index, slice}
 use Rattle.sz_builtin.specs.Predeclared.{builtin}
 use Rattle.sz_builtin.specs.Conversions.{convert}
+use Rattle.sz_proto.specs.Messages.{decoded}
 use Rattle.sz_world.specs.Slots.{Slot, all_defined, of_two}
 
 -- what an operator of one operand makes of a slot
@@ -55,22 +56,27 @@ arity Keys = 1
 arity HasKey = 2
 arity StrFind = 2
 
--- what messages mean: the value that bytes are as a message with these fields, if they are one
-abbrev pub Decoding : Type 0
-Decoding = FieldShapes → List ℕ → Option Datum
-
--- no bytes are a message: so it is as long as messages aren't decoded
-abbrev pub no_messages : Decoding
-no_messages _ _ = None
-
 -- what a value becomes by a conversion to a type: bytes that become a message are decoded
-abbrev pub became : Decoding → Shape → Datum → Option Datum
-became decode (Shape.proto fields) (bytes octets) = decode fields octets
-became decode t d = convert d t
+abbrev pub became : Shape → Datum → Option Datum
+became (Shape.proto fields) (bytes octets) = decoded (Shape.proto fields) octets
+became t d = convert d t
 
 -- the same of a slot
-abbrev pub converted : Decoding → Shape → Slot → Slot
-converted decode t x = option_and_then (became decode t) x
+abbrev pub converted : Shape → Slot → Slot
+converted t x = option_and_then (became t) x
+
+-- the same where nothing is decoded
+abbrev pub converted_plainly : Shape → Slot → Slot
+converted_plainly t x = option_and_then (λ d. convert d t) x
+
+-- the message that a value is by a type: bytes alone are one
+abbrev pub message_of : Shape → Datum → Option Datum
+message_of t (bytes octets) = decoded t octets
+message_of t _ = None
+
+-- the same of a slot
+abbrev pub decoded_as : Shape → Slot → Slot
+decoded_as t x = option_and_then (message_of t) x
 
 -- the array of these elements
 abbrev pub array_of : List Slot → Slot
