@@ -1,15 +1,16 @@
 //! What operators, functions, conversions and composites make of operands.
 ghost use Rattle.std.specs.Prelude.{◌≡◌, ℕ, IfOk, Some, slice_get};
 ghost use Rattle.sz_types.specs.Seen.{seen as seen_type};
-ghost use Rattle.sz_types.specs.Data.{FieldShapes, proto};
 ghost use Rattle.sz_value.specs.Seen.{seen, seen_pairs};
-ghost use Rattle.sz_world.specs.Operations.{unary_of, binary_of, applied, became, converted, no_messages, array_of, tuple_of, map_of};
+ghost use Rattle.sz_builtin.specs.Conversions.{convert};
+ghost use Rattle.sz_world.specs.Operations.{unary_of, binary_of, applied, converted_plainly, message_of, decoded_as, array_of, tuple_of, map_of};
 ghost use Rattle.sz_world.specs.Operations.{element_of, slice_of, part_at, part_of, definedness};
 ghost use Rattle.sz_cells.specs.Results.{applied_to, array_of_all, tuple_of_all, map_of_all, by_turns};
 
 use crate::cell::{Cell, Form};
 use std::alloc::Global;
 use sz_builtin::{binary, builtin, convert, index, slice, unary};
+use sz_proto::decode;
 use sz_types::{BinOp, Builtin, Ty, UnOp};
 use sz_value::{List, NoMemory, Pair, Pairs, Value};
 
@@ -46,9 +47,9 @@ pub fn applied(alloc: Global, which: Builtin, arguments: &Option<List>) -> Resul
     }
 }
 
-/// What an operand becomes by a conversion to the type. No bytes are a message.
+/// What an operand becomes by a conversion to the type. Bytes stay bytes where that is a proto type: `decoded` reads them.
 pub fn converted(alloc: Global, to: &Ty, x: &Cell) -> Result<Cell, NoMemory>
-    ensures value { IfOk result (λ made. made ≡ converted no_messages (seen_type to.now) x.now) }
+    ensures value { IfOk result (λ made. made ≡ converted_plainly (seen_type to.now) x.now) }
 {
     match x.look() {
         Some(look) => became(alloc, to, look.value()),
@@ -58,10 +59,10 @@ pub fn converted(alloc: Global, to: &Ty, x: &Cell) -> Result<Cell, NoMemory>
 
 // What a value becomes by a conversion to the type.
 fn became(alloc: Global, to: &Ty, value: &Value) -> Result<Cell, NoMemory>
-    ensures value { IfOk result (λ made. made ≡ became no_messages (seen_type to.now) (seen value.now)) }
+    ensures value { IfOk result (λ made. made ≡ convert (seen value.now) (seen_type to.now)) }
 {
     match to {
-        Ty::Proto(_) => as_message(alloc, value),
+        Ty::Proto(_) => Cell::of_copy(alloc, value),
         Ty::Bool
         | Ty::Int
         | Ty::Time
@@ -73,13 +74,23 @@ fn became(alloc: Global, to: &Ty, value: &Value) -> Result<Cell, NoMemory>
     }
 }
 
-// What a value becomes by a conversion to a proto type: bytes become undefined, and a message keeps itself.
-fn as_message(alloc: Global, value: &Value) -> Result<Cell, NoMemory>
-    ensures value { (fields : FieldShapes) → IfOk result (λ made. made ≡ became no_messages (proto fields) (seen value.now)) }
+/// The message that an operand's bytes are by the type. It is undefined where the operand isn't bytes.
+pub fn decoded(alloc: Global, by: &Ty, x: &Cell) -> Result<Cell, NoMemory>
+    ensures value { IfOk result (λ made. made ≡ decoded_as (seen_type by.now) x.now) }
+{
+    match x.look() {
+        Some(look) => message_of(alloc, by, look.value()),
+        None => Ok(Cell::undefined()),
+    }
+}
+
+// The message that a value is by the type: bytes alone are one.
+fn message_of(alloc: Global, by: &Ty, value: &Value) -> Result<Cell, NoMemory>
+    ensures value { IfOk result (λ made. made ≡ message_of (seen_type by.now) (seen value.now)) }
 {
     match value {
-        Value::Bytes(_) => Ok(Cell::undefined()),
-        _ => Cell::of_copy(alloc, value),
+        Value::Bytes(octets) => Cell::of_slot(alloc, decode(alloc, by, octets.as_slice())?),
+        _ => Ok(Cell::undefined()),
     }
 }
 

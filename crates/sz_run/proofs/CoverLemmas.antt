@@ -4,7 +4,7 @@ use Rattle.sz_types.specs.Data.{Shape}
 use Rattle.sz_value.specs.Data.{Datum}
 use Rattle.sz_instr.specs.declared.instr.Instr.{Instr}
 use Rattle.sz_instr.specs.declared.instr.Instr.TheVariants.{Push, Local, Static, Input, Keep, KeepStatic, Clear, Store, Unary, Binary, Apply}
-use Rattle.sz_instr.specs.declared.instr.Instr.TheVariants.{Convert, MakeArray, MakeTuple, MakeMap, Index, Slice, Field, Def, Tick, Jump, Test}
+use Rattle.sz_instr.specs.declared.instr.Instr.TheVariants.{Convert, Decode, MakeArray, MakeTuple, MakeMap, Index, Slice, Field, Def, Tick, Jump, Test}
 use Rattle.sz_instr.specs.declared.instr.Instr.TheVariants.{AndTest, OrTest, Call, Return, EndRecord, Discard, Emit, Enter, Next, Leave, Meets, Fails}
 use Rattle.sz_instr.specs.declared.step.Step.{Step}
 use Rattle.sz_instr.specs.declared.routine.Routine.{Routine}
@@ -90,6 +90,7 @@ is_inside (Unary x) a b k = tt
 is_inside (Binary x) a b k = tt
 is_inside (Apply x) a b k = tt
 is_inside (Convert x) a b k = tt
+is_inside (Decode x) a b k = tt
 is_inside (MakeArray x) a b k = tt
 is_inside (MakeTuple x) a b k = tt
 is_inside (MakeMap x) a b k = tt
@@ -171,6 +172,7 @@ is_apart Input h k = absurd h
 is_apart (KeepStatic x) h k = absurd h
 is_apart (Apply x) h k = tt
 is_apart (Convert x) h k = tt
+is_apart (Decode x) h k = tt
 is_apart (MakeArray x) h k = tt
 is_apart (MakeTuple x) h k = tt
 is_apart (MakeMap x) h k = tt

@@ -2,7 +2,7 @@
 use Rattle.std.proofs.Common.{◌≡◌, ◌∙◌, ℕ, ◌+◌, ◌<◌, length, slice_get, unwrap_or, Option, Some, None, true, false, refl, sym, ap, subst, arith}
 use Rattle.sz_instr.specs.declared.instr.Instr.{Instr}
 use Rattle.sz_instr.specs.declared.instr.Instr.TheVariants.{Push, Local, Static, Input, Keep, KeepStatic, Clear, Store, Unary, Binary, Apply}
-use Rattle.sz_instr.specs.declared.instr.Instr.TheVariants.{Convert, MakeArray, MakeTuple, MakeMap, Index, Slice, Field, Def, Tick, Jump, Test}
+use Rattle.sz_instr.specs.declared.instr.Instr.TheVariants.{Convert, Decode, MakeArray, MakeTuple, MakeMap, Index, Slice, Field, Def, Tick, Jump, Test}
 use Rattle.sz_instr.specs.declared.instr.Instr.TheVariants.{AndTest, OrTest, Call, Return, EndRecord, Discard, Emit, Enter, Next, Leave, Meets, Fails}
 use Rattle.sz_instr.specs.declared.line.Line.{Line}
 use Rattle.sz_instr.specs.declared.code.Code.{Code}
@@ -39,6 +39,7 @@ splits code ticks (Unary op) s = record { charge = refl; covers = λ w h. h; lis
 splits code ticks (Binary op) s = record { charge = refl; covers = λ w h. h; lists = λ h t. absurd t }
 splits code ticks (Apply b) s = record { charge = refl; covers = λ w h. h; lists = λ h t. absurd t }
 splits code ticks (Convert ty) s = record { charge = refl; covers = λ w h. h; lists = λ h t. absurd t }
+splits code ticks (Decode ty) s = record { charge = refl; covers = λ w h. h; lists = λ h t. absurd t }
 splits code ticks (MakeArray count) s = record { charge = refl; covers = λ w h. h; lists = λ h t. absurd t }
 splits code ticks (MakeTuple count) s = record { charge = refl; covers = λ w h. h; lists = λ h t. absurd t }
 splits code ticks (MakeMap count) s = record { charge = refl; covers = λ w h. h; lists = λ h t. absurd t }

@@ -3,7 +3,7 @@ use Rattle.std.specs.Prelude.{◌≡◌, ℕ, suc, List, ◌∷◌, Option, Some
 use Rattle.sz_types.specs.declared.place.Place.{Place}
 use Rattle.sz_instr.specs.declared.instr.Instr.{Instr}
 use Rattle.sz_instr.specs.declared.instr.Instr.TheVariants.{Static, Input, KeepStatic, Next as NextCandidate}
-use Rattle.sz_instr.specs.declared.instr.Instr.TheVariants.{Unary, Apply, Convert, MakeArray, MakeTuple, MakeMap, Index, Slice, Field}
+use Rattle.sz_instr.specs.declared.instr.Instr.TheVariants.{Unary, Apply, Convert, Decode, MakeArray, MakeTuple, MakeMap, Index, Slice, Field}
 use Rattle.sz_instr.specs.declared.instr.Instr.TheVariants.{Def, Call, Return, Discard, Enter, Leave, Meets, Fails}
 use Rattle.sz_instr.specs.declared.code.Code.{Code}
 use Rattle.sz_value.specs.Data.{Datum}
@@ -101,6 +101,7 @@ abbrev pub IsApart : Instr → Type 0
 IsApart (Unary op) = Unit {0}
 IsApart (Apply which) = Unit {0}
 IsApart (Convert ty) = Unit {0}
+IsApart (Decode ty) = Unit {0}
 IsApart (MakeArray count) = Unit {0}
 IsApart (MakeTuple count) = Unit {0}
 IsApart (MakeMap count) = Unit {0}

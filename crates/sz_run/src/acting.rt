@@ -140,6 +140,7 @@ impl Held {
             Instr::Unary(op) => self.unary(alloc, *op),
             Instr::Apply(which) => self.apply(alloc, *which),
             Instr::Convert(ty) => self.convert(alloc, code, *ty),
+            Instr::Decode(ty) => self.decode(alloc, code, *ty),
             Instr::MakeArray(count) => self.make_array(alloc, *count),
             Instr::MakeTuple(count) => self.make_tuple(alloc, *count),
             Instr::MakeMap(count) => self.make_map(alloc, *count),

@@ -11,7 +11,7 @@ use crate::held::{Held, Next, again};
 use std::alloc::Global;
 use sz_cells::{
     Cell, applied, array_of, binary_of, binary_weight, builtin_weight, conversion_weight,
-    converted, definedness, element_of, map_of, of_ints, part_of, result_weight, slice_of,
+    converted, decoded, definedness, element_of, map_of, of_ints, part_of, result_weight, slice_of,
     tuple_of, unary_of,
 };
 use sz_instr::Code;
@@ -147,6 +147,20 @@ impl Held {
         let x = self.operands.pop();
         let made = converted(alloc, to, &x)?;
         let weight = conversion_weight(to, &x, &made);
+        self.finish(made, weight)
+    }
+
+    /// Pops bytes and pushes the message that they are by the type.
+    #[inline(never)]
+    pub fn decode(&mut self, alloc: Global, code: &Code, ty: u32) -> Result<Next, NoMemory>
+        requires within { ty < length code.now.types }
+        requires some { 0 < length self.old.operands }
+        ensures value { IfOk result (λ next. Does (weighs_and_acts code.now (instr.Decode ty)) self.old next self.new) }
+    {
+        let by = code.types.get(ty as usize);
+        let x = self.operands.pop();
+        let made = decoded(alloc, by, &x)?;
+        let weight = result_weight(&made);
         self.finish(made, weight)
     }
 
