@@ -11,12 +11,12 @@ use Rattle.sz_types.proofs.ForCallers.{alike_equal, alike_itself}
 use Rattle.sz_value.specs.Data.{Datum}
 use Rattle.sz_value.specs.Order.{compare}
 use Rattle.sz_instr.specs.declared.instr.Instr.{Instr}
-use Rattle.sz_instr.specs.declared.instr.Instr.TheVariants.{Push, Convert, Tick}
+use Rattle.sz_instr.specs.declared.instr.Instr.TheVariants.{Push, Tick}
 use Rattle.sz_gen_expr.proofs.Numbers.{named_by, begins_with_one, only_itself, is_itself}
 use Rattle.sz_instr.specs.declared.line.Line.{Line}
 use Rattle.sz_gen_expr.specs.declared.builder.Builder.{Builder}
 use Rattle.sz_gen_expr.specs.Tables.{Tables, constant_number, number_in, type_number, type_number_in, HasConstant, HasType, line}
-use Rattle.sz_gen_expr.specs.ExpressionCode.{followed, closed, decided, conversion, form_code, count_of, pair_count_of}
+use Rattle.sz_gen_expr.specs.ExpressionCode.{followed, closed, decided, changing, conversion, form_code, count_of, pair_count_of}
 use Rattle.sz_gen_expr.proofs.Patches.{decided_lines}
 use Rattle.sz_gen_expr.specs.Named.{HasTarget, FormHasNames}
 use Rattle.sz_types.specs.Seen.{seen as shape_of}
@@ -95,7 +95,7 @@ constant_pushed old new d m charge place lines number constants functions static
 
 -- a line that converts to a type
 pub type_pushed : (old new : Builder) (from to : Shape) (m : ℕ) (place : Place) → alike from to ≡ false
-    → new.lines ≡ old.lines ++ line (Convert m) 1 place ∷ []
+    → new.lines ≡ old.lines ++ line (changing to m) 1 place ∷ []
     → m ≡ type_number_in old.types to → new.types ≡ with_type old.types to
     → new.functions ≡ old.functions → new.statics ≡ old.statics → new.constants ≡ old.constants
     → AppendsLine old new (λ tables. conversion tables from to) 1 place (λ tables. HasTarget tables (alike from to) to)
@@ -108,8 +108,8 @@ type_pushed old new from to m place other lines number types functions statics c
         constants = ([], constants ∙ sym (append-nil old.constants));
         types = begins_with_one test old.types new.types to types;
       };
-      lines = λ tables grows. lines ∙ ap (λ n. old.lines ++ line (Convert n) 1 place ∷ []) (number ∙ sym (named tables grows).0)
-          ∙ ap (λ (b : Bool). old.lines ++ line (if b then Tick else Convert (type_number tables to)) 1 place ∷ []) (sym other);
+      lines = λ tables grows. lines ∙ ap (λ n. old.lines ++ line (changing to n) 1 place ∷ []) (number ∙ sym (named tables grows).0)
+          ∙ ap (λ (b : Bool). old.lines ++ line (if b then Tick else changing to (type_number tables to)) 1 place ∷ []) (sym other);
       names = λ tables grows. subst (λ b. HasTarget tables b to) (sym other) (named tables grows).1;
       functions = functions;
       statics = statics;
@@ -121,7 +121,7 @@ pub kept_pushed : (old new : Builder) (from to : Shape) (place : Place) → alik
 kept_pushed old new from to place same h = record {
   grows = h.grows;
   lines = λ tables grows. h.lines tables grows
-      ∙ ap (λ (b : Bool). old.lines ++ line (if b then Tick else Convert (type_number tables to)) 1 place ∷ []) (sym same);
+      ∙ ap (λ (b : Bool). old.lines ++ line (if b then Tick else changing to (type_number tables to)) 1 place ∷ []) (sym same);
   names = λ tables grows. subst (λ b. HasTarget tables b to) (sym same) tt;
   functions = h.functions;
   statics = h.statics;

@@ -10,7 +10,7 @@ use Rattle.sz_instr.specs.declared.line.Line.{Line}
 use Rattle.sz_instr.specs.declared.code.Code.{Code}
 use Rattle.sz_world.specs.Slots.{slot_at}
 use Rattle.sz_world.specs.Typed.{Fits}
-use Rattle.sz_world.specs.Operations.{unary_of, binary_of, applied, element_of, slice_of, part_of, definedness, converted, no_messages, array_of, tuple_of, map_of}
+use Rattle.sz_world.specs.Operations.{unary_of, binary_of, applied, element_of, slice_of, part_of, definedness, converted, array_of, tuple_of, map_of}
 use Rattle.sz_world.specs.Ticks.{no_weight, result_weight, binary_weight, builtin_weight, conversion_weight}
 use Rattle.sz_mean.specs.Expressions.{Setting, if_true, if_false, results, eval, eval_form, eval_all, eval_pairings}
 use Rattle.sz_machine.specs.States.{State, After}
@@ -28,8 +28,7 @@ use Rattle.sz_gen_expr.proofs.Conversions.{conversion_leaves}
 use Rattle.sz_gen_expr.proofs.Choices.{and_chooses, or_chooses, choice_runs}
 use Rattle.sz_gen_expr.proofs.Calls.{call_runs}
 
-module _ (code : Code) (g : Sight) (setting : Setting) (room limit : ℕ) (below : CallsBelow code g.functions setting.statics room limit setting.calls)
-    (decodes : setting.decode ≡ no_messages) where
+module _ (code : Code) (g : Sight) (setting : Setting) (room limit : ℕ) (below : CallsBelow code g.functions setting.statics room limit setting.calls) where
   abbrev lines : List Line
   lines = code.lines
 
@@ -80,8 +79,8 @@ module _ (code : Code) (g : Sight) (setting : Setting) (room limit : ℕ) (below
         (λ h1. eval_runs e s (s.at + length ca) x sound.0 named ready low (has_front lines s.at ca _ has) refl h1) h
     form_runs place t (convert e) s end x sound named ready low has ends h =
         let ca = expression_code tables e s.at in
-        one_runs code t (conversion tables (type_of e) t) place s end x (type_of e) (conversion_weight t) (converted setting.decode t) ca (eval setting s.locals e)
-        (λ y s1 fits. conversion_leaves code setting.decode (type_of e) t y s1 fits decodes sound.2 named.1) has ends
+        one_runs code t (conversion tables (type_of e) t) place s end x (type_of e) (conversion_weight t) (converted t) ca (eval setting s.locals e)
+        (λ y s1 fits. conversion_leaves code (type_of e) t y s1 fits sound.2 named.1) has ends
         (λ h1. eval_runs e s (s.at + length ca) x sound.0 named.0 ready low (has_front lines s.at ca _ has) refl h1) h
     form_runs place t (array es) s end x sound named ready low has ends h =
         let ca = expressions_code tables es s.at in

@@ -17,6 +17,6 @@ forward code t s end (Stops fault) comes = comes (Faults fault) refl
 
 pub code_does_what_is_meant : CodeDoesWhatIsMeant
 code_does_what_is_meant = record {
-  runs = λ code g setting room e s below decodes sound named ready has. forward code (type_of e) s _ (eval setting s.locals e s.world)
-      (λ x h. eval_runs code g setting room s.world.left below decodes e s _ x sound named ready (omega arith) has refl h);
+  runs = λ code g setting room e s below sound named ready has. forward code (type_of e) s _ (eval setting s.locals e s.world)
+      (λ x h. eval_runs code g setting room s.world.left below e s _ x sound named ready (omega arith) has refl h);
 }

@@ -8,7 +8,6 @@ use Rattle.sz_core.specs.Sound.{LeadTo}
 use Rattle.sz_instr.specs.declared.code.Code.{Code}
 use Rattle.sz_world.specs.World.{Given, Gives, Stops, and_then, give}
 use Rattle.sz_world.specs.Slots.{Slot}
-use Rattle.sz_world.specs.Operations.{no_messages}
 use Rattle.sz_world.specs.Emits.{listed}
 use Rattle.sz_mean.specs.Expressions.{Setting, eval, eval_indexes, eval_if_some}
 use Rattle.sz_machine.specs.States.{State, After, Faults}
@@ -54,8 +53,7 @@ AfterIfSome code ts s end x (Gives o w) =
     AllKept s.world ts (listed o) w → ComesTo code (record s { at = end; stack = with_all (listed o) s.stack; world = w }) x
 AfterIfSome code ts s end x (Stops fault) = Faults fault ≡ x
 
-module _ (code : Code) (g : Sight) (setting : Setting) (room limit : ℕ) (below : CallsBelow code g.functions setting.statics room limit setting.calls)
-    (decodes : setting.decode ≡ no_messages) where
+module _ (code : Code) (g : Sight) (setting : Setting) (room limit : ℕ) (below : CallsBelow code g.functions setting.statics room limit setting.calls) where
   abbrev tables : Tables
   tables = tables_in code
 
@@ -68,7 +66,7 @@ module _ (code : Code) (g : Sight) (setting : Setting) (room limit : ℕ) (below
       let ca = expression_code tables e s.at in
       let at1 = s.at + length ca in
       let cb = indexes_code tables steps at1 in
-      eval_runs code g setting room limit below decodes e s at1 x sound.0 named.0 ready low (has_front code.lines s.at ca cb has) refl
+      eval_runs code g setting room limit below e s at1 x sound.0 named.0 ready low (has_front code.lines s.at ca cb has) refl
       (after_head code (type_of e) (index_types steps) s end at1 x (eval_indexes setting s.locals steps) (λ y w kept h1.
       indexes_run steps (record s { at = at1; stack = y ∷ s.stack; world = w }) end x sound.1 named.1 ready (omega (arith, kept.left, low))
       (has_back code.lines s.at ca cb has) (omega (arith, ends, length-append ca cb)) h1) (eval setting s.locals e s.world) h)
@@ -80,7 +78,7 @@ module _ (code : Code) (g : Sight) (setting : Setting) (room limit : ℕ) (below
       → AfterIfSome code (type_if_some e) s end x (eval_if_some setting s.locals e s.world) → ComesTo code s x
   optional_runs None s end x sound named ready low has ends h = none_run code s end x ends h
   optional_runs (Some e) s end x sound named ready low has ends h =
-      eval_runs code g setting room limit below decodes e s end x sound named ready low has ends (there (eval setting s.locals e s.world) h)
+      eval_runs code g setting room limit below e s end x sound named ready low has ends (there (eval setting s.locals e s.world) h)
     where
       there : (r : Given Slot) → AfterIfSome code (type_of e ∷ []) s end x (and_then r (λ y. give (Some y))) → AfterEval code (type_of e) s end x r
       there (Stops fault) h1 = h1

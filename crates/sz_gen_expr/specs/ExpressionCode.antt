@@ -7,7 +7,7 @@ use Rattle.sz_core.specs.Nodes.{Node, node, Form, constant, local, static, input
 use Rattle.sz_core.specs.Nodes.{field, unary, binary, both, either, Nodes, no_nodes, with_node, Pairings, no_pairings, with_pairing}
 use Rattle.sz_core.specs.Statements.{at_index, at_field}
 use Rattle.sz_core.specs.Statements as core
-use Rattle.sz_instr.specs.declared.instr.Instr.TheVariants.{Push, Local, Static, Input, Unary, Binary, Apply, Convert, MakeArray, MakeTuple, MakeMap}
+use Rattle.sz_instr.specs.declared.instr.Instr.TheVariants.{Push, Local, Static, Input, Unary, Binary, Apply, Convert, Decode, MakeArray, MakeTuple, MakeMap}
 use Rattle.sz_instr.specs.declared.instr.Instr.TheVariants.{Index, Slice, Field, Def, Tick, AndTest, OrTest, Call}
 use Rattle.sz_instr.specs.declared.instr.Instr.{Instr}
 use Rattle.sz_instr.specs.declared.line.Line.{Line}
@@ -36,11 +36,16 @@ abbrev pub pair_count_of : Pairings → ℕ
 pair_count_of no_pairings = 0
 pair_count_of (with_pairing k v ps) = suc (pair_count_of ps)
 
+-- the instruction that makes a value of another type one of this type, which has this number: a message is decoded, since bytes
+-- alone become one
+abbrev pub changing : Shape → ℕ → Instr
+changing (Shape.proto _) number = Decode number
+changing _ number = Convert number
+
 module _ (tables : Tables) where
-  -- the instruction of a conversion between two types: a value that keeps its type takes a tick alone. A message is decoded by an
-  -- instruction of its own, which the machine doesn't have yet.
+  -- the instruction of a conversion between two types: a value that keeps its type takes a tick alone
   abbrev pub conversion : Shape → Shape → Instr
-  conversion from to = if alike from to then Tick else Convert (type_number tables to)
+  conversion from to = if alike from to then Tick else changing to (type_number tables to)
 
   abbrev mutual
     -- the code of an expression that begins at a line

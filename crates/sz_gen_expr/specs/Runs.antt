@@ -13,7 +13,6 @@ use Rattle.sz_instr.specs.declared.code.Code.{Code}
 use Rattle.sz_world.specs.World.{World, Given, Gives, Stops, most_open_calls}
 use Rattle.sz_world.specs.Slots.{Slot, slot_at}
 use Rattle.sz_world.specs.Typed.{Fits, AllFit}
-use Rattle.sz_world.specs.Operations.{no_messages}
 use Rattle.sz_mean.specs.Expressions.{Calls, Setting, eval}
 use Rattle.sz_machine.specs.States.{Caller, State, After, Goes, Halts, Faults, Stuck}
 use Rattle.sz_machine.specs.Rows.{call}
@@ -96,6 +95,6 @@ Leaves code s end (Stops fault) = ComesTo code s (Faults fault)
 pub record CodeDoesWhatIsMeant : Type 0 where
   pub runs : (code : Code) (g : Sight) (setting : Setting) (room : ℕ) (e : Node) (s : State)
       → CallsBelow code g.functions setting.statics room s.world.left setting.calls
-      → setting.decode ≡ no_messages → IsNode g e → HasNames (tables_in code) e → Ready g setting room s
+      → IsNode g e → HasNames (tables_in code) e → Ready g setting room s
       → HasAt code.lines s.at (expression_code (tables_in code) e s.at)
       → Leaves code s (s.at + length (expression_code (tables_in code) e s.at)) (eval setting s.locals e s.world)

@@ -5,7 +5,7 @@ ghost use Rattle.sz_types.specs.Seen.{seen as shape_of};
 ghost use Rattle.sz_value.specs.Seen.{seen};
 ghost use Rattle.sz_instr.specs.declared.instr.Instr.TheVariants.{Push};
 ghost use Rattle.sz_gen_expr.specs.Tables.{line, constant_number, type_number_in, HasConstant};
-ghost use Rattle.sz_gen_expr.specs.ExpressionCode.{conversion};
+ghost use Rattle.sz_gen_expr.specs.ExpressionCode.{changing, conversion};
 ghost use Rattle.sz_gen_expr.specs.Named.{HasTarget};
 ghost use Rattle.sz_gen_expr.specs.Building.{with_type, with_target, patched, Lands, AppendsLine, Nothing};
 
@@ -199,9 +199,26 @@ impl Builder {
             self.push(Instr::Tick, 1, place)?;
         } else {
             let number = small(self.type_number(to)?)?;
-            self.push(Instr::Convert(number), 1, place)?;
+            self.push(changing(to, number), 1, place)?;
         }
         Ok(())
+    }
+}
+
+// The instruction that makes a value of another type one of this type, which has this number.
+fn changing(to: &Ty, number: u32) -> Instr
+    ensures value { result ≡ changing (shape_of to.now) number }
+{
+    match to {
+        Ty::Proto(_) => Instr::Decode(number),
+        Ty::Bool => Instr::Convert(number),
+        Ty::Int => Instr::Convert(number),
+        Ty::Time => Instr::Convert(number),
+        Ty::Str => Instr::Convert(number),
+        Ty::Bytes => Instr::Convert(number),
+        Ty::Array(_) => Instr::Convert(number),
+        Ty::Map(_, _) => Instr::Convert(number),
+        Ty::Tuple(_) => Instr::Convert(number),
     }
 }
 

@@ -1,6 +1,7 @@
 use Rattle.std.proofs.Common.{◌∙◌, sym, ap, [], ◌∷◌, ◌++◌}
 use Rattle.sz_types.specs.Seen.{seen as shape_of}
-use Rattle.sz_instr.specs.declared.instr.Instr.TheVariants.{Tick, Convert}
+use Rattle.sz_instr.specs.declared.instr.Instr.{Instr}
+use Rattle.sz_instr.specs.declared.instr.Instr.TheVariants.{Tick}
 use Rattle.sz_gen_expr.specs.Tables.{line}
 use Rattle.sz_gen_expr.proofs.Numbers.{says_alike}
 use Rattle.sz_gen_expr.proofs.Builds.{pushed, kept_pushed, type_pushed}
@@ -26,7 +27,8 @@ returns-in_ok-push-2 c =
     record {
       made = type_pushed c.args.self.now c.push-else-same.new.self from to n c.args.place
           (sym (says_alike c.same.result from to c.same.ensures.value) ∙ c.if-same.false)
-          (c.in_ok-push-2.ensures.lines ∙ ap (λ l. l ++ line (Convert n) 1 c.args.place ∷ []) c.type_number.ensures.lines)
+          (c.in_ok-push-2.ensures.lines ∙ ap (λ l. l ++ line c.changing.result 1 c.args.place ∷ []) c.type_number.ensures.lines
+              ∙ ap (λ (i : Instr). c.args.self.now.lines ++ line i 1 c.args.place ∷ []) c.changing.ensures.value)
           (c.in_ok-number.ensures.value ∙ c.in_ok-type_number.ensures.number)
           (c.push-else-same.ensures.types ∙ c.in_ok-type_number.ensures.kept)
           (c.push-else-same.ensures.functions ∙ c.type_number.ensures.functions)
