@@ -3,7 +3,6 @@ use Rattle.std.proofs.Common.{◌≡◌, ℕ, zero, suc, ◌+◌, ◌*◌, ◌�
 use Rattle.std.proofs.Common.{length-append}
 use Rattle.sz_tabs.specs.Data.{EmitDatum}
 use Rattle.sz_world.specs.World.{Fault, Outcome, Done, Faulted}
-use Rattle.sz_world.specs.Operations.{no_messages}
 use Rattle.sz_mean.specs.Programs.{mean}
 use Rattle.sz_mean.specs.Records.{Records, Emitted, FaultedAt, behind_emits, then_records}
 use Rattle.sz_mean.proofs.RecordLaws.{behind_both}
@@ -58,14 +57,14 @@ module _ (job : Job) where
       behind_nothing (means job n ys) ∙ ap (λ m. behind_emits [] (means job m ys)) (sym same)
   means-append n (x ∷ xs) ys =
       let same : suc n + length xs ≡ n + suc (length xs) = omega arith in
-      let one = mean no_messages job.compiled job.statics job.budget x in
+      let one = mean job.compiled job.statics job.budget x in
       ap (then_records n one) (means-append (suc n) xs ys)
       ∙ then_joined n one (means job (suc n) xs) (means job (suc n + length xs) ys)
       ∙ ap (λ m. joined (then_records n one (means job (suc n) xs)) (means job m ys)) same
 
   -- one record more that gives its emits
   pub means_more : (n : ℕ) (xs : List (List ℕ)) (x : List ℕ) (es more : List EmitDatum) → means job n xs ≡ Emitted es
-      → mean no_messages job.compiled job.statics job.budget x ≡ Done more → means job n (xs ++ x ∷ []) ≡ Emitted (es ++ more)
+      → mean job.compiled job.statics job.budget x ≡ Done more → means job n (xs ++ x ∷ []) ≡ Emitted (es ++ more)
   means_more n xs x es more front last =
       means-append n xs (x ∷ []) ∙ ap (λ r. joined r (means job (n + length xs) (x ∷ []))) front
       ∙ ap (λ o. behind_emits es (then_records (n + length xs) o (Emitted []))) last
@@ -73,7 +72,7 @@ module _ (job : Job) where
 
   -- one record more that faults
   pub means_fault : (n : ℕ) (xs : List (List ℕ)) (x : List ℕ) (es : List EmitDatum) (f : Fault) → means job n xs ≡ Emitted es
-      → mean no_messages job.compiled job.statics job.budget x ≡ Faulted f → means job n (xs ++ x ∷ []) ≡ FaultedAt (n + length xs) f
+      → mean job.compiled job.statics job.budget x ≡ Faulted f → means job n (xs ++ x ∷ []) ≡ FaultedAt (n + length xs) f
   means_fault n xs x es f front last =
       means-append n xs (x ∷ []) ∙ ap (λ r. joined r (means job (n + length xs) (x ∷ []))) front
       ∙ ap (λ o. behind_emits es (then_records (n + length xs) o (Emitted []))) last
@@ -101,16 +100,16 @@ module _ (job : Job) where
       same : (a b : List EmitDatum) → Emitted a ≡ Emitted b → a ≡ b
       same a b e = cc
   few_emits n (r ∷ rs) es is =
-      by (mean no_messages job.compiled job.statics job.budget r) (means job (suc n) rs) refl (few_emits (suc n) rs) is
+      by (mean job.compiled job.statics job.budget r) (means job (suc n) rs) refl (few_emits (suc n) rs) is
     where
       same : (a b : List EmitDatum) → Emitted a ≡ Emitted b → a ≡ b
       same a b e = cc
 
-      by : (o : Outcome (List EmitDatum)) (rest : Records) → mean no_messages job.compiled job.statics job.budget r ≡ o
+      by : (o : Outcome (List EmitDatum)) (rest : Records) → mean job.compiled job.statics job.budget r ≡ o
           → ((fs : List EmitDatum) → rest ≡ Emitted fs → length fs ≤ job.budget * length rs) → then_records n o rest ≡ Emitted es
           → length es ≤ job.budget * suc (length rs)
       by (Done front) (Emitted fs) paid few e =
-          let first = emits_are_paid no_messages job.compiled job.statics job.budget r front paid in
+          let first = emits_are_paid job.compiled job.statics job.budget r front paid in
           let behind = few fs refl in
           let both = sym (ap length (same (front ++ fs) es e)) in
           omega (arith, first, behind, both, length-append front fs)

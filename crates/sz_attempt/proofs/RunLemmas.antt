@@ -10,7 +10,6 @@ use Rattle.sz_tabs.specs.Data.{EmitDatum}
 use Rattle.sz_tabs.specs.Fitting.{IsEmitTo}
 use Rattle.sz_instr.specs.declared.code.Code.{Code}
 use Rattle.sz_world.specs.World.{Fault, Outcome, Done, Faulted}
-use Rattle.sz_world.specs.Operations.{no_messages}
 use Rattle.sz_mean.specs.Programs.{mean}
 use Rattle.sz_mean.specs.Records.{Emitted, FaultedAt}
 use Rattle.sz_mean.proofs.EmitCosts.{emits_are_paid}
@@ -105,27 +104,27 @@ module _ (old now : TotalState) (es : List EmitDatum) (i : ℕ) (e : EmitDatum) 
 
 -- what the code does is what the program means
 module _ (job : Job) (code : Code) (compiled : IsCompiled job.compiled code) (is : IsJob job) (input : List ℕ) where
-  runs : RunsTo code input job.statics job.budget (mean no_messages job.compiled job.statics job.budget input)
+  runs : RunsTo code input job.statics job.budget (mean job.compiled job.statics job.budget input)
   runs = compiled.simulates.records_end job.statics job.budget input is.statics is.budget
 
   pub record_ends : RunEnds code input job.statics job.budget
-  record_ends = record { outcome = mean no_messages job.compiled job.statics job.budget input; ends = runs }
+  record_ends = record { outcome = mean job.compiled job.statics job.budget input; ends = runs }
 
   pub record_means : (end : RunEnd) → ((o : Outcome (List EmitDatum)) → RunsTo code input job.statics job.budget o → seen_end end ≡ o)
-      → mean no_messages job.compiled job.statics job.budget input ≡ seen_end end
-  record_means end of = sym (of (mean no_messages job.compiled job.statics job.budget input) runs)
+      → mean job.compiled job.statics job.budget input ≡ seen_end end
+  record_means end of = sym (of (mean job.compiled job.statics job.budget input) runs)
 
   -- its emits fit the program's tables
-  pub fit_tables : (es : List EmitDatum) → mean no_messages job.compiled job.statics job.budget input ≡ Done es
+  pub fit_tables : (es : List EmitDatum) → mean job.compiled job.statics job.budget input ≡ Done es
       → All (IsEmitTo (tables_of job.compiled.items)) es
   fit_tables es means =
       subst (λ ts. All (IsEmitTo ts) es) compiled.tables
       (emits_fit code input job.statics job.budget es (subst (RunsTo code input job.statics job.budget) means runs))
 
   -- and are no more than its ticks
-  pub few_of_record : (es : List EmitDatum) → mean no_messages job.compiled job.statics job.budget input ≡ Done es → length es ≤ 2 ^ 32
+  pub few_of_record : (es : List EmitDatum) → mean job.compiled job.statics job.budget input ≡ Done es → length es ≤ 2 ^ 32
   few_of_record es means =
-      let paid = emits_are_paid no_messages job.compiled job.statics job.budget input es means in omega (arith, paid, is.budget.most)
+      let paid = emits_are_paid job.compiled job.statics job.budget input es means in omega (arith, paid, is.budget.most)
 
 -- so many of the records were run, and gave few emits
 pub record IsRunUpTo (job : Job) (first : ℕ) (records : List (List ℕ)) (i : ℕ) (total : TotalState) : Type 0 where
@@ -140,18 +139,18 @@ module _ (job : Job) (first : ℕ) (records : List (List ℕ)) where
 
   -- one record more was run
   pub run_more : (i : ℕ) (old new : TotalState) (r : List ℕ) (es : List EmitDatum) → IsJob job → slice_get records i ≡ Some r
-      → mean no_messages job.compiled job.statics job.budget r ≡ Done es → GainsAll old new es → IsRunUpTo job first records i old
+      → mean job.compiled job.statics job.budget r ≡ Done es → GainsAll old new es → IsRunUpTo job first records i old
       → IsRunUpTo job first records (i + 1) new
   run_more i old new r es is there gives gains h = record {
     emits = h.emits ++ es;
     means = ap (means job first) (take_got records i r there) ∙ means_more job first (take i records) r h.emits es h.means gives;
     holds = record { tables = gains.tables ∙ h.holds.tables; stands = gains.appended h.emits h.holds.stands };
-    few = omega (arith, gains.count, h.few, is.budget.most, emits_are_paid no_messages job.compiled job.statics job.budget r es gives);
+    few = omega (arith, gains.count, h.few, is.budget.most, emits_are_paid job.compiled job.statics job.budget r es gives);
   }
 
   -- a record faults, and so do all up to any place behind it
   pub run_fails : (i n : ℕ) (old : TotalState) (r : List ℕ) (f : Fault) → slice_get records i ≡ Some r → i < n
-      → mean no_messages job.compiled job.statics job.budget r ≡ Faulted f → IsRunUpTo job first records i old
+      → mean job.compiled job.statics job.budget r ≡ Faulted f → IsRunUpTo job first records i old
       → means job first (take n records) ≡ FaultedAt (first + i) f
   run_fails i n old r f there less fails h =
       let here = ap (means job first) (take_got records i r there) ∙ means_fault job first (take i records) r h.emits f h.means fails

@@ -4,7 +4,6 @@ use Rattle.std.specs.Prelude.{Option, Some, None}
 use Rattle.std.specs.List.{Contains}
 use Rattle.sz_tabs.specs.Data.{EmitDatum}
 use Rattle.sz_world.specs.World.{Fault}
-use Rattle.sz_world.specs.Operations.{no_messages}
 use Rattle.sz_mean.specs.Records.{Records, Emitted, FaultedAt, mean_from}
 use Rattle.sz_words.specs.declared.settings.Kill.{Kill}
 use Rattle.sz_attempt.specs.declared.job.Job.{Job}
@@ -58,7 +57,7 @@ dies_at (faults number fault) = false
 module _ (job : Job) where
   -- what the program means for records, of which the first has this number: the emits of all of them in order, or the first that faults
   abbrev pub means : ℕ → List (List ℕ) → Records
-  means first records = mean_from no_messages job.compiled job.statics job.budget first records
+  means first records = mean_from job.compiled job.statics job.budget first records
 
   -- what it means for a shard's records
   abbrev pub shard_means : ShardData → Records

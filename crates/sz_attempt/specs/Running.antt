@@ -2,7 +2,6 @@
 use Rattle.std.specs.Prelude.{◌≡◌, ℕ, ◌+◌, ◌<◌, ◌≤◌, List, [], ◌++◌, length, ◌&&◌, nat_eq, Option, Some, None, if◌then◌else◌}
 use Rattle.sz_tabs.specs.Data.{EmitDatum}
 use Rattle.sz_world.specs.World.{Done, Faulted}
-use Rattle.sz_world.specs.Operations.{no_messages}
 use Rattle.sz_mean.specs.Programs.{mean}
 use Rattle.sz_mean.specs.Records.{Emitted, FaultedAt}
 use Rattle.sz_words.specs.declared.settings.Kill.{Kill}
@@ -38,8 +37,8 @@ pub record GainsAll (old new : TotalState) (emits : List EmitDatum) : Type 0 whe
 -- a record was run: its emits were added, or it faults
 abbrev pub RunsRecord : Job → List ℕ → TotalState → TotalState → Option Fault → Type 0
 RunsRecord job input old new None =
-    (emits : List EmitDatum) × (mean no_messages job.compiled job.statics job.budget input ≡ Done emits) × GainsAll old new emits
-RunsRecord job input old new (Some fault) = mean no_messages job.compiled job.statics job.budget input ≡ Faulted (seen_fault fault)
+    (emits : List EmitDatum) × (mean job.compiled job.statics job.budget input ≡ Done emits) × GainsAll old new emits
+RunsRecord job input old new (Some fault) = mean job.compiled job.statics job.budget input ≡ Faulted (seen_fault fault)
 
 -- the tables are those of the program before any emit
 pub record HoldsNothing (job : Job) (total : TotalState) : Type 0 where

@@ -14,7 +14,7 @@ use Rattle.sz_instr.specs.declared.code.Code.{Code}
 use Rattle.sz_world.specs.World.{Given, Gives, Stops, and_then, give, most_open_calls, calls_too_deep}
 use Rattle.sz_world.specs.Slots.{Slot, fresh}
 use Rattle.sz_world.specs.Typed.{AllFit}
-use Rattle.sz_world.specs.Operations.{no_messages, binary_of}
+use Rattle.sz_world.specs.Operations.{binary_of}
 use Rattle.sz_mean.specs.Expressions.{Calls, Setting}
 use Rattle.sz_mean.specs.Endings.{Ending, Normal, Breaks, Continues, Returns}
 use Rattle.sz_mean.specs.Statements.{exec_all}
@@ -106,7 +106,7 @@ module _ (code : Code) (functions : List Function) (whole : Declared)
             (λ (q : Signature). length q.parameters) h.2,
       )
 
-  pub calls_run : (room limit : ℕ) → CallsBelow code whole.functions slots room limit (calls_at no_messages functions slots room)
+  pub calls_run : (room limit : ℕ) → CallsBelow code whole.functions slots room limit (calls_at functions slots room)
   calls_run zero limit = record {
     known = calls_known;
     runs = λ f g r place arguments s stack x is known fit same deep few h.
@@ -122,8 +122,8 @@ module _ (code : Code) (functions : List Function) (whole : Declared)
         let lines = code.lines in
         let tables = tables_in code in
         let sight = function_sight st.declared fn in
-        let calls = calls_at no_messages functions slots room in
-        let set : Setting = function_setting no_messages functions calls slots in
+        let calls = calls_at functions slots room in
+        let set : Setting = function_setting functions calls slots in
         let entered : Routine = record { entry = st.entry; params = length fn.signature.parameters; locals = length fn.locals } in
         let routine : r ≡ entered = some_same r entered (sym known ∙ st.known) in
         let b : nat_lt (length s.callers) most_open_calls ≡ true = lt-ltb (length s.callers) most_open_calls (omega (arith, deep)) in
@@ -140,9 +140,9 @@ module _ (code : Code) (functions : List Function) (whole : Declared)
         let h1 : AfterEval code fn.signature.result (record s { stack = stack }) (suc s.at) x
         (and_then (exec_all set fn.body locals s.world) (λ e. give (returned e))) =
         subst (λ o. AfterEval code fn.signature.result (record s { stack = stack }) (suc s.at) x
-        (run_function no_messages functions o calls slots arguments s.world)) hf.1
+        (run_function functions o calls slots arguments s.world)) hf.1
         (subst (λ (q : Signature). AfterEval code q.result (record s { stack = stack }) (suc s.at) x
-        (run_function no_messages functions (slice_get functions f) calls slots arguments s.world)) (sym hf.2) h) in
+        (run_function functions (slice_get functions f) calls slots arguments s.world)) (sym hf.2) h) in
         let fit1 : AllFit locals fn.locals = fit_fresh arguments fn.signature.parameters fn.locals st.sound.parameters.0 st.sound.parameters.1
         (subst (λ (q : Signature). AllFit (map (λ d. Some d) arguments) q.parameters) (sym hf.2) fit) in
         let below : (limit1 : ℕ) → CallsBelow code sight.functions slots room limit1 calls =

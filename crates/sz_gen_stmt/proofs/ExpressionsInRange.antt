@@ -1,5 +1,5 @@
 -- Each number in the code of sound expressions is that of something that the code has.
-use Rattle.std.proofs.Common.{◌≡◌, ℕ, suc, ◌+◌, ◌<◌, ◌≤◌, List, [], ◌∷◌, ◌++◌, length, Bool, true, false, Option, Some, None, IfSome, if◌then◌else◌, refl, arith, length-append}
+use Rattle.std.proofs.Common.{◌≡◌, ℕ, suc, ◌+◌, ◌<◌, ◌≤◌, List, [], ◌∷◌, ◌++◌, length, Bool, true, false, Option, Some, None, IfSome, if◌then◌else◌, refl, ap, arith, length-append}
 use Rattle.std.specs.Prelude.{slice_get}
 use Rattle.std.proofs.lemmas.Bool.{lt-ltb}
 use Rattle.std.proofs.lemmas.Option.{slice_get_within}
@@ -12,13 +12,13 @@ use Rattle.sz_core.specs.Nodes.{field, unary, binary, both, either, Nodes, no_no
 use Rattle.sz_core.specs.Statements.{Step, at_index, at_field}
 use Rattle.sz_core.specs.Programs.{Signature}
 use Rattle.sz_core.specs.Typing.{Sight, IsNode, IsForm, AreNodes, ArePairings}
-use Rattle.sz_instr.specs.WellFormed.{most_locals, is_in_range}
+use Rattle.sz_instr.specs.WellFormed.{most_locals, is_message_type, is_in_range}
 use Rattle.sz_instr.specs.declared.instr.Instr.{Instr}
-use Rattle.sz_instr.specs.declared.instr.Instr.TheVariants.{Unary, Binary, Apply, Convert, MakeArray, MakeTuple, MakeMap, Index, Slice, Field, Def, Tick, AndTest, OrTest, Call}
+use Rattle.sz_instr.specs.declared.instr.Instr.TheVariants.{Unary, Binary, Apply, MakeArray, MakeTuple, MakeMap, Index, Slice, Field, Def, Tick, AndTest, OrTest, Call}
 use Rattle.sz_instr.specs.declared.line.Line.{Line}
 use Rattle.sz_instr.specs.declared.code.Code.{Code}
-use Rattle.sz_gen_expr.specs.Tables.{tables_in, constant_number, type_number}
-use Rattle.sz_gen_expr.specs.ExpressionCode.{closed, conversion, decided, expression_code, form_code, expressions_code, pairings_code, indexes_code, code_if_some, count_of, pair_count_of}
+use Rattle.sz_gen_expr.specs.Tables.{tables_in, constant_number, type_number, HasType}
+use Rattle.sz_gen_expr.specs.ExpressionCode.{closed, changing, conversion, decided, expression_code, form_code, expressions_code, pairings_code, indexes_code, code_if_some, count_of, pair_count_of}
 use Rattle.sz_gen_expr.specs.Named.{HasTarget, HasNames, FormHasNames, HaveNames, PairingsHaveNames, StepsHaveNames}
 use Rattle.sz_gen_expr.proofs.Parts.{AreIndexes}
 use Rattle.sz_gen_stmt.specs.Running.{seeing}
@@ -72,11 +72,15 @@ module _ (code : Code) (g : Sight) (room : IsRoomFor code g) (seen : Sight) wher
       → suc at + length (right (suc at)) ≤ length code.lines
   decided_fits test p right at fits = omega (arith, fits, length-append (right (suc at)) (record { instr = Tick; charge = 1; place = p } ∷ []))
 
-  conversion_in_range : (from to : Shape) (b : Bool) → HasTarget (tables_in code) b to
-      → is_in_range code (if b then Tick else Convert (type_number (tables_in code) to)) ≡ true
-  conversion_in_range from to true has = refl
-  conversion_in_range from to false has =
+  changing_in_range : (to : Shape) → HasType (tables_in code) to → is_in_range code (changing to (type_number (tables_in code) to)) ≡ true
+  changing_in_range (Shape.proto fs) has = ap is_message_type has
+  changing_in_range to has =
       let n = type_number (tables_in code) to in lt-ltb n (length code.types) (slice_get_within code.types n to has)
+
+  conversion_in_range : (to : Shape) (b : Bool) → HasTarget (tables_in code) b to
+      → is_in_range code (if b then Tick else changing to (type_number (tables_in code) to)) ≡ true
+  conversion_in_range to true has = refl
+  conversion_in_range to false has = changing_in_range to has
 
   mutual
     unfolding IsNode IsForm AreNodes ArePairings
@@ -105,7 +109,7 @@ module _ (code : Code) (g : Sight) (room : IsRoomFor code g) (seen : Sight) wher
     form_in_range p t (convert e) at sound names fits =
         let c = expression_code (tables_in code) e at in
         closed_in_range code c (conversion (tables_in code) (type_of e) t) p (node_in_range e at sound.0 names.0 (front_fits code c _ at fits))
-        (conversion_in_range (type_of e) t (alike (type_of e) t) names.1)
+        (conversion_in_range t (alike (type_of e) t) names.1)
     form_in_range p t (array es) at sound names fits =
         let c = expressions_code (tables_in code) es at in
         closed_in_range code c (MakeArray (count_of es)) p (nodes_in_range es at sound.0 names (front_fits code c _ at fits)) refl

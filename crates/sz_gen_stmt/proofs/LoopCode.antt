@@ -13,7 +13,6 @@ use Rattle.sz_instr.specs.declared.code.Code.{Code}
 use Rattle.sz_world.specs.World.{World}
 use Rattle.sz_world.specs.Slots.{Slot}
 use Rattle.sz_world.specs.Typed.{AllFit}
-use Rattle.sz_world.specs.Operations.{no_messages}
 use Rattle.sz_mean.specs.Expressions.{Setting}
 use Rattle.sz_mean.specs.Endings.{Running, turns, turns_behind}
 use Rattle.sz_mean.specs.Statements.{test_of, while_ticks}
@@ -35,7 +34,7 @@ BodyRuns code a types out s x lines body =
     → AfterExec code a types out (record s { at = at; locals = l; world = w }) end x (body l w) → ComesTo code (record s { at = at; locals = l; world = w }) x
 
 module _ (code : Code) (g : Sight) (set : Setting) (room : ℕ) (below : (limit : ℕ) → CallsBelow code g.functions set.statics room limit set.calls)
-    (decodes : set.decode ≡ no_messages) (seen : Sight) (x : After) (a : Around) (out : Exits) (s : State) (end : ℕ) (p : Place)
+    (seen : Sight) (x : After) (a : Around) (out : Exits) (s : State) (end : ℕ) (p : Place)
     (e : Option Node) (sound : IfSome e (IsTest (seeing g seen))) (of : IfSome e (HasNames (tables_in code))) (fit : AllFit s.locals g.locals)
     (fixed : IsFixed g set room s.callers s.statics s.input) where
   pub loop_runs : (between_code body_code : ℕ → List Line) (between body : Running)
@@ -79,7 +78,7 @@ module _ (code : Code) (g : Sight) (set : Setting) (room : ℕ) (below : (limit 
       let has4 = has_back lines (suc b1) asked (turn ++ back ∷ []) has3.1 in
       at_line code s (goes (suc b1)) x has.0 tt
       (loop_turns code g.locals x a out s p at0 end f1 b1 at1 at2 (test_of set e) between body has3.0 (has_back lines at1 turn (back ∷ []) has4).0
-      (test_runs code g set room below decodes seen x a out e p s end (suc b1) at1 (at0 + 1) sound of fixed
+      (test_runs code g set room below seen x a out e p s end (suc b1) at1 (at0 + 1) sound of fixed
       (has_front lines (suc b1) asked (turn ++ back ∷ []) has3.1) refl)
       (λ l w fit1 h1. between_runs (at0 + 2) b1 l w fit1 (has_front lines (at0 + 2) stepped (tick ∷ (asked ++ (turn ++ back ∷ []))) has2) refl h1)
       (λ l w fit1 h1. body_runs at1 at2 l w fit1 (has_front lines at1 turn (back ∷ []) has4) refl h1)
@@ -112,7 +111,7 @@ module _ (code : Code) (g : Sight) (set : Setting) (room : ℕ) (below : (limit 
       let has5 = has_back lines start asked (tick ∷ back ∷ []) has4 in
       at_line code s (goes (at0 + 3)) x has.0 tt
       (behind_turns code g.locals x a out s p at0 end f1 start at1 body (test_of set e) f2 has5.0 has5.1.0
-      (test_runs code g set room below decodes seen x a out e p s end start at1 (at0 + 1) sound of fixed
+      (test_runs code g set room below seen x a out e p s end start at1 (at0 + 1) sound of fixed
       (has_front lines start asked (tick ∷ back ∷ []) has4) refl)
       (λ l w fit1 h1. body_runs (at0 + 3) start l w fit1 (has_front lines (at0 + 3) turn (asked ++ tick ∷ back ∷ []) has3) refl h1)
       (suc s.world.left) s.locals s.world (omega arith) (omega arith) fit h)

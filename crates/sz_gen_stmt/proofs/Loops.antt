@@ -12,7 +12,6 @@ use Rattle.sz_instr.specs.declared.code.Code.{Code}
 use Rattle.sz_world.specs.World.{World, Doing, ◌>>◌, and_then, give, pay, spend}
 use Rattle.sz_world.specs.Slots.{Slot}
 use Rattle.sz_world.specs.Typed.{Fits, AllFit}
-use Rattle.sz_world.specs.Operations.{no_messages}
 use Rattle.sz_mean.specs.Expressions.{Setting, eval}
 use Rattle.sz_mean.specs.Endings.{Ending, Normal, Running, then_run, chosen, turns, turns_behind}
 use Rattle.sz_mean.specs.Statements.{test_of}
@@ -39,7 +38,7 @@ Asks code a types out s x end start at1 away p test =
     → ComesTo code (record s { at = start; locals = l; world = w }) x
 
 module _ (code : Code) (g : Sight) (set : Setting) (room : ℕ) (below : (limit : ℕ) → CallsBelow code g.functions set.statics room limit set.calls)
-    (decodes : set.decode ≡ no_messages) (seen : Sight) (x : After) (a : Around) (out : Exits) where
+    (seen : Sight) (x : After) (a : Around) (out : Exits) where
   -- the code of a test
   pub test_runs : (e : Option Node) (p : Place) (s : State) (end start at1 away : ℕ) → IfSome e (IsTest (seeing g seen))
       → IfSome e (HasNames (tables_in code))
@@ -57,7 +56,7 @@ module _ (code : Code) (g : Sight) (set : Setting) (room : ℕ) (below : (limit 
       let t = line (Test away) 1 p in
       let same : suc at0 ≡ at1 = omega (arith, en, length-append ce (t ∷ [])) in
       let s1 : State = record s { at = start; locals = l; world = w } in
-      expression_runs code g set room below decodes seen e s1 at0 x sound.0 of fit fixed (has_front code.lines start ce (t ∷ []) has) refl
+      expression_runs code g set room below seen e s1 at0 x sound.0 of fit fixed (has_front code.lines start ce (t ∷ []) has) refl
       (after_value code g.locals x a out (type_of e) s s1 end at0 _ (λ v w1 k h1.
       let s2 : State = record s { at = at0; stack = v ∷ s.stack; locals = l; world = w1 } in
       let le = k.left in

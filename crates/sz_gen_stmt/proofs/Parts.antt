@@ -7,7 +7,6 @@ use Rattle.sz_core.specs.Typing.{Sight, IsNode, AreNodes}
 use Rattle.sz_core.specs.Sound.{LeadTo}
 use Rattle.sz_instr.specs.declared.code.Code.{Code}
 use Rattle.sz_world.specs.Typed.{AllFit}
-use Rattle.sz_world.specs.Operations.{no_messages}
 use Rattle.sz_mean.specs.Expressions.{Setting, eval, eval_all, eval_indexes}
 use Rattle.sz_mean.specs.Statements.{bare}
 use Rattle.sz_machine.specs.States.{State, After}
@@ -62,7 +61,7 @@ ready_with g set room seen s fit fixed = record {
 }
 
 module _ (code : Code) (g : Sight) (set : Setting) (room : ℕ) (below : (limit : ℕ) → CallsBelow code g.functions set.statics room limit set.calls)
-    (decodes : set.decode ≡ no_messages) (seen : Sight) where
+    (seen : Sight) where
   -- an expression
   pub expression_runs : (e : Node) (s : State) (end : ℕ) (x : After) → IsNode (seeing g seen) e → HasNames (tables_in code) e
       → AllFit s.locals g.locals
@@ -70,7 +69,7 @@ module _ (code : Code) (g : Sight) (set : Setting) (room : ℕ) (below : (limit 
       → s.at + length (expression_code (tables_in code) e s.at) ≡ end
       → AfterEval code (type_of e) s end x (eval set s.locals e s.world) → ComesTo code s x
   expression_runs e s end x sound names fit fixed has en h =
-      eval_runs code (seeing g seen) set room s.world.left (below s.world.left) decodes e s end x sound names
+      eval_runs code (seeing g seen) set room s.world.left (below s.world.left) e s end x sound names
       (ready_with g set room seen s fit fixed) (omega arith) has en h
 
   -- several
@@ -80,7 +79,7 @@ module _ (code : Code) (g : Sight) (set : Setting) (room : ℕ) (below : (limit 
       → s.at + length (expressions_code (tables_in code) es s.at) ≡ end
       → AfterAll code (types_of es) s end x (eval_all set s.locals es s.world) → ComesTo code s x
   nodes_run es s end x sound names fit fixed has en h =
-      all_run code (seeing g seen) set room s.world.left (below s.world.left) decodes es s end x sound names
+      all_run code (seeing g seen) set room s.world.left (below s.world.left) es s end x sound names
       (ready_with g set room seen s fit fixed) (omega arith) has en h
 
   -- the indexes among steps
@@ -90,5 +89,5 @@ module _ (code : Code) (g : Sight) (set : Setting) (room : ℕ) (below : (limit 
       → s.at + length (indexes_code (tables_in code) steps s.at) ≡ end
       → AfterAll code (index_types steps) s end x (eval_indexes set s.locals steps s.world) → ComesTo code s x
   steps_run steps s end x sound names fit fixed has en h =
-      indexes_run code (seeing g seen) set room s.world.left (below s.world.left) decodes steps s end x sound names
+      indexes_run code (seeing g seen) set room s.world.left (below s.world.left) steps s end x sound names
       (ready_with g set room seen s fit fixed) (omega arith) has en h

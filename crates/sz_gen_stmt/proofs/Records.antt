@@ -11,7 +11,6 @@ use Rattle.sz_instr.specs.declared.code.Code.{Code}
 use Rattle.sz_world.specs.World.{Given, Gives, Stops, most_open_calls}
 use Rattle.sz_world.specs.Slots.{Slot}
 use Rattle.sz_world.specs.Typed.{AllFit}
-use Rattle.sz_world.specs.Operations.{no_messages}
 use Rattle.sz_mean.specs.Expressions.{Setting}
 use Rattle.sz_mean.specs.Endings.{Ending, Normal, Breaks, Continues, Returns}
 use Rattle.sz_mean.specs.Statements.{exec, exec_all}
@@ -57,14 +56,14 @@ record_ends code types s end last (Stops fault) = refl
 
 module _ (code : Code) (functions : List Function) (whole : Declared)
     (calls_run : (slots : List Slot) → AllFit slots whole.statics → (room limit : ℕ)
-    → CallsBelow code whole.functions slots room limit (calls_at no_messages functions slots room))
+    → CallsBelow code whole.functions slots room limit (calls_at functions slots room))
     (tables_same : code.tables ≡ whole.tables) (locals : List Shape) (slots : List Slot) (typed : AllFit slots whole.statics) (input : List ℕ) (x : After) where
   pub body_runs : (rest : List Item) (seen : List ℕ) (d : Declared) (s : State) (end : ℕ) → AreItems locals seen d rest → IsWhole d rest whole
       → StmsHaveNames (tables_in code) (stms_of (statements_of rest)) → AllFit s.locals locals → s.statics ≡ slots → s.input ≡ Some (bytes input)
       → length s.callers + most_open_calls ≡ most_open_calls → HasAt code.lines s.at
       (statements_code (tables_in code) (stms_of (statements_of rest)) no_exits s.at)
       → s.at + length (statements_code (tables_in code) (stms_of (statements_of rest)) no_exits s.at) ≡ end
-      → AfterExec code top locals no_exits s end x (exec_all (outer_setting no_messages functions slots (Some (bytes input)))
+      → AfterExec code top locals no_exits s end x (exec_all (outer_setting functions slots (Some (bytes input)))
       (stms_of (statements_of rest)) s.locals s.world) → ComesTo code s x
   unfolding AreItems
   body_runs [] seen d s end sound is of fit same there room has en h =
@@ -81,7 +80,7 @@ module _ (code : Code) (functions : List Function) (whole : Declared)
       let lines = code.lines in
       let tables = tables_in code in
       let g = record_sight locals seen d in
-      let set : Setting = outer_setting no_messages functions slots (Some (bytes input)) in
+      let set : Setting = outer_setting functions slots (Some (bytes input)) in
       let before = is_before d (items.statement c ∷ rest) whole is in
       let front = statement_code tables c no_exits s.at in
       let at1 = s.at + length front in

@@ -12,7 +12,6 @@ use Rattle.sz_instr.specs.declared.instr.Instr.TheVariants.{EndRecord}
 use Rattle.sz_world.specs.World.{new_world, Done}
 use Rattle.sz_world.specs.Slots.{Slot, undefined_slots}
 use Rattle.sz_world.specs.Typed.{AllFit}
-use Rattle.sz_world.specs.Operations.{no_messages}
 use Rattle.sz_mean.specs.Programs.{calls_at, statics, body_of, run_record, mean}
 use Rattle.sz_machine.specs.States.{State}
 use Rattle.sz_machine.specs.Running.{ComesTo, RoutinesRunTo, StaticsRunTo, RunsTo}
@@ -93,30 +92,30 @@ module _ (core : Core) (code : Code) (sound : IsSound core) (is : IsCodeOf core 
       (has_front code.lines 0 function_lines (static_lines ++ record_lines) has) f h e)
 
   all_calls : (slots : List Slot) → AllFit slots whole.statics → (room limit : ℕ)
-      → CallsBelow code whole.functions slots room limit (calls_at no_messages fs slots room)
+      → CallsBelow code whole.functions slots room limit (calls_at fs slots room)
   all_calls slots typed room limit = calls_run code fs whole all_stand refl is.tables slots typed room limit
 
   undefined_fit : AllFit (undefined_slots (length ss)) whole.statics
   undefined_fit = subst (λ n. AllFit (undefined_slots n) whole.statics) (length-map ss (λ (s : Static). s.type)) (fit_undefined whole.statics)
 
   statics_both : (budget : ℕ) → RoutinesRunTo code (static_routines tables 0 ss (length function_lines)) (new_world budget) (undefined_slots (length ss))
-      (statics no_messages core budget)
-      × SlotsFit (statics no_messages core budget) whole.statics
+      (statics core budget)
+      × SlotsFit (statics core budget) whole.statics
   statics_both budget =
       statics_run code fs whole all_calls core.locals core.items [] nothing_declared 0 (length function_lines) (undefined_slots (length ss)) (new_world budget)
       sound.items all_whole refl is.names.statics undefined_fit (has_front code.lines (length function_lines) static_lines record_lines has_behind)
 
-  statics_end : (budget : ℕ) → StaticsRunTo code budget (statics no_messages core budget)
+  statics_end : (budget : ℕ) → StaticsRunTo code budget (statics core budget)
   statics_end budget =
       let counted : length code.statics ≡ length ss = ap length is.statics ∙ routines_counted tables 0 ss (length function_lines) in
-      subst (λ n. RoutinesRunTo code code.statics (new_world budget) (undefined_slots n) (statics no_messages core budget)) (sym counted)
-      (subst (λ rs. RoutinesRunTo code rs (new_world budget) (undefined_slots (length ss)) (statics no_messages core budget)) (sym is.statics)
+      subst (λ n. RoutinesRunTo code code.statics (new_world budget) (undefined_slots n) (statics core budget)) (sym counted)
+      (subst (λ rs. RoutinesRunTo code rs (new_world budget) (undefined_slots (length ss)) (statics core budget)) (sym is.statics)
       (statics_both budget).0)
 
   records_end : (slots : List Slot) (budget : ℕ) (input : List ℕ) → AllFit slots (static_types core)
-      → RunsTo code input slots budget (mean no_messages core slots budget input)
+      → RunsTo code input slots budget (mean core slots budget input)
   records_end slots budget input typed =
-      let ended = run_record no_messages core slots budget input in
+      let ended = run_record core slots budget input in
       let x = record_end slots ended in
       let body = statements_code tables (body_of core) no_exits code.main.entry in
       let at1 = code.main.entry + length body in
@@ -141,8 +140,8 @@ module _ (core : Core) (code : Code) (sound : IsSound core) (is : IsCodeOf core 
         is = ends_record slots ended;
       }
 
-  pub simulates : Simulates no_messages core code
+  pub simulates : Simulates core code
   simulates = record { statics_end = λ budget b. statics_end budget; records_end = λ slots budget input typed b. records_end slots budget input typed }
 
-  pub statics_fit : (budget : ℕ) (slots : List Slot) → statics no_messages core budget ≡ Done slots → AllFit slots (static_types core)
+  pub statics_fit : (budget : ℕ) (slots : List Slot) → statics core budget ≡ Done slots → AllFit slots (static_types core)
   statics_fit budget slots e = subst (λ o. SlotsFit o whole.statics) e (statics_both budget).1

@@ -14,7 +14,6 @@ use Rattle.sz_instr.specs.declared.code.Code.{Code}
 use Rattle.sz_world.specs.World.{World, and_then, spend}
 use Rattle.sz_world.specs.Slots.{Slot}
 use Rattle.sz_world.specs.Typed.{Fits, AllFit}
-use Rattle.sz_world.specs.Operations.{no_messages}
 use Rattle.sz_mean.specs.Expressions.{Setting, eval, eval_all, eval_indexes, eval_if_some}
 use Rattle.sz_mean.specs.Statements.{emits, idle, exec, exec_all}
 use Rattle.sz_machine.specs.States.{State, After}
@@ -59,7 +58,6 @@ some_weight g None e h = absurd h
 some_weight g (Some t) e h = (h.0, λ v k. subst (λ u. Fits v u) h.1 k)
 
 module _ (code : Code) (g : Sight) (set : Setting) (room : ℕ) (below : (limit : ℕ) → CallsBelow code g.functions set.statics room limit set.calls)
-    (decodes : set.decode ≡ no_messages)
     (tables_there : (n : ℕ) (d : Declaration) → slice_get g.tables n ≡ Some d → slice_get code.tables n ≡ Some d) (x : After) where
   -- the weight of an emit, if it has one, and the emit
   weight_runs : (seen : Sight) (w : Option Node) (a : Around) (out : Exits) (s : State) (end at at1 : ℕ) (p : Place) (table n : ℕ) (d : Declaration)
@@ -80,7 +78,7 @@ module _ (code : Code) (g : Sight) (set : Setting) (room : ℕ) (below : (limit 
   weight_runs seen (Some e) a out s end at at1 p table n d indexes value w1 sound of fit fixed has en found len le there fi fv count h =
       let s1 : State = record s { at = at; stack = value ∷ with_all indexes s.stack; world = w1 } in
       let weight = some_weight (seeing g seen) d.weight e sound in
-      expression_runs code g set room below decodes seen e s1 at1 x weight.0 of fit fixed has en
+      expression_runs code g set room below seen e s1 at1 x weight.0 of fit fixed has en
       (after_some code g.locals x a out (type_of e) s s1 end at1 _ (λ v w2 k h1.
       let le1 = k.left in
       emit_runs code g.locals x a out s end at1 len fit p table n d indexes value (Some v) w2 (omega arith) there fi fv (weight.1 v k.typed) count found h1)
@@ -95,7 +93,7 @@ module _ (code : Code) (g : Sight) (set : Setting) (room : ℕ) (below : (limit 
         of = type_of v.base;
         type = sound.2.0;
         runs = λ at end stack l lists w fit has en h.
-            expression_runs code g set room below decodes seen v.base (elsewhere s at stack l lists w) end x sound.0 of.0 fit fixed has en h;
+            expression_runs code g set room below seen v.base (elsewhere s at stack l lists w) end x sound.0 of.0 fit fixed has en h;
         candidates = sound.2.2;
         local = sound.2.1;
       } in
@@ -121,7 +119,7 @@ module _ (code : Code) (g : Sight) (set : Setting) (room : ℕ) (below : (limit 
         let at1 = s.at + length ce in
         let l = line (Keep n) 1 p in
         let len : suc at1 ≡ end = omega (arith, en, length-append ce (l ∷ [])) in
-        expression_runs code g set room below decodes seen e s at1 x sound.0 of fit fixed (has_front code.lines s.at ce (l ∷ []) has) refl
+        expression_runs code g set room below seen e s at1 x sound.0 of fit fixed (has_front code.lines s.at ce (l ∷ []) has) refl
         (after_value code g.locals x a out (type_of e) s s end at1 _ (λ v w1 k h1.
         let s1 : State = record s { at = at1; stack = v ∷ s.stack; world = w1 } in
         let le = k.left in
@@ -139,11 +137,11 @@ module _ (code : Code) (g : Sight) (set : Setting) (room : ℕ) (below : (limit 
         let len : suc at2 ≡ end = omega (arith, en, length-append (ci ++ ce) (l ∷ [])) in
         let parts = has_front lines s.at (ci ++ ce) (l ∷ []) has in
         let t = sound.2.0 in
-        steps_run code g set room below decodes seen steps s at1 x (indexes_of_path (seeing g seen) t steps (type_of e) sound.2.2) of.0 fit fixed
+        steps_run code g set room below seen steps s at1 x (indexes_of_path (seeing g seen) t steps (type_of e) sound.2.2) of.0 fit fixed
         (has_front lines s.at ci ce parts) refl
         (after_values code g.locals x a out (index_types steps) s s end at1 _ (λ vs w1 k1 h1.
         let s1 : State = record s { at = at1; stack = with_all vs s.stack; world = w1 } in
-        expression_runs code g set room below decodes seen e s1 at2 x sound.1 of.1 fit fixed (has_back lines s.at ci ce parts)
+        expression_runs code g set room below seen e s1 at2 x sound.1 of.1 fit fixed (has_back lines s.at ci ce parts)
         (omega (arith, length-append ci ce))
         (after_value code g.locals x a out (type_of e) s s1 end at2 _ (λ v w2 k2 h2.
         let le1 = k1.left in let le2 = k2.left in
@@ -155,7 +153,7 @@ module _ (code : Code) (g : Sight) (set : Setting) (room : ℕ) (below : (limit 
         let at1 = s.at + length ce in
         let l = line Discard 0 p in
         let len : suc at1 ≡ end = omega (arith, en, length-append ce (l ∷ [])) in
-        expression_runs code g set room below decodes seen e s at1 x sound.0 of fit fixed (has_front code.lines s.at ce (l ∷ []) has) refl
+        expression_runs code g set room below seen e s at1 x sound.0 of fit fixed (has_front code.lines s.at ce (l ∷ []) has) refl
         (after_value code g.locals x a out (type_of e) s s end at1 _ (λ v w1 k h1.
         discard_runs code g.locals x a out s end at1 len fit p v w1 k.left (has_back code.lines s.at ce (l ∷ []) has).0 (idle s.locals)
         (λ h2. h2 (record { left = k.left; typed = fit })) h1) (eval set s.locals e s.world) h)
@@ -177,7 +175,7 @@ module _ (code : Code) (g : Sight) (set : Setting) (room : ℕ) (below : (limit 
         let has2 : HasAt lines start rest = subst (λ k. HasAt lines k rest) tested (has_back lines s.at asked rest has1) in
         let has3 = has_back lines start one (skip ∷ other) has2 in
         let next : suc at2 ≡ away = omega arith in
-        test_runs code g set room below decodes seen x a out (Some e) p s end s.at start away sound.0 of.0 fixed (has_front lines s.at asked rest has1) tested
+        test_runs code g set room below seen x a out (Some e) p s end s.at start away sound.0 of.0 fixed (has_front lines s.at asked rest has1) tested
         s.locals s.world _ _ fit
         (λ w2 le2 h2. exec_runs c seen a out (record s { at = start; world = w2 }) at2 sound.1 of.1 fit fixed may flags
         (has_front lines start one (skip ∷ other) has2) refl
@@ -189,7 +187,7 @@ module _ (code : Code) (g : Sight) (set : Setting) (room : ℕ) (below : (limit 
         (subst (λ k. HasAt lines k other) next has3.1) len
         (from_later code g.locals x a out s end away s.locals w2 (omega arith) (exec set d s.locals w2) h2)) h
     exec_runs (while p e c) seen a out s end sound of fit fixed may flags has en h =
-        loop_runs code g set room below decodes seen x a out s end p (Some e) sound.0 of.0 fit fixed (λ _. [])
+        loop_runs code g set room below seen x a out s end p (Some e) sound.0 of.0 fit fixed (λ _. [])
         (statement_code (tables_in code) c (in_loop out (s.at + 1) (s.at + 2)))
         idle (exec set c) has en
         (λ at end1 l w fit1 has1 en1 h1. (let same : at ≡ end1 = omega (arith, en1) in subst
@@ -197,12 +195,12 @@ module _ (code : Code) (g : Sight) (set : Setting) (room : ℕ) (below : (limit 
         (λ at end1 l w fit1 has1 en1 h1. exec_runs c seen _ (in_loop out (s.at + 1) (s.at + 2))
         (record s { at = at; locals = l; world = w }) end1 sound.1 of.1 fit1 fixed may flags has1 en1 h1) h
     exec_runs (do_while p c e) seen a out s end sound of fit fixed may flags has en h =
-        loop_behind_runs code g set room below decodes seen x a out s end p (Some e) sound.1 of.1 fit fixed
+        loop_behind_runs code g set room below seen x a out s end p (Some e) sound.1 of.1 fit fixed
         (statement_code (tables_in code) c (in_loop out (s.at + 1) (s.at + 2))) (exec set c) has en
         (λ at end1 l w fit1 has1 en1 h1. exec_runs c seen _ (in_loop out (s.at + 1) (s.at + 2))
         (record s { at = at; locals = l; world = w }) end1 sound.0 of.0 fit1 fixed may flags has1 en1 h1) h
     exec_runs (for_loop p e t c) seen a out s end sound of fit fixed may flags has en h =
-        loop_runs code g set room below decodes seen x a out s end p e sound.0 of.0 fit fixed (statement_code (tables_in code) t out)
+        loop_runs code g set room below seen x a out s end p e sound.0 of.0 fit fixed (statement_code (tables_in code) t out)
         (statement_code (tables_in code) c (in_loop out (s.at + 1) (s.at + 2)))
         (exec set t) (exec set c) has en
         (λ at end1 l w fit1 has1 en1 h1. exec_runs t seen a out (record s {
@@ -230,7 +228,7 @@ module _ (code : Code) (g : Sight) (set : Setting) (room : ℕ) (below : (limit 
         let parts = has_front lines s.at (cd ++ ce) (l ∷ []) has in
         let s0 : State = record s { at = at0; stack = drop out.flags s.stack } in
         discards_run code g.locals x out.flags s flags (has_front lines s.at cd ce parts)
-        (expression_runs code g set room below decodes seen e s0 at1 x sound.0 of fit fixed (has_back lines s.at cd ce parts)
+        (expression_runs code g set room below seen e s0 at1 x sound.0 of fit fixed (has_back lines s.at cd ce parts)
         (omega (arith, length-append cd ce))
         (after_value code g.locals x a out (type_of e) s s0 end at1 _ (λ v w1 k h1.
         let s1 : State = record s0 { at = at1; stack = v ∷ drop out.flags s.stack; world = w1 } in
@@ -257,10 +255,10 @@ module _ (code : Code) (g : Sight) (set : Setting) (room : ℕ) (below : (limit 
         let parts = has_front lines s.at ((cs ++ ce) ++ cw) (l ∷ []) has in
         let parts1 = has_front lines s.at (cs ++ ce) cw parts in
         let d = sound.2.0 in
-        nodes_run code g set room below decodes seen es s at1 x sound.0 of.0 fit fixed (has_front lines s.at cs ce parts1) refl
+        nodes_run code g set room below seen es s at1 x sound.0 of.0 fit fixed (has_front lines s.at cs ce parts1) refl
         (after_values code g.locals x a out (types_of es) s s end at1 _ (λ vs w1 k1 h1.
         let s1 : State = record s { at = at1; stack = with_all vs s.stack; world = w1 } in
-        expression_runs code g set room below decodes seen e s1 at2 x sound.1 of.1 fit fixed (has_back lines s.at cs ce parts1)
+        expression_runs code g set room below seen e s1 at2 x sound.1 of.1 fit fixed (has_back lines s.at cs ce parts1)
         (omega (arith, length-append cs ce))
         (after_value code g.locals x a out (type_of e) s s1 end at2 _ (λ v w2 k2 h2.
         let le1 = k1.left in let le2 = k2.left in
@@ -276,7 +274,7 @@ module _ (code : Code) (g : Sight) (set : Setting) (room : ℕ) (below : (limit 
         let sound2 : IsStm (seeing g within) (out_of_loops a) body = subst (λ v. IsStm v (out_of_loops a) body) (bound_more g seen (bound_inside vs)) sound.3 in
         when_runs code set g.locals s x a out p (expression_code (tables_in code) c) (λ f. statement_code (tables_in code) body (in_search out f))
         (λ l. eval set l c) (exec set body)
-        (λ at end1 stack l lists w fit1 has1 en1 h1. expression_runs code g set room below decodes asking c (elsewhere s at stack l lists w) end1 x
+        (λ at end1 stack l lists w fit1 has1 en1 h1. expression_runs code g set room below asking c (elsewhere s at stack l lists w) end1 x
         sound1.0 of.2 fit1 fixed has1 en1
         (subst (λ t. AfterEval code t (elsewhere s at stack l lists w) end1 x (eval set l c w)) (sym sound1.1) h1))
         (λ f at end1 stack l lists w are fit1 has1 en1 h1. exec_runs body within (out_of_loops a) (in_search out f) (elsewhere s at stack l lists w) end1

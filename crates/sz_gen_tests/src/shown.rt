@@ -58,6 +58,7 @@ fn instr(out: &mut String, instr: &Instr) {
         Instr::Binary(operator) => write!(out, "Binary({operator:?})"),
         Instr::Apply(function) => write!(out, "Apply({function:?})"),
         Instr::Convert(n) => write!(out, "Convert({n})"),
+        Instr::Decode(n) => write!(out, "Decode({n})"),
         Instr::MakeArray(count) => write!(out, "MakeArray({count})"),
         Instr::MakeTuple(count) => write!(out, "MakeTuple({count})"),
         Instr::MakeMap(count) => write!(out, "MakeMap({count})"),

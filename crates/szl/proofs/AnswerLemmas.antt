@@ -10,7 +10,6 @@ use Rattle.sz_tree.specs.Statements.{Stms}
 use Rattle.sz_core.specs.Programs.{Core}
 use Rattle.sz_world.specs.World.{Fault, Done}
 use Rattle.sz_world.specs.Slots.{Slot}
-use Rattle.sz_world.specs.Operations.{no_messages}
 use Rattle.sz_mean.specs.Programs.{statics}
 use Rattle.sz_mean.specs.Records.{Records, Emitted, FaultedAt, mean_all}
 use Rattle.sz_mean.proofs.RecordLaws.{fault_number}
@@ -118,15 +117,15 @@ module _ {F : Type 0} (the_files : files.Ghosts F) (frame : Frame) (name : List 
   static_fails program budget failure.WriteFailed h = absurd h
 
 module _ {F : Type 0} (the_files : files.Ghosts F) (frame : Frame) (name : List ℕ) (old new : F) (program : Core) (budget limit : ℕ)
-    (slots : List Slot) (begun : statics no_messages program budget ≡ Done slots) where
+    (slots : List Slot) (begun : statics program budget ≡ Done slots) where
   on_records : (cut : Cut) → outcome_of_program program budget cut
-      ≡ outcome_of_records program cut.ending (mean_all no_messages program slots budget cut.records)
+      ≡ outcome_of_records program cut.ending (mean_all program slots budget cut.records)
   on_records cut = ap (outcome_of_statics program budget cut) begun
 
   one_left : (cut : Cut) → 1 ≤ (outcome_of_program program budget cut).opens - 1
   one_left cut =
       let two = ap (λ (a : Answer). a.opens) (on_records cut)
-      ∙ opens_two program cut.ending _ (λ k f e. fault_number no_messages program slots budget 1 cut.records k f e) in omega (arith, two)
+      ∙ opens_two program cut.ending _ (λ k f e. fault_number program slots budget 1 cut.records k f e) in omega (arith, two)
 
   not_usage : (cut : Cut) → (outcome_of_program program budget cut).status ≢ status.Usage
   not_usage cut = subst (λ (a : Answer). a.status ≢ status.Usage) (sym (on_records cut)) (no_usage program cut.ending _)

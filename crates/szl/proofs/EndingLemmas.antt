@@ -4,7 +4,6 @@ use Rattle.std.specs.Prelude.{Option, Ok, Err}
 use Rattle.sz_types.specs.declared.frame.Frame.{Frame}
 use Rattle.sz_core.specs.Programs.{Core, tables_of}
 use Rattle.sz_world.specs.Slots.{Slot}
-use Rattle.sz_world.specs.Operations.{no_messages}
 use Rattle.sz_mean.specs.Records.{mean_all}
 use Rattle.sz_total.specs.States.{TotalState}
 use Rattle.sz_print.specs.Tables.{tables_text}
@@ -57,7 +56,7 @@ module _ (program : Core) (slots : List Slot) (budget : ℕ) (frame : Frame) (in
   total_fails cut is_cut total failure.WriteFailed h = absurd h
 
   module _ (records : List (List ℕ)) (total : TotalState) (h : HoldsAll program slots budget records total) where
-    on_ending : (ending : Ending) → outcome_of_records program ending (mean_all no_messages program slots budget records)
+    on_ending : (ending : Ending) → outcome_of_records program ending (mean_all program slots budget records)
         ≡ outcome_of_ending ending (tables_text (tables_of program.items) h.emits)
     on_ending ending = ap (outcome_of_records program ending) h.means
 

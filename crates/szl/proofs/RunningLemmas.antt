@@ -10,7 +10,6 @@ use Rattle.sz_instr.specs.declared.code.Code.{Code}
 use Rattle.sz_world.specs.World.{Fault, Outcome, Done, Faulted}
 use Rattle.sz_world.specs.Slots.{Slot}
 use Rattle.sz_world.specs.Typed.{AllFit}
-use Rattle.sz_world.specs.Operations.{no_messages}
 use Rattle.sz_mean.specs.Programs.{mean, statics}
 use Rattle.sz_mean.specs.Records.{Records, Emitted, FaultedAt, behind_emits, then_records, mean_from, mean_all}
 use Rattle.sz_mean.proofs.EmitCosts.{emits_are_paid}
@@ -32,46 +31,46 @@ use Rattle.szl.proofs.TakenLemmas.{none_left}
 
 -- what the code does is what the program means
 module _ (program : Core) (code : Code) (compiled : IsCompiled program code) (budget : ℕ) (least : 1 ≤ budget) (most : budget ≤ 2 ^ 32) where
-  pub statics_run : StaticsRunTo code budget (statics no_messages program budget)
+  pub statics_run : StaticsRunTo code budget (statics program budget)
   statics_run = compiled.simulates.statics_end budget (record { least = least; most = most })
 
   pub statics_run_ends : StaticsRunEnds code budget
-  statics_run_ends = record { outcome = statics no_messages program budget; ends = statics_run }
+  statics_run_ends = record { outcome = statics program budget; ends = statics_run }
 
   pub record_runs : (slots : List Slot) (input : List ℕ) → AllFit slots (static_types program)
-      → RunsTo code input slots budget (mean no_messages program slots budget input)
+      → RunsTo code input slots budget (mean program slots budget input)
   record_runs slots input fit = compiled.simulates.records_end slots budget input fit (record { least = least; most = most })
 
   pub record_ends : (slots : List Slot) (input : List ℕ) → AllFit slots (static_types program) → RunEnds code input slots budget
-  record_ends slots input fit = record { outcome = mean no_messages program slots budget input; ends = record_runs slots input fit }
+  record_ends slots input fit = record { outcome = mean program slots budget input; ends = record_runs slots input fit }
 
   -- the statics that come of the run have their types
   pub statics_have_types : (end : StaticsEnd) (slots : Slots) → ((o : Outcome (List Slot)) → StaticsRunTo code budget o → seen_statics_end end ≡ o)
       → end ≡ statics_ends.Done slots → AllFit slots (static_types program)
   statics_have_types end slots runs is =
-      compiled.statics_fit budget slots (sym (sym (ap seen_statics_end is) ∙ runs (statics no_messages program budget) statics_run))
+      compiled.statics_fit budget slots (sym (sym (ap seen_statics_end is) ∙ runs (statics program budget) statics_run))
 
   -- what comes of the run for a record is what the program means for it
   pub record_means : (slots : List Slot) (input : List ℕ) → AllFit slots (static_types program) → (end : RunEnd)
       → ((o : Outcome (List EmitDatum)) → RunsTo code input slots budget o → seen_end end ≡ o)
-      → mean no_messages program slots budget input ≡ seen_end end
-  record_means slots input fit end runs = sym (runs (mean no_messages program slots budget input) (record_runs slots input fit))
+      → mean program slots budget input ≡ seen_end end
+  record_means slots input fit end runs = sym (runs (mean program slots budget input) (record_runs slots input fit))
 
   -- what the program emits for a record fits its tables
   pub emits_fit_tables : (slots : List Slot) (input : List ℕ) (es : List EmitDatum) → AllFit slots (static_types program)
-      → mean no_messages program slots budget input ≡ Done es → All (IsEmitTo (tables_of program.items)) es
+      → mean program slots budget input ≡ Done es → All (IsEmitTo (tables_of program.items)) es
   emits_fit_tables slots input es fit is =
       subst (λ tables. All (IsEmitTo tables) es) compiled.tables
       (emits_fit code input slots budget es (subst (RunsTo code input slots budget) is (record_runs slots input fit)))
 
 -- the records from one on
 abbrev from_record : Core → List Slot → ℕ → List (List ℕ) → ℕ → Records
-from_record program slots budget records i = mean_from no_messages program slots budget (i + 1) (drop i records)
+from_record program slots budget records i = mean_from program slots budget (i + 1) (drop i records)
 
 -- the tables are those of the records in front of one, which have few emits; and what comes of the rest decides
 pub record IsRunUpTo (program : Core) (slots : List Slot) (budget : ℕ) (records : List (List ℕ)) (i : ℕ) (total : TotalState) : Type 0 where
   pub emits : List EmitDatum
-  pub rest : mean_all no_messages program slots budget records ≡ behind_emits emits (from_record program slots budget records i)
+  pub rest : mean_all program slots budget records ≡ behind_emits emits (from_record program slots budget records i)
   pub stands : StandFor total emits
   pub few : total.count ≤ 2 ^ 32 * i
   pub tables : total.tables ≡ tables_of program.items
@@ -108,20 +107,20 @@ module _ (program : Core) (slots : List Slot) (budget : ℕ) (records : List (Li
   room_for_more i total most there few h = omega (arith, most, there, few, h.few)
 
   -- what comes of the records from one on, by what it means
-  next_record : (i : ℕ) (r : List ℕ) (o : Outcome (List EmitDatum)) → slice_get records i ≡ Some r → mean no_messages program slots budget r ≡ o
+  next_record : (i : ℕ) (r : List ℕ) (o : Outcome (List EmitDatum)) → slice_get records i ≡ Some r → mean program slots budget r ≡ o
       → from_record program slots budget records i ≡ then_records (i + 1) o (from_record program slots budget records (i + 1))
   next_record i r o there is =
       let more : suc (i + 1) ≡ i + 1 + 1 = omega arith in
-      ap (λ rs. mean_from no_messages program slots budget (i + 1) rs) (drop_at records i r there)
-      ∙ ap (λ q. then_records (i + 1) q (mean_from no_messages program slots budget (suc (i + 1)) (drop (i + 1) records))) is
-      ∙ ap (λ n. then_records (i + 1) o (mean_from no_messages program slots budget n (drop (i + 1) records))) more
+      ap (λ rs. mean_from program slots budget (i + 1) rs) (drop_at records i r there)
+      ∙ ap (λ q. then_records (i + 1) q (mean_from program slots budget (suc (i + 1)) (drop (i + 1) records))) is
+      ∙ ap (λ n. then_records (i + 1) o (mean_from program slots budget n (drop (i + 1) records))) more
 
   -- one record more was run
   pub run_more : (i : ℕ) (total next : TotalState) (r : List ℕ) (es : List EmitDatum) → budget ≤ 2 ^ 32 → slice_get records i ≡ Some r
-      → mean no_messages program slots budget r ≡ Done es → GainsAll total next es
+      → mean program slots budget r ≡ Done es → GainsAll total next es
       → IsRunUpTo program slots budget records i total → IsRunUpTo program slots budget records (i + 1) next
   run_more i total next r es most there means gains h =
-      let paid = emits_are_paid no_messages program slots budget r es means in
+      let paid = emits_are_paid program slots budget r es means in
       record {
         emits = h.emits ++ es;
         rest = h.rest ∙ ap (behind_emits h.emits) (next_record i r (Done es) there means)
@@ -133,8 +132,8 @@ module _ (program : Core) (slots : List Slot) (budget : ℕ) (records : List (Li
 
   -- a record faults
   pub run_fails : (i : ℕ) (total : TotalState) (r : List ℕ) (f : Fault) → slice_get records i ≡ Some r
-      → mean no_messages program slots budget r ≡ Faulted f → IsRunUpTo program slots budget records i total
-      → mean_all no_messages program slots budget records ≡ FaultedAt (i + 1) f
+      → mean program slots budget r ≡ Faulted f → IsRunUpTo program slots budget records i total
+      → mean_all program slots budget records ≡ FaultedAt (i + 1) f
   run_fails i total r f there means h = h.rest ∙ ap (behind_emits h.emits) (next_record i r (Faulted f) there means)
 
   -- all records were run
@@ -142,7 +141,7 @@ module _ (program : Core) (slots : List Slot) (budget : ℕ) (records : List (Li
       → HoldsAll program slots budget records total
   run_all i total end h = record {
     emits = h.emits;
-    means = h.rest ∙ ap (λ rs. behind_emits h.emits (mean_from no_messages program slots budget (i + 1) rs)) (none_left records i end)
+    means = h.rest ∙ ap (λ rs. behind_emits h.emits (mean_from program slots budget (i + 1) rs)) (none_left records i end)
         ∙ ap Emitted (append-nil h.emits);
     tables = h.tables;
     stands = h.stands;

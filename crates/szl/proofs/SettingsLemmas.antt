@@ -12,7 +12,6 @@ use Rattle.sz_core.specs.Programs.{Core}
 use Rattle.sz_world.specs.World.{Fault, Done, Faulted}
 use Rattle.sz_world.specs.World as world
 use Rattle.sz_world.specs.Slots.{Slot}
-use Rattle.sz_world.specs.Operations.{no_messages}
 use Rattle.sz_mean.specs.Programs.{statics}
 use Rattle.sz_mean.specs.Records.{Records, Emitted, FaultedAt, mean_all}
 use Rattle.sz_records.specs.declared.ending.Ending.{Ending}
@@ -55,13 +54,13 @@ answered_records program ending (FaultedAt (suc k) f) = record { opens = omega a
 
 answered_statics : (program : Core) (budget : ℕ) (cut : Cut) (o : world.Outcome (List Slot)) → IsAnswered (outcome_of_statics program budget cut o)
 answered_statics program budget cut (Faulted f) = record { opens = omega arith; other = λ e. cc }
-answered_statics program budget cut (Done slots) = answered_records program cut.ending (mean_all no_messages program slots budget cut.records)
+answered_statics program budget cut (Done slots) = answered_records program cut.ending (mean_all program slots budget cut.records)
 
 answered_refused : (r : Refusal) → IsAnswered (outcome_refused r)
 answered_refused r = record { opens = omega arith; other = λ e. cc }
 
 answered_checked_run : (budget : ℕ) (cut : Cut) (found : Result Core Refusal) → IsAnswered (outcome_of_checked_run budget cut found)
-answered_checked_run budget cut (Ok p) = answered_statics p budget cut (statics no_messages p budget)
+answered_checked_run budget cut (Ok p) = answered_statics p budget cut (statics p budget)
 answered_checked_run budget cut (Err r) = answered_refused r
 
 answered_run : (budget : ℕ) (cut : Cut) (reading : Reading) → IsAnswered (outcome_of_run budget cut reading)

@@ -6,7 +6,6 @@ use Rattle.sz_core.specs.Programs.{Core, tables_of}
 use Rattle.sz_world.specs.World.{Fault, Done, Faulted}
 use Rattle.sz_world.specs.World as world
 use Rattle.sz_world.specs.Slots.{Slot}
-use Rattle.sz_world.specs.Operations.{no_messages}
 use Rattle.sz_mean.specs.Programs.{statics}
 use Rattle.sz_mean.specs.Records.{Records, Emitted, FaultedAt, mean_all}
 use Rattle.sz_print.specs.Tables.{tables_text}
@@ -100,11 +99,11 @@ outcome_of_records program ending (FaultedAt number fault) = outcome_faulted num
 -- the answer to what the statics are: a fault in one decides, and then the records, with the statics and a budget each
 abbrev pub outcome_of_statics : Core → ℕ → Cut → world.Outcome (List Slot) → Answer
 outcome_of_statics program budget cut (Faulted fault) = outcome_faulted 0 fault
-outcome_of_statics program budget cut (Done slots) = outcome_of_records program cut.ending (mean_all no_messages program slots budget cut.records)
+outcome_of_statics program budget cut (Done slots) = outcome_of_records program cut.ending (mean_all program slots budget cut.records)
 
 -- the outcome of a program over an input, which is cut into records so
 abbrev pub outcome_of_program : Core → ℕ → Cut → Answer
-outcome_of_program program budget cut = outcome_of_statics program budget cut (statics no_messages program budget)
+outcome_of_program program budget cut = outcome_of_statics program budget cut (statics program budget)
 
 -- the text of a cause
 abbrev pub cause_text : Cause → List ℕ

@@ -7,7 +7,6 @@ use Rattle.sz_total.specs.States.{TotalState, declarations, emit_count, shown}
 use Rattle.sz_total.specs.Totals.{StandsFor}
 use Rattle.sz_world.specs.World.{Done, Faulted}
 use Rattle.sz_world.specs.Slots.{Slot}
-use Rattle.sz_world.specs.Operations.{no_messages}
 use Rattle.sz_mean.specs.Programs.{statics, mean}
 use Rattle.sz_mean.specs.Records.{Emitted, FaultedAt, mean_all}
 use Rattle.sz_run.specs.Ends.{seen_fault}
@@ -24,8 +23,8 @@ vec_items_of (Err failure) = Err failure
 
 -- the statics that a program means, or the fault in one, which is that of record 0; or want of memory
 abbrev pub GivesStatics : Core → ℕ → Result (List Slot) Failure → Type 0
-GivesStatics program budget (Ok slots) = statics no_messages program budget ≡ Done slots
-GivesStatics program budget (Err (failure.Faulted number fault)) = (number ≡ 0) × (statics no_messages program budget ≡ Faulted (seen_fault fault))
+GivesStatics program budget (Ok slots) = statics program budget ≡ Done slots
+GivesStatics program budget (Err (failure.Faulted number fault)) = (number ≡ 0) × (statics program budget ≡ Faulted (seen_fault fault))
 GivesStatics program budget (Err failure.NoMemory) = ⊤
 GivesStatics program budget (Err failure) = ⊥
 
@@ -42,16 +41,16 @@ pub record GainsAll (old new : TotalState) (emits : List EmitDatum) : Type 0 whe
 -- one record with this number was run: its emits were added to the tables, or it faults; or memory ran out
 abbrev pub GivesRecord : Core → List Slot → ℕ → List ℕ → ℕ → TotalState → TotalState → Result (Unit {0}) Failure → Type 0
 GivesRecord program slots budget input number old new (Ok _) =
-    (emits : List EmitDatum) × (mean no_messages program slots budget input ≡ Done emits) × GainsAll old new emits
+    (emits : List EmitDatum) × (mean program slots budget input ≡ Done emits) × GainsAll old new emits
 GivesRecord program slots budget input number old new (Err (failure.Faulted n fault)) =
-    (n ≡ number) × (mean no_messages program slots budget input ≡ Faulted (seen_fault fault))
+    (n ≡ number) × (mean program slots budget input ≡ Faulted (seen_fault fault))
 GivesRecord program slots budget input number old new (Err failure.NoMemory) = ⊤
 GivesRecord program slots budget input number old new (Err failure) = ⊥
 
 -- the tables are the program's, and stand for all that the records emit
 pub record HoldsAll (program : Core) (slots : List Slot) (budget : ℕ) (records : List (List ℕ)) (total : TotalState) : Type 0 where
   pub emits : List EmitDatum
-  pub means : mean_all no_messages program slots budget records ≡ Emitted emits
+  pub means : mean_all program slots budget records ≡ Emitted emits
   pub tables : total.tables ≡ tables_of program.items
   pub stands : StandFor total emits
 
@@ -59,7 +58,7 @@ pub record HoldsAll (program : Core) (slots : List Slot) (budget : ℕ) (records
 abbrev pub GivesTotal : Core → List Slot → ℕ → List (List ℕ) → TotalState → Result (Unit {0}) Failure → Type 0
 GivesTotal program slots budget records total (Ok _) = HoldsAll program slots budget records total
 GivesTotal program slots budget records total (Err (failure.Faulted number fault)) =
-    mean_all no_messages program slots budget records ≡ FaultedAt number (seen_fault fault)
+    mean_all program slots budget records ≡ FaultedAt number (seen_fault fault)
 GivesTotal program slots budget records total (Err failure.NoMemory) = ⊤
 GivesTotal program slots budget records total (Err failure) = ⊥
 
@@ -67,4 +66,4 @@ GivesTotal program slots budget records total (Err failure) = ⊥
 pub record GivesTables (program : Core) (slots : List Slot) (budget : ℕ) (frame : Frame) (input : List ℕ) (answer : Result (List ℕ) Failure) : Type 0 where
   pub cut : Cut
   pub is_cut : IsCutInto frame input cut
-  pub decides : Decides answer (outcome_of_records program cut.ending (mean_all no_messages program slots budget cut.records)) ⊥
+  pub decides : Decides answer (outcome_of_records program cut.ending (mean_all program slots budget cut.records)) ⊥

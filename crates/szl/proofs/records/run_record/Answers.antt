@@ -2,7 +2,6 @@ use Rattle.std.proofs.Common.{All, refl, ap, sym, subst, ◌∙◌, arith}
 use Rattle.sz_tabs.specs.Fitting.{IsEmitTo}
 use Rattle.sz_run.specs.Ends.{seen_end}
 use Rattle.sz_mean.proofs.EmitCosts.{emits_are_paid}
-use Rattle.sz_world.specs.Operations.{no_messages}
 use Rattle.sz_world.specs.World.{Done}
 use Rattle.szl.proofs.RunningLemmas.{record_ends, record_means, emits_fit_tables}
 use Rattle.szl.proofs.records.run_record.Goals as goal
@@ -21,7 +20,7 @@ add_all-requires c =
     ∙ ap Done (sym c.as_slice.ensures.value) in
     let fit = emits_fit_tables c.args.compiled.now c.code.result.now c.code.ensures.value c.args.budget c.requires.least c.requires.most c.args.statics.now
     c.args.input.now c.as_slice.result.now c.requires.fit means in
-    let paid = emits_are_paid no_messages c.args.compiled.now c.args.statics.now c.args.budget c.args.input.now c.as_slice.result.now means in
+    let paid = emits_are_paid c.args.compiled.now c.args.statics.now c.args.budget c.args.input.now c.as_slice.result.now means in
     record { fits = subst (λ tables. All (IsEmitTo tables) c.as_slice.result.now) (sym c.requires.tables) fit; room = omega (arith, paid, c.requires.few) }
 
 -- the record faults
