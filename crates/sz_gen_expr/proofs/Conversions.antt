@@ -9,7 +9,6 @@ use Rattle.sz_types.specs.Rows.{convert_row}
 use Rattle.sz_types.proofs.ForCallers.{alike_equal}
 use Rattle.sz_value.specs.Data.{Datum, truth, int, time, str, bytes, array, tuple, mapping}
 use Rattle.sz_typed.specs.Types.{has_type}
-use Rattle.sz_typed.proofs.ForCallers.{of_bytes}
 use Rattle.sz_proto.proofs.ForCallers.{values_have_their_type}
 use Rattle.sz_builtin.proofs.PartTypeLemmas.{convert_keeps}
 use Rattle.sz_instr.specs.declared.instr.Instr.{Instr}
@@ -17,7 +16,7 @@ use Rattle.sz_instr.specs.declared.instr.Instr.TheVariants.{Tick, Convert, Decod
 use Rattle.sz_instr.specs.declared.code.Code.{Code}
 use Rattle.sz_world.specs.Slots.{Slot}
 use Rattle.sz_world.specs.Typed.{Fits}
-use Rattle.sz_world.specs.Operations.{became, converted, converted_plainly, decoded_as}
+use Rattle.sz_world.specs.Operations.{converted, converted_plainly, decoded_as}
 use Rattle.sz_world.specs.Ticks.{conversion_weight, result_weight}
 use Rattle.sz_machine.specs.States.{State, Goes}
 use Rattle.sz_machine.specs.Rows.{by_type}
