@@ -1,5 +1,5 @@
 -- Look-ups of keys are look-ups by their plain data.
-use Rattle.std.proofs.Common.{Result, Ok, Err, IsOk, IfOk, OnOk, Option, None, ℕ, ◌+◌, if◌then◌else◌, is_some, true≢false}
+use Rattle.std.proofs.Common.{Result, Ok, Err, IsOk, IfOk, OnOk, Option, None, ℕ, ◌+◌, if◌then◌else◌, is_some, true≢false, option_map, slice_get}
 use Rattle.std.proofs.Common.{◌≡◌, ◌∙◌, Bool, true, false, cond, Some, List, [], ◌∷◌, map, refl, sym, ap, subst, is_eq, Ordering, IsSorted}
 use Rattle.std.specs.Borrow.{Bor}
 use Rattle.std.specs.Cmp.{on_total}
@@ -10,6 +10,7 @@ use Rattle.std.specs.List.{IsDistinct, AllByRecursion}
 use Rattle.std.specs.List.Sorted.{IsStable}
 use Rattle.std.specs.Ordering.{on}
 use Rattle.std.specs.Map.{keys_of, lookup, set_value}
+use Rattle.indexmap.specs.IndexMap.{set_value_at}
 use Rattle.std.proofs.lemmas.Map.Keys.{IsDistinct-head, IsDistinct-tail, IsDistinct-cons}
 use Rattle.sz_value.specs.Data.{Datum}
 use Rattle.sz_value.specs.Order.{compare}
@@ -104,3 +105,32 @@ pub one_longer : {V E : Type 0} (r : Result (Option V) E) (found : Option V) (be
     → IfOk r (λ old. after ≡ before + (if is_some old then 0 else 1)) → OnOk r (after ≡ before + 1)
 one_longer (Ok x) found before after is none long = long ∙ ap (λ o. before + (if is_some o then 0 else 1)) (is ∙ none)
 one_longer (Err e) found before after is none long = tt
+
+-- the plain data of the first key
+pub first_key : (es : List (Vec Value × Aggregate)) (key : Vec Value) (a : Aggregate) → Some (key, a) ≡ slice_get es 0 → key.items ≡ []
+    → slice_get (keys_of (held_of es)) 0 ≡ Some []
+first_key [] key a there none = absurd (cc)
+first_key (e ∷ es) key a there none =
+    sym (ap (option_map (λ (p : Vec Value × Aggregate). key_data p.0)) there) ∙ ap (λ vs. Some (map seen vs)) none
+
+-- what is known of the first aggregator, where its index list is empty
+pub record IsFirst (es : List (Vec Value × Aggregate)) (a : Aggregate) : Type 0 where
+  pub found : lookup (same_indexes []) (held_of es) ≡ Some a
+  pub written : (new : Aggregate) → held_of (set_value_at es 0 new) ≡ set_value (same_indexes []) (held_of es) new
+  pub same : set_value_at es 0 a ≡ es
+
+some_same : {T : Type 0} (x y : T) → Some x ≡ Some y → x ≡ y
+some_same x y e = cc
+
+pub is_first : (es : List (Vec Value × Aggregate)) (key : Vec Value) (a : Aggregate) → slice_get es 0 ≡ Some (key, a)
+    → slice_get (keys_of (held_of es)) 0 ≡ Some [] → IsFirst es a
+is_first [] key a there none = absurd (cc)
+is_first (e ∷ es) key a there none = record {
+  found =
+      ap (λ k. cond (same_indexes [] k) (Some e.1) (lookup (same_indexes []) (held_of es))) (some_same _ _ none)
+      ∙ ap (option_map (λ (p : Vec Value × Aggregate). p.1)) there;
+  written = λ new.
+      (λ i. (some_same _ _ none i, new) ∷ held_of es)
+      ∙ sym (ap (λ k. cond (same_indexes [] k) ((k, new) ∷ held_of es) ((k, e.1) ∷ set_value (same_indexes []) (held_of es) new)) (some_same _ _ none));
+  same = ap (λ b. (e.0, b) ∷ es) (sym (ap (λ (p : Vec Value × Aggregate). p.1) (some_same _ _ there)));
+}

@@ -1,5 +1,5 @@
 //! The aggregators of one table, each found by hashing its index list.
-ghost use Rattle.std.specs.Prelude.{◌≡◌, ◌≤◌, ◌+◌, ◌++◌, ◌∷◌, ◌-◌, ◌^◌, [], map, None, IfOk, OnOk, OnErr};
+ghost use Rattle.std.specs.Prelude.{◌≡◌, ◌≤◌, ◌+◌, ◌++◌, ◌∷◌, ◌-◌, ◌^◌, [], map, None, Some, slice_get, true, IfOk, OnOk, OnErr};
 ghost use Rattle.std.specs.List.{IsDistinct};
 ghost use Rattle.std.specs.Map.{keys_of, lookup};
 ghost use Rattle.indexmap.specs.IndexMap.{index_map_len, spare};
@@ -21,8 +21,40 @@ use sz_value::{List, Value, copy, copy_list};
 /// The aggregator under each index list that something was emitted under.
 pub(crate) type Lists<'a> = IndexMap<Vec<Value>, Aggregate<'a>>;
 
-// Adds the emit to the aggregator under its index list, which is made if it isn't there.
+// Adds the emit to the aggregator under its index list, which is made if it isn't there. That of a table without indexes is the first,
+// and needs no hash.
 pub(crate) fn take_emit<'a>(
+    alloc: Global,
+    table: &'a TableDecl,
+    lists: &mut Lists<'a>,
+    emit: &Emit,
+) -> Result<(), NoMemory>
+    requires weights { HasItsWeights (seen_table table.now) }
+    requires fits { Fits (seen_table table.now) (brought_by emit.now) }
+    requires held { AreHeld (seen_table table.now) (2 ^ 63 - 1) (held_of lists.old.entries) }
+    ensures ok { OnOk result (TakesEmit (seen_table table.now) emit.now (held_of lists.old.entries) (held_of lists.new.entries)) }
+    ensures err { OnErr result (lists.new.entries ≡ lists.old.entries) }
+    ensures capacity { index_map_len lists.old + spare lists.old ≤ index_map_len lists.new + spare lists.new }
+{
+    if emit.indexes.is_empty() && is_first_without_indexes(lists) {
+        let (_, aggregate) = lists.pair_mut(0);
+        return add_to(aggregate, &emit.value, emit.weight);
+    }
+    take_hashed(alloc, table, lists, emit)
+}
+
+// Whether the first index list is the empty one.
+fn is_first_without_indexes<'a>(lists: &Lists<'a>) -> bool
+    ensures first { (result ≡ true) → slice_get (keys_of (held_of lists.now.entries)) 0 ≡ Some [] }
+{
+    match lists.first() {
+        Some((key, _)) => key.as_slice().is_empty(),
+        None => false,
+    }
+}
+
+// The same, with the aggregator found by hashing the index list.
+fn take_hashed<'a>(
     alloc: Global,
     table: &'a TableDecl,
     lists: &mut Lists<'a>,

@@ -1,0 +1,13 @@
+-- A first key with no values.
+use Rattle.std.proofs.Common.{◌∙◌, sym, length}
+use Rattle.std.proofs.lemmas.Bool.{eqb-true}
+use Rattle.std.proofs.lemmas.List.{nil_from_length}
+use Rattle.sz_total.proofs.KeyLemmas.{first_key}
+use Rattle.sz_total.proofs.lists.is_first_without_indexes.Goals as goal
+
+pub returns-in-Some : goal.returns-in-Some
+returns-in-Some c = record {
+  first = λ empty.
+      first_key c.args.lists.now.entries c.in-Some.key.now c.in-Some.field-0-1.now c.in-Some.ensures.entry
+      (sym c.as_slice.ensures.value ∙ nil_from_length c.as_slice.result.now (eqb-true (length c.as_slice.result.now) 0 (sym c.is_empty.ensures ∙ empty)));
+}
