@@ -3,9 +3,9 @@ use Rattle.std.specs.Prelude.{ℕ, List}
 use Rattle.szl.specs.declared.status.Status.{Status}
 use Rattle.szl.specs.declared.status.Status.TheVariants as status
 use Rattle.szl.specs.declared.failure.Failure.{Failure}
-use Rattle.szl.specs.declared.failure.Failure.TheVariants.{Usage, Refused, Faulted, Damaged, Limit, ReadFailed, WriteFailed, NoMemory}
+use Rattle.szl.specs.declared.failure.Failure.TheVariants.{Usage, Refused, Faulted, Lost, Damaged, Limit, ReadFailed, WriteFailed, NoMemory}
 use Rattle.sz_run.specs.Ends.{seen_fault}
-use Rattle.szl.specs.Outcome.{refusal_line, fault_line, usage_line, damaged_line, limit_line, read_failed_line, write_failed_line, no_memory_line}
+use Rattle.szl.specs.Outcome.{refusal_line, fault_line, usage_line, lost_line, damaged_line, limit_line, read_failed_line, write_failed_line, no_memory_line}
 
 -- the number that a status has as the exit status of the process
 abbrev pub code_of : Status → ℕ
@@ -25,6 +25,7 @@ abbrev pub status_of : Failure → Status
 status_of Usage = status.Usage
 status_of (Refused r) = status.Program
 status_of (Faulted number fault) = status.RecordFault
+status_of (Lost shard) = status.ShardLost
 status_of (Damaged byte) = status.Damaged
 status_of (Limit byte) = status.Limit
 status_of ReadFailed = status.ReadFailed
@@ -36,6 +37,7 @@ abbrev pub line_of_failure : Failure → List ℕ
 line_of_failure Usage = usage_line
 line_of_failure (Refused r) = refusal_line r
 line_of_failure (Faulted number fault) = fault_line number (seen_fault fault)
+line_of_failure (Lost shard) = lost_line shard
 line_of_failure (Damaged byte) = damaged_line byte
 line_of_failure (Limit byte) = limit_line byte
 line_of_failure ReadFailed = read_failed_line

@@ -1,6 +1,7 @@
 -- what the public contracts rest on
 pub mod Settings
 pub mod Records
+pub mod Shards
 pub mod Judgement
 pub mod Unbuilt
 pub mod Checking
@@ -11,4 +12,5 @@ pub mod Failing
 pub mod Opening
 pub mod Judging
 pub mod Printing
+pub mod Rounds
 pub mod Running

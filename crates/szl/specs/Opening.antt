@@ -4,16 +4,17 @@ use Rattle.sz_io.specs.Rose.{Rose}
 use Rattle.sz_io.specs.declared.files.Files as files
 use Rattle.szl.specs.declared.status.Status.TheVariants as status
 use Rattle.szl.specs.declared.failure.Failure.{Failure}
-use Rattle.szl.specs.declared.failure.Failure.TheVariants.{Usage, Refused, Faulted, Damaged, Limit, ReadFailed, WriteFailed, NoMemory}
+use Rattle.szl.specs.declared.failure.Failure.TheVariants.{Usage, Refused, Faulted, Lost, Damaged, Limit, ReadFailed, WriteFailed, NoMemory}
 use Rattle.szl.specs.declared.refusal.Cause.TheVariants.{TooLong}
 use Rattle.sz_lex.specs.Tokens.{first_place}
 use Rattle.sz_types.specs.declared.frame.Frame.{Frame}
 use Rattle.sz_run.specs.Ends.{seen_fault}
+use Rattle.sz_words.specs.declared.settings.RunSettings.{RunSettings}
 use Rattle.sz_words.specs.declared.settings.Settings.{Settings}
 use Rattle.szl.specs.Settings.{frame_asked}
 use Rattle.szl.specs.Records.{Cut, IsCutInto}
 use Rattle.szl.specs.Judgement.{Reading, IsRead, refusal_at}
-use Rattle.szl.specs.Outcome.{Answer, usage_line, damaged_line, limit_line, success, refusal, outcome_faulted, outcome_refused}
+use Rattle.szl.specs.Outcome.{Answer, usage_line, damaged_line, limit_line, success, refusal, outcome_faulted, outcome_lost, outcome_refused}
 use Rattle.szl.specs.Outcome.{outcome_of_run, outcome_of_check, outcome_of_settings}
 use Rattle.szl.specs.Promise.{AreHeld, OpensFirst, names_asked}
 
@@ -44,6 +45,7 @@ abbrev pub IsCause : Failure → Answer → Type 0 → Type 0
 IsCause Usage answer rose = answer ≡ refusal status.Usage usage_line 0
 IsCause (Refused r) answer rose = answer ≡ outcome_refused r
 IsCause (Faulted number fault) answer rose = answer ≡ outcome_faulted number (seen_fault fault)
+IsCause (Lost shard) answer rose = answer ≡ outcome_lost shard
 IsCause (Damaged byte) answer rose = answer ≡ refusal status.Damaged (damaged_line byte) 2
 IsCause (Limit byte) answer rose = answer ≡ refusal status.Limit (limit_line byte) 2
 IsCause ReadFailed answer rose = rose × (answer.status ≢ status.Usage)
@@ -78,12 +80,12 @@ pub record AnswersOn {F : Type 0} (the_files : files.Ghosts F) (frame : Frame) (
   pub decides : Decides answer (outcome_on cut) (Rose (the_files.faults old) (the_files.faults new))
   pub opened : OpensFirst (name ∷ []) (the_files.names old) (the_files.names new) ((outcome_on cut).opens - 1)
 
--- the answer is that of running what the text is read as, on what the file under the name holds
-pub record AnswersText {F : Type 0} (the_files : files.Ghosts F) (frame : Frame) (budget : ℕ) (text name : List ℕ) (old new : F)
+-- the answer is that of running what the text is read as, as these settings ask for it
+pub record AnswersText {F : Type 0} (the_files : files.Ghosts F) (s : RunSettings) (text : List ℕ) (old new : F)
     (answer : Result (List ℕ) Failure) : Type 0 where
   pub reading : Reading
   pub read : IsRead text reading
-  pub answers : AnswersOn the_files frame (λ cut. outcome_of_run budget cut reading) name old new answer
+  pub answers : AnswersOn the_files s.frame (λ cut. outcome_of_run s cut reading) s.input old new answer
 
 -- the answer is that of checking what the text is read as
 pub record AnswersCheck (text : List ℕ) (answer : Result (List ℕ) Failure) : Type 0 where

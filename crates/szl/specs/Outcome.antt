@@ -1,4 +1,4 @@
--- The outcome of a command line: what the source means, folded once over the records in input order.
+-- The outcome of a command line: what the source means for the shards of the records, in input order.
 use Rattle.std.specs.Prelude.{ℕ, zero, suc, List, [], ◌∷◌, ◌++◌, slice_index_or, Option, Some, None, Result, Ok, Err, codes}
 use Rattle.std.specs.Fmt.{decimal}
 use Rattle.sz_types.specs.declared.place.Place.{Place}
@@ -7,12 +7,13 @@ use Rattle.sz_world.specs.World.{Fault, Done, Faulted}
 use Rattle.sz_world.specs.World as world
 use Rattle.sz_world.specs.Slots.{Slot}
 use Rattle.sz_mean.specs.Programs.{statics}
-use Rattle.sz_mean.specs.Records.{Records, Emitted, FaultedAt, mean_all}
 use Rattle.sz_print.specs.Tables.{tables_text}
 use Rattle.sz_records.specs.declared.ending.Ending.{Ending}
 use Rattle.sz_records.specs.declared.ending.Ending.TheVariants.{Whole, Damaged, Limit}
+use Rattle.sz_words.specs.declared.settings.RunSettings.{RunSettings}
 use Rattle.sz_words.specs.declared.settings.Settings.{Settings}
 use Rattle.sz_words.specs.declared.settings.Settings.TheVariants.{Run, Check}
+use Rattle.sz_workers.specs.Outcomes.{ShardsEnd, emitted, faulted, lost, outcome_of}
 use Rattle.szl.specs.declared.status.Status.{Status}
 use Rattle.szl.specs.declared.status.Status.TheVariants as status
 use Rattle.szl.specs.declared.refusal.Cause.{Cause}
@@ -24,6 +25,7 @@ use Rattle.szl.specs.Judgement.{Reading, refused, spells}
 use Rattle.szl.specs.Checking.{checked}
 use Rattle.szl.specs.Settings.{asked_in}
 use Rattle.szl.specs.Records.{Cut}
+use Rattle.szl.specs.Shards.{shards_in, job_of}
 
 -- what a call of the program answers: its status, the bytes of its output, the line that names the cause, and how many of the files
 -- that the words name it opens at most
@@ -52,6 +54,10 @@ damaged_line byte = codes "input damaged at byte " ++ (decimal byte ++ 10 ∷ []
 
 abbrev pub limit_line : ℕ → List ℕ
 limit_line byte = codes "input limit at byte " ++ (decimal byte ++ 10 ∷ [])
+
+-- the line of a shard that is lost
+abbrev pub lost_line : ℕ → List ℕ
+lost_line shard = codes "shard " ++ (decimal shard ++ codes " lost\n")
 
 -- a place as the lines name it
 abbrev pub place_text : Place → List ℕ
@@ -91,19 +97,25 @@ outcome_of_ending Whole text = success text
 outcome_of_ending (Damaged byte) text = refusal status.Damaged (damaged_line byte) 2
 outcome_of_ending (Limit byte) text = refusal status.Limit (limit_line byte) 2
 
--- the answer to what the records mean: the first that faults decides, and then how they end
-abbrev pub outcome_of_records : Core → Ending → Records → Answer
-outcome_of_records program ending (Emitted emits) = outcome_of_ending ending (tables_text (tables_of program.items) emits)
-outcome_of_records program ending (FaultedAt number fault) = outcome_faulted number fault
+-- the answer to a shard that is lost
+abbrev pub outcome_lost : ℕ → Answer
+outcome_lost shard = refusal status.ShardLost (lost_line shard) 2
 
--- the answer to what the statics are: a fault in one decides, and then the records, with the statics and a budget each
-abbrev pub outcome_of_statics : Core → ℕ → Cut → world.Outcome (List Slot) → Answer
-outcome_of_statics program budget cut (Faulted fault) = outcome_faulted 0 fault
-outcome_of_statics program budget cut (Done slots) = outcome_of_records program cut.ending (mean_all program slots budget cut.records)
+-- the answer to what comes of the shards: the first that faults or is lost decides, and then how the records end
+abbrev pub outcome_of_shards : Core → Ending → ShardsEnd → Answer
+outcome_of_shards program ending (emitted emits) = outcome_of_ending ending (tables_text (tables_of program.items) emits)
+outcome_of_shards program ending (faulted number fault) = outcome_faulted number fault
+outcome_of_shards program ending (lost shard) = outcome_lost shard
 
--- the outcome of a program over an input, which is cut into records so
-abbrev pub outcome_of_program : Core → ℕ → Cut → Answer
-outcome_of_program program budget cut = outcome_of_statics program budget cut (statics program budget)
+-- the answer to what the statics are: a fault in one decides, and then the shards of the records, with these statics
+abbrev pub outcome_of_statics : Core → RunSettings → Cut → world.Outcome (List Slot) → Answer
+outcome_of_statics program s cut (Faulted fault) = outcome_faulted 0 fault
+outcome_of_statics program s cut (Done slots) =
+    outcome_of_shards program cut.ending (outcome_of (job_of program slots s) (shards_in s.shard cut.records))
+
+-- the outcome of a program over an input, which is cut into records so. Neither the number of threads nor a doubled shard plays a part
+abbrev pub outcome_of_program : Core → RunSettings → Cut → Answer
+outcome_of_program program s cut = outcome_of_statics program s cut (statics no_messages program s.budget)
 
 -- the text of a cause
 abbrev pub cause_text : Cause → List ℕ
@@ -144,15 +156,15 @@ refusal_line r = codes "program: " ++ (cause_text r.cause ++ (name_text r.name +
 abbrev pub outcome_refused : Refusal → Answer
 outcome_refused r = refusal status.Program (refusal_line r) 1
 
--- the outcome of running a program that was checked, with a budget, over an input that is cut so
-abbrev pub outcome_of_checked_run : ℕ → Cut → Result Core Refusal → Answer
-outcome_of_checked_run budget cut (Ok program) = outcome_of_program program budget cut
-outcome_of_checked_run budget cut (Err r) = outcome_refused r
+-- the outcome of running a program that was checked, over an input that is cut so
+abbrev pub outcome_of_checked_run : RunSettings → Cut → Result Core Refusal → Answer
+outcome_of_checked_run s cut (Ok program) = outcome_of_program program s cut
+outcome_of_checked_run s cut (Err r) = outcome_refused r
 
 -- the outcome of running what was read
-abbrev pub outcome_of_run : ℕ → Cut → Reading → Answer
-outcome_of_run budget cut (refused r) = outcome_refused r
-outcome_of_run budget cut (spells statements) = outcome_of_checked_run budget cut (checked statements)
+abbrev pub outcome_of_run : RunSettings → Cut → Reading → Answer
+outcome_of_run s cut (refused r) = outcome_refused r
+outcome_of_run s cut (spells statements) = outcome_of_checked_run s cut (checked statements)
 
 -- the outcome of checking
 abbrev pub outcome_of_checked : Result Core Refusal → Answer
@@ -166,7 +178,7 @@ outcome_of_check (spells statements) = outcome_of_checked (checked statements)
 
 -- the outcome of settings, from the reading of the program's text and the input, which is cut so
 abbrev pub outcome_of_settings : Option Settings → Reading → Cut → Answer
-outcome_of_settings (Some (Run s)) reading cut = outcome_of_run s.budget cut reading
+outcome_of_settings (Some (Run s)) reading cut = outcome_of_run s cut reading
 outcome_of_settings (Some (Check program)) reading cut = outcome_of_check reading
 outcome_of_settings _ reading cut = refusal status.Usage usage_line 0
 

@@ -1,20 +1,24 @@
 -- What running a program gives, part by part.
-use Rattle.std.specs.Prelude.{◌≡◌, ℕ, ◌+◌, ⊤, List, ◌++◌, length, Result, Ok, Err, Vec}
+use Rattle.std.specs.Prelude.{◌≡◌, ℕ, ⊤, List, Result, Ok, Err, Vec}
 use Rattle.sz_types.specs.declared.frame.Frame.{Frame}
-use Rattle.sz_core.specs.Programs.{Core, tables_of}
+use Rattle.sz_core.specs.Programs.{Core}
 use Rattle.sz_tabs.specs.Data.{EmitDatum}
-use Rattle.sz_total.specs.States.{TotalState, declarations, emit_count, shown}
-use Rattle.sz_total.specs.Totals.{StandsFor}
+use Rattle.sz_total.specs.States.{TotalState}
 use Rattle.sz_world.specs.World.{Done, Faulted}
 use Rattle.sz_world.specs.Slots.{Slot}
-use Rattle.sz_mean.specs.Programs.{statics, mean}
-use Rattle.sz_mean.specs.Records.{Emitted, FaultedAt, mean_all}
+use Rattle.sz_world.specs.Operations.{no_messages}
+use Rattle.sz_mean.specs.Programs.{statics}
 use Rattle.sz_run.specs.Ends.{seen_fault}
+use Rattle.sz_words.specs.declared.settings.RunSettings.{RunSettings}
+use Rattle.sz_attempt.specs.declared.job.Job.{Job}
+use Rattle.sz_attempt.specs.Ends.{StandForEmits}
+use Rattle.sz_workers.specs.Outcomes.{emitted, faulted, lost, outcome_of}
 use Rattle.szl.specs.declared.failure.Failure.{Failure}
 use Rattle.szl.specs.declared.failure.Failure.TheVariants as failure
 use Rattle.szl.specs.Opening.{Decides}
-use Rattle.szl.specs.Outcome.{outcome_of_records}
+use Rattle.szl.specs.Outcome.{outcome_of_shards}
 use Rattle.szl.specs.Records.{Cut, IsCutInto}
+use Rattle.szl.specs.Shards.{shards_in, job_of}
 
 -- the bytes of a vector that a result holds, or its failure
 abbrev pub vec_items_of : {A : Type 0} → Result (Vec ℕ A) Failure → Result (List ℕ) Failure
@@ -28,42 +32,21 @@ GivesStatics program budget (Err (failure.Faulted number fault)) = (number ≡ 0
 GivesStatics program budget (Err failure.NoMemory) = ⊤
 GivesStatics program budget (Err failure) = ⊥
 
--- the tables are those of a list of emits
-abbrev pub StandFor : TotalState → List EmitDatum → Type 0
-StandFor = StandsFor declarations emit_count shown
+-- the tables that come of all shards of the records, or the cause why there are none; or want of memory
+abbrev pub GivesTotal : Job → ℕ → List (List ℕ) → Result TotalState Failure → Type 0
+GivesTotal job most records (Ok total) =
+    (emits : List EmitDatum) × (outcome_of job (shards_in most records) ≡ emitted emits) × StandForEmits job.compiled total emits
+GivesTotal job most records (Err (failure.Faulted number fault)) = outcome_of job (shards_in most records) ≡ faulted number (seen_fault fault)
+GivesTotal job most records (Err (failure.Lost shard)) = outcome_of job (shards_in most records) ≡ lost shard
+GivesTotal job most records (Err failure.NoMemory) = ⊤
+GivesTotal job most records (Err failure) = ⊥
 
--- the emits were added to the tables: these stand for each list that they stood for, with the emits behind it
-pub record GainsAll (old new : TotalState) (emits : List EmitDatum) : Type 0 where
-  pub same_tables : new.tables ≡ old.tables
-  pub counted : new.count ≡ old.count + length emits
-  pub appended : (front : List EmitDatum) → StandFor old front → StandFor new (front ++ emits)
-
--- one record with this number was run: its emits were added to the tables, or it faults; or memory ran out
-abbrev pub GivesRecord : Core → List Slot → ℕ → List ℕ → ℕ → TotalState → TotalState → Result (Unit {0}) Failure → Type 0
-GivesRecord program slots budget input number old new (Ok _) =
-    (emits : List EmitDatum) × (mean program slots budget input ≡ Done emits) × GainsAll old new emits
-GivesRecord program slots budget input number old new (Err (failure.Faulted n fault)) =
-    (n ≡ number) × (mean program slots budget input ≡ Faulted (seen_fault fault))
-GivesRecord program slots budget input number old new (Err failure.NoMemory) = ⊤
-GivesRecord program slots budget input number old new (Err failure) = ⊥
-
--- the tables are the program's, and stand for all that the records emit
-pub record HoldsAll (program : Core) (slots : List Slot) (budget : ℕ) (records : List (List ℕ)) (total : TotalState) : Type 0 where
-  pub emits : List EmitDatum
-  pub means : mean_all program slots budget records ≡ Emitted emits
-  pub tables : total.tables ≡ tables_of program.items
-  pub stands : StandFor total emits
-
--- the tables of all records, or the first record that faults; or want of memory
-abbrev pub GivesTotal : Core → List Slot → ℕ → List (List ℕ) → TotalState → Result (Unit {0}) Failure → Type 0
-GivesTotal program slots budget records total (Ok _) = HoldsAll program slots budget records total
-GivesTotal program slots budget records total (Err (failure.Faulted number fault)) =
-    mean_all program slots budget records ≡ FaultedAt number (seen_fault fault)
-GivesTotal program slots budget records total (Err failure.NoMemory) = ⊤
-GivesTotal program slots budget records total (Err failure) = ⊥
-
--- what running a program over an input gives, with these statics: the outcome of the input's records; or want of memory
-pub record GivesTables (program : Core) (slots : List Slot) (budget : ℕ) (frame : Frame) (input : List ℕ) (answer : Result (List ℕ) Failure) : Type 0 where
+-- what running a job over an input gives: the outcome of the shards of the input's records; or want of memory
+pub record GivesTables (job : Job) (most : ℕ) (frame : Frame) (input : List ℕ) (answer : Result (List ℕ) Failure) : Type 0 where
   pub cut : Cut
   pub is_cut : IsCutInto frame input cut
-  pub decides : Decides answer (outcome_of_records program cut.ending (mean_all program slots budget cut.records)) ⊥
+  pub decides : Decides answer (outcome_of_shards job.compiled cut.ending (outcome_of job (shards_in most cut.records))) ⊥
+
+-- the job is what the outcome knows of the run, with some shards doubled
+pub record IsJobOf (program : Core) (slots : List Slot) (s : RunSettings) (job : Job) : Type 0 where
+  pub same : job ≡ record (job_of program slots s) { twice = job.twice }

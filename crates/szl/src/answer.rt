@@ -10,17 +10,17 @@ ghost use Rattle.szl.specs.Outcome.{outcome_of_program};
 ghost use Rattle.szl.specs.Judgement.{most_program_bytes};
 ghost use Rattle.szl.specs.Promise.{AreReadToEnd, names_asked};
 ghost use Rattle.szl.specs.Running.{vec_items_of};
-ghost use Rattle.szl.specs.Settings.{asked_in, built, is_built, HasBudget};
+ghost use Rattle.szl.specs.Settings.{asked_in, built, is_built, HasBounds, IsBounded};
 
 use crate::failure::{Failure, refused};
 use crate::judge::{checked, tree_in};
 use crate::opening::read_text;
 use crate::refusal::Cause;
-use crate::running::{statics_of, tables_of};
+use crate::running::{job_of, statics_of, tables_of};
 use std::alloc::Global;
 use sz_core::Program;
 use sz_gen_stmt::compile;
-use sz_io::Files;
+use sz_io::{Files, Gate};
 use sz_types::Place;
 use sz_words::{RunSettings, Settings, read_words};
 
@@ -31,43 +31,50 @@ const MOST_PROGRAM_BYTES: usize = 1_048_576;
 const FIRST_PLACE: Place = Place { line: 1, column: 1 };
 
 /// The text that the words ask for, or why there is none.
-pub fn answer<F: Files>(alloc: Global, words: &[String], files: &mut F) -> Result<Vec<u8>, Failure>
+pub fn answer<F: Files, G: Gate>(
+    alloc: Global,
+    words: &[String],
+    files: &mut F,
+    gate: &G,
+) -> Result<Vec<u8>, Failure>
     requires { length (F.names files.old) < 127 }
     ensures value { Answers F.Files (asked_in (map string_bytes words.now)) files.old files.new (vec_items_of result) }
     ensures end { OnOk result (AreReadToEnd F.Files files.old files.new (names_asked (asked_in (map string_bytes words.now)))) }
     ensures kept { KeepsFiles F.held F.left F.given F.faults files.old files.new }
 {
     let settings = read_words(alloc, words)?;
-    answer_settings(alloc, &settings, files)
+    answer_settings(alloc, &settings, files, gate)
 }
 
 /// The text that the settings ask for.
-fn answer_settings<F: Files>(
+fn answer_settings<F: Files, G: Gate>(
     alloc: Global,
     settings: &Settings,
     files: &mut F,
+    gate: &G,
 ) -> Result<Vec<u8>, Failure>
     requires few { length (F.names files.old) < 127 }
-    requires budget { HasBudget settings.now }
+    requires bounds { IsBounded settings.now }
     ensures value { Answers F.Files (built (Some settings.now)) files.old files.new (vec_items_of result) }
     ensures end { OnOk result (AreReadToEnd F.Files files.old files.new (names_asked (built (Some settings.now)))) }
     ensures kept { KeepsFiles F.held F.left F.given F.faults files.old files.new }
 {
     match settings {
-        Settings::Run(run) => answer_built(alloc, run, files),
+        Settings::Run(run) => answer_built(alloc, run, files, gate),
         Settings::Check(program) => answer_check(alloc, program.as_str(), files),
         Settings::Selftest { .. } => Err(Failure::Usage),
     }
 }
 
 /// The text of the tables as these settings ask for it, if what they ask for is built.
-fn answer_built<F: Files>(
+fn answer_built<F: Files, G: Gate>(
     alloc: Global,
     settings: &RunSettings,
     files: &mut F,
+    gate: &G,
 ) -> Result<Vec<u8>, Failure>
     requires few { length (F.names files.old) < 127 }
-    requires budget { HasBudget (Run settings.now) }
+    requires bounds { HasBounds settings.now }
     ensures value { Answers F.Files (built (Some (Run settings.now))) files.old files.new (vec_items_of result) }
     ensures end { OnOk result (AreReadToEnd F.Files files.old files.new (names_asked (built (Some (Run settings.now))))) }
     ensures kept { KeepsFiles F.held F.left F.given F.faults files.old files.new }
@@ -75,7 +82,7 @@ fn answer_built<F: Files>(
     if !is_built(settings) {
         return Err(Failure::Usage);
     }
-    answer_run(alloc, settings, files)
+    answer_run(alloc, settings, files, gate)
 }
 
 /// Whether nothing is asked of a run but what is built.
@@ -83,10 +90,6 @@ fn is_built(settings: &RunSettings) -> bool
     ensures value { result ≡ is_built settings.now }
 {
     settings.workers == 4
-        && settings.shard == 1000
-        && settings.attempts == 3
-        && settings.kills.is_empty()
-        && settings.twice.is_empty()
 }
 
 /// The text of the program under a name.
@@ -108,19 +111,20 @@ fn read_program<F: Files>(alloc: Global, name: &str, files: &mut F) -> Result<Ve
 }
 
 /// The text of the tables of a program for an input, as these settings ask for it.
-fn answer_run<F: Files>(
+fn answer_run<F: Files, G: Gate>(
     alloc: Global,
     settings: &RunSettings,
     files: &mut F,
+    gate: &G,
 ) -> Result<Vec<u8>, Failure>
     requires few { length (F.names files.old) < 127 }
-    requires budget { HasBudget (Run settings.now) }
+    requires bounds { HasBounds settings.now }
     ensures value { Answers F.Files (Some (Run settings.now)) files.old files.new (vec_items_of result) }
     ensures end { OnOk result (AreReadToEnd F.Files files.old files.new (settings.now.program ∷ settings.now.input ∷ [])) }
     ensures kept { KeepsFiles F.held F.left F.given F.faults files.old files.new }
 {
     let text = read_program(alloc, settings.program.as_str(), files)?;
-    answer_text(alloc, &text, settings, files)
+    answer_text(alloc, &text, settings, files, gate)
 }
 
 /// No text, if the program under a name passes its check.
@@ -145,36 +149,38 @@ fn check_text(alloc: Global, text: &[u8]) -> Result<Vec<u8>, Failure>
 }
 
 /// The text of the tables of the program that is spelled by a text.
-fn answer_text<F: Files>(
+fn answer_text<F: Files, G: Gate>(
     alloc: Global,
     text: &[u8],
     settings: &RunSettings,
     files: &mut F,
+    gate: &G,
 ) -> Result<Vec<u8>, Failure>
     requires few { length (F.names files.old) < 128 }
-    requires budget { HasBudget (Run settings.now) }
+    requires bounds { HasBounds settings.now }
     requires short { length text.now ≤ most_program_bytes }
-    ensures value { AnswersText F.Files settings.now.frame settings.now.budget text.now settings.now.input files.old files.new (vec_items_of result) }
+    ensures value { AnswersText F.Files settings.now text.now files.old files.new (vec_items_of result) }
     ensures end { OnOk result (ReadToEnd F.Files files.old files.new settings.now.input) }
     ensures names { OnOk result (F.names files.new ≡ F.names files.old ++ settings.now.input ∷ []) }
     ensures kept { KeepsFiles F.held F.left F.given F.faults files.old files.new }
 {
     let tree = tree_in(alloc, text)?;
     let program = checked(alloc, &tree)?;
-    answer_program(alloc, program, settings, files)
+    answer_program(alloc, program, settings, files, gate)
 }
 
 /// The text of the program's tables for the input that the settings name. The input isn't opened where a static faults.
-fn answer_program<F: Files>(
+fn answer_program<F: Files, G: Gate>(
     alloc: Global,
     program: Program,
     settings: &RunSettings,
     files: &mut F,
+    gate: &G,
 ) -> Result<Vec<u8>, Failure>
     requires sound { IsSound program }
     requires few { length (F.names files.old) < 128 }
-    requires budget { HasBudget (Run settings.now) }
-    ensures value { AnswersOn F.Files settings.now.frame (outcome_of_program program settings.now.budget) settings.now.input
+    requires bounds { HasBounds settings.now }
+    ensures value { AnswersOn F.Files settings.now.frame (outcome_of_program program settings.now) settings.now.input
         files.old files.new (vec_items_of result) }
     ensures end { OnOk result (ReadToEnd F.Files files.old files.new settings.now.input) }
     ensures names { OnOk result (F.names files.new ≡ F.names files.old ++ settings.now.input ∷ []) }
@@ -189,12 +195,6 @@ fn answer_program<F: Files>(
         usize::MAX,
         Failure::NoMemory,
     )?;
-    tables_of(
-        alloc,
-        &compiled,
-        &statics,
-        settings.budget,
-        settings.frame,
-        &input,
-    )
+    let job = job_of(alloc, compiled, statics, settings)?;
+    tables_of(alloc, &job, settings.shard, settings.frame, &input, gate)
 }

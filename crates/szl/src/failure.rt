@@ -23,6 +23,8 @@ pub enum Failure {
     Refused(Refusal),
     /// A record faults. Records are numbered from 1; the number of a fault in a static is 0.
     Faulted(u64, Fault),
+    /// All attempts on a shard died. Shards are numbered from 0.
+    Lost(u64),
     /// The input is damaged where a record would begin, at this byte from 0.
     Damaged(u64),
     /// The input passes a limit where a record would begin, at this byte from 0.
@@ -44,6 +46,7 @@ impl Failure {
             Failure::Usage => Status::Usage,
             Failure::Refused(_) => Status::Program,
             Failure::Faulted(_, _) => Status::RecordFault,
+            Failure::Lost(_) => Status::ShardLost,
             Failure::Damaged(_) => Status::Damaged,
             Failure::Limit(_) => Status::Limit,
             Failure::ReadFailed => Status::ReadFailed,

@@ -1,7 +1,7 @@
-//! The lines that name the byte of an input, or a record that faults.
+//! The lines that name the byte of an input, a record that faults, or a shard that is lost.
 ghost use Rattle.std.specs.Prelude.{◌≡◌, ◌++◌, ◌∷◌, [], IfOk, decimal, slice_index_or};
 ghost use Rattle.sz_run.specs.Ends.{seen_fault};
-ghost use Rattle.szl.specs.Outcome.{damaged_line, limit_line, fault_texts, fault_line};
+ghost use Rattle.szl.specs.Outcome.{lost_line, damaged_line, limit_line, fault_texts, fault_line};
 
 use crate::refusal::push_place;
 use itoa::Buffer;
@@ -20,6 +20,17 @@ pub fn limit_line(alloc: Global, byte: u64) -> Result<Vec<u8>, AllocError>
     ensures value { IfOk result (λ line. line.items ≡ limit_line byte) }
 {
     byte_line(alloc, b"input limit at byte ", byte)
+}
+
+/// The line of a shard that is lost, with its newline.
+pub fn lost_line(alloc: Global, shard: u64) -> Result<Vec<u8>, AllocError>
+    ensures value { IfOk result (λ line. line.items ≡ lost_line shard) }
+{
+    let mut digits = Buffer::new();
+    let mut line = Vec::from_slice(alloc, b"shard ")?;
+    line.extend_from_slice(digits.format(shard).as_bytes())?;
+    line.extend_from_slice(b" lost\n")?;
+    Ok(line)
 }
 
 /// The line of a fault in a record, or in a static, whose number is 0; with its newline.

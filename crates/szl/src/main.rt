@@ -9,6 +9,7 @@ mod lines;
 mod opening;
 mod records;
 mod refusal;
+mod rounds;
 mod running;
 mod status;
 #[cfg(test)]

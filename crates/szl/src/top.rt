@@ -10,7 +10,7 @@ ghost use Rattle.szl.specs.Settings.{asked_in};
 
 use crate::answer::answer;
 use crate::failure::Failure;
-use crate::lines::{damaged_line, fault_line, limit_line};
+use crate::lines::{damaged_line, fault_line, limit_line, lost_line};
 use crate::refusal::refusal_line;
 use crate::status::Status;
 use std::alloc::{AllocError, Global};
@@ -20,7 +20,7 @@ use sz_io::{Files, Gate, Sink, WriteError, write_whole};
 /// Runs the command line of these words, which come without the program's name: opens what it names in `files`,
 /// writes its text to `out`, and the line that says why there is none to `err`.
 ///
-/// No thread is started and no attempt is made yet, so `rt` and `gate` are not called.
+/// The gate is called before each attempt. No thread is started yet, so `rt` is not called.
 pub fn szl_main<R: Threads + Sync, F: Files, O: Sink, E: Sink, G: Gate + Sync>(
     _rt: &R,
     alloc: Global,
@@ -28,7 +28,7 @@ pub fn szl_main<R: Threads + Sync, F: Files, O: Sink, E: Sink, G: Gate + Sync>(
     files: &mut F,
     out: &mut O,
     err: &mut E,
-    _gate: &G,
+    gate: &G,
 ) -> Status
     requires { length (F.names files.old) < 127 }
 
@@ -42,7 +42,7 @@ pub fn szl_main<R: Threads + Sync, F: Files, O: Sink, E: Sink, G: Gate + Sync>(
     ensures out_counts { DoNotFall O.faults O.refusals out.old out.new }
     ensures err_counts { DoNotFall E.faults E.refusals err.old err.new }
 {
-    let answer = answer(alloc, words, files);
+    let answer = answer(alloc, words, files, gate);
     match print(out, answer) {
         Ok(()) => Status::Done,
         Err(failure) => tell(alloc, err, failure).status(),
@@ -91,6 +91,7 @@ fn tell<E: Sink>(alloc: Global, err: &mut E, failure: Failure) -> Failure
             fault_line(alloc, *number, fault),
             failure,
         ),
+        Failure::Lost(shard) => tell_made(err, lost_line(alloc, *shard), failure),
         Failure::Damaged(byte) => tell_made(err, damaged_line(alloc, *byte), failure),
         Failure::Limit(byte) => tell_made(err, limit_line(alloc, *byte), failure),
         Failure::ReadFailed => tell_line(err, b"read failed\n", failure),
