@@ -1,7 +1,7 @@
 -- How the answer for a command line is put together: from the program's text, the program, and the input.
-use Rattle.std.proofs.Common.{◌≡◌, ◌≢◌, ℕ, zero, suc, ◌-◌, ◌≤◌, ◌⊎◌, List, [], ◌∷◌, ◌++◌}
+use Rattle.std.proofs.Common.{◌≡◌, ◌≢◌, ℕ, zero, suc, ◌+◌, ◌-◌, ◌≤◌, ◌⊎◌, List, [], ◌∷◌, ◌++◌, take, drop, Bool, true, false}
 use Rattle.std.proofs.Common.{refl, sym, ap, ◌∙◌, subst, arith, inl, inr, append-nil}
-use Rattle.std.specs.Prelude.{unwrap_or, Result, Ok, Err}
+use Rattle.std.specs.Prelude.{unwrap_or, Result, Ok, Err, ◌&&◌, if◌then◌else◌}
 use Rattle.sz_types.specs.declared.frame.Frame.{Frame}
 use Rattle.sz_io.specs.Rose.{Rose}
 use Rattle.sz_io.specs.Calls.{NamesGain}
@@ -11,24 +11,31 @@ use Rattle.sz_core.specs.Programs.{Core}
 use Rattle.sz_world.specs.World.{Fault, Done}
 use Rattle.sz_world.specs.Slots.{Slot}
 use Rattle.sz_mean.specs.Programs.{statics}
-use Rattle.sz_mean.specs.Records.{Records, Emitted, FaultedAt, mean_all}
+use Rattle.sz_mean.specs.Records.{Records, Emitted, FaultedAt}
 use Rattle.sz_mean.proofs.RecordLaws.{fault_number}
 use Rattle.sz_records.specs.declared.ending.Ending.{Ending}
 use Rattle.sz_records.specs.declared.ending.Ending.TheVariants.{Whole, Damaged, Limit}
 use Rattle.sz_records.proofs.CutLaws.{every_file_is_cut}
 use Rattle.sz_run.specs.Ends.{seen_fault}
+use Rattle.sz_words.specs.declared.settings.RunSettings.{RunSettings}
+use Rattle.sz_attempt.specs.declared.job.Job.{Job}
+use Rattle.sz_attempt.specs.Shards.{ShardData}
+use Rattle.sz_attempt.specs.Attempts.{shard_means, is_lost, all_die, dies_at, end_of}
+use Rattle.sz_workers.specs.Outcomes.{ShardsEnd, emitted, faulted, lost, then_shards, outcome_of}
+use Rattle.sz_workers.specs.Cuts.{cut_into}
 use Rattle.szl.specs.declared.status.Status.TheVariants as status
 use Rattle.szl.specs.declared.failure.Failure.{Failure}
 use Rattle.szl.specs.declared.failure.Failure.TheVariants as failure
 use Rattle.szl.specs.Opening.{ReadsText, ran_out, Decides, AnswersOn, AnswersText, AnswersCheck}
-use Rattle.szl.specs.Outcome.{Answer, success, outcome_faulted, outcome_of_records, outcome_of_statics, outcome_of_program}
+use Rattle.szl.specs.Outcome.{Answer, success, outcome_faulted, outcome_of_shards, outcome_of_statics, outcome_of_program}
 use Rattle.szl.specs.Outcome.{outcome_of_checked_run, outcome_of_checked}
 use Rattle.szl.specs.Checking.{checked}
 use Rattle.szl.specs.Judgement.{IsShort, HasStatements, refused, spells}
 use Rattle.szl.specs.Judging.{IsFailureOf, IsFailureOn}
 use Rattle.szl.specs.Promise.{OpensFirst}
 use Rattle.szl.specs.Records.{Cut, IsCutInto, limits}
-use Rattle.szl.specs.Running.{GivesStatics, GivesTables}
+use Rattle.szl.specs.Shards.{shard_sizes, shards_in, job_of}
+use Rattle.szl.specs.Running.{GivesStatics, GivesTables, IsJobOf}
 use Rattle.szl.proofs.JudgementLemmas.{every_text_is_read}
 use Rattle.szl.proofs.OpeningLemmas.{holds_or}
 
@@ -42,20 +49,66 @@ cut_of frame input =
     let c = every_file_is_cut frame limits input in
     record { cut = record { records = c.records; ending = c.ending }; is_cut = c.cut }
 
--- the outcome of records opens two files, and is no bad command line
-opens_two : (program : Core) (ending : Ending) (r : Records) → ((k : ℕ) (f : Fault) → r ≡ FaultedAt k f → 1 ≤ k)
-    → (outcome_of_records program ending r).opens ≡ 2
-opens_two program Whole (Emitted es) numbered = refl
-opens_two program (Damaged byte) (Emitted es) numbered = refl
-opens_two program (Limit byte) (Emitted es) numbered = refl
-opens_two program ending (FaultedAt zero f) numbered = let le = numbered 0 f refl in absurd (omega (arith, le))
-opens_two program ending (FaultedAt (suc k) f) numbered = refl
+-- a record that faults has a number from 1
+module _ (job : Job) where
+  same_number : (k m : ℕ) (f g : Fault) → faulted m g ≡ faulted k f → m ≡ k
+  same_number k m f g e = cc
 
-no_usage : (program : Core) (ending : Ending) (r : Records) → (outcome_of_records program ending r).status ≢ status.Usage
-no_usage program Whole (Emitted es) = λ e. cc
-no_usage program (Damaged byte) (Emitted es) = λ e. cc
-no_usage program (Limit byte) (Emitted es) = λ e. cc
-no_usage program ending (FaultedAt k f) = λ e. cc
+  pub fault_is_numbered : (number first : ℕ) (records : List (List ℕ)) (sizes : List ℕ) → 1 ≤ first → (k : ℕ) (f : Fault)
+      → outcome_of job (cut_into number first records sizes) ≡ faulted k f → 1 ≤ k
+  fault_is_numbered number first records [] low k f e = absurd (cc)
+  fault_is_numbered number first records (size ∷ sizes) low k f e =
+      by (is_lost job shard) (shard_means job shard) refl (outcome_of job rest)
+      (fault_is_numbered (suc number) (first + size) (drop size records) sizes (omega (arith, low))) e
+    where
+      shard : ShardData
+      shard = record { number = number; first = first; records = take size records }
+
+      rest : List ShardData
+      rest = cut_into (suc number) (first + size) (drop size records) sizes
+
+      by : (b : Bool) (r : Records) → shard_means job shard ≡ r → (o : ShardsEnd) → ((m : ℕ) (g : Fault) → o ≡ faulted m g → 1 ≤ m)
+          → (if b then lost number else then_shards r o) ≡ faulted k f → 1 ≤ k
+      by true r means o behind h = absurd (cc)
+      by false (FaultedAt m g) means o behind h =
+          let le = fault_number no_messages job.compiled job.statics job.budget first (take size records) m g means in
+          let same = same_number k m f g h in
+          omega (arith, le, low, same)
+      by false (Emitted es) means (emitted gs) behind h = absurd (cc)
+      by false (Emitted es) means (lost m) behind h = absurd (cc)
+      by false (Emitted es) means (faulted m g) behind h =
+          let le = behind m g refl in
+          let same = same_number k m f g h in
+          omega (arith, le, same)
+
+  -- which shards are doubled changes nothing
+  all_die_still : (twice : List ℕ) (shard : ShardData) (n : ℕ) → all_die (record job { twice = twice }) shard n ≡ all_die job shard n
+  all_die_still twice shard zero = refl
+  all_die_still twice shard (suc n) = ap (λ b. dies_at (end_of job shard n) && b) (all_die_still twice shard n)
+
+  pub same_outcome : (twice : List ℕ) (shards : List ShardData) → outcome_of (record job { twice = twice }) shards ≡ outcome_of job shards
+  same_outcome twice [] = refl
+  same_outcome twice (s ∷ shards) =
+      ap (λ b. if b then lost s.number else then_shards (shard_means job s) (outcome_of (record job { twice = twice }) shards))
+      (all_die_still twice s job.attempts)
+      ∙ ap (λ o. if is_lost job s then lost s.number else then_shards (shard_means job s) o) (same_outcome twice shards)
+
+-- the outcome of shards opens two files, and is no bad command line
+opens_two : (program : Core) (ending : Ending) (o : ShardsEnd) → ((k : ℕ) (f : Fault) → o ≡ faulted k f → 1 ≤ k)
+    → (outcome_of_shards program ending o).opens ≡ 2
+opens_two program Whole (emitted es) numbered = refl
+opens_two program (Damaged byte) (emitted es) numbered = refl
+opens_two program (Limit byte) (emitted es) numbered = refl
+opens_two program ending (faulted zero f) numbered = let le = numbered 0 f refl in absurd (omega (arith, le))
+opens_two program ending (faulted (suc k) f) numbered = refl
+opens_two program ending (lost n) numbered = refl
+
+no_usage : (program : Core) (ending : Ending) (o : ShardsEnd) → (outcome_of_shards program ending o).status ≢ status.Usage
+no_usage program Whole (emitted es) = λ e. cc
+no_usage program (Damaged byte) (emitted es) = λ e. cc
+no_usage program (Limit byte) (emitted es) = λ e. cc
+no_usage program ending (faulted k f) = λ e. cc
+no_usage program ending (lost n) = λ e. cc
 
 -- one name opened, or none
 opened_one : (name : List ℕ) (old new : List (List ℕ)) (most : ℕ) → 1 ≤ most → new ≡ old ++ name ∷ [] → OpensFirst (name ∷ []) old new most
@@ -78,6 +131,7 @@ decides_still (Err failure.NoMemory) outcome rose h = h
 decides_still (Err failure.Usage) outcome rose h = h
 decides_still (Err (failure.Refused r)) outcome rose h = h
 decides_still (Err (failure.Faulted n f)) outcome rose h = h
+decides_still (Err (failure.Lost n)) outcome rose h = h
 decides_still (Err (failure.Damaged b)) outcome rose h = h
 decides_still (Err (failure.Limit b)) outcome rose h = h
 
@@ -103,37 +157,49 @@ module _ {F : Type 0} (the_files : files.Ghosts F) (frame : Frame) (name : List 
   no_code outcome_on = answers_unopened outcome_on failure.NoMemory (λ cut. tt)
 
   -- a static faults
-  pub static_fails : (program : Core) (budget : ℕ) (f : Failure) → GivesStatics program budget (Err f)
-      → AnswersOn the_files frame (outcome_of_program program budget) name old old (Err f)
-  static_fails program budget (failure.Faulted n f) h =
+  pub static_fails : (program : Core) (s : RunSettings) (f : Failure) → GivesStatics program s.budget (Err f)
+      → AnswersOn the_files frame (outcome_of_program program s) name old old (Err f)
+  static_fails program s (failure.Faulted n f) h =
       answers_unopened _ (failure.Faulted n f)
-      (λ cut. ap (outcome_of_statics program budget cut) h.1 ∙ ap (λ k. outcome_faulted k (seen_fault f)) (sym h.0))
-  static_fails program budget failure.NoMemory h = no_code _
-  static_fails program budget failure.Usage h = absurd h
-  static_fails program budget (failure.Refused r) h = absurd h
-  static_fails program budget (failure.Damaged b) h = absurd h
-  static_fails program budget (failure.Limit b) h = absurd h
-  static_fails program budget failure.ReadFailed h = absurd h
-  static_fails program budget failure.WriteFailed h = absurd h
+      (λ cut. ap (outcome_of_statics program s cut) h.1 ∙ ap (λ k. outcome_faulted k (seen_fault f)) (sym h.0))
+  static_fails program s failure.NoMemory h = no_code _
+  static_fails program s failure.Usage h = absurd h
+  static_fails program s (failure.Refused r) h = absurd h
+  static_fails program s (failure.Lost n) h = absurd h
+  static_fails program s (failure.Damaged b) h = absurd h
+  static_fails program s (failure.Limit b) h = absurd h
+  static_fails program s failure.ReadFailed h = absurd h
+  static_fails program s failure.WriteFailed h = absurd h
 
-module _ {F : Type 0} (the_files : files.Ghosts F) (frame : Frame) (name : List ℕ) (old new : F) (program : Core) (budget limit : ℕ)
-    (slots : List Slot) (begun : statics program budget ≡ Done slots) where
-  on_records : (cut : Cut) → outcome_of_program program budget cut
-      ≡ outcome_of_records program cut.ending (mean_all program slots budget cut.records)
-  on_records cut = ap (outcome_of_statics program budget cut) begun
+module _ {F : Type 0} (the_files : files.Ghosts F) (frame : Frame) (name : List ℕ) (old new : F) (program : Core)
+    (s : RunSettings) (limit : ℕ) (slots : List Slot) (begun : statics no_messages program s.budget ≡ Done slots) where
+  abbrev of_cut : Cut → ShardsEnd
+  of_cut cut = outcome_of (job_of program slots s) (shards_in s.shard cut.records)
 
-  one_left : (cut : Cut) → 1 ≤ (outcome_of_program program budget cut).opens - 1
+  on_shards : (cut : Cut) → outcome_of_program program s cut ≡ outcome_of_shards program cut.ending (of_cut cut)
+  on_shards cut = ap (outcome_of_statics program s cut) begun
+
+  one_left : (cut : Cut) → 1 ≤ (outcome_of_program program s cut).opens - 1
   one_left cut =
-      let two = ap (λ (a : Answer). a.opens) (on_records cut)
-      ∙ opens_two program cut.ending _ (λ k f e. fault_number program slots budget 1 cut.records k f e) in omega (arith, two)
+      let two = ap (λ (a : Answer). a.opens) (on_shards cut)
+      ∙ opens_two program cut.ending (of_cut cut)
+      (λ k f e. fault_is_numbered (job_of program slots s) 0 1 cut.records (shard_sizes s.shard cut.records) (omega arith) k f e) in omega (arith, two)
 
-  not_usage : (cut : Cut) → (outcome_of_program program budget cut).status ≢ status.Usage
-  not_usage cut = subst (λ (a : Answer). a.status ≢ status.Usage) (sym (on_records cut)) (no_usage program cut.ending _)
+  not_usage : (cut : Cut) → (outcome_of_program program s cut).status ≢ status.Usage
+  not_usage cut = subst (λ (a : Answer). a.status ≢ status.Usage) (sym (on_shards cut)) (no_usage program cut.ending (of_cut cut))
+
+  -- the job has this outcome
+  of_job : (job : Job) → IsJobOf program slots s job → (cut : Cut)
+      → outcome_of_shards job.compiled cut.ending (outcome_of job (shards_in s.shard cut.records)) ≡ outcome_of_program program s cut
+  of_job job is cut =
+      ap (λ (j : Job). outcome_of_shards j.compiled cut.ending (outcome_of j (shards_in s.shard cut.records))) is.same
+      ∙ ap (outcome_of_shards program cut.ending) (same_outcome (job_of program slots s) job.twice (shards_in s.shard cut.records))
+      ∙ sym (on_shards cut)
 
   -- the input couldn't be read
   pub input_fails : (f : Failure) → ReadsText (the_files.held old name) limit failure.NoMemory (Rose (the_files.faults old) (the_files.faults new)) (Err f)
       → NamesGain (ran_out (Err f)) (the_files.names old) (the_files.names new) name
-      → AnswersOn the_files frame (outcome_of_program program budget) name old new (Err f)
+      → AnswersOn the_files frame (outcome_of_program program s) name old new (Err f)
   input_fails failure.ReadFailed reads gains = let c = cut_of frame reads.text in record {
     input = reads.text;
     cut = c.cut;
@@ -153,61 +219,77 @@ module _ {F : Type 0} (the_files : files.Ghosts F) (frame : Frame) (name : List 
   input_fails failure.Usage reads gains = let e = reads.tells.0 in absurd (cc)
   input_fails (failure.Refused r) reads gains = let e = reads.tells.0 in absurd (cc)
   input_fails (failure.Faulted n f) reads gains = let e = reads.tells.0 in absurd (cc)
+  input_fails (failure.Lost n) reads gains = let e = reads.tells.0 in absurd (cc)
   input_fails (failure.Damaged b) reads gains = let e = reads.tells.0 in absurd (cc)
   input_fails (failure.Limit b) reads gains = let e = reads.tells.0 in absurd (cc)
   input_fails failure.WriteFailed reads gains = let e = reads.tells.0 in absurd (cc)
 
   -- the input was read, and the program run over it
-  pub input_read : (bytes : List ℕ) (answer : Result (List ℕ) Failure)
+  pub input_read : (bytes : List ℕ) (answer : Result (List ℕ) Failure) (job : Job) → IsJobOf program slots s job
       → ReadsText (the_files.held old name) limit failure.NoMemory (Rose (the_files.faults old) (the_files.faults new)) (Ok bytes)
-      → the_files.names new ≡ the_files.names old ++ name ∷ [] → GivesTables program slots budget frame bytes answer
-      → AnswersOn the_files frame (outcome_of_program program budget) name old new answer
-  input_read bytes answer reads gains gives = record {
+      → the_files.names new ≡ the_files.names old ++ name ∷ [] → GivesTables job s.shard frame bytes answer
+      → AnswersOn the_files frame (outcome_of_program program s) name old new answer
+  input_read bytes answer job is reads gains gives = record {
     input = reads.text;
     cut = gives.cut;
     is_cut = subst (λ b. IsCutInto frame b gives.cut) reads.tells.0 gives.is_cut;
     holds = reads.holds;
-    decides = decides_still answer _ _ (subst (λ o. Decides answer o ⊥) (sym (on_records gives.cut)) gives.decides);
+    decides = decides_still answer _ _ (subst (λ o. Decides answer o ⊥) (of_job job is gives.cut) gives.decides);
     opened = opened_one name _ _ _ (one_left gives.cut) gains;
   }
 
+  -- the input was read, and there was no memory for the job
+  pub input_without_memory : (bytes : List ℕ)
+      → ReadsText (the_files.held old name) limit failure.NoMemory (Rose (the_files.faults old) (the_files.faults new)) (Ok bytes)
+      → the_files.names new ≡ the_files.names old ++ name ∷ []
+      → AnswersOn the_files frame (outcome_of_program program s) name old new (Err failure.NoMemory)
+  input_without_memory bytes reads gains = let c = cut_of frame reads.text in record {
+    input = reads.text;
+    cut = c.cut;
+    is_cut = c.is_cut;
+    holds = reads.holds;
+    decides = tt;
+    opened = opened_one name _ _ _ (one_left c.cut) gains;
+  }
+
 -- the outcome of running the text that spells a program is the program's
-pub program_answers : {F : Type 0} (the_files : files.Ghosts F) (frame : Frame) (budget : ℕ) (text name : List ℕ) (old new : F) (ss : Stms) (p : Core)
+pub program_answers : {F : Type 0} (the_files : files.Ghosts F) (s : RunSettings) (text : List ℕ) (old new : F) (ss : Stms) (p : Core)
     (answer : Result (List ℕ) Failure) → IsShort text → HasStatements text ss → checked ss ≡ Ok p
-    → AnswersOn the_files frame (outcome_of_program p budget) name old new answer → AnswersText the_files frame budget text name old new answer
-program_answers the_files frame budget text name old new ss p answer short has is a = record {
+    → AnswersOn the_files s.frame (outcome_of_program p s) s.input old new answer → AnswersText the_files s text old new answer
+program_answers the_files s text old new ss p answer short has is a = record {
   reading = spells ss;
   read = (short, has);
   answers =
-      let same = ap (outcome_of_checked_run budget a.cut) (sym is) in
+      let same = ap (outcome_of_checked_run s a.cut) (sym is) in
       record {
         input = a.input;
         cut = a.cut;
         is_cut = a.is_cut;
         holds = a.holds;
         decides = subst (λ o. Decides answer o (Rose (the_files.faults old) (the_files.faults new))) same a.decides;
-        opened = subst (λ (o : Answer). OpensFirst (name ∷ []) (the_files.names old) (the_files.names new) (o.opens - 1)) same a.opened;
+        opened = subst (λ (o : Answer). OpensFirst (s.input ∷ []) (the_files.names old) (the_files.names new) (o.opens - 1)) same a.opened;
       };
 }
 
-module _ {F : Type 0} (the_files : files.Ghosts F) (frame : Frame) (budget : ℕ) (text name : List ℕ) (old : F) where
-  no_memory : AnswersText the_files frame budget text name old old (Err failure.NoMemory)
+module _ {F : Type 0} (the_files : files.Ghosts F) (s : RunSettings) (text : List ℕ) (old : F) where
+  no_memory : AnswersText the_files s text old old (Err failure.NoMemory)
   no_memory = let r = every_text_is_read text in record {
     reading = r.reading;
     read = r.read;
-    answers = no_code the_files frame name old _;
+    answers = no_code the_files s.frame s.input old _;
   }
 
   -- the text is refused, and no file is opened
-  pub text_refused : (f : Failure) → IsFailureOf text f → AnswersText the_files frame budget text name old old (Err f)
+  pub text_refused : (f : Failure) → IsFailureOf text f → AnswersText the_files s text old old (Err f)
   text_refused (failure.Refused r) read = record {
     reading = refused r;
     read = read;
-    answers = answers_unopened the_files frame name old _ (failure.Refused r) (λ cut. refl);
+    answers = answers_unopened the_files s.frame s.input old _ (failure.Refused r) (λ cut. refl);
   }
   text_refused failure.NoMemory h = no_memory
   text_refused failure.Usage h = absurd h
   text_refused (failure.Faulted n f) h = absurd h
+  text_refused (failure.Lost n) h = absurd h
   text_refused (failure.Damaged b) h = absurd h
   text_refused (failure.Limit b) h = absurd h
   text_refused failure.ReadFailed h = absurd h
@@ -215,15 +297,16 @@ module _ {F : Type 0} (the_files : files.Ghosts F) (frame : Frame) (budget : ℕ
 
   -- the text's statements are refused
   pub statements_refused : (ss : Stms) (f : Failure) → IsShort text → HasStatements text ss → IsFailureOn (checked ss) f
-      → AnswersText the_files frame budget text name old old (Err f)
+      → AnswersText the_files s text old old (Err f)
   statements_refused ss (failure.Refused r) short has h = record {
     reading = spells ss;
     read = (short, has);
-    answers = answers_unopened the_files frame name old _ (failure.Refused r) (λ cut. ap (outcome_of_checked_run budget cut) h);
+    answers = answers_unopened the_files s.frame s.input old _ (failure.Refused r) (λ cut. ap (outcome_of_checked_run s cut) h);
   }
   statements_refused ss failure.NoMemory short has h = no_memory
   statements_refused ss failure.Usage short has h = absurd h
   statements_refused ss (failure.Faulted n f) short has h = absurd h
+  statements_refused ss (failure.Lost n) short has h = absurd h
   statements_refused ss (failure.Damaged b) short has h = absurd h
   statements_refused ss (failure.Limit b) short has h = absurd h
   statements_refused ss failure.ReadFailed short has h = absurd h
@@ -239,6 +322,7 @@ module _ (text : List ℕ) where
   check_unread failure.NoMemory h = check_no_memory
   check_unread failure.Usage h = absurd h
   check_unread (failure.Faulted n f) h = absurd h
+  check_unread (failure.Lost n) h = absurd h
   check_unread (failure.Damaged b) h = absurd h
   check_unread (failure.Limit b) h = absurd h
   check_unread failure.ReadFailed h = absurd h
@@ -250,6 +334,7 @@ module _ (text : List ℕ) where
   check_fails ss failure.NoMemory short has h = check_no_memory
   check_fails ss failure.Usage short has h = absurd h
   check_fails ss (failure.Faulted n f) short has h = absurd h
+  check_fails ss (failure.Lost n) short has h = absurd h
   check_fails ss (failure.Damaged b) short has h = absurd h
   check_fails ss (failure.Limit b) short has h = absurd h
   check_fails ss failure.ReadFailed short has h = absurd h

@@ -1,12 +1,13 @@
 mod AnswerLemmas
-mod BudgetLemmas
+mod BoundsLemmas
 mod EndingLemmas
 mod JudgeLemmas
 mod JudgementLemmas
 mod MainLemmas
 mod OpeningLemmas
+mod RoundsLemmas
 mod RunningLemmas
 mod SettingsLemmas
-mod TablesLemmas
+mod ShardLemmas
 mod TakenLemmas
 mod UnbuiltLemmas

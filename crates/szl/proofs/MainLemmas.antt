@@ -13,7 +13,7 @@ use Rattle.sz_io.specs.declared.sink.Sink as sink
 use Rattle.szl.specs.declared.status.Status.{Status}
 use Rattle.szl.specs.declared.status.Status.TheVariants as status
 use Rattle.szl.specs.declared.failure.Failure.{Failure}
-use Rattle.szl.specs.declared.failure.Failure.TheVariants.{Usage, Refused, Faulted, Damaged, Limit, ReadFailed, WriteFailed, NoMemory}
+use Rattle.szl.specs.declared.failure.Failure.TheVariants.{Usage, Refused, Faulted, Lost, Damaged, Limit, ReadFailed, WriteFailed, NoMemory}
 use Rattle.szl.specs.Failing.{status_of, line_of_failure}
 use Rattle.szl.specs.Opening.{Decides, Answers}
 use Rattle.szl.specs.Outcome.{Answer, outcome, success}
@@ -48,6 +48,7 @@ fits_error : (answer : Answer) (f : Failure) (rose : Type 0) (old new : Option (
 fits_error answer Usage rose old new decides h = record { status_is = sym (ap (λ (a : Answer). a.status) decides); output = h }
 fits_error answer (Refused r) rose old new decides h = record { status_is = sym (ap (λ (a : Answer). a.status) decides); output = h }
 fits_error answer (Faulted n fault) rose old new decides h = record { status_is = sym (ap (λ (a : Answer). a.status) decides); output = h }
+fits_error answer (Lost n) rose old new decides h = record { status_is = sym (ap (λ (a : Answer). a.status) decides); output = h }
 fits_error answer (Damaged byte) rose old new decides h = record { status_is = sym (ap (λ (a : Answer). a.status) decides); output = h }
 fits_error answer (Limit byte) rose old new decides h = record { status_is = sym (ap (λ (a : Answer). a.status) decides); output = h }
 fits_error answer ReadFailed rose old new decides h = record { status_is = decides.1; output = h }
@@ -67,6 +68,7 @@ fits_failure answer NoMemory (Ok output) rose old new decides printed =
 fits_failure answer Usage (Ok output) rose old new decides printed = absurd printed
 fits_failure answer (Refused r) (Ok output) rose old new decides printed = absurd printed
 fits_failure answer (Faulted n fault) (Ok output) rose old new decides printed = absurd printed
+fits_failure answer (Lost n) (Ok output) rose old new decides printed = absurd printed
 fits_failure answer (Damaged byte) (Ok output) rose old new decides printed = absurd printed
 fits_failure answer (Limit byte) (Ok output) rose old new decides printed = absurd printed
 fits_failure answer ReadFailed (Ok output) rose old new decides printed = absurd printed
@@ -75,6 +77,7 @@ line_error : (answer : Answer) (f : Failure) (rose : Type 0) → Decides (Err f)
 line_error answer Usage rose decides = sym (ap (λ (a : Answer). a.line) decides)
 line_error answer (Refused r) rose decides = sym (ap (λ (a : Answer). a.line) decides)
 line_error answer (Faulted n fault) rose decides = sym (ap (λ (a : Answer). a.line) decides)
+line_error answer (Lost n) rose decides = sym (ap (λ (a : Answer). a.line) decides)
 line_error answer (Damaged byte) rose decides = sym (ap (λ (a : Answer). a.line) decides)
 line_error answer (Limit byte) rose decides = sym (ap (λ (a : Answer). a.line) decides)
 line_error answer ReadFailed rose decides = refl
@@ -92,6 +95,7 @@ line_is answer NoMemory (Ok output) rose old new decides printed = refl
 line_is answer Usage (Ok output) rose old new decides printed = absurd printed
 line_is answer (Refused r) (Ok output) rose old new decides printed = absurd printed
 line_is answer (Faulted n fault) (Ok output) rose old new decides printed = absurd printed
+line_is answer (Lost n) (Ok output) rose old new decides printed = absurd printed
 line_is answer (Damaged byte) (Ok output) rose old new decides printed = absurd printed
 line_is answer (Limit byte) (Ok output) rose old new decides printed = absurd printed
 line_is answer ReadFailed (Ok output) rose old new decides printed = absurd printed
@@ -108,6 +112,7 @@ fits_no_memory answer NoMemory (Ok output) rose old new decides printed =
 fits_no_memory answer Usage (Ok output) rose old new decides printed = absurd printed
 fits_no_memory answer (Refused r) (Ok output) rose old new decides printed = absurd printed
 fits_no_memory answer (Faulted n fault) (Ok output) rose old new decides printed = absurd printed
+fits_no_memory answer (Lost n) (Ok output) rose old new decides printed = absurd printed
 fits_no_memory answer (Damaged byte) (Ok output) rose old new decides printed = absurd printed
 fits_no_memory answer (Limit byte) (Ok output) rose old new decides printed = absurd printed
 fits_no_memory answer ReadFailed (Ok output) rose old new decides printed = absurd printed
@@ -140,6 +145,7 @@ alone_failure answer NoMemory (Ok output) rose told told_now old new decides pri
 alone_failure answer Usage (Ok output) rose told told_now old new decides printed nothing = absurd printed
 alone_failure answer (Refused r) (Ok output) rose told told_now old new decides printed nothing = absurd printed
 alone_failure answer (Faulted n fault) (Ok output) rose told told_now old new decides printed nothing = absurd printed
+alone_failure answer (Lost n) (Ok output) rose told told_now old new decides printed nothing = absurd printed
 alone_failure answer (Damaged byte) (Ok output) rose told told_now old new decides printed nothing = absurd printed
 alone_failure answer (Limit byte) (Ok output) rose told told_now old new decides printed nothing = absurd printed
 alone_failure answer ReadFailed (Ok output) rose told told_now old new decides printed nothing = absurd printed

@@ -13,7 +13,6 @@ use Rattle.sz_world.specs.World.{Fault, Done, Faulted}
 use Rattle.sz_world.specs.World as world
 use Rattle.sz_world.specs.Slots.{Slot}
 use Rattle.sz_mean.specs.Programs.{statics}
-use Rattle.sz_mean.specs.Records.{Records, Emitted, FaultedAt, mean_all}
 use Rattle.sz_records.specs.declared.ending.Ending.{Ending}
 use Rattle.sz_records.specs.declared.ending.Ending.TheVariants.{Whole, Damaged, Limit}
 use Rattle.sz_words.specs.declared.settings.RunSettings.{RunSettings}
@@ -26,7 +25,7 @@ use Rattle.szl.specs.declared.status.Status.TheVariants as status
 use Rattle.szl.specs.declared.failure.Failure.{Failure}
 use Rattle.szl.specs.declared.failure.Failure.TheVariants as failure
 use Rattle.szl.specs.Opening.{ReadsText, ran_out, past_program, Decides, Answers, AnswersText, AnswersCheck}
-use Rattle.szl.specs.Outcome.{Answer, outcome_of_records, outcome_of_statics, outcome_of_checked_run, outcome_of_run}
+use Rattle.szl.specs.Outcome.{Answer, outcome_of_shards, outcome_of_statics, outcome_of_checked_run, outcome_of_run}
 use Rattle.szl.specs.Outcome.{outcome_of_check, outcome_of_checked, outcome_of_settings, outcome_refused}
 use Rattle.szl.specs.declared.refusal.Refusal.{Refusal}
 use Rattle.szl.specs.Checking.{checked}
@@ -35,6 +34,8 @@ use Rattle.szl.specs.Judgement as readings
 use Rattle.szl.specs.Judging.{IsFailureOf, failure_of_words}
 use Rattle.szl.specs.Promise.{OpensFirst, names_asked, AreHeld, AreReadToEnd}
 use Rattle.szl.specs.Records.{Cut}
+use Rattle.szl.specs.Shards.{shards_in, job_of}
+use Rattle.sz_workers.specs.Outcomes.{ShardsEnd, emitted, faulted, lost, outcome_of}
 use Rattle.szl.specs.Settings.{frame_asked, is_built, built, asked_in}
 use Rattle.szl.proofs.JudgementLemmas.{every_text_is_read}
 use Rattle.szl.proofs.OpeningLemmas.{holds_or}
@@ -45,27 +46,29 @@ record IsAnswered (a : Answer) : Type 0 where
   opens : 1 ≤ a.opens
   other : a.status ≢ status.Usage
 
-answered_records : (program : Core) (ending : Ending) (r : Records) → IsAnswered (outcome_of_records program ending r)
-answered_records program Whole (Emitted es) = record { opens = omega arith; other = λ e. cc }
-answered_records program (Damaged b) (Emitted es) = record { opens = omega arith; other = λ e. cc }
-answered_records program (Limit b) (Emitted es) = record { opens = omega arith; other = λ e. cc }
-answered_records program ending (FaultedAt zero f) = record { opens = omega arith; other = λ e. cc }
-answered_records program ending (FaultedAt (suc k) f) = record { opens = omega arith; other = λ e. cc }
+answered_shards : (program : Core) (ending : Ending) (o : ShardsEnd) → IsAnswered (outcome_of_shards program ending o)
+answered_shards program Whole (emitted es) = record { opens = omega arith; other = λ e. cc }
+answered_shards program (Damaged b) (emitted es) = record { opens = omega arith; other = λ e. cc }
+answered_shards program (Limit b) (emitted es) = record { opens = omega arith; other = λ e. cc }
+answered_shards program ending (faulted zero f) = record { opens = omega arith; other = λ e. cc }
+answered_shards program ending (faulted (suc k) f) = record { opens = omega arith; other = λ e. cc }
+answered_shards program ending (lost n) = record { opens = omega arith; other = λ e. cc }
 
-answered_statics : (program : Core) (budget : ℕ) (cut : Cut) (o : world.Outcome (List Slot)) → IsAnswered (outcome_of_statics program budget cut o)
-answered_statics program budget cut (Faulted f) = record { opens = omega arith; other = λ e. cc }
-answered_statics program budget cut (Done slots) = answered_records program cut.ending (mean_all program slots budget cut.records)
+answered_statics : (program : Core) (s : RunSettings) (cut : Cut) (o : world.Outcome (List Slot)) → IsAnswered (outcome_of_statics program s cut o)
+answered_statics program s cut (Faulted f) = record { opens = omega arith; other = λ e. cc }
+answered_statics program s cut (Done slots) =
+    answered_shards program cut.ending (outcome_of (job_of program slots s) (shards_in s.shard cut.records))
 
 answered_refused : (r : Refusal) → IsAnswered (outcome_refused r)
 answered_refused r = record { opens = omega arith; other = λ e. cc }
 
-answered_checked_run : (budget : ℕ) (cut : Cut) (found : Result Core Refusal) → IsAnswered (outcome_of_checked_run budget cut found)
-answered_checked_run budget cut (Ok p) = answered_statics p budget cut (statics p budget)
-answered_checked_run budget cut (Err r) = answered_refused r
+answered_checked_run : (s : RunSettings) (cut : Cut) (found : Result Core Refusal) → IsAnswered (outcome_of_checked_run s cut found)
+answered_checked_run s cut (Ok p) = answered_statics p s cut (statics no_messages p s.budget)
+answered_checked_run s cut (Err r) = answered_refused r
 
-answered_run : (budget : ℕ) (cut : Cut) (reading : Reading) → IsAnswered (outcome_of_run budget cut reading)
-answered_run budget cut (readings.refused r) = answered_refused r
-answered_run budget cut (spells ss) = answered_checked_run budget cut (checked ss)
+answered_run : (s : RunSettings) (cut : Cut) (reading : Reading) → IsAnswered (outcome_of_run s cut reading)
+answered_run s cut (readings.refused r) = answered_refused r
+answered_run s cut (spells ss) = answered_checked_run s cut (checked ss)
 
 answered_checked : (found : Result Core Refusal) → IsAnswered (outcome_of_checked found)
 answered_checked (Ok p) = record { opens = omega arith; other = λ e. cc }
@@ -81,7 +84,7 @@ pub data NamesProgram : Settings → List ℕ → Type 0 where
   of_check : (program : List ℕ) → NamesProgram (Check program) program
 
 answered : (s : Settings) (name : List ℕ) → NamesProgram s name → (reading : Reading) (cut : Cut) → IsAnswered (outcome_of_settings (Some s) reading cut)
-answered _ _ (of_run s) reading cut = answered_run s.budget cut reading
+answered _ _ (of_run s) reading cut = answered_run s cut reading
 answered _ _ (of_check program) reading cut = answered_check reading
 
 -- a text past the limit is read as refused
@@ -98,6 +101,7 @@ decides_since (Err failure.NoMemory) outcome later since rose h = h
 decides_since (Err failure.Usage) outcome later since rose h = h
 decides_since (Err (failure.Refused r)) outcome later since rose h = h
 decides_since (Err (failure.Faulted n f)) outcome later since rose h = h
+decides_since (Err (failure.Lost n)) outcome later since rose h = h
 decides_since (Err (failure.Damaged b)) outcome later since rose h = h
 decides_since (Err (failure.Limit b)) outcome later since rose h = h
 
@@ -235,6 +239,7 @@ module _ {F : Type 0} (the_files : files.Ghosts F) (s : Settings) (name : List �
       failed_on reads.text r.reading r.read reads.holds (Err failure.NoMemory) (λ cut. tt) (λ most le. gained_first s name n _ _ most le gains)
   text_fails failure.Usage reads gains = let e = reads.tells.0 in absurd (cc)
   text_fails (failure.Faulted k f) reads gains = let e = reads.tells.0 in absurd (cc)
+  text_fails (failure.Lost n) reads gains = let e = reads.tells.0 in absurd (cc)
   text_fails (failure.Damaged b) reads gains = let e = reads.tells.0 in absurd (cc)
   text_fails (failure.Limit b) reads gains = let e = reads.tells.0 in absurd (cc)
   text_fails failure.WriteFailed reads gains = let e = reads.tells.0 in absurd (cc)
@@ -252,11 +257,11 @@ both_when_ok (Err error) f p q = tt
 pub text_read : {F : Type 0} (the_files : files.Ghosts F) (s : RunSettings) (name : List ℕ) → name ≡ s.program → (old mid new : F) (bytes : List ℕ)
     (answer : Result (List ℕ) Failure) (rose : Type 0) → ReadsText (the_files.held old name) most_program_bytes past_program rose (Ok bytes)
     → the_files.names mid ≡ the_files.names old ++ name ∷ [] → KeepsFiles the_files.held the_files.left the_files.given the_files.faults old mid
-    → AnswersText the_files s.frame s.budget bytes s.input mid new answer → Answers the_files (Some (Run s)) old new answer
+    → AnswersText the_files s bytes mid new answer → Answers the_files (Some (Run s)) old new answer
 text_read the_files s name is old mid new bytes answer rose reads names keeps t =
     let a = t.answers in
-    let o = outcome_of_run s.budget a.cut t.reading in
-    let some = (answered_run s.budget a.cut t.reading).opens in
+    let o = outcome_of_run s a.cut t.reading in
+    let some = (answered_run s a.cut t.reading).opens in
     let one : suc a.opened.count ≤ o.opens = omega (arith, some, a.opened.within) in
     let named = names ∙ ap (λ n. the_files.names old ++ n ∷ []) is in
     let next : the_files.names new ≡ the_files.names old ++ take (suc a.opened.count) (s.program ∷ s.input ∷ []) =

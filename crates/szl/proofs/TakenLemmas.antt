@@ -1,14 +1,6 @@
 -- The front of a list that a loop has gone over, with one item more.
 use Rattle.std.proofs.Common.{◌≡◌, ℕ, zero, suc, ◌+◌, ◌<◌, ◌≤◌, List, [], ◌∷◌, ◌++◌, length, get_or, take, drop, refl, sym, ap, ◌∙◌, arith}
 
-taken_suc : {A : Type 0} (xs : List A) (i : ℕ) (x : A) → i < length xs → x ≡ get_or xs i x → take (suc i) xs ≡ take i xs ++ x ∷ []
-taken_suc [] i x there is = absurd (omega arith)
-taken_suc (y ∷ xs) zero x there is = ap (λ z. z ∷ []) (sym is)
-taken_suc (y ∷ xs) (suc i) x there is = ap (λ zs. y ∷ zs) (taken_suc xs i x (omega arith) is)
-
-pub taken_more : {A : Type 0} (xs : List A) (i : ℕ) (x : A) → i < length xs → x ≡ get_or xs i x → take (i + 1) xs ≡ take i xs ++ x ∷ []
-taken_more xs i x there is = let e : i + 1 ≡ suc i = omega arith in ap (λ n. take n xs) e ∙ taken_suc xs i x there is
-
 -- the items from one on
 pub from_place : {A : Type 0} (xs : List A) (i : ℕ) (x : A) → i < length xs → x ≡ get_or xs i x → drop i xs ≡ x ∷ drop (suc i) xs
 from_place [] i x there is = absurd (omega arith)

@@ -1,4 +1,4 @@
--- The budget that a command line asks for is one that a record can have.
+-- What a command line asks for of a run has its bounds.
 use Rattle.std.proofs.Common.{◌≡◌, ℕ, ◌^◌, ◌-◌, ◌≤◌, List, [], ◌∷◌, Bool, true, false, Option, Some, None, refl, subst, arith, length}
 use Rattle.std.specs.Prelude.{IfSome, nat_le, nat_eq, not, ◌&&◌, if◌then◌else◌, option_map, bytes_eq, codes}
 use Rattle.std.specs.Option.{option_and_then}
@@ -13,7 +13,7 @@ use Rattle.sz_words.specs.Texts.{number_in}
 use Rattle.sz_words.specs.Parts.{Parts, parts_of, values_of}
 use Rattle.sz_words.specs.Settings.{Values, value_of, frame_in, number_or, numbers_in, kills_or_none, shards_or_none, run_with, stand_once, files_in, are_absent, run_settings}
 use Rattle.sz_words.specs.Settings.{check_settings, selftest_settings, command_settings, settings_in}
-use Rattle.szl.specs.Settings.{HasBudget}
+use Rattle.szl.specs.Settings.{HasBounds, IsBounded}
 
 -- what holds of whatever is made of something, if it is there
 if_made : {A B : Type 0} (P : B → Type 0) (f : A → Option B) (o : Option A) → ((a : A) → IfSome (f a) P) → IfSome (option_and_then f o) P
@@ -61,6 +61,14 @@ number_within : (default least most : ℕ) → least ≤ default → default ≤
 number_within default least most low high None = (low, high)
 number_within default least most low high (Some word) = in_range least most _ _ _
 
+-- the numbers of a run have the bounds of settings
+record NumbersHaveBounds (n : Numbers) : Type 0 where
+  least_budget : 1 ≤ n.budget
+  most_budget : n.budget ≤ 2 ^ 32
+  shard : 1 ≤ n.shard
+  least_attempts : 1 ≤ n.attempts
+  most_attempts : n.attempts ≤ 8
+
 -- what is asked for, part by part
 module _ (given : Values) where
   abbrev with_budget : Frame → (workers shard attempts budget : ℕ) → Option Numbers
@@ -80,16 +88,25 @@ module _ (given : Values) where
   abbrev with_frame : Frame → Option Numbers
   with_frame frame = option_and_then (with_workers frame) (number_or 4 1 64 (value_of given (codes "workers")))
 
-  -- the budget among the numbers of a run
-  numbers_within : IfSome (numbers_in given) (λ (n : Numbers). InRange 1 (2 ^ 32) n.budget)
+  -- the numbers of a run
+  numbers_within : IfSome (numbers_in given) NumbersHaveBounds
   numbers_within =
-      let P : Numbers → Type 0 = λ n. InRange 1 (2 ^ 32) n.budget in
+      let P : Numbers → Type 0 = NumbersHaveBounds in
       if_made P with_frame (frame_in (value_of given (codes "frame"))) (λ frame.
       if_made P (with_workers frame) (number_or 4 1 64 (value_of given (codes "workers"))) (λ workers.
-      if_made P (with_shard frame workers) (number_or 1000 1 65536 (value_of given (codes "shard"))) (λ shard.
-      if_made P (with_attempts frame workers shard) (number_or 3 1 8 (value_of given (codes "attempts"))) (λ attempts.
+      if_made_of P (InRange 1 65536) (with_shard frame workers) (number_or 1000 1 65536 (value_of given (codes "shard")))
+      (number_within 1000 1 65536 (omega arith) (omega arith) (value_of given (codes "shard"))) (λ shard of_shard.
+      if_made_of P (InRange 1 8) (with_attempts frame workers shard) (number_or 3 1 8 (value_of given (codes "attempts")))
+      (number_within 3 1 8 (omega arith) (omega arith) (value_of given (codes "attempts"))) (λ attempts of_attempts.
       if_made_of P (InRange 1 (2 ^ 32)) (with_budget frame workers shard attempts) (number_or (2 ^ 24) 1 (2 ^ 32) (value_of given (codes "budget")))
-      (number_within (2 ^ 24) 1 (2 ^ 32) (omega arith) (omega arith) (value_of given (codes "budget"))) (λ budget within. within)))))
+      (number_within (2 ^ 24) 1 (2 ^ 32) (omega arith) (omega arith) (value_of given (codes "budget"))) (λ budget of_budget.
+      record {
+        least_budget = of_budget.0;
+        most_budget = of_budget.1;
+        shard = of_shard.0;
+        least_attempts = of_attempts.0;
+        most_attempts = of_attempts.1;
+      })))))
 
   module _ (program input : List ℕ) where
     abbrev with_twice : Numbers → List Kill → List ℕ → Option RunSettings
@@ -111,29 +128,34 @@ module _ (given : Values) where
     abbrev with_numbers : Numbers → Option RunSettings
     with_numbers numbers = option_and_then (with_kills numbers) (kills_or_none (value_of given (codes "kill")))
 
-    run_within : IfSome (run_with given program input) (λ (s : RunSettings). InRange 1 (2 ^ 32) s.budget)
+    run_within : IfSome (run_with given program input) HasBounds
     unfolding run_with
     run_within =
-        let P : RunSettings → Type 0 = λ s. InRange 1 (2 ^ 32) s.budget in
-        if_made_of P (λ (n : Numbers). InRange 1 (2 ^ 32) n.budget) with_numbers (numbers_in given) numbers_within (λ numbers within.
-        if_made P (with_kills numbers) (kills_or_none (value_of given (codes "kill"))) (λ kills.
-        if_made P (with_twice numbers kills) (shards_or_none (value_of given (codes "twice"))) (λ twice. within)))
+        if_made_of HasBounds NumbersHaveBounds with_numbers (numbers_in given) numbers_within (λ numbers within.
+        if_made HasBounds (with_kills numbers) (kills_or_none (value_of given (codes "kill"))) (λ kills.
+        if_made HasBounds (with_twice numbers kills) (shards_or_none (value_of given (codes "twice"))) (λ twice. record {
+          least_budget = within.least_budget;
+          most_budget = within.most_budget;
+          shard = within.shard;
+          least_attempts = within.least_attempts;
+          most_attempts = within.most_attempts;
+        })))
 
   abbrev for_files : List ℕ × List ℕ → Option Settings
   for_files files = option_map Run (run_with given files.0 files.1)
 
-  run_settings_within : (names : List (List ℕ)) → IfSome (run_settings given names) HasBudget
+  run_settings_within : (names : List (List ℕ)) → IfSome (run_settings given names) IsBounded
   run_settings_within names =
-      if_chosen HasBudget (stand_once given) (option_and_then for_files (files_in names)) None
-      (if_made HasBudget for_files (files_in names) (λ files.
-      if_mapped HasBudget Run (run_with given files.0 files.1) (run_within files.0 files.1))) tt
+      if_chosen IsBounded (stand_once given) (option_and_then for_files (files_in names)) None
+      (if_made IsBounded for_files (files_in names) (λ files.
+      if_mapped IsBounded Run (run_with given files.0 files.1) (run_within files.0 files.1))) tt
 
-check_within : (given : Values) (names : List (List ℕ)) → IfSome (check_settings given names) HasBudget
+check_within : (given : Values) (names : List (List ℕ)) → IfSome (check_settings given names) IsBounded
 check_within given [] = tt
-check_within given (program ∷ []) = if_chosen HasBudget (are_absent given && not (nat_eq (length program) 0)) (Some (Check program)) None tt tt
+check_within given (program ∷ []) = if_chosen IsBounded (are_absent given && not (nat_eq (length program) 0)) (Some (Check program)) None tt tt
 check_within given (program ∷ more ∷ names) = tt
 
-selftest_within : (given : Values) (names : List (List ℕ)) → IfSome (selftest_settings given names) HasBudget
+selftest_within : (given : Values) (names : List (List ℕ)) → IfSome (selftest_settings given names) IsBounded
 selftest_within given [] = tt
 selftest_within given (a ∷ []) = tt
 selftest_within given (a ∷ b ∷ []) = tt
@@ -141,26 +163,26 @@ selftest_within given (a ∷ b ∷ c ∷ []) =
     let with_workers : ℕ → ℕ → ℕ → Option Settings = λ s r w. Some (Selftest s r w) in
     let with_records : ℕ → ℕ → Option Settings = λ s r. option_and_then (with_workers s r) (number_in 1 64 c) in
     let with_seed : ℕ → Option Settings = λ s. option_and_then (with_records s) (number_in 0 1000000 b) in
-    if_chosen HasBudget (are_absent given) (option_and_then with_seed (number_in 0 (2 ^ 63 - 1) a)) None
-    (if_made HasBudget with_seed (number_in 0 (2 ^ 63 - 1) a) (λ s.
-    if_made HasBudget (with_records s) (number_in 0 1000000 b) (λ r.
-    if_made HasBudget (with_workers s r) (number_in 1 64 c) (λ w. tt)))) tt
+    if_chosen IsBounded (are_absent given) (option_and_then with_seed (number_in 0 (2 ^ 63 - 1) a)) None
+    (if_made IsBounded with_seed (number_in 0 (2 ^ 63 - 1) a) (λ s.
+    if_made IsBounded (with_records s) (number_in 0 1000000 b) (λ r.
+    if_made IsBounded (with_workers s r) (number_in 1 64 c) (λ w. tt)))) tt
 selftest_within given (a ∷ b ∷ c ∷ d ∷ names) = tt
 
-command_within : (command : List ℕ) (given : Values) (names : List (List ℕ)) → IfSome (command_settings command given names) HasBudget
+command_within : (command : List ℕ) (given : Values) (names : List (List ℕ)) → IfSome (command_settings command given names) IsBounded
 command_within command given names =
     let selftest = if bytes_eq command (codes "selftest") then selftest_settings given names else None in
     let check = if bytes_eq command (codes "check") then check_settings given names else selftest in
-    if_chosen HasBudget (bytes_eq command (codes "run")) (run_settings given names) check (run_settings_within given names)
-    (if_chosen HasBudget (bytes_eq command (codes "check")) (check_settings given names) selftest (check_within given names)
-    (if_chosen HasBudget (bytes_eq command (codes "selftest")) (selftest_settings given names) None (selftest_within given names) tt))
+    if_chosen IsBounded (bytes_eq command (codes "run")) (run_settings given names) check (run_settings_within given names)
+    (if_chosen IsBounded (bytes_eq command (codes "check")) (check_settings given names) selftest (check_within given names)
+    (if_chosen IsBounded (bytes_eq command (codes "selftest")) (selftest_settings given names) None (selftest_within given names) tt))
 
-words_within : (words : List (List ℕ)) → IfSome (settings_in words) HasBudget
+words_within : (words : List (List ℕ)) → IfSome (settings_in words) IsBounded
 words_within [] = tt
 words_within (command ∷ words) =
-    if_made HasBudget (λ (parts : Parts). command_settings command (λ name. values_of name parts.options) parts.names) (parts_of words)
+    if_made IsBounded (λ (parts : Parts). command_settings command (λ name. values_of name parts.options) parts.names) (parts_of words)
     (λ parts. command_within command (λ name. values_of name parts.options) parts.names)
 
--- the settings of words have a budget that a record can have
-pub has_budget : (words : List (List ℕ)) (s : Settings) → settings_in words ≡ Some s → HasBudget s
-has_budget words s is = subst (λ o. IfSome o HasBudget) is (words_within words)
+-- the settings of words have their bounds
+pub is_bounded : (words : List (List ℕ)) (s : Settings) → settings_in words ≡ Some s → IsBounded s
+is_bounded words s is = subst (λ o. IfSome o IsBounded) is (words_within words)

@@ -1,0 +1,159 @@
+-- The sizes of an input's shards, and the shards that have them.
+use Rattle.std.proofs.Common.{◌≡◌, ◌⊎◌, inl, inr, ℕ, zero, suc, ◌+◌, ◌-◌, ◌^◌, ◌<◌, ◌≤◌, List, [], ◌∷◌, ◌++◌, length, take, drop, Bool, true, false}
+use Rattle.std.proofs.Common.{refl, sym, ap, ◌∙◌, subst, arith, append-nil, append_assoc, length-append}
+use Rattle.std.specs.Prelude.{nat_le, ◌||◌, if◌then◌else◌}
+use Rattle.std.specs.List.{sum_by}
+use Rattle.std.proofs.lemmas.Bool.Decides.{nat_tests}
+use Rattle.sz_records.specs.Shards.{AreShards, IsShard, IsFull, bytes_in}
+use Rattle.sz_attempt.specs.declared.job.Shard.{Shard}
+use Rattle.sz_workers.specs.Outcomes.{all_records}
+use Rattle.sz_workers.specs.Cuts.{AreCut, ranges_of, cut_into, MakesRounds}
+use Rattle.sz_workers.specs.Rounds.{numbered}
+use Rattle.sz_records.specs.Shards.{ShardsAreUnique}
+use Rattle.szl.specs.Rounds.{AreShardsIn}
+use Rattle.szl.specs.Shards.{last_size, sizes_behind, shard_sizes, shards_in}
+
+take_front : {A : Type 0} (xs ys : List A) (m : ℕ) → m ≤ length xs → take m (xs ++ ys) ≡ take m xs
+take_front xs ys zero le = refl
+take_front [] ys (suc m) le = absurd (omega arith)
+take_front (x ∷ xs) ys (suc m) le = ap (λ zs. x ∷ zs) (take_front xs ys m (omega arith))
+
+take_whole : {A : Type 0} (xs ys : List A) → take (length xs) (xs ++ ys) ≡ xs
+take_whole [] ys = refl
+take_whole (x ∷ xs) ys = ap (λ zs. x ∷ zs) (take_whole xs ys)
+
+drop_front : {A : Type 0} (xs ys : List A) → drop (length xs) (xs ++ ys) ≡ ys
+drop_front [] ys = refl
+drop_front (x ∷ xs) ys = drop_front xs ys
+
+bytes_of_both : (xs : List (List ℕ)) (r : List ℕ) → bytes_in (xs ++ r ∷ []) ≡ bytes_in xs + length r
+bytes_of_both [] r = omega arith
+bytes_of_both (x ∷ xs) r = let rest = bytes_of_both xs r in omega (arith, rest)
+
+at_most : (a b : ℕ) → nat_le a b ≡ true → a ≤ b
+at_most a b e = grind (arith, nat_tests)
+
+not_at_most : (a b : ℕ) → nat_le a b ≡ false → b < a
+not_at_most a b e = grind (arith, nat_tests)
+
+-- no front of these records is full
+abbrev NoneFull : ℕ → List (List ℕ) → Type 0
+NoneFull most front = (m : ℕ) → m ≤ length front → ¬ IsFull most (take m front)
+
+module _ (most : ℕ) where
+  shard_behind : (front rs : List (List ℕ)) → NoneFull most front → AreShards most (front ++ rs) (sizes_behind most (length front) (bytes_in front) rs)
+  shard_behind [] [] none = refl
+  shard_behind (x ∷ xs) [] none =
+      let all = append-nil (x ∷ xs) in
+      (
+        record {
+          some = omega arith;
+          within = omega (arith, length-append (x ∷ xs) []);
+          shortest = λ m less full. none m (omega (arith, less)) (subst (λ l. IsFull most (take m l)) all full);
+          ends = inr (ap length (sym all));
+        },
+        drop_front (x ∷ xs) [],
+      )
+  shard_behind front (r ∷ rs) none =
+      by (nat_le most (suc (length front))) (nat_le (2 ^ 24) (bytes_in front + length r)) refl refl
+    where
+      longer : List (List ℕ)
+      longer = front ++ r ∷ []
+
+      long : length longer ≡ suc (length front)
+      long = omega (arith, length-append front (r ∷ []))
+
+      same : longer ++ rs ≡ front ++ r ∷ rs
+      same = append_assoc front (r ∷ []) rs
+
+      this : IsFull most longer → IsShard most (front ++ r ∷ rs) (suc (length front))
+      this full = record {
+        some = omega arith;
+        within = omega (arith, length-append front (r ∷ rs));
+        shortest = λ m less is. none m (omega (arith, less)) (subst (IsFull most) (take_front front (r ∷ rs) m (omega (arith, less))) is);
+        ends = inl (subst (IsFull most)
+            (sym (ap (λ n. take n (front ++ r ∷ rs)) (sym long) ∙ ap (take (length longer)) (sym same) ∙ take_whole longer rs)) full);
+      }
+
+      rest : AreShards most (drop (suc (length front)) (front ++ r ∷ rs)) (sizes_behind most 0 0 rs)
+      rest =
+          let left = ap (λ n. drop n (front ++ r ∷ rs)) (sym long) ∙ ap (drop (length longer)) (sym same) ∙ drop_front longer rs in
+          subst (λ l. AreShards most l (sizes_behind most 0 0 rs)) (sym left) (shard_behind [] rs none_empty)
+        where
+          none_empty : NoneFull most []
+          none_empty zero le = none 0 (omega arith)
+          none_empty (suc m) le = absurd (omega arith)
+
+      by : (a b : Bool) → nat_le most (suc (length front)) ≡ a → nat_le (2 ^ 24) (bytes_in front + length r) ≡ b
+          → AreShards most (front ++ r ∷ rs)
+          (if a || b then suc (length front) ∷ sizes_behind most 0 0 rs else sizes_behind most (suc (length front)) (bytes_in front + length r) rs)
+      by true b is js = let le = at_most most (suc (length front)) is in (this (inl (omega (arith, le, long))), rest)
+      by false true is js =
+          let le = at_most (2 ^ 24) (bytes_in front + length r) js in (this (inr (omega (arith, le, bytes_of_both front r))), rest)
+      by false false is js =
+          let few = not_at_most most (suc (length front)) is in
+          let light = not_at_most (2 ^ 24) (bytes_in front + length r) js in
+          subst (λ l. AreShards most l (sizes_behind most (suc (length front)) (bytes_in front + length r) rs)) same
+          (subst (λ n. AreShards most (longer ++ rs) (sizes_behind most (suc (length front)) n rs)) (bytes_of_both front r)
+          (subst (λ n. AreShards most (longer ++ rs) (sizes_behind most n (bytes_in longer) rs)) long
+          (shard_behind longer rs (none_longer few light))))
+        where
+          none_longer : suc (length front) < most → bytes_in front + length r < 2 ^ 24 → NoneFull most longer
+          none_longer few light m le = order (nat_le m (length front)) refl
+            where
+              order : (b : Bool) → nat_le m (length front) ≡ b → ¬ IsFull most (take m longer)
+              order true e full =
+                  let less = at_most m (length front) e in none m less (subst (IsFull most) (take_front front (r ∷ []) m less) full)
+              order false e full =
+                  let more = not_at_most m (length front) e in
+                  let here : m ≡ length longer = omega (arith, more, le, long) in
+                  whole (subst (IsFull most) (ap (λ n. take n longer) here ∙ ap (take (length longer)) (sym (append-nil longer)) ∙ take_whole longer []) full)
+                where
+                  whole : IsFull most longer → ⊥
+                  whole (inl le) = absurd (omega (arith, le, few, long))
+                  whole (inr le) = absurd (omega (arith, le, light, bytes_of_both front r))
+
+-- the sizes are those of shards
+pub sizes_are_shards : (most : ℕ) (records : List (List ℕ)) → 1 ≤ most → AreShards most records (shard_sizes most records)
+sizes_are_shards most records low = shard_behind most [] records none
+  where
+    none : NoneFull most []
+    none zero le (inl full) = absurd (omega (arith, full, low))
+    none zero le (inr full) = absurd (omega (arith, full))
+    none (suc m) le full = absurd (omega (arith, le))
+
+length-drop_within : {A : Type 0} (xs : List A) (n : ℕ) → n ≤ length xs → length (drop n xs) + n ≡ length xs
+length-drop_within xs zero le = omega arith
+length-drop_within [] (suc n) le = absurd (omega arith)
+length-drop_within (x ∷ xs) (suc n) le = let rest = length-drop_within xs n (omega arith) in omega (arith, rest)
+
+-- there are no more shards than records
+few_sizes : (most : ℕ) (records : List (List ℕ)) (sizes : List ℕ) → AreShards most records sizes → length sizes ≤ length records
+few_sizes most records [] are = omega arith
+few_sizes most records (n ∷ sizes) are =
+    let rest = few_sizes most (drop n records) sizes are.1 in
+    let left = length-drop_within records n are.0.within in
+    omega (arith, rest, left, are.0.some)
+
+few_ranges : (place first : ℕ) (sizes : List ℕ) → length (ranges_of place first sizes) ≡ length sizes
+few_ranges place first [] = refl
+few_ranges place first (n ∷ sizes) = ap suc (few_ranges (place + n) (first + n) sizes)
+
+-- shards that records are cut into are those of the outcome
+module _ (unique : ShardsAreUnique) (most : ℕ) (records : List (List ℕ)) (shards : List Shard) (low : 1 ≤ most) (cut : AreCut most records shards)
+    (rounds : MakesRounds records shards cut.sizes) where
+  pub cut_is_shards : numbered 0 records shards ≡ shards_in most records
+  cut_is_shards =
+      let same = unique most records cut.sizes (shard_sizes most records) cut.are (sizes_are_shards most records low) in
+      rounds.are 0 ∙ ap (λ sizes. cut_into 0 1 records sizes) same
+
+  pub cut_shards_in : length records ≤ 2 ^ 31 → AreShardsIn records shards
+  cut_shards_in few = record {
+    within = rounds.within;
+    next = rounds.next;
+    few =
+        let most_sizes = few_sizes most records cut.sizes cut.are in
+        omega (arith, few, most_sizes, ap length cut.lie, few_ranges 0 1 cut.sizes);
+    whole = ap all_records (rounds.are 0) ∙ rounds.whole 0;
+    most = few;
+  }
