@@ -19,7 +19,11 @@ use Rattle.sz_records.proofs.CutLaws.{every_file_is_cut}
 use Rattle.sz_run.specs.Ends.{seen_fault}
 use Rattle.sz_words.specs.declared.settings.RunSettings.{RunSettings}
 use Rattle.sz_attempt.specs.declared.job.Job.{Job}
-use Rattle.sz_attempt.specs.Shards.{ShardData}
+use Rattle.sz_attempt.specs.Shards.{ShardData, IsJob}
+use Rattle.sz_core.specs.Sound.{IsSound}
+use Rattle.sz_world.specs.Typed.{AllFit}
+use Rattle.sz_gen_stmt.specs.Simulates.{static_types}
+use Rattle.szl.specs.Settings.{HasBounds}
 use Rattle.sz_attempt.specs.Attempts.{shard_means, is_lost, all_die, dies_at, end_of}
 use Rattle.sz_workers.specs.Outcomes.{ShardsEnd, emitted, faulted, lost, then_shards, outcome_of}
 use Rattle.sz_workers.specs.Cuts.{cut_into}
@@ -109,6 +113,13 @@ no_usage program (Damaged byte) (emitted es) = λ e. cc
 no_usage program (Limit byte) (emitted es) = λ e. cc
 no_usage program ending (faulted k f) = λ e. cc
 no_usage program ending (lost n) = λ e. cc
+
+-- what was compiled makes a job, with its statics, within the bounds of settings
+pub is_job : (program : Core) (slots : List Slot) (s : RunSettings) (job : Job) → IsJobOf program slots s job → IsSound program
+    → AllFit slots (static_types program) → HasBounds s → IsJob job
+is_job program slots s job is sound fit bounds =
+    subst IsJob (sym is.same)
+    (record { sound = sound; statics = fit; budget = record { least = bounds.least_budget; most = bounds.most_budget } })
 
 -- one name opened, or none
 opened_one : (name : List ℕ) (old new : List (List ℕ)) (most : ℕ) → 1 ≤ most → new ≡ old ++ name ∷ [] → OpensFirst (name ∷ []) old new most

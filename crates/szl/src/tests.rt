@@ -5,6 +5,7 @@ mod checks;
 mod expression_ticks;
 mod expressions;
 mod runs;
+mod shards;
 mod statement_ticks;
 mod statements;
 mod tables;
@@ -18,7 +19,7 @@ use std::fmt::Write;
 use std::process::Abort;
 use std::test::Fail;
 use std::thread::Threads;
-use sz_io::{MemFiles, MemSink, NoGate, NoMemory};
+use sz_io::{Gate, MemFiles, MemSink, NoGate, NoMemory};
 
 /// What a run is given beside its program: words, an input, and the numbers of the calls that fail.
 #[derive(Clone, Copy)]
@@ -144,11 +145,22 @@ fn left<R: Threads + Sync>(
     given: &Setting<'_>,
     program: &[u8],
 ) -> Result<String, Fail> {
+    left_by(rt, alloc, given, program, &NoGate)
+}
+
+/// What a run leaves whose attempts pass a gate.
+fn left_by<R: Threads + Sync, G: Gate + Sync>(
+    rt: &R,
+    alloc: Global,
+    given: &Setting<'_>,
+    program: &[u8],
+    gate: &G,
+) -> Result<String, Fail> {
     let words = words_of(alloc, given.words)?;
     let mut files = files_of(alloc, given, program)?;
     let mut out = MemSink::new(alloc, 5, &[given.out_fails])?;
     let mut err = MemSink::new(alloc, 64, &[])?;
-    let status = szl_main(rt, alloc, &words, &mut files, &mut out, &mut err, &NoGate);
+    let status = szl_main(rt, alloc, &words, &mut files, &mut out, &mut err, gate);
     told(alloc, status.code(), out.bytes(), err.bytes())
 }
 

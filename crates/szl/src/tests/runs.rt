@@ -214,46 +214,146 @@ c: table sum of int; x: int = input; emit c <- x; => 1 ! bad command line
 $ [run p f -- --budget 9]
 c: table sum of int; x: int = input; emit c <- x; => 1 ! bad command line
 
-== options without an effect yet are taken only with the values that they have by themselves
+== the option for threads is taken only with the value that it has by itself
 < 3¶-1¶
 $ [run p f --workers 4]
 c: table sum of int; x: int = input; emit c <- x; => 0 c[] = 2¶
 $ [run p f --workers=04]
 c: table sum of int; x: int = input; emit c <- x; => 0 c[] = 2¶
-$ [run p f --shard 1000]
-c: table sum of int; x: int = input; emit c <- x; => 0 c[] = 2¶
-$ [run p f --attempts 3]
-c: table sum of int; x: int = input; emit c <- x; => 0 c[] = 2¶
-$ [run p f --workers 4 --shard 1000 --attempts 3 --budget 100 --frame lines]
-c: table sum of int; x: int = input; emit c <- x; => 0 c[] = 2¶
 $ [run p f --workers 2]
 c: table sum of int; x: int = input; emit c <- x; => 1 ! bad command line
 $ [run p f --workers 1]
 c: table sum of int; x: int = input; emit c <- x; => 1 ! bad command line
-$ [run p f --shard 1]
-c: table sum of int; x: int = input; emit c <- x; => 1 ! bad command line
-$ [run p f --shard=65536]
-c: table sum of int; x: int = input; emit c <- x; => 1 ! bad command line
-$ [run p f --attempts 2]
-c: table sum of int; x: int = input; emit c <- x; => 1 ! bad command line
-$ [run p f --attempts 8]
-c: table sum of int; x: int = input; emit c <- x; => 1 ! bad command line
-$ [run p f --kill 0.0.0]
-c: table sum of int; x: int = input; emit c <- x; => 1 ! bad command line
-$ [run p f --twice 0]
-c: table sum of int; x: int = input; emit c <- x; => 1 ! bad command line
 $ [run p f --workers 65]
 c: table sum of int; x: int = input; emit c <- x; => 1 ! bad command line
+
+== shards and attempts have their bounds, and the lists their forms
+< 3¶-1¶
+$ [run p f --shard 1000]
+c: table sum of int; x: int = input; emit c <- x; => 0 c[] = 2¶
+$ [run p f --shard 1]
+c: table sum of int; x: int = input; emit c <- x; => 0 c[] = 2¶
+$ [run p f --shard=65536]
+c: table sum of int; x: int = input; emit c <- x; => 0 c[] = 2¶
+$ [run p f --shard 0]
+c: table sum of int; x: int = input; emit c <- x; => 1 ! bad command line
+$ [run p f --shard 65537]
+c: table sum of int; x: int = input; emit c <- x; => 1 ! bad command line
+$ [run p f --attempts 1]
+c: table sum of int; x: int = input; emit c <- x; => 0 c[] = 2¶
+$ [run p f --attempts 8]
+c: table sum of int; x: int = input; emit c <- x; => 0 c[] = 2¶
+$ [run p f --attempts 0]
+c: table sum of int; x: int = input; emit c <- x; => 1 ! bad command line
+$ [run p f --attempts 9]
+c: table sum of int; x: int = input; emit c <- x; => 1 ! bad command line
+$ [run p f --workers 4 --shard 1000 --attempts 3 --budget 100 --frame lines]
+c: table sum of int; x: int = input; emit c <- x; => 0 c[] = 2¶
+$ [run p f --kill 0.0.0]
+c: table sum of int; x: int = input; emit c <- x; => 0 c[] = 2¶
+$ [run p f --kill 7.7.7]
+c: table sum of int; x: int = input; emit c <- x; => 0 c[] = 2¶
 $ [run p f --kill x]
 c: table sum of int; x: int = input; emit c <- x; => 1 ! bad command line
+$ [run p f --kill 0.0.0,0.0.1]
+c: table sum of int; x: int = input; emit c <- x; => 1 ! bad command line
+$ [run p f --twice 0]
+c: table sum of int; x: int = input; emit c <- x; => 0 c[] = 2¶
+$ [run p f --twice 7]
+c: table sum of int; x: int = input; emit c <- x; => 0 c[] = 2¶
 $ [run p f --twice 0,0]
 c: table sum of int; x: int = input; emit c <- x; => 1 ! bad command line
+$ [run p f --kill 0.0.0 --kill 0.1.0]
+c: table sum of int; x: int = input; emit c <- x; => 1 ! bad command line
+$ [run p f --shard 1 --attempts 2 --kill 0.0.0,1.0.1 --twice 1,0]
+c: table sum of int; x: int = input; emit c <- x; => 0 c[] = 2¶
 $ [selftest 1 1 1]
 c: table sum of int; x: int = input; emit c <- x; => 1 ! bad command line
 $ [selftest 1 1]
 c: table sum of int; x: int = input; emit c <- x; => 1 ! bad command line
 $ [selftest 9223372036854775808 1 1]
 c: table sum of int; x: int = input; emit c <- x; => 1 ! bad command line
+
+== the tables are those of all shards
+$ [run p f --shard 1 --twice 0 --kill 0.0.0 --attempts 1]
+count: table sum of int;¶total: table sum of int;¶sum_of_squares: table sum of int;¶x: int = input;¶emit count <- 1;¶emit total <- x;¶emit sum_of_squares <- x * x;¶ => 0
+< a¶b¶a¶
+$ [run p f --shard 1]
+s: table set(2) of string;¶r: string = input;¶emit s <- r;¶ => 0 s[] = "a"¶s[] = "b"¶
+< a¶b¶a¶c¶
+$ [run p f --shard 1]
+s: table set(2) of string;¶r: string = input;¶emit s <- r;¶ => 0 s[] = overflow¶
+< c¶a¶a¶
+$ [run p f --shard 1]
+t: table collection of string;¶s: string = input;¶emit t <- s;¶ => 0 t[] = "a"¶t[] = "a"¶t[] = "c"¶
+< 3¶-1¶
+$ [run p f --shard 1]
+count: table sum of int;¶total: table sum of int;¶sum_of_squares: table sum of int;¶x: int = input;¶emit count <- 1;¶emit total <- x;¶emit sum_of_squares <- x * x;¶ => 0 count[] = 2¶total[] = 2¶sum_of_squares[] = 10¶
+
+== a shard is run again after an attempt that dies, and a doubled shard counts once
+< 3¶-1¶
+$ [run p f --shard 1 --attempts 2 --kill 0.0.0]
+count: table sum of int;¶total: table sum of int;¶sum_of_squares: table sum of int;¶x: int = input;¶emit count <- 1;¶emit total <- x;¶emit sum_of_squares <- x * x;¶ => 0 count[] = 2¶total[] = 2¶sum_of_squares[] = 10¶
+< 3¶-1¶
+$ [run p f --shard 1 --twice 0,1]
+count: table sum of int;¶total: table sum of int;¶sum_of_squares: table sum of int;¶x: int = input;¶emit count <- 1;¶emit total <- x;¶emit sum_of_squares <- x * x;¶ => 0 count[] = 2¶total[] = 2¶sum_of_squares[] = 10¶
+< 3¶-1¶
+$ [run p f --shard 1 --attempts 2 --kill 0.0.1,1.1.0 --twice 0,1]
+count: table sum of int;¶total: table sum of int;¶sum_of_squares: table sum of int;¶x: int = input;¶emit count <- 1;¶emit total <- x;¶emit sum_of_squares <- x * x;¶ => 0 count[] = 2¶total[] = 2¶sum_of_squares[] = 10¶
+< 3¶-1¶
+$ [run p f --shard 2 --attempts 2 --kill 0.0.2 --twice 0]
+count: table sum of int;¶total: table sum of int;¶sum_of_squares: table sum of int;¶x: int = input;¶emit count <- 1;¶emit total <- x;¶emit sum_of_squares <- x * x;¶ => 0 count[] = 2¶total[] = 2¶sum_of_squares[] = 10¶
+
+== a shard of which all attempts die is lost
+< 3¶-1¶
+$ [run p f --shard 1 --attempts 2 --kill 1.0.0,1.1.1]
+count: table sum of int;¶total: table sum of int;¶sum_of_squares: table sum of int;¶x: int = input;¶emit count <- 1;¶emit total <- x;¶emit sum_of_squares <- x * x;¶ => 7 ! shard 1 lost
+< 3¶-1¶
+$ [run p f --shard 1 --attempts 2 --kill 1.0.0,1.1.1 --twice 1]
+count: table sum of int;¶total: table sum of int;¶sum_of_squares: table sum of int;¶x: int = input;¶emit count <- 1;¶emit total <- x;¶emit sum_of_squares <- x * x;¶ => 7 ! shard 1 lost
+< 3¶-1¶
+$ [run p f --attempts 1 --kill 0.0.2]
+count: table sum of int;¶total: table sum of int;¶sum_of_squares: table sum of int;¶x: int = input;¶emit count <- 1;¶emit total <- x;¶emit sum_of_squares <- x * x;¶ => 7 ! shard 0 lost
+< 3¶-1¶
+$ [run p f --attempts 1 --kill 0.0.3]
+count: table sum of int;¶total: table sum of int;¶sum_of_squares: table sum of int;¶x: int = input;¶emit count <- 1;¶emit total <- x;¶emit sum_of_squares <- x * x;¶ => 0 count[] = 2¶total[] = 2¶sum_of_squares[] = 10¶
+< 3¶-1¶
+$ [run p f --shard 1 --attempts 1 --kill 2.0.0]
+count: table sum of int;¶total: table sum of int;¶sum_of_squares: table sum of int;¶x: int = input;¶emit count <- 1;¶emit total <- x;¶emit sum_of_squares <- x * x;¶ => 0 count[] = 2¶total[] = 2¶sum_of_squares[] = 10¶
+
+== the first shard that faults or is lost decides
+< ¶1¶
+$ [run p f --shard 2 --attempts 2 --kill 0.0.2,0.1.2]
+c: table sum of int;¶x: int = input;¶if (x > 0) emit c <- 1;¶ => 3 ! record 1: undefined value used at 3:1
+< ¶1¶
+$ [run p f --shard 2 --attempts 2 --kill 0.0.0,0.1.0]
+c: table sum of int;¶x: int = input;¶if (x > 0) emit c <- 1;¶ => 7 ! shard 0 lost
+< ¶1¶
+$ [run p f --shard 2 --attempts 2 --kill 0.0.0]
+c: table sum of int;¶x: int = input;¶if (x > 0) emit c <- 1;¶ => 3 ! record 1: undefined value used at 3:1
+< ¶1¶1¶¶1¶
+$ [run p f --shard 1 --attempts 1 --kill 2.0.0]
+c: table sum of int;¶x: int = input;¶if (x > 0) emit c <- 1;¶ => 3 ! record 1: undefined value used at 3:1
+< 1¶1¶1¶¶
+$ [run p f --shard 1 --attempts 1 --kill 2.0.0]
+c: table sum of int;¶x: int = input;¶if (x > 0) emit c <- 1;¶ => 7 ! shard 2 lost
+< 1¶¶1¶¶
+$ [run p f --shard 1]
+c: table sum of int;¶x: int = input;¶if (x > 0) emit c <- 1;¶ => 3 ! record 2: undefined value used at 3:1
+< 1¶1¶1¶¶
+$ [run p f --shard 3]
+c: table sum of int;¶x: int = input;¶if (x > 0) emit c <- 1;¶ => 3 ! record 4: undefined value used at 3:1
+
+== a lost shard comes before the ending, and a fault in a static before all shards
+< \x011\x05ab
+$ [run p f --frame delimited --attempts 1 --kill 0.0.1]
+count: table sum of int;¶total: table sum of int;¶sum_of_squares: table sum of int;¶x: int = input;¶emit count <- 1;¶emit total <- x;¶emit sum_of_squares <- x * x;¶ => 7 ! shard 0 lost
+< \x011\x05ab
+$ [run p f --frame delimited --attempts 1 --kill 0.0.2]
+count: table sum of int;¶total: table sum of int;¶sum_of_squares: table sum of int;¶x: int = input;¶emit count <- 1;¶emit total <- x;¶emit sum_of_squares <- x * x;¶ => 4 ! input damaged at byte 2
+< 1¶
+$ [run p f --attempts 1 --kill 0.0.0]
+f: function(n: int): int { return f(n + 1); }¶static s: int = f(0); => 3 ! record 0: calls too deep at 1:35
 
 == a check takes no options
 $ [check p]

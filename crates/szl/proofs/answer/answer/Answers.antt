@@ -5,7 +5,7 @@ use Rattle.szl.specs.Opening.{Answers}
 use Rattle.szl.specs.Promise.{AreReadToEnd, names_asked}
 use Rattle.szl.specs.Running.{vec_items_of}
 use Rattle.szl.specs.Settings.{built}
-use Rattle.szl.proofs.BudgetLemmas.{has_budget}
+use Rattle.szl.proofs.BoundsLemmas.{is_bounded}
 use Rattle.szl.proofs.SettingsLemmas.{words_fail}
 use Rattle.szl.proofs.answer.answer.Goals as goal
 
@@ -15,9 +15,9 @@ returns-in_err-settings-clause-value g c =
     let p = err_from_is_err_and c.from_residual.result c.from_residual.ensures.1 in
     rw (p.1, p.2) (words_fail g.F.Files c.args.files.now (map string_bytes c.args.words.now) c.in_err-settings.field-0.0 c.in_err-settings.ensures.usage)
 
--- their budget is one that a record can have
-pub answer_settings-requires-clause-budget : goal.answer_settings-requires-clause-budget
-answer_settings-requires-clause-budget g c = has_budget (map string_bytes c.args.words.now) c.in_ok-settings.settings c.in_ok-settings.ensures.value
+-- they have their bounds
+pub answer_settings-requires-clause-bounds : goal.answer_settings-requires-clause-bounds
+answer_settings-requires-clause-bounds g c = is_bounded (map string_bytes c.args.words.now) c.in_ok-settings.settings c.in_ok-settings.ensures.value
 
 -- the settings are answered
 pub returns-clause-value : goal.returns-clause-value

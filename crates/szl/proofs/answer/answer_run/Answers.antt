@@ -19,7 +19,7 @@ returns-in_err-text-clause-value g c =
 pub returns-clause-value : goal.returns-clause-value
 returns-clause-value g c =
     let s = c.args.settings.now in
-    let a = subst (λ text. AnswersText g.F.Files s.frame s.budget text s.input c.read_program.new.files c.answer_text.new.files (vec_items_of c.answer_text.result))
+    let a = subst (λ text. AnswersText g.F.Files s text c.read_program.new.files c.answer_text.new.files (vec_items_of c.answer_text.result))
     c.deref.ensures.value c.answer_text.ensures.value in
     text_read g.F.Files s c.as_str.result.now c.as_str.ensures.value c.args.files.now c.read_program.new.files c.answer_text.new.files
     c.in_ok-text.text.items (vec_items_of c.answer_text.result) _ c.in_ok-text.ensures.text c.in_ok-text.ensures.names c.in_ok-text.ensures.kept a
