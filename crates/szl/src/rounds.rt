@@ -1,8 +1,8 @@
 //! The shards of an input, run in rounds.
-ghost use Rattle.std.specs.Prelude.{◌≡◌, ◌<◌, ◌≤◌, length, IfOk, OnOk};
+ghost use Rattle.std.specs.Prelude.{◌≡◌, ◌+◌, ◌<◌, ◌≤◌, ◌^◌, length, All, IfOk, OnOk};
 ghost use Rattle.sz_total.specs.States.{declarations, emit_count, shown};
 ghost use Rattle.sz_total.specs.Totals.{Joins};
-ghost use Rattle.sz_attempt.specs.Shards.{IsJob};
+ghost use Rattle.sz_attempt.specs.Shards.{IsJob, IsShardIn};
 ghost use Rattle.sz_workers.specs.Outcomes.{outcome_of};
 ghost use Rattle.sz_workers.specs.Rounds.{numbered, EndsRound};
 ghost use Rattle.szl.specs.Rounds.{AreShardsIn, EndsRoundAt};
@@ -73,20 +73,41 @@ fn merge<'a>(total: &mut Total<'a>, part: Total<'a>) -> Result<(), NoMemory>
 
 /// The place behind the last shard of the round that begins with this one.
 fn round_end(records: &Records, shards: &[Shard], start: usize) -> usize
-    requires shards { AreShardsIn records.now shards.now }
+    requires within { All (IsShardIn records.now) shards.now }
     requires some { start < length shards.now }
     ensures value { EndsRoundAt shards.now start result }
 {
+    let furthest = furthest_end(start, shards.len());
+    let mut count: u64 = 0;
     let mut bytes: u64 = 0;
-    for place in start..shards.len() {
+    for place in start..furthest {
         let shard = &shards[place];
+        count = count.saturating_add(shard.end.saturating_sub(shard.start) as u64);
         bytes = bytes.saturating_add(bytes_of(records, shard));
-        let count = shard.end as u64 - shards[start].start as u64;
-        if place > start && (place - start >= MOST_SHARDS || count > MOST_RECORDS || bytes > MOST_BYTES) {
+        if place > start && is_large(count, bytes) {
             return place;
         }
     }
-    shards.len()
+    furthest
+}
+
+/// How far a round reaches that begins with this one of so many shards, by the number of its shards.
+fn furthest_end(start: usize, shards: usize) -> usize
+    requires some { start < shards }
+    ensures more { start < result }
+    ensures within { result ≤ shards }
+    ensures few { result ≤ start + 4096 }
+{
+    if shards - start <= MOST_SHARDS {
+        shards
+    } else {
+        start + MOST_SHARDS
+    }
+}
+
+/// Whether a round has no room for so many records with so many bytes.
+fn is_large(records: u64, bytes: u64) -> bool {
+    records > MOST_RECORDS || bytes > MOST_BYTES
 }
 
 /// How many bytes the records of a shard have.
