@@ -14,6 +14,7 @@ const LINES: &str = "3¶-1¶";
 const TABLES: &str = "0 count[] = 2¶total[] = 2¶";
 
 /// A gate that counts how often it was called, up to 15 times for each of the first tickets and attempts: each has four bits.
+#[derive(Drop)]
 struct Counts {
     tickets: AtomicU64,
     /// Those of shard 0 with the numbers 0 and 1, and then those of shard 1.
