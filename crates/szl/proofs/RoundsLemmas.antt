@@ -19,7 +19,12 @@ use Rattle.sz_workers.specs.Outcomes.{ShardsEnd, emitted, faulted, lost, behind_
 use Rattle.sz_workers.specs.Rounds.{numbered, shards_of, AreNext, IsRound, EndsRound}
 use Rattle.sz_workers.proofs.OutcomeLemmas.{outcome-append}
 use Rattle.sz_workers.proofs.CountLemmas.{few_of_shards, fewer_records}
+use Rattle.std.specs.Prelude.{Ok, Err}
+use Rattle.sz_run.specs.declared.ends.Fault.{Fault as RunFault}
+use Rattle.szl.specs.declared.failure.Failure.TheVariants as failure
 use Rattle.szl.specs.Rounds.{AreShardsIn, EndsRoundAt}
+use Rattle.szl.specs.Shards.{shards_in}
+use Rattle.szl.specs.Running.{GivesTotal}
 
 length-take_within : {A : Type 0} (n : ℕ) (xs : List A) → n ≤ length xs → length (take n xs) ≡ n
 length-take_within zero xs le = refl
@@ -190,3 +195,17 @@ module _ (job : Job) (records : List (List ℕ)) (shards : List Shard) where
             stands = joins.joined h.emits gives.0 h.total.stands gives.2.stands;
           };
         }
+
+-- what comes of all shards is the total of the records, or the cause why there is none
+module _ (job : Job) (most : ℕ) (records : List (List ℕ)) (shards : List Shard) (same : numbered 0 records shards ≡ shards_in most records) where
+  pub total_given : (total : TotalState) → EndsRound job.compiled (outcome_of job (numbered 0 records shards)) (ends.Tables total)
+      → GivesTotal job most records (Ok total)
+  total_given total h = (h.0, ap (outcome_of job) (sym same) ∙ h.1, h.2)
+
+  pub fault_given : (n : ℕ) (f : RunFault) → EndsRound job.compiled (outcome_of job (numbered 0 records shards)) (ends.Fault n f)
+      → GivesTotal job most records (Err (failure.Faulted n f))
+  fault_given n f h = ap (outcome_of job) (sym same) ∙ h
+
+  pub lost_given : (n : ℕ) → EndsRound job.compiled (outcome_of job (numbered 0 records shards)) (ends.Lost n)
+      → GivesTotal job most records (Err (failure.Lost n))
+  lost_given n h = ap (outcome_of job) (sym same) ∙ h

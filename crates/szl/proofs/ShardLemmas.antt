@@ -9,7 +9,8 @@ use Rattle.sz_attempt.specs.declared.job.Shard.{Shard}
 use Rattle.sz_workers.specs.Outcomes.{all_records}
 use Rattle.sz_workers.specs.Cuts.{AreCut, ranges_of, cut_into, MakesRounds}
 use Rattle.sz_workers.specs.Rounds.{numbered}
-use Rattle.sz_records.specs.Shards.{ShardsAreUnique}
+use Rattle.sz_records.proofs.ShardLemmas.{shards_are_unique}
+use Rattle.sz_workers.proofs.RangeLemmas.{makes_rounds}
 use Rattle.szl.specs.Rounds.{AreShardsIn}
 use Rattle.szl.specs.Shards.{last_size, sizes_behind, shard_sizes, shards_in}
 
@@ -140,20 +141,22 @@ few_ranges place first [] = refl
 few_ranges place first (n ∷ sizes) = ap suc (few_ranges (place + n) (first + n) sizes)
 
 -- shards that records are cut into are those of the outcome
-module _ (unique : ShardsAreUnique) (most : ℕ) (records : List (List ℕ)) (shards : List Shard) (low : 1 ≤ most) (cut : AreCut most records shards)
-    (rounds : MakesRounds records shards cut.sizes) where
+module _ (most : ℕ) (records : List (List ℕ)) (shards : List Shard) (low : 1 ≤ most) (fewer : length records ≤ 2 ^ 31) (cut : AreCut most records shards) where
+  rounds : MakesRounds records shards cut.sizes
+  rounds = makes_rounds most records shards fewer cut
+
   pub cut_is_shards : numbered 0 records shards ≡ shards_in most records
   cut_is_shards =
-      let same = unique most records cut.sizes (shard_sizes most records) cut.are (sizes_are_shards most records low) in
+      let same = shards_are_unique most records cut.sizes (shard_sizes most records) cut.are (sizes_are_shards most records low) in
       rounds.are 0 ∙ ap (λ sizes. cut_into 0 1 records sizes) same
 
-  pub cut_shards_in : length records ≤ 2 ^ 31 → AreShardsIn records shards
-  cut_shards_in few = record {
+  pub cut_shards_in : AreShardsIn records shards
+  cut_shards_in = record {
     within = rounds.within;
     next = rounds.next;
     few =
         let most_sizes = few_sizes most records cut.sizes cut.are in
-        omega (arith, few, most_sizes, ap length cut.lie, few_ranges 0 1 cut.sizes);
+        omega (arith, fewer, most_sizes, ap length cut.lie, few_ranges 0 1 cut.sizes);
     whole = ap all_records (rounds.are 0) ∙ rounds.whole 0;
-    most = few;
+    most = fewer;
   }

@@ -63,7 +63,7 @@ pub fn run_shards<'a, G: Gate>(
 fn merge<'a>(total: &mut Total<'a>, part: Total<'a>) -> Result<(), NoMemory>
     requires same { part.tables ≡ total.old.tables }
     requires room { total.old.count + part.count ≤ 2 ^ 63 }
-    ensures ok { OnOk result (Joins declarations emit_count shown total.old part total.new) }
+    ensures ok { OnOk result (Joins declarations emit_count shown total.old part.entry total.new) }
 {
     match total.merge(part) {
         Ok(()) => Ok(()),
