@@ -45,8 +45,7 @@ module _ (most : ℕ) where
   shard_behind : (front rs : List (List ℕ)) → NoneFull most front → AreShards most (front ++ rs) (sizes_behind most (length front) (bytes_in front) rs)
   shard_behind [] [] none = refl
   shard_behind (x ∷ xs) [] none =
-      let all = append-nil (x ∷ xs) in
-      (
+      let all = append-nil (x ∷ xs) in (
         record {
           some = omega arith;
           within = omega (arith, length-append (x ∷ xs) []);

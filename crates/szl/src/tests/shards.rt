@@ -10,7 +10,9 @@ use sz_io::Gate;
 /// A program over two lines, and what it leaves where no shard is lost.
 const PROGRAM: &str =
     "count: table sum of int;¶total: table sum of int;¶x: int = input;¶emit count <- 1;¶emit total <- x;¶";
+
 const LINES: &str = "3¶-1¶";
+
 const TABLES: &str = "0 count[] = 2¶total[] = 2¶";
 
 /// A gate that counts how often it was called, up to 15 times for each of the first tickets and attempts: each has four bits.
