@@ -75,7 +75,7 @@ module _ (job : Job) where
           → (if b then lost number else then_shards r o) ≡ faulted k f → 1 ≤ k
       by true r means o behind h = absurd (cc)
       by false (FaultedAt m g) means o behind h =
-          let le = fault_number no_messages job.compiled job.statics job.budget first (take size records) m g means in
+          let le = fault_number job.compiled job.statics job.budget first (take size records) m g means in
           let same = same_number k m f g h in
           omega (arith, le, low, same)
       by false (Emitted es) means (emitted gs) behind h = absurd (cc)
@@ -183,7 +183,7 @@ module _ {F : Type 0} (the_files : files.Ghosts F) (frame : Frame) (name : List 
   static_fails program s failure.WriteFailed h = absurd h
 
 module _ {F : Type 0} (the_files : files.Ghosts F) (frame : Frame) (name : List ℕ) (old new : F) (program : Core)
-    (s : RunSettings) (limit : ℕ) (slots : List Slot) (begun : statics no_messages program s.budget ≡ Done slots) where
+    (s : RunSettings) (limit : ℕ) (slots : List Slot) (begun : statics program s.budget ≡ Done slots) where
   abbrev of_cut : Cut → ShardsEnd
   of_cut cut = outcome_of (job_of program slots s) (shards_in s.shard cut.records)
 

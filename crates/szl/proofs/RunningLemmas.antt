@@ -5,7 +5,6 @@ use Rattle.sz_instr.specs.declared.code.Code.{Code}
 use Rattle.sz_world.specs.World.{Outcome}
 use Rattle.sz_world.specs.Slots.{Slot}
 use Rattle.sz_world.specs.Typed.{AllFit}
-use Rattle.sz_world.specs.Operations.{no_messages}
 use Rattle.sz_mean.specs.Programs.{statics}
 use Rattle.sz_machine.specs.Running.{StaticsRunTo}
 use Rattle.sz_value.specs.declared.slots.Slots.{Slots}
@@ -27,4 +26,4 @@ module _ (program : Core) (code : Code) (compiled : IsCompiled program code) (bu
   pub statics_have_types : (end : StaticsEnd) (slots : Slots) → ((o : Outcome (List Slot)) → StaticsRunTo code budget o → seen_statics_end end ≡ o)
       → end ≡ statics_ends.Done slots → AllFit slots (static_types program)
   statics_have_types end slots runs is =
-      compiled.statics_fit budget slots (sym (sym (ap seen_statics_end is) ∙ runs (statics no_messages program budget) statics_run))
+      compiled.statics_fit budget slots (sym (sym (ap seen_statics_end is) ∙ runs (statics program budget) statics_run))

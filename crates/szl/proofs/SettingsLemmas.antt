@@ -63,7 +63,7 @@ answered_refused : (r : Refusal) → IsAnswered (outcome_refused r)
 answered_refused r = record { opens = omega arith; other = λ e. cc }
 
 answered_checked_run : (s : RunSettings) (cut : Cut) (found : Result Core Refusal) → IsAnswered (outcome_of_checked_run s cut found)
-answered_checked_run s cut (Ok p) = answered_statics p s cut (statics no_messages p s.budget)
+answered_checked_run s cut (Ok p) = answered_statics p s cut (statics p s.budget)
 answered_checked_run s cut (Err r) = answered_refused r
 
 answered_run : (s : RunSettings) (cut : Cut) (reading : Reading) → IsAnswered (outcome_of_run s cut reading)

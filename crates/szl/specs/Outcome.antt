@@ -115,7 +115,7 @@ outcome_of_statics program s cut (Done slots) =
 
 -- the outcome of a program over an input, which is cut into records so. Neither the number of threads nor a doubled shard plays a part
 abbrev pub outcome_of_program : Core → RunSettings → Cut → Answer
-outcome_of_program program s cut = outcome_of_statics program s cut (statics no_messages program s.budget)
+outcome_of_program program s cut = outcome_of_statics program s cut (statics program s.budget)
 
 -- the text of a cause
 abbrev pub cause_text : Cause → List ℕ

@@ -6,7 +6,6 @@ use Rattle.sz_tabs.specs.Data.{EmitDatum}
 use Rattle.sz_total.specs.States.{TotalState}
 use Rattle.sz_world.specs.World.{Done, Faulted}
 use Rattle.sz_world.specs.Slots.{Slot}
-use Rattle.sz_world.specs.Operations.{no_messages}
 use Rattle.sz_mean.specs.Programs.{statics}
 use Rattle.sz_run.specs.Ends.{seen_fault}
 use Rattle.sz_words.specs.declared.settings.RunSettings.{RunSettings}
