@@ -1,13 +1,13 @@
 //! Calls of the functions that each program has.
-ghost use Rattle.std.specs.Prelude.{◌≡◌, IfOk};
-ghost use Rattle.sz_value.specs.Seen.{seen_slot};
+ghost use Rattle.std.specs.Prelude.{◌≡◌, [], ◌∷◌, IfOk};
+ghost use Rattle.sz_value.specs.Seen.{seen, seen_slot};
 ghost use Rattle.sz_builtin.specs.Predeclared.{builtin};
 
 use crate::predeclared::{haskey, keys, len};
 use crate::searching::strfind;
 use std::alloc::Global;
 use sz_types::Builtin;
-use sz_value::{List, NoMemory, Slot};
+use sz_value::{List, NoMemory, Slot, Value};
 
 /// What the function makes of its arguments: `len` the number of characters, bytes, elements or pairs, `keys` the keys
 /// of a map in order, `haskey` whether a map has a key, and `strfind` the first place, counted from 0, of a string or a
@@ -17,11 +17,31 @@ use sz_value::{List, NoMemory, Slot};
 pub fn builtin(alloc: Global, which: Builtin, args: &List) -> Result<Slot, NoMemory>
     ensures value { IfOk result (λ slot. seen_slot slot ≡ builtin which args.now) }
 {
-    match (which, args.as_slice()) {
-        (Builtin::Len, [value]) => Ok(len(value)),
-        (Builtin::Keys, [value]) => keys(alloc, value),
-        (Builtin::HasKey, [value, key]) => Ok(haskey(value, key)),
-        (Builtin::StrFind, [needle, hay]) => Ok(strfind(needle, hay)),
+    match args.as_slice() {
+        [value] => builtin_of_one(alloc, which, value),
+        [first, second] => Ok(builtin_of_two(which, first, second)),
         _ => Ok(Slot::Undefined),
+    }
+}
+
+/// What the function makes of one argument, which is looked at where it stands.
+pub fn builtin_of_one(alloc: Global, which: Builtin, value: &Value) -> Result<Slot, NoMemory>
+    ensures value { IfOk result (λ slot. seen_slot slot ≡ builtin which (seen value.now ∷ [])) }
+{
+    match which {
+        Builtin::Len => Ok(len(value)),
+        Builtin::Keys => keys(alloc, value),
+        Builtin::HasKey | Builtin::StrFind => Ok(Slot::Undefined),
+    }
+}
+
+/// What the function makes of two arguments, which are looked at where they stand.
+pub fn builtin_of_two(which: Builtin, first: &Value, second: &Value) -> Slot
+    ensures value { seen_slot result ≡ builtin which (seen first.now ∷ seen second.now ∷ []) }
+{
+    match which {
+        Builtin::HasKey => haskey(first, second),
+        Builtin::StrFind => strfind(first, second),
+        Builtin::Len | Builtin::Keys => Slot::Undefined,
     }
 }

@@ -15,7 +15,7 @@ mod searching;
 mod slicing;
 mod two_operands;
 
-pub use calling::builtin;
+pub use calling::{builtin, builtin_of_one, builtin_of_two};
 pub use conversions::convert;
 pub use indexing::index;
 pub use laws::{operators_keep_types, parts_and_calls_keep_types};
