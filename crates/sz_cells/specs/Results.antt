@@ -1,15 +1,8 @@
 -- What is made of operands whose values are at hand.
 use Rattle.std.specs.Prelude.{◌≡◌, List, [], ◌∷◌, Option, Some, None, option_map}
-use Rattle.std.specs.Option.{option_and_then}
-use Rattle.sz_types.specs.declared.operator.Builtin.{Builtin}
 use Rattle.sz_value.specs.Data.{Datum, array, tuple, mapping, data_of, entries_of}
-use Rattle.sz_builtin.specs.Predeclared.{builtin}
 use Rattle.sz_world.specs.Slots.{Slot}
 use Rattle.sz_world.specs.Operations.{with_pairs}
-
--- what a predeclared function makes of its arguments, if they are all defined
-abbrev pub applied_to : Builtin → Option (List Datum) → Slot
-applied_to b arguments = option_and_then (builtin b) arguments
 
 -- the array of these elements, if they are all defined
 abbrev pub array_of_all : Option (List Datum) → Slot

@@ -16,8 +16,8 @@ pub use cell::Cell;
 pub use numbers::of_ints;
 pub use operands::Operands;
 pub use results::{
-    applied, array_of, binary_of, converted, decoded, definedness, element_of, key_in, length_of,
-    map_of, part_of, slice_of, tuple_of, unary_of,
+    applied_to_one, applied_to_two, array_of, binary_of, converted, decoded, definedness,
+    element_of, map_of, part_of, slice_of, tuple_of, unary_of,
 };
 pub use storing::{indexes_in, stored_in};
 pub use sz_value::NoMemory;

@@ -1,21 +1,18 @@
 //! What operators, functions, conversions and composites make of operands.
-ghost use Rattle.std.specs.Prelude.{◌≡◌, ◌<◌, ◌^◌, ◌∷◌, [], ℕ, pos, length, IfOk, Some, slice_get};
+ghost use Rattle.std.specs.Prelude.{◌≡◌, ◌∷◌, [], ℕ, IfOk, Some, slice_get};
 ghost use Rattle.sz_types.specs.Seen.{seen as seen_type};
-ghost use Rattle.sz_types.specs.declared.operator.Builtin.TheVariants as builtins;
-ghost use Rattle.sz_value.specs.Data.{int};
 ghost use Rattle.sz_value.specs.Seen.{seen, seen_pairs};
-ghost use Rattle.sz_builtin.specs.Predeclared.{len, haskey};
 ghost use Rattle.sz_builtin.specs.Conversions.{convert};
 ghost use Rattle.sz_world.specs.Operations.{unary_of, binary_of, applied, converted_plainly, message_of, decoded_as, array_of, tuple_of, map_of};
 ghost use Rattle.sz_world.specs.Operations.{element_of, slice_of, part_at, part_of, definedness};
-ghost use Rattle.sz_cells.specs.Results.{applied_to, array_of_all, tuple_of_all, map_of_all, by_turns};
+ghost use Rattle.sz_cells.specs.Results.{array_of_all, tuple_of_all, map_of_all, by_turns};
 
 use crate::cell::{Cell, Form};
 use std::alloc::Global;
-use sz_builtin::{binary, builtin, convert, index, slice, unary};
+use sz_builtin::{binary, builtin_of_one, builtin_of_two, convert, index, slice, unary};
 use sz_proto::decode;
 use sz_types::{BinOp, Builtin, Ty, UnOp};
-use sz_value::{List, NoMemory, Pair, Pairs, Value, copy};
+use sz_value::{List, NoMemory, Pair, Pairs, Value};
 
 /// What the operator makes of an operand.
 pub fn unary_of(alloc: Global, op: UnOp, x: &Cell) -> Result<Cell, NoMemory>
@@ -40,90 +37,23 @@ pub fn binary_of(alloc: Global, op: BinOp, x: &Cell, y: &Cell) -> Result<Cell, N
     }
 }
 
-/// What the function makes of its arguments, if they are all there.
-pub fn applied(alloc: Global, which: Builtin, arguments: &Option<List>) -> Result<Cell, NoMemory>
-    ensures value { IfOk result (λ made. made ≡ applied_to which arguments.now) }
-{
-    match arguments {
-        Some(list) => Cell::of_slot(alloc, builtin(alloc, which, list)?),
-        None => Ok(Cell::undefined()),
-    }
-}
-
-/// How many characters, bytes, elements or pairs an operand has. It is looked at where it is, and only a string is copied.
-pub fn length_of(alloc: Global, x: &Cell) -> Result<Cell, NoMemory>
-    ensures value { IfOk result (λ made. made ≡ applied builtins.Len (x.now ∷ [])) }
+/// What the function makes of its one argument, which is looked at where it is.
+pub fn applied_to_one(alloc: Global, which: Builtin, x: &Cell) -> Result<Cell, NoMemory>
+    ensures value { IfOk result (λ made. made ≡ applied which (x.now ∷ [])) }
 {
     match x.look() {
-        Some(look) => counted(alloc, look.value()),
+        Some(look) => Cell::of_slot(alloc, builtin_of_one(alloc, which, look.value())?),
         None => Ok(Cell::undefined()),
     }
 }
 
-// How many characters, bytes, elements or pairs a value has.
-#[tactic(auto, using(crate::proofs::ListLemmas::parts_back, crate::proofs::ListLemmas::pairs_back))]
-fn counted(alloc: Global, value: &Value) -> Result<Cell, NoMemory>
-    ensures value { IfOk result (λ made. made ≡ len (seen value.now)) }
+/// What the function makes of its two arguments, which are looked at where they are.
+pub fn applied_to_two(alloc: Global, which: Builtin, x: &Cell, y: &Cell) -> Result<Cell, NoMemory>
+    ensures value { IfOk result (λ made. made ≡ applied which (x.now ∷ y.now ∷ [])) }
 {
-    match value {
-        Value::Bytes(bytes) => Ok(count(bytes.as_slice().len())),
-        Value::Array(list) => Ok(count(list_len(list))),
-        Value::Map(pairs) => Ok(count(pairs_len(pairs))),
-        _ => counted_alone(alloc, value),
-    }
-}
-
-// The same of a copy of the value.
-fn counted_alone(alloc: Global, value: &Value) -> Result<Cell, NoMemory>
-    ensures value { IfOk result (λ made. made ≡ len (seen value.now)) }
-{
-    let mut alone = List::with_capacity(alloc, 1)?;
-    alone.push(copy(alloc, value)?)?;
-    Cell::of_slot(alloc, builtin(alloc, Builtin::Len, &alone)?)
-}
-
-// The number of values of a list.
-fn list_len(list: &List) -> usize
-    ensures value { result ≡ length list.now }
-    ensures small { result < 2 ^ 63 }
-{
-    list.as_slice().len()
-}
-
-// The number of pairs.
-fn pairs_len(pairs: &Pairs) -> usize
-    ensures value { result ≡ length pairs.now }
-    ensures small { result < 2 ^ 63 }
-{
-    pairs.as_slice().len()
-}
-
-// The cell of a number of elements.
-fn count(count: usize) -> Cell
-    requires small { count < 2 ^ 63 }
-    ensures value { result ≡ Some (int (pos count)) }
-{
-    Cell::of_int(count as i64)
-}
-
-/// Whether an operand that is a map has the key, without a copy of either.
-pub fn key_in(map: &Cell, key: &Cell) -> Cell
-    ensures value { result ≡ applied builtins.HasKey (map.now ∷ key.now ∷ []) }
-{
-    match (map.look(), key.look()) {
-        (Some(map), Some(key)) => has_key(map.value(), key.value()),
-        _ => Cell::undefined(),
-    }
-}
-
-// Whether a map has the key.
-#[tactic(auto, using(crate::proofs::ListLemmas::pairs_back))]
-fn has_key(map: &Value, key: &Value) -> Cell
-    ensures value { result ≡ haskey (seen map.now) (seen key.now) }
-{
-    match map {
-        Value::Map(pairs) => Cell::of_bool(pairs.get(key).is_some()),
-        _ => Cell::undefined(),
+    match (x.look(), y.look()) {
+        (Some(a), Some(b)) => Cell::of_slot(alloc, builtin_of_two(which, a.value(), b.value())),
+        _ => Ok(Cell::undefined()),
     }
 }
 

@@ -2,7 +2,6 @@
 ghost use Rattle.std.specs.Prelude.{◌≡◌, ◌<◌, ◌≤◌, ◌*◌, ◌∷◌, length, drop, IfOk, Some};
 ghost use Rattle.sz_instr.specs.declared.code.Code.{Code};
 ghost use Rattle.sz_instr.specs.declared.instr.Instr.TheVariants as instr;
-ghost use Rattle.sz_types.specs.declared.operator.Builtin.TheVariants as builtins;
 ghost use Rattle.sz_value.specs.Data.{int};
 ghost use Rattle.sz_machine.specs.Rows.{act};
 ghost use Rattle.sz_world.specs.Operations.{arity};
@@ -11,8 +10,8 @@ ghost use Rattle.sz_run.specs.Acting.{Does, weighs_and_acts};
 use crate::held::{Held, Next, again};
 use std::alloc::Global;
 use sz_cells::{
-    Cell, applied, array_of, binary_of, binary_weight, builtin_weight, conversion_weight,
-    converted, decoded, definedness, element_of, key_in, length_of, map_of, of_ints, part_of,
+    Cell, applied_to_one, applied_to_two, array_of, binary_of, binary_weight, builtin_weight,
+    conversion_weight, converted, decoded, definedness, element_of, map_of, of_ints, part_of,
     result_weight, slice_of, tuple_of, unary_of,
 };
 use sz_instr::Code;
@@ -125,47 +124,39 @@ impl Held {
         self.finish(made, weight)
     }
 
-    /// Pops the arguments and pushes what the function makes of them.
+    /// Pops the arguments and pushes what the function makes of them. They are looked at where they are.
     #[inline(never)]
     pub fn apply(&mut self, alloc: Global, which: Builtin) -> Result<Next, NoMemory>
         requires within { arity which ≤ length self.old.operands }
         ensures value { (code : Code) → IfOk result (λ next. Does (weighs_and_acts code (instr.Apply which)) self.old next self.new) }
     {
         match which {
-            Builtin::Len => self.length(alloc),
-            Builtin::HasKey => self.has_key(),
-            Builtin::Keys | Builtin::StrFind => self.apply_to_values(alloc, which),
+            Builtin::Len | Builtin::Keys => self.apply_to_one(alloc, which),
+            Builtin::HasKey | Builtin::StrFind => self.apply_to_two(alloc, which),
         }
     }
 
-    // Pops an operand and pushes its length, with no copy of it unless it is a string.
-    fn length(&mut self, alloc: Global) -> Result<Next, NoMemory>
+    // The same of a function of one argument.
+    fn apply_to_one(&mut self, alloc: Global, which: Builtin) -> Result<Next, NoMemory>
+        requires one { arity which ≡ 1 }
         requires some { 0 < length self.old.operands }
-        ensures value { (code : Code) → IfOk result (λ next. Does (weighs_and_acts code (instr.Apply builtins.Len)) self.old next self.new) }
-    {
-        let x = self.operands.pop();
-        let made = length_of(alloc, &x)?;
-        self.finish(made, 0)
-    }
-
-    // Pops a key and a map, and pushes whether the map has it, with no copy of either.
-    fn has_key(&mut self) -> Result<Next, NoMemory>
-        requires some { 1 < length self.old.operands }
-        ensures value { (code : Code) → IfOk result (λ next. Does (weighs_and_acts code (instr.Apply builtins.HasKey)) self.old next self.new) }
-    {
-        let key = self.operands.pop();
-        let map = self.operands.pop();
-        let made = key_in(&map, &key);
-        self.finish(made, 0)
-    }
-
-    // Pops the arguments as values, and pushes what the function makes of them.
-    fn apply_to_values(&mut self, alloc: Global, which: Builtin) -> Result<Next, NoMemory>
-        requires within { arity which ≤ length self.old.operands }
         ensures value { (code : Code) → IfOk result (λ next. Does (weighs_and_acts code (instr.Apply which)) self.old next self.new) }
     {
-        let arguments = self.operands.pop_values(alloc, arity(which))?;
-        let made = applied(alloc, which, &arguments)?;
+        let x = self.operands.pop();
+        let made = applied_to_one(alloc, which, &x)?;
+        let weight = builtin_weight(which, &made);
+        self.finish(made, weight)
+    }
+
+    // The same of a function of two arguments.
+    fn apply_to_two(&mut self, alloc: Global, which: Builtin) -> Result<Next, NoMemory>
+        requires two { arity which ≡ 2 }
+        requires some { 1 < length self.old.operands }
+        ensures value { (code : Code) → IfOk result (λ next. Does (weighs_and_acts code (instr.Apply which)) self.old next self.new) }
+    {
+        let y = self.operands.pop();
+        let x = self.operands.pop();
+        let made = applied_to_two(alloc, which, &x, &y)?;
         let weight = builtin_weight(which, &made);
         self.finish(made, weight)
     }
@@ -282,15 +273,5 @@ impl Held {
         let x = self.operands.pop();
         self.operands.push(definedness(&x))?;
         Ok(Next::On)
-    }
-}
-
-// How many arguments the function takes.
-fn arity(which: Builtin) -> usize
-    ensures value { result ≡ arity which }
-{
-    match which {
-        Builtin::Len | Builtin::Keys => 1,
-        Builtin::HasKey | Builtin::StrFind => 2,
     }
 }
