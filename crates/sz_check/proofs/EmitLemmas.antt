@@ -169,9 +169,9 @@ kept_behind_for old start mid count f counted is same =
 
 -- names that are hidden for the condition of a `when`, and then others for the statement inside
 module _ (old first cut second : List (Bor Name)) (count : ℕ) (names inside : List (List ℕ)) (counted : count ≡ length old)
-    (is : hidden_of first ≡ hidden_of old ++ names) (cut_is : cut ≡ take count first) (then : hidden_of second ≡ hidden_of cut ++ inside) where
+    (is : hidden_of first ≡ hidden_of old ++ names) (cut_is : cut ≡ take count first) (later : hidden_of second ≡ hidden_of cut ++ inside) where
   pub hidden_inside : hidden_of second ≡ hidden_of old ++ inside
-  hidden_inside = then ∙ ap (λ (l : List (List ℕ)). l ++ inside) (ap hidden_of cut_is ∙ kept_front old first count names counted is)
+  hidden_inside = later ∙ ap (λ (l : List (List ℕ)). l ++ inside) (ap hidden_of cut_is ∙ kept_front old first count names counted is)
 
   pub kept_behind_when : (after : List (Bor Name)) → hidden_of after ≡ hidden_of second → hidden_of (take count after) ≡ hidden_of old
   kept_behind_when after same = kept_front old after count inside counted (same ∙ hidden_inside)

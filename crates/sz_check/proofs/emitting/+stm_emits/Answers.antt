@@ -66,8 +66,8 @@ stms_emit-loop-tree-preserved t c =
     let more = hidden_of c.stm_emits.new.hidden.items in
     let i = c.loop-tree.tree-index in
     let joined : c.if-emits.emits ≡ (found || here) = elim c.if-emits.branch [
-      | stms_emit-then-emits w ↦ ?
-      | stms_emit-else-emits w ↦ ?
+      | stms_emit-then-emits w ↦ w.emits-is ∙ w.if-emits.true ∙ sym (first_holds found here w.if-emits.true)
+      | stms_emit-else-emits w ↦ w.emits-is ∙ sym (second_decides found here here w.if-emits.false refl)
     ] in
     record {
       found = ap (λ b. b || stms_emit emits more (stms_of (map stm_of (drop (i + 1) c.args.trees.now)))) joined
