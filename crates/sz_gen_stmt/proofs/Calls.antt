@@ -155,7 +155,7 @@ module _ (code : Code) (functions : List Function) (whole : Declared)
         } in
         subst (λ (y : Bool). NextComes code (if y then enter r arguments s stack else faults calls_too_deep place) x) (sym b)
         (subst (λ y. NextComes code (enter y arguments s stack) x) (sym routine)
-        (all_run code sight set room below refl
+        (all_run code sight set room below
         (λ n d e. subst (λ l. slice_get l n ≡ Some d) (sym tables_same) (st.before.tables n d e)) x fn.body sight
         (record { result = Some fn.signature.result; loop = false }) no_exits s1 at1
         st.sound.body st.names fit1 fixed tt tt (has_front lines st.entry front (returns_undefined tables) st.has) refl

@@ -96,7 +96,7 @@ module _ (code : Code) (functions : List Function) (whole : Declared)
         input_seen = λ yes. (there, refl, refl);
         room_left = room;
       } in
-      exec_runs code g set most_open_calls below refl (λ n t e. subst (λ l. slice_get l n ≡ Some t) (sym tables_same) (before.tables n t e)) x
+      exec_runs code g set most_open_calls below (λ n t e. subst (λ l. slice_get l n ≡ Some t) (sym tables_same) (before.tables n t e)) x
       c g top no_exits s at1 sound.0 of.0 fit fixed tt tt (has_front lines s.at front later has) refl
       (after_then code locals x top no_exits s end at1 s.at s.locals s.world (exec_all set behind) (omega arith)
       (λ l w k h1. (let le = k.left in

@@ -164,7 +164,7 @@ module _ (code : Code) (functions : List Function) (whole : Declared)
         room_left = refl;
       } in
       let comes : (x : After) → AfterEval code (type_of v.value) s0 at1 x (eval set [] v.value w) → ComesTo code s0 x =
-      λ x h. expression_runs code g set most_open_calls below refl g v.value s0 at1 x sound.0.value of.0 tt fixed
+      λ x h. expression_runs code g set most_open_calls below g v.value s0 at1 x sound.0.value of.0 tt fixed
       (has_front lines at ce (keep ∷ free EndRecord ∷ []) own_has) refl h in
       let fits = gives_typed code (type_of v.value) s0 at1 (eval set [] v.value w) comes in
       static_follows v.place slots n code whole.statics v.type s0 (static_routines tables (suc n) (statics_of rest) later)

@@ -60,7 +60,7 @@ ends : Core → ℕ → List ℕ → Option (Outcome (List EmitDatum))
 ends core budget input = outcome (run (code_of core) 2000 (record_start (code_of core) input [] budget))
 
 means : Core → ℕ → List ℕ → Option (Outcome (List EmitDatum))
-means core budget input = Some (mean (λ fields octets. None) core [] budget input)
+means core budget input = Some (mean core [] budget input)
 
 sum_enough : ends emits_sum 5 [] ≡ means emits_sum 5 []
 unfolding ends means outcome code_of tables run carry_on step_by int_wrap
