@@ -88,7 +88,7 @@ type M = proto {a: string @ 1, b: array of int @ 2 fixed32}; t: table collection
 < ¶
 type M = proto {a: int @ 1, b: array of int @ 2}; t: table collection of M; m: M = {5, {6}}; m.a = 7; m.b[0] = 7; emit t <- m; => 0 t[] = {7, {7}}¶
 type M = proto {a: int @ 1, b: int @ 2}; s: table sum of M; m: M = {5, 6}; emit s <- m; emit s <- {1, 1}; => 0 s[] = {6, 7}¶
-type M = proto {a: int @ 1}; t: table collection of bool; m: M = {5}; emit t <- m == {5}; emit t <- m < {6}; => 0 t[] = true¶t[] = true¶
+type M = proto {a: int @ 1}; t: table collection of bool; m: M = {5}; emit t <- m == {5}; emit t <- m != {6}; => 0 t[] = true¶t[] = true¶
 type M = proto {a: int @ 1}; t: table collection of int; emit t <- M(B"\x08\x07").a; emit t <- M(input).a; => 0 t[] = 0¶t[] = 7¶
 type M = proto {a: int @ 1}; t: table sum[M] of int; emit t[{2}] <- 1; emit t[{1}] <- 1; => 0 t[{1}] = 1¶t[{2}] = 1¶
 type M = proto {a: int @ 1}; t: table maximum(1) of M weight w: int; emit t <- {2} weight 1; emit t <- {3} weight 2; => 0 t[] = {3} weight 2¶
