@@ -1,5 +1,5 @@
 -- What rounds that are run one after the other come to.
-use Rattle.std.proofs.Common.{◌≡◌, ℕ, zero, suc, ◌+◌, ◌-◌, ◌*◌, ◌^◌, ◌<◌, ◌≤◌, List, [], ◌∷◌, ◌++◌, length, take, drop, All}
+use Rattle.std.proofs.Common.{◌≡◌, ℕ, zero, suc, ◌+◌, ◌-◌, ◌*◌, ◌^◌, ◌≤◌, List, [], ◌∷◌, ◌++◌, length, take, drop, All}
 use Rattle.std.proofs.Common.{refl, sym, ap, ◌∙◌, subst, arith, length-append}
 use Rattle.std.specs.List.{slice_range}
 use Rattle.std.proofs.lemmas.List.Elements.{All-nil, All-cons, All-head, All-tail}
@@ -15,7 +15,7 @@ use Rattle.sz_attempt.specs.Ends.{StandForEmits}
 use Rattle.sz_workers.specs.declared.round.Round.{Round}
 use Rattle.sz_workers.specs.declared.round.RoundEnd.{RoundEnd}
 use Rattle.sz_workers.specs.declared.round.RoundEnd.TheVariants as ends
-use Rattle.sz_workers.specs.Outcomes.{ShardsEnd, emitted, faulted, lost, behind_front, then_outcome, outcome_of, all_records}
+use Rattle.sz_workers.specs.Outcomes.{emitted, faulted, lost, behind_front, then_outcome, outcome_of, all_records}
 use Rattle.sz_workers.specs.Rounds.{numbered, shards_of, AreNext, IsRound, EndsRound}
 use Rattle.sz_workers.proofs.OutcomeLemmas.{outcome-append}
 use Rattle.sz_workers.proofs.CountLemmas.{few_of_shards, fewer_records}

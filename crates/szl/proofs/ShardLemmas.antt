@@ -1,5 +1,5 @@
 -- The sizes of an input's shards, and the shards that have them.
-use Rattle.std.proofs.Common.{◌≡◌, ◌⊎◌, inl, inr, ℕ, zero, suc, ◌+◌, ◌-◌, ◌^◌, ◌<◌, ◌≤◌, List, [], ◌∷◌, ◌++◌, length, take, drop, Bool, true, false}
+use Rattle.std.proofs.Common.{◌≡◌, inl, inr, ℕ, zero, suc, ◌+◌, ◌^◌, ◌<◌, ◌≤◌, List, [], ◌∷◌, ◌++◌, length, take, drop, Bool, true, false}
 use Rattle.std.proofs.Common.{refl, sym, ap, ◌∙◌, subst, arith, append-nil, append_assoc, length-append}
 use Rattle.std.specs.Prelude.{nat_le, ◌||◌, if◌then◌else◌}
 use Rattle.std.proofs.lemmas.Bool.Decides.{nat_tests}
@@ -12,7 +12,7 @@ use Rattle.sz_workers.specs.Rounds.{numbered}
 use Rattle.sz_records.proofs.ShardLemmas.{shards_are_unique}
 use Rattle.sz_workers.proofs.RangeLemmas.{makes_rounds}
 use Rattle.szl.specs.Rounds.{AreShardsIn}
-use Rattle.szl.specs.Shards.{last_size, sizes_behind, shard_sizes, shards_in}
+use Rattle.szl.specs.Shards.{sizes_behind, shard_sizes, shards_in}
 
 take_front : {A : Type 0} (xs ys : List A) (m : ℕ) → m ≤ length xs → take m (xs ++ ys) ≡ take m xs
 take_front xs ys zero le = refl

@@ -34,7 +34,7 @@ merge-requires-clause-room g c =
     let held = c.loop-done.round.records in
     let taken = c.in_ok-round.field-0 in
     let gives = ends_next job c.args.records c.args.shards.now c.requires.shards start end c.round_end-end.ensures.value held taken
-        c.loop-done.invariant.records c.in_ok-round.ensures.value c.in_ok-decided.decided c.in_ok-decided.ensures.value in
+    c.loop-done.invariant.records c.in_ok-round.ensures.value c.in_ok-decided.decided c.in_ok-decided.ensures.value in
     has_room job c.args.records c.args.shards.now c.requires.shards start end c.round_end-end.ensures.value c.loop-done.total c.loop-done.invariant.ran
     c.in-Tables.part (subst (EndsRound job.compiled _) c.in-Tables.is gives) c.requires.job
 
@@ -47,7 +47,7 @@ returns-in_default g c =
     let held = c.loop-done.round.records in
     let taken = c.in_ok-round.field-0 in
     let gives = ends_next job c.args.records c.args.shards.now c.requires.shards start end c.round_end-end.ensures.value held taken
-        c.loop-done.invariant.records c.in_ok-round.ensures.value c.in_ok-decided.decided c.in_ok-decided.ensures.value in
+    c.loop-done.invariant.records c.in_ok-round.ensures.value c.in_ok-decided.decided c.in_ok-decided.ensures.value in
     record {
       value = round_decides job c.args.records c.args.shards.now c.requires.shards start end c.round_end-end.ensures.value c.loop-done.total
           c.loop-done.invariant.ran c.in_ok-decided.decided c.in_default.not-Tables gives;
@@ -62,7 +62,7 @@ loop-done-preserved g c =
     let held = c.loop-done.round.records in
     let taken = c.in_ok-round.field-0 in
     let gives = ends_next job c.args.records c.args.shards.now c.requires.shards start end c.round_end-end.ensures.value held taken
-        c.loop-done.invariant.records c.in_ok-round.ensures.value c.in_ok-decided.decided c.in_ok-decided.ensures.value in
+    c.loop-done.invariant.records c.in_ok-round.ensures.value c.in_ok-decided.decided c.in_ok-decided.ensures.value in
     record {
       ran = run_more job c.args.records c.args.shards.now c.requires.shards start end c.round_end-end.ensures.value c.loop-done.total
           c.loop-done.invariant.ran c.in-Tables.part (subst (EndsRound job.compiled _) c.in-Tables.is gives) c.merge.new.total
