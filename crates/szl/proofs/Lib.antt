@@ -9,5 +9,3 @@ mod RoundsLemmas
 mod RunningLemmas
 mod SettingsLemmas
 mod ShardLemmas
-mod TakenLemmas
-mod UnbuiltLemmas

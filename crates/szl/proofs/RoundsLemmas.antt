@@ -1,5 +1,5 @@
 -- What rounds that are run one after the other come to.
-use Rattle.std.proofs.Common.{◌≡◌, ℕ, zero, suc, ◌+◌, ◌-◌, ◌*◌, ◌^◌, ◌<◌, ◌≤◌, List, [], ◌∷◌, ◌++◌, length, take, drop, All}
+use Rattle.std.proofs.Common.{◌≡◌, ℕ, zero, suc, ◌+◌, ◌-◌, ◌*◌, ◌^◌, ◌≤◌, List, [], ◌∷◌, ◌++◌, length, take, drop, All}
 use Rattle.std.proofs.Common.{refl, sym, ap, ◌∙◌, subst, arith, length-append}
 use Rattle.std.specs.List.{slice_range}
 use Rattle.std.proofs.lemmas.List.Elements.{All-nil, All-cons, All-head, All-tail}
@@ -15,12 +15,13 @@ use Rattle.sz_attempt.specs.Ends.{StandForEmits}
 use Rattle.sz_workers.specs.declared.round.Round.{Round}
 use Rattle.sz_workers.specs.declared.round.RoundEnd.{RoundEnd}
 use Rattle.sz_workers.specs.declared.round.RoundEnd.TheVariants as ends
-use Rattle.sz_workers.specs.Outcomes.{ShardsEnd, emitted, faulted, lost, behind_front, then_outcome, outcome_of, all_records}
+use Rattle.sz_workers.specs.Outcomes.{emitted, faulted, lost, behind_front, then_outcome, outcome_of, all_records}
 use Rattle.sz_workers.specs.Rounds.{numbered, shards_of, AreNext, IsRound, EndsRound}
 use Rattle.sz_workers.proofs.OutcomeLemmas.{outcome-append}
 use Rattle.sz_workers.proofs.CountLemmas.{few_of_shards, fewer_records}
 use Rattle.std.specs.Prelude.{Ok, Err}
 use Rattle.sz_run.specs.declared.ends.Fault.{Fault as RunFault}
+use Rattle.sz_run.specs.Ends.{seen_fault}
 use Rattle.szl.specs.declared.failure.Failure.TheVariants as failure
 use Rattle.szl.specs.Rounds.{AreShardsIn, EndsRoundAt}
 use Rattle.szl.specs.Shards.{shards_in}
@@ -36,11 +37,15 @@ both_parts zero xs = refl
 both_parts (suc n) [] = refl
 both_parts (suc n) (x ∷ xs) = ap (λ ys. x ∷ ys) (both_parts n xs)
 
+take_nothing : {A : Type 0} (n : ℕ) → take {A = A} n [] ≡ []
+take_nothing zero = refl
+take_nothing (suc n) = refl
+
 take_parts : {A : Type 0} (a b : ℕ) (xs : List A) → take (a + b) xs ≡ take a xs ++ take b (drop a xs)
 take_parts zero b xs = let same : 0 + b ≡ b = omega arith in ap (λ n. take n xs) same
-take_parts (suc a) zero [] = refl
-take_parts (suc a) (suc b) [] = refl
-take_parts (suc a) b (x ∷ xs) = ap (λ ys. x ∷ ys) (take_parts a b xs)
+take_parts (suc a) b [] = take_nothing (suc a + b) ∙ sym (take_nothing b)
+take_parts (suc a) b (x ∷ xs) =
+    let same : suc a + b ≡ suc (a + b) = omega arith in ap (λ n. take n (x ∷ xs)) same ∙ ap (λ ys. x ∷ ys) (take_parts a b xs)
 
 -- some of the shards lie among the records, and behind each other
 All-take : (P : Shard → Type 0) (n : ℕ) (xs : List Shard) → All P xs → All P (take n xs)
@@ -82,21 +87,21 @@ module _ (job : Job) (records : List (List ℕ)) (shards : List Shard) where
     pub within : done ≤ length shards
     pub emits : List EmitDatum
     pub front : outcome_of job (numbered 0 records (take done shards)) ≡ emitted emits
-    pub total : StandForEmits job.compiled total emits
+    pub standing : StandForEmits job.compiled total emits
 
   pub run_none : (total : TotalState) → IsNew declarations emit_count shown (tables_of job.compiled.items) total → IsRunUpTo 0 total
   run_none total new = record {
     within = omega arith;
     emits = [];
     front = refl;
-    total = record { tables = new.same_tables; stands = new.empty };
+    standing = record { tables = new.same_tables; stands = new.empty };
   }
 
   -- all shards were run
   pub run_all : (done : ℕ) (total : TotalState) → length shards ≤ done → IsRunUpTo done total
       → EndsRound job.compiled (outcome_of job (numbered 0 records shards)) (ends.Tables total)
   run_all done total le h =
-      (h.emits, ap (λ l. outcome_of job (numbered 0 records l)) (sym (whole done shards le)) ∙ h.front, h.total)
+      (h.emits, ap (λ l. outcome_of job (numbered 0 records l)) (sym (whole done shards le)) ∙ h.front, h.standing)
     where
       whole : (n : ℕ) (xs : List Shard) → length xs ≤ n → take n xs ≡ xs
       whole zero [] le = refl
@@ -128,14 +133,30 @@ module _ (job : Job) (records : List (List ℕ)) (shards : List Shard) where
       next = let n = next_drop 0 1 start shards are.next in (n.0, n.1, next_take n.0 n.1 (end - start) (drop start shards) n.2);
     }
 
+    -- the round, with the records and the shards as they are held
+    abbrev round_of : List (List ℕ) → List Shard → Round
+    round_of held taken = record { records = held; shards = taken; first_shard = start }
+
+    module _ (held : List (List ℕ)) (taken : List Shard) (same_records : held ≡ records) (same_shards : taken ≡ part) where
+      is_next : round_of held taken ≡ next_round
+      is_next = ap (λ rs. round_of rs taken) same_records ∙ ap (round_of records) same_shards
+
+      pub round_is : IsRound (round_of held taken)
+      round_is = subst IsRound (sym is_next) is_round
+
+      pub ends_next : (e : RoundEnd) → EndsRound job.compiled (outcome_of job (shards_of (round_of held taken))) e
+          → EndsRound job.compiled (outcome_of job (shards_of next_round)) e
+      ends_next e = subst (λ r. EndsRound job.compiled (outcome_of job (shards_of r)) e) is_next
+
     both : numbered 0 records (take end shards) ≡ numbered 0 records (take start shards) ++ shards_of next_round
     both =
         let same : end ≡ start + (end - start) = omega (arith, ends_at.some) in
         let long = length-take_within start shards (omega (arith, ends_at.some, ends_at.within)) in
+        let place : 0 + length (take start shards) ≡ start = omega (arith, long) in
         ap (λ n. numbered 0 records (take n shards)) same
         ∙ ap (numbered 0 records) (take_parts start (end - start) shards)
         ∙ numbered-append 0 records (take start shards) part
-        ∙ ap (λ n. numbered 0 records (take start shards) ++ numbered n records part) long
+        ∙ ap (λ n. numbered 0 records (take start shards) ++ numbered n records part) place
 
     module _ (total : TotalState) (h : IsRunUpTo start total) where
       joined_end : outcome_of job (numbered 0 records (take end shards)) ≡ behind_front h.emits (outcome_of job (shards_of next_round))
@@ -152,16 +173,22 @@ module _ (job : Job) (records : List (List ℕ)) (shards : List Shard) where
           ∙ ap (λ o. then_outcome o (outcome_of job (numbered (0 + length (take end shards)) records (drop end shards)))) joined_end
 
       -- a shard of the round decides
-      pub round_faults : (n : ℕ) (f : Fault) → outcome_of job (shards_of next_round) ≡ faulted n f
+      round_faults : (n : ℕ) (f : Fault) → outcome_of job (shards_of next_round) ≡ faulted n f
           → outcome_of job (numbered 0 records shards) ≡ faulted n f
       round_faults n f is =
           whole_end
           ∙ ap (λ o. then_outcome (behind_front h.emits o) (outcome_of job (numbered (0 + length (take end shards)) records (drop end shards)))) is
 
-      pub round_is_lost : (n : ℕ) → outcome_of job (shards_of next_round) ≡ lost n → outcome_of job (numbered 0 records shards) ≡ lost n
+      round_is_lost : (n : ℕ) → outcome_of job (shards_of next_round) ≡ lost n → outcome_of job (numbered 0 records shards) ≡ lost n
       round_is_lost n is =
           whole_end
           ∙ ap (λ o. then_outcome (behind_front h.emits o) (outcome_of job (numbered (0 + length (take end shards)) records (drop end shards)))) is
+
+      pub round_decides : (e : RoundEnd) → ((tables : TotalState) → e ≡ ends.Tables tables → ⊥)
+          → EndsRound job.compiled (outcome_of job (shards_of next_round)) e → EndsRound job.compiled (outcome_of job (numbered 0 records shards)) e
+      round_decides (ends.Tables tables) other gives = absurd (other tables refl)
+      round_decides (ends.Fault n f) other gives = round_faults n (seen_fault f) gives
+      round_decides (ends.Lost n) other gives = round_is_lost n gives
 
       -- none decides
       module _ (tables : TotalState) (gives : EndsRound job.compiled (outcome_of job (shards_of next_round)) (ends.Tables tables)) where
@@ -169,7 +196,7 @@ module _ (job : Job) (records : List (List ℕ)) (shards : List Shard) where
         front_more = joined_end ∙ ap (behind_front h.emits) gives.1
 
         pub same_tables : tables.tables ≡ total.tables
-        same_tables = gives.2.tables ∙ sym h.total.tables
+        same_tables = gives.2.tables ∙ sym h.standing.tables
 
         -- there is room for the emits of the round
         pub has_room : IsJob job → total.count + tables.count ≤ 2 ^ 63
@@ -180,7 +207,7 @@ module _ (job : Job) (records : List (List ℕ)) (shards : List Shard) where
             let all = ap length are.whole in
             let less : length (all_records (numbered 0 records (take end shards))) ≤ 2 ^ 31 = omega (arith, same, fewer, all, are.most) in
             let most = bound job.budget (length (all_records (numbered 0 records (take end shards)))) (length (h.emits ++ gives.0)) few job_is.budget.most less in
-            omega (arith, most, length-append h.emits gives.0, h.total.stands.counted, gives.2.stands.counted)
+            omega (arith, most, length-append h.emits gives.0, h.standing.stands.counted, gives.2.stands.counted)
           where
             bound : (b m n : ℕ) → n ≤ b * m → b ≤ 2 ^ 32 → m ≤ 2 ^ 31 → n ≤ 2 ^ 63
             bound b m n le few less = grind arith
@@ -190,9 +217,9 @@ module _ (job : Job) (records : List (List ℕ)) (shards : List Shard) where
           within = ends_at.within;
           emits = h.emits ++ gives.0;
           front = front_more;
-          total = record {
-            tables = joins.same_tables ∙ h.total.tables;
-            stands = joins.joined h.emits gives.0 h.total.stands gives.2.stands;
+          standing = record {
+            tables = joins.same_tables ∙ h.standing.tables;
+            stands = joins.joined h.emits gives.0 h.standing.stands gives.2.stands;
           };
         }
 

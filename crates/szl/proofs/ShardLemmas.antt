@@ -1,9 +1,9 @@
 -- The sizes of an input's shards, and the shards that have them.
-use Rattle.std.proofs.Common.{◌≡◌, ◌⊎◌, inl, inr, ℕ, zero, suc, ◌+◌, ◌-◌, ◌^◌, ◌<◌, ◌≤◌, List, [], ◌∷◌, ◌++◌, length, take, drop, Bool, true, false}
+use Rattle.std.proofs.Common.{◌≡◌, inl, inr, ℕ, zero, suc, ◌+◌, ◌^◌, ◌<◌, ◌≤◌, List, [], ◌∷◌, ◌++◌, length, take, drop, Bool, true, false}
 use Rattle.std.proofs.Common.{refl, sym, ap, ◌∙◌, subst, arith, append-nil, append_assoc, length-append}
 use Rattle.std.specs.Prelude.{nat_le, ◌||◌, if◌then◌else◌}
-use Rattle.std.specs.List.{sum_by}
 use Rattle.std.proofs.lemmas.Bool.Decides.{nat_tests}
+use Rattle.std.proofs.lemmas.List.Sums.{sum_by_push}
 use Rattle.sz_records.specs.Shards.{AreShards, IsShard, IsFull, bytes_in}
 use Rattle.sz_attempt.specs.declared.job.Shard.{Shard}
 use Rattle.sz_workers.specs.Outcomes.{all_records}
@@ -12,7 +12,7 @@ use Rattle.sz_workers.specs.Rounds.{numbered}
 use Rattle.sz_records.proofs.ShardLemmas.{shards_are_unique}
 use Rattle.sz_workers.proofs.RangeLemmas.{makes_rounds}
 use Rattle.szl.specs.Rounds.{AreShardsIn}
-use Rattle.szl.specs.Shards.{last_size, sizes_behind, shard_sizes, shards_in}
+use Rattle.szl.specs.Shards.{sizes_behind, shard_sizes, shards_in}
 
 take_front : {A : Type 0} (xs ys : List A) (m : ℕ) → m ≤ length xs → take m (xs ++ ys) ≡ take m xs
 take_front xs ys zero le = refl
@@ -27,10 +27,6 @@ drop_front : {A : Type 0} (xs ys : List A) → drop (length xs) (xs ++ ys) ≡ y
 drop_front [] ys = refl
 drop_front (x ∷ xs) ys = drop_front xs ys
 
-bytes_of_both : (xs : List (List ℕ)) (r : List ℕ) → bytes_in (xs ++ r ∷ []) ≡ bytes_in xs + length r
-bytes_of_both [] r = omega arith
-bytes_of_both (x ∷ xs) r = let rest = bytes_of_both xs r in omega (arith, rest)
-
 at_most : (a b : ℕ) → nat_le a b ≡ true → a ≤ b
 at_most a b e = grind (arith, nat_tests)
 
@@ -42,6 +38,10 @@ abbrev NoneFull : ℕ → List (List ℕ) → Type 0
 NoneFull most front = (m : ℕ) → m ≤ length front → ¬ IsFull most (take m front)
 
 module _ (most : ℕ) where
+  -- records have the shards of their sizes, whatever records that no shard is full of stand before them
+  abbrev HaveShards : List (List ℕ) → Type 0
+  HaveShards rs = (front : List (List ℕ)) → NoneFull most front → AreShards most (front ++ rs) (sizes_behind most (length front) (bytes_in front) rs)
+
   shard_behind : (front rs : List (List ℕ)) → NoneFull most front → AreShards most (front ++ rs) (sizes_behind most (length front) (bytes_in front) rs)
   shard_behind [] [] none = refl
   shard_behind (x ∷ xs) [] none =
@@ -55,7 +55,8 @@ module _ (most : ℕ) where
         drop_front (x ∷ xs) [],
       )
   shard_behind front (r ∷ rs) none =
-      by (nat_le most (suc (length front))) (nat_le (2 ^ 24) (bytes_in front + length r)) refl refl
+      by (λ (longer : List (List ℕ)) (open_still : NoneFull most longer). shard_behind longer rs open_still) (nat_le most (suc (length front)))
+      (nat_le (2 ^ 24) (bytes_in front + length r)) refl refl
     where
       longer : List (List ℕ)
       longer = front ++ r ∷ []
@@ -75,28 +76,28 @@ module _ (most : ℕ) where
             (sym (ap (λ n. take n (front ++ r ∷ rs)) (sym long) ∙ ap (take (length longer)) (sym same) ∙ take_whole longer rs)) full);
       }
 
-      rest : AreShards most (drop (suc (length front)) (front ++ r ∷ rs)) (sizes_behind most 0 0 rs)
-      rest =
+      rest : HaveShards rs → AreShards most (drop (suc (length front)) (front ++ r ∷ rs)) (sizes_behind most 0 0 rs)
+      rest behind =
           let left = ap (λ n. drop n (front ++ r ∷ rs)) (sym long) ∙ ap (drop (length longer)) (sym same) ∙ drop_front longer rs in
-          subst (λ l. AreShards most l (sizes_behind most 0 0 rs)) (sym left) (shard_behind [] rs none_empty)
+          subst (λ l. AreShards most l (sizes_behind most 0 0 rs)) (sym left) (behind [] none_empty)
         where
           none_empty : NoneFull most []
           none_empty zero le = none 0 (omega arith)
           none_empty (suc m) le = absurd (omega arith)
 
-      by : (a b : Bool) → nat_le most (suc (length front)) ≡ a → nat_le (2 ^ 24) (bytes_in front + length r) ≡ b
+      by : HaveShards rs → (a b : Bool) → nat_le most (suc (length front)) ≡ a → nat_le (2 ^ 24) (bytes_in front + length r) ≡ b
           → AreShards most (front ++ r ∷ rs)
           (if a || b then suc (length front) ∷ sizes_behind most 0 0 rs else sizes_behind most (suc (length front)) (bytes_in front + length r) rs)
-      by true b is js = let le = at_most most (suc (length front)) is in (this (inl (omega (arith, le, long))), rest)
-      by false true is js =
-          let le = at_most (2 ^ 24) (bytes_in front + length r) js in (this (inr (omega (arith, le, bytes_of_both front r))), rest)
-      by false false is js =
+      by behind true b is js = let le = at_most most (suc (length front)) is in (this (inl (omega (arith, le, long))), rest behind)
+      by behind false true is js =
+          let le = at_most (2 ^ 24) (bytes_in front + length r) js in (this (inr (omega (arith, le, sum_by_push length front r))), rest behind)
+      by behind false false is js =
           let few = not_at_most most (suc (length front)) is in
           let light = not_at_most (2 ^ 24) (bytes_in front + length r) js in
           subst (λ l. AreShards most l (sizes_behind most (suc (length front)) (bytes_in front + length r) rs)) same
-          (subst (λ n. AreShards most (longer ++ rs) (sizes_behind most (suc (length front)) n rs)) (bytes_of_both front r)
+          (subst (λ n. AreShards most (longer ++ rs) (sizes_behind most (suc (length front)) n rs)) (sum_by_push length front r)
           (subst (λ n. AreShards most (longer ++ rs) (sizes_behind most n (bytes_in longer) rs)) long
-          (shard_behind longer rs (none_longer few light))))
+          (behind longer (none_longer few light))))
         where
           none_longer : suc (length front) < most → bytes_in front + length r < 2 ^ 24 → NoneFull most longer
           none_longer few light m le = order (nat_le m (length front)) refl
@@ -111,7 +112,7 @@ module _ (most : ℕ) where
                 where
                   whole : IsFull most longer → ⊥
                   whole (inl le) = absurd (omega (arith, le, few, long))
-                  whole (inr le) = absurd (omega (arith, le, light, bytes_of_both front r))
+                  whole (inr le) = absurd (omega (arith, le, light, sum_by_push length front r))
 
 -- the sizes are those of shards
 pub sizes_are_shards : (most : ℕ) (records : List (List ℕ)) → 1 ≤ most → AreShards most records (shard_sizes most records)

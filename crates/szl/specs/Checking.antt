@@ -1,6 +1,5 @@
 -- What the statements of a program are: the checked program, or the first refusal.
-use Rattle.std.specs.Prelude.{ℕ, List, [], ◌∷◌, slice_index_or, Option, Some, None, Result, Ok, Err}
-use Rattle.sz_types.specs.declared.place.Place.{Place}
+use Rattle.std.specs.Prelude.{ℕ, List, [], ◌∷◌, slice_index_or, Result, Ok, Err}
 use Rattle.sz_tree.specs.Statements.{Stms}
 use Rattle.sz_core.specs.Programs.{Core}
 use Rattle.sz_known.specs.Refusals.{Judged}
@@ -8,21 +7,19 @@ use Rattle.sz_known.specs.Refusals as judging
 use Rattle.sz_check.specs.JudgingPrograms.{judge_program}
 use Rattle.szl.specs.declared.refusal.Cause.{Cause}
 use Rattle.szl.specs.declared.refusal.Cause.TheVariants.{BadChar, BadLiteral, NotUtf8, TooLong, Syntax, UnknownName, Redeclared, WrongKind, WrongType, NoType, NoField, WrongCount, WrongWeight, NotAssignable}
-use Rattle.szl.specs.declared.refusal.Cause.TheVariants.{Misplaced, LeftOut, BadTable, BadProto, Unbounded, QuantOrder, TooMany, EmitHere, NotBuilt}
+use Rattle.szl.specs.declared.refusal.Cause.TheVariants.{Misplaced, LeftOut, BadTable, BadProto, Unbounded, QuantOrder, TooMany, EmitHere}
 use Rattle.szl.specs.declared.refusal.Refusal.{Refusal}
-use Rattle.szl.specs.Judgement.{refusal_at}
-use Rattle.szl.specs.Unbuilt.{first_unbuilt}
 
--- the causes by their numbers; none has the number 0
+-- the causes by their numbers; no refusal has the number 0
 abbrev pub numbered_causes : List Cause
 numbered_causes =
-    NotBuilt ∷ BadChar ∷ BadLiteral ∷ NotUtf8 ∷ TooLong ∷ Syntax ∷ UnknownName ∷ Redeclared ∷ WrongKind ∷ WrongType ∷ NoType ∷ NoField
+    Syntax ∷ BadChar ∷ BadLiteral ∷ NotUtf8 ∷ TooLong ∷ Syntax ∷ UnknownName ∷ Redeclared ∷ WrongKind ∷ WrongType ∷ NoType ∷ NoField
     ∷ WrongCount ∷ WrongWeight ∷ NotAssignable ∷ Misplaced ∷ LeftOut ∷ BadTable ∷ BadProto ∷ Unbounded ∷ QuantOrder ∷ TooMany ∷ EmitHere
-    ∷ NotBuilt ∷ []
+    ∷ []
 
--- the cause with a number
+-- the cause with a number, which is one of these
 abbrev pub cause_of : ℕ → Cause
-cause_of number = slice_index_or numbered_causes number NotBuilt
+cause_of number = slice_index_or numbered_causes number Syntax
 
 -- the refusal of a judgement, by its cause
 abbrev pub refusal_of : judging.Refusal → Refusal
@@ -33,11 +30,6 @@ abbrev pub judged_so : Judged Core → Result Core Refusal
 judged_so (Ok program) = Ok program
 judged_so (Err r) = Err (refusal_of r)
 
--- the judgement, unless a statement isn't built
-abbrev pub checked_behind : Option Place → Judged Core → Result Core Refusal
-checked_behind (Some place) judged = Err (refusal_at NotBuilt place)
-checked_behind None judged = judged_so judged
-
--- the checked program that statements are, or their first refusal: one that isn't built is refused before the others are judged
+-- the checked program that statements are, or their first refusal
 unfoldable pub checked : Stms → Result Core Refusal
-checked statements = checked_behind (first_unbuilt statements) (judge_program statements)
+checked statements = judged_so (judge_program statements)

@@ -3,7 +3,6 @@ pub mod Settings
 pub mod Records
 pub mod Shards
 pub mod Judgement
-pub mod Unbuilt
 pub mod Checking
 pub mod Outcome
 pub mod Promise

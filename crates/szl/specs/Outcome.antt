@@ -19,7 +19,7 @@ use Rattle.szl.specs.declared.status.Status.TheVariants as status
 use Rattle.szl.specs.declared.refusal.Cause.{Cause}
 use Rattle.szl.specs.declared.refusal.Cause.TheVariants.{BadChar, BadLiteral, NotUtf8, TooLong, Syntax, UnknownName, Redeclared, WrongKind, WrongType, NoType, NoField}
 use Rattle.szl.specs.declared.refusal.Cause.TheVariants.{WrongCount, WrongWeight, NotAssignable, Misplaced, LeftOut, BadTable, BadProto, Unbounded, QuantOrder, TooMany}
-use Rattle.szl.specs.declared.refusal.Cause.TheVariants.{EmitHere, NotBuilt}
+use Rattle.szl.specs.declared.refusal.Cause.TheVariants.{EmitHere}
 use Rattle.szl.specs.declared.refusal.Refusal.{Refusal}
 use Rattle.szl.specs.Judgement.{Reading, refused, spells}
 use Rattle.szl.specs.Checking.{checked}
@@ -141,7 +141,6 @@ cause_text Unbounded = codes "unbounded variable"
 cause_text QuantOrder = codes "all must come last"
 cause_text TooMany = codes "too many tables"
 cause_text EmitHere = codes "emit not allowed here"
-cause_text NotBuilt = codes "not built yet"
 
 -- the name of a refusal behind the text of its cause, if it has one
 abbrev pub name_text : Option (List ℕ) → List ℕ

@@ -1,5 +1,5 @@
 -- The shards of an input, and what the attempts of a run have in common.
-use Rattle.std.specs.Prelude.{◌≡◌, ℕ, zero, suc, ◌+◌, ◌^◌, ◌≤◌, List, [], ◌∷◌, length, nat_le, ◌||◌, if◌then◌else◌}
+use Rattle.std.specs.Prelude.{ℕ, zero, suc, ◌+◌, ◌^◌, ◌≤◌, List, [], ◌∷◌, length, nat_le, ◌||◌, if◌then◌else◌}
 use Rattle.sz_core.specs.Programs.{Core}
 use Rattle.sz_world.specs.Slots.{Slot}
 use Rattle.sz_records.specs.Shards.{AreShards}

@@ -6,9 +6,7 @@ ghost use Rattle.szl.specs.Checking.{checked};
 ghost use Rattle.szl.specs.Judgement.{HasStatements, most_program_bytes};
 ghost use Rattle.szl.specs.Judging.{IsFailureOf, IsFailureOn};
 
-use crate::failure::{Failure, refused};
-use crate::refusal::Cause;
-use crate::unbuilt::first_unbuilt;
+use crate::failure::Failure;
 use std::alloc::Global;
 use sz_check::{check, judged_programs_are_sound};
 use sz_core::Program;
@@ -35,9 +33,6 @@ pub fn checked(alloc: Global, tree: &Tree) -> Result<Program, Failure>
     ensures sound { IfOk result (λ program. IsSound program) }
     ensures refused { IfErr result (λ failure. IsFailureOn (checked (program_of tree.now)) failure) }
 {
-    if let Some(place) = first_unbuilt(tree.statements.as_slice()) {
-        return Err(refused(Cause::NotBuilt, place));
-    }
     let program = check(alloc, tree)?;
     judged_programs_are_sound();
     Ok(program)

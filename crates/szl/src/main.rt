@@ -15,7 +15,6 @@ mod status;
 #[cfg(test)]
 mod tests;
 mod top;
-mod unbuilt;
 
 use status::Status;
 use std::alloc::{AllocError, Global};

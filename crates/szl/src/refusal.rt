@@ -55,13 +55,11 @@ pub enum Cause {
     TooMany,
     /// At the place something would be emitted where nothing may be.
     EmitHere,
-    /// At the place begins the first statement that isn't built yet.
-    NotBuilt,
 }
 
-/// The causes by their numbers. None has the number 0.
-const NUMBERED_CAUSES: [Cause; 24] = [
-    Cause::NotBuilt,
+/// The causes by their numbers. No refusal has the number 0.
+const NUMBERED_CAUSES: [Cause; 23] = [
+    Cause::Syntax,
     Cause::BadChar,
     Cause::BadLiteral,
     Cause::NotUtf8,
@@ -84,17 +82,16 @@ const NUMBERED_CAUSES: [Cause; 24] = [
     Cause::QuantOrder,
     Cause::TooMany,
     Cause::EmitHere,
-    Cause::NotBuilt,
 ];
 
 impl Cause {
-    /// The cause with a number.
+    /// The cause with a number, which is one of these.
     pub fn of_number(number: u8) -> Cause
         ensures value { result ≡ cause_of number }
     {
         match NUMBERED_CAUSES.get(number as usize) {
             Some(cause) => *cause,
-            None => Cause::NotBuilt,
+            None => Cause::Syntax,
         }
     }
 
@@ -125,7 +122,6 @@ impl Cause {
             Cause::QuantOrder => "all must come last",
             Cause::TooMany => "too many tables",
             Cause::EmitHere => "emit not allowed here",
-            Cause::NotBuilt => "not built yet",
         }
     }
 }

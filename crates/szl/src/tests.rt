@@ -4,7 +4,9 @@ mod checking;
 mod checks;
 mod expression_ticks;
 mod expressions;
+mod messages;
 mod runs;
+mod searches;
 mod shards;
 mod statement_ticks;
 mod statements;
@@ -66,6 +68,14 @@ fn rows_of_expression_ticks() -> &'static str {
 
 fn rows_of_statement_ticks() -> &'static str {
     statement_ticks::RUNS
+}
+
+fn rows_of_searches() -> &'static str {
+    searches::RUNS
+}
+
+fn rows_of_messages() -> &'static str {
+    messages::RUNS
 }
 
 fn rows_of_checks() -> &'static str {
@@ -264,6 +274,16 @@ fn expressions_take_the_ticks_of_their_rows(rt: HostRuntime) -> Result<(), Fail>
 #[test]
 fn statements_take_the_ticks_of_their_rows(rt: HostRuntime) -> Result<(), Fail> {
     all_hold(&rt, rt.alloc(), rows_of_statement_ticks())
+}
+
+#[test]
+fn searches_find_what_their_rows_say(rt: HostRuntime) -> Result<(), Fail> {
+    all_hold(&rt, rt.alloc(), rows_of_searches())
+}
+
+#[test]
+fn messages_have_the_values_of_their_rows(rt: HostRuntime) -> Result<(), Fail> {
+    all_hold(&rt, rt.alloc(), rows_of_messages())
 }
 
 #[test]

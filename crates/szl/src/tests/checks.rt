@@ -188,15 +188,18 @@ t: {a: int, b: int}; => 0
 type T = {a: int, b: {b: int, b: int}}; => 2 ! program: bad proto field: b at 1:31
 t: {a: int, a: x}; => 2 ! program: unknown name: x at 1:16
 
-== check: not built
+== check: when and proto types
 $ [check p]
-when (i: some int; true) ; => 2 ! program: not built yet at 1:1
-x: int; { when (i: some int; true) ; } => 2 ! program: not built yet at 1:9
-x: bool = 1; y: proto {a: int @ 1}; => 2 ! program: not built yet at 1:14
-f: function(m: proto {a: int @ 1}): int { return 1; } => 2 ! program: not built yet at 1:1
-t: table quantile(101) of int; when (i: some int; true) ; => 2 ! program: not built yet at 1:32
-type M = array of proto {a: int @ 1}; => 2 ! program: not built yet at 1:1
-if (true) x: map[int] of proto {a: int @ 1}; => 2 ! program: not built yet at 1:1
+when (i: some int; true) ; => 2 ! program: unbounded variable: i at 1:7
+x: int; { when (i: some int; true) ; } => 2 ! program: unbounded variable: i at 1:17
+x: bool = 1; y: proto {a: int @ 1}; => 2 ! program: wrong type at 1:11
+f: function(m: proto {a: int @ 1}): int { return 1; } => 0
+t: table quantile(101) of int; when (i: some int; true) ; => 2 ! program: not in this profile: quantile at 1:10
+type M = array of proto {a: int @ 1}; => 0
+if (true) x: map[int] of proto {a: int @ 1}; => 0
+a: array of int; when (i: some int; a[i] > 0) ; => 0
+when (i: some int; y[i]) x = 1; => 2 ! program: unknown name: y at 1:20
+a: array of int; when (i: some int; a[i]) x = 1; => 2 ! program: unknown name: x at 1:43
 x: bool = 1; y: int = => 2 ! program: syntax at 1:14
 
 == check: two mistakes

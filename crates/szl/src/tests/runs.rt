@@ -66,15 +66,6 @@ break; => 2 ! program: misplaced statement at 1:1
 x: float; => 2 ! program: not in this profile: float at 1:4
 x := {1}; => 2 ! program: composite without a type at 1:6
 
-== run refuses what isn't built at its statement
-< 3¶
-when (i: some int; true) ; => 2 ! program: not built yet at 1:1
-x: int = 1;¶if (true) when (i: some int; true) ; => 2 ! program: not built yet at 2:1
-x: proto {a: int @ 1}; => 2 ! program: not built yet at 1:1
-x: bool = 1;¶type M = proto {a: int @ 1}; => 2 ! program: not built yet at 2:1
-f: function(m: proto {a: int @ 1}): int { return 1; } => 2 ! program: not built yet at 1:1
-c: table sum of bool; when (i: some int; true) ; => 2 ! program: not built yet at 1:23
-
 == programs that print nothing
 < 3¶
  => 0

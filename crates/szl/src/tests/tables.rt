@@ -213,11 +213,13 @@ t: table set(1000000) of int; => 0
 t: table collection of map[string] of int; => 0
 t: table sum[a: int][b: string][bool] of {x: int, y: int}; => 0
 
-== a proto type in a table isn't built
-t: table collection of proto {a: int @ 1}; => 2 ! program: not built yet at 1:1
-t: table sum[int][proto {a: int @ 1}] of int; => 2 ! program: not built yet at 1:1
-t: table maximum(1) of int weight w: proto {a: int @ 1}; => 2 ! program: not built yet at 1:1
-t: table set(2) of x: array of proto {a: int @ 1}; => 2 ! program: not built yet at 1:1
+== a table may have proto types where it may have tuples
+t: table collection of proto {a: int @ 1}; => 0
+t: table sum[int][proto {a: int @ 1}] of int; => 0
+t: table sum of proto {a: int @ 1, b: int @ 2}; => 0
+t: table sum of proto {a: int @ 1, b: time @ 2}; => 2 ! program: bad table at 1:10
+t: table maximum(1) of int weight w: proto {a: int @ 1}; => 2 ! program: bad table at 1:10
+t: table set(2) of x: array of proto {a: int @ 1}; => 0
 
 == a log by tables of each kind
 < us 1 /index 120¶de 1 /news 300¶us 1 /index 80¶fr 1 /index 95¶us 2 /news 450¶us 2 /index -¶de 3 /index 60¶de 3 /news 300¶

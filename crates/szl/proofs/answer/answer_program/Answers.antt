@@ -1,11 +1,8 @@
 use Rattle.std.proofs.Common.{sym, ap, subst}
 use Rattle.std.proofs.lemmas.Result.{err_from_is_err_and}
-use Rattle.std.specs.Prelude.{Ok, Err, ◌≤◌, ◌^◌}
+use Rattle.std.specs.Prelude.{Ok, Err, ◌≤◌}
 use Rattle.sz_core.specs.Sound.{IsSound}
-use Rattle.sz_world.specs.Typed.{AllFit}
-use Rattle.sz_gen_stmt.specs.Simulates.{static_types}
 use Rattle.sz_attempt.specs.declared.job.Job.{Job}
-use Rattle.sz_attempt.specs.Shards.{IsJob}
 use Rattle.szl.specs.declared.failure.Failure.TheVariants.{NoMemory}
 use Rattle.szl.specs.Opening.{AnswersOn}
 use Rattle.szl.specs.Outcome.{outcome_of_program}

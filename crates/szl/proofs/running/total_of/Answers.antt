@@ -1,7 +1,9 @@
-use Rattle.std.proofs.Common.{sym, subst}
+use Rattle.std.proofs.Common.{sym, subst, ap, ◌∙◌}
 use Rattle.std.proofs.lemmas.Result.{err_from_is_err_and}
 use Rattle.szl.specs.Rounds.{AreShardsIn}
-use Rattle.szl.proofs.ShardLemmas.{cut_shards_in}
+use Rattle.sz_workers.specs.Rounds.{numbered, EndsRound}
+use Rattle.szl.proofs.ShardLemmas.{cut_shards_in, cut_is_shards}
+use Rattle.szl.proofs.RoundsLemmas.{total_given, fault_given, lost_given}
 use Rattle.szl.proofs.running.total_of.Goals as goal
 
 -- there was no memory for the shards
@@ -13,3 +15,36 @@ pub run_shards-requires-clause-shards : goal.run_shards-requires-clause-shards
 run_shards-requires-clause-shards g c =
     subst (AreShardsIn c.args.records) (sym c.as_slice.ensures.value)
     (cut_shards_in c.args.most c.args.records c.in_ok-shards.shards c.requires.most c.requires.few c.in_ok-shards.ensures.cut)
+
+-- no shard faults or is lost
+pub returns-in-Tables : goal.returns-in-Tables
+returns-in-Tables g c =
+    let job = c.args.job.now in
+    let cut = cut_is_shards c.args.most c.args.records c.in_ok-shards.shards c.requires.most c.requires.few c.in_ok-shards.ensures.cut in
+    let same = ap (numbered 0 c.args.records) c.as_slice.ensures.value ∙ cut in
+    record {
+      value = total_given job c.args.most c.args.records c.as_slice.result.now same c.in-Tables.total
+          (subst (EndsRound job.compiled _) c.in-Tables.is c.in_ok-total.ensures.value);
+    }
+
+-- a shard faults
+pub returns-in-Fault : goal.returns-in-Fault
+returns-in-Fault g c =
+    let job = c.args.job.now in
+    let cut = cut_is_shards c.args.most c.args.records c.in_ok-shards.shards c.requires.most c.requires.few c.in_ok-shards.ensures.cut in
+    let same = ap (numbered 0 c.args.records) c.as_slice.ensures.value ∙ cut in
+    record {
+      value = fault_given job c.args.most c.args.records c.as_slice.result.now same c.in-Fault.record_no c.in-Fault.fault
+          (subst (EndsRound job.compiled _) c.in-Fault.is c.in_ok-total.ensures.value);
+    }
+
+-- a shard is lost
+pub returns : goal.returns
+returns g c =
+    let job = c.args.job.now in
+    let cut = cut_is_shards c.args.most c.args.records c.in_ok-shards.shards c.requires.most c.requires.few c.in_ok-shards.ensures.cut in
+    let same = ap (numbered 0 c.args.records) c.as_slice.ensures.value ∙ cut in
+    record {
+      value = lost_given job c.args.most c.args.records c.as_slice.result.now same c.in-Lost.shard
+          (subst (EndsRound job.compiled _) c.in-Lost.is c.in_ok-total.ensures.value);
+    }
