@@ -86,7 +86,7 @@ type M = proto {a: string @ 1, b: array of int @ 2 fixed32}; t: table collection
 
 == messages: values of proto types are tuples
 < ¶
-type M = proto {a: int @ 1, b: array of int @ 2}; t: table collection of M; m: M = {5, {6}}; m.a = 7; m.b[0]++; emit t <- m; => 0 t[] = {7, {7}}¶
+type M = proto {a: int @ 1, b: array of int @ 2}; t: table collection of M; m: M = {5, {6}}; m.a = 7; m.b[0] = 7; emit t <- m; => 0 t[] = {7, {7}}¶
 type M = proto {a: int @ 1, b: int @ 2}; s: table sum of M; m: M = {5, 6}; emit s <- m; emit s <- {1, 1}; => 0 s[] = {6, 7}¶
 type M = proto {a: int @ 1}; t: table collection of bool; m: M = {5}; emit t <- m == {5}; emit t <- m < {6}; => 0 t[] = true¶t[] = true¶
 type M = proto {a: int @ 1}; t: table collection of int; emit t <- M(B"\x08\x07").a; emit t <- M(input).a; => 0 t[] = 0¶t[] = 7¶
