@@ -9,7 +9,8 @@ use Rattle.sz_words.specs.declared.settings.Kill.{Kill}
 use Rattle.sz_words.specs.declared.settings.RunSettings.{RunSettings}
 use Rattle.sz_words.specs.declared.settings.Settings.{Settings}
 use Rattle.sz_words.specs.declared.settings.Settings.TheVariants.{Run, Check, Selftest}
-use Rattle.sz_words.specs.Texts.{number_in}
+use Rattle.std.specs.Str.Parse.{digits_value}
+use Rattle.sz_words.specs.Texts.{number_in, is_numeral}
 use Rattle.sz_words.specs.Parts.{Parts, parts_of, values_of}
 use Rattle.sz_words.specs.Settings.{Values, value_of, frame_in, number_or, numbers_in, kills_or_none, shards_or_none, run_with, stand_once, files_in, are_absent, run_settings}
 use Rattle.sz_words.specs.Settings.{check_settings, selftest_settings, command_settings, settings_in}
@@ -165,7 +166,7 @@ selftest_within given (a ∷ b ∷ c ∷ []) =
     let with_seed : ℕ → Option Settings = λ s. option_and_then (with_records s) (number_in 0 1000000 b) in
     if_chosen IsBounded (are_absent given) (option_and_then with_seed (number_in 0 (2 ^ 63 - 1) a)) None
     (if_made IsBounded with_seed (number_in 0 (2 ^ 63 - 1) a) (λ s.
-    if_made_of IsBounded (InRange 0 1000000) (with_records s) (number_in 0 1000000 b) (in_range 0 1000000 _ _ _) (λ r of_r.
+    if_made_of IsBounded (InRange 0 1000000) (with_records s) (number_in 0 1000000 b) (in_range 0 1000000 (digits_value 10 b) (nat_le (length b) 20) (is_numeral b)) (λ r of_r.
     if_made IsBounded (with_workers s r) (number_in 1 64 c) (λ w. of_r.1)))) tt
 selftest_within given (a ∷ b ∷ c ∷ d ∷ names) = tt
 

@@ -12,7 +12,7 @@ use Rattle.szl.proofs.answer.answer_settings.Goals as goal
 pub returns-in-Selftest-clause-value : goal.returns-in-Selftest-clause-value
 returns-in-Selftest-clause-value g c =
     subst (λ s. Answers g.F.Files (built (Some s)) c.args.files.now c.args.files.now (vec_items_of c.answer_selftest.result)) (sym c.in-Selftest.is)
-    (selftest_answered g.F.Files c.args.files.now c.in-Selftest.seed.now c.in-Selftest.records.now c.in-Selftest.workers.now
+    (selftest_answered g.F.Files c.args.files.now c.in-Selftest.seed c.in-Selftest.records c.in-Selftest.workers
     (vec_items_of c.answer_selftest.result) c.answer_selftest.ensures.value)
 
 pub returns-in-Selftest-clause-end : goal.returns-in-Selftest-clause-end
@@ -21,5 +21,5 @@ returns-in-Selftest-clause-end g c =
     (when_ok c.answer_selftest.result (nothing_opened g.F.Files c.args.files.now))
 
 -- its number of records is within its bounds
-pub answer_selftest-requires-clause-within : goal.answer_selftest-requires-clause-within
-answer_selftest-requires-clause-within g c = subst IsBounded c.in-Selftest.is c.requires.bounds
+pub answer_selftest-requires : goal.answer_selftest-requires
+answer_selftest-requires g c = record { within = subst IsBounded c.in-Selftest.is c.requires.bounds }

@@ -9,25 +9,27 @@ use Rattle.szl.proofs.SelftestLemmas.{no_memory_over, static_fails_over, tables_
 use Rattle.szl.proofs.selftest.answer_over.Goals as goal
 
 -- there was no memory for the code
-pub returns-in_err-compiled-clause-value : goal.returns-in_err-compiled-clause-value
-returns-in_err-compiled-clause-value g c =
+pub returns-in_err-compiled : goal.returns-in_err-compiled
+returns-in_err-compiled g c =
     let p = err_from_is_err_and c.from_residual.result c.from_residual.ensures.1 in
-    rw (p.1, p.2) (no_memory_over c.args.program c.args.settings.now c.args.input.now)
+    record { value = rw (p.1, p.2) (no_memory_over c.args.program c.args.settings.now c.args.input.now) }
 
 -- a static faults
-pub returns-in_err-statics-clause-value : goal.returns-in_err-statics-clause-value
-returns-in_err-statics-clause-value g c =
+pub returns-in_err-statics : goal.returns-in_err-statics
+returns-in_err-statics g c =
     let p = err_from_is_err_and c.from_residual-in_err-statics.result c.from_residual-in_err-statics.ensures.1 in
     let s = c.args.settings.now in
     let f = c.in_err-statics.field-0.0 in
-    rw (p.1, p.2) (static_fails_over c.args.program s c.args.input.now f
-    (subst (λ program. GivesStatics program s.budget (Err f)) c.in_ok-compiled.ensures.value c.in_err-statics.ensures.value))
+    record {
+      value = rw (p.1, p.2) (static_fails_over c.args.program s c.args.input.now f
+          (subst (λ program. GivesStatics program s.budget (Err f)) c.in_ok-compiled.ensures.value c.in_err-statics.ensures.value));
+    }
 
 -- there was no memory for the job
-pub returns-in_err-job-clause-value : goal.returns-in_err-job-clause-value
-returns-in_err-job-clause-value g c =
+pub returns-in_err-job : goal.returns-in_err-job
+returns-in_err-job g c =
     let p = err_from_is_err_and c.from_residual-in_err-job.result c.from_residual-in_err-job.ensures.1 in
-    rw (p.1, p.2) (no_memory_over c.args.program c.args.settings.now c.args.input.now)
+    record { value = rw (p.1, p.2) (no_memory_over c.args.program c.args.settings.now c.args.input.now) }
 
 -- the job can be run
 pub tables_of-requires-clause-job : goal.tables_of-requires-clause-job
@@ -41,11 +43,11 @@ tables_of-requires-clause-attempts g c =
     subst (λ n. (1 ≤ n) × (n ≤ 8)) (sym same) (c.requires.bounds.least_attempts, c.requires.bounds.most_attempts)
 
 -- the program was run over the bytes
-pub returns-clause-value : goal.returns-clause-value
-returns-clause-value g c =
+pub returns : goal.returns
+returns g c =
     let s = c.args.settings.now in
     let slots = c.in_ok-statics.statics in
     let job = c.in_ok-job.job in
     let begun = subst (λ program. GivesStatics program s.budget (Ok slots)) c.in_ok-compiled.ensures.value c.in_ok-statics.ensures.value in
     let of = subst (λ program. IsJobOf program slots s job) c.in_ok-compiled.ensures.value c.in_ok-job.ensures.value in
-    tables_over c.args.program s c.args.input.now slots begun job of (vec_items_of c.tables_of.result) c.tables_of.ensures.value
+    record { value = tables_over c.args.program s c.args.input.now slots begun job of (vec_items_of c.tables_of.result) c.tables_of.ensures.value }
