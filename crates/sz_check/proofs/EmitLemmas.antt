@@ -154,6 +154,28 @@ kept_taken old mid count counted is = hidden_taken count mid ∙ ap (λ n. take 
 pub still_front : (old mid : List (Bor Name)) (more : List (List ℕ)) → hidden_of mid ≡ hidden_of old ++ more → take (length old) (hidden_of mid) ≡ hidden_of old
 still_front old mid more is = ap (take (length old)) is ∙ front_taken (hidden_of old) more (length old) (sym (hidden_length old))
 
+-- the names are those that there were behind a statement, a `for` and a `when` too
+pub kept_behind : (old mid : List (Bor Name)) (count : ℕ) (s : Stm) → count ≡ length old → hidden_of mid ≡ hidden_behind (hidden_of old) s
+    → hidden_of (take count mid) ≡ hidden_of old
+kept_behind old mid count s counted is =
+    let front = behind_front (hidden_of old) s in
+    kept_front old mid count front.0 counted (is ∙ front.1)
+
+pub kept_behind_for : (old start mid : List (Bor Name)) (count : ℕ) (f : Option FirstForm) → count ≡ length old
+    → hidden_of start ≡ hidden_behind_first (hidden_of old) f → hidden_of mid ≡ hidden_of start → hidden_of (take count mid) ≡ hidden_of old
+kept_behind_for old start mid count f counted is same =
+    let front = first_front (hidden_of old) f in
+    kept_front old mid count front.0 counted (same ∙ is ∙ front.1)
+
+-- names that are hidden for the condition of a `when`, and then others for the statement inside
+module _ (old first cut second : List (Bor Name)) (count : ℕ) (names inside : List (List ℕ)) (counted : count ≡ length old)
+    (is : hidden_of first ≡ hidden_of old ++ names) (cut_is : cut ≡ take count first) (later : hidden_of second ≡ hidden_of cut ++ inside) where
+  pub hidden_inside : hidden_of second ≡ hidden_of old ++ inside
+  hidden_inside = later ∙ ap (λ (l : List (List ℕ)). l ++ inside) (ap hidden_of cut_is ∙ kept_front old first count names counted is)
+
+  pub kept_behind_when : (after : List (Bor Name)) → hidden_of after ≡ hidden_of second → hidden_of (take count after) ≡ hidden_of old
+  kept_behind_when after same = kept_front old after count inside counted (same ∙ hidden_inside)
+
 -- ---- turns of the loop over statements
 
 or_assoc : (a b c : Bool) → (a || b || c) ≡ (a || (b || c))

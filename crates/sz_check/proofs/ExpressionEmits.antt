@@ -105,15 +105,20 @@ module _ (fs : List Signature) where
   or_none true = refl
   or_none false = refl
 
+  -- a refusal behind a conversion
+  refused_then : (b : Bool) (n : Ident) (t : Shape) (e : Exp) (m : Node) → Holds (conversion_node n.place t e m >>= λ x. wrong_count n.place) (Gives b)
+  refused_then b n t e m =
+      bind_holds {f = λ x. wrong_count n.place} (known (conversion_node n.place t e m)) (λ x is. err_holds (Gives b) _)
+
   conversion_call_gives : (n : Ident) (t : Shape) (es : Exps) (ns : Nodes) → Holds (conversion_call n t es ns) (Gives (nodes_emit fs ns))
   unfolding nodes_emit
   conversion_call_gives n t end ns = err_holds _ _
   conversion_call_gives n t (more e end) no_nodes = err_holds _ _
   conversion_call_gives n t (more e end) (with_node m no_nodes) =
       weaker (conversion_gives n.place t e m) (λ x h. h ∙ or_none (node_emits fs m))
-  conversion_call_gives n t (more e end) (with_node m (with_node k ms)) = bind_holds (known _) (λ x is. err_holds _ _)
+  conversion_call_gives n t (more e end) (with_node m (with_node k ms)) = refused_then _ n t e m
   conversion_call_gives n t (more e (more d es)) no_nodes = err_holds _ _
-  conversion_call_gives n t (more e (more d es)) (with_node m ms) = bind_holds (known _) (λ x is. err_holds _ _)
+  conversion_call_gives n t (more e (more d es)) (with_node m ms) = refused_then _ n t e m
 
   index_gives : (p : Place) (e i : Exp) (n m : Node) → Holds (made_index p e i n m) (Gives (node_emits fs n || node_emits fs m))
   unfolding form_emits

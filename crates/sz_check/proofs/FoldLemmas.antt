@@ -1,5 +1,5 @@
 -- Turns of the loops that carry what is known from one element to the next.
-use Rattle.std.proofs.Common.{◌≡◌, ℕ, ◌+◌, ◌<◌, ◌≤◌, Bool, true, false, List, [], ◌∷◌, ◌++◌, length, get_or, drop, map, refl, sym, ap, ◌∙◌, append_assoc}
+use Rattle.std.proofs.Common.{◌≡◌, ℕ, ◌+◌, ◌<◌, ◌≤◌, Bool, true, false, List, [], ◌∷◌, ◌++◌, length, get_or, drop, map, refl, sym, ap, ◌∙◌, subst, append_assoc}
 use Rattle.std.proofs.Common.{append-nil}
 use Rattle.std.specs.Prelude.{Ok, Err, if◌then◌else◌}
 use Rattle.std.proofs.lemmas.List.{drop_more, map-append}
@@ -56,6 +56,25 @@ names_go q t = record {
   none = λ d. refl;
 }
 
+-- one name, which is refused or declared; its type may have another spelling
+pub name_stops : (q : Quantity) (t u : Shape) (n : Ident) (d : Declared) (e : CheckError) → u ≡ t → Stops e (with_quantified n u d.scene)
+    → Stops e (judge_names q t (n ∷ []) d)
+unfolding judge_names
+name_stops q t u n d e same h =
+    let v : Variable = record { name = n; quantity = q; local = length d.scene.locals; type = t } in
+    stops_then e (with_quantified n t d.scene) (λ next. Ok (record { scene = next; variables = d.variables ++ v ∷ [] })) _
+    (subst (λ x. Stops e (with_quantified n x d.scene)) same h) refl
+
+pub name_goes : (q : Quantity) (t u : Shape) (n : Ident) (d : Declared) (next : Scene) (v : Variable) (vs : List Variable) → u ≡ t
+    → with_quantified n u d.scene ≡ Ok next → v ≡ record { name = n; quantity = q; local = length d.scene.locals; type = t }
+    → vs ≡ d.variables ++ v ∷ [] → judge_names q t (n ∷ []) d ≡ Ok (record { scene = next; variables = vs })
+unfolding judge_names
+name_goes q t u n d next v vs same h v_is vs_is =
+    let w : Variable = record { name = n; quantity = q; local = length d.scene.locals; type = t } in
+    ap (λ (j : Judged Scene). j >>= λ x. Ok (record { scene = x; variables = d.variables ++ w ∷ [] }))
+    (ap (λ x. with_quantified n x d.scene) (sym same) ∙ h)
+    ∙ ap (λ (l : List Variable). Ok (record { scene = next; variables = l })) (ap (λ x. d.variables ++ x ∷ []) (sym v_is) ∙ sym vs_is)
+
 -- quantifiers
 pub quantifiers_go : Goes judge_quantifier judge_quantifiers
 unfolding judge_quantifiers
@@ -72,6 +91,20 @@ inside_more v vs blocks false = refl
 pub inside_go : Goes (λ v. bind_inside (v ∷ [])) bind_inside
 unfolding bind_inside
 inside_go = record { more = λ v vs blocks. inside_more v vs blocks (is_seen_inside v.quantity); none = λ blocks. refl }
+
+-- one variable
+as_it_is : {A : Type 0} (j : Judged A) → (j >>= λ x. Ok x) ≡ j
+as_it_is (Ok x) = refl
+as_it_is (Err r) = refl
+
+pub one_inside : (v : Variable) (blocks : List Block) → is_seen_inside v.quantity ≡ true → bind_inside (v ∷ []) blocks ≡ bind v blocks
+unfolding bind_inside
+one_inside v blocks h =
+    ap (λ (b : Bool). if b then (bind v blocks >>= λ x. Ok x) else Ok blocks) h ∙ as_it_is (bind v blocks)
+
+pub not_inside : (v : Variable) (blocks : List Block) → is_seen_inside v.quantity ≡ false → bind_inside (v ∷ []) blocks ≡ Ok blocks
+unfolding bind_inside
+not_inside v blocks h = ap (λ (b : Bool). if b then (bind v blocks >>= λ x. Ok x) else Ok blocks) h
 
 -- the variables that speak of all candidates
 pub last_go : Goes may_follow all_last

@@ -3,7 +3,9 @@ use Rattle.std.proofs.Common.{◌≡◌, ℕ, Bool, true, false, List, [], ◌�
 use Rattle.std.specs.Prelude.{◌||◌, Ok, pos, is_some, length, if◌then◌else◌}
 use Rattle.sz_types.specs.Data.{Shape}
 use Rattle.sz_types.specs.declared.place.Place.{Place}
+use Rattle.sz_types.specs.Rows.{sum_row, difference_row}
 use Rattle.sz_types.specs.declared.operator.BinOp.{BinOp}
+use Rattle.sz_types.specs.declared.operator.BinOp.TheVariants.{Add, Sub}
 use Rattle.sz_value.specs.Data.{Datum}
 use Rattle.sz_tree.specs.Names.{Ident}
 use Rattle.sz_tree.specs.Types.{Typ}
@@ -183,13 +185,13 @@ module _ (fs : List Signature) (emits : List ℕ → Bool) where
         λ t u. core.store n.place t.local [] (node n.place u (forms.binary o (node n.place t.type (forms.local t.local)) one)) in
         bind_holds {f = λ t. by_option (wrong_type n.place) (λ u. good (changed t u)) (row t.type Shape.int)}
         (known (judge_path s (record { name = n; steps = [] }))) (λ t is.
-        option_holds _ (λ none. err_holds _ _) (λ u has. ok_holds (Does false) (changed t u) refl))
+        option_holds {r = wrong_type n.place} (row t.type Shape.int) (λ none. err_holds _ _) (λ u has. ok_holds (Does false) (changed t u) refl))
 
     pub simple_does : (t : SimpleForm) → Holds (judge_simple s t) (Does (simple_emits emits h t))
     unfolding core_emits exp_emits
     simple_does (assign path e) = assignment_does path e
-    simple_does (increment n) = change_does n _ _
-    simple_does (decrement n) = change_does n _ _
+    simple_does (increment n) = change_does n Add sum_row
+    simple_does (decrement n) = change_does n Sub difference_row
     simple_does (call_of n es) = bind_holds (judged_gives None (exps.call n es)) (λ m is.
         ok_holds (Does (calls emits h n.text || exps_emit emits h es)) (core.evaluate n.place m) is)
 

@@ -1,5 +1,5 @@
 //! Statements.
-ghost use Rattle.std.specs.Prelude.{◌≡◌, ◌∷◌, [], true, IfOk, map as each};
+ghost use Rattle.std.specs.Prelude.{◌≡◌, ◌∷◌, [], true, false, IfOk, map as each};
 ghost use Rattle.std.specs.Option.{option_map};
 ghost use Rattle.sz_tree.specs.Statements.{stms_of, block, if_only, while, do_while, when};
 ghost use Rattle.sz_tree.specs.View.{tree_of, stm_of, simple_of, first_of, quantifier_of};

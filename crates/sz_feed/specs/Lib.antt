@@ -1,2 +1,3 @@
 -- what the public contracts rest on
 pub mod Feed
+pub mod Program

@@ -9,6 +9,6 @@ mod record;
 mod tests;
 
 pub use feeding::{MOST_RECORDS, feed};
-pub use program::PROGRAM;
+pub use program::{PROGRAM, program_bytes};
 /// There was no memory: the one answer of a call that no clause speaks of.
 pub use std::alloc::AllocError as NoMemory;

@@ -134,7 +134,7 @@ gained name old new most le (inl is) = record { count = 0; within = omega arith;
 gained name old new most le (inr is) = opened_one name old new most le is
 
 -- a decision without a count that rose is one whatever rose
-decides_still : (answer : Result (List ℕ) Failure) (outcome : Answer) (rose : Type 0) → Decides answer outcome ⊥ → Decides answer outcome rose
+pub decides_still : (answer : Result (List ℕ) Failure) (outcome : Answer) (rose : Type 0) → Decides answer outcome ⊥ → Decides answer outcome rose
 decides_still (Ok output) outcome rose h = h
 decides_still (Err failure.ReadFailed) outcome rose h = absurd h.0
 decides_still (Err failure.WriteFailed) outcome rose h = h
@@ -182,8 +182,8 @@ module _ {F : Type 0} (the_files : files.Ghosts F) (frame : Frame) (name : List 
   static_fails program s failure.ReadFailed h = absurd h
   static_fails program s failure.WriteFailed h = absurd h
 
-module _ {F : Type 0} (the_files : files.Ghosts F) (frame : Frame) (name : List ℕ) (old new : F) (program : Core)
-    (s : RunSettings) (limit : ℕ) (slots : List Slot) (begun : statics program s.budget ≡ Done slots) where
+-- the statics are these
+module _ (program : Core) (s : RunSettings) (slots : List Slot) (begun : statics program s.budget ≡ Done slots) where
   abbrev of_cut : Cut → ShardsEnd
   of_cut cut = outcome_of (job_of program slots s) (shards_in s.shard cut.records)
 
@@ -200,13 +200,15 @@ module _ {F : Type 0} (the_files : files.Ghosts F) (frame : Frame) (name : List 
   not_usage cut = subst (λ (a : Answer). a.status ≢ status.Usage) (sym (on_shards cut)) (no_usage program cut.ending (of_cut cut))
 
   -- the job has this outcome
-  of_job : (job : Job) → IsJobOf program slots s job → (cut : Cut)
+  pub of_job : (job : Job) → IsJobOf program slots s job → (cut : Cut)
       → outcome_of_shards job.compiled cut.ending (outcome_of job (shards_in s.shard cut.records)) ≡ outcome_of_program program s cut
   of_job job is cut =
       ap (λ (j : Job). outcome_of_shards j.compiled cut.ending (outcome_of j (shards_in s.shard cut.records))) is.same
       ∙ ap (outcome_of_shards program cut.ending) (same_outcome (job_of program slots s) job.twice (shards_in s.shard cut.records))
       ∙ sym (on_shards cut)
 
+module _ {F : Type 0} (the_files : files.Ghosts F) (frame : Frame) (name : List ℕ) (old new : F) (program : Core)
+    (s : RunSettings) (limit : ℕ) (slots : List Slot) (begun : statics program s.budget ≡ Done slots) where
   -- the input couldn't be read
   pub input_fails : (f : Failure) → ReadsText (the_files.held old name) limit failure.NoMemory (Rose (the_files.faults old) (the_files.faults new)) (Err f)
       → NamesGain (ran_out (Err f)) (the_files.names old) (the_files.names new) name
@@ -216,8 +218,8 @@ module _ {F : Type 0} (the_files : files.Ghosts F) (frame : Frame) (name : List 
     cut = c.cut;
     is_cut = c.is_cut;
     holds = reads.holds;
-    decides = (reads.tells, not_usage c.cut);
-    opened = opened_one name _ _ _ (one_left c.cut) gains;
+    decides = (reads.tells, not_usage program s slots begun c.cut);
+    opened = opened_one name _ _ _ (one_left program s slots begun c.cut) gains;
   }
   input_fails failure.NoMemory reads gains = let c = cut_of frame reads.text in record {
     input = reads.text;
@@ -225,7 +227,7 @@ module _ {F : Type 0} (the_files : files.Ghosts F) (frame : Frame) (name : List 
     is_cut = c.is_cut;
     holds = reads.holds;
     decides = tt;
-    opened = gained name _ _ _ (one_left c.cut) gains;
+    opened = gained name _ _ _ (one_left program s slots begun c.cut) gains;
   }
   input_fails failure.Usage reads gains = let e = reads.tells.0 in absurd (cc)
   input_fails (failure.Refused r) reads gains = let e = reads.tells.0 in absurd (cc)
@@ -245,8 +247,8 @@ module _ {F : Type 0} (the_files : files.Ghosts F) (frame : Frame) (name : List 
     cut = gives.cut;
     is_cut = subst (λ b. IsCutInto frame b gives.cut) reads.tells.0 gives.is_cut;
     holds = reads.holds;
-    decides = decides_still answer _ _ (subst (λ o. Decides answer o ⊥) (of_job job is gives.cut) gives.decides);
-    opened = opened_one name _ _ _ (one_left gives.cut) gains;
+    decides = decides_still answer _ _ (subst (λ o. Decides answer o ⊥) (of_job program s slots begun job is gives.cut) gives.decides);
+    opened = opened_one name _ _ _ (one_left program s slots begun gives.cut) gains;
   }
 
   -- the input was read, and there was no memory for the job
@@ -260,7 +262,7 @@ module _ {F : Type 0} (the_files : files.Ghosts F) (frame : Frame) (name : List 
     is_cut = c.is_cut;
     holds = reads.holds;
     decides = tt;
-    opened = opened_one name _ _ _ (one_left c.cut) gains;
+    opened = opened_one name _ _ _ (one_left program s slots begun c.cut) gains;
   }
 
 -- the outcome of running the text that spells a program is the program's

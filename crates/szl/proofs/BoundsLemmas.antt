@@ -165,8 +165,8 @@ selftest_within given (a ∷ b ∷ c ∷ []) =
     let with_seed : ℕ → Option Settings = λ s. option_and_then (with_records s) (number_in 0 1000000 b) in
     if_chosen IsBounded (are_absent given) (option_and_then with_seed (number_in 0 (2 ^ 63 - 1) a)) None
     (if_made IsBounded with_seed (number_in 0 (2 ^ 63 - 1) a) (λ s.
-    if_made IsBounded (with_records s) (number_in 0 1000000 b) (λ r.
-    if_made IsBounded (with_workers s r) (number_in 1 64 c) (λ w. tt)))) tt
+    if_made_of IsBounded (InRange 0 1000000) (with_records s) (number_in 0 1000000 b) (in_range 0 1000000 _ _ _) (λ r of_r.
+    if_made IsBounded (with_workers s r) (number_in 1 64 c) (λ w. of_r.1)))) tt
 selftest_within given (a ∷ b ∷ c ∷ d ∷ names) = tt
 
 command_within : (command : List ℕ) (given : Values) (names : List (List ℕ)) → IfSome (command_settings command given names) IsBounded

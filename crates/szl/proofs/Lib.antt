@@ -7,5 +7,6 @@ mod MainLemmas
 mod OpeningLemmas
 mod RoundsLemmas
 mod RunningLemmas
+mod SelftestLemmas
 mod SettingsLemmas
 mod ShardLemmas

@@ -3,6 +3,8 @@ use Rattle.std.proofs.Common.{◌≡◌, ◌≢◌, ℕ, zero, suc, ◌<◌, ◌
 use Rattle.std.proofs.Common.{true, false, Option, Some, None, refl, sym, ap, ◌∙◌, subst, arith, inl, inr, append-nil, append_assoc}
 use Rattle.std.specs.Prelude.{IfSome, IsSome, IsTrue, unwrap_or, Result, Ok, Err, OnOk, if◌then◌else◌}
 use Rattle.std.specs.Io.KnownBytes.{IsAtEnd}
+use Rattle.sz_feed.specs.Feed.{file_of}
+use Rattle.sz_feed.specs.Program.{program_text}
 use Rattle.sz_io.specs.Rose.{Rose}
 use Rattle.sz_io.specs.Opened.{KeepsFiles}
 use Rattle.sz_io.specs.Calls.{NamesGain, ReadToEnd}
@@ -154,8 +156,8 @@ module _ {F : Type 0} (the_files : files.Ghosts F) (old : F) where
       let r = every_text_is_read text in
       unopened (Some (Check program)) text [] r.reading r.read (holds_or (the_files.held old program) []) (Err failure.NoMemory) (λ cut. tt)
   no_memory_for (Some (Selftest seed records workers)) =
-      let r = every_text_is_read [] in
-      unopened (Some (Selftest seed records workers)) [] [] r.reading r.read tt (Err failure.NoMemory) (λ cut. tt)
+      let r = every_text_is_read program_text in
+      unopened (Some (Selftest seed records workers)) program_text (file_of seed records) r.reading r.read (refl, refl) (Err failure.NoMemory) (λ cut. tt)
 
 -- words without settings
 pub words_fail : {F : Type 0} (the_files : files.Ghosts F) (old : F) (words : List (List ℕ)) (e : WordsError)

@@ -8,6 +8,7 @@ use Rattle.szl.specs.declared.failure.Failure.TheVariants.{Usage, Refused, Fault
 use Rattle.szl.specs.declared.refusal.Cause.TheVariants.{TooLong}
 use Rattle.sz_lex.specs.Tokens.{first_place}
 use Rattle.sz_types.specs.declared.frame.Frame.{Frame}
+use Rattle.sz_core.specs.Programs.{Core}
 use Rattle.sz_run.specs.Ends.{seen_fault}
 use Rattle.sz_words.specs.declared.settings.RunSettings.{RunSettings}
 use Rattle.sz_words.specs.declared.settings.Settings.{Settings}
@@ -15,7 +16,7 @@ use Rattle.szl.specs.Settings.{frame_asked}
 use Rattle.szl.specs.Records.{Cut, IsCutInto}
 use Rattle.szl.specs.Judgement.{Reading, IsRead, refusal_at}
 use Rattle.szl.specs.Outcome.{Answer, usage_line, damaged_line, limit_line, success, refusal, outcome_faulted, outcome_lost, outcome_refused}
-use Rattle.szl.specs.Outcome.{outcome_of_run, outcome_of_check, outcome_of_settings}
+use Rattle.szl.specs.Outcome.{outcome_of_program, outcome_of_run, outcome_of_check, outcome_of_settings}
 use Rattle.szl.specs.Promise.{AreHeld, OpensFirst, names_asked}
 
 -- what reading a whole file says of its text: the text, that it is past the limit, that a read failed, or want of memory
@@ -92,3 +93,17 @@ pub record AnswersCheck (text : List ℕ) (answer : Result (List ℕ) Failure) :
   pub reading : Reading
   pub read : IsRead text reading
   pub decides : Decides answer (outcome_of_check reading) ⊥
+
+-- the answer is that of running the program over these bytes, as these settings ask for it
+pub record AnswersOver (program : Core) (s : RunSettings) (input : List ℕ) (answer : Result (List ℕ) Failure) : Type 0 where
+  pub cut : Cut
+  pub is_cut : IsCutInto s.frame input cut
+  pub decides : Decides answer (outcome_of_program program s cut) ⊥
+
+-- the answer is that of running what the text is read as over these bytes, as these settings ask for it
+pub record AnswersTextOver (s : RunSettings) (text input : List ℕ) (answer : Result (List ℕ) Failure) : Type 0 where
+  pub reading : Reading
+  pub read : IsRead text reading
+  pub cut : Cut
+  pub is_cut : IsCutInto s.frame input cut
+  pub decides : Decides answer (outcome_of_run s cut reading) ⊥

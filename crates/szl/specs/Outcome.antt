@@ -12,7 +12,7 @@ use Rattle.sz_records.specs.declared.ending.Ending.{Ending}
 use Rattle.sz_records.specs.declared.ending.Ending.TheVariants.{Whole, Damaged, Limit}
 use Rattle.sz_words.specs.declared.settings.RunSettings.{RunSettings}
 use Rattle.sz_words.specs.declared.settings.Settings.{Settings}
-use Rattle.sz_words.specs.declared.settings.Settings.TheVariants.{Run, Check}
+use Rattle.sz_words.specs.declared.settings.Settings.TheVariants.{Run, Check, Selftest}
 use Rattle.sz_workers.specs.Outcomes.{ShardsEnd, emitted, faulted, lost, outcome_of}
 use Rattle.szl.specs.declared.status.Status.{Status}
 use Rattle.szl.specs.declared.status.Status.TheVariants as status
@@ -23,7 +23,7 @@ use Rattle.szl.specs.declared.refusal.Cause.TheVariants.{EmitHere}
 use Rattle.szl.specs.declared.refusal.Refusal.{Refusal}
 use Rattle.szl.specs.Judgement.{Reading, refused, spells}
 use Rattle.szl.specs.Checking.{checked}
-use Rattle.szl.specs.Settings.{asked_in}
+use Rattle.szl.specs.Settings.{asked_in, selftest_run}
 use Rattle.szl.specs.Records.{Cut}
 use Rattle.szl.specs.Shards.{shards_in, job_of}
 
@@ -179,6 +179,7 @@ outcome_of_check (spells statements) = outcome_of_checked (checked statements)
 abbrev pub outcome_of_settings : Option Settings → Reading → Cut → Answer
 outcome_of_settings (Some (Run s)) reading cut = outcome_of_run s cut reading
 outcome_of_settings (Some (Check program)) reading cut = outcome_of_check reading
+outcome_of_settings (Some (Selftest seed records workers)) reading cut = outcome_of_run (selftest_run workers) cut reading
 outcome_of_settings _ reading cut = refusal status.Usage usage_line 0
 
 -- the outcome of a command line, from its words, the reading of the program's text and the input, which is cut so

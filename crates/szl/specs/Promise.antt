@@ -1,13 +1,15 @@
 -- What a call of the program promises.
 use Rattle.std.specs.Prelude.{◌≡◌, ◌≢◌, ℕ, ◌≤◌, ◌⊎◌, ⊤, Bool, IsTrue, List, [], ◌∷◌, ◌++◌, length, take, Option, Some, IfSome, IsSome}
 use Rattle.std.specs.Io.KnownBytes.{Appends, IsAtEnd}
+use Rattle.sz_feed.specs.Feed.{file_of}
+use Rattle.sz_feed.specs.Program.{program_text}
 use Rattle.sz_io.specs.Rose.{Rose}
 use Rattle.sz_io.specs.declared.files.Files as files
 use Rattle.sz_io.specs.declared.sink.Sink as sink
 use Rattle.szl.specs.declared.status.Status.{Status}
 use Rattle.szl.specs.declared.status.Status.TheVariants.{Done, Usage, ReadFailed, WriteFailed, NoMemory}
 use Rattle.sz_words.specs.declared.settings.Settings.{Settings}
-use Rattle.sz_words.specs.declared.settings.Settings.TheVariants.{Run, Check}
+use Rattle.sz_words.specs.declared.settings.Settings.TheVariants.{Run, Check, Selftest}
 use Rattle.szl.specs.Judgement.{Reading, IsRead}
 use Rattle.szl.specs.Settings.{asked_in, frame_asked}
 use Rattle.szl.specs.Records.{Cut, IsCutInto}
@@ -65,10 +67,11 @@ pub record OpensFirst (asked old new : List (List ℕ)) (most : ℕ) : Type 0 wh
   pub within : count ≤ most
   pub opened : new ≡ old ++ take count asked
 
--- the bytes under each name that the words ask for are these, where they are told
+-- the bytes under each name that the words ask for are these, where they are told; those of a self test are its program and its file
 abbrev pub AreHeld : Option Settings → (List ℕ → Option (List ℕ)) → List ℕ → List ℕ → Type 0
 AreHeld (Some (Run s)) held text input = IfSome (held s.program) (λ bytes. bytes ≡ text) × IfSome (held s.input) (λ bytes. bytes ≡ input)
 AreHeld (Some (Check program)) held text input = IfSome (held program) (λ bytes. bytes ≡ text)
+AreHeld (Some (Selftest seed records workers)) held text input = (text ≡ program_text) × (input ≡ file_of seed records)
 AreHeld _ held text input = ⊤
 
 -- The call's status, its output, its line and the files that it opens are those of the outcome, for the bytes that the

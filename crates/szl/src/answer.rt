@@ -17,6 +17,7 @@ use crate::judge::{checked, tree_in};
 use crate::opening::read_text;
 use crate::refusal::Cause;
 use crate::running::{job_of, statics_of, tables_of};
+use crate::selftest::answer_selftest;
 use std::alloc::Global;
 use sz_core::Program;
 use sz_gen_stmt::compile;
@@ -62,7 +63,11 @@ fn answer_settings<F: Files, G: Gate>(
     match settings {
         Settings::Run(run) => answer_built(alloc, run, files, gate),
         Settings::Check(program) => answer_check(alloc, program.as_str(), files),
-        Settings::Selftest { .. } => Err(Failure::Usage),
+        Settings::Selftest {
+            seed,
+            records,
+            workers,
+        } => answer_selftest(alloc, *seed, *records, *workers, gate),
     }
 }
 

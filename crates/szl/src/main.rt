@@ -11,6 +11,7 @@ mod records;
 mod refusal;
 mod rounds;
 mod running;
+mod selftest;
 mod status;
 #[cfg(test)]
 mod tests;

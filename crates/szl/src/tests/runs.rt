@@ -258,12 +258,24 @@ $ [run p f --kill 0.0.0 --kill 0.1.0]
 c: table sum of int; x: int = input; emit c <- x; => 1 ! bad command line
 $ [run p f --shard 1 --attempts 2 --kill 0.0.0,1.0.1 --twice 1,0]
 c: table sum of int; x: int = input; emit c <- x; => 0 c[] = 2¶
-$ [selftest 1 1 1]
-c: table sum of int; x: int = input; emit c <- x; => 1 ! bad command line
 $ [selftest 1 1]
 c: table sum of int; x: int = input; emit c <- x; => 1 ! bad command line
 $ [selftest 9223372036854775808 1 1]
 c: table sum of int; x: int = input; emit c <- x; => 1 ! bad command line
+
+== a self test runs its own program over its own file, and opens none
+$ [selftest 1 3 2]
+no program => 0 queries["de"] = 1¶queries["fr"] = 1¶queries["us"] = 1¶slow[] = "de" weight 819¶slow[] = "us" weight 472¶slow[] = "fr" weight 305¶hours[] = 3¶hours[] = 17¶
+$ [selftest 1 1 1]
+no program => 0 queries["fr"] = 1¶slow[] = "fr" weight 305¶hours[] = 17¶
+$ [selftest 2 1 1]
+no program => 0
+$ [selftest 5 0 64]
+no program => 0
+$ [selftest 1 1 65]
+no program => 1 ! bad command line
+$ [selftest 1 1000001 1]
+no program => 1 ! bad command line
 
 == the tables are those of all shards
 $ [run p f --shard 1 --twice 0 --kill 0.0.0 --attempts 1]

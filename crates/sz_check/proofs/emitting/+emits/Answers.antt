@@ -2,6 +2,9 @@ use Rattle.std.proofs.Common.{map, sym, ap, ◌∙◌, arith}
 use Rattle.sz_known.specs.Holding.{blocks_of}
 use Rattle.sz_check.specs.EmittingTrees.{emits_by}
 use Rattle.sz_check.specs.Hidden.{hidden_of}
+use Rattle.sz_tree.proofs.RowLemmas.{tree_of_call, tree_of_list, tree_of_map}
+use Rattle.sz_tree.specs.View.{tree_of}
+use Rattle.sz_check.proofs.EmitLemmas.{call_emits, list_emits, map_emits}
 use Rattle.sz_check.proofs.EmitLemmas.{exps_turn, pairs_turn, holds_whole, rest_decides, first_holds, second_decides}
 use Rattle.sz_check.proofs.emitting.+emits.Goals as goal
 use Rattle.sz_check.proofs.emitting.+emits.Goals.{pairs_emit-then-exp_emits-via-then-exp_emits}
@@ -39,3 +42,24 @@ pairs_emit-loop-pair-preserved t c =
     (omega arith) c.pair-item.is in
     rest_decides _ _ _ (sym turn ∙ c.loop-pair.invariant) (second_decides _ _ _ (sym c.exp_emits.ensures.value ∙ c.if-exp_emits.false)
     (sym c.exp_emits-else-exp_emits.ensures.value ∙ c.if-exp_emits-2.false))
+
+pub exp_emits-returns-else-calls : goal.exp_emits-returns-else-calls
+exp_emits-returns-else-calls t c = record {
+  value = c.exps_emit.ensures.value
+      ∙ call_emits (emits_by (blocks_of c.args.known.now)) (hidden_of c.args.hidden.now) c.args.tree.now c.in-Call.name c.in-Call.items
+      c.as_slice.result.now c.calls.result (ap tree_of c.in-Call.is ∙ tree_of_call _ _) c.as_slice.ensures.value c.calls.ensures.value c.if-calls.false;
+}
+
+pub exp_emits-returns-in-List : goal.exp_emits-returns-in-List
+exp_emits-returns-in-List t c = record {
+  value = c.exps_emit-in-List.ensures.value
+      ∙ list_emits (emits_by (blocks_of c.args.known.now)) (hidden_of c.args.hidden.now) c.args.tree.now c.in-List.field-0 c.in-List.items
+      c.as_slice-in-List.result.now (ap tree_of c.in-List.is ∙ tree_of_list _ _) c.as_slice-in-List.ensures.value;
+}
+
+pub exp_emits-returns-in-Map : goal.exp_emits-returns-in-Map
+exp_emits-returns-in-Map t c = record {
+  value = c.pairs_emit.ensures.value
+      ∙ map_emits (emits_by (blocks_of c.args.known.now)) (hidden_of c.args.hidden.now) c.args.tree.now c.in-Map.field-0 c.in-Map.pairs
+      c.as_slice-in-Map.result.now (ap tree_of c.in-Map.is ∙ tree_of_map _ _) c.as_slice-in-Map.ensures.value;
+}

@@ -1,12 +1,25 @@
-use Rattle.std.proofs.Common.{sym, subst}
-use Rattle.std.specs.Prelude.{Some, Err}
-use Rattle.szl.specs.declared.failure.Failure.TheVariants.{Usage}
+use Rattle.std.proofs.Common.{Some, [], sym, subst}
+use Rattle.std.specs.Prelude.{OnOk}
 use Rattle.szl.specs.Opening.{Answers}
-use Rattle.szl.specs.Settings.{built}
-use Rattle.szl.proofs.SettingsLemmas.{no_settings}
+use Rattle.szl.specs.Promise.{AreReadToEnd, names_asked}
+use Rattle.szl.specs.Running.{vec_items_of}
+use Rattle.szl.specs.Settings.{built, IsBounded}
+use Rattle.szl.proofs.SelftestLemmas.{selftest_answered, nothing_opened}
+use Rattle.szl.proofs.SettingsLemmas.{when_ok}
 use Rattle.szl.proofs.answer.answer_settings.Goals as goal
 
--- a run on a generated input isn't built
+-- a self test opens no file
 pub returns-in-Selftest-clause-value : goal.returns-in-Selftest-clause-value
 returns-in-Selftest-clause-value g c =
-    subst (λ s. Answers g.F.Files (built (Some s)) c.args.files.now c.args.files.now (Err Usage)) (sym c.in-Selftest.is) (no_settings g.F.Files c.args.files.now)
+    subst (λ s. Answers g.F.Files (built (Some s)) c.args.files.now c.args.files.now (vec_items_of c.answer_selftest.result)) (sym c.in-Selftest.is)
+    (selftest_answered g.F.Files c.args.files.now c.in-Selftest.seed.now c.in-Selftest.records.now c.in-Selftest.workers.now
+    (vec_items_of c.answer_selftest.result) c.answer_selftest.ensures.value)
+
+pub returns-in-Selftest-clause-end : goal.returns-in-Selftest-clause-end
+returns-in-Selftest-clause-end g c =
+    subst (λ s. OnOk c.answer_selftest.result (AreReadToEnd g.F.Files c.args.files.now c.args.files.now (names_asked (built (Some s))))) (sym c.in-Selftest.is)
+    (when_ok c.answer_selftest.result (nothing_opened g.F.Files c.args.files.now))
+
+-- its number of records is within its bounds
+pub answer_selftest-requires-clause-within : goal.answer_selftest-requires-clause-within
+answer_selftest-requires-clause-within g c = subst IsBounded c.in-Selftest.is c.requires.bounds

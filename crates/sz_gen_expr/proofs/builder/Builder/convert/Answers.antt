@@ -28,7 +28,7 @@ returns-in_ok-push-2 c =
       made = type_pushed c.args.self.now c.push-else-same.new.self from to n c.args.place
           (sym (says_alike c.same.result from to c.same.ensures.value) ∙ c.if-same.false)
           (c.in_ok-push-2.ensures.lines ∙ ap (λ l. l ++ line c.changing.result 1 c.args.place ∷ []) c.type_number.ensures.lines
-              ∙ ap (λ (i : Instr). c.args.self.now.lines ++ line i 1 c.args.place ∷ []) c.changing.ensures.value)
+          ∙ ap (λ (i : Instr). c.args.self.now.lines ++ line i 1 c.args.place ∷ []) c.changing.ensures.value)
           (c.in_ok-number.ensures.value ∙ c.in_ok-type_number.ensures.number)
           (c.push-else-same.ensures.types ∙ c.in_ok-type_number.ensures.kept)
           (c.push-else-same.ensures.functions ∙ c.type_number.ensures.functions)

@@ -1,0 +1,51 @@
+use Rattle.std.proofs.Common.{sym, ap, subst}
+use Rattle.std.proofs.lemmas.Result.{err_from_is_err_and}
+use Rattle.std.specs.Prelude.{Ok, Err, ◌≤◌, ◌^◌}
+use Rattle.sz_core.specs.Sound.{IsSound}
+use Rattle.sz_attempt.specs.declared.job.Job.{Job}
+use Rattle.szl.specs.Running.{GivesStatics, GivesTables, IsJobOf, vec_items_of}
+use Rattle.szl.proofs.AnswerLemmas.{is_job}
+use Rattle.szl.proofs.SelftestLemmas.{no_memory_over, static_fails_over, tables_over}
+use Rattle.szl.proofs.selftest.answer_over.Goals as goal
+
+-- there was no memory for the code
+pub returns-in_err-compiled-clause-value : goal.returns-in_err-compiled-clause-value
+returns-in_err-compiled-clause-value g c =
+    let p = err_from_is_err_and c.from_residual.result c.from_residual.ensures.1 in
+    rw (p.1, p.2) (no_memory_over c.args.program c.args.settings.now c.args.input.now)
+
+-- a static faults
+pub returns-in_err-statics-clause-value : goal.returns-in_err-statics-clause-value
+returns-in_err-statics-clause-value g c =
+    let p = err_from_is_err_and c.from_residual-in_err-statics.result c.from_residual-in_err-statics.ensures.1 in
+    let s = c.args.settings.now in
+    let f = c.in_err-statics.field-0.0 in
+    rw (p.1, p.2) (static_fails_over c.args.program s c.args.input.now f
+    (subst (λ program. GivesStatics program s.budget (Err f)) c.in_ok-compiled.ensures.value c.in_err-statics.ensures.value))
+
+-- there was no memory for the job
+pub returns-in_err-job-clause-value : goal.returns-in_err-job-clause-value
+returns-in_err-job-clause-value g c =
+    let p = err_from_is_err_and c.from_residual-in_err-job.result c.from_residual-in_err-job.ensures.1 in
+    rw (p.1, p.2) (no_memory_over c.args.program c.args.settings.now c.args.input.now)
+
+-- the job can be run
+pub tables_of-requires-clause-job : goal.tables_of-requires-clause-job
+tables_of-requires-clause-job g c =
+    is_job c.in_ok-compiled.compiled c.in_ok-statics.statics c.args.settings.now c.in_ok-job.job c.in_ok-job.ensures.value
+    (subst IsSound (sym c.in_ok-compiled.ensures.value) c.requires.sound) c.in_ok-statics.ensures.fit c.requires.bounds
+
+pub tables_of-requires-clause-attempts : goal.tables_of-requires-clause-attempts
+tables_of-requires-clause-attempts g c =
+    let same = ap (λ (j : Job). j.attempts) c.in_ok-job.ensures.value.same in
+    subst (λ n. (1 ≤ n) × (n ≤ 8)) (sym same) (c.requires.bounds.least_attempts, c.requires.bounds.most_attempts)
+
+-- the program was run over the bytes
+pub returns-clause-value : goal.returns-clause-value
+returns-clause-value g c =
+    let s = c.args.settings.now in
+    let slots = c.in_ok-statics.statics in
+    let job = c.in_ok-job.job in
+    let begun = subst (λ program. GivesStatics program s.budget (Ok slots)) c.in_ok-compiled.ensures.value c.in_ok-statics.ensures.value in
+    let of = subst (λ program. IsJobOf program slots s job) c.in_ok-compiled.ensures.value c.in_ok-job.ensures.value in
+    tables_over c.args.program s c.args.input.now slots begun job of (vec_items_of c.tables_of.result) c.tables_of.ensures.value

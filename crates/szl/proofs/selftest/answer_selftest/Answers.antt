@@ -1,0 +1,62 @@
+use Rattle.std.proofs.Common.{sym, subst}
+use Rattle.std.proofs.lemmas.Result.{err_from_is_err_and}
+use Rattle.std.specs.Prelude.{◌≤◌, length}
+use Rattle.sz_feed.specs.Feed.{file_of}
+use Rattle.sz_feed.specs.Program.{program_text}
+use Rattle.sz_tree.specs.View.{program_of}
+use Rattle.szl.specs.Judging.{IsFailureOf}
+use Rattle.szl.specs.Judgement.{HasStatements, most_program_bytes}
+use Rattle.szl.specs.Opening.{AnswersOver}
+use Rattle.szl.specs.Running.{vec_items_of}
+use Rattle.szl.specs.Settings.{selftest_run, HasBounds}
+use Rattle.szl.proofs.SelftestLemmas.{is_short, has_bounds, no_memory_text, text_refused_over, statements_refused_over, program_over}
+use Rattle.szl.proofs.selftest.answer_selftest.Goals as goal
+
+-- there was no memory for the settings, or for the file
+pub returns-in_err-settings-clause-value : goal.returns-in_err-settings-clause-value
+returns-in_err-settings-clause-value g c =
+    let p = err_from_is_err_and c.from_residual.result c.from_residual.ensures.1 in
+    rw (p.1, p.2) (no_memory_text (selftest_run c.args.workers) program_text (file_of c.args.seed c.args.records))
+
+pub returns-in_err-input-clause-value : goal.returns-in_err-input-clause-value
+returns-in_err-input-clause-value g c =
+    let p = err_from_is_err_and c.from_residual-in_err-input.result c.from_residual-in_err-input.ensures.1 in
+    rw (p.1, p.2) (no_memory_text (selftest_run c.args.workers) program_text (file_of c.args.seed c.args.records))
+
+-- the program is short
+pub tree_in-requires-clause-short : goal.tree_in-requires-clause-short
+tree_in-requires-clause-short g c = subst (λ text. length text ≤ most_program_bytes) (sym c.program_bytes.ensures.value) is_short
+
+-- it has no tree
+pub returns-in_err-tree-clause-value : goal.returns-in_err-tree-clause-value
+returns-in_err-tree-clause-value g c =
+    let p = err_from_is_err_and c.from_residual-in_err-tree.result c.from_residual-in_err-tree.ensures.1 in
+    let f = c.in_err-tree.field-0.0 in
+    rw (p.1, p.2) (text_refused_over (selftest_run c.args.workers) program_text (file_of c.args.seed c.args.records) f
+    (subst (λ text. IsFailureOf text f) c.program_bytes.ensures.value c.in_err-tree.ensures.refused))
+
+-- the tree is refused
+pub returns-in_err-program-clause-value : goal.returns-in_err-program-clause-value
+returns-in_err-program-clause-value g c =
+    let p = err_from_is_err_and c.from_residual-in_err-program.result c.from_residual-in_err-program.ensures.1 in
+    let ss = program_of c.in_ok-tree.tree in
+    let has = subst (λ text. HasStatements text ss) c.program_bytes.ensures.value c.in_ok-tree.ensures.found in
+    rw (p.1, p.2) (statements_refused_over (selftest_run c.args.workers) program_text (file_of c.args.seed c.args.records) ss is_short has
+    c.in_err-program.field-0.0 c.in_err-program.ensures.refused)
+
+-- the settings have their bounds
+pub answer_over-requires-clause-bounds : goal.answer_over-requires-clause-bounds
+answer_over-requires-clause-bounds g c = subst HasBounds (sym c.in_ok-settings.ensures.value) (has_bounds c.args.workers)
+
+-- the program was run
+pub returns-clause-value : goal.returns-clause-value
+returns-clause-value g c =
+    let ss = program_of c.in_ok-tree.tree in
+    let s = selftest_run c.args.workers in
+    let answer = vec_items_of c.answer_over.result in
+    let program = c.in_ok-program.program in
+    let has = subst (λ text. HasStatements text ss) c.program_bytes.ensures.value c.in_ok-tree.ensures.found in
+    let over = subst (λ s. AnswersOver program s c.deref.result.now answer) c.in_ok-settings.ensures.value c.answer_over.ensures.value in
+    let all = subst (λ bytes. AnswersOver program s bytes answer) c.deref.ensures.value over in
+    program_over s program_text (file_of c.args.seed c.args.records) ss is_short has program c.in_ok-program.ensures.found answer
+    (subst (λ bytes. AnswersOver program s bytes answer) c.in_ok-input.ensures.value all)

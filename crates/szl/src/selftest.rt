@@ -1,0 +1,73 @@
+//! The self test: its program, run over the input that is generated for it.
+ghost use Rattle.std.specs.Prelude.{◌≡◌, ◌≤◌, IfOk};
+ghost use Rattle.sz_core.specs.Sound.{IsSound};
+ghost use Rattle.sz_feed.specs.Feed.{file_of};
+ghost use Rattle.sz_feed.specs.Program.{program_text};
+ghost use Rattle.szl.specs.Opening.{AnswersOver, AnswersTextOver};
+ghost use Rattle.szl.specs.Running.{vec_items_of};
+ghost use Rattle.szl.specs.Settings.{selftest_run, HasBounds};
+
+use crate::failure::Failure;
+use crate::judge::{checked, tree_in};
+use crate::running::{job_of, statics_of, tables_of};
+use std::alloc::{AllocError, Global};
+use sz_core::Program;
+use sz_feed::{feed, program_bytes};
+use sz_gen_stmt::compile;
+use sz_io::Gate;
+use sz_list::Items;
+use sz_types::{Frame, Text};
+use sz_words::RunSettings;
+
+/// The text of the tables of the self test's program for the file of the seed, of this many records.
+pub fn answer_selftest<G: Gate>(
+    alloc: Global,
+    seed: u64,
+    records: u32,
+    workers: u32,
+    gate: &G,
+) -> Result<Vec<u8>, Failure>
+    requires within { records ≤ 1000000 }
+    ensures value { AnswersTextOver (selftest_run workers) program_text (file_of seed records) (vec_items_of result) }
+{
+    let settings = selftest_run(alloc, workers)?;
+    let input = feed(alloc, seed, records)?;
+    let tree = tree_in(alloc, program_bytes())?;
+    let program = checked(alloc, &tree)?;
+    answer_over(alloc, program, &settings, &input, gate)
+}
+
+/// What the self test asks of the run of its program.
+fn selftest_run(alloc: Global, workers: u32) -> Result<RunSettings, AllocError>
+    ensures value { IfOk result (λ settings. settings ≡ selftest_run workers) }
+{
+    Ok(RunSettings {
+        program: Text::from_str(alloc, "")?,
+        input: Text::from_str(alloc, "")?,
+        frame: Frame::Delimited,
+        workers,
+        shard: 1_000,
+        attempts: 3,
+        budget: 1 << 24,
+        kills: Items::new(alloc),
+        twice: Items::new(alloc),
+    })
+}
+
+/// The text of the program's tables for these bytes, as these settings ask for it.
+fn answer_over<G: Gate>(
+    alloc: Global,
+    program: Program,
+    settings: &RunSettings,
+    input: &[u8],
+    gate: &G,
+) -> Result<Vec<u8>, Failure>
+    requires sound { IsSound program }
+    requires bounds { HasBounds settings.now }
+    ensures value { AnswersOver program settings.now input.now (vec_items_of result) }
+{
+    let compiled = compile(alloc, program)?;
+    let statics = statics_of(alloc, &compiled, settings.budget)?;
+    let job = job_of(alloc, compiled, statics, settings)?;
+    tables_of(alloc, &job, settings.shard, settings.frame, input, gate)
+}
