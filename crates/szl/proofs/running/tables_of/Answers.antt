@@ -35,8 +35,8 @@ returns-in_err-text-in-Whole g c =
     record { value = rw (p.1, p.2) (no_memory_at_all c.args.job.now c.args.most c.args.frame c.args.input.now) }
 
 -- the text is that of all emits
-pub returns-in_ok-text-in-Whole : goal.returns-in_ok-text-in-Whole
-returns-in_ok-text-in-Whole g c =
+pub returns-in-Whole : goal.returns-in-Whole
+returns-in-Whole g c =
     let all = c.in_ok-total.ensures.value in
     record {
       value = ends_whole c.args.job.now c.args.most c.args.frame c.args.input.now c.in_ok-records.records all.0 all.1 c.in_ok-text-in-Whole.field-0.items
@@ -54,8 +54,8 @@ returns-in-Damaged g c =
     }
 
 -- the input passes a limit
-pub returns-in-Limit : goal.returns-in-Limit
-returns-in-Limit g c =
+pub returns : goal.returns
+returns g c =
     let all = c.in_ok-total.ensures.value in
     record {
       value = ends_limited c.args.job.now c.args.most c.args.frame c.args.input.now c.in_ok-records.records all.0 all.1 c.in-Limit.byte
