@@ -2,12 +2,11 @@
 use Rattle.std.proofs.Common.{◌≡◌, ℕ, zero, suc, ◌+◌, ◌≤◌, ◌<◌, Bool, true, false, List, [], ◌∷◌, ◌++◌, length, Option, Some, None, refl, sym, ap, ◌∙◌, subst}
 use Rattle.std.proofs.Common.{arith}
 use Rattle.std.proofs.Common.{true≢false, append_assoc, append-nil}
-use Rattle.std.specs.Prelude.{◌&&◌, not, slice_get, slice_index_or, filter, if◌then◌else◌, IfSome, Ok}
+use Rattle.std.specs.Prelude.{◌&&◌, not, slice_get, slice_index_or, filter, if◌then◌else◌, Ok}
 use Rattle.std.specs.List.{Contains}
 use Rattle.std.proofs.lemmas.List.{length-append}
 use Rattle.std.proofs.lemmas.List.Elements.{Contains-append_right}
 use Rattle.sz_types.specs.Data.{Shape}
-use Rattle.sz_types.specs.Same.{alike}
 use Rattle.sz_types.proofs.ForCallers.{alike_equal}
 use Rattle.sz_tree.specs.declared.stmt.Quantity.{Quantity}
 use Rattle.sz_tree.specs.declared.stmt.Quantity.TheVariants as quantities
@@ -28,13 +27,13 @@ use Rattle.sz_check.specs.Quantifying.{Variable, Declared, judge_names, judge_qu
 use Rattle.sz_check.specs.Quantifying.{are_of, checked}
 use Rattle.sz_check.specs.Quantifying.{Based, judge_base, judge_bases}
 use Rattle.sz_core.proofs.ForCallers.{some_has, formed_at}
-use Rattle.sz_known.proofs.Holds.{Holds, good, ok_holds, err_holds, bind_holds, known, weaker, if_holds, unless_holds}
+use Rattle.sz_known.proofs.Holds.{Holds, ok_holds, err_holds, bind_holds, known, weaker, unless_holds}
 use Rattle.sz_known.proofs.Meanings.{declared}
 use Rattle.sz_known.proofs.Sights.{IsFormed, AreFormed, IsReadable, Fits, AllFit, IsWider, all_fit_wider}
 use Rattle.sz_known.proofs.TypeSound.{type_formed}
 use Rattle.sz_check_expr.proofs.AgreeLemmas.{IsTyped}
 use Rattle.sz_check_expr.proofs.ExpressionSound.{expression_typed}
-use Rattle.sz_check.proofs.SceneLemmas.{begins_itself, begins_more, begins_on, begins_length, get_before, get_next, formed_more, AreBelow, below_more, is_none}
+use Rattle.sz_check.proofs.SceneLemmas.{begins_itself, begins_more, begins_on, get_before, get_next, formed_more, AreBelow, below_more, is_none}
 
 -- ---- a variable more
 

@@ -1,7 +1,7 @@
 -- Turns of the loops that look for an emit.
 use Rattle.std.proofs.Common.{◌≡◌, ℕ, zero, suc, ◌+◌, ◌<◌, ◌≤◌, Bool, true, false, List, [], ◌∷◌, ◌++◌, length, get_or, drop, map, refl, sym, ap, ◌∙◌}
 use Rattle.std.proofs.Common.{append_assoc, append-nil, Option, Some, None}
-use Rattle.std.specs.Prelude.{◌||◌, not, if◌then◌else◌, bytes_eq, take}
+use Rattle.std.specs.Prelude.{◌||◌, take}
 use Rattle.std.specs.Borrow.{Bor}
 use Rattle.std.specs.Global.{Vec}
 use Rattle.sz_types.specs.declared.place.Place.{Place}
@@ -14,7 +14,6 @@ use Rattle.sz_tree.specs.declared.stmt.Stmt.{Stmt}
 use Rattle.sz_tree.specs.Expressions.{call, list, mapping, exps_of, pairs_of}
 use Rattle.sz_tree.specs.Statements.{StepForm, at_index, at_field, FirstForm, first_declare, first_define, first_simple, Stm, block, declare, define, stms_of}
 use Rattle.sz_tree.specs.View.{tree_of, pair_of, step_of, stm_of}
-use Rattle.sz_known.specs.Refusals.{has_name}
 use Rattle.sz_check.specs.EmittingTrees.{calls, exp_emits, exps_emit, pairs_emit, steps_emit, stm_emits, stms_emit, hidden_behind}
 use Rattle.sz_check.specs.EmittingTrees.{hidden_behind_first}
 use Rattle.sz_check.specs.Hidden.{hidden_of}

@@ -1,5 +1,5 @@
 -- An expression that is judged emits as its tree does.
-use Rattle.std.proofs.Common.{◌≡◌, ℕ, length, Bool, true, false, List, [], ◌∷◌, Option, Some, None, refl, sym, ap, ◌∙◌}
+use Rattle.std.proofs.Common.{◌≡◌, ℕ, length, Bool, true, false, List, Option, Some, None, refl, sym, ap, ◌∙◌}
 use Rattle.std.specs.Prelude.{◌||◌, not, slice_get}
 use Rattle.sz_types.specs.Data.{Shape, FieldShapes}
 use Rattle.sz_types.specs.Rows.{unary_row, binary_row, index_row, slice_row, builtin_row}
@@ -29,7 +29,7 @@ use Rattle.sz_check_expr.specs.JudgingComposites.{asks_of_list, made_tuple, made
 use Rattle.sz_check_expr.specs.JudgingParts.{has_index, made_index, whole, made_slice, field_in, made_field}
 use Rattle.sz_check_expr.specs.JudgingOperators.{unary_of, made_unary, Operation, both, either, of, operation_of, asked_of_right, takes_left, made_operator}
 use Rattle.sz_check_expr.specs.JudgingOperators.{test, made_binary}
-use Rattle.sz_check.specs.EmittingTrees.{calls, exp_emits, exps_emit, pairs_emit, part_emits}
+use Rattle.sz_check.specs.EmittingTrees.{calls, exp_emits, exps_emit, pairs_emit}
 use Rattle.sz_known.proofs.Holds.{Holds, good, ok_holds, err_holds, bind_holds, known, weaker, if_holds, by_option, option_holds}
 
 -- ---- what a name stands for
@@ -81,7 +81,8 @@ module _ (fs : List Signature) where
 
   conversion_gives : (p : Place) (t : Shape) (e : Exp) (n : Node) → Holds (conversion_node p t e n) (Gives (node_emits fs n))
   unfolding form_emits
-  conversion_gives p t e n = if_holds {n = wrong_type (place_of e)} (converts_to (type_of n) t) (λ row. gives (node_emits fs n) p t (forms.convert n) refl) (λ none. err_holds _ _)
+  conversion_gives p t e n = if_holds {n = wrong_type (place_of e)}
+      (converts_to (type_of n) t) (λ row. gives (node_emits fs n) p t (forms.convert n) refl) (λ none. err_holds _ _)
 
   declared_gives : (may_emit : Bool) (n : Ident) (k : ℕ) (s : Signature) (es : Exps) (ns : Nodes)
       → Holds (declared_call may_emit n k s es ns) (Gives (is_emitting (slice_get fs k) || nodes_emit fs ns))
@@ -124,7 +125,8 @@ module _ (fs : List Signature) where
   unfolding form_emits
   index_gives p e i n m =
       bind_holds {f = λ u. by_option (wrong_type (place_of i)) (λ t. good (node p t (forms.index n m))) (index_row (type_of n) (type_of m))}
-      (known (unless (has_index (type_of n)) (wrong_type (place_of e)))) (λ u has. option_holds {r = wrong_type (place_of i)} (index_row (type_of n) (type_of m)) (λ none. err_holds _ _) (λ t row.
+      (known (unless (has_index (type_of n)) (wrong_type (place_of e)))) (λ u has.
+      option_holds {r = wrong_type (place_of i)} (index_row (type_of n) (type_of m)) (λ none. err_holds _ _) (λ t row.
       gives (node_emits fs n || node_emits fs m) p t (forms.index n m) refl))
 
   slice_gives : (p : Place) (e i j : Exp) (n m o : Node)
@@ -146,7 +148,8 @@ module _ (fs : List Signature) where
   unfolding form_emits
   operator_gives p o l r n m =
       bind_holds {f = λ u. by_option (wrong_type (place_of r)) (λ t. good (node p t (forms.binary o n m))) (binary_row o (type_of n) (type_of m))}
-      (known (unless (takes_left o (type_of n)) (wrong_type (place_of l)))) (λ u takes. option_holds {r = wrong_type (place_of r)} (binary_row o (type_of n) (type_of m)) (λ none. err_holds _ _) (λ t row.
+      (known (unless (takes_left o (type_of n)) (wrong_type (place_of l)))) (λ u takes.
+      option_holds {r = wrong_type (place_of r)} (binary_row o (type_of n) (type_of m)) (λ none. err_holds _ _) (λ t row.
       gives (node_emits fs n || node_emits fs m) p t (forms.binary o n m) refl))
 
   binary_gives : (p : Place) (o : Operation) (l r : Exp) (n m : Node) → Holds (made_binary p o l r n m) (Gives (node_emits fs n || node_emits fs m))

@@ -2,12 +2,11 @@
 use Rattle.std.proofs.Common.{◌≡◌, ℕ, ◌+◌, ◌<◌, ◌≤◌, Bool, true, false, List, [], ◌∷◌, ◌++◌, length, get_or, drop, map, refl, sym, ap, ◌∙◌, subst, append_assoc}
 use Rattle.std.proofs.Common.{append-nil}
 use Rattle.std.specs.Prelude.{Ok, Err, if◌then◌else◌}
-use Rattle.std.proofs.lemmas.List.{drop_more, map-append}
+use Rattle.std.proofs.lemmas.List.{drop_more}
 use Rattle.std.proofs.Math.ListN.{drop_of_length-le}
 use Rattle.sz_types.specs.Data.{Shape}
 use Rattle.sz_tree.specs.declared.stmt.Quantity.{Quantity}
 use Rattle.sz_tree.specs.Names.{Ident}
-use Rattle.sz_tree.specs.Statements.{QuantifierForm}
 use Rattle.sz_known.specs.Refusals.{Judged, ◌>>=◌}
 use Rattle.sz_known.specs.Names.{Block}
 use Rattle.sz_known.specs.Scene.{Scene, with_quantified}

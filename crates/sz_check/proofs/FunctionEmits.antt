@@ -1,6 +1,6 @@
 -- Which names call what emits inside a function, as its header knows it and as its statements do.
-use Rattle.std.proofs.Common.{◌≡◌, ℕ, zero, suc, ◌++◌, Bool, true, false, List, [], ◌∷◌, length, Option, Some, None, refl, sym, ap, ◌∙◌, subst}
-use Rattle.std.specs.Prelude.{◌&&◌, ◌||◌, not, slice_get, bytes_eq, if◌then◌else◌, IfSome, Ok}
+use Rattle.std.proofs.Common.{◌≡◌, ℕ, ◌++◌, Bool, true, false, List, [], ◌∷◌, length, Option, Some, None, refl, sym, ap, ◌∙◌, subst}
+use Rattle.std.specs.Prelude.{◌&&◌, ◌||◌, not, slice_get, bytes_eq, if◌then◌else◌, IfSome}
 use Rattle.std.specs.Option.{option_or}
 use Rattle.sz_types.specs.Data.{Shape}
 use Rattle.sz_tree.specs.Names.{Ident}
@@ -12,7 +12,7 @@ use Rattle.sz_known.specs.Names.{Block, Meaning, Named, meaning_in, meaning_of, 
 use Rattle.sz_known.specs.Names as names
 use Rattle.sz_known.specs.JudgingTypes.{judge_type}
 use Rattle.sz_known.specs.Scene.{Scene}
-use Rattle.sz_check.specs.EmittingTrees.{means_emitting, emits_by, calls}
+use Rattle.sz_check.specs.EmittingTrees.{means_emitting, emits_by}
 use Rattle.sz_check.specs.JudgingPrograms.{judge_parameters, innermost_on}
 use Rattle.sz_known.proofs.Holds.{Holds, good, ok_holds, err_holds, bind_holds, known, weaker, if_holds}
 use Rattle.sz_known.proofs.Meanings.{MeansIn, Mean, found_in, found, all_follow, kept_only}

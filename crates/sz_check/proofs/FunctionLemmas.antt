@@ -3,7 +3,7 @@ use Rattle.std.proofs.Common.{◌≡◌, ℕ, ◌+◌, ◌<◌, ◌≤◌, List,
 use Rattle.std.proofs.Common.{refl, sym, ap, ◌∙◌, subst, append_assoc, arith}
 use Rattle.std.proofs.Math.Path.{fun_ext}
 use Rattle.std.proofs.lemmas.List.{append-nil, length-drop}
-use Rattle.std.specs.Prelude.{Result, Ok, Err, if◌then◌else◌, min}
+use Rattle.std.specs.Prelude.{Ok, Err, if◌then◌else◌, min}
 use Rattle.sz_types.specs.Data.{Shape}
 use Rattle.sz_types.specs.Seen.{seen}
 use Rattle.sz_types.specs.declared.ty.Ty.{Ty}
@@ -22,12 +22,10 @@ use Rattle.sz_check.specs.EmittingTrees.{emits_by, stms_emit}
 use Rattle.sz_check.specs.JudgingStatements.{judge_stms}
 use Rattle.sz_check.specs.JudgingPrograms.{TopScene, Found, blocks_of, judge_parameters, innermost_on, in_function, judge_function}
 use Rattle.sz_check.specs.Functions.{front_of, judge_header, declare_parameters, Body, judge_body, finished, judge_function_by_parts}
-use Rattle.sz_known.specs.Holding.{Held, blocks_of as seen_of}
-use Rattle.sz_known.specs.Outcome.{Stops, Judges}
+use Rattle.sz_known.specs.Outcome.{Stops}
 use Rattle.sz_known.specs.declared.error.CheckError.{CheckError}
 use Rattle.sz_known.proofs.Holds.{good, good_is}
 use Rattle.sz_known.proofs.TurnLemmas.{rest_more, stops_then, goes_on}
-use Rattle.sz_check.proofs.ProgramLemmas.{declared_is}
 use Rattle.sz_check.proofs.StatementLoops.{assoc}
 
 -- a scene with this innermost block

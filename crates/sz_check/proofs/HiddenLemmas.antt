@@ -1,22 +1,21 @@
 -- Names that variables hide.
-use Rattle.std.proofs.Common.{◌≡◌, ℕ, length, Bool, true, false, List, [], ◌∷◌, ◌++◌, Option, Some, None, refl, sym, ap, ◌∙◌, subst, append_assoc, append-nil}
-use Rattle.std.specs.Prelude.{◌&&◌, ◌||◌, not, if◌then◌else◌, bytes_eq, map, Ok}
+use Rattle.std.proofs.Common.{◌≡◌, ℕ, length, Bool, true, false, List, [], ◌∷◌, ◌++◌, Some, None, refl, sym, ap, ◌∙◌, subst, append_assoc, append-nil}
+use Rattle.std.specs.Prelude.{◌&&◌, ◌||◌, not, if◌then◌else◌, bytes_eq}
 use Rattle.std.specs.Option.{option_or}
-use Rattle.std.specs.List.{list_any}
 use Rattle.std.proofs.lemmas.List.Folds.{list_any-append}
 use Rattle.sz_types.specs.Data.{Shape}
 use Rattle.sz_tree.specs.declared.stmt.Quantity.{Quantity}
 use Rattle.sz_tree.specs.Names.{Ident}
 use Rattle.sz_tree.specs.Statements.{QuantifierForm}
 use Rattle.sz_core.specs.Programs.{Signature}
-use Rattle.sz_known.specs.Refusals.{Judged, ◌>>=◌, has_name}
+use Rattle.sz_known.specs.Refusals.{◌>>=◌, has_name}
 use Rattle.sz_known.specs.Names.{Block, Meaning, meaning_in, meaning_of, declare}
 use Rattle.sz_known.specs.Names as names
 use Rattle.sz_known.specs.JudgingTypes.{judge_type}
-use Rattle.sz_known.specs.Scene.{Scene, opened, with_variable, with_quantified}
+use Rattle.sz_known.specs.Scene.{Scene, with_variable, with_quantified}
 use Rattle.sz_check.specs.EmittingTrees.{calls, is_seen_inside, texts_of, quantified_names}
-use Rattle.sz_check.specs.Quantifying.{Variable, Declared, judge_names, judge_quantifier, judge_quantifiers, bind, bind_inside}
-use Rattle.sz_known.proofs.Holds.{Holds, good, ok_holds, err_holds, bind_holds, known, weaker, if_holds}
+use Rattle.sz_check.specs.Quantifying.{Variable, Declared, judge_names, judge_quantifiers, bind, bind_inside}
+use Rattle.sz_known.proofs.Holds.{Holds, ok_holds, err_holds, bind_holds, known, weaker, if_holds}
 use Rattle.sz_check.proofs.ExpressionEmits.{by_signatures, Agrees}
 
 -- ---- truth values

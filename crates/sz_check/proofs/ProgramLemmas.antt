@@ -1,5 +1,5 @@
 -- Turns of the loop over statements at the top level, and declarations that are made twice.
-use Rattle.std.proofs.Common.{◌≡◌, ℕ, ◌+◌, ◌<◌, ◌≤◌, Bool, true, false, List, [], ◌∷◌, ◌++◌, length, get_or, drop, map}
+use Rattle.std.proofs.Common.{◌≡◌, ℕ, ◌+◌, ◌<◌, ◌≤◌, Bool, true, false, List, ◌∷◌, ◌++◌, length, get_or, drop, map}
 use Rattle.std.proofs.Common.{refl, sym, ap, ◌∙◌, subst, append_assoc}
 use Rattle.std.proofs.lemmas.List.{append-nil}
 use Rattle.std.specs.Prelude.{Ok, Err, if◌then◌else◌}
@@ -15,7 +15,7 @@ use Rattle.sz_tree.specs.View.{stm_of, param_of, type_of}
 use Rattle.sz_tree.proofs.RowLemmas.{stm_of_function}
 use Rattle.sz_core.specs.Programs.{Item}
 use Rattle.sz_known.specs.Refusals.{Judged, ◌>>=◌, declared_twice}
-use Rattle.sz_known.specs.Names.{Meaning, Named, Block, has, declare}
+use Rattle.sz_known.specs.Names.{Meaning, Block, has, declare}
 use Rattle.sz_check.specs.JudgingPrograms.{TopScene, Found, judge_function, judge_top, judge_all}
 use Rattle.sz_check.specs.Top.{with_items}
 use Rattle.sz_known.specs.Outcome.{Stops}
@@ -32,8 +32,8 @@ all_turn : (k : TopScene) (ts : List Stmt) (i : ℕ) (t : Stmt) → i < length t
 unfolding judge_all
 all_turn k ts i t within is = rw (rest_more stm_of ts i t within is) refl
 
-pub all_fails : (front : List Item) (k : TopScene) (ts : List Stmt) (i : ℕ) (t : Stmt) (e : CheckError) (whole : Judged Found) → i < length ts → t ≡ get_or ts i t
-    → Stops e (judge_top k (stm_of t)) → with_items front (judge_all k (stms_of (map stm_of (drop i ts)))) ≡ whole → Stops e whole
+pub all_fails : (front : List Item) (k : TopScene) (ts : List Stmt) (i : ℕ) (t : Stmt) (e : CheckError) (whole : Judged Found) → i < length ts
+    → t ≡ get_or ts i t → Stops e (judge_top k (stm_of t)) → with_items front (judge_all k (stms_of (map stm_of (drop i ts)))) ≡ whole → Stops e whole
 all_fails front k ts i t errors.NoMemory whole within is h so_far = tt
 all_fails front k ts i t (errors.Refused n p name) whole within is h so_far =
     sym so_far ∙ ap (with_items front) (all_turn k ts i t within is ∙ ap (λ (j : Judged Found). j >>= behind (drop (i + 1) ts)) h)

@@ -8,10 +8,10 @@ use Rattle.std.proofs.lemmas.List.{append-nil, length-append}
 use Rattle.std.proofs.lemmas.List.Elements.{Contains-append_right}
 use Rattle.sz_types.specs.Data.{Shape}
 use Rattle.sz_tree.specs.Names.{Ident}
-use Rattle.sz_tree.specs.Expressions.{Exp, Exps, call}
+use Rattle.sz_tree.specs.Expressions.{Exp}
 use Rattle.sz_core.specs.Statements.{Stm, clear, keep, block, store, evaluate, no_stms}
 use Rattle.sz_core.specs.WellFormed.{is_well_formed, are_well_formed}
-use Rattle.sz_core.specs.Typing.{Sight, IsCall}
+use Rattle.sz_core.specs.Typing.{Sight}
 use Rattle.sz_core.specs.Sound.{seen_behind, BeginsWith, Around, IsStm, AreStms, IsFree, IsBetweenTurns}
 use Rattle.sz_known.specs.Names.{variable, declare}
 use Rattle.sz_check_expr.specs.JudgingExpressions.{judge_exp}

@@ -1,5 +1,5 @@
 -- A statement that is judged emits as its tree does.
-use Rattle.std.proofs.Common.{◌≡◌, ℕ, Bool, true, false, List, [], ◌∷◌, ◌++◌, Option, Some, None, refl, sym, ap, ◌∙◌, subst, append-nil}
+use Rattle.std.proofs.Common.{◌≡◌, ℕ, Bool, true, false, List, [], ◌∷◌, ◌++◌, Option, Some, None, refl, sym, ap, ◌∙◌, subst}
 use Rattle.std.specs.Prelude.{◌||◌, Ok, pos, is_some, length, if◌then◌else◌}
 use Rattle.sz_types.specs.Data.{Shape}
 use Rattle.sz_types.specs.declared.place.Place.{Place}
@@ -22,11 +22,11 @@ use Rattle.sz_core.specs.Statements as core
 use Rattle.sz_core.specs.Statements.{Step, at_index, at_field}
 use Rattle.sz_core.specs.Programs.{Signature}
 use Rattle.sz_core.specs.Emitting.{node_emits, form_emits, steps_emit as steps_emit_core, test_emits, stm_emits as core_emits, stms_emit as all_emit}
-use Rattle.sz_known.specs.Refusals.{Judged, ◌>>=◌, unless, wrong_type, wrong_weight}
+use Rattle.sz_known.specs.Refusals.{Judged, unless, wrong_type, wrong_weight}
 use Rattle.sz_known.specs.Names.{Block, Meaning, look_up}
 use Rattle.sz_known.specs.Names as names
 use Rattle.sz_known.specs.JudgingTypes.{judge_type}
-use Rattle.sz_known.specs.Scene.{Scene, opened, with_variable}
+use Rattle.sz_known.specs.Scene.{Scene, opened}
 use Rattle.sz_types.specs.Same.{alike}
 use Rattle.sz_types.specs.Conversions.{converts_to}
 use Rattle.sz_check_expr.specs.Agreeing.{converted, in_turn, agree, agrees, counted}
@@ -36,7 +36,7 @@ use Rattle.sz_check_expr.specs.JudgingOperators.{test}
 use Rattle.sz_check.specs.Scenes.{Behind, AllBehind, judge, judge_if_some, closed}
 use Rattle.sz_check.specs.EmittingTrees.{calls, exp_emits, exps_emit, part_emits, steps_emit, simple_emits, between_emits, first_emits, hidden_behind_first}
 use Rattle.sz_check.specs.EmittingTrees.{hidden_behind, turns_emit, stm_emits, stms_emit, quantified_names}
-use Rattle.sz_check.specs.Quantifying.{Front, none_declared, judge_quantifiers, judge_front, judge_bound, in_bound, quantify}
+use Rattle.sz_check.specs.Quantifying.{Front, none_declared, quantify}
 use Rattle.sz_check.specs.JudgingPaths.{Target, target_of, stepped, indexed, judge_steps, judge_path}
 use Rattle.sz_check.specs.JudgingSimple.{judge_declaration, judge_initialised, judge_definition, judge_assignment, judge_change, judge_simple, judge_first}
 use Rattle.sz_check.specs.JudgingSimple.{judge_between, test_if_some, judge_return, table_named, weight_agrees, same_presence, judge_emit, done}

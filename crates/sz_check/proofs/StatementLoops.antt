@@ -1,11 +1,10 @@
 -- Turns of the loops over steps, statements and parameters.
 use Rattle.std.proofs.Common.{◌≡◌, ℕ, ◌+◌, ◌<◌, ◌≤◌, List, [], ◌∷◌, ◌++◌, length, get_or, drop, map, refl, sym, ap, ◌∙◌}
 use Rattle.std.proofs.Math.Path.{fun_ext}
-use Rattle.std.specs.Prelude.{Option, Some, None, Ok, Err}
+use Rattle.std.specs.Prelude.{None, Ok, Err}
 use Rattle.sz_types.specs.Data.{Shape}
 use Rattle.sz_types.specs.declared.place.Place.{Place}
 use Rattle.sz_tree.specs.declared.stmt.Step.{Step}
-use Rattle.sz_tree.specs.declared.stmt.Step.TheVariants as steps
 use Rattle.sz_tree.specs.declared.stmt.Stmt.{Stmt}
 use Rattle.sz_tree.specs.declared.types.Param.{Param}
 use Rattle.sz_tree.specs.Statements.{StepForm, stms_of}

@@ -1,7 +1,7 @@
 -- Declarations of tables: limits that are too large, types in order, and fields that are whole numbers.
-use Rattle.std.proofs.Common.{◌≡◌, ◌≤◌, ◌<◌, ℕ, ◌+◌, Bool, true, false, List, [], ◌∷◌, ◌++◌, length, get_or, drop, map, Option, Some, None, refl, sym, ap, ◌∙◌}
+use Rattle.std.proofs.Common.{◌≡◌, ◌≤◌, ◌<◌, ℕ, ◌+◌, Bool, true, false, List, [], ◌∷◌, ◌++◌, length, get_or, drop, map, Option, Some, refl, sym, ap, ◌∙◌}
 use Rattle.std.proofs.Common.{nat_eq, arith}
-use Rattle.std.specs.Prelude.{Ok, Err, ◌&&◌, nat_le, if◌then◌else◌}
+use Rattle.std.specs.Prelude.{Ok, ◌&&◌, if◌then◌else◌}
 use Rattle.std.proofs.lemmas.Bool.{ne_eqb, lt-leb}
 use Rattle.sz_types.specs.Data.{Shape, FieldShapes, field, with_field, fields_of}
 use Rattle.sz_types.specs.declared.encoding.Encoding.{Encoding}
@@ -13,11 +13,11 @@ use Rattle.sz_types.specs.declared.table.TableKind.TheVariants.{Sum, Maximum, Mi
 use Rattle.sz_tree.specs.declared.stmt.Elem.{Elem}
 use Rattle.sz_tree.specs.Names.{Ident}
 use Rattle.sz_tree.specs.View.{elem_of, type_of}
-use Rattle.sz_core.specs.WellFormed.{is_allowed, kind_allows, has_sum, has_no_weight, are_whole_numbers}
+use Rattle.sz_core.specs.WellFormed.{kind_allows, has_sum, has_no_weight, are_whole_numbers}
 use Rattle.sz_known.specs.Refusals.{Judged, ◌>>=◌, bad_table}
 use Rattle.sz_known.specs.Names.{Block}
 use Rattle.sz_known.specs.JudgingTypes.{judge_type}
-use Rattle.sz_check.specs.JudgingPrograms.{judge_elems, allowed, declaration_of}
+use Rattle.sz_check.specs.JudgingPrograms.{judge_elems, declaration_of}
 use Rattle.sz_known.specs.Turns.{behind, put_all}
 use Rattle.sz_check.specs.Tabling.{is_int, with_type}
 use Rattle.sz_known.specs.Outcome.{Stops}

@@ -1,5 +1,5 @@
 -- A `when` by its parts.
-use Rattle.std.proofs.Common.{◌≡◌, ℕ, zero, suc, ◌<◌, ◌+◌, true≢false, Bool, true, false, List, [], ◌∷◌, ◌++◌, length, map, drop, get_or, Option, Some, None}
+use Rattle.std.proofs.Common.{◌≡◌, ℕ, zero, suc, ◌<◌, true≢false, Bool, true, false, List, [], ◌∷◌, ◌++◌, length, map, get_or, Option, Some, None}
 use Rattle.std.proofs.Common.{refl, sym, ap, ◌∙◌, subst, arith}
 use Rattle.std.proofs.lemmas.Option.{same_Some, none-some}
 use Rattle.std.specs.Prelude.{Result, Ok, Err, IfOk, slice_get}
@@ -7,7 +7,6 @@ use Rattle.std.specs.List.{position}
 use Rattle.std.proofs.lemmas.List.Quantifiers.{position-Some}
 use Rattle.std.specs.Option.{is_none}
 use Rattle.sz_types.specs.Data.{Shape}
-use Rattle.sz_types.specs.declared.place.Place.{Place}
 use Rattle.sz_tree.specs.Names.{Ident}
 use Rattle.sz_tree.specs.Expressions.{Exp}
 use Rattle.sz_tree.specs.Statements.{QuantifierForm, Stm as Tree}
@@ -25,7 +24,7 @@ use Rattle.sz_known.specs.declared.error.CheckError.TheVariants as errors
 use Rattle.sz_check_expr.specs.JudgingExpressions.{judge_exp}
 use Rattle.sz_check.specs.Scenes.{Behind, closed}
 use Rattle.sz_check.specs.JudgingStatements.{Around, out_of_loops}
-use Rattle.sz_check.specs.Quantifying.{Variable, Declared, Front, none_declared, judge_quantifiers, judge_front, bind_inside, judge_bound, in_bound, unbounded}
+use Rattle.sz_check.specs.Quantifying.{Variable, Declared, Front, judge_quantifiers, judge_front, bind_inside, judge_bound, unbounded}
 use Rattle.sz_check.specs.Quantifying.{names_of, all_bounded, all_last, Based, judge_base, judge_bases, quantify}
 use Rattle.sz_check.specs.Behind.{judge_inside, judge_bound_body}
 use Rattle.sz_known.proofs.TurnLemmas.{stops_then, goes_on, behind_next, behind_stops, behind_ends}

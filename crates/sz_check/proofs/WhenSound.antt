@@ -1,30 +1,28 @@
 -- A `when` that is judged is sound, where the statement inside is.
-use Rattle.std.proofs.Common.{◌≡◌, ℕ, ◌≤◌, Bool, true, false, List, [], ◌∷◌, ◌++◌, length, Option, None, refl, sym, ap, ◌∙◌, subst, arith}
+use Rattle.std.proofs.Common.{◌≡◌, ◌≤◌, Bool, true, false, List, [], ◌∷◌, length, None, refl, sym, ◌∙◌, subst}
 use Rattle.std.specs.Prelude.{Ok}
-use Rattle.sz_types.specs.Data.{Shape}
 use Rattle.sz_types.specs.declared.place.Place.{Place}
 use Rattle.sz_tree.specs.Expressions.{Exp}
 use Rattle.sz_tree.specs.Statements.{QuantifierForm}
 use Rattle.sz_quant.specs.Fitting.{BoundForm, bounds_of}
-use Rattle.sz_core.specs.Nodes.{Node}
 use Rattle.sz_core.specs.Statements as core
 use Rattle.sz_core.specs.Typing.{Sight}
-use Rattle.sz_core.specs.Sound.{BeginsWith, Around, IsTest, IsStm, AreQuantified, in_condition, with_all_bound, bound_inside, is_all_last, out_of_loops}
+use Rattle.sz_core.specs.Sound.{BeginsWith, Around, IsTest, IsStm, in_condition, bound_inside, is_all_last, out_of_loops}
 use Rattle.sz_known.specs.Refusals.{Judged, ◌>>=◌}
 use Rattle.sz_known.specs.Names.{Block}
-use Rattle.sz_known.specs.Scene.{Scene, opened}
+use Rattle.sz_known.specs.Scene.{Scene}
 use Rattle.sz_check_expr.specs.JudgingExpressions.{judge_exp}
 use Rattle.sz_check_expr.specs.JudgingOperators.{test}
 use Rattle.sz_check.specs.Scenes.{Behind, closed}
-use Rattle.sz_check.specs.Quantifying.{Variable, Declared, Front, none_declared, judge_quantifiers, judge_front, bind_inside, judge_bound, in_bound, names_of}
+use Rattle.sz_check.specs.Quantifying.{Variable, Declared, Front, none_declared, judge_front, bind_inside, in_bound, names_of}
 use Rattle.sz_check.specs.Quantifying.{all_bounded, all_last, judge_bases, quantify}
 use Rattle.sz_known.proofs.Holds.{Holds, good, ok_holds, bind_holds, known, weaker}
 use Rattle.sz_known.proofs.Sights.{AreFormed, AllFit, IsWider, all_fit_wider}
 use Rattle.sz_check_expr.proofs.AgreeLemmas.{IsTyped}
 use Rattle.sz_check_expr.proofs.NodeLemmas.{test_holds}
 use Rattle.sz_check_expr.proofs.ExpressionSound.{expression_typed}
-use Rattle.sz_check.proofs.SceneLemmas.{Sees, sees_closed, begins_on, begins_length, AreBelow, below_more, IsBehind, IsInside, IsSoundPart}
-use Rattle.sz_check.proofs.BoundLemmas.{bound, Rise, bound_locals, bound_emits, inside, rise_inside, have_inside, bound_below, bound_fixed, inside_bound}
+use Rattle.sz_check.proofs.SceneLemmas.{Sees, sees_closed, begins_on, begins_length, below_more, IsBehind, IsInside, IsSoundPart}
+use Rattle.sz_check.proofs.BoundLemmas.{bound, Rise, bound_locals, bound_emits, inside, rise_inside, bound_below, bound_fixed, inside_bound}
 use Rattle.sz_check.proofs.BoundLemmas.{AreMade}
 use Rattle.sz_check.proofs.BoundLemmas.{quantifiers_made, bound_those, inside_those, last_those, AreBased, bases_sound}
 

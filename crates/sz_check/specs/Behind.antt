@@ -1,5 +1,5 @@
 -- What contracts see of what is known behind a statement.
-use Rattle.std.specs.Prelude.{ℕ, List, [], ◌∷◌, length, map, Bool, true, false, is_some, Option, Some, None, Ok}
+use Rattle.std.specs.Prelude.{ℕ, List, [], ◌∷◌, length, map, true, is_some, Option, Some, None, Ok}
 use Rattle.std.specs.Borrow.{Bor}
 use Rattle.sz_types.specs.Data.{Shape}
 use Rattle.sz_types.specs.Rows.{sum_row, difference_row}

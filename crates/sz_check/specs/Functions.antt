@@ -1,9 +1,9 @@
 -- Declarations of functions, by their parts.
-use Rattle.std.specs.Prelude.{ℕ, List, [], ◌∷◌, ◌++◌, length, Bool, false, Ok}
+use Rattle.std.specs.Prelude.{List, [], ◌∷◌, ◌++◌, length, Ok}
 use Rattle.sz_types.specs.Data.{Shape}
 use Rattle.sz_tree.specs.Names.{Ident}
 use Rattle.sz_tree.specs.Statements.{Stms as Trees}
-use Rattle.sz_tree.specs.Types.{Typ, Params, no_params, param}
+use Rattle.sz_tree.specs.Types.{Typ, Params, param}
 use Rattle.sz_core.specs.Statements.{Stms}
 use Rattle.sz_core.specs.Programs.{Signature}
 use Rattle.sz_core.specs.Programs as items

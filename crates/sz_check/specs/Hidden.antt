@@ -1,7 +1,6 @@
 -- What contracts see of the names that variables hide.
 use Rattle.std.specs.Prelude.{ℕ, List, map}
 use Rattle.std.specs.Borrow.{Bor}
-use Rattle.sz_tree.specs.Names.{Ident}
 use Rattle.sz_tree.specs.declared.name.Name.{Name}
 
 -- the names that are lent

@@ -1,4 +1,4 @@
-use Rattle.std.proofs.Common.{map, sym, ap, ◌∙◌, arith}
+use Rattle.std.proofs.Common.{sym, ap, ◌∙◌, arith}
 use Rattle.sz_known.specs.Holding.{blocks_of}
 use Rattle.sz_check.specs.EmittingTrees.{emits_by}
 use Rattle.sz_check.specs.Hidden.{hidden_of}

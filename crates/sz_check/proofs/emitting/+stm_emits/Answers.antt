@@ -101,12 +101,12 @@ when_emits-returns-else-asked-clause-value t c =
     let inside = quantified_names true (map quantifier_of c.args.quantifiers.now) in
     let counted : c.len-count.result ≡ length c.args.hidden.now.items = search rules in
     let there = hidden_inside c.args.hidden.now.items c.hide_quantified.new.hidden.items c.truncate.new.self.items c.hide_quantified-2.new.hidden.items _
-        names inside counted c.in_ok-hide_quantified.ensures.ok c.truncate.ensures.items c.in_ok-hide_quantified-2.ensures.ok in
+    names inside counted c.in_ok-hide_quantified.ensures.ok c.truncate.ensures.items c.in_ok-hide_quantified-2.ensures.ok in
     let silent : exp_emits emits (old ++ names) (tree_of c.args.test.now) ≡ false
-        = ap (λ l. exp_emits emits l (tree_of c.args.test.now)) (sym (ap hidden_of c.as_slice.ensures.value ∙ c.in_ok-hide_quantified.ensures.ok))
-        ∙ sym c.exp_emits-asked.ensures.value ∙ c.if-asked.false in
+    = ap (λ l. exp_emits emits l (tree_of c.args.test.now)) (sym (ap hidden_of c.as_slice.ensures.value ∙ c.in_ok-hide_quantified.ensures.ok))
+    ∙ sym c.exp_emits-asked.ensures.value ∙ c.if-asked.false in
     let body : stm_emits emits (old ++ inside) (stm_of c.args.body.now) ≡ c.in_ok-body.body
-        = ap (λ l. stm_emits emits l (stm_of c.args.body.now)) (sym there) ∙ sym c.in_ok-body.ensures.value in
+    = ap (λ l. stm_emits emits l (stm_of c.args.body.now)) (sym there) ∙ sym c.in_ok-body.ensures.value in
     sym (second_decides (exp_emits emits (old ++ names) (tree_of c.args.test.now)) (stm_emits emits (old ++ inside) (stm_of c.args.body.now)) c.in_ok-body.body
     silent body)
 

@@ -1,5 +1,5 @@
 -- A program that is judged is sound.
-use Rattle.std.proofs.Common.{◌≡◌, map}
+use Rattle.std.proofs.Common.{map}
 use Rattle.sz_tree.specs.View.{program_of}
 use Rattle.sz_core.specs.View.{item_of}
 use Rattle.sz_core.specs.Programs.{core_of}

@@ -1,7 +1,7 @@
-use Rattle.std.proofs.Common.{◌≡◌, map, arith}
+use Rattle.std.proofs.Common.{map, arith}
 use Rattle.std.proofs.lemmas.Result.{err_from_is_err_and}
 use Rattle.sz_core.specs.View.{item_of}
-use Rattle.sz_check.specs.Top.{top_of, found_with}
+use Rattle.sz_check.specs.Top.{top_of}
 use Rattle.sz_check.proofs.ProgramLemmas.{all_fails, all_go, all_end}
 use Rattle.sz_check.proofs.program.judge_all.Goals as goal
 

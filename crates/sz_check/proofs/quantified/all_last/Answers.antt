@@ -1,4 +1,4 @@
-use Rattle.std.proofs.Common.{◌∙◌, arith}
+use Rattle.std.proofs.Common.{arith}
 use Rattle.std.proofs.lemmas.Result.{err_from_is_err_and}
 use Rattle.sz_known.proofs.TurnLemmas.{rest_more, rest_none}
 use Rattle.sz_check.specs.Quantified.{variable_of}

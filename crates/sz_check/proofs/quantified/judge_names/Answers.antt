@@ -1,4 +1,4 @@
-use Rattle.std.proofs.Common.{◌∙◌, drop, arith}
+use Rattle.std.proofs.Common.{◌∙◌, arith}
 use Rattle.std.proofs.lemmas.Result.{err_from_is_err_and}
 use Rattle.sz_types.specs.Seen.{seen}
 use Rattle.sz_check.specs.Quantified.{declared_of}
