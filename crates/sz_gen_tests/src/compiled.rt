@@ -1,10 +1,11 @@
 //! What no contract says: that `compile` gives code where there is memory, for each form of expression and of statement, and that the
 //! definition of code is the one that was meant.
 
-use crate::rows::rows;
-use crate::shown;
+use crate::rows::{self, Row};
+use crate::{searches, shown};
 use std::alloc::{AllocError, Global};
 use std::fmt::Write;
+use std::process::Abort;
 use std::test::Fail;
 use sz_check::check;
 use sz_core::Program;
@@ -47,12 +48,22 @@ fn joined(alloc: Global, lines: &[&str]) -> Result<String, AllocError> {
     Ok(text)
 }
 
-#[test]
-fn each_program_has_the_code_of_its_row(rt: HostRuntime) -> Result<(), Fail> {
-    for row in rows() {
-        let wanted = joined(rt.alloc(), row.1)?;
-        let found = outcome(rt.alloc(), row.0.as_bytes());
-        assert_eq!(&rt; found.as_str(), wanted.as_str(), "of {}", row.0);
+// Asserts that each program has the code of its row.
+fn have_their_code<R: Abort>(rt: &R, alloc: Global, rows: &[Row]) -> Result<(), Fail> {
+    for row in rows {
+        let wanted = joined(alloc, row.1)?;
+        let found = outcome(alloc, row.0.as_bytes());
+        assert_eq!(rt; found.as_str(), wanted.as_str(), "of {}", row.0);
     }
     Ok(())
+}
+
+#[test]
+fn each_program_has_the_code_of_its_row(rt: HostRuntime) -> Result<(), Fail> {
+    have_their_code(&rt, rt.alloc(), rows::rows())
+}
+
+#[test]
+fn searches_and_messages_have_the_code_of_their_rows(rt: HostRuntime) -> Result<(), Fail> {
+    have_their_code(&rt, rt.alloc(), searches::rows())
 }

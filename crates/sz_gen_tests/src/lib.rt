@@ -6,4 +6,6 @@ mod compiled;
 #[cfg(test)]
 mod rows;
 #[cfg(test)]
+mod searches;
+#[cfg(test)]
 mod shown;
