@@ -53,6 +53,18 @@ t: table collection of int; f: function(a: array of int): int { when (i: each in
 t: table collection of int; a: array of int = {1, 2}; when (i: each int; a[i] > 0) { emit t <- i; return; } emit t <- 7; => 0 t[] = 0¶
 t: table collection of int; a: array of int = {1, 2}; when (i: each int; a[i] > 0) for (j := 0; j < 9; j++) { if (j > i) break; emit t <- j; } => 0 t[] = 0¶t[] = 0¶t[] = 1¶
 t: table collection of int; a: array of int = {1}; when (i: each int; a[i] > 0) { when (j: each int; a[j] > 0) emit t <- i + j; } emit t <- 5; => 0 t[] = 0¶t[] = 5¶
+t: table collection of int; f: function(a: array of int): int { when (i: all int; a[i] > 0) return 1; return 0; } emit t <- f({1, 2}); emit t <- f({0}); => 0 t[] = 0¶t[] = 1¶
+
+== when: three kinds in one, what is undefined, and faults inside
+< aéb¶
+t: table collection of int; a: array of int = {1, 2}; b: array of int = {2, 3}; d: array of int = {3, 2}; when (i: each int; j: some int; k: all int; a[i] <= b[j] && b[j] <= d[k]) emit t <- i * 10 + j; => 0 t[] = 0¶t[] = 10¶
+t: table collection of int; a: array of int = {1, 2}; u: int; when (i: each int; a[i] > u) emit t <- i; => 0
+t: table collection of int; when (i: all int; input[i] >= 97) emit t <- 7; => 0 t[] = 7¶
+t: table collection of int; s: string = input; when (i: all int; s[i] > 97) emit t <- 7; => 0
+t: table collection of int; m: map[string] of int = {"a": 1, "b": 2}; when (k: all string; m[k] > 0) emit t <- 7; => 0 t[] = 7¶
+t: table collection of int; m: map[string] of int = {"a": 1, "b": 0}; when (k: all string; m[k] > 0) emit t <- 7; => 0
+t: table collection of int; a: array of int = {1, 2}; u: int; when (i: some int; a[i] > 1) if (u > 0) ; => 3 ! record 1: undefined value used at 1:92
+t: table collection of int; a: array of int = {1, 2}; when (i: each int; a[i] > 1) a[i + 1] = 5; => 3 ! record 1: store outside the value at 1:84
 
 == when: what it may not be
 < ¶
