@@ -1,13 +1,15 @@
 //! Calls of the functions that each program has.
 ghost use Rattle.std.specs.Prelude.{◌≡◌, [], ◌∷◌, IfOk};
-ghost use Rattle.sz_value.specs.Seen.{seen, seen_slot};
+ghost use Rattle.sz_value.specs.Seen.{seen_slot};
 ghost use Rattle.sz_builtin.specs.Predeclared.{builtin};
+ghost use Rattle.sz_builtin.specs.Views.{seen_view};
 
 use crate::predeclared::{haskey, keys, len};
 use crate::searching::strfind;
+use crate::view::View;
 use std::alloc::Global;
 use sz_types::Builtin;
-use sz_value::{List, NoMemory, Slot, Value};
+use sz_value::{List, NoMemory, Slot};
 
 /// What the function makes of its arguments: `len` the number of characters, bytes, elements or pairs, `keys` the keys
 /// of a map in order, `haskey` whether a map has a key, and `strfind` the first place, counted from 0, of a string or a
@@ -18,15 +20,17 @@ pub fn builtin(alloc: Global, which: Builtin, args: &List) -> Result<Slot, NoMem
     ensures value { IfOk result (λ slot. seen_slot slot ≡ builtin which args.now) }
 {
     match args.as_slice() {
-        [value] => builtin_of_one(alloc, which, value),
-        [first, second] => Ok(builtin_of_two(which, first, second)),
+        [value] => builtin_of_one(alloc, which, &View::Whole(value)),
+        [first, second] => {
+            builtin_of_two(alloc, which, &View::Whole(first), &View::Whole(second))
+        }
         _ => Ok(Slot::Undefined),
     }
 }
 
 /// What the function makes of one argument, which is looked at where it stands.
-pub fn builtin_of_one(alloc: Global, which: Builtin, value: &Value) -> Result<Slot, NoMemory>
-    ensures value { IfOk result (λ slot. seen_slot slot ≡ builtin which (seen value.now ∷ [])) }
+pub fn builtin_of_one(alloc: Global, which: Builtin, value: &View<'_>) -> Result<Slot, NoMemory>
+    ensures value { IfOk result (λ slot. seen_slot slot ≡ builtin which (seen_view value.now ∷ [])) }
 {
     match which {
         Builtin::Len => Ok(len(value)),
@@ -36,12 +40,17 @@ pub fn builtin_of_one(alloc: Global, which: Builtin, value: &Value) -> Result<Sl
 }
 
 /// What the function makes of two arguments, which are looked at where they stand.
-pub fn builtin_of_two(which: Builtin, first: &Value, second: &Value) -> Slot
-    ensures value { seen_slot result ≡ builtin which (seen first.now ∷ seen second.now ∷ []) }
+pub fn builtin_of_two(
+    alloc: Global,
+    which: Builtin,
+    first: &View<'_>,
+    second: &View<'_>,
+) -> Result<Slot, NoMemory>
+    ensures value { IfOk result (λ slot. seen_slot slot ≡ builtin which (seen_view first.now ∷ seen_view second.now ∷ [])) }
 {
     match which {
-        Builtin::HasKey => haskey(first, second),
-        Builtin::StrFind => strfind(first, second),
-        Builtin::Len | Builtin::Keys => Slot::Undefined,
+        Builtin::HasKey => haskey(alloc, first, second),
+        Builtin::StrFind => Ok(strfind(first, second)),
+        Builtin::Len | Builtin::Keys => Ok(Slot::Undefined),
     }
 }

@@ -7,12 +7,14 @@ ghost use Rattle.sz_types.specs.Seen.{seen as seen_type};
 ghost use Rattle.sz_value.specs.Data.{int, str};
 ghost use Rattle.sz_value.specs.Seen.{seen, seen_slot};
 ghost use Rattle.sz_builtin.specs.Conversions.{convert, as_truth, as_int, as_time, as_str, as_bytes, number_in};
+ghost use Rattle.sz_builtin.specs.Views.{seen_view};
 
 use crate::numerals::number_in;
+use crate::view::{Kind, View};
 use itoa::Buffer;
 use std::alloc::Global;
 use sz_types::Ty;
-use sz_value::{NoMemory, Octets, Slot, Text, Value, copy};
+use sz_value::{NoMemory, Octets, Slot, Text, Value};
 
 /// What the value becomes by a conversion to the type. A value of the type itself is kept, a text or bytes that spell
 /// a number become it, bytes that are UTF-8 become a text, numbers and truth values are written out, and numbers and
@@ -23,6 +25,14 @@ use sz_value::{NoMemory, Octets, Slot, Text, Value, copy};
 pub fn convert(alloc: Global, v: &Value, to: &Ty) -> Result<Slot, NoMemory>
     requires plain { IsProto (seen_type to.now) → ⊥ }
     ensures value { IfOk result (λ slot. seen_slot slot ≡ convert (seen v.now) (seen_type to.now)) }
+{
+    convert_view(alloc, &View::Whole(v), to)
+}
+
+/// The same of a view.
+pub fn convert_view(alloc: Global, v: &View<'_>, to: &Ty) -> Result<Slot, NoMemory>
+    requires plain { IsProto (seen_type to.now) → ⊥ }
+    ensures value { IfOk result (λ slot. seen_slot slot ≡ convert (seen_view v.now) (seen_type to.now)) }
 {
     match to {
         Ty::Bool => Ok(as_truth(v)),
@@ -38,32 +48,32 @@ pub fn convert(alloc: Global, v: &Value, to: &Ty) -> Result<Slot, NoMemory>
 }
 
 // A copy of the value.
-fn itself(alloc: Global, v: &Value) -> Result<Slot, NoMemory>
-    ensures value { IfOk result (λ slot. seen_slot slot ≡ Some (seen v.now)) }
+fn itself(alloc: Global, v: &View<'_>) -> Result<Slot, NoMemory>
+    ensures value { IfOk result (λ slot. seen_slot slot ≡ Some (seen_view v.now)) }
 {
-    Ok(Slot::Defined(copy(alloc, v)?))
+    Ok(Slot::Defined(v.owned(alloc)?))
 }
 
 // The value as a truth value.
-fn as_truth(v: &Value) -> Slot
-    ensures value { seen_slot result ≡ as_truth (seen v.now) }
+fn as_truth(v: &View<'_>) -> Slot
+    ensures value { seen_slot result ≡ as_truth (seen_view v.now) }
 {
-    match v {
-        Value::Bool(truth) => Slot::Defined(Value::Bool(*truth)),
+    match v.kind() {
+        Kind::Bool(truth) => Slot::Defined(Value::Bool(truth)),
         _ => Slot::Undefined,
     }
 }
 
 // The value as a whole number.
-fn as_int(v: &Value) -> Slot
-    ensures value { seen_slot result ≡ as_int (seen v.now) }
+fn as_int(v: &View<'_>) -> Slot
+    ensures value { seen_slot result ≡ as_int (seen_view v.now) }
 {
-    match v {
-        Value::Bool(truth) => Slot::Defined(Value::Int(if *truth { 1 } else { 0 })),
-        Value::Int(number) => Slot::Defined(Value::Int(*number)),
-        Value::Time(number) => Slot::Defined(Value::Int(*number)),
-        Value::Str(text) => spelled(text.as_str().as_bytes()),
-        Value::Bytes(bytes) => spelled(bytes.as_slice()),
+    match v.kind() {
+        Kind::Bool(truth) => Slot::Defined(Value::Int(if truth { 1 } else { 0 })),
+        Kind::Int(number) => Slot::Defined(Value::Int(number)),
+        Kind::Time(number) => Slot::Defined(Value::Int(number)),
+        Kind::Str(text) => spelled(text.as_str().as_bytes()),
+        Kind::Bytes(held) => spelled(held),
         _ => Slot::Undefined,
     }
 }
@@ -79,25 +89,25 @@ fn spelled(text: &[u8]) -> Slot
 }
 
 // The value as a time.
-fn as_time(v: &Value) -> Slot
-    ensures value { seen_slot result ≡ as_time (seen v.now) }
+fn as_time(v: &View<'_>) -> Slot
+    ensures value { seen_slot result ≡ as_time (seen_view v.now) }
 {
-    match v {
-        Value::Int(number) => Slot::Defined(Value::Time(*number)),
-        Value::Time(number) => Slot::Defined(Value::Time(*number)),
+    match v.kind() {
+        Kind::Int(number) => Slot::Defined(Value::Time(number)),
+        Kind::Time(number) => Slot::Defined(Value::Time(number)),
         _ => Slot::Undefined,
     }
 }
 
 // The value as a string.
-fn as_str(alloc: Global, v: &Value) -> Result<Slot, NoMemory>
-    ensures value { IfOk result (λ slot. seen_slot slot ≡ as_str (seen v.now)) }
+fn as_str(alloc: Global, v: &View<'_>) -> Result<Slot, NoMemory>
+    ensures value { IfOk result (λ slot. seen_slot slot ≡ as_str (seen_view v.now)) }
 {
-    match v {
-        Value::Bool(truth) => truth_text(alloc, *truth),
-        Value::Int(number) => decimal_text(alloc, *number),
-        Value::Str(text) => Ok(Slot::Defined(Value::Str(text.copy(alloc)?))),
-        Value::Bytes(bytes) => text_of(alloc, bytes.as_slice()),
+    match v.kind() {
+        Kind::Bool(truth) => truth_text(alloc, truth),
+        Kind::Int(number) => decimal_text(alloc, number),
+        Kind::Str(text) => Ok(Slot::Defined(Value::Str(text.copy(alloc)?))),
+        Kind::Bytes(held) => text_of(alloc, held),
         _ => Ok(Slot::Undefined),
     }
 }
@@ -140,18 +150,15 @@ fn text_of(alloc: Global, held: &[u8]) -> Result<Slot, NoMemory>
 }
 
 // The value as bytes.
-fn as_bytes(alloc: Global, v: &Value) -> Result<Slot, NoMemory>
-    ensures value { IfOk result (λ slot. seen_slot slot ≡ as_bytes (seen v.now)) }
+fn as_bytes(alloc: Global, v: &View<'_>) -> Result<Slot, NoMemory>
+    ensures value { IfOk result (λ slot. seen_slot slot ≡ as_bytes (seen_view v.now)) }
 {
-    match v {
-        Value::Str(text) => Ok(Slot::Defined(Value::Bytes(Octets::from_slice(
+    match v.kind() {
+        Kind::Str(text) => Ok(Slot::Defined(Value::Bytes(Octets::from_slice(
             alloc,
             text.as_str().as_bytes(),
         )?))),
-        Value::Bytes(bytes) => Ok(Slot::Defined(Value::Bytes(Octets::from_slice(
-            alloc,
-            bytes.as_slice(),
-        )?))),
+        Kind::Bytes(held) => Ok(Slot::Defined(Value::Bytes(Octets::from_slice(alloc, held)?))),
         _ => Ok(Slot::Undefined),
     }
 }

@@ -3,8 +3,10 @@ ghost use Rattle.std.specs.Prelude.{◌≡◌, IfOk, map, chars, option_map};
 ghost use Rattle.sz_value.specs.Seen.{seen, seen_slot};
 ghost use Rattle.sz_value.specs.Maps.{value_at};
 ghost use Rattle.sz_builtin.specs.Places.{index, at_place, code};
+ghost use Rattle.sz_builtin.specs.Views.{seen_view};
 
 use crate::characters::character_at;
+use crate::view::{Kind, View};
 use std::alloc::Global;
 use sz_value::{NoMemory, Pairs, Slot, Text, Value, copy};
 
@@ -13,15 +15,22 @@ use sz_value::{NoMemory, Pairs, Slot, Text, Value, copy};
 ///
 /// The slot is undefined where the place is below 0 or not below the length, where the key isn't there, and where
 /// the values are of other kinds.
-#[tactic(auto, using(crate::proofs::Parts::parts_back, crate::proofs::Parts::pairs_back))]
 pub fn index(alloc: Global, base: &Value, at: &Value) -> Result<Slot, NoMemory>
     ensures value { IfOk result (λ slot. seen_slot slot ≡ index (seen base.now) (seen at.now)) }
 {
-    match (base, at) {
-        (Value::Array(list), Value::Int(place)) => element(alloc, list.as_slice(), *place),
-        (Value::Str(text), Value::Int(place)) => Ok(code_at(text, *place)),
-        (Value::Bytes(bytes), Value::Int(place)) => Ok(byte(bytes.as_slice(), *place)),
-        (Value::Map(pairs), key) => value_of(alloc, pairs, key),
+    index_of_views(alloc, &View::Whole(base), &View::Whole(at))
+}
+
+/// The same of views.
+#[tactic(auto, using(crate::proofs::Parts::parts_back, crate::proofs::Parts::pairs_back))]
+pub fn index_of_views(alloc: Global, base: &View<'_>, at: &View<'_>) -> Result<Slot, NoMemory>
+    ensures value { IfOk result (λ slot. seen_slot slot ≡ index (seen_view base.now) (seen_view at.now)) }
+{
+    match (base.kind(), at.kind()) {
+        (Kind::Array(list), Kind::Int(place)) => element(alloc, list.as_slice(), place),
+        (Kind::Str(text), Kind::Int(place)) => Ok(code_at(text, place)),
+        (Kind::Bytes(held), Kind::Int(place)) => Ok(byte(held, place)),
+        (Kind::Map(pairs), _) => value_of(alloc, pairs, at),
         _ => Ok(Slot::Undefined),
     }
 }
@@ -40,10 +49,11 @@ fn element(alloc: Global, values: &[Value], place: i64) -> Result<Slot, NoMemory
 }
 
 // A copy of the value at a key.
-fn value_of(alloc: Global, pairs: &Pairs, key: &Value) -> Result<Slot, NoMemory>
-    ensures value { IfOk result (λ slot. seen_slot slot ≡ value_at (seen key.now) pairs.now) }
+fn value_of(alloc: Global, pairs: &Pairs, key: &View<'_>) -> Result<Slot, NoMemory>
+    ensures value { IfOk result (λ slot. seen_slot slot ≡ value_at (seen_view key.now) pairs.now) }
 {
-    match pairs.get(key) {
+    let key = key.lent(alloc)?;
+    match pairs.get(key.value()) {
         Some(value) => Ok(Slot::Defined(copy(alloc, value)?)),
         None => Ok(Slot::Undefined),
     }

@@ -1,26 +1,28 @@
 //! Sums, and the joins of strings, bytes and arrays.
 ghost use Rattle.std.specs.Prelude.{◌≡◌, ◌++◌, IfOk};
-ghost use Rattle.sz_value.specs.Seen.{seen, seen_slot};
+ghost use Rattle.sz_value.specs.Seen.{seen_slot};
 ghost use Rattle.sz_builtin.specs.Operators.{sum};
+ghost use Rattle.sz_builtin.specs.Views.{seen_view};
 
 use crate::numbers::plus;
 use crate::slicing::copies;
+use crate::view::{Kind, View};
 use std::alloc::Global;
 use sz_value::{List, NoMemory, Octets, Slot, Text, Value, copy};
 
 /// The sum of two numbers or of a time and a number, or two strings, two byte strings or two arrays as one.
 #[tactic(auto, using(crate::proofs::Parts::parts_back))]
-pub fn sum(alloc: Global, a: &Value, b: &Value) -> Result<Slot, NoMemory>
-    ensures value { IfOk result (λ slot. seen_slot slot ≡ sum (seen a.now) (seen b.now)) }
+pub fn sum(alloc: Global, a: &View<'_>, b: &View<'_>) -> Result<Slot, NoMemory>
+    ensures value { IfOk result (λ slot. seen_slot slot ≡ sum (seen_view a.now) (seen_view b.now)) }
 {
-    match (a, b) {
-        (Value::Int(a), Value::Int(b)) => Ok(Slot::Defined(Value::Int(plus(*a, *b)))),
-        (Value::Time(a), Value::Int(b)) => Ok(Slot::Defined(Value::Time(plus(*a, *b)))),
-        (Value::Str(a), Value::Str(b)) => Ok(Slot::Defined(Value::Str(Text::joined(alloc, a, b)?))),
-        (Value::Bytes(a), Value::Bytes(b)) => {
+    match (a.kind(), b.kind()) {
+        (Kind::Int(a), Kind::Int(b)) => Ok(Slot::Defined(Value::Int(plus(a, b)))),
+        (Kind::Time(a), Kind::Int(b)) => Ok(Slot::Defined(Value::Time(plus(a, b)))),
+        (Kind::Str(a), Kind::Str(b)) => Ok(Slot::Defined(Value::Str(Text::joined(alloc, a, b)?))),
+        (Kind::Bytes(a), Kind::Bytes(b)) => {
             Ok(Slot::Defined(Value::Bytes(joined_bytes(alloc, a, b)?)))
         }
-        (Value::Array(a), Value::Array(b)) => {
+        (Kind::Array(a), Kind::Array(b)) => {
             Ok(Slot::Defined(Value::Array(joined_lists(alloc, a, b)?)))
         }
         _ => Ok(Slot::Undefined),
@@ -28,13 +30,12 @@ pub fn sum(alloc: Global, a: &Value, b: &Value) -> Result<Slot, NoMemory>
 }
 
 // The first bytes and then the second, each copied once.
-fn joined_bytes(alloc: Global, a: &Octets, b: &Octets) -> Result<Octets, NoMemory>
+fn joined_bytes(alloc: Global, a: &[u8], b: &[u8]) -> Result<Octets, NoMemory>
     ensures value { IfOk result (λ octets. octets ≡ a.now ++ b.now) }
 {
-    let (first, second) = (a.as_slice(), b.as_slice());
-    let mut bytes = Vec::with_capacity(alloc, first.len() + second.len())?;
-    bytes.extend_from_slice(first)?;
-    bytes.extend_from_slice(second)?;
+    let mut bytes = Vec::with_capacity(alloc, a.len() + b.len())?;
+    bytes.extend_from_slice(a)?;
+    bytes.extend_from_slice(b)?;
     Ok(Octets::from_vec(bytes))
 }
 

@@ -2,8 +2,10 @@
 ghost use Rattle.std.specs.Prelude.{◌≡◌};
 ghost use Rattle.sz_value.specs.Seen.{seen, seen_slot};
 ghost use Rattle.sz_builtin.specs.Operators.{unary};
+ghost use Rattle.sz_builtin.specs.Views.{seen_view};
 
 use crate::numbers::negated;
+use crate::view::{Kind, View};
 use sz_types::UnOp;
 use sz_value::{Slot, Value};
 
@@ -14,11 +16,18 @@ use sz_value::{Slot, Value};
 pub fn unary(op: UnOp, a: &Value) -> Slot
     ensures value { seen_slot result ≡ unary op (seen a.now) }
 {
-    match (op, a) {
-        (UnOp::Negate, Value::Int(number)) => Slot::Defined(Value::Int(negated(*number))),
-        (UnOp::Plus, Value::Int(number)) => Slot::Defined(Value::Int(*number)),
-        (UnOp::Not, Value::Bool(truth)) => Slot::Defined(Value::Bool(!*truth)),
-        (UnOp::Flip, Value::Int(number)) => Slot::Defined(Value::Int(!*number)),
+    unary_of_view(op, &View::Whole(a))
+}
+
+/// The same of a view.
+pub fn unary_of_view(op: UnOp, a: &View<'_>) -> Slot
+    ensures value { seen_slot result ≡ unary op (seen_view a.now) }
+{
+    match (op, a.kind()) {
+        (UnOp::Negate, Kind::Int(number)) => Slot::Defined(Value::Int(negated(number))),
+        (UnOp::Plus, Kind::Int(number)) => Slot::Defined(Value::Int(number)),
+        (UnOp::Not, Kind::Bool(truth)) => Slot::Defined(Value::Bool(!truth)),
+        (UnOp::Flip, Kind::Int(number)) => Slot::Defined(Value::Int(!number)),
         _ => Slot::Undefined,
     }
 }

@@ -1,25 +1,28 @@
 //! The functions that each program has.
-ghost use Rattle.std.specs.Prelude.{◌≡◌, ◌<◌, ◌^◌, pos, length, IfOk};
+ghost use Rattle.std.specs.Prelude.{◌≡◌, ◌<◌, ◌^◌, pos, length, IfOk, is_some};
 ghost use Rattle.std.specs.Map.{keys_of};
-ghost use Rattle.sz_value.specs.Seen.{seen, seen_slot, seen_pairs};
+ghost use Rattle.sz_value.specs.Maps.{value_at};
+ghost use Rattle.sz_value.specs.Seen.{seen_slot, seen_pairs};
 ghost use Rattle.sz_value.specs.declared.value.Value.TheVariants.{Int};
 ghost use Rattle.sz_value.specs.declared.slots.Slot.TheVariants.{Defined};
 ghost use Rattle.sz_builtin.specs.Predeclared.{len, keys, haskey};
+ghost use Rattle.sz_builtin.specs.Views.{seen_view};
 
 use crate::characters::character_count;
+use crate::view::{Kind, View};
 use std::alloc::Global;
 use sz_value::{List, NoMemory, Pair, Pairs, Slot, Value, copy};
 
 // The number of characters, bytes, elements or pairs.
 #[tactic(auto, using(crate::proofs::Parts::parts_back, crate::proofs::Parts::pairs_back))]
-pub fn len(value: &Value) -> Slot
-    ensures value { seen_slot result ≡ len (seen value.now) }
+pub fn len(value: &View<'_>) -> Slot
+    ensures value { seen_slot result ≡ len (seen_view value.now) }
 {
-    match value {
-        Value::Str(text) => count(character_count(text)),
-        Value::Bytes(bytes) => count(bytes.as_slice().len()),
-        Value::Array(list) => count(list_len(list)),
-        Value::Map(pairs) => count(pairs_len(pairs)),
+    match value.kind() {
+        Kind::Str(text) => count(character_count(text)),
+        Kind::Bytes(held) => count(held.len()),
+        Kind::Array(list) => count(list_len(list)),
+        Kind::Map(pairs) => count(pairs_len(pairs)),
         _ => Slot::Undefined,
     }
 }
@@ -50,11 +53,11 @@ fn count(count: usize) -> Slot
 
 // The keys of a map.
 #[tactic(auto, using(crate::proofs::Parts::pairs_back))]
-pub fn keys(alloc: Global, value: &Value) -> Result<Slot, NoMemory>
-    ensures value { IfOk result (λ slot. seen_slot slot ≡ keys (seen value.now)) }
+pub fn keys(alloc: Global, value: &View<'_>) -> Result<Slot, NoMemory>
+    ensures value { IfOk result (λ slot. seen_slot slot ≡ keys (seen_view value.now)) }
 {
-    match value {
-        Value::Map(pairs) => Ok(Slot::Defined(Value::Array(copied_keys(alloc, pairs.as_slice())?))),
+    match value.kind() {
+        Kind::Map(pairs) => Ok(Slot::Defined(Value::Array(copied_keys(alloc, pairs.as_slice())?))),
         _ => Ok(Slot::Undefined),
     }
 }
@@ -72,11 +75,19 @@ fn copied_keys(alloc: Global, pairs: &[Pair]) -> Result<List, NoMemory>
 
 // Whether a map has a key.
 #[tactic(auto, using(crate::proofs::Parts::pairs_back))]
-pub fn haskey(value: &Value, key: &Value) -> Slot
-    ensures value { seen_slot result ≡ haskey (seen value.now) (seen key.now) }
+pub fn haskey(alloc: Global, value: &View<'_>, key: &View<'_>) -> Result<Slot, NoMemory>
+    ensures value { IfOk result (λ slot. seen_slot slot ≡ haskey (seen_view value.now) (seen_view key.now)) }
 {
-    match value {
-        Value::Map(pairs) => Slot::Defined(Value::Bool(pairs.get(key).is_some())),
-        _ => Slot::Undefined,
+    match value.kind() {
+        Kind::Map(pairs) => Ok(Slot::Defined(Value::Bool(has(alloc, pairs, key)?))),
+        _ => Ok(Slot::Undefined),
     }
+}
+
+// Whether the pairs have a key.
+fn has(alloc: Global, pairs: &Pairs, key: &View<'_>) -> Result<bool, NoMemory>
+    ensures value { IfOk result (λ has. has ≡ is_some (value_at (seen_view key.now) pairs.now)) }
+{
+    let key = key.lent(alloc)?;
+    Ok(pairs.get(key.value()).is_some())
 }

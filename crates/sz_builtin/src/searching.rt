@@ -1,22 +1,21 @@
 //! Searches of a string or a byte string in another.
 ghost use Rattle.std.specs.Prelude.{◌≡◌, ◌<◌, ◌^◌, IfSome, Some, chars};
-ghost use Rattle.sz_value.specs.Seen.{seen, seen_slot};
+ghost use Rattle.sz_value.specs.Seen.{seen_slot};
 ghost use Rattle.sz_builtin.specs.Predeclared.{strfind, first_place, place};
+ghost use Rattle.sz_builtin.specs.Views.{seen_view};
 
 use crate::characters::characters_before;
+use crate::view::{Kind, View};
 use memchr::memmem;
 use sz_value::{Slot, Text, Value};
 
 /// The first place of a string or a byte string in another, counted from 0, in characters or in bytes, or -1.
-pub fn strfind(needle: &Value, hay: &Value) -> Slot
-    ensures value { seen_slot result ≡ strfind (seen needle.now) (seen hay.now) }
+pub fn strfind(needle: &View<'_>, hay: &View<'_>) -> Slot
+    ensures value { seen_slot result ≡ strfind (seen_view needle.now) (seen_view hay.now) }
 {
-    match (needle, hay) {
-        (Value::Str(needle), Value::Str(hay)) => place(text_place(needle, hay)),
-        (Value::Bytes(needle), Value::Bytes(hay)) => place(byte_place(
-            needle.as_slice(),
-            hay.as_slice(),
-        )),
+    match (needle.kind(), hay.kind()) {
+        (Kind::Str(needle), Kind::Str(hay)) => place(text_place(needle, hay)),
+        (Kind::Bytes(needle), Kind::Bytes(hay)) => place(byte_place(needle, hay)),
         _ => Slot::Undefined,
     }
 }

@@ -1,11 +1,13 @@
 //! Parts of strings, byte strings and arrays.
-ghost use Rattle.std.specs.Prelude.{◌≡◌, ◌+◌, nat_le, ◌∷◌, IsTrue, IfOk, Some, None, IfSome, IfNone, map, chars, encode_utf8_all, option_map};
+ghost use Rattle.std.specs.Prelude.{◌≡◌, ◌+◌, ◌≤◌, nat_le, ◌∷◌, IsTrue, IfOk, Some, None, IfSome, IfNone, map, chars, encode_utf8_all, option_map, length, take, drop};
 ghost use Rattle.sz_value.specs.Data.{str, bytes, array, data_of};
 ghost use Rattle.sz_value.specs.Seen.{seen, seen_slot};
 ghost use Rattle.sz_value.specs.Texts.{is_ascii};
 ghost use Rattle.sz_builtin.specs.Places.{slice, part, span, cut};
+ghost use Rattle.sz_builtin.specs.Views.{seen_view};
 
 use crate::characters::characters_from;
+use crate::view::{Kind, View};
 use std::alloc::Global;
 use sz_value::{List, NoMemory, Octets, Slot, Text, Value, copy};
 
@@ -17,9 +19,33 @@ use sz_value::{List, NoMemory, Octets, Slot, Text, Value, copy};
 pub fn slice(alloc: Global, base: &Value, from: i64, to: i64) -> Result<Slot, NoMemory>
     ensures value { IfOk result (λ slot. seen_slot slot ≡ slice (seen base.now) from to) }
 {
+    slice_of_view(alloc, &View::Whole(base), from, to)
+}
+
+/// The same of a view.
+pub fn slice_of_view(alloc: Global, base: &View<'_>, from: i64, to: i64) -> Result<Slot, NoMemory>
+    ensures value { IfOk result (λ slot. seen_slot slot ≡ slice (seen_view base.now) from to) }
+{
     match span(from, to) {
         Some((skip, count)) => part(alloc, base, skip, count),
         None => Ok(Slot::Undefined),
+    }
+}
+
+/// How many bytes the part of these bytes from the place `from` up to the place `to` passes over, and how many it has, so that a
+/// caller can look at the part where it lies.
+///
+/// `None` where the slice is undefined.
+pub fn bytes_between(held: &[u8], from: i64, to: i64) -> Option<(usize, usize)>
+    ensures some { IfSome result (λ p. slice (bytes held.now) from to ≡ Some (bytes (take p.1 (drop p.0 held.now)))) }
+    ensures within { IfSome result (λ p. p.0 + p.1 ≤ length held.now) }
+    ensures none { IfNone result (slice (bytes held.now) from to ≡ None) }
+{
+    match span(from, to) {
+        Some((skip, count)) if fits(skip, count, held.len()) => {
+            Some((skip as usize, count as usize))
+        }
+        _ => None,
     }
 }
 
@@ -36,13 +62,13 @@ fn span(from: i64, to: i64) -> Option<(u64, u64)>
 
 // The `count` elements behind the first `skip`.
 #[tactic(auto, using(crate::proofs::Parts::parts_back))]
-fn part(alloc: Global, base: &Value, skip: u64, count: u64) -> Result<Slot, NoMemory>
-    ensures value { IfOk result (λ slot. seen_slot slot ≡ part (seen base.now) (skip, count)) }
+fn part(alloc: Global, base: &View<'_>, skip: u64, count: u64) -> Result<Slot, NoMemory>
+    ensures value { IfOk result (λ slot. seen_slot slot ≡ part (seen_view base.now) (skip, count)) }
 {
-    match base {
-        Value::Str(text) => part_of_text(alloc, text, skip, count),
-        Value::Bytes(bytes) => part_of_bytes(alloc, bytes.as_slice(), skip, count),
-        Value::Array(list) => part_of_list(alloc, list.as_slice(), skip, count),
+    match base.kind() {
+        Kind::Str(text) => part_of_text(alloc, text, skip, count),
+        Kind::Bytes(held) => part_of_bytes(alloc, held, skip, count),
+        Kind::Array(list) => part_of_list(alloc, list.as_slice(), skip, count),
         _ => Ok(Slot::Undefined),
     }
 }

@@ -1,11 +1,9 @@
 -- What contracts see of cells.
-use Rattle.std.specs.Prelude.{Option, Some, None, Bool}
-use Rattle.sz_value.specs.Data.{Datum, truth, int, time}
+use Rattle.std.specs.Prelude.{Option, Some, None, Bool, take, drop}
+use Rattle.sz_value.specs.Data.{Datum, truth, int, time, bytes}
 use Rattle.sz_value.specs.Seen.{seen}
 use Rattle.sz_cells.specs.declared.cell.Form.{Form}
-use Rattle.sz_cells.specs.declared.cell.Form.TheVariants.{Undefined, Bool as Truth, Int, Time, Shared}
-use Rattle.sz_cells.specs.declared.cell.Look.{Look}
-use Rattle.sz_cells.specs.declared.cell.Look.TheVariants as look
+use Rattle.sz_cells.specs.declared.cell.Form.TheVariants.{Undefined, Bool as Truth, Int, Time, Shared, Buffer, Part}
 
 -- the slot that a cell of this form is
 abbrev pub slot_of : Form → Option Datum
@@ -14,11 +12,8 @@ slot_of (Truth b) = Some (truth b)
 slot_of (Int n) = Some (int n)
 slot_of (Time n) = Some (time n)
 slot_of (Shared shared) = Some (seen shared.value)
-
--- the plain data of the value that is looked at
-abbrev pub look_of : Look → Datum
-look_of (look.Made value) = seen value
-look_of (look.Shared value) = seen value.now
+slot_of (Buffer buffer) = Some (bytes buffer.value.items)
+slot_of (Part count before buffer) = Some (bytes (take count (drop before buffer.value.items)))
 
 -- the truth value that a slot is
 abbrev pub truth_of : Option Datum → Option Bool

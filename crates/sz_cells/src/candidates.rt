@@ -2,12 +2,14 @@
 ghost use Rattle.std.specs.Prelude.{◌≡◌, ◌∷◌, [], ◌<◌, ◌^◌, ◌==◌, length, map, chars, IfOk, IfSome, IfNone, Some};
 ghost use Rattle.std.specs.Map.{keys_of};
 ghost use Rattle.sz_value.specs.Seen.{seen, seen_pairs};
+ghost use Rattle.sz_builtin.specs.Views.{seen_view};
 ghost use Rattle.sz_world.specs.Candidates.{numbers_from, candidates};
 ghost use Rattle.sz_cells.specs.Candidates.{numbers_of};
 
 use crate::cell::Cell;
 use std::alloc::Global;
 use std::marker::Model;
+use sz_builtin::{Kind, View};
 use sz_value::{List, NoMemory, Pair, Value, copy};
 
 /// The candidates that are left: whole numbers up to a bound, or keys, the next one last.
@@ -46,22 +48,22 @@ impl Candidates {
     pub fn of(alloc: Global, slice: bool, base: &Cell) -> Result<Candidates, NoMemory>
         ensures value { IfOk result (λ made. made ≡ candidates slice base.now) }
     {
-        match base.look() {
-            Some(look) => Candidates::of_value(alloc, slice, look.value()),
+        match base.view() {
+            Some(view) => Candidates::of_view(alloc, slice, &view),
             None => Ok(Candidates::none()),
         }
     }
 
     // The candidates that a value gives.
     #[tactic(auto, using(crate::proofs::CandidateLemmas::of_array, crate::proofs::ListLemmas::pairs_back))]
-    fn of_value(alloc: Global, slice: bool, base: &Value) -> Result<Candidates, NoMemory>
-        ensures value { IfOk result (λ made. made ≡ candidates slice (Some (seen base.now))) }
+    fn of_view(alloc: Global, slice: bool, base: &View<'_>) -> Result<Candidates, NoMemory>
+        ensures value { IfOk result (λ made. made ≡ candidates slice (Some (seen_view base.now))) }
     {
-        match base {
-            Value::Array(list) => Ok(numbers(slice, list_len(list))),
-            Value::Str(text) => Ok(numbers(slice, counted(text.as_str()))),
-            Value::Bytes(bytes) => Ok(numbers(slice, bytes.as_slice().len())),
-            Value::Map(pairs) if !slice => keys(alloc, pairs.as_slice()),
+        match base.kind() {
+            Kind::Array(list) => Ok(numbers(slice, list_len(list))),
+            Kind::Str(text) => Ok(numbers(slice, counted(text.as_str()))),
+            Kind::Bytes(held) => Ok(numbers(slice, held.len())),
+            Kind::Map(pairs) if !slice => keys(alloc, pairs.as_slice()),
             _ => Ok(Candidates::none()),
         }
     }

@@ -1,16 +1,19 @@
 //! Cells: what an operand or a local is held in. Nothing above knows their form.
-ghost use Rattle.std.specs.Prelude.{◌≡◌, IfOk, IfSome, OnOk, Some, None, option_map, is_some};
+ghost use Rattle.std.specs.Prelude.{◌≡◌, IfOk, IfSome, OnOk, Some, None, option_map, is_some, take, drop};
 ghost use Rattle.sz_value.specs.Data.{truth, int, bytes};
 ghost use Rattle.sz_value.specs.Seen.{seen, seen_slot};
-ghost use Rattle.sz_cells.specs.Cells.{truth_of, look_of};
+ghost use Rattle.sz_builtin.specs.Views.{seen_view};
+ghost use Rattle.sz_cells.specs.Cells.{truth_of};
 
 use std::alloc::Global;
 use std::marker::Model;
 use std::rc::Rc;
+use sz_builtin::View;
 use sz_value::{NoMemory, Octets, Slot, Value, copy};
 
 /// An operand or a local, in 16 bytes. Numbers, times and truth values lie in it and take no memory. A value that owns memory
-/// is shared by the cells that hold it, so a copy of a cell copies no value.
+/// is shared by the cells that hold it, so a copy of a cell copies no value. Bytes may lie in a buffer that cells share, each of
+/// which has its part of it, so a part of them takes no memory.
 ///
 /// Contracts see the slot that it is: plain data, or none where it is undefined.
 #[derive(Drop)]
@@ -26,14 +29,16 @@ pub enum Form {
     Int(i64),
     Time(i64),
     Shared(Rc<Value>),
+    /// All bytes of a buffer.
+    Buffer(Rc<Vec<u8>>),
+    /// So many bytes of a buffer, behind so many others. Their number stands first, so that a cell has 16 bytes.
+    Part(u16, u32, Rc<Vec<u8>>),
 }
 
-/// A value that a cell is looked at as: one made for the look, or the one that the cell shares.
-#[derive(Drop)]
-pub enum Look<'a> {
-    Made(Value),
-    Shared(&'a Value),
-}
+// How many bytes a part can have, and how many can lie before it.
+const MOST_IN_PART: usize = 65_535;
+
+const MOST_BEFORE_PART: usize = 4_294_967_295;
 
 impl Model for Cell {
     ghost use Rattle.std.specs.Prelude.{Option};
@@ -199,17 +204,21 @@ impl Cell {
         }
     }
 
-    /// The value to look at, if there is one.
+    /// The value to look at where it stands, if there is one.
     #[inline(always)]
-    pub fn look(&self) -> Option<Look<'_>>
-        ensures value { option_map (λ look. look_of look) result ≡ self.now }
+    pub fn view(&self) -> Option<View<'_>>
+        ensures value { option_map (λ view. seen_view view) result ≡ self.now }
     {
         match &self.held {
             Form::Undefined => None,
-            Form::Bool(value) => Some(Look::Made(Value::Bool(*value))),
-            Form::Int(number) => Some(Look::Made(Value::Int(*number))),
-            Form::Time(number) => Some(Look::Made(Value::Time(*number))),
-            Form::Shared(shared) => Some(Look::Shared(shared.as_ref())),
+            Form::Bool(value) => Some(View::Bool(*value)),
+            Form::Int(number) => Some(View::Int(*number)),
+            Form::Time(number) => Some(View::Time(*number)),
+            Form::Shared(shared) => Some(View::Whole(shared.as_ref())),
+            Form::Buffer(buffer) => Some(View::Bytes(buffer.as_ref().as_slice())),
+            Form::Part(count, before, buffer) => {
+                Some(View::Bytes(part_held(*count, *before, buffer)))
+            }
         }
     }
 
@@ -224,6 +233,14 @@ impl Cell {
             Form::Int(number) => Ok(Some(Value::Int(number))),
             Form::Time(number) => Ok(Some(Value::Time(number))),
             Form::Shared(shared) => Ok(Some(unshared(alloc, shared)?)),
+            Form::Buffer(buffer) => {
+                let octets = Octets::from_slice(alloc, buffer.as_ref().as_slice())?;
+                Ok(Some(Value::Bytes(octets)))
+            }
+            Form::Part(count, before, buffer) => {
+                let octets = Octets::from_slice(alloc, part_held(count, before, &buffer))?;
+                Ok(Some(Value::Bytes(octets)))
+            }
         }
     }
 
@@ -248,36 +265,101 @@ impl Cell {
             Form::Int(number) => Form::Int(*number),
             Form::Time(number) => Form::Time(*number),
             Form::Shared(shared) => Form::Shared(shared.clone()?),
+            Form::Buffer(buffer) => Form::Buffer(buffer.clone()?),
+            Form::Part(count, before, buffer) => Form::Part(*count, *before, buffer.clone()?),
         };
         Ok(Cell { held })
     }
 
-    /// Holds a copy of the bytes from now on. The memory in which the cell shared a value serves again, unless another shares it.
+    /// A cell of a copy of the bytes, of which parts can be had without memory.
+    pub fn of_bytes(alloc: Global, octets: &[u8]) -> Result<Cell, NoMemory>
+        ensures value { IfOk result (λ made. made ≡ Some (bytes octets.now)) }
+    {
+        let buffer = Vec::from_slice(alloc, octets)?;
+        Ok(Cell {
+            held: Form::Buffer(Rc::new(alloc, buffer)?),
+        })
+    }
+
+    /// A cell of so many bytes of the buffer, behind so many others. They lie where they are, unless they are more than a part has.
+    pub(crate) fn of_part(
+        alloc: Global,
+        buffer: &Rc<Vec<u8>>,
+        before: usize,
+        count: usize,
+    ) -> Result<Cell, NoMemory>
+        ensures value { IfOk result (λ made. made ≡ Some (bytes (take count (drop before buffer.now.value.items)))) }
+    {
+        if count > MOST_IN_PART || before > MOST_BEFORE_PART {
+            return Cell::of_bytes(alloc, lying(buffer.as_ref().as_slice(), before, count));
+        }
+        Ok(Cell {
+            held: Form::Part(count as u16, before as u32, buffer.clone()?),
+        })
+    }
+
+    /// Holds a copy of the bytes from now on. The buffer in which the cell held bytes serves again, unless another shares it.
     pub fn set_bytes(&mut self, alloc: Global, octets: &[u8]) -> Result<(), NoMemory>
         ensures value { OnOk result (self.new ≡ Some (bytes octets.now)) }
     {
-        let value = Value::Bytes(Octets::from_slice(alloc, octets)?);
-        if let Form::Shared(shared) = &mut self.held
-            && let Some(place) = Rc::get_mut(shared)
+        if let Form::Buffer(buffer) = &mut self.held
+            && let Some(place) = Rc::get_mut(buffer)
         {
-            *place = value;
-            return Ok(());
+            return refill(place, octets);
         }
-        *self = Cell::shared(alloc, value)?;
+        *self = Cell::of_bytes(alloc, octets)?;
         Ok(())
     }
 }
 
-impl Look<'_> {
-    /// The value.
-    #[inline(always)]
-    pub fn value(&self) -> &Value
-        ensures value { seen result.now ≡ look_of self.now }
-    {
-        match self {
-            Look::Made(value) => value,
-            Look::Shared(value) => value,
-        }
+// Holds the bytes in the stead of those before, in their memory where that is enough.
+fn refill(place: &mut Vec<u8>, octets: &[u8]) -> Result<(), NoMemory>
+    ensures value { OnOk result (place.new.items ≡ octets.now) }
+{
+    place.clear();
+    place.extend_from_slice(octets)?;
+    Ok(())
+}
+
+// The bytes of a part of a buffer.
+#[inline(always)]
+pub(crate) fn part_held(count: u16, before: u32, buffer: &Rc<Vec<u8>>) -> &[u8]
+    ensures value { result.now ≡ take count (drop before buffer.now.value.items) }
+{
+    lying(buffer.as_ref().as_slice(), before as usize, count as usize)
+}
+
+// So many bytes behind so many others, or as many as there are.
+#[inline(always)]
+pub(crate) fn lying(octets: &[u8], before: usize, count: usize) -> &[u8]
+    ensures value { result.now ≡ take count (drop before octets.now) }
+{
+    front(behind(octets, before), count)
+}
+
+// The bytes behind so many others.
+#[inline(always)]
+#[tactic(auto, using(crate::proofs::ResultLemmas::nothing_behind))]
+fn behind(octets: &[u8], before: usize) -> &[u8]
+    ensures value { result.now ≡ drop before octets.now }
+{
+    if before <= octets.len() {
+        &octets[before..]
+    } else {
+        &[]
+    }
+}
+
+// The first so many bytes.
+#[inline(always)]
+#[tactic(auto, using(crate::proofs::ResultLemmas::all_in_front))]
+fn front(octets: &[u8], count: usize) -> &[u8]
+    ensures value { result.now ≡ take count octets.now }
+{
+    if count <= octets.len() {
+        &octets[..count]
+    } else {
+        octets
     }
 }
 

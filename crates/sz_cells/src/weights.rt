@@ -2,10 +2,12 @@
 ghost use Rattle.std.specs.Prelude.{◌≡◌, Some};
 ghost use Rattle.sz_types.specs.Data.{Shape, FieldShapes, str, bytes, proto};
 ghost use Rattle.sz_types.specs.Seen.{seen as seen_type};
+ghost use Rattle.sz_value.specs.Data.{bytes as octets};
 ghost use Rattle.sz_value.specs.Seen.{seen};
+ghost use Rattle.sz_value.specs.Weight.{weight_of};
 ghost use Rattle.sz_world.specs.Ticks.{result_weight, sum_weight, binary_weight, builtin_weight, conversion_weight};
 
-use crate::cell::{Cell, Form};
+use crate::cell::{Cell, Form, part_held};
 use sz_types::{BinOp, Builtin, Ty};
 use sz_value::{Value, weight};
 
@@ -18,7 +20,17 @@ pub fn result_weight(made: &Cell) -> u64
         Form::Undefined => 0,
         Form::Bool(_) | Form::Int(_) | Form::Time(_) => 1,
         Form::Shared(shared) => weight(shared.as_ref()),
+        Form::Buffer(buffer) => bytes_weight(buffer.as_ref().as_slice()),
+        Form::Part(count, before, buffer) => bytes_weight(part_held(*count, *before, buffer)),
     }
+}
+
+// What bytes weigh.
+#[inline(always)]
+fn bytes_weight(held: &[u8]) -> u64
+    ensures value { result ≡ weight_of (octets held.now) }
+{
+    (held.len() as u64).saturating_add(1)
 }
 
 /// What an operator of two operands adds for its result.
@@ -39,6 +51,7 @@ fn sum_weight(made: &Cell) -> u64
 {
     match &made.held {
         Form::Shared(shared) => joined_weight(shared.as_ref()),
+        Form::Buffer(_) | Form::Part(_, _, _) => result_weight(made),
         _ => 0,
     }
 }
@@ -98,6 +111,7 @@ fn weight_of_bytes(from: &Cell, made: &Cell) -> u64
             Value::Bytes(_) => 0,
             _ => result_weight(made),
         },
+        Form::Buffer(_) | Form::Part(_, _, _) => 0,
         _ => result_weight(made),
     }
 }
@@ -111,6 +125,7 @@ fn weight_of_message(from: &Cell, made: &Cell) -> u64
             Value::Bytes(_) => result_weight(made),
             _ => 0,
         },
+        Form::Buffer(_) | Form::Part(_, _, _) => result_weight(made),
         _ => 0,
     }
 }

@@ -1,7 +1,7 @@
 -- What the type is by its kind.
 use Rattle.std.proofs.Common.{rules}
 use Rattle.sz_types.proofs.ForCallers.{seen_bool, seen_int, seen_time, seen_str, seen_bytes, seen_array, seen_map, seen_tuple, seen_proto}
-use Rattle.sz_builtin.proofs.conversions.convert.Goals as goal
+use Rattle.sz_builtin.proofs.conversions.convert_view.Goals as goal
 
 pub returns-in-Bool : goal.returns-in-Bool
 returns-in-Bool c = record { value = rw (c.in-Bool.is, seen_bool) (search rules) }
