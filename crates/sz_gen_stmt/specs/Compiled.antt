@@ -9,7 +9,7 @@ use Rattle.sz_world.specs.Typed.{AllFit}
 use Rattle.sz_mean.specs.Programs.{statics}
 use Rattle.sz_gen_stmt.specs.Simulates.{static_types, Simulates}
 
--- the code does what the program means, where no bytes are a message yet; it is well formed, its tables are those of the program, and the
+-- the code does what the program means; it is well formed, its tables are those of the program, and the
 -- statics that the program means have their types, so that the code can run with them
 pub record IsCompiled (program : Core) (code : Code) : Type 0 where
   pub simulates : Simulates program code

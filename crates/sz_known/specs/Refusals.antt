@@ -88,9 +88,6 @@ too_many p = refused_at 21 p
 abbrev pub emit_here : {A : Type 0} → Place → Judged A
 emit_here p = refused_at 22 p
 
-abbrev pub not_built : {A : Type 0} → Place → Judged A
-not_built p = refused_at 23 p
-
 -- nothing is refused where the test holds
 abbrev pub unless : Bool → Judged Unit → Judged Unit
 unless holds refusal = if holds then Ok tt else refusal

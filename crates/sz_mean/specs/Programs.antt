@@ -18,7 +18,7 @@ returned (Breaks locals) = None
 returned (Continues locals) = None
 returned (Returns result) = result
 
--- what messages mean, and the functions of the program
+-- the functions of the program
 module _ (functions : List Function) where
   -- what a function sees: no record
   abbrev pub function_setting : Calls → List Slot → Setting

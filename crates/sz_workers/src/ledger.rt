@@ -1,4 +1,4 @@
-//! The ledger's events, each as a call. None of them takes memory.
+//! The ledger's events, each as a call.
 ghost use Rattle.std.specs.Prelude.{◌≡◌, ◌<◌, [], IfOk, true, false, slice_index};
 ghost use Rattle.sz_book.specs.Machine.{IsDrawn, IsTried};
 ghost use Rattle.sz_book.specs.Cores.{Takes};
