@@ -12,7 +12,7 @@ use sz_list::Items;
 use sz_value::NoMemory;
 
 /// The plan of a round: tickets in order of shards, the two of a doubled shard side by side.
-pub(crate) fn plan_of(alloc: Global, job: &Job, round: &Round) -> Result<Plan, NoMemory>
+pub fn plan_of(alloc: Global, job: &Job, round: &Round) -> Result<Plan, NoMemory>
     requires attempts { (1 ≤ job.now.attempts) × (job.now.attempts ≤ 8) }
     requires round { IsRound round.now }
     ensures value { IfOk result (λ plan. IsPlanOf job.now round.now plan) }

@@ -1,0 +1,86 @@
+-- What a call of a pass keeps, and what a claim and a number are good for.
+use Rattle.std.proofs.Common.{◌≡◌, ℕ, ◌<◌, List, [], ◌∷◌, ◌++◌, length, replicate, refl, ap, sym, ◌∙◌, subst, inl, inr, arith}
+use Rattle.std.proofs.lemmas.List.{append_assoc, append-nil, length-replicate}
+use Rattle.sz_book.specs.Plan.{PlanData, IsPlan}
+use Rattle.sz_book.specs.declared.plan.Claim.{Claim}
+use Rattle.sz_book.specs.declared.event.Event.{Event}
+use Rattle.sz_book.specs.declared.event.Reply.{Reply}
+use Rattle.sz_book.specs.declared.event.Entry.{Entry}
+use Rattle.sz_book.specs.Machine.{opening}
+use Rattle.sz_book.specs.History.{entry, IsLegal, calls_by, StartsWith, HasDrawn, HasNumber}
+use Rattle.sz_book.proofs.HistoryLemmas.{starts_self, starts_more}
+use Rattle.sz_book.proofs.GrowthLemmas.{has_drawn, has_number, own_drawn, own_number}
+use Rattle.sz_claims.specs.Known.{LedgerData, PassData, Calls}
+use Rattle.sz_crew.specs.Working.{Goes, IsInPlace}
+
+starts_then : (a b c : List Entry) → StartsWith a b → StartsWith b c → StartsWith a c
+starts_then a b c h g = (g.0 ++ h.0, h.1 ∙ ap (λ (l : List Entry). l ++ h.0) g.1 ∙ append_assoc c g.0 h.0)
+
+pub goes_self : (v : PassData) → Goes v v
+goes_self v = record {
+  ledger = refl;
+  number = refl;
+  made = refl;
+  joined = refl;
+  lane = refl;
+  seen = starts_self v.seen;
+  mine = starts_self v.mine;
+}
+
+pub goes_then : (u v w : PassData) → Goes u v → Goes v w → Goes u w
+goes_then u v w g h = record {
+  ledger = h.ledger ∙ g.ledger;
+  number = h.number ∙ g.number;
+  made = h.made ∙ g.made;
+  joined = h.joined ∙ g.joined;
+  lane = h.lane ∙ g.lane;
+  seen = starts_then w.seen v.seen u.seen h.seen g.seen;
+  mine = starts_then w.mine v.mine u.mine h.mine g.mine;
+}
+
+pub goes_call : (v w : PassData) (e : Event) (r : Reply) → Calls v e r w → Goes v w
+goes_call v w e r h =
+    let last : Entry = entry v.number e [] r in record {
+      ledger = ap (λ (u : PassData). u.ledger) h.1;
+      number = ap (λ (u : PassData). u.number) h.1;
+      made = ap (λ (u : PassData). u.made) h.1;
+      joined = ap (λ (u : PassData). u.joined) h.1;
+      lane = ap (λ (u : PassData). u.lane) h.1;
+      seen = subst (λ (u : PassData). StartsWith u.seen v.seen) (sym h.1) (starts_more h.0 v.seen (last ∷ []) h.2);
+      mine = subst (λ (u : PassData). StartsWith u.mine v.mine) (sym h.1) (last ∷ [], refl);
+    }
+
+pub in_place_call : (v w : PassData) (e : Event) (r : Reply) → Calls v e r w → IsInPlace v → IsInPlace w
+in_place_call v w e r h place =
+    let ledger : w.ledger ≡ v.ledger = ap (λ (u : PassData). u.ledger) h.1 in
+    let number : w.number ≡ v.number = ap (λ (u : PassData). u.number) h.1 in record {
+      plan = subst (λ (l : LedgerData). IsPlan l.plan) (sym ledger) place.plan;
+      legal = subst (λ (l : LedgerData). IsLegal l.plan l.lanes w.seen) (sym ledger) h.3;
+      own = subst (λ (n : ℕ). calls_by n w.seen ≡ w.mine) (sym number) h.4;
+    }
+
+-- a claim that a pass drew is of a shard of the plan
+pub claims_shard : (v : PassData) (c : Claim) → IsInPlace v → HasDrawn c v.mine → c.shard < v.ledger.plan.shards
+claims_shard v c place drew =
+    let p : PlanData = v.ledger.plan in
+    let all : HasDrawn c v.seen = own_drawn v.number v.seen c (subst (HasDrawn c) (sym place.own) drew) in
+    let drawn = has_drawn p (opening p v.ledger.lanes) v.seen c place.legal.from all in
+    let within = place.plan.within c.ticket drawn.ticket in
+    let shard = drawn.shard in
+    omega arith
+
+-- a number that a pass was given is one of the plan's
+pub numbers_low : (v : PassData) (c : Claim) (k : ℕ) → IsInPlace v → HasNumber c k v.mine → k < v.ledger.plan.attempts
+numbers_low v c k place given =
+    let p : PlanData = v.ledger.plan in
+    let all : HasNumber c k v.seen = own_number v.number v.seen c k (subst (HasNumber c k) (sym place.own) given) in
+    (has_number p (opening p v.ledger.lanes) v.seen c k place.plan (length-replicate p.shards 0) place.legal.from all).0
+
+drawn_front : (c : Claim) (es more : List Entry) → HasDrawn c es → HasDrawn c (es ++ more)
+drawn_front c [] more h = absurd h
+drawn_front c (e ∷ es) more (inl h) = inl h
+drawn_front c (e ∷ es) more (inr h) = inr (drawn_front c es more h)
+
+-- what was drawn stays drawn
+pub drawn_since : (v w : PassData) (c : Claim) → Goes v w → HasDrawn c v.mine → HasDrawn c w.mine
+drawn_since v w c g drew = subst (HasDrawn c) (sym g.mine.1) (drawn_front c v.mine g.mine.0 drew)

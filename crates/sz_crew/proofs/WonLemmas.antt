@@ -1,0 +1,160 @@
+-- The shards that a worker won.
+use Rattle.std.proofs.Common.{◌≡◌, ◌≢◌, ◌⊎◌, ℕ, ◌+◌, ◌-◌, ◌<◌, ◌≤◌, ◌==◌, Bool, cond, List, [], ◌∷◌, ◌++◌, length, refl, ap, sym, ◌∙◌, subst, inl, inr, ⊎_elim}
+use Rattle.std.proofs.Common.{arith, eq-eqb, ne_eqb}
+use Rattle.std.specs.Prelude.{slice_index}
+use Rattle.std.specs.List.{sum_by}
+use Rattle.std.proofs.lemmas.List.{append_cancel_right}
+use mathlib.Core.Logic.{dite}
+use native.Mathlib.Decide.{ℕ_discrete}
+use Rattle.sz_book.specs.Plan.{PlanData, IsPlan}
+use Rattle.sz_book.specs.Lanes.{LaneData}
+use Rattle.sz_book.specs.Counting.{times, once}
+use Rattle.sz_book.specs.declared.plan.Claim.{Claim}
+use Rattle.sz_book.specs.declared.event.Event.{Event}
+use Rattle.sz_book.specs.declared.event.Event.TheVariants.{Settle}
+use Rattle.sz_book.specs.declared.event.Reply.{Reply}
+use Rattle.sz_book.specs.declared.event.Reply.TheVariants.{Won, Late}
+use Rattle.sz_book.specs.declared.event.Entry.{Entry}
+use Rattle.sz_book.specs.Machine.{LedgerState, opening, after, reply_of}
+use Rattle.sz_book.specs.History.{entry, state_after, IsLegal, IsLegalFrom, calls_by, Settles, HasWon, HasGiven, IsAmong, AreDistinct, AreApart}
+use Rattle.sz_book.proofs.HistoryLemmas.{calls_own}
+use Rattle.sz_book.proofs.CountLemmas.{each_shard_counts_once}
+use Rattle.sz_claims.specs.Known.{LedgerData, PassData, Calls, AreInHand}
+use Rattle.sz_claims.proofs.ForCallers.{in_hand_now, in_hand_still}
+use Rattle.sz_claims.proofs.UnplacedLemmas.{are_unplaced}
+use Rattle.sz_crew.specs.Working.{IsInPlace, AreWon, IsAtWork}
+use Rattle.sz_crew.proofs.CallLemmas.{in_place_call}
+
+won_before : (s : ℕ) (es : List Entry) (e : Entry) → HasWon s (es ++ e ∷ []) → HasWon s es ⊎ (Settles s e.event × (e.reply ≡ Won))
+won_before s [] e (inl h) = inr h
+won_before s [] e (inr h) = absurd h
+won_before s (d ∷ es) e (inl h) = inl (inl h)
+won_before s (d ∷ es) e (inr h) =
+    ⊎_elim (λ (a : HasWon s es). inl (inr a)) (λ (b : Settles s e.event × (e.reply ≡ Won)). inr b) (won_before s es e h)
+
+given_more : (s : ℕ) (es : List Entry) (e : Entry) → HasGiven s es → HasGiven s (es ++ e ∷ [])
+given_more s [] e h = absurd h
+given_more s (d ∷ es) e (inl h) = inl h
+given_more s (d ∷ es) e (inr h) = inr (given_more s es e h)
+
+pub among_front : (s : ℕ) (ss ts : List ℕ) → IsAmong s ss → IsAmong s (ss ++ ts)
+among_front s [] ts h = absurd h
+among_front s (t ∷ ss) ts (inl h) = inl h
+among_front s (t ∷ ss) ts (inr h) = inr (among_front s ss ts h)
+
+pub among_back : (s : ℕ) (ss ts : List ℕ) → IsAmong s ts → IsAmong s (ss ++ ts)
+among_back s [] ts h = h
+among_back s (t ∷ ss) ts h = inr (among_back s ss ts h)
+
+pub among_either : (s : ℕ) (ss ts : List ℕ) → IsAmong s (ss ++ ts) → IsAmong s ss ⊎ IsAmong s ts
+among_either s [] ts h = inr h
+among_either s (t ∷ ss) ts (inl h) = inl (inl h)
+among_either s (t ∷ ss) ts (inr h) =
+    ⊎_elim (λ (a : IsAmong s ss). inl (inr a)) (λ (b : IsAmong s ts). inr b) (among_either s ss ts h)
+
+pub distinct_joined : (ss ts : List ℕ) → AreDistinct ss → AreDistinct ts → AreApart ss ts → AreDistinct (ss ++ ts)
+distinct_joined [] ts d e apart = e
+distinct_joined (s ∷ ss) ts d e apart = (
+  (λ in'. ⊎_elim (λ (a : IsAmong s ss). d.0 a) (λ (b : IsAmong s ts). apart s (inl refl) b) (among_either s ss ts in')),
+  distinct_joined ss ts d.1 e (λ t in'. apart t (inr in')),
+)
+
+pub in_hand_joined : (ss ts : List ℕ) (mine : List Entry) → AreInHand ss mine → AreInHand ts mine → AreApart ss ts → AreInHand (ss ++ ts) mine
+in_hand_joined ss ts mine h g apart = record {
+  distinct = distinct_joined ss ts h.distinct g.distinct apart;
+  won = λ s in'. ⊎_elim (λ (a : IsAmong s ss). h.won s a) (λ (b : IsAmong s ts). g.won s b) (among_either s ss ts in');
+  fresh = λ s in'. ⊎_elim (λ (a : IsAmong s ss). h.fresh s a) (λ (b : IsAmong s ts). g.fresh s b) (among_either s ss ts in');
+}
+
+-- a legal history's front is one, and what comes behind it goes on
+legal_parts : (p : PlanData) (x : LedgerState) (es ds : List Entry) → IsLegalFrom p x (es ++ ds)
+    → IsLegalFrom p x es × IsLegalFrom p (state_after p x es) ds
+legal_parts p x [] ds h = (tt, h)
+legal_parts p x (e ∷ es) ds h = let t = legal_parts p (after p x e.by e.event e.shards) es ds h.2 in ((h.0, h.1, t.0), t.1)
+
+-- a settlement is won where the shard was not settled
+open_shard : (n : ℕ) → Won ≡ cond (n == 0) Won (Late (n - 1)) → n ≡ 0
+open_shard n won = dite (ℕ_discrete n 0) (λ (z : n ≡ 0). z)
+    (λ (ne : n ≢ 0). let wrong : Won ≡ Late (n - 1) = won ∙ ap (λ (b : Bool). cond b Won (Late (n - 1))) (ne_eqb n 0 ne) in absurd (cc wrong))
+
+once_some : (n m : ℕ) → n ≡ m + 1 → once n ≡ 1
+once_some n m e = ap (λ (b : Bool). cond b 0 1) (ne_eqb n 0 (omega arith))
+
+-- a shard that a pass just won is none of those that it won before
+pub apart_now : (v w : PassData) (c : Claim) (k : ℕ) (shards : List ℕ) → Calls v (Settle c k) Won w → IsInPlace v → AreWon v shards
+    → ¬ IsAmong c.shard shards
+apart_now v w c k shards h place won in' =
+    let p : PlanData = v.ledger.plan in
+    let start : LedgerState = opening p v.ledger.lanes in
+    let e : Entry = entry v.number (Settle c k) [] Won in
+    let log : List Entry = h.0 in
+    let mine : w.mine ≡ v.mine ++ e ∷ [] = ap (λ (u : PassData). u.mine) h.1 in
+    let seen : w.seen ≡ log ++ e ∷ [] = ap (λ (u : PassData). u.seen) h.1 in
+    let parts = legal_parts p start log (e ∷ []) (subst (IsLegalFrom p start) seen h.3.from) in
+    let legal : IsLegal p v.ledger.lanes log = record { from = parts.0 } in
+    let open' : slice_index (state_after p start log).winners c.shard ≡ 0 = open_shard (slice_index (state_after p start log).winners c.shard) parts.1.1 in
+    let own : calls_by v.number log ≡ v.mine =
+    append_cancel_right (calls_by v.number log) v.mine (e ∷ [])
+    (sym (calls_own v.number log e refl) ∙ ap (calls_by v.number) (sym seen) ∙ h.4 ∙ mine) in
+    let mark = are_unplaced p v.ledger.lanes v.number log v.mine (c.shard ∷ []) place.plan legal own
+    ((λ no. no), tt)
+    (λ s one. ⊎_elim (λ (is : c.shard ≡ s). subst (λ (t : ℕ). HasWon t v.mine) is (won.hand.won c.shard in')) (λ (no : ⊥). absurd no) one)
+    (λ s one. ⊎_elim (λ (is : c.shard ≡ s). subst (λ (t : ℕ). ¬ HasGiven t v.mine) is (won.hand.fresh c.shard in')) (λ (no : ⊥). absurd no) one) in
+    let counts = (each_shard_counts_once p v.ledger.lanes log place.plan legal).held c.shard in
+    let some = once_some (slice_index (state_after p start log).unplaced c.shard) v.number mark.0 in
+    let none : once (slice_index (state_after p start log).winners c.shard) ≡ 0 = ap once open' in
+    absurd (omega arith)
+
+-- a call that wins nothing leaves what was won
+pub won_still : (v w : PassData) (e : Event) (r : Reply) (shards : List ℕ) → Calls v e r w → ((s : ℕ) → Settles s e → ¬ (r ≡ Won)) → AreWon v shards
+    → AreWon w shards
+won_still v w e r shards h none won =
+    let d : Entry = entry v.number e [] r in
+    let mine : w.mine ≡ v.mine ++ d ∷ [] = ap (λ (u : PassData). u.mine) h.1 in record {
+      hand = in_hand_still v w shards e r v.lane v.lent h won.hand;
+      all = λ s has. ⊎_elim
+          (λ (before : HasWon s v.mine). ⊎_elim (λ (a : IsAmong s shards). inl a)
+          (λ (g : HasGiven s v.mine). inr (subst (HasGiven s) (sym mine) (given_more s v.mine d g))) (won.all s before))
+          (λ (now : Settles s e × (r ≡ Won)). absurd (none s now.0 now.1))
+          (won_before s v.mine d (subst (HasWon s) mine has));
+    }
+
+-- a shard that was just won stands behind those that were won before
+pub won_now : (v w : PassData) (c : Claim) (k : ℕ) (shards : List ℕ) → Calls v (Settle c k) Won w → IsInPlace v → AreWon v shards
+    → AreWon w (shards ++ c.shard ∷ [])
+won_now v w c k shards h place won =
+    let d : Entry = entry v.number (Settle c k) [] Won in
+    let mine : w.mine ≡ v.mine ++ d ∷ [] = ap (λ (u : PassData). u.mine) h.1 in
+    let away = apart_now v w c k shards h place won in
+    let before = in_hand_still v w shards (Settle c k) Won v.lane v.lent h won.hand in
+    let apart : AreApart shards (c.shard ∷ []) = λ s in' one.
+    ⊎_elim (λ (is : c.shard ≡ s). away (subst (λ (t : ℕ). IsAmong t shards) (sym is) in')) (λ (no : ⊥). no) one in record {
+      hand = in_hand_joined shards (c.shard ∷ []) w.mine before (in_hand_now v w c k h) apart;
+      all = λ s has. ⊎_elim
+          (λ (old : HasWon s v.mine). ⊎_elim (λ (a : IsAmong s shards). inl (among_front s shards (c.shard ∷ []) a))
+          (λ (g : HasGiven s v.mine). inr (subst (HasGiven s) (sym mine) (given_more s v.mine d g))) (won.all s old))
+          (λ (now : Settles s (Settle c k) × (Won ≡ Won)). inl (among_back s shards (c.shard ∷ []) (inl now.0)))
+          (won_before s v.mine d (subst (HasWon s) mine has));
+    }
+
+-- an answer that comes late wins nothing
+pub late_not_won : (n : ℕ) → ¬ (Late n ≡ Won)
+late_not_won n e = absurd (cc)
+
+pub at_work_call : (p : PlanData) (v w : PassData) (pocket : LaneData) (e : Event) (r : Reply) → Calls v e r w
+    → ((s : ℕ) → Settles s e → ¬ (r ≡ Won)) → IsAtWork p v pocket → IsAtWork p w pocket
+at_work_call p v w pocket e r h none at = record {
+  of = ap (λ (u : PassData). u.ledger.plan) h.1 ∙ at.of;
+  place = in_place_call v w e r h at.place;
+  plan = at.plan;
+  won = won_still v w e r pocket.shards h none at.won;
+}
+
+pub at_work_won : (p : PlanData) (v w : PassData) (pocket longer : LaneData) (c : Claim) (k : ℕ) → Calls v (Settle c k) Won w
+    → longer.plan ≡ pocket.plan → longer.shards ≡ pocket.shards ++ c.shard ∷ [] → IsAtWork p v pocket → IsAtWork p w longer
+at_work_won p v w pocket longer c k h plan more at = record {
+  of = ap (λ (u : PassData). u.ledger.plan) h.1 ∙ at.of;
+  place = in_place_call v w (Settle c k) Won h at.place;
+  plan = plan ∙ at.plan;
+  won = subst (AreWon w) (sym more) (won_now v w c k pocket.shards h at.place at.won);
+}

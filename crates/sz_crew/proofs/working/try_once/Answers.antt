@@ -1,0 +1,33 @@
+use Rattle.std.proofs.Common.{◌<◌, sym, ◌∙◌, subst}
+use Rattle.sz_book.specs.Plan.{PlanData}
+use Rattle.sz_book.specs.declared.event.Event.TheVariants.{Died, Bad}
+use Rattle.sz_book.specs.declared.event.Reply.TheVariants.{Noted}
+use Rattle.sz_claims.specs.Known.{LedgerData}
+use Rattle.sz_crew.proofs.CallLemmas.{claims_shard, numbers_low}
+use Rattle.sz_crew.proofs.WonLemmas.{at_work_call}
+use Rattle.sz_crew.proofs.working.try_once.Goals as goal
+
+pub attempt-requires-clause-within : goal.attempt-requires-clause-within
+attempt-requires-clause-within g c =
+    subst (λ (p : PlanData). c.args.claim.now.shard < p.shards) (c.requires.ready.of ∙ sym c.requires.of.1)
+    (claims_shard c.args.pass.now c.args.claim.now c.requires.ready.place c.requires.drew)
+
+pub attempt-requires-clause-number : goal.attempt-requires-clause-number
+attempt-requires-clause-number g c =
+    subst (λ (p : PlanData). c.args.number < p.attempts) (c.requires.ready.of ∙ sym c.requires.of.1)
+    (numbers_low c.args.pass.now c.args.claim.now c.args.number c.requires.ready.place c.requires.given)
+
+pub bad-requires-clause-within : goal.bad-requires-clause-within
+bad-requires-clause-within g c =
+    subst (λ (l : LedgerData). c.args.claim.now.shard < l.plan.shards) c.requires.of.0
+    (claims_shard c.args.pass.now c.args.claim.now c.requires.ready.place c.requires.drew)
+
+pub returns-in-Err-Died-clause-won : goal.returns-in-Err-Died-clause-won
+returns-in-Err-Died-clause-won g c =
+    at_work_call c.args.plan.now c.args.pass.now c.died.new.pass c.args.pocket.now (Died c.args.claim.now c.args.number) Noted c.died.ensures.call
+    (λ s is e. is) c.requires.ready
+
+pub returns-in-Err-Bad-clause-won : goal.returns-in-Err-Bad-clause-won
+returns-in-Err-Bad-clause-won g c =
+    at_work_call c.args.plan.now c.args.pass.now c.bad.new.pass c.args.pocket.now (Bad c.args.claim.now.shard) Noted c.bad.ensures.call
+    (λ s is e. is) c.requires.ready

@@ -1,0 +1,10 @@
+-- What is true of an attempt that gave no part.
+use Rattle.std.specs.Prelude.{ℕ}
+use Rattle.sz_crew.specs.declared.maker.Missed.{Missed}
+use Rattle.sz_crew.specs.declared.maker.Missed.TheVariants.{Died, Bad, NoMemory}
+
+-- attempt k of shard s died, or shard s faults
+abbrev pub IsTrueMiss : (ℕ → ℕ → Type 0) → (ℕ → Type 0) → ℕ → ℕ → Missed → Type 0
+IsTrueMiss died faults s k Died = died s k
+IsTrueMiss died faults s k Bad = faults s
+IsTrueMiss died faults s k NoMemory = Unit {0}

@@ -1,0 +1,8 @@
+//! What one worker of a round does with the ledger that it shares: it draws tickets, runs their attempts, and keeps the parts that it won.
+#![tactic(auto)]
+
+mod maker;
+mod working;
+
+pub use maker::{Maker, Missed};
+pub use working::work;

@@ -1,0 +1,122 @@
+//! The work of one worker.
+ghost use Rattle.std.specs.Prelude.{◌≡◌, ◌<◌, [], ◌∷◌, IfOk, OnOk};
+ghost use Rattle.sz_book.specs.History.{HasDrawn, HasNumber};
+ghost use Rattle.sz_crew.specs.Working.{Goes, IsAtWork};
+
+use crate::maker::{Maker, Missed};
+use sz_book::{Claim, Lane, Load, NoMemory, Plan, Settled};
+use sz_claims::{Ledger, Pass};
+
+/// Draws tickets until none is left, runs their attempts, and puts the part of each shard that it wins into the pocket. It stops where
+/// there is no memory.
+pub fn work<T: Load, M: Maker<T>>(
+    maker: &mut M,
+    plan: &Plan,
+    ledger: &Ledger<T>,
+    pass: &mut Pass<T>,
+    pocket: &mut Lane<T>,
+) -> Result<(), NoMemory>
+    requires of { (pass.old.ledger ≡ ledger.now) × (M.plan maker.old ≡ plan.now) }
+    requires ready { IsAtWork plan.now pass.old pocket.old }
+    ensures goes { Goes pass.old pass.new }
+    ensures won { OnOk result (IsAtWork plan.now pass.new pocket.new) }
+{
+    for _drawn in 0..plan.ticket_count() + 1 {
+        match ledger.draw(pass) {
+            Some(claim) => try_shard(maker, plan, ledger, pass, pocket, &claim)?,
+            None => return Ok(()),
+        }
+    }
+    Ok(())
+}
+
+// Runs attempts of the claim's shard until the ticket ends.
+fn try_shard<T: Load, M: Maker<T>>(
+    maker: &mut M,
+    plan: &Plan,
+    ledger: &Ledger<T>,
+    pass: &mut Pass<T>,
+    pocket: &mut Lane<T>,
+    claim: &Claim,
+) -> Result<(), NoMemory>
+    requires of { (pass.old.ledger ≡ ledger.now) × (M.plan maker.old ≡ plan.now) }
+    requires ready { IsAtWork plan.now pass.old pocket.old }
+    requires drew { HasDrawn claim.now pass.old.mine }
+    ensures goes { Goes pass.old pass.new }
+    ensures plan { M.plan maker.new ≡ M.plan maker.old }
+    ensures won { OnOk result (IsAtWork plan.now pass.new pocket.new) }
+{
+    for _asked in 0..plan.attempts() + 1 {
+        match ledger.number(pass, claim) {
+            Some(number) => {
+                if try_once(maker, plan, ledger, pass, pocket, claim, number)? {
+                    return Ok(());
+                }
+            }
+            None => return Ok(()),
+        }
+    }
+    Ok(())
+}
+
+// Makes an attempt and reports how it ended. Whether its ticket has ended.
+fn try_once<T: Load, M: Maker<T>>(
+    maker: &mut M,
+    plan: &Plan,
+    ledger: &Ledger<T>,
+    pass: &mut Pass<T>,
+    pocket: &mut Lane<T>,
+    claim: &Claim,
+    number: u32,
+) -> Result<bool, NoMemory>
+    requires of { (pass.old.ledger ≡ ledger.now) × (M.plan maker.old ≡ plan.now) }
+    requires ready { IsAtWork plan.now pass.old pocket.old }
+    requires drew { HasDrawn claim.now pass.old.mine }
+    requires given { HasNumber claim.now number pass.old.mine }
+    ensures goes { Goes pass.old pass.new }
+    ensures plan { M.plan maker.new ≡ M.plan maker.old }
+    ensures won { IfOk result (λ ended. IsAtWork plan.now pass.new pocket.new) }
+{
+    match maker.attempt(claim, number) {
+        Ok(part) => {
+            settle(plan, ledger, pass, pocket, claim, number, part)?;
+            Ok(true)
+        }
+        Err(Missed::Died) => {
+            ledger.died(pass, claim, number);
+            Ok(false)
+        }
+        Err(Missed::Bad) => {
+            ledger.bad(pass, claim.shard);
+            Ok(true)
+        }
+        Err(Missed::NoMemory) => Err(NoMemory),
+    }
+}
+
+// Settles the claim's shard, and puts the part into the pocket where it was won.
+fn settle<T: Load>(
+    plan: &Plan,
+    ledger: &Ledger<T>,
+    pass: &mut Pass<T>,
+    pocket: &mut Lane<T>,
+    claim: &Claim,
+    number: u32,
+    part: T,
+) -> Result<(), NoMemory>
+    requires of { pass.old.ledger ≡ ledger.now }
+    requires ready { IsAtWork plan.now pass.old pocket.old }
+    requires drew { HasDrawn claim.now pass.old.mine }
+    requires given { HasNumber claim.now number pass.old.mine }
+    requires part { (T.plan part ≡ plan.now) × T.stands part (claim.now.shard ∷ []) }
+    ensures goes { Goes pass.old pass.new }
+    ensures won { OnOk result (IsAtWork plan.now pass.new pocket.new) }
+{
+    match ledger.settle(pass, claim, number) {
+        Settled::Won(receipt) => match pocket.put(receipt, part) {
+            Ok(()) => Ok(()),
+            Err(_) => Err(NoMemory),
+        },
+        Settled::Late(_) => Ok(()),
+    }
+}

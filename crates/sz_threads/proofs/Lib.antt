@@ -1,0 +1,5 @@
+pub mod GatherLemmas
+pub mod PartLemmas
+pub mod RestLemmas
+pub mod SendLemmas
+pub mod StartLemmas
