@@ -1,10 +1,5 @@
-pub mod OutcomeLemmas
-pub mod CountLemmas
-pub mod RoundLemmas
-pub mod StepLemmas
-pub mod TurnLemmas
-pub mod TicketLemmas
-pub mod LawLemmas
-pub mod PlanLemmas
-pub mod CutLemmas
-pub mod RangeLemmas
+pub mod GatherLemmas
+pub mod PartLemmas
+pub mod RestLemmas
+pub mod SendLemmas
+pub mod StartLemmas

@@ -1,7 +1,5 @@
 -- what the public contracts rest on
-pub mod Outcomes
-pub mod Rounds
-pub mod Cuts
+pub mod Parts
 -- what the functions inside the crate promise each other
-pub mod Tickets
 pub mod Running
+pub mod Starting

@@ -1,212 +1,152 @@
-//! Rounds, run by one thread.
-ghost use Rattle.std.specs.Prelude.{◌≡◌, ◌<◌, ◌≤◌, length, IfOk, OnOk};
+//! Rounds, run by several threads.
+ghost use Rattle.std.specs.Prelude.{◌≡◌, ◌<◌, ◌≤◌, IfOk};
+ghost use denote.Param.Send.{IsSend, IsSync};
 ghost use Rattle.sz_attempt.specs.Shards.{IsJob};
-ghost use Rattle.sz_attempt.specs.Ends.{StandForEmits};
-ghost use Rattle.sz_workers.specs.Outcomes.{outcome_of};
-ghost use Rattle.sz_workers.specs.Rounds.{IsRound, shards_of, EndsRound};
-ghost use Rattle.sz_workers.specs.Running.{IsUnderWay, AllDone, IsClaim, IsTrying, IsEndOf, TicketEnds, ClaimEnds, TurnEnds, Gave, Counted};
+ghost use Rattle.sz_rounds.specs.Outcomes.{outcome_of};
+ghost use Rattle.sz_rounds.specs.Rounds.{IsRound, shards_of, EndsRound};
+ghost use Rattle.sz_workers.specs.Parts.{HoldsShards};
+ghost use Rattle.sz_workers.specs.Running.{IsSet};
 
-use crate::ledger::{draw, number_for, report_bad, report_death, settle};
-use crate::plan::plan_of;
-use crate::progress::Progress;
-use crate::round::{Round, RoundEnd};
+use crate::part::{RoundName, RoundPart};
+use crate::pool::{Pool, empty_pool, pour};
+use crate::rest::finish;
+use crate::worker::Worker;
 use std::alloc::Global;
-use sz_attempt::{AttemptEnd, Job, attempt};
-use sz_book::{Claim, Core};
+use std::marker::Brand;
+use std::sync::Wait;
+use std::thread;
+use std::thread::{Builder, JoinHandle, Threads};
+use sz_attempt::Job;
+use sz_book::{Lane, NoMemory, Plan};
+use sz_claims::Ledger;
 use sz_io::Gate;
-use sz_run::Room;
-use sz_total::Total;
-use sz_value::NoMemory;
+use sz_rounds::{Round, RoundEnd, plan_of};
 
-/// Who runs attempts.
-#[derive(Drop)]
-struct Worker {
-    alloc: Global,
-    room: Room,
-}
+/// How much stack a worker has: as much as the command line, since it handles the same values.
+const STACK_BYTES: usize = 2 << 30;
 
-/// What comes of a turn of a ticket.
-#[derive(Drop)]
-enum Turn<'a> {
-    /// The ticket asks for a number again.
-    Again,
-    /// The ticket has ended, and its shard was won.
-    Ended,
-    /// Its shard decides.
-    Decided(RoundEnd<'a>),
-}
-
-/// Runs the attempts of a round. The gate is called before each of them, with the number of the shard in the input.
+/// Runs the attempts of a round by so many workers. The gate is called before each attempt, with the number of the shard in the input.
 ///
-/// A part whose shard was settled first by its attempt counts; one that comes late is dropped.
-pub fn run_round<'a, G: Gate>(
+/// The caller is a worker too. Each other one has a thread of its own, which is started here and ends here. Where a thread can't be
+/// started, the others do its work. The parts of shards that were won count; a shard that no worker won is run by the caller.
+pub fn run_round<'a, R: Threads + Wait + Sync, G: Gate + Sync>(
+    rt: &R,
     alloc: Global,
     job: &'a Job,
     round: &Round,
+    workers: u32,
     gate: &G,
 ) -> Result<RoundEnd<'a>, NoMemory>
     requires job { IsJob job.now }
     requires attempts { (1 ≤ job.now.attempts) × (job.now.attempts ≤ 8) }
     requires round { IsRound round.now }
+    requires workers { (1 ≤ workers) × (workers ≤ 64) }
     ensures value { IfOk result (λ end. EndsRound job.now.compiled (outcome_of job.now (shards_of round.now)) end) }
 {
     let plan = plan_of(alloc, job, round)?;
-    let mut worker = Worker {
+    run_named::<R, G, Brand>(rt, alloc, job, round, &plan, workers, gate)
+}
+
+// Runs a round that has a name.
+fn run_named<'a, R: Threads + Wait + Sync, G: Gate + Sync, N: RoundName + Send + Sync>(
+    rt: &R,
+    alloc: Global,
+    job: &'a Job,
+    round: &Round,
+    plan: &Plan,
+    workers: u32,
+    gate: &G,
+) -> Result<RoundEnd<'a>, NoMemory>
+    requires set { IsSet N.job N.round job.now round.now plan.now }
+    requires workers { 1 ≤ workers }
+    ensures value { IfOk result (λ end. EndsRound job.now.compiled (outcome_of job.now (shards_of round.now)) end) }
+{
+    let copy = plan.copied(alloc)?;
+    let no_lanes: Vec<Lane<RoundPart<'a, N>>> = Vec::new(alloc);
+    let (ledger, first) = Ledger::make(alloc, copy, no_lanes, workers)?;
+    let worker: Worker<'a, '_, G, N> = Worker {
         alloc,
-        room: Room::new(alloc),
-    };
-    let core = Core::new(alloc, &plan, 0)?;
-    let total = Total::new(alloc, job.compiled.tables())?;
-    let mut progress = Progress {
-        core,
-        total,
-        won: 0,
-    };
-    for _drawn in 0..plan.ticket_count() {
-        match run_ticket(&mut worker, job, round, gate, &mut progress)? {
-            Some(end) => return Ok(end),
-            None => {}
-        }
-    }
-    Ok(RoundEnd::Tables(progress.total))
-}
-
-/// Runs the next ticket to its end: the end of the round, if its shard decides.
-fn run_ticket<'a, G: Gate>(
-    worker: &mut Worker,
-    job: &'a Job,
-    round: &Round,
-    gate: &G,
-    progress: &mut Progress<'a>,
-) -> Result<Option<RoundEnd<'a>>, NoMemory>
-    requires job { IsJob job.now }
-    requires round { IsRound round.now }
-    requires under_way { IsUnderWay job.now round.now progress.old }
-    requires done { AllDone progress.old }
-    requires left { progress.old.core.state.drawn < length progress.old.core.plan.tickets }
-    ensures value { IfOk result (λ end. TicketEnds job.now round.now progress.old progress.new end) }
-{
-    match draw(&mut progress.core)? {
-        Some(claim) => {
-            let end = run_claim(worker, job, round, gate, progress, &claim)?;
-            Ok(end)
-        }
-        None => Ok(None),
-    }
-}
-
-/// Runs attempts of the claim's shard until the ticket ends.
-fn run_claim<'a, G: Gate>(
-    worker: &mut Worker,
-    job: &'a Job,
-    round: &Round,
-    gate: &G,
-    progress: &mut Progress<'a>,
-    claim: &Claim,
-) -> Result<Option<RoundEnd<'a>>, NoMemory>
-    requires job { IsJob job.now }
-    requires round { IsRound round.now }
-    requires under_way { IsUnderWay job.now round.now progress.old }
-    requires claim { IsClaim round.now progress.old claim.now }
-    ensures value { IfOk result (λ end. ClaimEnds job.now round.now progress.old claim.now progress.new end) }
-{
-    while let Some(number) = number_for(&mut progress.core, claim)? {
-        let end = run_attempt(worker, job, round, gate, claim, number)?;
-        match take_end(job, round, progress, claim, number, end)? {
-            Turn::Again => {}
-            Turn::Ended => return Ok(None),
-            Turn::Decided(end) => return Ok(Some(end)),
-        }
-    }
-    if claim.shard < progress.won {
-        return Ok(None);
-    }
-    Ok(Some(RoundEnd::Lost(round.first_shard + u64::from(claim.shard))))
-}
-
-/// Runs an attempt of the claim's shard.
-fn run_attempt<'a, G: Gate>(
-    worker: &mut Worker,
-    job: &'a Job,
-    round: &Round,
-    gate: &G,
-    claim: &Claim,
-    number: u32,
-) -> Result<AttemptEnd<'a>, NoMemory>
-    requires job { IsJob job.now }
-    requires round { IsRound round.now }
-    requires within { claim.now.shard < length round.now.shards }
-    requires number { number < job.now.attempts }
-    ensures value { IfOk result (λ end. IsEndOf job.now round.now claim.now.shard number end) }
-{
-    let shard_no = round.first_shard + u64::from(claim.shard);
-    gate.at(claim.ticket, shard_no, number);
-    let shard = round.shards.get(claim.shard as usize);
-    attempt(
-        worker.alloc,
-        &mut worker.room,
         job,
-        &round.records,
-        shard,
-        shard_no,
-        number,
+        round,
+        plan,
+        ledger: &ledger,
+        gate,
+        pass: first,
+    };
+    let lanes = run_workers(rt, alloc, worker, workers)?;
+    let pool = pool_of(alloc, job, lanes)?;
+    finish(alloc, job, round, plan, gate, pool)
+}
+
+// The lanes of all workers together.
+fn pool_of<'a, N: RoundName>(
+    alloc: Global,
+    job: &'a Job,
+    lanes: Vec<Lane<RoundPart<'a, N>>>,
+) -> Result<Pool<'a, N>, NoMemory>
+    requires job { (N.job ≡ job.now) × IsJob job.now }
+    requires round { IsRound N.round }
+    ensures value { IfOk result (λ pool. HoldsShards N.job N.round pool.part.total pool.shards) }
+{
+    let mut pool = empty_pool(alloc, job)?;
+    for lane in lanes {
+        pour(&mut pool, lane)?;
+    }
+    Ok(pool)
+}
+
+// The lanes of so many workers, of which the first one works in this thread.
+fn run_workers<'a, 'r, R: Threads + Wait + Sync, G: Gate + Sync, N: RoundName + Send + Sync>(
+    rt: &R,
+    alloc: Global,
+    first: Worker<'a, 'r, G, N>,
+    workers: u32,
+) -> Result<Vec<Lane<RoundPart<'a, N>>>, NoMemory>
+    requires first { first ≡ 0 }
+{
+    thread::scope(
+        thread::scope_env(),
+        rt,
+        |scope|
+            requires send { IsSync G.row × IsSend N.row × IsSync N.row }
+            requires first { first ≡ 0 }
+        {
+            let mut own = first;
+            let mut children = Vec::new(alloc);
+            for _other in 1..workers {
+                let Some(worker) = own.another() else {
+                    break;
+                };
+                match Builder::new()
+                    .stack_size(STACK_BYTES)
+                    .spawn_scoped(scope, move || worker.run())
+                {
+                    Ok(child) => {
+                        if children.push(child).is_err() {
+                            break;
+                        }
+                    }
+                    Err(_) => break,
+                }
+            }
+            let lane = own.run();
+            all_lanes(rt, alloc, lane, children)
+        },
     )
 }
 
-/// Reports how an attempt ended, and takes its part if its shard was won.
-fn take_end<'a>(
-    job: &Job,
-    round: &Round,
-    progress: &mut Progress<'a>,
-    claim: &Claim,
-    number: u32,
-    end: AttemptEnd<'a>,
-) -> Result<Turn<'a>, NoMemory>
-    requires job { IsJob job.now }
-    requires round { IsRound round.now }
-    requires trying { IsTrying job.now round.now progress.old claim.now number }
-    requires end { IsEndOf job.now round.now claim.now.shard number end }
-    ensures value { IfOk result (λ turn. TurnEnds job.now round.now progress.old claim.now progress.new turn) }
-{
-    match end {
-        AttemptEnd::Died(_) => {
-            report_death(&mut progress.core, claim, number)?;
-            Ok(Turn::Again)
-        }
-        AttemptEnd::Fault { record_no, fault } => {
-            report_bad(&mut progress.core, claim.shard)?;
-            Ok(Turn::Decided(RoundEnd::Fault { record_no, fault }))
-        }
-        AttemptEnd::Part(part) => {
-            take_part(job, round, progress, claim, number, part)?;
-            Ok(Turn::Ended)
-        }
+// The lane of this thread and those of the others.
+fn all_lanes<'a, R: Threads, N: RoundName>(
+    rt: &R,
+    alloc: Global,
+    own: Result<Lane<RoundPart<'a, N>>, NoMemory>,
+    children: Vec<JoinHandle<Result<Lane<RoundPart<'a, N>>, NoMemory>>>,
+) -> Result<Vec<Lane<RoundPart<'a, N>>>, NoMemory> {
+    let mut lanes = Vec::new(alloc);
+    lanes.push(own?)?;
+    for child in children {
+        let lane = child.join(rt)?;
+        lanes.push(lane)?;
     }
-}
-
-/// Settles the claim's shard, and merges the part where it was won.
-fn take_part<'a>(
-    job: &Job,
-    round: &Round,
-    progress: &mut Progress<'a>,
-    claim: &Claim,
-    number: u32,
-    part: Total<'a>,
-) -> Result<(), NoMemory>
-    requires job { IsJob job.now }
-    requires round { IsRound round.now }
-    requires trying { IsTrying job.now round.now progress.old claim.now number }
-    requires gave { Gave job.now round.now claim.now.shard number part }
-    ensures value { OnOk result (Counted job.now round.now progress.old claim.now progress.new) }
-{
-    if settle(&mut progress.core, claim, number)? {
-        return match progress.total.merge(part) {
-            Ok(()) => {
-                progress.won += 1;
-                Ok(())
-            }
-            Err(_) => Err(NoMemory),
-        };
-    }
-    Ok(())
+    Ok(lanes)
 }

@@ -25,8 +25,8 @@ use Rattle.sz_world.specs.Typed.{AllFit}
 use Rattle.sz_gen_stmt.specs.Simulates.{static_types}
 use Rattle.szl.specs.Settings.{HasBounds}
 use Rattle.sz_attempt.specs.Attempts.{shard_means, is_lost, all_die, dies_at, end_of}
-use Rattle.sz_workers.specs.Outcomes.{ShardsEnd, emitted, faulted, lost, then_shards, outcome_of}
-use Rattle.sz_workers.specs.Cuts.{cut_into}
+use Rattle.sz_rounds.specs.Outcomes.{ShardsEnd, emitted, faulted, lost, then_shards, outcome_of}
+use Rattle.sz_rounds.specs.Cuts.{cut_into}
 use Rattle.szl.specs.declared.status.Status.TheVariants as status
 use Rattle.szl.specs.declared.failure.Failure.{Failure}
 use Rattle.szl.specs.declared.failure.Failure.TheVariants as failure

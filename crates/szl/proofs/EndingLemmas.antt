@@ -5,7 +5,7 @@ use Rattle.sz_types.specs.declared.frame.Frame.{Frame}
 use Rattle.sz_core.specs.Programs.{tables_of}
 use Rattle.sz_tabs.specs.Data.{EmitDatum}
 use Rattle.sz_attempt.specs.declared.job.Job.{Job}
-use Rattle.sz_workers.specs.Outcomes.{emitted, outcome_of}
+use Rattle.sz_rounds.specs.Outcomes.{emitted, outcome_of}
 use Rattle.sz_print.specs.Tables.{tables_text}
 use Rattle.sz_records.specs.declared.ending.Ending.{Ending}
 use Rattle.sz_records.specs.declared.ending.Ending.TheVariants.{Whole, Damaged, Limit}

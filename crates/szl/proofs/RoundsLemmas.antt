@@ -12,13 +12,13 @@ use Rattle.sz_attempt.specs.declared.job.Shard.{Shard}
 use Rattle.sz_world.specs.World.{Fault}
 use Rattle.sz_attempt.specs.Shards.{IsJob, IsShardIn, shard_at}
 use Rattle.sz_attempt.specs.Ends.{StandForEmits}
-use Rattle.sz_workers.specs.declared.round.Round.{Round}
-use Rattle.sz_workers.specs.declared.round.RoundEnd.{RoundEnd}
-use Rattle.sz_workers.specs.declared.round.RoundEnd.TheVariants as ends
-use Rattle.sz_workers.specs.Outcomes.{emitted, faulted, lost, behind_front, then_outcome, outcome_of, all_records}
-use Rattle.sz_workers.specs.Rounds.{numbered, shards_of, AreNext, IsRound, EndsRound}
-use Rattle.sz_workers.proofs.OutcomeLemmas.{outcome-append}
-use Rattle.sz_workers.proofs.CountLemmas.{few_of_shards, fewer_records}
+use Rattle.sz_rounds.specs.declared.round.Round.{Round}
+use Rattle.sz_rounds.specs.declared.round.RoundEnd.{RoundEnd}
+use Rattle.sz_rounds.specs.declared.round.RoundEnd.TheVariants as ends
+use Rattle.sz_rounds.specs.Outcomes.{emitted, faulted, lost, behind_front, then_outcome, outcome_of, all_records}
+use Rattle.sz_rounds.specs.Rounds.{numbered, shards_of, AreNext, IsRound, EndsRound}
+use Rattle.sz_rounds.proofs.OutcomeLemmas.{outcome-append}
+use Rattle.sz_rounds.proofs.CountLemmas.{few_of_shards, fewer_records}
 use Rattle.std.specs.Prelude.{Ok, Err}
 use Rattle.sz_run.specs.declared.ends.Fault.{Fault as RunFault}
 use Rattle.sz_run.specs.Ends.{seen_fault}

@@ -37,7 +37,7 @@ use Rattle.szl.specs.Judging.{IsFailureOf, failure_of_words}
 use Rattle.szl.specs.Promise.{OpensFirst, names_asked, AreHeld, AreReadToEnd}
 use Rattle.szl.specs.Records.{Cut}
 use Rattle.szl.specs.Shards.{shards_in, job_of}
-use Rattle.sz_workers.specs.Outcomes.{ShardsEnd, emitted, faulted, lost, outcome_of}
+use Rattle.sz_rounds.specs.Outcomes.{ShardsEnd, emitted, faulted, lost, outcome_of}
 use Rattle.szl.specs.Settings.{frame_asked, is_built, built, asked_in}
 use Rattle.szl.proofs.JudgementLemmas.{every_text_is_read}
 use Rattle.szl.proofs.OpeningLemmas.{holds_or}

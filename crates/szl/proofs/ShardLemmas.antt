@@ -6,11 +6,11 @@ use Rattle.std.proofs.lemmas.Bool.Decides.{nat_tests}
 use Rattle.std.proofs.lemmas.List.Sums.{sum_by_push}
 use Rattle.sz_records.specs.Shards.{AreShards, IsShard, IsFull, bytes_in}
 use Rattle.sz_attempt.specs.declared.job.Shard.{Shard}
-use Rattle.sz_workers.specs.Outcomes.{all_records}
-use Rattle.sz_workers.specs.Cuts.{AreCut, ranges_of, cut_into, MakesRounds}
-use Rattle.sz_workers.specs.Rounds.{numbered}
+use Rattle.sz_rounds.specs.Outcomes.{all_records}
+use Rattle.sz_rounds.specs.Cuts.{AreCut, ranges_of, cut_into, MakesRounds}
+use Rattle.sz_rounds.specs.Rounds.{numbered}
 use Rattle.sz_records.proofs.ShardLemmas.{shards_are_unique}
-use Rattle.sz_workers.proofs.RangeLemmas.{makes_rounds}
+use Rattle.sz_rounds.proofs.RangeLemmas.{makes_rounds}
 use Rattle.szl.specs.Rounds.{AreShardsIn}
 use Rattle.szl.specs.Shards.{sizes_behind, shard_sizes, shards_in}
 

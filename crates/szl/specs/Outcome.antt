@@ -13,7 +13,7 @@ use Rattle.sz_records.specs.declared.ending.Ending.TheVariants.{Whole, Damaged, 
 use Rattle.sz_words.specs.declared.settings.RunSettings.{RunSettings}
 use Rattle.sz_words.specs.declared.settings.Settings.{Settings}
 use Rattle.sz_words.specs.declared.settings.Settings.TheVariants.{Run, Check, Selftest}
-use Rattle.sz_workers.specs.Outcomes.{ShardsEnd, emitted, faulted, lost, outcome_of}
+use Rattle.sz_rounds.specs.Outcomes.{ShardsEnd, emitted, faulted, lost, outcome_of}
 use Rattle.szl.specs.declared.status.Status.{Status}
 use Rattle.szl.specs.declared.status.Status.TheVariants as status
 use Rattle.szl.specs.declared.refusal.Cause.{Cause}

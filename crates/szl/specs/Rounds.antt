@@ -2,8 +2,8 @@
 use Rattle.std.specs.Prelude.{◌≡◌, ℕ, ◌-◌, ◌<◌, ◌≤◌, ◌^◌, List, length, All}
 use Rattle.sz_attempt.specs.declared.job.Shard.{Shard}
 use Rattle.sz_attempt.specs.Shards.{IsShardIn}
-use Rattle.sz_workers.specs.Outcomes.{all_records}
-use Rattle.sz_workers.specs.Rounds.{numbered, AreNext}
+use Rattle.sz_rounds.specs.Outcomes.{all_records}
+use Rattle.sz_rounds.specs.Rounds.{numbered, AreNext}
 
 -- the shards lie behind each other among the records, and have all of them; neither are more than there can be
 pub record AreShardsIn (records : List (List ℕ)) (shards : List Shard) : Type 0 where

@@ -11,7 +11,7 @@ use Rattle.sz_run.specs.Ends.{seen_fault}
 use Rattle.sz_words.specs.declared.settings.RunSettings.{RunSettings}
 use Rattle.sz_attempt.specs.declared.job.Job.{Job}
 use Rattle.sz_attempt.specs.Ends.{StandForEmits}
-use Rattle.sz_workers.specs.Outcomes.{emitted, faulted, lost, outcome_of}
+use Rattle.sz_rounds.specs.Outcomes.{emitted, faulted, lost, outcome_of}
 use Rattle.szl.specs.declared.failure.Failure.{Failure}
 use Rattle.szl.specs.declared.failure.Failure.TheVariants as failure
 use Rattle.szl.specs.Opening.{Decides}

@@ -3,8 +3,8 @@ ghost use Rattle.std.specs.Prelude.{◌≡◌, ◌+◌, ◌<◌, ◌≤◌, ◌^
 ghost use Rattle.sz_total.specs.States.{declarations, emit_count, shown};
 ghost use Rattle.sz_total.specs.Totals.{Joins};
 ghost use Rattle.sz_attempt.specs.Shards.{IsJob, IsShardIn};
-ghost use Rattle.sz_workers.specs.Outcomes.{outcome_of};
-ghost use Rattle.sz_workers.specs.Rounds.{numbered, EndsRound};
+ghost use Rattle.sz_rounds.specs.Outcomes.{outcome_of};
+ghost use Rattle.sz_rounds.specs.Rounds.{numbered, EndsRound};
 ghost use Rattle.szl.specs.Rounds.{AreShardsIn, EndsRoundAt};
 
 use std::alloc::Global;
@@ -14,7 +14,7 @@ use sz_list::Items;
 use sz_records::Records;
 use sz_total::Total;
 use sz_value::NoMemory;
-use sz_workers::{Round, RoundEnd, run_round};
+use sz_rounds::{Round, RoundEnd, run_round};
 
 /// The most shards of a round.
 const MOST_SHARDS: usize = 4096;

@@ -20,7 +20,7 @@ use sz_total::Total;
 use sz_types::Frame;
 use sz_value::{NoMemory, Slots};
 use sz_words::RunSettings;
-use sz_workers::{RoundEnd, cut_shards};
+use sz_rounds::{RoundEnd, cut_shards};
 
 /// The statics of the program, all of them with so many ticks.
 pub fn statics_of(alloc: Global, compiled: &Compiled, budget: u64) -> Result<Slots, Failure>

@@ -3,7 +3,7 @@ use Rattle.sz_total.specs.States.{declarations, emit_count, shown}
 use Rattle.sz_total.specs.Totals.{IsNew}
 use Rattle.sz_total.specs.Weights.{HaveTheirWeights}
 use Rattle.sz_attempt.proofs.ForCallers.{have_their_weights}
-use Rattle.sz_workers.specs.Rounds.{EndsRound}
+use Rattle.sz_rounds.specs.Rounds.{EndsRound}
 use Rattle.szl.proofs.RoundsLemmas.{run_none, round_is, ends_next, round_decides, has_room, run_more}
 use Rattle.szl.proofs.rounds.run_shards.Goals as goal
 

@@ -1,7 +1,7 @@
 use Rattle.std.proofs.Common.{sym, subst, ap, ◌∙◌}
 use Rattle.std.proofs.lemmas.Result.{err_from_is_err_and}
 use Rattle.szl.specs.Rounds.{AreShardsIn}
-use Rattle.sz_workers.specs.Rounds.{numbered, EndsRound}
+use Rattle.sz_rounds.specs.Rounds.{numbered, EndsRound}
 use Rattle.szl.proofs.ShardLemmas.{cut_shards_in, cut_is_shards}
 use Rattle.szl.proofs.RoundsLemmas.{total_given, fault_given, lost_given}
 use Rattle.szl.proofs.running.total_of.Goals as goal

@@ -1,0 +1,89 @@
+-- Rounds have few emits.
+use Rattle.std.proofs.Common.{◌≡◌, ℕ, zero, suc, ◌+◌, ◌-◌, ◌*◌, ◌^◌, ◌≤◌, List, [], ◌∷◌, ◌++◌, length, take, Bool, true, false, All}
+use Rattle.std.proofs.Common.{refl, sym, ap, ◌∙◌, arith, length-append}
+use native.Mathlib.Nat.{mul-add}
+use Rattle.std.specs.Prelude.{if◌then◌else◌}
+use Rattle.std.proofs.lemmas.List.Elements.{All-head, All-tail}
+use Rattle.sz_tabs.specs.Data.{EmitDatum}
+use Rattle.sz_mean.specs.Records.{Records, Emitted, FaultedAt}
+use Rattle.sz_attempt.specs.declared.job.Job.{Job}
+use Rattle.sz_attempt.specs.declared.job.Shard.{Shard}
+use Rattle.sz_attempt.specs.Shards.{ShardData, IsJob, IsShardIn, shard_at}
+use Rattle.sz_attempt.specs.Attempts.{shard_means, is_lost}
+use Rattle.sz_attempt.proofs.ForCallers.{few_emits, length_of_range}
+use Rattle.sz_rounds.specs.declared.round.Round.{Round}
+use Rattle.sz_rounds.specs.Outcomes.{ShardsEnd, emitted, faulted, lost, then_shards, outcome_of, all_records}
+use Rattle.sz_rounds.specs.Rounds.{numbered, shards_of, AreNext, IsRound}
+
+together : (b f g e m n t : ℕ) → f ≤ b * m → g ≤ b * n → e ≡ f + g → t ≡ m + n → e ≤ b * t
+together b f g e m n t first rest both all =
+    let sum : b * t ≡ b * m + b * n = ap (λ k. b * k) all ∙ mul-add b m n in omega (arith, first, rest, both, sum)
+
+-- shards have at most as many emits as their records may take ticks
+pub few_of_shards : (job : Job) (shards : List ShardData) (es : List EmitDatum) → outcome_of job shards ≡ emitted es
+    → length es ≤ job.budget * length (all_records shards)
+few_of_shards job [] es is = let none = ap length (same [] es is) in omega (arith, none)
+  where
+    same : (a b : List EmitDatum) → emitted a ≡ emitted b → a ≡ b
+    same a b e = cc
+few_of_shards job (s ∷ shards) es is = by (is_lost job s) (shard_means job s) refl (outcome_of job shards) (few_of_shards job shards) is
+  where
+    same : (a b : List EmitDatum) → emitted a ≡ emitted b → a ≡ b
+    same a b e = cc
+
+    by : (b : Bool) (r : Records) → shard_means job s ≡ r → (e : ShardsEnd)
+        → ((gs : List EmitDatum) → e ≡ emitted gs → length gs ≤ job.budget * length (all_records shards))
+        → (if b then lost s.number else then_shards r e) ≡ emitted es → length es ≤ job.budget * length (s.records ++ all_records shards)
+    by true r means e few h = absurd (cc)
+    by false (FaultedAt n f) means e few h = absurd (cc)
+    by false (Emitted fs) means (faulted n f) few h = absurd (cc)
+    by false (Emitted fs) means (lost n) few h = absurd (cc)
+    by false (Emitted fs) means (emitted gs) few h =
+        let first = few_emits job s.first s.records fs means in
+        let rest = few gs refl in
+        let both = sym (ap length (same (fs ++ gs) es h)) in
+        together job.budget (length fs) (length gs) (length es) (length s.records) (length (all_records shards)) (length (s.records ++ all_records shards))
+        first rest (both ∙ length-append fs gs) (length-append s.records (all_records shards))
+
+-- the first of them have at most as many records as all
+pub fewer_records : (shards : List ShardData) (n : ℕ) → length (all_records (take n shards)) ≤ length (all_records shards)
+fewer_records shards zero = omega arith
+fewer_records [] (suc n) = omega arith
+fewer_records (s ∷ shards) (suc n) =
+    let rest = fewer_records shards n in
+    omega (arith, rest, length-append s.records (all_records (take n shards)), length-append s.records (all_records shards))
+
+-- shards behind each other have few records
+records_from : (records : List (List ℕ)) (shards : List Shard) (n place first : ℕ) → All (IsShardIn records) shards → AreNext place first shards
+    → (first ≤ 2 ^ 31 + 1) → first + length (all_records (numbered n records shards)) ≤ 2 ^ 31 + 1
+records_from records [] n place first within next low = omega (arith, low)
+records_from records (s ∷ shards) n place first within next low =
+    let is = All-head (IsShardIn records) s shards within in
+    let long = length_of_range records s.start s.end is.within in
+    let same = next.1 in
+    let rest = records_from records shards (suc n) s.end (first + (s.end - s.start)) (All-tail (IsShardIn records) s shards within) next.2
+    (omega (arith, is.few, same)) in
+    omega (arith, rest, long, length-append (shard_at n records s).records (all_records (numbered (suc n) records shards)))
+
+pub few_records : (round : Round) → IsRound round → length (all_records (shards_of round)) ≤ 2 ^ 31
+few_records round is = by round.shards is.within is.next.0 is.next.1 is.next.2
+  where
+    by : (shards : List Shard) → All (IsShardIn round.records) shards → (place first : ℕ) → AreNext place first shards
+        → length (all_records (numbered round.first_shard round.records shards)) ≤ 2 ^ 31
+    by [] within place first next = omega arith
+    by (s ∷ shards) within place first next =
+        let here = All-head (IsShardIn round.records) s shards within in
+        let all = records_from round.records (s ∷ shards) round.first_shard place first within next (omega (arith, here.few, next.1)) in
+        omega (arith, all, here.first, next.1)
+
+-- so the emits of the first of them are few
+pub few_in_front : (job : Job) (round : Round) (n : ℕ) (es : List EmitDatum) → IsJob job → IsRound round
+    → outcome_of job (take n (shards_of round)) ≡ emitted es → length es ≤ 2 ^ 63
+few_in_front job round n es job_is is front =
+    let few = few_of_shards job (take n (shards_of round)) es front in
+    let fewer = fewer_records (shards_of round) n in
+    let all = few_records round is in
+    bound job.budget (length (all_records (take n (shards_of round)))) (length es) few job_is.budget.most (omega (arith, fewer, all))
+  where
+    bound : (b m n : ℕ) → n ≤ b * m → b ≤ 2 ^ 32 → m ≤ 2 ^ 31 → n ≤ 2 ^ 63
+    bound b m n le few less = grind arith

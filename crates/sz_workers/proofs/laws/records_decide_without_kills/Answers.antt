@@ -1,5 +1,0 @@
-use Rattle.sz_workers.proofs.LawLemmas.{records_decide}
-use Rattle.sz_workers.proofs.laws.records_decide_without_kills.Goals as goal
-
-pub returns : goal.returns
-returns c = record { alike = λ job first shards none some. records_decide job none some first shards }

@@ -1,0 +1,9 @@
+use Rattle.std.proofs.Common.{sym, subst}
+use Rattle.sz_total.specs.Weights.{HaveTheirWeights}
+use Rattle.sz_attempt.proofs.ForCallers.{have_their_weights}
+use Rattle.sz_workers.proofs.part.RoundPart.empty.Goals as goal
+
+-- the tables of a sound program have their weights
+pub new-requires : goal.new-requires
+new-requires g c =
+    record { weights = subst HaveTheirWeights (sym c.tables.ensures.value) (have_their_weights c.args.job.now.compiled c.requires.job.1.sound) }

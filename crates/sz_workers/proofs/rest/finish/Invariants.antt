@@ -1,0 +1,7 @@
+use Rattle.sz_workers.specs.Parts.{HoldsShards}
+use Rattle.sz_workers.specs.Running.{HasFront}
+use Rattle.sz_workers.proofs.rest.finish.Given as goal
+
+-- all shards in front are in the pool
+abbrev pub invariant-loop-place : goal.invariant-loop-place
+invariant-loop-place g l = HoldsShards g.N.RoundName.job g.N.RoundName.round l.pool.part.total l.pool.shards × HasFront l.pool.shards l.place

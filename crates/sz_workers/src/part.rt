@@ -1,0 +1,70 @@
+//! Parts of a round, which stand for shards.
+ghost use Rattle.std.specs.Prelude.{◌≡◌, [], IfOk};
+ghost use Rattle.sz_attempt.specs.declared.job.Job.{Job};
+ghost use Rattle.sz_attempt.specs.Shards.{IsJob};
+ghost use Rattle.sz_rounds.specs.declared.round.Round.{Round};
+ghost use Rattle.sz_rounds.specs.Rounds.{shards_of, IsRound};
+ghost use Rattle.sz_workers.specs.Parts.{plan_for, Dies, Faults, HoldsShards};
+
+use std::alloc::Global;
+use std::marker::{Brand, PhantomData};
+use sz_attempt::Job;
+use sz_book::{Load, NoMemory};
+use sz_total::Total;
+
+/// Names a round for contracts: a type of it has no values. Each run of a round picks one.
+pub trait RoundName {
+    /// The job.
+    ghost job: { Job };
+
+    /// The round.
+    ghost round: { Round };
+}
+
+impl RoundName for Brand {
+    ghost job = { record { compiled = record { items = []; locals = [] }; statics = []; budget = 0; attempts = 0; kills = []; twice = [] } };
+
+    ghost round = { record { records = []; shards = []; first_shard = 0 } };
+}
+
+/// The tables of what some shards of a round emit.
+#[derive(Drop)]
+pub struct RoundPart<'a, N: RoundName> {
+    pub(crate) total: Total<'a>,
+    pub(crate) of: PhantomData<N>,
+}
+
+impl<'a, N: RoundName> Load for RoundPart<'a, N> {
+    ghost died = { λ s k. Dies N.job (shards_of N.round) s k };
+
+    ghost faults = { λ s. Faults N.job (shards_of N.round) s };
+
+    ghost plan = { λ part. plan_for N.job N.round };
+
+    ghost stands = { λ part ss. HoldsShards N.job N.round part.total ss };
+
+    fn absorb(&mut self, part: RoundPart<'a, N>) -> Result<(), RoundPart<'a, N>> {
+        match self.total.merge(part.total) {
+            Ok(()) => Ok(()),
+            Err(total) => Err(RoundPart {
+                total,
+                of: PhantomData,
+            }),
+        }
+    }
+}
+
+impl<'a, N: RoundName> RoundPart<'a, N> {
+    /// The tables before any emit.
+    pub fn empty(alloc: Global, job: &'a Job) -> Result<RoundPart<'a, N>, NoMemory>
+        requires job { (N.job ≡ job.now) × IsJob job.now }
+        requires round { IsRound N.round }
+        ensures value { IfOk result (λ part. HoldsShards N.job N.round part.total []) }
+    {
+        let total = Total::new(alloc, job.compiled.tables())?;
+        Ok(RoundPart {
+            total,
+            of: PhantomData,
+        })
+    }
+}
