@@ -8,7 +8,7 @@ use Rattle.sz_tabs.specs.Data.{EmitDatum}
 use Rattle.sz_mean.specs.Records.{Records, Emitted, FaultedAt}
 use Rattle.sz_attempt.specs.declared.job.Job.{Job}
 use Rattle.sz_attempt.specs.declared.job.Shard.{Shard}
-use Rattle.sz_attempt.specs.Shards.{ShardData, IsJob, IsShardIn, shard_at}
+use Rattle.sz_attempt.specs.Shards.{ShardData, IsShardIn, shard_at}
 use Rattle.sz_attempt.specs.Attempts.{shard_means, is_lost}
 use Rattle.sz_attempt.proofs.ForCallers.{few_emits, length_of_range}
 use Rattle.sz_rounds.specs.declared.round.Round.{Round}
@@ -75,15 +75,3 @@ few_records round is = by round.shards is.within is.next.0 is.next.1 is.next.2
         let here = All-head (IsShardIn round.records) s shards within in
         let all = records_from round.records (s ∷ shards) round.first_shard place first within next (omega (arith, here.few, next.1)) in
         omega (arith, all, here.first, next.1)
-
--- so the emits of the first of them are few
-pub few_in_front : (job : Job) (round : Round) (n : ℕ) (es : List EmitDatum) → IsJob job → IsRound round
-    → outcome_of job (take n (shards_of round)) ≡ emitted es → length es ≤ 2 ^ 63
-few_in_front job round n es job_is is front =
-    let few = few_of_shards job (take n (shards_of round)) es front in
-    let fewer = fewer_records (shards_of round) n in
-    let all = few_records round is in
-    bound job.budget (length (all_records (take n (shards_of round)))) (length es) few job_is.budget.most (omega (arith, fewer, all))
-  where
-    bound : (b m n : ℕ) → n ≤ b * m → b ≤ 2 ^ 32 → m ≤ 2 ^ 31 → n ≤ 2 ^ 63
-    bound b m n le few less = grind arith

@@ -1,9 +1,6 @@
 pub mod OutcomeLemmas
 pub mod CountLemmas
 pub mod RoundLemmas
-pub mod StepLemmas
-pub mod TurnLemmas
-pub mod TicketLemmas
 pub mod LawLemmas
 pub mod PlanLemmas
 pub mod CutLemmas

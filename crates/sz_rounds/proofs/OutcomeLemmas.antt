@@ -97,39 +97,6 @@ module _ (job : Job) where
             nothing [] = refl
             nothing (g ∷ gs) = ap (λ hs. g ∷ hs) (nothing gs)
 
-  -- what a shard gives whose emits are among those of all
-  pub record GivesEmits (shard : ShardData) : Type 0 where
-    pub emits : List EmitDatum
-    pub means : shard_means job shard ≡ Emitted emits
-
-  -- none of the shards faults that give their emits
-  pub clean_in_front : (shards : List ShardData) (n i : ℕ) (es : List EmitDatum) (shard : ShardData) → outcome_of job (take n shards) ≡ emitted es → i < n
-      → slice_get shards i ≡ Some shard → GivesEmits shard
-  clean_in_front [] n i es shard is less there = absurd (cc)
-  clean_in_front (s ∷ shards) zero i es shard is less there = absurd (omega arith)
-  clean_in_front (s ∷ shards) (suc n) i es shard is less there =
-      by (is_lost job s) (shard_means job s) refl (outcome_of job (take n shards)) refl is i less there (λ k fs. clean_in_front shards n k fs shard)
-    where
-      same : (a b : ShardData) → Some a ≡ Some b → a ≡ b
-      same a b e = cc
-
-      at : (fs gs : List EmitDatum) → shard_means job s ≡ Emitted fs → outcome_of job (take n shards) ≡ emitted gs → (k : ℕ) → k < suc n
-          → slice_get (s ∷ shards) k ≡ Some shard
-          → ((k : ℕ) (fs : List EmitDatum) → outcome_of job (take n shards) ≡ emitted fs → k < n → slice_get shards k ≡ Some shard → GivesEmits shard)
-          → GivesEmits shard
-      at fs gs means rest zero l here go = subst GivesEmits (same s shard here) (record { emits = fs; means = means })
-      at fs gs means rest (suc k) l here go = go k gs rest (omega (arith, l)) here
-
-      by : (b : Bool) (r : Records) → shard_means job s ≡ r → (e : ShardsEnd) → outcome_of job (take n shards) ≡ e
-          → (if b then lost s.number else then_shards r e) ≡ emitted es → (k : ℕ) → k < suc n → slice_get (s ∷ shards) k ≡ Some shard
-          → ((k : ℕ) (fs : List EmitDatum) → outcome_of job (take n shards) ≡ emitted fs → k < n → slice_get shards k ≡ Some shard → GivesEmits shard)
-          → GivesEmits shard
-      by true r means e rest h k l here go = absurd (cc)
-      by false (FaultedAt m f) means e rest h k l here go = absurd (cc)
-      by false (Emitted fs) means (emitted gs) rest h k l here go = at fs gs means rest k l here go
-      by false (Emitted fs) means (faulted m f) rest h k l here go = absurd (cc)
-      by false (Emitted fs) means (lost m) rest h k l here go = absurd (cc)
-
 -- what the end of an attempt says of its shard
 module _ (job : Job) (shard : ShardData) where
   gives_by : (o : Option ℕ) (r : Records) (es : List EmitDatum) → end_by o r ≡ gives es → r ≡ Emitted es

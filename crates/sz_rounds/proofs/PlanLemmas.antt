@@ -8,7 +8,7 @@ use Rattle.sz_words.specs.Lists.{is_among}
 use Rattle.sz_attempt.specs.declared.job.Job.{Job}
 use Rattle.sz_rounds.specs.declared.round.Round.{Round}
 use Rattle.sz_rounds.specs.Rounds.{IsRound}
-use Rattle.sz_rounds.specs.Tickets.{AllBelow, AreInOrder, AreTickets, IsPlanOf, tickets_for, tickets_upto}
+use Rattle.sz_rounds.specs.Tickets.{AllBelow, AreTickets, IsPlanOf, tickets_for, tickets_upto}
 
 -- a list with one item behind it, at its places
 push_front : (ts : List ℕ) (x i : ℕ) → i < length ts → slice_index (ts ++ x ∷ []) i ≡ slice_index ts i
@@ -52,7 +52,7 @@ passed s ts x apart = count_push s ts x ∙ ap (λ b. if b then tickets_of s ts 
     test false e = refl
 
 -- one ticket more
-below_push : (ts : List ℕ) (x n : ℕ) → AllBelow ts (length ts) n → x < n → AllBelow (ts ++ x ∷ []) (length (ts ++ x ∷ [])) n
+below_push : (ts : List ℕ) (x n : ℕ) → AllBelow ts n → x < n → AllBelow (ts ++ x ∷ []) n
 below_push ts x n h less t there = by (order t (length ts)) (omega (arith, there, length_push ts x))
   where
     order : (a b : ℕ) → (a ≡ b) ⊎ ((a < b) ⊎ (b < a))
@@ -63,45 +63,21 @@ below_push ts x n h less t there = by (order t (length ts)) (omega (arith, there
     by (inr (inl below)) l = let front = push_front ts x t below in let is = h t below in omega (arith, front, is)
     by (inr (inr above)) l = absurd (omega (arith, above, l))
 
-below_front : (ts : List ℕ) (x n t : ℕ) → t ≤ length ts → AllBelow (ts ++ x ∷ []) t n → AllBelow ts t n
-below_front ts x n t le h i less = let front = push_front ts x i (omega (arith, less, le)) in let is = h i less in omega (arith, front, is)
-
-order_push : (ts : List ℕ) (x : ℕ) → AreInOrder ts → ((n : ℕ) → AllBelow ts (length ts) n → x ≤ n) → AreInOrder (ts ++ x ∷ [])
-order_push ts x h last t n there below = by (order t (length ts)) (omega (arith, there, length_push ts x))
-  where
-    order : (a b : ℕ) → (a ≡ b) ⊎ ((a < b) ⊎ (b < a))
-    order a b = grind arith
-
-    by : (t ≡ length ts) ⊎ ((t < length ts) ⊎ (length ts < t)) → t < length ts + 1 → slice_index (ts ++ x ∷ []) t ≤ n
-    by (inl e) l =
-        let here = ap (slice_index (ts ++ x ∷ [])) e ∙ push_last ts x in
-        let all = last n (below_front ts x n (length ts) (omega arith) (subst (λ m. AllBelow (ts ++ x ∷ []) m n) e below)) in
-        omega (arith, here, all)
-    by (inr (inl less)) l =
-        let front = push_front ts x t less in
-        let is = h t n less (below_front ts x n t (omega (arith, less)) below) in
-        omega (arith, front, is)
-    by (inr (inr above)) l = absurd (omega (arith, above, l))
-
 no_tickets : AreTickets 0 []
 no_tickets = record {
   below = λ t less. absurd (omega arith);
-  order = λ t s less below. absurd (omega arith);
   each = λ s less. absurd (omega arith);
   others = λ s le. refl;
   few = omega arith;
-  last = λ s below. omega arith;
 }
 
 -- one shard more with its first ticket
 first_ticket : (n : ℕ) (ts : List ℕ) → AreTickets n ts → AreTickets (n + 1) (ts ++ n ∷ [])
 first_ticket n ts h = record {
   below = below_push ts n (n + 1) (λ t less. let is = h.below t less in omega (arith, is)) (omega arith);
-  order = order_push ts n h.order h.last;
   each = λ s less. by s less (order s n);
   others = λ s le. passed s ts n (λ e. absurd (omega (arith, le, e))) ∙ h.others s (omega (arith, le));
   few = omega (arith, h.few, length_push ts n);
-  last = λ s below. let is = below (length ts) (omega (arith, length_push ts n)) in omega (arith, is, push_last ts n);
 }
   where
     order : (a b : ℕ) → (a ≡ b) ⊎ ((a < b) ⊎ (b < a))
@@ -124,11 +100,9 @@ second_ticket n ts h =
     let one = first_ticket n ts h in
     record {
       below = below_push (ts ++ n ∷ []) n (n + 1) one.below (omega arith);
-      order = order_push (ts ++ n ∷ []) n one.order (λ s below. let is = one.last s below in omega (arith, is));
       each = λ s less. by s less (order s n);
       others = λ s le. passed s (ts ++ n ∷ []) n (λ e. absurd (omega (arith, le, e))) ∙ one.others s le;
       few = omega (arith, h.few, length_push ts n, length_push (ts ++ n ∷ []) n);
-      last = λ s below. let is = below (length (ts ++ n ∷ [])) (omega (arith, length_push (ts ++ n ∷ []) n)) in omega (arith, is, push_last (ts ++ n ∷ []) n);
     }
   where
     order : (a b : ℕ) → (a ≡ b) ⊎ ((a < b) ⊎ (b < a))
@@ -197,6 +171,4 @@ module _ (job : Job) (round : Round) (shards : ℕ) (tickets : List ℕ) (attemp
     shards = same;
     attempts = refl;
     tickets = made;
-    order = are.order;
-    last = are.last;
   }

@@ -1,9 +1,8 @@
 -- The shards of a round by their places.
-use Rattle.std.proofs.Common.{◌≡◌, ℕ, zero, suc, ◌+◌, ◌<◌, List, [], ◌∷◌, length, Some, All, refl, ap, ◌∙◌, subst, arith}
+use Rattle.std.proofs.Common.{◌≡◌, ℕ, zero, suc, ◌+◌, ◌<◌, List, [], ◌∷◌, length, Some, refl, ap, ◌∙◌, arith}
 use Rattle.std.specs.Prelude.{slice_get}
-use Rattle.std.proofs.lemmas.List.Elements.{All-head, All-tail}
 use Rattle.sz_attempt.specs.declared.job.Shard.{Shard}
-use Rattle.sz_attempt.specs.Shards.{ShardData, shard_at, IsShardIn}
+use Rattle.sz_attempt.specs.Shards.{ShardData, shard_at}
 use Rattle.sz_rounds.specs.Rounds.{numbered}
 
 pub length-numbered : (n : ℕ) (records : List (List ℕ)) (shards : List Shard) → length (numbered n records shards) ≡ length shards
@@ -24,16 +23,6 @@ numbered_at n records (s ∷ shards) zero shard there =
 numbered_at n records (s ∷ shards) (suc i) shard there =
     let number : suc n + i ≡ n + suc i = omega arith in
     numbered_at (suc n) records shards i shard there ∙ ap (λ m. Some (shard_at m records shard)) number
-
--- what holds of all shards holds of the one at a place
-pub within_at : (records : List (List ℕ)) (shards : List Shard) (i : ℕ) (shard : Shard) → All (IsShardIn records) shards → slice_get shards i ≡ Some shard
-    → IsShardIn records shard
-within_at records [] i shard all there = absurd (cc)
-within_at records (s ∷ shards) zero shard all there = subst (IsShardIn records) (some_same s there) (All-head (IsShardIn records) s shards all)
-  where
-    some_same : (a : Shard) → Some a ≡ Some shard → a ≡ shard
-    some_same a e = cc
-within_at records (s ∷ shards) (suc i) shard all there = within_at records shards i shard (All-tail (IsShardIn records) s shards all) there
 
 -- one item at a place
 pub same_there : {A : Type 0} (xs : List A) (i : ℕ) (x y : A) → slice_get xs i ≡ Some x → slice_get xs i ≡ Some y → x ≡ y

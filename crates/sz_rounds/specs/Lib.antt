@@ -4,4 +4,3 @@ pub mod Rounds
 pub mod Cuts
 -- what the functions inside the crate promise each other
 pub mod Tickets
-pub mod Running

@@ -14,22 +14,16 @@ abbrev pub tickets_upto : List ℕ → ℕ → ℕ → List ℕ
 tickets_upto twice first zero = []
 tickets_upto twice first (suc n) = tickets_upto twice first n ++ tickets_for (is_among (first + n) twice) n
 
--- the first so many tickets are all of shards below this one
-abbrev pub AllBelow : List ℕ → ℕ → ℕ → Type 0
-AllBelow tickets count shard = (t : ℕ) → t < count → slice_index tickets t < shard
+-- the tickets are all of shards below this one
+abbrev pub AllBelow : List ℕ → ℕ → Type 0
+AllBelow tickets shard = (t : ℕ) → t < length tickets → slice_index tickets t < shard
 
--- each ticket is of one of the shards of the tickets before it, or of the next shard
-abbrev pub AreInOrder : List ℕ → Type 0
-AreInOrder tickets = (t shard : ℕ) → t < length tickets → AllBelow tickets t shard → slice_index tickets t ≤ shard
-
--- these are the tickets of so many shards, one or two of each, in order
+-- these are the tickets of so many shards, one or two of each
 pub record AreTickets (shards : ℕ) (tickets : List ℕ) : Type 0 where
-  pub below : AllBelow tickets (length tickets) shards
-  pub order : AreInOrder tickets
+  pub below : AllBelow tickets shards
   pub each : (s : ℕ) → s < shards → (1 ≤ tickets_of s tickets) × (tickets_of s tickets ≤ 2)
   pub others : (s : ℕ) → shards ≤ s → tickets_of s tickets ≡ 0
   pub few : length tickets ≤ 2 * shards
-  pub last : (s : ℕ) → AllBelow tickets (length tickets) s → shards ≤ s
 
 -- the plan is that of the round
 pub record IsPlanOf (job : Job) (round : Round) (p : PlanData) : Type 0 where
@@ -37,5 +31,3 @@ pub record IsPlanOf (job : Job) (round : Round) (p : PlanData) : Type 0 where
   pub shards : p.shards ≡ length round.shards
   pub attempts : p.attempts ≡ job.attempts
   pub tickets : p.tickets ≡ tickets_upto job.twice round.first_shard p.shards
-  pub order : AreInOrder p.tickets
-  pub last : (s : ℕ) → AllBelow p.tickets (length p.tickets) s → p.shards ≤ s

@@ -1,13 +1,11 @@
-//! Rounds of shards: their attempts are run, each shard counts once, and the first shard that faults or is lost decides.
+//! Rounds of shards: what comes of them, their plans, and how an input's records are cut into shards. The first shard that faults or is
+//! lost decides.
 #![tactic(auto)]
 
 mod cutting;
 mod laws;
-mod ledger;
 mod plan;
-mod progress;
 mod round;
-mod running;
 
 pub use cutting::cut_shards;
 pub use laws::{
@@ -16,4 +14,3 @@ pub use laws::{
 };
 pub use plan::plan_of;
 pub use round::{Round, RoundEnd};
-pub use running::run_round;

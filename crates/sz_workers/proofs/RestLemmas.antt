@@ -23,7 +23,7 @@ use Rattle.sz_attempt.specs.Ends.{StandForEmits}
 use Rattle.sz_rounds.specs.declared.round.Round.{Round}
 use Rattle.sz_rounds.specs.Outcomes.{emitted, faulted, lost, outcome_of}
 use Rattle.sz_rounds.specs.Rounds.{shards_of, IsRound, EndsRound}
-use Rattle.sz_rounds.specs.Running.{IsEndOf}
+use Rattle.sz_workers.specs.Ends.{IsEndOf}
 use Rattle.sz_rounds.specs.declared.round.RoundEnd.TheVariants as ends
 use Rattle.sz_rounds.proofs.OutcomeLemmas.{lost_at, faulted_at, more_at, gives_means, faults_means, not_all, one_more_died, fewer_died}
 use Rattle.sz_rounds.proofs.RoundLemmas.{length-numbered, same_there, shard_there}

@@ -1,5 +1,6 @@
 -- what the public contracts rest on
 pub mod Parts
 -- what the functions inside the crate promise each other
+pub mod Ends
 pub mod Running
 pub mod Starting

@@ -2,7 +2,7 @@
 ghost use Rattle.std.specs.Prelude.{◌<◌, length, IfOk};
 ghost use Rattle.sz_attempt.specs.Shards.{IsJob};
 ghost use Rattle.sz_rounds.specs.Rounds.{IsRound};
-ghost use Rattle.sz_rounds.specs.Running.{IsEndOf};
+ghost use Rattle.sz_workers.specs.Ends.{IsEndOf};
 
 use std::alloc::Global;
 use sz_attempt::{AttemptEnd, Job, attempt};

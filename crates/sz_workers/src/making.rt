@@ -2,7 +2,7 @@
 ghost use Rattle.std.specs.Prelude.{◌≡◌, ◌<◌, [], ◌∷◌, IfOk, IfErr};
 ghost use Rattle.sz_attempt.specs.Shards.{IsJob};
 ghost use Rattle.sz_rounds.specs.Rounds.{IsRound, shards_of};
-ghost use Rattle.sz_rounds.specs.Running.{IsEndOf};
+ghost use Rattle.sz_workers.specs.Ends.{IsEndOf};
 ghost use Rattle.sz_crew.specs.Makers.{IsTrueMiss};
 ghost use Rattle.sz_workers.specs.Parts.{Dies, Faults, HoldsShards};
 

@@ -3,7 +3,7 @@ use Rattle.std.proofs.lemmas.Result.{IfOk-weaker}
 use Rattle.sz_attempt.specs.Shards.{shard_at}
 use Rattle.sz_attempt.specs.Attempts.{end_of}
 use Rattle.sz_attempt.specs.Ends.{EndsSo}
-use Rattle.sz_rounds.specs.Running.{IsEndOf}
+use Rattle.sz_workers.specs.Ends.{IsEndOf}
 use Rattle.sz_rounds.proofs.RoundLemmas.{numbered_at}
 use Rattle.sz_workers.proofs.attempts.run_attempt.Goals as goal
 

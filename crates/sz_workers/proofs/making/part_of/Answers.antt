@@ -1,5 +1,5 @@
 use Rattle.std.proofs.Common.{subst}
-use Rattle.sz_rounds.specs.Running.{IsEndOf}
+use Rattle.sz_workers.specs.Ends.{IsEndOf}
 use Rattle.sz_workers.proofs.RestLemmas.{part_holds, fault_faults, died_dies}
 use Rattle.sz_workers.proofs.making.part_of.Goals as goal
 

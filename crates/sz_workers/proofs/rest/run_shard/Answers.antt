@@ -1,6 +1,6 @@
 use Rattle.std.proofs.Common.{◌+◌, sym, ap, ◌∙◌, subst, arith}
 use Rattle.sz_rounds.specs.Outcomes.{lost}
-use Rattle.sz_rounds.specs.Running.{IsEndOf}
+use Rattle.sz_workers.specs.Ends.{IsEndOf}
 use Rattle.sz_workers.proofs.RestLemmas.{fault_ends, part_ends, lost_ends}
 use Rattle.sz_workers.proofs.rest.run_shard.Goals as goal
 
