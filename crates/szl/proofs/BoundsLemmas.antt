@@ -64,6 +64,8 @@ number_within default least most low high (Some word) = in_range least most _ _ 
 
 -- the numbers of a run have the bounds of settings
 record NumbersHaveBounds (n : Numbers) : Type 0 where
+  least_workers : 1 ≤ n.workers
+  most_workers : n.workers ≤ 64
   least_budget : 1 ≤ n.budget
   most_budget : n.budget ≤ 2 ^ 32
   shard : 1 ≤ n.shard
@@ -94,7 +96,8 @@ module _ (given : Values) where
   numbers_within =
       let P : Numbers → Type 0 = NumbersHaveBounds in
       if_made P with_frame (frame_in (value_of given (codes "frame"))) (λ frame.
-      if_made P (with_workers frame) (number_or 4 1 64 (value_of given (codes "workers"))) (λ workers.
+      if_made_of P (InRange 1 64) (with_workers frame) (number_or 4 1 64 (value_of given (codes "workers")))
+      (number_within 4 1 64 (omega arith) (omega arith) (value_of given (codes "workers"))) (λ workers of_workers.
       if_made_of P (InRange 1 65536) (with_shard frame workers) (number_or 1000 1 65536 (value_of given (codes "shard")))
       (number_within 1000 1 65536 (omega arith) (omega arith) (value_of given (codes "shard"))) (λ shard of_shard.
       if_made_of P (InRange 1 8) (with_attempts frame workers shard) (number_or 3 1 8 (value_of given (codes "attempts")))
@@ -102,6 +105,8 @@ module _ (given : Values) where
       if_made_of P (InRange 1 (2 ^ 32)) (with_budget frame workers shard attempts) (number_or (2 ^ 24) 1 (2 ^ 32) (value_of given (codes "budget")))
       (number_within (2 ^ 24) 1 (2 ^ 32) (omega arith) (omega arith) (value_of given (codes "budget"))) (λ budget of_budget.
       record {
+        least_workers = of_workers.0;
+        most_workers = of_workers.1;
         least_budget = of_budget.0;
         most_budget = of_budget.1;
         shard = of_shard.0;
@@ -135,6 +140,8 @@ module _ (given : Values) where
         if_made_of HasBounds NumbersHaveBounds with_numbers (numbers_in given) numbers_within (λ numbers within.
         if_made HasBounds (with_kills numbers) (kills_or_none (value_of given (codes "kill"))) (λ kills.
         if_made HasBounds (with_twice numbers kills) (shards_or_none (value_of given (codes "twice"))) (λ twice. record {
+          least_workers = within.least_workers;
+          most_workers = within.most_workers;
           least_budget = within.least_budget;
           most_budget = within.most_budget;
           shard = within.shard;
@@ -167,7 +174,8 @@ selftest_within given (a ∷ b ∷ c ∷ []) =
     if_chosen IsBounded (are_absent given) (option_and_then with_seed (number_in 0 (2 ^ 63 - 1) a)) None
     (if_made IsBounded with_seed (number_in 0 (2 ^ 63 - 1) a) (λ s.
     if_made_of IsBounded (InRange 0 1000000) (with_records s) (number_in 0 1000000 b) (in_range 0 1000000 (digits_value 10 b) (nat_le (length b) 20) (is_numeral b)) (λ r of_r.
-    if_made IsBounded (with_workers s r) (number_in 1 64 c) (λ w. of_r.1)))) tt
+    if_made_of IsBounded (InRange 1 64) (with_workers s r) (number_in 1 64 c) (in_range 1 64 (digits_value 10 c) (nat_le (length c) 20) (is_numeral c)) (λ w of_w.
+    (of_r.1, of_w))))) tt
 selftest_within given (a ∷ b ∷ c ∷ d ∷ names) = tt
 
 command_within : (command : List ℕ) (given : Values) (names : List (List ℕ)) → IfSome (command_settings command given names) IsBounded

@@ -19,7 +19,7 @@ use Rattle.szl.specs.Opening.{Decides, Answers}
 use Rattle.szl.specs.Outcome.{Answer, outcome, success}
 use Rattle.szl.specs.Printing.{Prints, PrintsNothing}
 use Rattle.szl.specs.Promise.{IsStatusOf, AppendsPrefix, GainsOutput, IsLeftAlone, GainsLine, MeansSource, line_of}
-use Rattle.szl.specs.Settings.{asked_in}
+use Rattle.sz_words.specs.Settings.{settings_in}
 
 -- where a place is within the bytes, there are some
 pub some_bytes : (place : ℕ) (bytes : List ℕ) → place < length bytes → bytes ≢ []
@@ -158,7 +158,7 @@ alone_no_memory answer (Ok output) rose old new decides nothing = alone_printed 
 module _ {F O E : Type 0} (the_files : files.Ghosts F) (the_out : sink.Ghosts O) (the_err : sink.Ghosts E) (words : List (List ℕ))
     (old new : F) (out new_out : O) (err : E) where
   -- all was printed, and nothing is told
-  pub means_done : (made : Result (List ℕ) Failure) → Answers the_files (asked_in words) old new made
+  pub means_done : (made : Result (List ℕ) Failure) → Answers the_files (settings_in words) old new made
       → Prints {T = Unit {0}} (the_out.taken out) (the_out.taken new_out) made (Ok tt) → PrintsNothing made out new_out
       → MeansSource the_files the_out the_err words status.Done old new out new_out err err
   means_done (Err f) a printed nothing = absurd printed
@@ -182,7 +182,7 @@ module _ {F O E : Type 0} (the_files : files.Ghosts F) (the_out : sink.Ghosts O)
       }
 
   -- a status that fits what was printed, and its line is told
-  means : (new_err : E) (made : Result (List ℕ) Failure) (a : Answers the_files (asked_in words) old new made) (s : Status)
+  means : (new_err : E) (made : Result (List ℕ) Failure) (a : Answers the_files (settings_in words) old new made) (s : Status)
       → Fits (outcome words a.reading a.cut) s (the_out.taken out) (the_out.taken new_out)
       → IsLeftAlone s (outcome words a.reading a.cut).output out new_out
       → GainsLine the_err err new_err (line_of (outcome words a.reading a.cut) s)
@@ -203,7 +203,7 @@ module _ {F O E : Type 0} (the_files : files.Ghosts F) (the_out : sink.Ghosts O)
   }
 
   -- a failure, and its line is told, or that of want of memory
-  pub means_failure : (new_err : E) (f told : Failure) (made : Result (List ℕ) Failure) → Answers the_files (asked_in words) old new made
+  pub means_failure : (new_err : E) (f told : Failure) (made : Result (List ℕ) Failure) → Answers the_files (settings_in words) old new made
       → Prints {T = Unit {0}} (the_out.taken out) (the_out.taken new_out) made (Err f) → PrintsNothing made out new_out → (told ≡ f) ⊎ (told ≡ NoMemory)
       → GainsLine the_err err new_err (line_of_failure told) → MeansSource the_files the_out the_err words (status_of told) old new out new_out err new_err
   means_failure new_err f told made a printed nothing (inl is) gained =

@@ -33,8 +33,10 @@ unfolding program_text
 is_short = omega arith
 
 -- what a self test asks for has its bounds
-pub has_bounds : (workers : ℕ) → HasBounds (selftest_run workers)
-has_bounds workers = record {
+pub has_bounds : (workers : ℕ) → (1 ≤ workers) × (workers ≤ 64) → HasBounds (selftest_run workers)
+has_bounds workers within = record {
+  least_workers = within.0;
+  most_workers = within.1;
   least_budget = omega arith;
   most_budget = omega arith;
   shard = omega arith;

@@ -1,7 +1,7 @@
 -- The answer for the settings of a command line, from that for the program's text.
 use Rattle.std.proofs.Common.{◌≡◌, ◌≢◌, ℕ, zero, suc, ◌<◌, ◌≤◌, ◌⊎◌, List, [], ◌∷◌, ◌++◌, length, take}
-use Rattle.std.proofs.Common.{true, false, Option, Some, None, refl, sym, ap, ◌∙◌, subst, arith, inl, inr, append-nil, append_assoc}
-use Rattle.std.specs.Prelude.{IfSome, IsSome, IsTrue, unwrap_or, Result, Ok, Err, OnOk, if◌then◌else◌}
+use Rattle.std.proofs.Common.{Option, Some, None, refl, sym, ap, ◌∙◌, subst, arith, inl, inr, append-nil, append_assoc}
+use Rattle.std.specs.Prelude.{IfSome, IsSome, IsTrue, unwrap_or, Result, Ok, Err, OnOk}
 use Rattle.std.specs.Io.KnownBytes.{IsAtEnd}
 use Rattle.sz_feed.specs.Feed.{file_of}
 use Rattle.sz_feed.specs.Program.{program_text}
@@ -38,7 +38,7 @@ use Rattle.szl.specs.Promise.{OpensFirst, names_asked, AreHeld, AreReadToEnd}
 use Rattle.szl.specs.Records.{Cut}
 use Rattle.szl.specs.Shards.{shards_in, job_of}
 use Rattle.sz_rounds.specs.Outcomes.{ShardsEnd, emitted, faulted, lost, outcome_of}
-use Rattle.szl.specs.Settings.{frame_asked, is_built, built, asked_in}
+use Rattle.szl.specs.Settings.{frame_asked}
 use Rattle.szl.proofs.JudgementLemmas.{every_text_is_read}
 use Rattle.szl.proofs.OpeningLemmas.{holds_or}
 use Rattle.szl.proofs.AnswerLemmas.{cut_of}
@@ -161,19 +161,10 @@ module _ {F : Type 0} (the_files : files.Ghosts F) (old : F) where
 
 -- words without settings
 pub words_fail : {F : Type 0} (the_files : files.Ghosts F) (old : F) (words : List (List ℕ)) (e : WordsError)
-    → (e ≡ words_errors.Usage → settings_in words ≡ None) → Answers the_files (asked_in words) old old (Err (failure_of_words e))
+    → (e ≡ words_errors.Usage → settings_in words ≡ None) → Answers the_files (settings_in words) old old (Err (failure_of_words e))
 words_fail the_files old words words_errors.Usage none =
-    subst (λ o. Answers the_files (built o) old old (Err failure.Usage)) (sym (none refl)) (no_settings the_files old)
-words_fail the_files old words words_errors.NoMemory none = no_memory_for the_files old (asked_in words)
-
--- a run of what isn't built is a bad command line
-pub unbuilt_run : {F : Type 0} (the_files : files.Ghosts F) (old : F) (s : RunSettings) → is_built s ≡ false
-    → Answers the_files (built (Some (Run s))) old old (Err failure.Usage)
-unbuilt_run the_files old s off =
-    subst (λ b. Answers the_files (if b then Some (Run s) else None) old old (Err failure.Usage)) (sym off) (no_settings the_files old)
-
-pub built_run : (s : RunSettings) → is_built s ≡ true → Some (Run s) ≡ built (Some (Run s))
-built_run s on = sym (ap (λ b. if b then Some (Run s) else None) on)
+    subst (λ asked. Answers the_files asked old old (Err failure.Usage)) (sym (none refl)) (no_settings the_files old)
+words_fail the_files old words words_errors.NoMemory none = no_memory_for the_files old (settings_in words)
 
 -- the outcome of a refused text is its refusal, whatever the command
 refused_outcome : (s : Settings) (name : List ℕ) → NamesProgram s name → (r : Refusal) (cut : Cut)

@@ -13,6 +13,7 @@ use Rattle.sz_records.specs.declared.ending.Ending.TheVariants.{Whole, Damaged, 
 use Rattle.sz_words.specs.declared.settings.RunSettings.{RunSettings}
 use Rattle.sz_words.specs.declared.settings.Settings.{Settings}
 use Rattle.sz_words.specs.declared.settings.Settings.TheVariants.{Run, Check, Selftest}
+use Rattle.sz_words.specs.Settings.{settings_in}
 use Rattle.sz_rounds.specs.Outcomes.{ShardsEnd, emitted, faulted, lost, outcome_of}
 use Rattle.szl.specs.declared.status.Status.{Status}
 use Rattle.szl.specs.declared.status.Status.TheVariants as status
@@ -23,7 +24,7 @@ use Rattle.szl.specs.declared.refusal.Cause.TheVariants.{EmitHere}
 use Rattle.szl.specs.declared.refusal.Refusal.{Refusal}
 use Rattle.szl.specs.Judgement.{Reading, refused, spells}
 use Rattle.szl.specs.Checking.{checked}
-use Rattle.szl.specs.Settings.{asked_in, selftest_run}
+use Rattle.szl.specs.Settings.{selftest_run}
 use Rattle.szl.specs.Records.{Cut}
 use Rattle.szl.specs.Shards.{shards_in, job_of}
 
@@ -113,7 +114,7 @@ outcome_of_statics program s cut (Faulted fault) = outcome_faulted 0 fault
 outcome_of_statics program s cut (Done slots) =
     outcome_of_shards program cut.ending (outcome_of (job_of program slots s) (shards_in s.shard cut.records))
 
--- the outcome of a program over an input, which is cut into records so. Neither the number of threads nor a doubled shard plays a part
+-- the outcome of a program over an input, which is cut into records so. Neither the number of workers nor a doubled shard plays a part
 abbrev pub outcome_of_program : Core → RunSettings → Cut → Answer
 outcome_of_program program s cut = outcome_of_statics program s cut (statics program s.budget)
 
@@ -184,4 +185,4 @@ outcome_of_settings _ reading cut = refusal status.Usage usage_line 0
 
 -- the outcome of a command line, from its words, the reading of the program's text and the input, which is cut so
 abbrev pub outcome : List (List ℕ) → Reading → Cut → Answer
-outcome words reading cut = outcome_of_settings (asked_in words) reading cut
+outcome words reading cut = outcome_of_settings (settings_in words) reading cut

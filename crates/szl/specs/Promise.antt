@@ -10,8 +10,9 @@ use Rattle.szl.specs.declared.status.Status.{Status}
 use Rattle.szl.specs.declared.status.Status.TheVariants.{Done, Usage, ReadFailed, WriteFailed, NoMemory}
 use Rattle.sz_words.specs.declared.settings.Settings.{Settings}
 use Rattle.sz_words.specs.declared.settings.Settings.TheVariants.{Run, Check, Selftest}
+use Rattle.sz_words.specs.Settings.{settings_in}
 use Rattle.szl.specs.Judgement.{Reading, IsRead}
-use Rattle.szl.specs.Settings.{asked_in, frame_asked}
+use Rattle.szl.specs.Settings.{frame_asked}
 use Rattle.szl.specs.Records.{Cut, IsCutInto}
 use Rattle.szl.specs.Outcome.{Answer, read_failed_line, write_failed_line, no_memory_line, outcome}
 
@@ -84,13 +85,13 @@ pub record MeansSource {F O E : Type 0} (the_files : files.Ghosts F) (the_out : 
   pub read : IsRead text reading
   pub input : List ℕ
   pub cut : Cut
-  pub is_cut : IsCutInto (frame_asked (asked_in words)) input cut
-  pub held : AreHeld (asked_in words) (the_files.held files) text input
+  pub is_cut : IsCutInto (frame_asked (settings_in words)) input cut
+  pub held : AreHeld (settings_in words) (the_files.held files) text input
   pub answers : IsStatusOf (outcome words reading cut) status
   pub output : GainsOutput status (the_out.taken out) (the_out.taken new_out) (outcome words reading cut).output
   pub left_alone : IsLeftAlone status (outcome words reading cut).output out new_out
   pub line : GainsLine the_err err new_err (line_of (outcome words reading cut) status)
-  pub opened : OpensFirst (names_asked (asked_in words)) (the_files.names files) (the_files.names new_files) (outcome words reading cut).opens
+  pub opened : OpensFirst (names_asked (settings_in words)) (the_files.names files) (the_files.names new_files) (outcome words reading cut).opens
 
 -- the fact, where the bytes under all these names are told
 abbrev pub IfTold : (List ℕ → Option (List ℕ)) → List (List ℕ) → Type 0 → Type 0

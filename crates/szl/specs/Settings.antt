@@ -1,25 +1,10 @@
--- What a command line asks for, of what is built.
-use Rattle.std.specs.Prelude.{ℕ, ◌≤◌, ◌^◌, ⊤, List, [], Bool, nat_eq, Option, Some, None, if◌then◌else◌}
+-- What a command line asks for: how its input is cut, what a self test asks of its run, and the bounds of its numbers.
+use Rattle.std.specs.Prelude.{ℕ, ◌≤◌, ◌^◌, ⊤, [], Option, Some}
 use Rattle.sz_types.specs.declared.frame.Frame.{Frame}
 use Rattle.sz_types.specs.declared.frame.Frame.TheVariants.{Lines, Delimited}
 use Rattle.sz_words.specs.declared.settings.RunSettings.{RunSettings}
 use Rattle.sz_words.specs.declared.settings.Settings.{Settings}
 use Rattle.sz_words.specs.declared.settings.Settings.TheVariants.{Run, Check, Selftest}
-use Rattle.sz_words.specs.Settings.{settings_in}
-
--- whether nothing is asked of a run but what is built: the option for threads has no effect yet, so that only what it is by itself may
--- be asked for
-abbrev pub is_built : RunSettings → Bool
-is_built s = nat_eq s.workers 4
-
--- the settings, if what they ask for is built
-abbrev pub built : Option Settings → Option Settings
-built (Some (Run s)) = if is_built s then Some (Run s) else None
-built asked = asked
-
--- what a command line asks for; other words are no command line
-abbrev pub asked_in : List (List ℕ) → Option Settings
-asked_in words = built (settings_in words)
 
 -- how the records of the input are told apart: as lines, where nothing else is asked for
 abbrev pub frame_asked : Option Settings → Frame
@@ -27,7 +12,7 @@ frame_asked (Some (Run s)) = s.frame
 frame_asked (Some (Selftest seed records workers)) = Delimited
 frame_asked _ = Lines
 
--- what a self test asks of the run of its program: messages with their lengths before them, so many threads, and all else as it is by itself
+-- what a self test asks of the run of its program: messages with their lengths before them, so many workers, and all else as it is by itself
 abbrev pub selftest_run : ℕ → RunSettings
 selftest_run workers = record {
   program = [];
@@ -41,16 +26,18 @@ selftest_run workers = record {
   twice = [];
 }
 
--- the budget of a run is one that a record can have, a shard has a record, and there are 1 to 8 attempts on it
+-- there are 1 to 64 workers, the budget of a run is one that a record can have, a shard has a record, and there are 1 to 8 attempts on it
 pub record HasBounds (s : RunSettings) : Type 0 where
+  pub least_workers : 1 ≤ s.workers
+  pub most_workers : s.workers ≤ 64
   pub least_budget : 1 ≤ s.budget
   pub most_budget : s.budget ≤ 2 ^ 32
   pub shard : 1 ≤ s.shard
   pub least_attempts : 1 ≤ s.attempts
   pub most_attempts : s.attempts ≤ 8
 
--- what is asked for has its bounds: those of a run, and the number of records of a self test
+-- what is asked for has its bounds: those of a run, and the numbers of records and of workers of a self test
 abbrev pub IsBounded : Settings → Type 0
 IsBounded (Run s) = HasBounds s
-IsBounded (Selftest seed records workers) = records ≤ 1000000
+IsBounded (Selftest seed records workers) = (records ≤ 1000000) × ((1 ≤ workers) × (workers ≤ 64))
 IsBounded _ = ⊤

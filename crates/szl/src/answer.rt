@@ -5,12 +5,13 @@ ghost use Rattle.sz_io.specs.Opened.{KeepsFiles};
 ghost use Rattle.sz_io.specs.Calls.{NamesGain, ReadToEnd};
 ghost use Rattle.sz_core.specs.Sound.{IsSound};
 ghost use Rattle.sz_words.specs.declared.settings.Settings.TheVariants.{Run, Check};
+ghost use Rattle.sz_words.specs.Settings.{settings_in};
 ghost use Rattle.szl.specs.Opening.{ReadsText, ran_out, past_program, Answers, AnswersOn, AnswersText, AnswersCheck};
 ghost use Rattle.szl.specs.Outcome.{outcome_of_program};
 ghost use Rattle.szl.specs.Judgement.{most_program_bytes};
 ghost use Rattle.szl.specs.Promise.{AreReadToEnd, names_asked};
 ghost use Rattle.szl.specs.Running.{vec_items_of};
-ghost use Rattle.szl.specs.Settings.{asked_in, built, is_built, HasBounds, IsBounded};
+ghost use Rattle.szl.specs.Settings.{HasBounds, IsBounded};
 
 use crate::failure::{Failure, refused};
 use crate::judge::{checked, tree_in};
@@ -19,6 +20,8 @@ use crate::refusal::Cause;
 use crate::running::{job_of, statics_of, tables_of};
 use crate::selftest::answer_selftest;
 use std::alloc::Global;
+use std::sync::Wait;
+use std::thread::Threads;
 use sz_core::Program;
 use sz_gen_stmt::compile;
 use sz_io::{Files, Gate};
@@ -32,23 +35,25 @@ const MOST_PROGRAM_BYTES: usize = 1_048_576;
 const FIRST_PLACE: Place = Place { line: 1, column: 1 };
 
 /// The text that the words ask for, or why there is none.
-pub fn answer<F: Files, G: Gate>(
+pub fn answer<R: Threads + Wait + Sync, F: Files, G: Gate + Sync>(
+    rt: &R,
     alloc: Global,
     words: &[String],
     files: &mut F,
     gate: &G,
 ) -> Result<Vec<u8>, Failure>
     requires { length (F.names files.old) < 127 }
-    ensures value { Answers F.Files (asked_in (map string_bytes words.now)) files.old files.new (vec_items_of result) }
-    ensures end { OnOk result (AreReadToEnd F.Files files.old files.new (names_asked (asked_in (map string_bytes words.now)))) }
+    ensures value { Answers F.Files (settings_in (map string_bytes words.now)) files.old files.new (vec_items_of result) }
+    ensures end { OnOk result (AreReadToEnd F.Files files.old files.new (names_asked (settings_in (map string_bytes words.now)))) }
     ensures kept { KeepsFiles F.held F.left F.given F.faults files.old files.new }
 {
     let settings = read_words(alloc, words)?;
-    answer_settings(alloc, &settings, files, gate)
+    answer_settings(rt, alloc, &settings, files, gate)
 }
 
 /// The text that the settings ask for.
-fn answer_settings<F: Files, G: Gate>(
+fn answer_settings<R: Threads + Wait + Sync, F: Files, G: Gate + Sync>(
+    rt: &R,
     alloc: Global,
     settings: &Settings,
     files: &mut F,
@@ -56,45 +61,19 @@ fn answer_settings<F: Files, G: Gate>(
 ) -> Result<Vec<u8>, Failure>
     requires few { length (F.names files.old) < 127 }
     requires bounds { IsBounded settings.now }
-    ensures value { Answers F.Files (built (Some settings.now)) files.old files.new (vec_items_of result) }
-    ensures end { OnOk result (AreReadToEnd F.Files files.old files.new (names_asked (built (Some settings.now)))) }
+    ensures value { Answers F.Files (Some settings.now) files.old files.new (vec_items_of result) }
+    ensures end { OnOk result (AreReadToEnd F.Files files.old files.new (names_asked (Some settings.now))) }
     ensures kept { KeepsFiles F.held F.left F.given F.faults files.old files.new }
 {
     match settings {
-        Settings::Run(run) => answer_built(alloc, run, files, gate),
+        Settings::Run(run) => answer_run(rt, alloc, run, files, gate),
         Settings::Check(program) => answer_check(alloc, program.as_str(), files),
         Settings::Selftest {
             seed,
             records,
             workers,
-        } => answer_selftest(alloc, *seed, *records, *workers, gate),
+        } => answer_selftest(rt, alloc, *seed, *records, *workers, gate),
     }
-}
-
-/// The text of the tables as these settings ask for it, if what they ask for is built.
-fn answer_built<F: Files, G: Gate>(
-    alloc: Global,
-    settings: &RunSettings,
-    files: &mut F,
-    gate: &G,
-) -> Result<Vec<u8>, Failure>
-    requires few { length (F.names files.old) < 127 }
-    requires bounds { HasBounds settings.now }
-    ensures value { Answers F.Files (built (Some (Run settings.now))) files.old files.new (vec_items_of result) }
-    ensures end { OnOk result (AreReadToEnd F.Files files.old files.new (names_asked (built (Some (Run settings.now))))) }
-    ensures kept { KeepsFiles F.held F.left F.given F.faults files.old files.new }
-{
-    if !is_built(settings) {
-        return Err(Failure::Usage);
-    }
-    answer_run(alloc, settings, files, gate)
-}
-
-/// Whether nothing is asked of a run but what is built.
-fn is_built(settings: &RunSettings) -> bool
-    ensures value { result ≡ is_built settings.now }
-{
-    settings.workers == 4
 }
 
 /// The text of the program under a name.
@@ -116,7 +95,8 @@ fn read_program<F: Files>(alloc: Global, name: &str, files: &mut F) -> Result<Ve
 }
 
 /// The text of the tables of a program for an input, as these settings ask for it.
-fn answer_run<F: Files, G: Gate>(
+fn answer_run<R: Threads + Wait + Sync, F: Files, G: Gate + Sync>(
+    rt: &R,
     alloc: Global,
     settings: &RunSettings,
     files: &mut F,
@@ -129,7 +109,7 @@ fn answer_run<F: Files, G: Gate>(
     ensures kept { KeepsFiles F.held F.left F.given F.faults files.old files.new }
 {
     let text = read_program(alloc, settings.program.as_str(), files)?;
-    answer_text(alloc, &text, settings, files, gate)
+    answer_text(rt, alloc, &text, settings, files, gate)
 }
 
 /// No text, if the program under a name passes its check.
@@ -154,7 +134,8 @@ fn check_text(alloc: Global, text: &[u8]) -> Result<Vec<u8>, Failure>
 }
 
 /// The text of the tables of the program that is spelled by a text.
-fn answer_text<F: Files, G: Gate>(
+fn answer_text<R: Threads + Wait + Sync, F: Files, G: Gate + Sync>(
+    rt: &R,
     alloc: Global,
     text: &[u8],
     settings: &RunSettings,
@@ -171,11 +152,12 @@ fn answer_text<F: Files, G: Gate>(
 {
     let tree = tree_in(alloc, text)?;
     let program = checked(alloc, &tree)?;
-    answer_program(alloc, program, settings, files, gate)
+    answer_program(rt, alloc, program, settings, files, gate)
 }
 
 /// The text of the program's tables for the input that the settings name. The input isn't opened where a static faults.
-fn answer_program<F: Files, G: Gate>(
+fn answer_program<R: Threads + Wait + Sync, F: Files, G: Gate + Sync>(
+    rt: &R,
     alloc: Global,
     program: Program,
     settings: &RunSettings,
@@ -201,5 +183,5 @@ fn answer_program<F: Files, G: Gate>(
         Failure::NoMemory,
     )?;
     let job = job_of(alloc, compiled, statics, settings)?;
-    tables_of(alloc, &job, settings.shard, settings.frame, &input, gate)
+    tables_of(rt, alloc, &job, settings, &input, gate)
 }

@@ -8,13 +8,16 @@ ghost use Rattle.sz_rounds.specs.Rounds.{numbered, EndsRound};
 ghost use Rattle.szl.specs.Rounds.{AreShardsIn, EndsRoundAt};
 
 use std::alloc::Global;
+use std::sync::Wait;
+use std::thread::Threads;
 use sz_attempt::{Job, Shard};
 use sz_io::Gate;
 use sz_list::Items;
 use sz_records::Records;
+use sz_rounds::{Round, RoundEnd};
 use sz_total::Total;
 use sz_value::NoMemory;
-use sz_rounds::{Round, RoundEnd, run_round};
+use sz_workers::run_round;
 
 /// The most shards of a round.
 const MOST_SHARDS: usize = 4096;
@@ -25,18 +28,21 @@ const MOST_RECORDS: u64 = 1 << 20;
 /// The records of a round of more than one shard have no more bytes than these.
 const MOST_BYTES: u64 = 1 << 26;
 
-/// What comes of the shards of an input, which are run in rounds, one after the other. The first round that has a shard which faults or
-/// is lost ends it. The gate is called before each attempt; tickets are counted from 0 in each round.
-pub fn run_shards<'a, G: Gate>(
+/// What comes of the shards of an input, which are run in rounds, one after the other, each by so many workers. The first round that has a
+/// shard which faults or is lost ends it. The gate is called before each attempt; tickets are counted from 0 in each round.
+pub fn run_shards<'a, R: Threads + Wait + Sync, G: Gate + Sync>(
+    rt: &R,
     alloc: Global,
     job: &'a Job,
     records: Records,
     shards: &[Shard],
+    workers: u32,
     gate: &G,
 ) -> Result<RoundEnd<'a>, NoMemory>
     requires job { IsJob job.now }
     requires attempts { (1 ≤ job.now.attempts) × (job.now.attempts ≤ 8) }
     requires shards { AreShardsIn records shards.now }
+    requires workers { (1 ≤ workers) × (workers ≤ 64) }
     ensures value { IfOk result (λ end. EndsRound job.now.compiled (outcome_of job.now (numbered 0 records shards.now)) end) }
 {
     let mut total = Total::new(alloc, job.compiled.tables())?;
@@ -50,7 +56,7 @@ pub fn run_shards<'a, G: Gate>(
         let end = round_end(&round.records, shards, done);
         round.shards = Items::copied(alloc, &shards[done..end])?;
         round.first_shard = done as u64;
-        match run_round(alloc, job, &round, gate)? {
+        match run_round(rt, alloc, job, &round, workers, gate)? {
             RoundEnd::Tables(part) => merge(&mut total, part)?,
             decided => return Ok(decided),
         }

@@ -4,23 +4,25 @@ ghost use Rattle.sz_gen_stmt.specs.Simulates.{static_types};
 ghost use Rattle.sz_world.specs.Typed.{AllFit};
 ghost use Rattle.sz_attempt.specs.Shards.{IsJob};
 ghost use Rattle.szl.specs.Running.{GivesStatics, GivesTables, GivesTotal, IsJobOf, vec_items_of};
+ghost use Rattle.szl.specs.Settings.{HasBounds};
 
 use crate::failure::Failure;
 use crate::records::records_in;
 use crate::rounds::run_shards;
 use std::alloc::Global;
+use std::sync::Wait;
+use std::thread::Threads;
 use sz_attempt::Job;
 use sz_gen_stmt::Compiled;
 use sz_io::Gate;
 use sz_list::Items;
 use sz_print::text;
 use sz_records::{Ending, Records};
+use sz_rounds::{RoundEnd, cut_shards};
 use sz_run::{StaticsEnd, run_statics};
 use sz_total::Total;
-use sz_types::Frame;
 use sz_value::{NoMemory, Slots};
 use sz_words::RunSettings;
-use sz_rounds::{RoundEnd, cut_shards};
 
 /// The statics of the program, all of them with so many ticks.
 pub fn statics_of(alloc: Global, compiled: &Compiled, budget: u64) -> Result<Slots, Failure>
@@ -56,22 +58,22 @@ pub fn job_of(
     })
 }
 
-/// The text of the program's tables for all records of the input, whose shards have `most` records at most.
-pub fn tables_of<G: Gate>(
+/// The text of the program's tables for all records of the input, by the frame, shards and workers that these settings ask for.
+pub fn tables_of<R: Threads + Wait + Sync, G: Gate + Sync>(
+    rt: &R,
     alloc: Global,
     job: &Job,
-    most: u32,
-    frame: Frame,
+    settings: &RunSettings,
     input: &[u8],
     gate: &G,
 ) -> Result<Vec<u8>, Failure>
     requires job { IsJob job.now }
     requires attempts { (1 ≤ job.now.attempts) × (job.now.attempts ≤ 8) }
-    requires most { 1 ≤ most }
-    ensures value { GivesTables job.now most frame input.now (vec_items_of result) }
+    requires bounds { HasBounds settings.now }
+    ensures value { GivesTables job.now settings.now.shard settings.now.frame input.now (vec_items_of result) }
 {
-    let (records, ending) = records_in(alloc, frame, input)?;
-    let total = total_of(alloc, job, most, records, gate)?;
+    let (records, ending) = records_in(alloc, settings.frame, input)?;
+    let total = total_of(rt, alloc, job, settings, records, gate)?;
     match ending {
         Ending::Whole => Ok(text(alloc, &total, job.compiled.tables())?),
         Ending::Damaged(byte) => Err(Failure::Damaged(byte)),
@@ -79,22 +81,24 @@ pub fn tables_of<G: Gate>(
     }
 }
 
-/// The tables of all that the records emit, whose shards have `most` of them at most.
-fn total_of<'a, G: Gate>(
+/// The tables of all that the records emit, by the shards and workers that these settings ask for.
+fn total_of<'a, R: Threads + Wait + Sync, G: Gate + Sync>(
+    rt: &R,
     alloc: Global,
     job: &'a Job,
-    most: u32,
+    settings: &RunSettings,
     records: Records,
     gate: &G,
 ) -> Result<Total<'a>, Failure>
     requires job { IsJob job.now }
     requires attempts { (1 ≤ job.now.attempts) × (job.now.attempts ≤ 8) }
-    requires most { 1 ≤ most }
+    requires bounds { HasBounds settings.now }
     requires few { length records ≤ 2 ^ 31 }
-    ensures value { GivesTotal job.now most records result }
+    ensures value { GivesTotal job.now settings.now.shard records result }
 {
-    let shards = cut_shards(alloc, &records, most)?;
-    match run_shards(alloc, job, records, shards.as_slice(), gate)? {
+    let shards = cut_shards(alloc, &records, settings.shard)?;
+    let workers = settings.workers;
+    match run_shards(rt, alloc, job, records, shards.as_slice(), workers, gate)? {
         RoundEnd::Tables(total) => Ok(total),
         RoundEnd::Fault { record_no, fault } => Err(Failure::Faulted(record_no, fault)),
         RoundEnd::Lost(shard) => Err(Failure::Lost(shard)),

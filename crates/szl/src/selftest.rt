@@ -11,6 +11,8 @@ use crate::failure::Failure;
 use crate::judge::{checked, tree_in};
 use crate::running::{job_of, statics_of, tables_of};
 use std::alloc::{AllocError, Global};
+use std::sync::Wait;
+use std::thread::Threads;
 use sz_core::Program;
 use sz_feed::{feed, program_bytes};
 use sz_gen_stmt::compile;
@@ -20,7 +22,8 @@ use sz_types::{Frame, Text};
 use sz_words::RunSettings;
 
 /// The text of the tables of the self test's program for the file of the seed, of this many records.
-pub fn answer_selftest<G: Gate>(
+pub fn answer_selftest<R: Threads + Wait + Sync, G: Gate + Sync>(
+    rt: &R,
     alloc: Global,
     seed: u64,
     records: u32,
@@ -28,13 +31,14 @@ pub fn answer_selftest<G: Gate>(
     gate: &G,
 ) -> Result<Vec<u8>, Failure>
     requires within { records ≤ 1000000 }
+    requires workers { (1 ≤ workers) × (workers ≤ 64) }
     ensures value { AnswersTextOver (selftest_run workers) program_text (file_of seed records) (vec_items_of result) }
 {
     let settings = selftest_run(alloc, workers)?;
     let input = feed(alloc, seed, records)?;
     let tree = tree_in(alloc, program_bytes())?;
     let program = checked(alloc, &tree)?;
-    answer_over(alloc, program, &settings, &input, gate)
+    answer_over(rt, alloc, program, &settings, &input, gate)
 }
 
 /// What the self test asks of the run of its program.
@@ -55,7 +59,8 @@ fn selftest_run(alloc: Global, workers: u32) -> Result<RunSettings, AllocError>
 }
 
 /// The text of the program's tables for these bytes, as these settings ask for it.
-fn answer_over<G: Gate>(
+fn answer_over<R: Threads + Wait + Sync, G: Gate + Sync>(
+    rt: &R,
     alloc: Global,
     program: Program,
     settings: &RunSettings,
@@ -69,5 +74,5 @@ fn answer_over<G: Gate>(
     let compiled = compile(alloc, program)?;
     let statics = statics_of(alloc, &compiled, settings.budget)?;
     let job = job_of(alloc, compiled, statics, settings)?;
-    tables_of(alloc, &job, settings.shard, settings.frame, input, gate)
+    tables_of(rt, alloc, &job, settings, input, gate)
 }

@@ -2,15 +2,20 @@
 //! large for a row.
 mod checking;
 mod checks;
+mod drawn;
 mod expression_ticks;
 mod expressions;
+mod gates;
+mod kill_lists;
+mod kill_lists_and_faults;
+mod kill_lists_of_pairs;
 mod messages;
 mod runs;
 mod searches;
-mod shards;
 mod statement_ticks;
 mod statements;
 mod tables;
+mod workers;
 
 ghost use Rattle.std.specs.Prelude.{◌≡◌, ◌≤◌, [], IfOk};
 ghost use Rattle.sz_io.specs.MemFiles.{names_opened};
@@ -19,6 +24,7 @@ use crate::top::szl_main;
 use std::alloc::Global;
 use std::fmt::Write;
 use std::process::Abort;
+use std::sync::Wait;
 use std::test::Fail;
 use std::thread::Threads;
 use sz_io::{Gate, MemFiles, MemSink, NoGate, NoMemory};
@@ -48,6 +54,22 @@ const PLAIN: Setting<'static> = Setting {
 /// The rows of whole runs. Here and below they are behind a call, so that no proof sees them.
 fn rows_of_runs() -> &'static str {
     runs::RUNS
+}
+
+fn rows_of_workers() -> &'static str {
+    workers::RUNS
+}
+
+fn rows_of_kill_lists() -> &'static str {
+    kill_lists::RUNS
+}
+
+fn rows_of_kill_lists_of_pairs() -> &'static str {
+    kill_lists_of_pairs::RUNS
+}
+
+fn rows_of_kill_lists_and_faults() -> &'static str {
+    kill_lists_and_faults::RUNS
 }
 
 fn rows_of_tables() -> &'static str {
@@ -149,7 +171,7 @@ fn words_of(alloc: Global, line: &str) -> Result<Vec<String>, NoMemory> {
 }
 
 /// What a run leaves, as a row says it: the status, the output, and behind `!` the line.
-fn left<R: Threads + Sync>(
+fn left<R: Threads + Wait + Sync>(
     rt: &R,
     alloc: Global,
     given: &Setting<'_>,
@@ -159,7 +181,7 @@ fn left<R: Threads + Sync>(
 }
 
 /// What a run leaves whose attempts pass a gate.
-fn left_by<R: Threads + Sync, G: Gate + Sync>(
+fn left_by<R: Threads + Wait + Sync, G: Gate + Sync>(
     rt: &R,
     alloc: Global,
     given: &Setting<'_>,
@@ -219,7 +241,7 @@ fn number_of(call: &str, device: &str) -> u64 {
 }
 
 /// Whether a run leaves what its row says.
-fn holds<R: Threads + Sync>(
+fn holds<R: Threads + Wait + Sync>(
     rt: &R,
     alloc: Global,
     given: &Setting<'_>,
@@ -231,7 +253,7 @@ fn holds<R: Threads + Sync>(
 }
 
 /// Fails where a run leaves something else than its row says.
-fn all_hold<R: Abort + Threads + Sync>(
+fn all_hold<R: Abort + Threads + Wait + Sync>(
     rt: &R,
     alloc: Global,
     rows: &'static str,
@@ -249,6 +271,26 @@ fn all_hold<R: Abort + Threads + Sync>(
 #[test]
 fn each_run_leaves_what_its_row_says(rt: HostRuntime) -> Result<(), Fail> {
     all_hold(&rt, rt.alloc(), rows_of_runs())
+}
+
+#[test]
+fn any_number_of_workers_leaves_what_its_row_says(rt: HostRuntime) -> Result<(), Fail> {
+    all_hold(&rt, rt.alloc(), rows_of_workers())
+}
+
+#[test]
+fn each_list_of_deaths_leaves_what_its_row_says(rt: HostRuntime) -> Result<(), Fail> {
+    all_hold(&rt, rt.alloc(), rows_of_kill_lists())
+}
+
+#[test]
+fn deaths_in_pairs_of_records_leave_what_their_rows_say(rt: HostRuntime) -> Result<(), Fail> {
+    all_hold(&rt, rt.alloc(), rows_of_kill_lists_of_pairs())
+}
+
+#[test]
+fn deaths_and_faults_leave_what_their_rows_say(rt: HostRuntime) -> Result<(), Fail> {
+    all_hold(&rt, rt.alloc(), rows_of_kill_lists_and_faults())
 }
 
 #[test]
@@ -292,7 +334,7 @@ fn programs_are_refused_as_their_rows_say(rt: HostRuntime) -> Result<(), Fail> {
 }
 
 /// Whether the run of a program over the input `3` leaves this.
-fn leaves<R: Threads + Sync>(
+fn leaves<R: Threads + Wait + Sync>(
     rt: &R,
     alloc: Global,
     program: &[u8],

@@ -2,11 +2,11 @@
 ghost use Rattle.std.specs.Prelude.{◌≡◌, ◌<◌, ◌⊎◌, [], Err, Ok, IfOk, length, map, string_bytes};
 ghost use Rattle.sz_io.specs.Opened.{KeepsFiles};
 ghost use Rattle.sz_io.specs.Rose.{Rose, DoNotFall};
+ghost use Rattle.sz_words.specs.Settings.{settings_in};
 ghost use Rattle.szl.specs.Failing.{line_of_failure};
 ghost use Rattle.szl.specs.Printing.{Prints, PrintsNothing};
 ghost use Rattle.szl.specs.Promise.{MeansSource, GainsLine, AreReadToEnd, names_asked};
 ghost use Rattle.szl.specs.Running.{vec_items_of};
-ghost use Rattle.szl.specs.Settings.{asked_in};
 
 use crate::answer::answer;
 use crate::failure::Failure;
@@ -14,15 +14,17 @@ use crate::lines::{damaged_line, fault_line, limit_line, lost_line};
 use crate::refusal::refusal_line;
 use crate::status::Status;
 use std::alloc::{AllocError, Global};
+use std::sync::Wait;
 use std::thread::Threads;
 use sz_io::{Files, Gate, Sink, WriteError, write_whole};
 
 /// Runs the command line of these words, which come without the program's name: opens what it names in `files`,
 /// writes its text to `out`, and the line that says why there is none to `err`.
 ///
-/// The gate is called before each attempt. No thread is started yet, so `rt` is not called.
-pub fn szl_main<R: Threads + Sync, F: Files, O: Sink, E: Sink, G: Gate + Sync>(
-    _rt: &R,
+/// Each round of shards is run by as many workers as the words ask for. All but the first have a thread, which is started for the round and
+/// ends with it: so the call may wait, and returns only if its threads do. The gate is called before each attempt.
+pub fn szl_main<R: Threads + Wait + Sync, F: Files, O: Sink, E: Sink, G: Gate + Sync>(
+    rt: &R,
     alloc: Global,
     words: &[String],
     files: &mut F,
@@ -33,7 +35,7 @@ pub fn szl_main<R: Threads + Sync, F: Files, O: Sink, E: Sink, G: Gate + Sync>(
     requires { length (F.names files.old) < 127 }
 
     ensures outcome { MeansSource F.Files O.Sink E.Sink (map string_bytes words.now) result files.old files.new out.old out.new err.old err.new }
-    ensures end { result ≡ Status.Done → AreReadToEnd F.Files files.old files.new (names_asked (asked_in (map string_bytes words.now))) }
+    ensures end { result ≡ Status.Done → AreReadToEnd F.Files files.old files.new (names_asked (settings_in (map string_bytes words.now))) }
 
     ensures read_failed { result ≡ Status.ReadFailed → Rose (F.faults files.old) (F.faults files.new) }
     ensures write_failed { result ≡ Status.WriteFailed → Rose (O.faults out.old) (O.faults out.new) }
@@ -42,7 +44,7 @@ pub fn szl_main<R: Threads + Sync, F: Files, O: Sink, E: Sink, G: Gate + Sync>(
     ensures out_counts { DoNotFall O.faults O.refusals out.old out.new }
     ensures err_counts { DoNotFall E.faults E.refusals err.old err.new }
 {
-    let answer = answer(alloc, words, files, gate);
+    let answer = answer(rt, alloc, words, files, gate);
     match print(out, answer) {
         Ok(()) => Status::Done,
         Err(failure) => tell(alloc, err, failure).status(),

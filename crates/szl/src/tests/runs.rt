@@ -205,19 +205,6 @@ c: table sum of int; x: int = input; emit c <- x; => 1 ! bad command line
 $ [run p f -- --budget 9]
 c: table sum of int; x: int = input; emit c <- x; => 1 ! bad command line
 
-== the option for threads is taken only with the value that it has by itself
-< 3¶-1¶
-$ [run p f --workers 4]
-c: table sum of int; x: int = input; emit c <- x; => 0 c[] = 2¶
-$ [run p f --workers=04]
-c: table sum of int; x: int = input; emit c <- x; => 0 c[] = 2¶
-$ [run p f --workers 2]
-c: table sum of int; x: int = input; emit c <- x; => 1 ! bad command line
-$ [run p f --workers 1]
-c: table sum of int; x: int = input; emit c <- x; => 1 ! bad command line
-$ [run p f --workers 65]
-c: table sum of int; x: int = input; emit c <- x; => 1 ! bad command line
-
 == shards and attempts have their bounds, and the lists their forms
 < 3¶-1¶
 $ [run p f --shard 1000]

@@ -1,10 +1,9 @@
-use Rattle.std.proofs.Common.{sym, ap, subst, map}
+use Rattle.std.proofs.Common.{sym, subst, map}
 use Rattle.std.proofs.lemmas.Result.{err_from_is_err_and}
 use Rattle.std.specs.Prelude.{string_bytes, OnOk}
 use Rattle.szl.specs.Opening.{Answers}
 use Rattle.szl.specs.Promise.{AreReadToEnd, names_asked}
 use Rattle.szl.specs.Running.{vec_items_of}
-use Rattle.szl.specs.Settings.{built}
 use Rattle.szl.proofs.BoundsLemmas.{is_bounded}
 use Rattle.szl.proofs.SettingsLemmas.{words_fail}
 use Rattle.szl.proofs.answer.answer.Goals as goal
@@ -23,9 +22,9 @@ answer_settings-requires-clause-bounds g c = is_bounded (map string_bytes c.args
 pub returns-clause-value : goal.returns-clause-value
 returns-clause-value g c =
     subst (λ asked. Answers g.F.Files asked c.args.files.now c.answer_settings.new.files (vec_items_of c.answer_settings.result))
-    (sym (ap built c.in_ok-settings.ensures.value)) c.answer_settings.ensures.value
+    (sym c.in_ok-settings.ensures.value) c.answer_settings.ensures.value
 
 pub returns-clause-end : goal.returns-clause-end
 returns-clause-end g c =
     subst (λ asked. OnOk c.answer_settings.result (AreReadToEnd g.F.Files c.args.files.now c.answer_settings.new.files (names_asked asked)))
-    (sym (ap built c.in_ok-settings.ensures.value)) c.answer_settings.ensures.end
+    (sym c.in_ok-settings.ensures.value) c.answer_settings.ensures.end

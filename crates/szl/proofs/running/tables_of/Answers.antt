@@ -9,18 +9,18 @@ use Rattle.szl.proofs.running.tables_of.Goals as goal
 pub returns-in_err-records : goal.returns-in_err-records
 returns-in_err-records g c =
     let p = err_from_is_err_and c.from_residual.result c.from_residual.ensures.1 in
-    record { value = rw (p.1, p.2) (no_memory_at_all c.args.job.now c.args.most c.args.frame c.args.input.now) }
+    record { value = rw (p.1, p.2) (no_memory_at_all c.args.job.now c.args.settings.now.shard c.args.settings.now.frame c.args.input.now) }
 
 -- an input has no more records than it may
 pub total_of-requires-clause-few : goal.total_of-requires-clause-few
-total_of-requires-clause-few g c = few_records c.args.frame c.args.input.now _ c.in_ok-records.ensures.cut
+total_of-requires-clause-few g c = few_records c.args.settings.now.frame c.args.input.now _ c.in_ok-records.ensures.cut
 
 -- a shard faults or is lost
 pub returns-in_err-total : goal.returns-in_err-total
 returns-in_err-total g c =
     let p = err_from_is_err_and c.from_residual-in_err-total.result c.from_residual-in_err-total.ensures.1 in
     record {
-      value = rw (p.1, p.2) (total_fails c.args.job.now c.args.most c.args.frame c.args.input.now _ c.in_ok-records.ensures.cut
+      value = rw (p.1, p.2) (total_fails c.args.job.now c.args.settings.now.shard c.args.settings.now.frame c.args.input.now _ c.in_ok-records.ensures.cut
           c.in_err-total.field-0.0 c.in_err-total.ensures.value);
     }
 
@@ -32,15 +32,15 @@ text-requires g c = record { declared = c.tables.ensures.value ∙ sym c.in_ok-t
 pub returns-in_err-text-in-Whole : goal.returns-in_err-text-in-Whole
 returns-in_err-text-in-Whole g c =
     let p = err_from_is_err_and c.from_residual-in_err-text-in-Whole.result c.from_residual-in_err-text-in-Whole.ensures.1 in
-    record { value = rw (p.1, p.2) (no_memory_at_all c.args.job.now c.args.most c.args.frame c.args.input.now) }
+    record { value = rw (p.1, p.2) (no_memory_at_all c.args.job.now c.args.settings.now.shard c.args.settings.now.frame c.args.input.now) }
 
 -- the text is that of all emits
 pub returns-in-Whole : goal.returns-in-Whole
 returns-in-Whole g c =
     let all = c.in_ok-total.ensures.value in
     record {
-      value = ends_whole c.args.job.now c.args.most c.args.frame c.args.input.now c.in_ok-records.records all.0 all.1 c.in_ok-text-in-Whole.field-0.items
-          (subst (λ e. IsCutInto c.args.frame c.args.input.now (record { records = c.in_ok-records.records; ending = e })) c.in-Whole.is c.in_ok-records.ensures.cut)
+      value = ends_whole c.args.job.now c.args.settings.now.shard c.args.settings.now.frame c.args.input.now c.in_ok-records.records all.0 all.1 c.in_ok-text-in-Whole.field-0.items
+          (subst (λ e. IsCutInto c.args.settings.now.frame c.args.input.now (record { records = c.in_ok-records.records; ending = e })) c.in-Whole.is c.in_ok-records.ensures.cut)
           (c.in_ok-text-in-Whole.ensures.value all.0 all.2.stands ∙ ap (λ ds. tables_text ds all.0) c.tables.ensures.value);
     }
 
@@ -49,8 +49,8 @@ pub returns-in-Damaged : goal.returns-in-Damaged
 returns-in-Damaged g c =
     let all = c.in_ok-total.ensures.value in
     record {
-      value = ends_damaged c.args.job.now c.args.most c.args.frame c.args.input.now c.in_ok-records.records all.0 all.1 c.in-Damaged.byte
-          (subst (λ e. IsCutInto c.args.frame c.args.input.now (record { records = c.in_ok-records.records; ending = e })) c.in-Damaged.is c.in_ok-records.ensures.cut);
+      value = ends_damaged c.args.job.now c.args.settings.now.shard c.args.settings.now.frame c.args.input.now c.in_ok-records.records all.0 all.1 c.in-Damaged.byte
+          (subst (λ e. IsCutInto c.args.settings.now.frame c.args.input.now (record { records = c.in_ok-records.records; ending = e })) c.in-Damaged.is c.in_ok-records.ensures.cut);
     }
 
 -- the input passes a limit
@@ -58,6 +58,6 @@ pub returns : goal.returns
 returns g c =
     let all = c.in_ok-total.ensures.value in
     record {
-      value = ends_limited c.args.job.now c.args.most c.args.frame c.args.input.now c.in_ok-records.records all.0 all.1 c.in-Limit.byte
-          (subst (λ e. IsCutInto c.args.frame c.args.input.now (record { records = c.in_ok-records.records; ending = e })) c.in-Limit.is c.in_ok-records.ensures.cut);
+      value = ends_limited c.args.job.now c.args.settings.now.shard c.args.settings.now.frame c.args.input.now c.in_ok-records.records all.0 all.1 c.in-Limit.byte
+          (subst (λ e. IsCutInto c.args.settings.now.frame c.args.input.now (record { records = c.in_ok-records.records; ending = e })) c.in-Limit.is c.in_ok-records.ensures.cut);
     }

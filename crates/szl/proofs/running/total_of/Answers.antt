@@ -14,16 +14,16 @@ returns-in_err-shards g c = let p = err_from_is_err_and c.from_residual.result c
 pub run_shards-requires-clause-shards : goal.run_shards-requires-clause-shards
 run_shards-requires-clause-shards g c =
     subst (AreShardsIn c.args.records) (sym c.as_slice.ensures.value)
-    (cut_shards_in c.args.most c.args.records c.in_ok-shards.shards c.requires.most c.requires.few c.in_ok-shards.ensures.cut)
+    (cut_shards_in c.args.settings.now.shard c.args.records c.in_ok-shards.shards c.requires.bounds.shard c.requires.few c.in_ok-shards.ensures.cut)
 
 -- no shard faults or is lost
 pub returns-in-Tables : goal.returns-in-Tables
 returns-in-Tables g c =
     let job = c.args.job.now in
-    let cut = cut_is_shards c.args.most c.args.records c.in_ok-shards.shards c.requires.most c.requires.few c.in_ok-shards.ensures.cut in
+    let cut = cut_is_shards c.args.settings.now.shard c.args.records c.in_ok-shards.shards c.requires.bounds.shard c.requires.few c.in_ok-shards.ensures.cut in
     let same = ap (numbered 0 c.args.records) c.as_slice.ensures.value ∙ cut in
     record {
-      value = total_given job c.args.most c.args.records c.as_slice.result.now same c.in-Tables.total
+      value = total_given job c.args.settings.now.shard c.args.records c.as_slice.result.now same c.in-Tables.total
           (subst (EndsRound job.compiled _) c.in-Tables.is c.in_ok-total.ensures.value);
     }
 
@@ -31,10 +31,10 @@ returns-in-Tables g c =
 pub returns-in-Fault : goal.returns-in-Fault
 returns-in-Fault g c =
     let job = c.args.job.now in
-    let cut = cut_is_shards c.args.most c.args.records c.in_ok-shards.shards c.requires.most c.requires.few c.in_ok-shards.ensures.cut in
+    let cut = cut_is_shards c.args.settings.now.shard c.args.records c.in_ok-shards.shards c.requires.bounds.shard c.requires.few c.in_ok-shards.ensures.cut in
     let same = ap (numbered 0 c.args.records) c.as_slice.ensures.value ∙ cut in
     record {
-      value = fault_given job c.args.most c.args.records c.as_slice.result.now same c.in-Fault.record_no c.in-Fault.fault
+      value = fault_given job c.args.settings.now.shard c.args.records c.as_slice.result.now same c.in-Fault.record_no c.in-Fault.fault
           (subst (EndsRound job.compiled _) c.in-Fault.is c.in_ok-total.ensures.value);
     }
 
@@ -42,9 +42,9 @@ returns-in-Fault g c =
 pub returns : goal.returns
 returns g c =
     let job = c.args.job.now in
-    let cut = cut_is_shards c.args.most c.args.records c.in_ok-shards.shards c.requires.most c.requires.few c.in_ok-shards.ensures.cut in
+    let cut = cut_is_shards c.args.settings.now.shard c.args.records c.in_ok-shards.shards c.requires.bounds.shard c.requires.few c.in_ok-shards.ensures.cut in
     let same = ap (numbered 0 c.args.records) c.as_slice.ensures.value ∙ cut in
     record {
-      value = lost_given job c.args.most c.args.records c.as_slice.result.now same c.in-Lost.shard
+      value = lost_given job c.args.settings.now.shard c.args.records c.as_slice.result.now same c.in-Lost.shard
           (subst (EndsRound job.compiled _) c.in-Lost.is c.in_ok-total.ensures.value);
     }

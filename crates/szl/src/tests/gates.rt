@@ -1,7 +1,5 @@
-//! Which attempts are made of shards, as a gate counts them, and what comes of each list of deaths of two shards.
-use super::{PLAIN, Setting, left, left_by, text_of};
-use std::alloc::Global;
-use std::fmt::Write;
+//! Which attempts are made of shards, as gates count and hold them.
+use super::{PLAIN, Setting, left_by, text_of};
 use std::sync::atomic::AtomicU64;
 use std::sync::atomic::Ordering::SeqCst;
 use std::test::Fail;
@@ -44,15 +42,24 @@ impl Gate for Counts {
     }
 }
 
+// With one attempt the ticket that asks first for its number has it: by one worker, that is the first ticket.
 #[test]
 fn killed_and_doubled_attempts_are_made(rt: HostRuntime) -> Result<(), Fail> {
     let program = text_of(rt.alloc(), PROGRAM)?;
     for (words, tickets, attempts) in [
-        ("run p f --shard 1", 0x11, 0x101),
-        ("run p f --shard 1 --attempts 2 --kill 0.0.0", 0x12, 0x111),
-        ("run p f --shard 1 --twice 0,1", 0x1111, 0x1111),
-        ("run p f --shard 1 --attempts 1 --twice 0,1", 0x101, 0x101),
-        ("run p f --twice 0", 0x11, 0x11),
+        ("run p f --shard 1 --workers 4", 0x11, 0x101),
+        (
+            "run p f --shard 1 --attempts 2 --kill 0.0.0 --workers 4",
+            0x12,
+            0x111,
+        ),
+        ("run p f --shard 1 --twice 0,1 --workers 2", 0x1111, 0x1111),
+        (
+            "run p f --shard 1 --attempts 1 --twice 0,1 --workers 1",
+            0x101,
+            0x101,
+        ),
+        ("run p f --twice 0 --workers 2", 0x11, 0x11),
     ] {
         let given = Setting {
             words,
@@ -71,54 +78,59 @@ fn killed_and_doubled_attempts_are_made(rt: HostRuntime) -> Result<(), Fail> {
     Ok(())
 }
 
-/// When the attempts 0 and 1 of the shards 0 and 1 die, each after 0 or 1 records; 2 is not at all.
-type Deaths = [u32; 4];
+/// A gate at which ticket 0 is held until ticket 1 has come.
+#[derive(Drop)]
+struct Holds {
+    /// 1 once ticket 1 has come.
+    has_come: AtomicU64,
+    /// 1 once ticket 0 has seen that.
+    was_seen: AtomicU64,
+}
 
-/// The list of deaths as `--kill` has it.
-fn kill_list(alloc: Global, deaths: &Deaths) -> Result<String, Fail> {
-    let mut list = String::new(alloc);
-    for (attempt, after) in ["0.0", "0.1", "1.0", "1.1"].iter().zip(deaths) {
-        if *after < 2 {
-            let before = if list.is_empty() { "" } else { "," };
-            write!(list, "{before}{attempt}.{after}")?;
+/// How often ticket 0 looks at most.
+const MOST_LOOKS: u32 = 1 << 28;
+
+impl Holds {
+    fn hold(&self) {
+        for _ in 0..MOST_LOOKS {
+            if self.has_come.load(SeqCst) == 1 {
+                self.was_seen.store(1, SeqCst);
+                return;
+            }
         }
     }
-    Ok(list)
 }
 
-/// What a run leaves with these deaths: the least shard of which both attempts die is lost.
-fn wanted(deaths: &Deaths) -> &'static str {
-    if deaths[0] < 2 && deaths[1] < 2 {
-        "7 ! shard 0 lost"
-    } else if deaths[2] < 2 && deaths[3] < 2 {
-        "7 ! shard 1 lost"
-    } else {
-        TABLES
+impl Gate for Holds {
+    fn at(&self, ticket: u32, _shard: u64, _number: u32) {
+        match ticket {
+            0 => self.hold(),
+            1 => self.has_come.store(1, SeqCst),
+            _ => {}
+        }
     }
 }
 
-/// The words with these deaths.
-fn words_with(alloc: Global, deaths: &Deaths) -> Result<String, Fail> {
-    let list = kill_list(alloc, deaths)?;
-    if list.is_empty() {
-        return Ok(String::from_str(alloc, "run p f --shard 1 --attempts 2")?);
-    }
-    Ok(format!(in alloc; "run p f --shard 1 --attempts 2 --kill {list}")?)
-}
-
+// In the second run the two tickets are of one shard, with an attempt each: whichever has attempt 0 has no attempt that doesn't die.
 #[test]
-fn a_shard_is_lost_where_both_attempts_die(rt: HostRuntime) -> Result<(), Fail> {
+fn two_workers_are_at_work_at_once(rt: HostRuntime) -> Result<(), Fail> {
     let program = text_of(rt.alloc(), PROGRAM)?;
-    for number in 0..81u32 {
-        let deaths = [number % 3, number / 3 % 3, number / 9 % 3, number / 27];
-        let words = words_with(rt.alloc(), &deaths)?;
+    for words in [
+        "run p f --shard 1 --workers 2",
+        "run p f --attempts 2 --twice 0 --kill 0.0.0 --workers 2",
+    ] {
         let given = Setting {
-            words: words.as_str(),
+            words,
             input: LINES,
             ..PLAIN
         };
-        let found = left(&rt, rt.alloc(), &given, program.as_bytes())?;
-        assert_eq!(&rt; found.as_str(), wanted(&deaths), "{words}");
+        let gate = Holds {
+            has_come: AtomicU64::new(0),
+            was_seen: AtomicU64::new(0),
+        };
+        let found = left_by(&rt, rt.alloc(), &given, program.as_bytes(), &gate)?;
+        assert_eq!(&rt; found.as_str(), TABLES, "{words}");
+        assert_eq!(&rt; gate.was_seen.load(SeqCst), 1, "{words}");
     }
     Ok(())
 }
