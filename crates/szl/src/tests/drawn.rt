@@ -70,12 +70,20 @@ fn line_of(number: u64) -> &'static str {
     }
 }
 
-/// Up to eight lines. Most are of the first two, so that not each input has one of the others.
+/// A line. Most are of the first two, so that not each input has one of the others.
+fn line_drawn(draws: &mut Draws) -> &'static str {
+    let number = draws.draw();
+    if number % 3 == 0 {
+        return line_of(number / 3);
+    }
+    line_of(number % 2)
+}
+
+/// Up to eight lines.
 fn input_drawn(alloc: Global, draws: &mut Draws) -> Result<String, Fail> {
     let mut input = String::new(alloc);
     for _ in 0..draws.draw() % 9 {
-        let number = draws.draw();
-        input.push_str(line_of(if number % 3 == 0 { number / 3 } else { number % 2 }))?;
+        input.push_str(line_drawn(draws))?;
     }
     Ok(input)
 }
@@ -132,7 +140,11 @@ fn two_hundred_runs_are_alike_by_any_number_of_workers(rt: HostRuntime) -> Resul
         let one = left_with(&rt, rt.alloc(), program, &input, &words, 1)?;
         for workers in [2, 3, 8] {
             let more = left_with(&rt, rt.alloc(), program, &input, &words, workers)?;
-            assert_eq!(&rt; more.as_str(), one.as_str(), "{words} by {workers}: {program}");
+            assert_eq!(&rt;
+                more.as_str(),
+                one.as_str(),
+                "{words} by {workers}: {program}"
+            );
         }
     }
     Ok(())
