@@ -28,7 +28,7 @@ pub struct Total<'a> {
 
 impl<'a> Model for Total<'a> {
     ghost use Rattle.sz_total.specs.Short.{HasShortParts};
-ghost use Rattle.sz_total.specs.States.{TotalState};
+    ghost use Rattle.sz_total.specs.States.{TotalState};
     ghost use Rattle.sz_total.specs.Code.{total_code};
 
     ghost Value = { TotalState };

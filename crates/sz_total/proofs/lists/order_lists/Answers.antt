@@ -6,6 +6,6 @@ use Rattle.sz_total.proofs.lists.order_lists.Goals as goal
 
 pub returns : goal.returns
 returns c = record {
-  value = c.cmp.ensures ∙ lists_compare c.as_slice.result.now c.as_slice-other.result.now
-      ∙ (λ i. compare_indexes (c.as_slice.ensures.value i) (c.as_slice-other.ensures.value i));
+  value = c.cmp.ensures ∙ lists_compare c.as_slice.result.now c.as_slice-2.result.now
+      ∙ (λ i. compare_indexes (c.as_slice.ensures.value i) (c.as_slice-2.ensures.value i));
 }

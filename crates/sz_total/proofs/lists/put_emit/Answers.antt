@@ -16,10 +16,10 @@ returns-clause-ok c =
     let table = seen_table c.args.table.now in
     let emit = c.args.emit.now in
     let es = c.args.lists.now.entries in
-    let key = c.in_ok-copied-key.key in
+    let key = c.in_ok-key.key in
     let old = c.in_ok-aggregate.aggregate in
     let new = c.add_to.new.aggregate in
-    let key_is = c.in_ok-copied-key.ensures.value ∙ c.requires.key in
+    let key_is = c.in_ok-key.ensures.value ∙ c.requires.key in
     let none = ap (λ l. lookup (same_indexes l) es) key_is ∙ c.requires.absent in
     let now = c.in_ok-insert.ensures.entries ∙ insert_entry-new same_indexes c.args.lists.now key new none ∙ ap (λ l. es ++ (l, new) ∷ []) key_is in
     subst (TakesEmit table emit es) (sym now)
@@ -30,7 +30,7 @@ returns-clause-ok c =
 pub returns-clause-capacity : goal.returns-clause-capacity
 returns-clause-capacity c =
     let es = c.args.lists.now.entries in
-    let key_is = c.in_ok-copied-key.ensures.value ∙ c.requires.key in
+    let key_is = c.in_ok-key.ensures.value ∙ c.requires.key in
     let none = ap (λ l. lookup (same_indexes l) es) key_is ∙ c.requires.absent in
     let longer = c.in_ok-insert.ensures.len
     ∙ ap (λ o. index_map_len c.args.lists.now + (if is_some o then 0 else 1)) (c.in_ok-insert.ensures.old ∙ none) in
