@@ -1,4 +1,5 @@
 pub mod ForCallers
+pub mod ListLemmas
 pub mod SpellingLemmas
 pub mod FrontLemmas
 pub mod ReadingLemmas

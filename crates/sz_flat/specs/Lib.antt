@@ -1,5 +1,9 @@
 -- what the public contracts rest on
 pub mod Spelling
 pub mod Laws
+pub mod Lists
 -- what the functions inside the crate promise each other
 pub mod Reading
+-- what the ghost members of types rest on
+pub mod Kept
+pub mod OneSpelling

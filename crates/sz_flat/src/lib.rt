@@ -2,12 +2,14 @@
 #![tactic(auto)]
 
 mod error;
+mod flat_list;
 mod laws;
 mod parts;
 mod reading;
 mod writing;
 
 pub use error::FlatError;
+pub use flat_list::FlatList;
 pub use laws::one_spelling;
 pub use reading::from_flat;
 pub use sz_value::NoMemory;

@@ -4,6 +4,7 @@ ghost use Rattle.sz_value.specs.Data.{Datum};
 ghost use Rattle.sz_value.specs.Seen.{seen, seen_pair, seen_pairs};
 ghost use Rattle.sz_flat.specs.declared.error.FlatError.TheVariants as errors;
 ghost use Rattle.sz_flat.specs.Spelling.{Spells};
+ghost use Rattle.sz_flat.specs.Lists.{SpellsAll, SpellNone};
 ghost use Rattle.sz_flat.specs.Reading.{Reads, values, pair, all_of};
 
 use crate::error::FlatError;
@@ -21,6 +22,21 @@ pub fn from_flat(alloc: Global, flat: &[u8]) -> Result<Value, FlatError>
         return Err(FlatError::NotFlat);
     }
     Ok(value)
+}
+
+// The values that the bytes spell, one behind the other.
+pub(crate) fn read_all(alloc: Global, flat: &[u8]) -> Result<List, FlatError>
+    ensures value { IfOk result (λ list. SpellsAll flat.now list) }
+    ensures not_flat { IsErrOf result errors.NotFlat → SpellNone flat.now }
+{
+    let mut held = Vec::new(alloc);
+    let mut rest = flat;
+    while !rest.is_empty() {
+        let (value, after) = read_value(alloc, rest)?;
+        held.push(value)?;
+        rest = after;
+    }
+    Ok(List::from_vec(held))
 }
 
 // The value in front.

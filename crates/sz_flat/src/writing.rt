@@ -67,7 +67,7 @@ fn spell_map(pairs: &Pairs, out: &mut Vec<u8>) -> Result<(), NoMemory>
 
 // Appends the spelling of each part.
 #[cycle(spell)]
-fn spell_parts(parts: &[Value], out: &mut Vec<u8>) -> Result<(), NoMemory>
+pub(crate) fn spell_parts(parts: &[Value], out: &mut Vec<u8>) -> Result<(), NoMemory>
     requires short { All (λ v. HasShortLengths (seen v)) parts.now }
     ensures value { OnOk result (Adds (all_of values (length parts.now)) out.old.items out.new.items (map seen parts.now)) }
 {

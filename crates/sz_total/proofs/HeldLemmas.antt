@@ -6,12 +6,13 @@ use Rattle.std.specs.Map.{keys_of, values_of, lookup, set_value}
 use Rattle.std.specs.BTreeSet.{insert_key}
 use Rattle.std.proofs.lemmas.Bool.{eq-eqb}
 use Rattle.std.proofs.lemmas.List.{map-append}
-use Rattle.std.proofs.lemmas.List.Elements.{All-push, All-weaker}
+use Rattle.std.proofs.lemmas.List.Elements.{All-nil, All-push, All-weaker}
 use Rattle.std.proofs.lemmas.Map.{keys-set_value, lookup-set_value}
 use Rattle.std.proofs.lemmas.Map.Made.{is_some-lookup}
 use Rattle.std.proofs.lemmas.Map.Views.{IfSome-lookup_from_All, All-values-set_value}
 use Rattle.sz_types.specs.Tables.{Declaration}
 use Rattle.sz_value.specs.Data.{Datum}
+use Rattle.sz_flat.specs.Spelling.{HasShortLengths}
 use Rattle.sz_tabs.specs.Data.{EmitDatum, Weighted}
 use Rattle.sz_tabs.specs.Aggregating.{StandsFor, IsNew, Gains}
 use Rattle.sz_tabs.specs.Rows.{compare_indexes, brought_by, brought_to, rows_of}
@@ -88,13 +89,15 @@ gained table old new emit emits others declared gains stands shown =
 
 -- an aggregator that takes an emit is one of the table
 held_more : (table : Declaration) (count : ℕ) (old new : Aggregate) (emit : Weighted) → IsHeld table count old
-    → Gains declaration_of count_of shown_of old new emit → family_of new ≡ family_of old → IsHeld table (count + 1) new
-held_more table count old new emit held gains family = record {
+    → Gains declaration_of count_of shown_of old new emit → family_of new ≡ family_of old → HasShortLengths emit.value
+    → IsHeld table (count + 1) new
+held_more table count old new emit held gains family short = record {
   declared = gains.same_table ∙ held.declared;
   family = family ∙ held.family;
   few = omega (arith, held.few, gains.one_more);
   emits = held.emits ++ emit ∷ [];
   stands = gains.appended held.emits held.stands;
+  short = All-push (λ (w : Weighted). HasShortLengths w.value) held.emits emit held.short short;
 }
 
 -- a new one is one of the table
@@ -106,6 +109,7 @@ held_new table a new family = record {
   few = omega (arith, new.empty.counted);
   emits = [];
   stands = new.empty;
+  short = All-nil (λ (w : Weighted). HasShortLengths w.value);
 }
 
 longer_one : (table : Declaration) (few many : ℕ) → few ≤ many → (a : Aggregate) → IsHeld table few a → IsHeld table many a
@@ -115,6 +119,7 @@ longer_one table few many more a is = record {
   few = omega (arith, is.few, more);
   emits = is.emits;
   stands = is.stands;
+  short = is.short;
 }
 
 pub held_longer : (table : Declaration) (few many : ℕ) → few ≤ many → (held : Held) → AreHeld table few held → AreHeld table many held
@@ -137,7 +142,8 @@ found_replaced indexes others held old new there =
 
 -- an aggregator that is there takes the emit
 module _ (table : Declaration) (emit : EmitDatum) (held : Held) (old new : Aggregate) (there : lookup (same_indexes emit.indexes) held ≡ Some old)
-    (gains : Gains declaration_of count_of shown_of old new (brought_by emit)) (family : family_of new ≡ family_of old) where
+    (gains : Gains declaration_of count_of shown_of old new (brought_by emit)) (family : family_of new ≡ family_of old)
+    (short : HasShortLengths emit.value) where
   abbrev set_now : Held
   set_now = set_value (same_indexes emit.indexes) held new
 
@@ -160,7 +166,7 @@ module _ (table : Declaration) (emit : EmitDatum) (held : Held) (old new : Aggre
         found_now indexes ∙ ap (λ b. option_map_or shown_of (cond b (Some new) (lookup (same_indexes indexes) held)) []) other;
     held = λ most all.
         All-values-set_value (same_indexes emit.indexes) (IsHeld table (most + 1)) held new (held_longer table most (most + 1) (omega arith) held all)
-        (held_more table most old new (brought_by emit) (held_there table most emit.indexes held old all there) gains family);
+        (held_more table most old new (brought_by emit) (held_there table most emit.indexes held old all there) gains family short);
   }
 
 -- look-ups in front of one entry more
@@ -182,7 +188,8 @@ found_last test (h ∷ hs) k a same none = by_test (test h.0) none (found_last t
 -- a new aggregator takes the emit, and stands behind the others
 module _ (table : Declaration) (emit : EmitDatum) (held : Held) (old new : Aggregate) (none : lookup (same_indexes emit.indexes) held ≡ None)
     (is_new : IsNew declaration_of count_of shown_of table old) (is_of : family_of old ≡ family_for table.kind)
-    (gains : Gains declaration_of count_of shown_of old new (brought_by emit)) (family : family_of new ≡ family_of old) where
+    (gains : Gains declaration_of count_of shown_of old new (brought_by emit)) (family : family_of new ≡ family_of old)
+    (short : HasShortLengths emit.value) where
   pub taken_new : TakesEmit table emit held (held ++ (emit.indexes, new) ∷ [])
   taken_new = record {
     indexes =
@@ -198,5 +205,5 @@ module _ (table : Declaration) (emit : EmitDatum) (held : Held) (old new : Aggre
     held = λ most all.
         subst (All (IsHeld table (most + 1))) (sym (map-append (λ (p : List Datum × Aggregate). p.1) held ((emit.indexes, new) ∷ [])))
         (All-push (IsHeld table (most + 1)) (values_of held) new (held_longer table most (most + 1) (omega arith) held all)
-        (longer_one table 1 (most + 1) (omega arith) new (held_more table 0 old new (brought_by emit) (held_new table old is_new is_of) gains family)));
+        (longer_one table 1 (most + 1) (omega arith) new (held_more table 0 old new (brought_by emit) (held_new table old is_new is_of) gains family short)));
   }

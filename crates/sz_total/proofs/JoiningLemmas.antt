@@ -5,13 +5,14 @@ use Rattle.std.specs.Option.{option_map_or}
 use Rattle.std.specs.List.{AllByRecursion, IsDistinct}
 use Rattle.std.specs.Map.{keys_of, values_of, lookup, set_value}
 use Rattle.std.proofs.lemmas.List.{map-append, append-nil}
-use Rattle.std.proofs.lemmas.List.Elements.{All-head, All-tail, All-push, filter-append}
+use Rattle.std.proofs.lemmas.List.Elements.{All-head, All-tail, All-push, All-append, filter-append}
 use Rattle.std.proofs.lemmas.Map.{keys-set_value}
 use Rattle.std.proofs.lemmas.Map.Keys.{IsDistinct-head, IsDistinct-tail}
 use Rattle.std.proofs.lemmas.Map.Made.{is_some-lookup}
 use Rattle.std.proofs.lemmas.Map.Views.{IfSome-lookup_from_All, All-values-set_value}
 use Rattle.sz_types.specs.Tables.{Declaration}
 use Rattle.sz_value.specs.Data.{Datum}
+use Rattle.sz_flat.specs.Spelling.{HasShortLengths}
 use Rattle.sz_tabs.specs.Data.{EmitDatum, Weighted}
 use Rattle.sz_tabs.specs.Rows.{compare_indexes, brought_to, rows_of}
 use Rattle.sz_tabs.specs.Sorting.{distinct}
@@ -53,6 +54,7 @@ held_changed table count old new changes is = record {
     rows = changes.rows ∙ is.stands.rows ∙ ap (λ d. rows_of d is.emits) (sym changes.declared);
     counted = changes.count ∙ is.stands.counted;
   };
+  short = is.short;
 }
 
 module _ (indexes : List Datum) (held : Held) (old new : Aggregate) (there : lookup (same_indexes indexes) held ≡ Some old)
@@ -218,6 +220,7 @@ module _ (table : Declaration) (count : ℕ) (indexes : List Datum) (other : Agg
     few = omega (arith, may.few, joined.joins.both_counts);
     emits = mine.emits ++ is.emits;
     stands = joined.joins.joined mine.emits is.emits mine.stands is.stands;
+    short = All-append (λ (w : Weighted). HasShortLengths w.value) mine.emits is.emits mine.short is.short;
   }
 
   rows_joined : (front behind : List Weighted) → rows_held held indexes ≡ rows_of table front → shown_of other ≡ rows_of table behind

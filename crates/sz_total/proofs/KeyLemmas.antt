@@ -1,99 +1,70 @@
--- Look-ups of keys are look-ups by their plain data.
+-- The first key, and the keys in value order.
 use Rattle.std.proofs.Common.{Result, Ok, Err, IsOk, IfOk, OnOk, Option, None, ℕ, ◌+◌, if◌then◌else◌, is_some, true≢false, option_map, slice_get}
-use Rattle.std.proofs.Common.{◌≡◌, ◌∙◌, Bool, true, false, cond, Some, List, [], ◌∷◌, map, refl, sym, ap, subst, is_eq, Ordering, IsSorted}
-use Rattle.std.specs.Borrow.{Bor}
-use Rattle.std.specs.Cmp.{on_total}
-use Rattle.std.specs.Cmp.Lexicographic.{pointwise, slice_cmp, lists_ties}
+use Rattle.std.proofs.Common.{◌≡◌, ◌∙◌, Bool, true, false, cond, Some, List, [], ◌∷◌, map, refl, sym, ap, subst, Ordering, IsSorted, is_lt}
+use Rattle.std.specs.Cmp.Lexicographic.{slice_cmp}
 use Rattle.std.specs.Cmp.Derive.Mapped.{lex_map}
-use Rattle.std.specs.Global.{Vec}
+use Rattle.std.specs.Cmp.{on_total, IsStrictWeakOrder}
 use Rattle.std.specs.List.{IsDistinct, AllByRecursion}
 use Rattle.std.specs.List.Sorted.{IsStable}
-use Rattle.std.specs.Ordering.{on}
+use Rattle.std.proofs.lemmas.List.MinMax.{ranks_by}
+use Rattle.std.specs.Option.{option_map_or}
 use Rattle.std.specs.Map.{keys_of, lookup, set_value}
 use Rattle.indexmap.specs.IndexMap.{set_value_at}
-use Rattle.std.proofs.lemmas.Map.Keys.{IsDistinct-head, IsDistinct-tail, IsDistinct-cons}
+use Rattle.std.proofs.lemmas.Map.Keys.{IsDistinct-head, IsDistinct-tail}
 use Rattle.sz_value.specs.Data.{Datum}
 use Rattle.sz_value.specs.Order.{compare}
 use Rattle.sz_value.specs.Seen.{seen}
 use Rattle.sz_value.specs.declared.value.Value.{Value}
 use Rattle.sz_tabs.specs.Rows.{compare_indexes}
-use Rattle.sz_tabs.specs.Sorting.{sorted}
+use Rattle.sz_tabs.specs.Sorting.{sorted, distinct}
 use Rattle.sz_tabs.proofs.ForCallers.{stable_sort_is_sorted, sorted_mapped}
-use Rattle.sz_total.specs.Held.{key_data, seen_key, held_of, same_indexes}
+use Rattle.sz_total.specs.Aggregates.{shown_of}
+use Rattle.sz_total.specs.Tables.{Indexed}
+use Rattle.sz_total.specs.Held.{Held, same_indexes, indexed, entry_rows, rows_in_order}
 use Rattle.sz_total.specs.declared.aggregate.Aggregate.{Aggregate}
 use Rattle.sz_total.proofs.TablesLemmas.{indexes_total}
+use Rattle.sz_total.proofs.ListLemmas.{same_laws, distinct_apart}
 
--- whether a key is one of these values
-abbrev pub asked : List Value → Vec Value → Bool
-asked query key = pointwise (λ v w. is_eq (compare (seen v) (seen w))) query key.items
+-- how lists of values compare, seen as plain data
+pub lists_compare : (xs ys : List Value) → slice_cmp (λ v w. compare (seen v) (seen w)) xs ys ≡ compare_indexes (map seen xs) (map seen ys)
+lists_compare xs ys = sym (lex_map seen compare xs ys)
 
-asked_of : (query : List Value) (key : Vec Value) → asked query key ≡ same_indexes (map seen query) (key_data key)
-asked_of query key =
-    lists_ties (λ v w. compare (seen v) (seen w)) (λ v w. refl) query key.items ∙ sym (ap is_eq (lex_map seen compare query key.items))
+-- an index list in front has no rows under others
+rows_behind : (key : List Datum) (a : Aggregate) (held : Held) (ks : List (List Datum)) → AllByRecursion (λ l. same_indexes key l ≡ false) ks
+    → map (indexed ((key, a) ∷ held)) ks ≡ map (indexed held) ks
+rows_behind key a held [] apart = refl
+rows_behind key a held (k ∷ ks) apart =
+    let other = same_laws.symm k key ∙ apart.0 in
+    λ i. record { indexes = k; rows = option_map_or shown_of (cond (other i) (Some a) (lookup (same_indexes k) held)) [] } ∷ rows_behind key a held ks apart.1 i
 
-asked_is : (query : List Value) → asked query ≡ (λ key. same_indexes (map seen query) (key_data key))
-asked_is query = λ i key. asked_of query key i
+-- what stands under each index list is what its aggregator shows, where no two index lists are the same
+pub entries_indexed : (held : Held) → IsDistinct same_indexes (keys_of held) → map entry_rows held ≡ map (indexed held) (keys_of held)
+entries_indexed [] apart = refl
+entries_indexed (h ∷ hs) apart =
+    let same = same_laws.refl h.0 in
+    let behind = entries_indexed hs (IsDistinct-tail same_indexes h.0 (keys_of hs) apart)
+    ∙ sym (rows_behind h.0 h.1 hs (keys_of hs) (IsDistinct-head same_indexes h.0 (keys_of hs) apart)) in
+    λ i. record { indexes = h.0; rows = option_map_or shown_of (cond (sym same i) (Some h.1) (lookup (same_indexes h.0) hs)) [] } ∷ behind i
 
--- look-ups by the plain data of the keys
-lookup_data : (indexes : List Datum) (es : List (Vec Value × Aggregate))
-    → lookup (same_indexes indexes) (held_of es) ≡ lookup (λ key. same_indexes indexes (key_data key)) es
-lookup_data indexes [] = refl
-lookup_data indexes (e ∷ es) = ap (cond (same_indexes indexes (key_data e.0)) (Some e.1)) (lookup_data indexes es)
+-- how rows compare by their index lists
+abbrev pub rows_order : Indexed → Indexed → Ordering
+rows_order s t = compare_indexes s.indexes t.indexes
 
-set_data : (indexes : List Datum) (es : List (Vec Value × Aggregate)) (a : Aggregate)
-    → held_of (set_value (λ key. same_indexes indexes (key_data key)) es a) ≡ set_value (same_indexes indexes) (held_of es) a
-set_data indexes [] a = refl
-set_data indexes (e ∷ es) a = by_test (same_indexes indexes (key_data e.0)) (set_data indexes es a)
-  where
-    by_test : (b : Bool) → held_of (set_value (λ key. same_indexes indexes (key_data key)) es a) ≡ set_value (same_indexes indexes) (held_of es) a
-        → held_of (cond b ((e.0, a) ∷ es) (e ∷ set_value (λ key. same_indexes indexes (key_data key)) es a))
-        ≡ cond b ((key_data e.0, a) ∷ held_of es) ((key_data e.0, e.1) ∷ set_value (same_indexes indexes) (held_of es) a)
-    by_test true behind = refl
-    by_test false behind = ap (λ l. (key_data e.0, e.1) ∷ l) behind
+-- whether the index list of the one is less
+abbrev pub rows_less : Indexed → Indexed → Bool
+rows_less s t = is_lt (rows_order s t)
 
--- what is found, and what is written
-pub lookup_asked : (query : List Value) (es : List (Vec Value × Aggregate))
-    → lookup (asked query) es ≡ lookup (same_indexes (map seen query)) (held_of es)
-lookup_asked query es = ap (λ t. lookup t es) (asked_is query) ∙ sym (lookup_data (map seen query) es)
+pub rows_ordered : IsStrictWeakOrder rows_less
+rows_ordered = ranks_by indexes_total (λ (s : Indexed). s.indexes)
 
-pub set_asked : (query : List Value) (es : List (Vec Value × Aggregate)) (a : Aggregate)
-    → held_of (set_value (asked query) es a) ≡ set_value (same_indexes (map seen query)) (held_of es) a
-set_asked query es a = ap (λ t. held_of (set_value t es a)) (asked_is query) ∙ set_data (map seen query) es a
-
--- keys that are apart have index lists that are
-pub keys_apart : (es : List (Vec Value × Aggregate)) → IsDistinct (λ k l. asked k.items l) (keys_of es)
-    → IsDistinct same_indexes (keys_of (held_of es))
-unfolding IsDistinct
-keys_apart [] apart = apart
-keys_apart (e ∷ es) apart =
-    IsDistinct-cons same_indexes (key_data e.0) (keys_of (held_of es))
-    (others es (IsDistinct-head (λ k l. asked k.items l) e.0 (keys_of es) apart))
-    (keys_apart es (IsDistinct-tail (λ k l. asked k.items l) e.0 (keys_of es) apart))
-  where
-    others : (es : List (Vec Value × Aggregate)) → AllByRecursion (λ k. asked e.0.items k ≡ false) (keys_of es)
-        → AllByRecursion (λ l. same_indexes (key_data e.0) l ≡ false) (keys_of (held_of es))
-    others [] all = tt
-    others (f ∷ fs) all = (sym (asked_of e.0.items f.0) ∙ all.0, others fs all.1)
-
--- the plain data of the keys
-pub keys_data : (es : List (Vec Value × Aggregate)) → map key_data (keys_of es) ≡ keys_of (held_of es)
-keys_data [] = refl
-keys_data (e ∷ es) = ap (λ l. key_data e.0 ∷ l) (keys_data es)
-
--- how keys that are lent compare
-abbrev pub key_order : Bor (Vec Value) → Bor (Vec Value) → Ordering
-key_order k l = slice_cmp (λ v w. compare (seen v) (seen w)) k.now.items l.now.items
-
-order_is : key_order ≡ on seen_key compare_indexes
-order_is = λ i k l. sym (lex_map seen compare k.now.items l.now.items) i
-
--- what a stable sort leaves of keys that are lent
-pub keys_sorted : (old new : List (Bor (Vec Value))) → IsSorted key_order new → IsStable key_order old new
-    → map seen_key new ≡ sorted compare_indexes (map seen_key old)
-keys_sorted old new in_order stable =
-    ap (map seen_key) (stable_sort_is_sorted (on_total seen_key indexes_total) old new (subst (λ o. IsSorted o new) order_is in_order)
-    (subst (λ o. IsStable o old new) order_is stable))
-    ∙ sym (sorted_mapped compare_indexes seen_key old)
+-- what a stable sort leaves
+pub rows_sorted : (held : Held) (old new : List Indexed) → IsDistinct same_indexes (keys_of held) → old ≡ map entry_rows held → IsSorted rows_order new
+    → IsStable rows_order old new → new ≡ rows_in_order held
+rows_sorted held old new apart are in_order stable =
+    stable_sort_is_sorted (on_total (λ (s : Indexed). s.indexes) indexes_total) old new in_order stable
+    ∙ ap (sorted rows_order) (are ∙ entries_indexed held apart)
+    ∙ sorted_mapped rows_order (indexed held) (keys_of held)
+    ∙ ap (map (indexed held)) (sym (distinct_apart (keys_of held) apart))
 
 -- what a sure answer says
 pub surely : {T E P : Type 0} (r : Result T E) → IsOk r → OnOk r P → P
@@ -106,31 +77,29 @@ pub one_longer : {V E : Type 0} (r : Result (Option V) E) (found : Option V) (be
 one_longer (Ok x) found before after is none long = long ∙ ap (λ o. before + (if is_some o then 0 else 1)) (is ∙ none)
 one_longer (Err e) found before after is none long = tt
 
--- the plain data of the first key
-pub first_key : (es : List (Vec Value × Aggregate)) (key : Vec Value) (a : Aggregate) → Some (key, a) ≡ slice_get es 0 → key.items ≡ []
-    → slice_get (keys_of (held_of es)) 0 ≡ Some []
+-- the first key, where it is empty
+pub first_key : (es : Held) (key : List Datum) (a : Aggregate) → Some (key, a) ≡ slice_get es 0 → key ≡ [] → slice_get (keys_of es) 0 ≡ Some []
 first_key [] key a there none = absurd (cc)
-first_key (e ∷ es) key a there none =
-    sym (ap (option_map (λ (p : Vec Value × Aggregate). key_data p.0)) there) ∙ ap (λ vs. Some (map seen vs)) none
+first_key (e ∷ es) key a there none = sym (ap (option_map (λ (p : List Datum × Aggregate). p.0)) there) ∙ ap Some none
 
 -- what is known of the first aggregator, where its index list is empty
-pub record IsFirst (es : List (Vec Value × Aggregate)) (a : Aggregate) : Type 0 where
-  pub found : lookup (same_indexes []) (held_of es) ≡ Some a
-  pub written : (new : Aggregate) → held_of (set_value_at es 0 new) ≡ set_value (same_indexes []) (held_of es) new
+pub record IsFirst (es : Held) (a : Aggregate) : Type 0 where
+  pub found : lookup (same_indexes []) es ≡ Some a
+  pub written : (new : Aggregate) → set_value_at es 0 new ≡ set_value (same_indexes []) es new
   pub same : set_value_at es 0 a ≡ es
 
 some_same : {T : Type 0} (x y : T) → Some x ≡ Some y → x ≡ y
 some_same x y e = cc
 
-pub is_first : (es : List (Vec Value × Aggregate)) (key : Vec Value) (a : Aggregate) → slice_get es 0 ≡ Some (key, a)
-    → slice_get (keys_of (held_of es)) 0 ≡ Some [] → IsFirst es a
+pub is_first : (es : Held) (key : List Datum) (a : Aggregate) → slice_get es 0 ≡ Some (key, a)
+    → slice_get (keys_of es) 0 ≡ Some [] → IsFirst es a
 is_first [] key a there none = absurd (cc)
 is_first (e ∷ es) key a there none = record {
   found =
-      ap (λ k. cond (same_indexes [] k) (Some e.1) (lookup (same_indexes []) (held_of es))) (some_same _ _ none)
-      ∙ ap (option_map (λ (p : Vec Value × Aggregate). p.1)) there;
+      ap (λ k. cond (same_indexes [] k) (Some e.1) (lookup (same_indexes []) es)) (some_same _ _ none)
+      ∙ ap (option_map (λ (p : List Datum × Aggregate). p.1)) there;
   written = λ new.
-      (λ i. (some_same _ _ none i, new) ∷ held_of es)
-      ∙ sym (ap (λ k. cond (same_indexes [] k) ((k, new) ∷ held_of es) ((k, e.1) ∷ set_value (same_indexes []) (held_of es) new)) (some_same _ _ none));
-  same = ap (λ b. (e.0, b) ∷ es) (sym (ap (λ (p : Vec Value × Aggregate). p.1) (some_same _ _ there)));
+      (λ i. (some_same _ _ none i, new) ∷ es)
+      ∙ sym (ap (λ k. cond (same_indexes [] k) ((k, new) ∷ es) ((k, e.1) ∷ set_value (same_indexes []) es new)) (some_same _ _ none));
+  same = ap (λ b. (e.0, b) ∷ es) (sym (ap (λ (p : List Datum × Aggregate). p.1) (some_same _ _ there)));
 }

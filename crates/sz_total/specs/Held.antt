@@ -2,18 +2,15 @@
 use Rattle.std.specs.Prelude.{◌≡◌, ◌≤◌, ◌+◌, ℕ, Bool, false, List, [], ◌∷◌, ◌++◌, map, All}
 use Rattle.std.specs.Ordering.{is_eq}
 use Rattle.std.specs.Option.{option_map_or}
-use Rattle.std.specs.Borrow.{Bor}
-use Rattle.std.specs.Global.{Vec}
 use Rattle.std.specs.Map.{keys_of, values_of, lookup}
 use Rattle.std.specs.BTreeSet.{insert_key}
 use Rattle.sz_types.specs.Tables.{Declaration}
 use Rattle.sz_value.specs.Data.{Datum}
-use Rattle.sz_value.specs.Seen.{seen}
-use Rattle.sz_value.specs.declared.value.Value.{Value}
 use Rattle.sz_tabs.specs.Data.{EmitDatum, Weighted, RowDatum}
 use Rattle.sz_tabs.specs.Aggregating.{StandsFor}
 use Rattle.sz_tabs.specs.Rows.{compare_indexes, brought_by, rows_of}
 use Rattle.sz_tabs.specs.Sorting.{distinct}
+use Rattle.sz_total.specs.Short.{AreShort}
 use Rattle.sz_total.specs.Tables.{Indexed}
 use Rattle.sz_total.specs.Aggregates.{declaration_of, count_of, shown_of, family_of, family_for}
 use Rattle.sz_total.specs.declared.aggregate.Aggregate.{Aggregate}
@@ -21,18 +18,6 @@ use Rattle.sz_total.specs.declared.aggregate.Aggregate.{Aggregate}
 -- aggregators under their index lists
 abbrev pub Held : Type 0
 Held = List (List Datum × Aggregate)
-
--- the plain data of an index list that is a key
-abbrev pub key_data : Vec Value → List Datum
-key_data key = map seen key.items
-
--- the same of a key that is lent
-abbrev pub seen_key : Bor (Vec Value) → List Datum
-seen_key key = key_data key.now
-
--- what is kept under keys, with their plain data
-abbrev pub held_of : List (Vec Value × Aggregate) → Held
-held_of entries = map (λ e. (key_data e.0, e.1)) entries
 
 -- whether two index lists are the same
 abbrev pub same_indexes : List Datum → List Datum → Bool
@@ -46,17 +31,23 @@ rows_held held indexes = option_map_or shown_of (lookup (same_indexes indexes) h
 abbrev pub indexed : Held → List Datum → Indexed
 indexed held indexes = record { indexes = indexes; rows = rows_held held indexes }
 
+-- an index list with the rows of its aggregator
+abbrev pub entry_rows : List Datum × Aggregate → Indexed
+entry_rows entry = record { indexes = entry.0; rows = shown_of entry.1 }
+
 -- the rows under each index list, these in value order
 abbrev pub rows_in_order : Held → List Indexed
 rows_in_order held = map (indexed held) (distinct compare_indexes (keys_of held))
 
--- the aggregator is one of the table and of the family that its kind needs, counts at most so many emits, and stands for some list of emits
+-- the aggregator is one of the table and of the family that its kind needs, counts at most so many emits, and stands for some list of
+-- emits whose values have short lengths
 pub record IsHeld (table : Declaration) (count : ℕ) (aggregate : Aggregate) : Type 0 where
   pub declared : declaration_of aggregate ≡ table
   pub family : family_of aggregate ≡ family_for table.kind
   pub few : count_of aggregate ≤ count
   pub emits : List Weighted
   pub stands : StandsFor declaration_of count_of shown_of aggregate emits
+  pub short : AreShort emits
 
 -- each aggregator is such
 abbrev pub AreHeld : Declaration → ℕ → Held → Type 0

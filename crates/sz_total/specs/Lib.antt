@@ -3,6 +3,7 @@ pub mod Tables
 pub mod Totals
 pub mod Laws
 pub mod Weights
+pub mod Short
 pub mod States
 -- what the functions inside the crate promise each other
 pub mod Aggregates

@@ -3,20 +3,20 @@ ghost use Rattle.std.specs.Prelude.{◌≡◌, ◌<◌, ◌≤◌, ◌+◌, ◌+
 ghost use Rattle.std.specs.Map.{lookup};
 ghost use Rattle.indexmap.specs.IndexMap.{index_map_len, spare};
 ghost use Rattle.sz_total.specs.Aggregates.{family_of};
-ghost use Rattle.sz_total.specs.Held.{held_of, key_data, same_indexes};
+ghost use Rattle.sz_total.specs.Held.{same_indexes};
 ghost use Rattle.sz_total.specs.Joining.{GainsRoom, LooksTheSame, HasRoomUnder, HaveRoomFor, MayTakeUnder, AreAlike, AreReady, TakesOne, JoinsHeld};
 
 use crate::aggregate::{Aggregate, merge_into, reserve_for};
 use crate::lists::Lists;
+use sz_flat::FlatList;
 use sz_tabs::NoMemory;
-use sz_value::Value;
 
 // Makes room for a merge of the other side: for its index lists, and in the aggregators that both sides have.
 pub(crate) fn make_room<'a>(lists: &mut Lists<'a>, others: &Lists<'a>) -> Result<(), NoMemory>
-    requires alike { AreAlike (held_of lists.old.entries) (held_of others.now.entries) }
-    ensures ok { OnOk result (HaveRoomFor (held_of lists.new.entries) (held_of others.now.entries)) }
+    requires alike { AreAlike lists.old.entries others.now.entries }
+    ensures ok { OnOk result (HaveRoomFor lists.new.entries others.now.entries) }
     ensures spare { OnOk result (index_map_len others.now ≤ spare lists.new) }
-    ensures kept { LooksTheSame (held_of lists.old.entries) (held_of lists.new.entries) }
+    ensures kept { LooksTheSame lists.old.entries lists.new.entries }
     ensures capacity { index_map_len lists.old + spare lists.old ≤ index_map_len lists.new + spare lists.new }
 {
     lists.reserve(others.len())?;
@@ -25,9 +25,9 @@ pub(crate) fn make_room<'a>(lists: &mut Lists<'a>, others: &Lists<'a>) -> Result
 
 // Makes room in the aggregators that both sides have.
 fn make_room_in_each<'a>(lists: &mut Lists<'a>, others: &Lists<'a>) -> Result<(), NoMemory>
-    requires alike { AreAlike (held_of lists.old.entries) (held_of others.now.entries) }
-    ensures ok { OnOk result (HaveRoomFor (held_of lists.new.entries) (held_of others.now.entries)) }
-    ensures kept { LooksTheSame (held_of lists.old.entries) (held_of lists.new.entries) }
+    requires alike { AreAlike lists.old.entries others.now.entries }
+    ensures ok { OnOk result (HaveRoomFor lists.new.entries others.now.entries) }
+    ensures kept { LooksTheSame lists.old.entries lists.new.entries }
     ensures len { index_map_len lists.new ≡ index_map_len lists.old }
     ensures spare { spare lists.new ≡ spare lists.old }
 {
@@ -40,12 +40,12 @@ fn make_room_in_each<'a>(lists: &mut Lists<'a>, others: &Lists<'a>) -> Result<()
 // Makes room for the other aggregator in that under its index list, if there is one.
 fn make_room_under<'a>(
     lists: &mut Lists<'a>,
-    key: &Vec<Value>,
+    key: &FlatList,
     other: &Aggregate<'a>,
 ) -> Result<(), NoMemory>
-    requires alike { IfSome (lookup (same_indexes (key_data key.now)) (held_of lists.old.entries)) (λ own. family_of other.now ≡ family_of own) }
-    ensures ok { OnOk result (HasRoomUnder (held_of lists.new.entries) (key_data key.now, other.now)) }
-    ensures kept { GainsRoom (key_data key.now) (held_of lists.old.entries) (held_of lists.new.entries) }
+    requires alike { IfSome (lookup (same_indexes key.now) lists.old.entries) (λ own. family_of other.now ≡ family_of own) }
+    ensures ok { OnOk result (HasRoomUnder lists.new.entries (key.now, other.now)) }
+    ensures kept { GainsRoom key.now lists.old.entries lists.new.entries }
     ensures len { index_map_len lists.new ≡ index_map_len lists.old }
     ensures spare { spare lists.new ≡ spare lists.old }
 {
@@ -57,9 +57,9 @@ fn make_room_under<'a>(
 
 // Takes each aggregator of the other side. There is room for them.
 pub(crate) fn take_all<'a>(lists: &mut Lists<'a>, others: Lists<'a>)
-    requires ready { AreReady (2 ^ 63) (held_of lists.old.entries) (held_of others.entries) }
+    requires ready { AreReady (2 ^ 63) lists.old.entries others.entries }
     requires room { index_map_len others ≤ spare lists.old }
-    ensures value { JoinsHeld (held_of others.entry.entries) (held_of lists.old.entries) (held_of lists.new.entries) }
+    ensures value { JoinsHeld others.entry.entries lists.old.entries lists.new.entries }
     ensures capacity { index_map_len lists.old + spare lists.old ≤ index_map_len lists.new + spare lists.new }
 {
     for (key, other) in others {
@@ -68,10 +68,10 @@ pub(crate) fn take_all<'a>(lists: &mut Lists<'a>, others: Lists<'a>)
 }
 
 // Joins the other aggregator with that under its index list, or puts it there. There is room for it.
-fn take<'a>(lists: &mut Lists<'a>, key: Vec<Value>, other: Aggregate<'a>)
-    requires may { MayTakeUnder (2 ^ 63) (held_of lists.old.entries) (key_data key, other) }
+fn take<'a>(lists: &mut Lists<'a>, key: FlatList, other: Aggregate<'a>)
+    requires may { MayTakeUnder (2 ^ 63) lists.old.entries (key, other) }
     requires room { 0 < spare lists.old }
-    ensures value { TakesOne (key_data key) other.entry (held_of lists.old.entries) (held_of lists.new.entries) }
+    ensures value { TakesOne key other.entry lists.old.entries lists.new.entries }
     ensures spare { spare lists.old ≤ spare lists.new + 1 }
     ensures capacity { index_map_len lists.old + spare lists.old ≤ index_map_len lists.new + spare lists.new }
 {
@@ -82,10 +82,10 @@ fn take<'a>(lists: &mut Lists<'a>, key: Vec<Value>, other: Aggregate<'a>)
 }
 
 // Puts the other aggregator under its index list, which isn't there. There is room for it.
-fn put<'a>(lists: &mut Lists<'a>, key: Vec<Value>, other: Aggregate<'a>)
-    requires absent { lookup (same_indexes (key_data key)) (held_of lists.old.entries) ≡ None }
+fn put<'a>(lists: &mut Lists<'a>, key: FlatList, other: Aggregate<'a>)
+    requires absent { lookup (same_indexes key) lists.old.entries ≡ None }
     requires room { 0 < spare lists.old }
-    ensures value { held_of lists.new.entries ≡ held_of lists.old.entries ++ (key_data key, other.entry) ∷ [] }
+    ensures value { lists.new.entries ≡ lists.old.entries ++ (key, other.entry) ∷ [] }
     ensures spare { spare lists.old ≤ spare lists.new + 1 }
     ensures capacity { index_map_len lists.old + spare lists.old ≤ index_map_len lists.new + spare lists.new }
 {

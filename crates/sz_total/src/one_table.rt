@@ -4,6 +4,7 @@ ghost use Rattle.sz_types.specs.SeenTables.{seen_table};
 ghost use Rattle.sz_tabs.specs.Fitting.{Fits};
 ghost use Rattle.sz_tabs.specs.Rows.{brought_by};
 ghost use Rattle.sz_total.specs.OneTable.{table_shown, GainsEmit, ChangesRoomAlone, HasRoomToMerge, JoinsTable};
+ghost use Rattle.sz_total.specs.Short.{HasShortParts};
 ghost use Rattle.sz_total.specs.Weights.{HasItsWeights};
 
 use crate::indexed::TableRows;
@@ -12,10 +13,11 @@ use crate::lists::{Lists, all_rows, take_emit};
 use indexmap::IndexMap;
 use std::alloc::Global;
 use std::marker::Model;
+use sz_flat::FlatList;
 use sz_tabs::{Emit, NoMemory};
 use sz_types::TableDecl;
 
-/// What was emitted to one table, index list by index list. Contracts see its declaration, the number of emits, the aggregators,
+/// What was emitted to one table, index list by index list, and the room in which the index list of an emit is spelled. Contracts see its declaration, the number of emits, the aggregators,
 /// and for how many there is room.
 #[derive(Drop)]
 pub(crate) struct OneTable<'a> {
@@ -24,6 +26,7 @@ pub(crate) struct OneTable<'a> {
     count: u64,
     room: usize,
     lists: Lists<'a>,
+    key: FlatList,
 }
 
 impl<'a> Model for OneTable<'a> {
@@ -37,12 +40,11 @@ impl<'a> Model for OneTable<'a> {
     ghost use Rattle.sz_types.specs.SeenTables.{seen_table};
     ghost use Rattle.std.specs.Prelude.{◌+◌};
     ghost use Rattle.indexmap.specs.IndexMap.{index_map_len, spare};
-    ghost use Rattle.sz_total.specs.Held.{held_of};
     ghost use Rattle.sz_total.specs.OneTable.{IsKept};
 
-    ghost view = { λ t. record { table = seen_table t.table.now; count = t.count; held = held_of t.lists.entries; room = t.room } };
+    ghost view = { λ t. record { table = seen_table t.table.now; count = t.count; held = t.lists.entries; room = t.room } };
 
-    ghost invariant = { λ t. IsKept (seen_table t.table.now) t.count (held_of t.lists.entries) t.room (index_map_len t.lists + spare t.lists) };
+    ghost invariant = { λ t. IsKept (seen_table t.table.now) t.count t.lists.entries t.room (index_map_len t.lists + spare t.lists) };
 }
 
 impl<'a> OneTable<'a> {
@@ -57,17 +59,19 @@ impl<'a> OneTable<'a> {
             count: 0,
             room: 0,
             lists: IndexMap::new(alloc),
+            key: FlatList::new(alloc),
         }
     }
 
     /// Adds an emit to this table.
     pub(crate) fn add(&mut self, emit: &Emit) -> Result<(), NoMemory>
         requires fits { Fits self.old.table (brought_by emit.now) }
+        requires short { HasShortParts emit.now }
         requires room { self.old.count < 2 ^ 63 }
         ensures ok { OnOk result (GainsEmit self.old self.new emit.now) }
         ensures err { OnErr result (self.new ≡ self.old) }
     {
-        take_emit(self.alloc, self.table, &mut self.lists, emit)?;
+        take_emit(self.alloc, self.table, &mut self.lists, &mut self.key, emit)?;
         self.count += 1;
         Ok(())
     }

@@ -4,6 +4,7 @@ ghost use Rattle.sz_tabs.specs.Fitting.{IsEmitTo};
 ghost use Rattle.sz_total.specs.OneTable.{new_table, HasRoomFor, GainsAt};
 ghost use Rattle.sz_total.specs.Merging.{AreMatched, IsMatchedAt, HasRoomAt, ChangesRoomAt, ChangeRoomAlone, HaveRoomToMerge};
 ghost use Rattle.sz_total.specs.Merging.{AreFew, MayMergeAt, MergesAt, JoinTables};
+ghost use Rattle.sz_total.specs.Short.{HasShortParts};
 ghost use Rattle.sz_total.specs.States.{declarations, emit_count, shown};
 ghost use Rattle.sz_total.specs.Totals.{IsNew, Gains, Joins};
 ghost use Rattle.sz_total.specs.Weights.{HaveTheirWeights};
@@ -26,6 +27,7 @@ pub struct Total<'a> {
 }
 
 impl<'a> Model for Total<'a> {
+    ghost use Rattle.sz_total.specs.Short.{HasShortParts};
     ghost use Rattle.sz_total.specs.States.{TotalState};
     ghost use Rattle.sz_total.specs.Code.{total_code};
 
@@ -58,6 +60,7 @@ impl<'a> Total<'a> {
     /// Adds an emit to its table.
     pub fn add(&mut self, emit: &Emit) -> Result<(), NoMemory>
         requires fits { IsEmitTo self.old.tables emit.now }
+        requires short { HasShortParts emit.now }
         requires room { self.old.count < 2 ^ 63 }
         ensures ok { OnOk result (Gains declarations emit_count shown self.old self.new emit.now) }
         ensures err { OnErr result (self.new ≡ self.old) }
@@ -115,6 +118,7 @@ fn all_new<'a>(alloc: Global, tables: &'a TableDecls) -> Result<Vec<OneTable<'a>
 // Adds an emit to its table.
 fn add_at<'a>(held: &mut Vec<OneTable<'a>>, emit: &Emit) -> Result<(), NoMemory>
     requires fits { HasRoomFor emit.now held.old.items }
+    requires short { HasShortParts emit.now }
     ensures ok { OnOk result (GainsAt emit.now held.old.items held.new.items) }
     ensures err { OnErr result (held.new.items ≡ held.old.items) }
 {

@@ -12,7 +12,7 @@ use Rattle.sz_tabs.specs.Aggregating.{weighted, Gains}
 use Rattle.sz_tabs.specs.Fitting.{Fits}
 use Rattle.sz_tabs.specs.Rows.{brought_by}
 use Rattle.sz_total.specs.Aggregates.{declaration_of, count_of, shown_of}
-use Rattle.sz_total.specs.Held.{TakesEmit, held_of, same_indexes}
+use Rattle.sz_total.specs.Held.{TakesEmit, same_indexes}
 use Rattle.sz_total.proofs.HeldLemmas.{held_there, taken_there}
 use Rattle.sz_total.proofs.KeyLemmas.{is_first}
 use Rattle.sz_total.proofs.lists.take_emit.Goals as goal
@@ -20,7 +20,7 @@ use Rattle.sz_total.proofs.lists.take_emit.Goals as goal
 pub add_to-requires-clause-fits : goal.add_to-requires-clause-fits
 add_to-requires-clause-fits c =
     let table = seen_table c.args.table.now in
-    let held = held_of c.args.lists.now.entries in
+    let held = c.args.lists.now.entries in
     let old = c.pair_mut-aggregate.result.1.now in
     let none = sym (ap (λ e. e.indexes) c.emit.view_is)
     ∙ nil_from_length c.emit.inside.indexes (eqb-true _ _ (sym c.is_empty.ensures.value ∙ c.if-is_empty.true)) in
@@ -33,7 +33,7 @@ add_to-requires-clause-fits c =
 
 pub add_to-requires-clause-room : goal.add_to-requires-clause-room
 add_to-requires-clause-room c =
-    let held = held_of c.args.lists.now.entries in
+    let held = c.args.lists.now.entries in
     let old = c.pair_mut-aggregate.result.1.now in
     let none = sym (ap (λ e. e.indexes) c.emit.view_is)
     ∙ nil_from_length c.emit.inside.indexes (eqb-true _ _ (sym c.is_empty.ensures.value ∙ c.if-is_empty.true)) in
@@ -48,7 +48,7 @@ returns-then-is_first_without_indexes-clause-ok c =
     let table = seen_table c.args.table.now in
     let emit = c.args.emit.now in
     let new = c.add_to.new.aggregate in
-    let held = held_of c.args.lists.now.entries in
+    let held = c.args.lists.now.entries in
     let old = c.pair_mut-aggregate.result.1.now in
     let none = sym (ap (λ e. e.indexes) c.emit.view_is)
     ∙ nil_from_length c.emit.inside.indexes (eqb-true _ _ (sym c.is_empty.ensures.value ∙ c.if-is_empty.true)) in
@@ -59,7 +59,7 @@ returns-then-is_first_without_indexes-clause-ok c =
     on_ok_weaker c.add_to.result
     (λ gains. subst (TakesEmit table emit held) (sym written)
     (taken_there table emit held old new there
-    (subst (λ e. Gains declaration_of count_of shown_of old new (brought_by e)) c.emit.view_is gains) c.add_to.ensures.family (2 ^ 63 - 1) c.requires.held))
+    (subst (λ e. Gains declaration_of count_of shown_of old new (brought_by e)) c.emit.view_is gains) c.add_to.ensures.family c.requires.short.value (2 ^ 63 - 1) c.requires.held))
     c.add_to.ensures.ok
 
 pub returns-then-is_first_without_indexes-clause-err : goal.returns-then-is_first_without_indexes-clause-err

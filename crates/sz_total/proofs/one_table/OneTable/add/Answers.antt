@@ -1,7 +1,6 @@
 -- The aggregators took the emit.
 use Rattle.std.proofs.Common.{arith}
 use Rattle.sz_types.specs.SeenTables.{seen_table}
-use Rattle.sz_total.specs.Held.{held_of}
 use Rattle.sz_total.proofs.TotalLemmas.{table_gained}
 use Rattle.sz_total.proofs.one_table.OneTable.add.Goals as goal
 
@@ -14,5 +13,5 @@ invariant_of-self-2 c = record {
 
 pub returns-clause-ok : goal.returns-clause-ok
 returns-clause-ok c =
-    table_gained (seen_table c.self.inside.table.now) c.self.inside.count c.args.emit.now (held_of c.self.inside.lists.entries)
-    (held_of c.take_emit.new.lists.entries) c.args.self.now c.self.inside.room c.self.view_is c.in_ok-take_emit.ensures.ok
+    table_gained (seen_table c.self.inside.table.now) c.self.inside.count c.args.emit.now c.self.inside.lists.entries
+    c.take_emit.new.lists.entries c.args.self.now c.self.inside.room c.self.view_is c.in_ok-take_emit.ensures.ok

@@ -9,6 +9,7 @@ add_at-requires c = record {
   fits = room_for c.self.inside.tables.now c.self.inside.count c.self.inside.held.items c.self.invariant c.args.emit.now
       (subst (λ s. IsEmitTo s.tables c.args.emit.now) (sym c.self.view_is) c.requires.fits)
       (subst (λ s. s.count < 2 ^ 63) (sym c.self.view_is) c.requires.room);
+  short = c.requires.short;
 }
 
 pub invariant_of-self-2 : goal.invariant_of-self-2

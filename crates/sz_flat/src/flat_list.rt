@@ -1,0 +1,124 @@
+//! Lists of values that are kept flat.
+ghost use Rattle.std.specs.Prelude.{◌≡◌, ◌==◌, [], length, IfOk, OnOk, OnErr};
+ghost use Rattle.sz_value.specs.Data.{data_of};
+ghost use Rattle.sz_flat.specs.Spelling.{HaveShortLengths};
+ghost use Rattle.sz_flat.specs.Lists.{Spelled, SpellsAll, same_values, list_writes};
+ghost use Rattle.sz_flat.specs.Kept.{spelled_prop, same_values_per, same_values_equiv, same_values_hash_alike};
+
+use crate::NoMemory;
+use crate::error::FlatError;
+use crate::reading::read_all;
+use crate::writing::spell_parts;
+use std::alloc::{AllocError, Global};
+use std::hash::{Hash, Hasher};
+use std::marker::Model;
+use sz_value::List;
+
+/// A list of values, kept as the bytes that spell them, one behind the other. Two lists are equal exactly where their bytes are, so it
+/// is compared and hashed by its bytes.
+///
+/// Contracts see the list of the values as plain data.
+#[derive(Drop)]
+pub struct FlatList {
+    bytes: Vec<u8>,
+    ghost spelled: { Spelled bytes.items } by { spelled_prop bytes.items },
+}
+
+impl Model for FlatList {
+    ghost use Rattle.std.specs.Prelude.{List};
+    ghost use Rattle.sz_value.specs.Data.{Datum};
+    ghost use Rattle.sz_value.specs.Code.{parts_code};
+
+    ghost Value = { List Datum };
+
+    ghost coded = { parts_code };
+
+    ghost view = { λ list. list.spelled.0 };
+}
+
+impl FlatList {
+    /// A list of no values, which takes no memory.
+    pub fn new(alloc: Global) -> FlatList
+        ensures value { result ≡ [] }
+    {
+        FlatList {
+            bytes: Vec::new(alloc),
+        }
+    }
+
+    /// Takes these values in the stead of its own. It keeps its room for the next ones, so it takes memory only where it never had as
+    /// many bytes. Where there is none it has no values.
+    pub fn set(&mut self, values: &List) -> Result<(), NoMemory>
+        requires short { HaveShortLengths (data_of values.now) }
+        ensures ok { OnOk result (self.new ≡ values.now) }
+        ensures err { OnErr result (self.new ≡ []) }
+    {
+        spell_anew(values, &mut self.bytes)
+    }
+
+    /// The same values once more, with room for no others.
+    pub fn copied(&self, alloc: Global) -> Result<FlatList, NoMemory>
+        ensures value { IfOk result (λ list. list ≡ self.now) }
+    {
+        let bytes = Vec::from_slice(alloc, self.bytes.as_slice())?;
+        Ok(FlatList { bytes })
+    }
+
+    /// The values, in order.
+    pub fn values(&self, alloc: Global) -> Result<List, NoMemory>
+        ensures value { IfOk result (λ list. list ≡ self.now) }
+    {
+        match read_all(alloc, self.bytes.as_slice()) {
+            Ok(list) => Ok(list),
+            Err(FlatError::NoMemory) => Err(AllocError),
+            Err(FlatError::NotFlat) => unreachable!(),
+        }
+    }
+
+    /// Whether there are no values.
+    pub fn is_empty(&self) -> bool
+        ensures value { result ≡ (length self.now == 0) }
+    {
+        self.bytes.is_empty()
+    }
+}
+
+// Spells the values in the stead of what the bytes were; where there is no memory, there are no bytes.
+fn spell_anew(values: &List, bytes: &mut Vec<u8>) -> Result<(), NoMemory>
+    requires short { HaveShortLengths (data_of values.now) }
+    ensures ok { OnOk result (SpellsAll bytes.new.items values.now) }
+    ensures err { OnErr result (bytes.new.items ≡ []) }
+{
+    bytes.clear();
+    match spell_parts(values.as_slice(), bytes) {
+        Ok(()) => Ok(()),
+        Err(error) => {
+            bytes.clear();
+            Err(error)
+        }
+    }
+}
+
+impl PartialEq for FlatList {
+    ghost eq = { same_values };
+
+    ghost laws = { same_values_per };
+
+    fn eq(&self, other: &FlatList) -> bool {
+        self.bytes.as_slice() == other.bytes.as_slice()
+    }
+}
+
+impl Eq for FlatList {
+    ghost laws = { same_values_equiv };
+}
+
+impl Hash for FlatList {
+    ghost hash_input = { list_writes };
+
+    ghost respects_eq = { same_values_hash_alike };
+
+    fn hash<H: Hasher>(&self, state: &mut H) {
+        state.write(self.bytes.as_slice());
+    }
+}

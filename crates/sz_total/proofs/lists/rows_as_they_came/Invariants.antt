@@ -1,0 +1,7 @@
+-- There are rows of each entry so far.
+use Rattle.std.proofs.Common.{◌≡◌, ◌++◌, map}
+use Rattle.sz_total.specs.Held.{entry_rows}
+use Rattle.sz_total.proofs.lists.rows_as_they_came.Given as goal
+
+abbrev pub invariant-loop-key : goal.invariant-loop-key
+invariant-loop-key l = l.rows.items ++ map entry_rows l.key-iterator ≡ map entry_rows l.lists.entries
