@@ -1,6 +1,8 @@
 pub mod MeansLemmas
 pub mod DeathLemmas
 pub mod ListedLemmas
+pub mod PaidLemmas
+pub mod ShortLemmas
 pub mod RunLemmas
 pub mod EndLemmas
 pub mod WeightLemmas

@@ -18,6 +18,7 @@ use Rattle.sz_machine.proofs.EmitsFit.{emits_fit}
 use Rattle.sz_run.specs.declared.ends.RunEnd.{RunEnd}
 use Rattle.sz_run.specs.Ends.{seen_end, RunEnds}
 use Rattle.sz_gen_stmt.specs.Compiled.{IsCompiled}
+use Rattle.sz_total.specs.Short.{HasShortParts}
 use Rattle.sz_total.specs.Totals.{StandsFor, Gains}
 use Rattle.sz_total.specs.States.{TotalState, declarations, emit_count, shown}
 use Rattle.sz_attempt.specs.declared.job.Job.{Job}
@@ -26,6 +27,8 @@ use Rattle.sz_attempt.specs.Shards.{IsJob, IsShardIn, records_of}
 use Rattle.sz_attempt.specs.Attempts.{means}
 use Rattle.sz_attempt.specs.Ends.{StandForEmits}
 use Rattle.sz_attempt.specs.Running.{GainsAll, HoldsNothing}
+use Rattle.sz_attempt.proofs.PaidLemmas.{emits_paid}
+use Rattle.sz_attempt.proofs.ShortLemmas.{emits_short}
 use Rattle.sz_attempt.proofs.MeansLemmas.{means_more, means_fault, fault_stays, take_of_take, length-take_within}
 
 -- one item more of a list in front
@@ -86,6 +89,10 @@ module _ (old now : TotalState) (es : List EmitDatum) (i : ℕ) (e : EmitDatum) 
   next_fits all =
       subst (λ ts. IsEmitTo ts e) (sym h.tables) (subst (IsEmitTo old.tables) (sym is) (All-get_or (IsEmitTo old.tables) es i e there all))
 
+  -- and has short lengths
+  pub next_short : All HasShortParts es → HasShortParts e
+  next_short all = subst HasShortParts (sym is) (All-get_or HasShortParts es i e there all)
+
   -- and there is room for it
   pub next_has_room : old.count + length es ≤ 2 ^ 63 → now.count < 2 ^ 63
   next_has_room few = omega (arith, there, few, h.count, length-take_within i es (omega (arith, there)))
@@ -120,6 +127,12 @@ module _ (job : Job) (code : Code) (compiled : IsCompiled job.compiled code) (is
   fit_tables es means =
       subst (λ ts. All (IsEmitTo ts) es) compiled.tables
       (emits_fit code input job.statics job.budget es (subst (RunsTo code input job.statics job.budget) means runs))
+
+  -- and have short lengths
+  pub short_of_record : (es : List EmitDatum) → mean job.compiled job.statics job.budget input ≡ Done es → All HasShortParts es
+  short_of_record es means =
+      emits_short job.budget is.budget.most es
+      (emits_paid code input job.statics job.budget es (subst (RunsTo code input job.statics job.budget) means runs))
 
   -- and are no more than its ticks
   pub few_of_record : (es : List EmitDatum) → mean job.compiled job.statics job.budget input ≡ Done es → length es ≤ 2 ^ 32

@@ -2,6 +2,7 @@
 ghost use Rattle.std.specs.Prelude.{◌≡◌, ◌+◌, ◌-◌, ◌*◌, ◌<◌, ◌≤◌, ◌^◌, [], ◌∷◌, length, take, All, IfOk, OnOk};
 ghost use Rattle.sz_core.specs.Programs.{tables_of};
 ghost use Rattle.sz_tabs.specs.Fitting.{IsEmitTo};
+ghost use Rattle.sz_total.specs.Short.{HasShortParts};
 ghost use Rattle.sz_attempt.specs.Shards.{shard_at, records_of, IsShardIn, IsJob};
 ghost use Rattle.sz_attempt.specs.Attempts.{kills_of, lesser, least_of, end_of};
 ghost use Rattle.sz_attempt.specs.Ends.{EndsSo};
@@ -150,6 +151,7 @@ fn run_record<'a>(
 /// Adds emits to the part, in order.
 fn add_all<'a>(part: &mut Total<'a>, emits: &[Emit]) -> Result<(), NoMemory>
     requires fit { All (IsEmitTo part.old.tables) emits.now }
+    requires short { All HasShortParts emits.now }
     requires few { part.old.count + length emits.now ≤ 2 ^ 63 }
     ensures value { OnOk result (GainsAll part.old part.new emits.now) }
 {

@@ -5,11 +5,13 @@ use Rattle.std.proofs.lemmas.List.Elements.{All-push, All-nil}
 use Rattle.std.proofs.lemmas.Option.{slice_get_within, get_or_from_slice_get}
 use Rattle.sz_types.specs.Data.{Shape}
 use Rattle.sz_types.specs.Tables.{Declaration}
-use Rattle.sz_value.specs.Data.{int}
+use Rattle.sz_value.specs.Data.{Datum, int, data_of}
 use Rattle.sz_typed.specs.Types.{has_type, have_types}
+use Rattle.sz_flat.specs.Spelling.{HasShortLengths, HaveShortLengths}
 use Rattle.sz_tabs.specs.Aggregating.{weighted}
 use Rattle.sz_tabs.specs.Data.{EmitDatum}
 use Rattle.sz_tabs.specs.Fitting.{Fits, IsEmitTo}
+use Rattle.sz_total.specs.Short.{HasShortParts}
 use Rattle.sz_total.specs.Weights.{HasItsWeights, HaveTheirWeights}
 
 has_weight : (b : Bool) (w : ℤ) → is_some (cond b (Some w) None) ≡ b
@@ -40,6 +42,16 @@ emit_fits tables emit table index number are there indexes value weight =
       indexes = (λ i. have_types (indexes i) (of.1 i));
       fits = record { element = (λ i. has_type (value i) (of.0 i)); weight = weight };
     }
+
+-- whole numbers have no lengths
+pub emit_short : (emit : EmitDatum) (index number : ℤ) → emit.indexes ≡ int index ∷ [] → emit.value ≡ int number → HasShortParts emit
+emit_short emit index number indexes value = record {
+  indexes = subst (λ l. HaveShortLengths (data_of l)) (sym indexes) (tt, tt);
+  value = subst HasShortLengths (sym value) tt;
+}
+
+pub two_short : (list : List Datum) (first second : ℤ) → list ≡ int first ∷ int second ∷ [] → HaveShortLengths (data_of list)
+two_short list first second is = subst (λ l. HaveShortLengths (data_of l)) (sym is) (tt, tt, tt)
 
 -- one table more
 pub tables_more : (old new : List Declaration) (table : Declaration) → HaveTheirWeights old × AreOfNumbers old → new ≡ old ++ table ∷ []

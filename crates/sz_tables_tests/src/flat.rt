@@ -1,9 +1,12 @@
-//! Values as bytes: what is read is written again, and what spells nothing isn't read.
+//! Values as bytes: what is read is written again, what spells nothing isn't read, and lists are kept flat.
+ghost use Rattle.std.specs.Prelude.{◌≡◌, ◌∷◌, [], IfOk};
+ghost use Rattle.sz_value.specs.Data.{int};
+
 use std::alloc::Global;
 use std::test::Fail;
 use std::thread::Builder;
-use sz_flat::{FlatError, from_flat, to_flat};
-use sz_value::{NoMemory, Value, weight};
+use sz_flat::{FlatError, FlatList, from_flat, to_flat};
+use sz_value::{List, NoMemory, Value, weight};
 
 // The bytes of values, and what the values weigh.
 const SPELLED: &[(&[u8], u64)] = &[
@@ -134,5 +137,56 @@ fn a_value_of_thirty_thousand_levels_fits_a_stack_of_256_mebibytes(
         .stack_size(256 << 20)
         .spawn(&rt, move || handle_chain(alloc, 30_000))?;
     assert!(rt; thread.join(&rt)?);
+    Ok(())
+}
+
+// A list of two numbers.
+fn two_numbers(alloc: Global, first: i64, second: i64) -> Result<List, NoMemory>
+    ensures value { IfOk result (λ list. list ≡ int first ∷ int second ∷ []) }
+{
+    let mut list = List::new(alloc);
+    list.push(Value::Int(first))?;
+    list.push(Value::Int(second))?;
+    Ok(list)
+}
+
+// Two numbers, kept flat where other two were before.
+#[tactic(auto, using(crate::proofs::TestLemmas::two_short))]
+fn kept_flat(alloc: Global, first: i64, second: i64) -> Result<FlatList, NoMemory>
+    ensures value { IfOk result (λ list. list ≡ int first ∷ int second ∷ []) }
+{
+    let mut kept = FlatList::new(alloc);
+    kept.set(&two_numbers(alloc, second, second)?)?;
+    kept.set(&two_numbers(alloc, first, second)?)?;
+    Ok(kept)
+}
+
+// The numbers of a list of two.
+fn numbers_of(list: &List) -> Option<(i64, i64)> {
+    match list.as_slice() {
+        [Value::Int(first), Value::Int(second)] => Some((*first, *second)),
+        _ => None,
+    }
+}
+
+#[test]
+fn a_flat_list_gives_its_values_back(rt: HostRuntime) -> Result<(), Fail> {
+    let alloc = rt.alloc();
+    let kept = kept_flat(alloc, -1, i64::MAX)?;
+    let copied = kept.copied(alloc)?;
+    let values = copied.values(alloc)?;
+    assert!(rt; numbers_of(&values) == Some((-1, i64::MAX)));
+    assert!(rt; !copied.is_empty());
+    assert!(rt; FlatList::new(alloc).is_empty());
+    Ok(())
+}
+
+#[test]
+fn flat_lists_are_equal_where_their_values_are(rt: HostRuntime) -> Result<(), Fail> {
+    let alloc = rt.alloc();
+    let kept = kept_flat(alloc, 1, 2)?;
+    assert!(rt; kept == kept_flat(alloc, 1, 2)?);
+    assert!(rt; !(kept == kept_flat(alloc, 1, 3)?));
+    assert!(rt; !(kept == kept_flat(alloc, 2, 1)?));
     Ok(())
 }

@@ -78,7 +78,7 @@ fn weight_for(table: &TableDecl, weight: i64) -> Option<i64>
 }
 
 // Adds what was dealt to its table, if there is one.
-#[tactic(auto, using(crate::proofs::TestLemmas::emit_fits))]
+#[tactic(auto, using(crate::proofs::TestLemmas::emit_fits, crate::proofs::TestLemmas::emit_short))]
 pub(crate) fn add_dealt<'a>(
     alloc: Global,
     total: &mut Total<'a>,

@@ -2,7 +2,8 @@ use Rattle.std.proofs.Common.{length, ap, sym, ◌∙◌, subst, All, arith}
 use Rattle.sz_run.specs.Ends.{seen_end}
 use Rattle.sz_tabs.specs.Fitting.{IsEmitTo}
 use Rattle.sz_world.specs.World.{Done}
-use Rattle.sz_attempt.proofs.RunLemmas.{record_ends, record_means, fit_tables, few_of_record}
+use Rattle.sz_total.specs.Short.{HasShortParts}
+use Rattle.sz_attempt.proofs.RunLemmas.{record_ends, record_means, fit_tables, short_of_record, few_of_record}
 use Rattle.sz_attempt.proofs.running.run_record.Goals as goal
 
 -- the run ends
@@ -17,6 +18,14 @@ add_all-requires-clause-fit c =
     let fit = fit_tables c.args.job.now c.code.result.now c.code.ensures.value c.requires.job c.args.input.now c.in-Done.emits means in
     subst (All (IsEmitTo c.args.part.now.tables)) (sym c.as_slice.ensures.value)
     (subst (λ ts. All (IsEmitTo ts) c.in-Done.emits) (sym c.requires.tables) fit)
+
+-- and have short lengths
+pub add_all-requires-clause-short : goal.add_all-requires-clause-short
+add_all-requires-clause-short c =
+    let means = record_means c.args.job.now c.code.result.now c.code.ensures.value c.requires.job c.args.input.now c.in_ok-emits.field-0
+    c.in_ok-emits.ensures.value ∙ ap seen_end c.in-Done.is in
+    subst (All HasShortParts) (sym c.as_slice.ensures.value)
+    (short_of_record c.args.job.now c.code.result.now c.code.ensures.value c.requires.job c.args.input.now c.in-Done.emits means)
 
 -- and are few
 pub add_all-requires-clause-few : goal.add_all-requires-clause-few
