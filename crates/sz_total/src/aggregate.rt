@@ -7,9 +7,9 @@ ghost use Rattle.sz_tabs.specs.Fitting.{Fits};
 ghost use Rattle.sz_total.specs.Aggregates.{declaration_of, count_of, shown_of, family_of, family_for, HasRoomFor, ChangesRoomAlone, IsJoined};
 ghost use Rattle.sz_total.specs.Weights.{HasItsWeights};
 
+use crate::boxed::BoxedMembers;
 use std::alloc::Global;
 use sz_extreme::Extreme;
-use sz_members::Members;
 use sz_sum::Sum;
 use sz_tabs::{Aggregator, NoMemory, Rows};
 use sz_types::{TableDecl, TableKind};
@@ -20,7 +20,7 @@ use sz_value::Value;
 pub(crate) enum Aggregate<'a> {
     Sum(Sum<'a>),
     Extreme(Extreme<'a>),
-    Members(Members<'a>),
+    Members(BoxedMembers<'a>),
 }
 
 // An aggregator of a table before any emit.
@@ -38,7 +38,7 @@ pub(crate) fn new_aggregate<'a>(
             Ok(Aggregate::Extreme(Extreme::new(alloc, table)))
         }
         TableKind::Set | TableKind::Collection => {
-            Ok(Aggregate::Members(Members::new(alloc, table)))
+            Ok(Aggregate::Members(BoxedMembers::new(alloc, table)?))
         }
     }
 }
@@ -94,7 +94,7 @@ pub(crate) fn merge_into<'a>(aggregate: &mut Aggregate<'a>, other: Aggregate<'a>
             let _ = extreme.merge(other);
         }
         (Aggregate::Members(members), Aggregate::Members(other)) => {
-            let _ = members.merge(other);
+            members.merge(other);
         }
         _ => {}
     }

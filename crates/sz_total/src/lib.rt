@@ -2,6 +2,7 @@
 #![tactic(auto)]
 
 mod aggregate;
+mod boxed;
 mod indexed;
 mod joining;
 mod laws;

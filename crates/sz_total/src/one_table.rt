@@ -17,8 +17,8 @@ use sz_flat::FlatList;
 use sz_tabs::{Emit, NoMemory};
 use sz_types::TableDecl;
 
-/// What was emitted to one table, index list by index list, and the room in which the index list of an emit is spelled. Contracts see its declaration, the number of emits, the aggregators,
-/// and for how many there is room.
+/// What was emitted to one table, index list by index list, and the room in which the index list of an emit is spelled. Contracts see
+/// its declaration, the number of emits, the aggregators, and for how many there is room.
 #[derive(Drop)]
 pub(crate) struct OneTable<'a> {
     alloc: Global,
