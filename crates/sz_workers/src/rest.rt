@@ -13,9 +13,9 @@ use std::alloc::Global;
 use sz_attempt::{AttemptEnd, Job};
 use sz_book::{NoMemory, Plan};
 use sz_io::Gate;
+use sz_rounds::{Round, RoundEnd};
 use sz_run::Room;
 use sz_total::{Total, tables_forget_the_order};
-use sz_rounds::{Round, RoundEnd};
 
 /// What comes of a shard that the caller runs.
 #[derive(Drop)]
