@@ -34,8 +34,26 @@ use Rattle.sz_total.specs.contracts.aggregate.Aggregate as Aggregate
 use Rattle.sz_total.specs.contracts.one_table.OneTable as OneTable
 use Rattle.sz_total.specs.contracts.total.Total as Total
 
-ruleset parts = (sendable, crosses, items.the_send, items.the_sync, kind.the_sync, encoding.the_sync, bin_op.the_sync, builtin.the_sync, un_op.the_sync, place.the_sync,
-  text.the_sync, ty.crosses, value.crosses, instr.the_sync, line.the_sync, routine.the_sync, step.the_sync, kill.the_sync)
+ruleset parts = (
+  sendable,
+  crosses,
+  items.the_send,
+  items.the_sync,
+  kind.the_sync,
+  encoding.the_sync,
+  bin_op.the_sync,
+  builtin.the_sync,
+  un_op.the_sync,
+  place.the_sync,
+  text.the_sync,
+  ty.crosses,
+  value.crosses,
+  instr.the_sync,
+  line.the_sync,
+  routine.the_sync,
+  step.the_sync,
+  kill.the_sync,
+)
 
 table_sync : IsSync TableDecl.the_row
 table_sync = declared_sync TableDecl.the_type (search parts depth 30, (search parts depth 30, (search parts depth 30, (search parts depth 30, (search parts depth 30, (search parts depth 30, tt))))))
