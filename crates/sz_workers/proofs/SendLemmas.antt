@@ -20,6 +20,7 @@ use Rattle.sz_instr.proofs.routine.Routine.TheSendSync as routine
 use Rattle.sz_instr.proofs.step.Step.TheSendSync as step
 use Rattle.indexmap.proofs.map.IndexMap.TheSendSync as index_map
 use Rattle.sz_words.proofs.settings.Kill.TheSendSync as kill
+use Rattle.sz_flat.proofs.flat_list.FlatList.TheSendSync as flat
 use Rattle.sz_types.specs.contracts.table.TableDecl as TableDecl
 use Rattle.sz_types.specs.contracts.tables.TableDecls as TableDecls
 use Rattle.sz_value.specs.contracts.slots.Slots as Slots
@@ -99,10 +100,10 @@ module _ (κ : NamedLft) where
   aggregate_sync = let a = sum_sync in let b = extreme_sync in let c = members_sync in search parts depth 30
 
   one_table_send : IsSend (OneTable.the_row κ)
-  one_table_send = view_send _ _ _ _ _ (declared_send (OneTable.TheInside.the_type κ) (search parts depth 30, (search (parts, table_sync) depth 30, (search parts depth 30, (search parts depth 30, (search (parts, aggregate_send, index_map.the_send) depth 30, tt))))))
+  one_table_send = view_send _ _ _ _ _ (declared_send (OneTable.TheInside.the_type κ) (search parts depth 30, (search (parts, table_sync) depth 30, (search parts depth 30, (search parts depth 30, (search (parts, aggregate_send, index_map.the_send) depth 30, (search (parts, flat.the_send) depth 30, tt)))))))
 
   one_table_sync : IsSync (OneTable.the_row κ)
-  one_table_sync = view_sync _ _ _ _ _ (declared_sync (OneTable.TheInside.the_type κ) (search parts depth 30, (search (parts, table_sync) depth 30, (search parts depth 30, (search parts depth 30, (search (parts, aggregate_sync, index_map.the_sync) depth 30, tt))))))
+  one_table_sync = view_sync _ _ _ _ _ (declared_sync (OneTable.TheInside.the_type κ) (search parts depth 30, (search (parts, table_sync) depth 30, (search parts depth 30, (search parts depth 30, (search (parts, aggregate_sync, index_map.the_sync) depth 30, (search (parts, flat.the_sync) depth 30, tt)))))))
 
   pub total_send : IsSend (Total.the_row κ)
   total_send = view_send _ _ _ _ _ (declared_send (Total.TheInside.the_type κ) (search (parts, tables_sync) depth 30, (search parts depth 30, (search (parts, one_table_send) depth 30, tt))))
