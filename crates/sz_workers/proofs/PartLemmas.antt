@@ -1,14 +1,15 @@
 -- Tables that hold the emits of some shards.
-use Rattle.std.proofs.Common.{◌≡◌, ℕ, zero, suc, ◌+◌, ◌*◌, ◌^◌, ◌<◌, ◌≤◌, List, [], ◌∷◌, ◌++◌, length, take, Option, Some, None, refl, ap, sym, ◌∙◌, subst, inl, inr, ⊎_elim}
+use Rattle.std.proofs.Common.{◌≡◌, ℕ, zero, suc, ◌+◌, ◌*◌, ◌^◌, ◌<◌, ◌≤◌, List, [], ◌∷◌, ◌++◌, length, take, Some, refl, ap, sym, ◌∙◌, subst, inl, inr, ⊎_elim}
 use Rattle.std.proofs.Common.{arith, append-nil, length-append}
 use native.Mathlib.Nat.{mul-add}
 use Rattle.std.specs.Prelude.{slice_get, IsPermutation}
+use Rattle.std.proofs.lemmas.List.Sorted.{IsPermutation-append_comm, length_permutation}
 use Rattle.sz_tabs.specs.Data.{EmitDatum}
 use Rattle.sz_mean.specs.Records.{Records, Emitted, FaultedAt}
-use Rattle.sz_types.specs.Tables.{Declaration}
 use Rattle.sz_core.specs.Programs.{tables_of}
 use Rattle.sz_total.specs.States.{TotalState, declarations, emit_count, shown}
 use Rattle.sz_total.specs.Totals.{StandsFor, IsNew, Joins}
+use Rattle.sz_total.specs.Laws.{ForgetsOrder}
 use Rattle.sz_book.specs.History.{IsAmong, AreDistinct, AreApart}
 use Rattle.sz_attempt.specs.declared.job.Job.{Job}
 use Rattle.sz_attempt.specs.Shards.{ShardData, IsJob}
@@ -19,7 +20,7 @@ use Rattle.sz_rounds.specs.declared.round.Round.{Round}
 use Rattle.sz_rounds.specs.Outcomes.{all_records}
 use Rattle.sz_rounds.specs.Rounds.{shards_of, IsRound}
 use Rattle.sz_rounds.proofs.CountLemmas.{fewer_records, few_records}
-use Rattle.sz_workers.specs.Parts.{given_by, given_in, emits_at, Counts, gathered, in_order, HoldsShards}
+use Rattle.sz_workers.specs.Parts.{given_by, given_in, emits_at, Counts, gathered, in_order, HoldsShards, JoinsEither}
 use Rattle.sz_workers.proofs.GatherLemmas.{gathered-append, gives_fewer, among_either, distinct_joined}
 
 module _ (job : Job) where
@@ -107,6 +108,14 @@ holds_one job round total s job_is round_is counts stand = record {
   stand = subst (StandForEmits job.compiled total) (sym (append-nil (emits_at job (shards_of round) s))) stand;
 }
 
+-- tables stand for their emits in whatever order
+pub stands_in_any_order : ForgetsOrder → (total : TotalState) (es fs : List EmitDatum) → IsPermutation es fs
+    → StandsFor declarations emit_count shown total es → StandsFor declarations emit_count shown total fs
+stands_in_any_order forgets total es fs mixed stands = record {
+  rows = λ table declaration there. stands.rows table declaration there ∙ forgets table declaration es fs mixed;
+  counted = stands.counted ∙ sym (length_permutation es fs mixed);
+}
+
 module _ (job : Job) (round : Round) (a b : TotalState) (ss ts : List ℕ) (left : HoldsShards job round a ss) (right : HoldsShards job round b ts)
     (apart : AreApart ss ts) where
   both_count : (s : ℕ) → IsAmong s (ss ++ ts) → Counts job (shards_of round) s
@@ -140,3 +149,26 @@ module _ (job : Job) (round : Round) (a b : TotalState) (ss ts : List ℕ) (left
               (joins.joined (gathered f ss) (gathered f ts) left.stand.stands right.stand.stands);
         };
       }
+
+  -- and so do tables that join them the other way round
+  holds_both_turned : ForgetsOrder → (new : TotalState) → Joins declarations emit_count shown b a new → HoldsShards job round new (ss ++ ts)
+  holds_both_turned forgets new joins =
+      let f = emits_at job (shards_of round) in
+      let front : List EmitDatum = gathered f ss in
+      let back : List EmitDatum = gathered f ts in
+      let turned : IsPermutation (back ++ front) (gathered f (ss ++ ts)) =
+      subst (IsPermutation (back ++ front)) (sym (gathered-append f ss ts)) (IsPermutation-append_comm back front) in record {
+        job_is = left.job_is;
+        round_is = left.round_is;
+        distinct = both_distinct;
+        counts = both_count;
+        stand = record {
+          tables = joins.same_tables ∙ right.stand.tables;
+          stands = stands_in_any_order forgets new (back ++ front) (gathered f (ss ++ ts)) turned
+              (joins.joined back front right.stand.stands left.stand.stands);
+        };
+      }
+
+  pub holds_either : ForgetsOrder → (new : TotalState) → JoinsEither a b new → HoldsShards job round new (ss ++ ts)
+  holds_either forgets new (inl joins) = holds_both new joins
+  holds_either forgets new (inr joins) = holds_both_turned forgets new joins

@@ -1,24 +1,20 @@
 -- What the caller finds of a round once its workers are done.
-use Rattle.std.proofs.Common.{◌≡◌, ◌⊎◌, ℕ, zero, suc, ◌+◌, ◌<◌, ◌≤◌, List, [], ◌∷◌, ◌++◌, length, take, Option, Some, None, true, false, refl, ap, sym, ◌∙◌, subst, inl, inr, ⊎_elim}
+use Rattle.std.proofs.Common.{◌≡◌, ◌⊎◌, ℕ, zero, suc, ◌+◌, ◌<◌, ◌≤◌, List, [], ◌∷◌, ◌++◌, length, take, Some, true, false, refl, ap, sym, ◌∙◌, subst, inl, inr, ⊎_elim}
 use Rattle.std.proofs.Common.{arith}
-use Rattle.std.specs.Prelude.{slice_get, IsPermutation, Bool, nat_eq, ◌||◌, if◌then◌else◌}
+use Rattle.std.specs.Prelude.{slice_get, Bool, nat_eq, ◌||◌, if◌then◌else◌}
 use Rattle.std.proofs.lemmas.Bool.Decides.{nat_tests}
 use Rattle.sz_words.specs.Lists.{is_among}
 use Rattle.sz_run.specs.declared.ends.Fault.{Fault as SeenFault}
 use Rattle.sz_run.specs.Ends.{seen_fault}
-use Rattle.std.proofs.lemmas.List.Sorted.{length_permutation}
 use Rattle.sz_tabs.specs.Data.{EmitDatum}
-use Rattle.sz_mean.specs.Records.{Records, Emitted, FaultedAt}
 use Rattle.sz_world.specs.World.{Fault}
-use Rattle.sz_types.specs.Tables.{Declaration}
-use Rattle.sz_total.specs.States.{TotalState, declarations, emit_count, shown}
-use Rattle.sz_total.specs.Totals.{StandsFor}
+use Rattle.sz_total.specs.States.{TotalState}
 use Rattle.sz_total.specs.Laws.{ForgetsOrder}
 use Rattle.sz_book.specs.History.{IsAmong, AreApart}
 use Rattle.sz_attempt.specs.declared.job.Job.{Job}
 use Rattle.sz_attempt.specs.Shards.{ShardData, IsJob}
 use Rattle.sz_attempt.specs.declared.ends.AttemptEnd.TheVariants as answers
-use Rattle.sz_attempt.specs.Attempts.{gives, faults, end_of, dies_at, all_die, shard_means, is_lost, is_clean}
+use Rattle.sz_attempt.specs.Attempts.{gives, faults, end_of, dies_at, all_die, is_lost, is_clean}
 use Rattle.sz_attempt.specs.Ends.{StandForEmits}
 use Rattle.sz_rounds.specs.declared.round.Round.{Round}
 use Rattle.sz_rounds.specs.Outcomes.{emitted, faulted, lost, outcome_of}
@@ -31,7 +27,7 @@ use Rattle.sz_workers.specs.Parts.{given_by, given_in, emits_at, Counts, Dies, F
 use Rattle.sz_book.specs.Plan.{PlanData}
 use Rattle.sz_workers.specs.Running.{HasFront, NoneInFront, IsSet}
 use Rattle.sz_workers.proofs.GatherLemmas.{gives_all, among_front, among_back}
-use Rattle.sz_workers.proofs.PartLemmas.{counts_low, holds_one}
+use Rattle.sz_workers.proofs.PartLemmas.{counts_low, holds_one, stands_in_any_order}
 
 module _ (job : Job) (shards : List ShardData) where
   -- what a shard gives that counts
@@ -88,16 +84,12 @@ all_held job round total ss forgets holds all =
     let f = emits_at job shards in
     let n : ℕ = length shards in
     let mixed = gives_all f n ss holds.distinct (λ s in'. counts_low job shards s (holds.counts s in')) all in
-    let row : List EmitDatum = in_order f n in
-    let count = length_permutation (gathered f ss) row mixed in (
+    let row : List EmitDatum = in_order f n in (
       row,
       ap (outcome_of job) (sym (take_all shards)) ∙ front_gives job shards n (λ s l. holds.counts s (all s l)),
       record {
         tables = holds.stand.tables;
-        stands = record {
-          rows = λ table declaration there. holds.stand.stands.rows table declaration there ∙ forgets table declaration (gathered f ss) row mixed;
-          counted = holds.stand.stands.counted ∙ sym count;
-        };
+        stands = stands_in_any_order forgets total (gathered f ss) row mixed holds.stand.stands;
       },
     )
 

@@ -34,8 +34,26 @@ use Rattle.sz_total.specs.contracts.aggregate.Aggregate as Aggregate
 use Rattle.sz_total.specs.contracts.one_table.OneTable as OneTable
 use Rattle.sz_total.specs.contracts.total.Total as Total
 
-ruleset parts = (sendable, crosses, items.the_send, items.the_sync, kind.the_sync, encoding.the_sync, bin_op.the_sync, builtin.the_sync, un_op.the_sync, place.the_sync,
-  text.the_sync, ty.crosses, value.crosses, instr.the_sync, line.the_sync, routine.the_sync, step.the_sync, kill.the_sync)
+ruleset parts = (
+  sendable,
+  crosses,
+  items.the_send,
+  items.the_sync,
+  kind.the_sync,
+  encoding.the_sync,
+  bin_op.the_sync,
+  builtin.the_sync,
+  un_op.the_sync,
+  place.the_sync,
+  text.the_sync,
+  ty.crosses,
+  value.crosses,
+  instr.the_sync,
+  line.the_sync,
+  routine.the_sync,
+  step.the_sync,
+  kill.the_sync,
+)
 
 table_sync : IsSync TableDecl.the_row
 table_sync = declared_sync TableDecl.the_type (search parts depth 30, (search parts depth 30, (search parts depth 30, (search parts depth 30, (search parts depth 30, (search parts depth 30, tt))))))
@@ -59,17 +77,35 @@ module _ (κ : NamedLft) where
   sum_send : IsSend (Sum.the_row κ)
   sum_send = let t = tables_sync in let u = table_sync in search parts depth 30
 
+  sum_sync : IsSync (Sum.the_row κ)
+  sum_sync = let t = tables_sync in let u = table_sync in search parts depth 30
+
   extreme_send : IsSend (Extreme.the_row κ)
   extreme_send = view_send _ _ _ _ _ (declared_send (Extreme.TheInside.the_type κ) (search parts depth 30, (search (parts, table_sync) depth 30, (search parts depth 30, (search parts depth 30, (search (parts, heap.the_send) depth 30, tt))))))
+
+  extreme_sync : IsSync (Extreme.the_row κ)
+  extreme_sync = view_sync _ _ _ _ _ (declared_sync (Extreme.TheInside.the_type κ) (search parts depth 30, (search (parts, table_sync) depth 30, (search parts depth 30, (search parts depth 30, (search (parts, heap.the_sync) depth 30, tt))))))
 
   members_send : IsSend (Members.the_row κ)
   members_send = let u = table_sync in search (parts, index_map.the_send) depth 30
 
+  members_sync : IsSync (Members.the_row κ)
+  members_sync = let u = table_sync in search (parts, index_map.the_sync) depth 30
+
   aggregate_send : IsSend (Aggregate.the_row κ)
   aggregate_send = let a = sum_send in let b = extreme_send in let c = members_send in search parts depth 30
+
+  aggregate_sync : IsSync (Aggregate.the_row κ)
+  aggregate_sync = let a = sum_sync in let b = extreme_sync in let c = members_sync in search parts depth 30
 
   one_table_send : IsSend (OneTable.the_row κ)
   one_table_send = view_send _ _ _ _ _ (declared_send (OneTable.TheInside.the_type κ) (search parts depth 30, (search (parts, table_sync) depth 30, (search parts depth 30, (search parts depth 30, (search (parts, aggregate_send, index_map.the_send) depth 30, tt))))))
 
+  one_table_sync : IsSync (OneTable.the_row κ)
+  one_table_sync = view_sync _ _ _ _ _ (declared_sync (OneTable.TheInside.the_type κ) (search parts depth 30, (search (parts, table_sync) depth 30, (search parts depth 30, (search parts depth 30, (search (parts, aggregate_sync, index_map.the_sync) depth 30, tt))))))
+
   pub total_send : IsSend (Total.the_row κ)
   total_send = view_send _ _ _ _ _ (declared_send (Total.TheInside.the_type κ) (search (parts, tables_sync) depth 30, (search parts depth 30, (search (parts, one_table_send) depth 30, tt))))
+
+  pub total_sync : IsSync (Total.the_row κ)
+  total_sync = view_sync _ _ _ _ _ (declared_sync (Total.TheInside.the_type κ) (search (parts, tables_sync) depth 30, (search parts depth 30, (search (parts, one_table_sync) depth 30, tt))))

@@ -2,11 +2,10 @@
 use Rattle.std.proofs.Common.{◌≡◌, ℕ, ◌≤◌, List, [], length, refl, ap, sym, ◌∙◌, subst}
 use Rattle.sz_book.specs.Plan.{PlanData, IsPlan}
 use Rattle.sz_book.specs.Lanes.{LaneData}
-use Rattle.sz_book.specs.declared.event.Entry.{Entry}
 use Rattle.sz_book.specs.History.{IsLegal, calls_by, HasWon}
 use Rattle.sz_claims.specs.Known.{LedgerData, PassData, AreInHand}
 use Rattle.sz_claims.proofs.ForCallers.{none_in_hand}
-use Rattle.sz_crew.specs.Working.{IsInPlace, IsAtWork}
+use Rattle.sz_crew.specs.Working.{IsAtWork}
 use Rattle.sz_attempt.specs.declared.job.Job.{Job}
 use Rattle.sz_attempt.specs.Shards.{IsJob}
 use Rattle.sz_rounds.specs.declared.round.Round.{Round}

@@ -1,9 +1,10 @@
 -- What tables stand for that hold the emits of some shards of a round.
-use Rattle.std.specs.Prelude.{◌≡◌, ℕ, zero, suc, false, true, List, [], ◌∷◌, ◌++◌, length, Option, Some, None, slice_get, Bool, if◌then◌else◌}
+use Rattle.std.specs.Prelude.{◌≡◌, ◌⊎◌, ℕ, zero, suc, false, true, List, [], ◌∷◌, ◌++◌, length, Option, Some, None, slice_get, Bool, if◌then◌else◌}
 use Rattle.sz_words.specs.Lists.{is_among}
 use Rattle.sz_tabs.specs.Data.{EmitDatum}
 use Rattle.sz_mean.specs.Records.{Records, Emitted, FaultedAt}
-use Rattle.sz_total.specs.States.{TotalState}
+use Rattle.sz_total.specs.States.{TotalState, declarations, emit_count, shown}
+use Rattle.sz_total.specs.Totals.{Joins}
 use Rattle.sz_book.specs.Plan.{PlanData}
 use Rattle.sz_book.specs.History.{IsAmong, AreDistinct}
 use Rattle.sz_attempt.specs.declared.job.Job.{Job}
@@ -74,6 +75,10 @@ pub record HoldsShards (job : Job) (round : Round) (total : TotalState) (ss : Li
   pub distinct : AreDistinct ss
   pub counts : (s : ℕ) → IsAmong s ss → Counts job (shards_of round) s
   pub stand : StandForEmits job.compiled total (gathered (emits_at job (shards_of round)) ss)
+
+-- the new tables stand for the emits of both, in either order
+abbrev pub JoinsEither : TotalState → TotalState → TotalState → Type 0
+JoinsEither a b new = Joins declarations emit_count shown a b new ⊎ Joins declarations emit_count shown b a new
 
 -- whether no shard is in both lists
 abbrev pub are_apart : List ℕ → List ℕ → Bool

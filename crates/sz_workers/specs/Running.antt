@@ -1,18 +1,16 @@
 -- What the functions of a round are given, and what they find.
-use Rattle.std.specs.Prelude.{◌≡◌, ℕ, ◌+◌, ◌<◌, ◌≤◌, List, [], Option, Some, None}
+use Rattle.std.specs.Prelude.{◌≡◌, ℕ, ◌<◌, ◌≤◌, List}
 use Rattle.sz_book.specs.Plan.{PlanData, IsPlan}
 use Rattle.sz_book.specs.History.{IsAmong}
 use Rattle.sz_attempt.specs.declared.job.Job.{Job}
 use Rattle.sz_attempt.specs.Shards.{IsJob}
 use Rattle.sz_attempt.specs.Ends.{StandForEmits}
 use Rattle.sz_rounds.specs.declared.round.Round.{Round}
-use Rattle.sz_rounds.specs.declared.round.RoundEnd.{RoundEnd}
 use Rattle.sz_rounds.specs.Outcomes.{outcome_of}
 use Rattle.sz_rounds.specs.Rounds.{shards_of, IsRound, EndsRound}
-use Rattle.sz_workers.specs.declared.pool.Pool.{Pool}
 use Rattle.sz_workers.specs.declared.rest.Rest.{Rest}
 use Rattle.sz_workers.specs.declared.rest.Rest.TheVariants as rests
-use Rattle.sz_workers.specs.Parts.{plan_for, emits_at, Counts, HoldsShards}
+use Rattle.sz_workers.specs.Parts.{plan_for, emits_at, Counts}
 
 -- the job and the round are the named ones, and can be run; the plan is theirs
 pub record IsSet (named : Job) (of : Round) (job : Job) (round : Round) (p : PlanData) : Type 0 where

@@ -14,8 +14,8 @@ use sz_attempt::{AttemptEnd, Job};
 use sz_book::Claim;
 use sz_crew::{Maker, Missed};
 use sz_io::Gate;
-use sz_run::Room;
 use sz_rounds::Round;
+use sz_run::Room;
 
 /// Makes the attempts of a round in a room of its own.
 #[derive(Drop)]

@@ -1,5 +1,5 @@
 //! What is left of a round once its workers are done: the shards that no worker won are run by the caller.
-ghost use Rattle.std.specs.Prelude.{◌≡◌, ◌+◌, ◌<◌, ◌≤◌, length, IfOk, IfSome, IfNone};
+ghost use Rattle.std.specs.Prelude.{◌+◌, ◌<◌, length, IfOk, IfSome, IfNone};
 ghost use Rattle.sz_attempt.specs.Shards.{IsJob};
 ghost use Rattle.sz_rounds.specs.Outcomes.{outcome_of};
 ghost use Rattle.sz_rounds.specs.Rounds.{IsRound, shards_of, EndsRound};
@@ -13,9 +13,9 @@ use std::alloc::Global;
 use sz_attempt::{AttemptEnd, Job};
 use sz_book::{NoMemory, Plan};
 use sz_io::Gate;
+use sz_rounds::{Round, RoundEnd};
 use sz_run::Room;
 use sz_total::{Total, tables_forget_the_order};
-use sz_rounds::{Round, RoundEnd};
 
 /// What comes of a shard that the caller runs.
 #[derive(Drop)]
