@@ -14,7 +14,7 @@ returns-in_err-records g c =
 
 -- an input has no more records than it may
 pub total_of-requires-clause-few : goal.total_of-requires-clause-few
-total_of-requires-clause-few g c = few_records c.args.settings.now.frame c.args.input.now _ c.in_ok-records.ensures.cut
+total_of-requires-clause-few g c κs within = few_records c.args.settings.now.frame c.args.input.now _ c.in_ok-records.ensures.cut
 
 -- a shard faults or is lost
 pub returns-in_err-total : goal.returns-in_err-total
