@@ -173,9 +173,10 @@ selftest_within given (a ∷ b ∷ c ∷ []) =
     let with_seed : ℕ → Option Settings = λ s. option_and_then (with_records s) (number_in 0 1000000 b) in
     if_chosen IsBounded (are_absent given) (option_and_then with_seed (number_in 0 (2 ^ 63 - 1) a)) None
     (if_made IsBounded with_seed (number_in 0 (2 ^ 63 - 1) a) (λ s.
-    if_made_of IsBounded (InRange 0 1000000) (with_records s) (number_in 0 1000000 b) (in_range 0 1000000 (digits_value 10 b) (nat_le (length b) 20) (is_numeral b)) (λ r of_r.
-    if_made_of IsBounded (InRange 1 64) (with_workers s r) (number_in 1 64 c) (in_range 1 64 (digits_value 10 c) (nat_le (length c) 20) (is_numeral c)) (λ w of_w.
-    (of_r.1, of_w))))) tt
+    if_made_of IsBounded (InRange 0 1000000) (with_records s) (number_in 0 1000000 b)
+    (in_range 0 1000000 (digits_value 10 b) (nat_le (length b) 20) (is_numeral b)) (λ r of_r.
+    if_made_of IsBounded (InRange 1 64) (with_workers s r) (number_in 1 64 c)
+    (in_range 1 64 (digits_value 10 c) (nat_le (length c) 20) (is_numeral c)) (λ w of_w. (of_r.1, of_w))))) tt
 selftest_within given (a ∷ b ∷ c ∷ d ∷ names) = tt
 
 command_within : (command : List ℕ) (given : Values) (names : List (List ℕ)) → IfSome (command_settings command given names) IsBounded

@@ -16,7 +16,7 @@ returns-in_err-settings-clause-value g c =
 
 -- they have their bounds
 pub answer_settings-requires-clause-bounds : goal.answer_settings-requires-clause-bounds
-answer_settings-requires-clause-bounds g c = is_bounded (map string_bytes c.args.words.now) c.in_ok-settings.settings c.in_ok-settings.ensures.value
+answer_settings-requires-clause-bounds g c κs within = is_bounded (map string_bytes c.args.words.now) c.in_ok-settings.settings c.in_ok-settings.ensures.value
 
 -- the settings are answered
 pub returns-clause-value : goal.returns-clause-value

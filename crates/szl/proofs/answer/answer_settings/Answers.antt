@@ -21,7 +21,8 @@ returns-in-Selftest-clause-end g c =
     (when_ok c.answer_selftest.result (nothing_opened g.F.Files c.args.files.now))
 
 -- its numbers are within their bounds
-pub answer_selftest-requires : goal.answer_selftest-requires
-answer_selftest-requires g c =
-    let bounds = subst IsBounded c.in-Selftest.is c.requires.bounds in
-    record { within = bounds.0; workers = bounds.1 }
+pub answer_selftest-requires-clause-within : goal.answer_selftest-requires-clause-within
+answer_selftest-requires-clause-within g c κs within = let bounds = subst IsBounded c.in-Selftest.is c.requires.bounds in bounds.0
+
+pub answer_selftest-requires-clause-workers : goal.answer_selftest-requires-clause-workers
+answer_selftest-requires-clause-workers g c κs within = let bounds = subst IsBounded c.in-Selftest.is c.requires.bounds in bounds.1

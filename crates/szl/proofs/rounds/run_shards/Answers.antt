@@ -21,7 +21,7 @@ loop-done-init g c =
 
 -- the next shards are a round
 pub run_round-requires-clause-round : goal.run_round-requires-clause-round
-run_round-requires-clause-round g c =
+run_round-requires-clause-round g c κs within =
     round_is c.args.job.now c.args.records c.args.shards.now c.requires.shards c.loop-done.done c.round_end-end.result c.round_end-end.ensures.value
     c.loop-done.round.records c.in_ok-round.field-0 c.loop-done.invariant.records c.in_ok-round.ensures.value
 

@@ -12,7 +12,7 @@ returns-in_err-shards g c = let p = err_from_is_err_and c.from_residual.result c
 
 -- the shards have all records, and lie behind each other
 pub run_shards-requires-clause-shards : goal.run_shards-requires-clause-shards
-run_shards-requires-clause-shards g c =
+run_shards-requires-clause-shards g c κs within =
     subst (AreShardsIn c.args.records) (sym c.as_slice.ensures.value)
     (cut_shards_in c.args.settings.now.shard c.args.records c.in_ok-shards.shards c.requires.bounds.shard c.requires.few c.in_ok-shards.ensures.cut)
 

@@ -33,12 +33,12 @@ returns-in_err-job g c =
 
 -- the job can be run
 pub tables_of-requires-clause-job : goal.tables_of-requires-clause-job
-tables_of-requires-clause-job g c =
+tables_of-requires-clause-job g c κs within =
     is_job c.in_ok-compiled.compiled c.in_ok-statics.statics c.args.settings.now c.in_ok-job.job c.in_ok-job.ensures.value
     (subst IsSound (sym c.in_ok-compiled.ensures.value) c.requires.sound) c.in_ok-statics.ensures.fit c.requires.bounds
 
 pub tables_of-requires-clause-attempts : goal.tables_of-requires-clause-attempts
-tables_of-requires-clause-attempts g c =
+tables_of-requires-clause-attempts g c κs within =
     let same = ap (λ (j : Job). j.attempts) c.in_ok-job.ensures.value.same in
     subst (λ n. (1 ≤ n) × (n ≤ 8)) (sym same) (c.requires.bounds.least_attempts, c.requires.bounds.most_attempts)
 

@@ -50,7 +50,7 @@ returns-in_err-program g c =
 
 -- the settings have their bounds
 pub answer_over-requires-clause-bounds : goal.answer_over-requires-clause-bounds
-answer_over-requires-clause-bounds g c = subst HasBounds (sym c.in_ok-settings.ensures.value) (has_bounds c.args.workers c.requires.workers)
+answer_over-requires-clause-bounds g c κs within = subst HasBounds (sym c.in_ok-settings.ensures.value) (has_bounds c.args.workers c.requires.workers)
 
 -- the program was run
 pub returns : goal.returns
