@@ -51,7 +51,7 @@ emit_short emit index number indexes value = record {
 }
 
 pub two_short : (list : List Datum) (first second : ℤ) → list ≡ int first ∷ int second ∷ [] → HaveShortLengths (data_of list)
-two_short list first second is = subst (λ l. HaveShortLengths (data_of l)) (sym is) (tt, tt, tt)
+two_short list first second is = subst (λ l. HaveShortLengths (data_of l)) (sym is) (tt, (tt, tt))
 
 -- one table more
 pub tables_more : (old new : List Declaration) (table : Declaration) → HaveTheirWeights old × AreOfNumbers old → new ≡ old ++ table ∷ []
