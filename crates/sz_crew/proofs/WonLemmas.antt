@@ -1,25 +1,24 @@
 -- The shards that a worker won.
-use Rattle.std.proofs.Common.{◌≡◌, ◌≢◌, ◌⊎◌, ℕ, ◌+◌, ◌-◌, ◌<◌, ◌≤◌, ◌==◌, Bool, cond, List, [], ◌∷◌, ◌++◌, length, refl, ap, sym, ◌∙◌, subst, inl, inr, ⊎_elim}
-use Rattle.std.proofs.Common.{arith, eq-eqb, ne_eqb}
+use Rattle.std.proofs.Common.{◌≡◌, ◌≢◌, ◌⊎◌, ℕ, ◌+◌, ◌-◌, ◌==◌, Bool, cond, List, [], ◌∷◌, ◌++◌, refl, ap, sym, ◌∙◌, subst, inl, inr, ⊎_elim}
+use Rattle.std.proofs.Common.{arith, ne_eqb}
 use Rattle.std.specs.Prelude.{slice_index}
-use Rattle.std.specs.List.{sum_by}
 use Rattle.std.proofs.lemmas.List.{append_cancel_right}
 use mathlib.Core.Logic.{dite}
 use native.Mathlib.Decide.{ℕ_discrete}
-use Rattle.sz_book.specs.Plan.{PlanData, IsPlan}
+use Rattle.sz_book.specs.Plan.{PlanData}
 use Rattle.sz_book.specs.Lanes.{LaneData}
-use Rattle.sz_book.specs.Counting.{times, once}
+use Rattle.sz_book.specs.Counting.{once}
 use Rattle.sz_book.specs.declared.plan.Claim.{Claim}
 use Rattle.sz_book.specs.declared.event.Event.{Event}
 use Rattle.sz_book.specs.declared.event.Event.TheVariants.{Settle}
 use Rattle.sz_book.specs.declared.event.Reply.{Reply}
 use Rattle.sz_book.specs.declared.event.Reply.TheVariants.{Won, Late}
 use Rattle.sz_book.specs.declared.event.Entry.{Entry}
-use Rattle.sz_book.specs.Machine.{LedgerState, opening, after, reply_of}
+use Rattle.sz_book.specs.Machine.{LedgerState, opening, after}
 use Rattle.sz_book.specs.History.{entry, state_after, IsLegal, IsLegalFrom, calls_by, Settles, HasWon, HasGiven, IsAmong, AreDistinct, AreApart}
 use Rattle.sz_book.proofs.HistoryLemmas.{calls_own}
 use Rattle.sz_book.proofs.CountLemmas.{each_shard_counts_once}
-use Rattle.sz_claims.specs.Known.{LedgerData, PassData, Calls, AreInHand}
+use Rattle.sz_claims.specs.Known.{PassData, Calls, AreInHand}
 use Rattle.sz_claims.proofs.ForCallers.{in_hand_now, in_hand_still}
 use Rattle.sz_claims.proofs.UnplacedLemmas.{are_unplaced}
 use Rattle.sz_crew.specs.Working.{IsInPlace, AreWon, IsAtWork}

@@ -1,5 +1,5 @@
 //! Records cut into shards.
-ghost use Rattle.std.specs.Prelude.{◌≡◌, ◌≤◌, ◌^◌, length, IfOk};
+ghost use Rattle.std.specs.Prelude.{◌≤◌, ◌^◌, length, IfOk};
 ghost use Rattle.sz_rounds.specs.Cuts.{AreCut};
 
 use std::alloc::Global;

@@ -1,5 +1,5 @@
 //! The plan of a round.
-ghost use Rattle.std.specs.Prelude.{◌≡◌, ◌+◌, ◌<◌, ◌≤◌, ◌++◌, ◌^◌, length, IfOk, OnOk};
+ghost use Rattle.std.specs.Prelude.{◌≡◌, ◌+◌, ◌<◌, ◌≤◌, ◌++◌, ◌^◌, IfOk, OnOk};
 ghost use Rattle.sz_rounds.specs.Rounds.{IsRound};
 ghost use Rattle.sz_rounds.specs.Tickets.{IsPlanOf, tickets_for, tickets_upto};
 ghost use Rattle.sz_words.specs.Lists.{is_among};

@@ -56,13 +56,48 @@ ruleset parts = (
 )
 
 table_sync : IsSync TableDecl.the_row
-table_sync = declared_sync TableDecl.the_type (search parts depth 30, (search parts depth 30, (search parts depth 30, (search parts depth 30, (search parts depth 30, (search parts depth 30, tt))))))
+table_sync =
+    declared_sync TableDecl.the_type (
+      search parts depth 30,
+      (
+        search parts depth 30,
+        (
+          search parts depth 30,
+          (
+            search parts depth 30,
+            (
+              search parts depth 30,
+              (search parts depth 30, tt),
+            ),
+          ),
+        ),
+      ),
+    )
 
 tables_sync : IsSync TableDecls.the_row
 tables_sync = view_sync _ _ _ _ _ (declared_sync TableDecls.TheInside.the_type (search (parts, table_sync) depth 30, tt))
 
 code_sync : IsSync Code.the_row
-code_sync = declared_sync Code.the_type (search parts depth 30, (search parts depth 30, (search parts depth 30, (search parts depth 30, (search parts depth 30, (search parts depth 30, (tables_sync, tt)))))))
+code_sync =
+    declared_sync Code.the_type (
+      search parts depth 30,
+      (
+        search parts depth 30,
+        (
+          search parts depth 30,
+          (
+            search parts depth 30,
+            (
+              search parts depth 30,
+              (
+                search parts depth 30,
+                (tables_sync, tt),
+              ),
+            ),
+          ),
+        ),
+      ),
+    )
 
 compiled_sync : IsSync Compiled.the_row
 compiled_sync = view_sync _ _ _ _ _ (declared_sync Compiled.TheInside.the_type (code_sync, (search parts depth 30, tt)))
@@ -71,7 +106,23 @@ slots_sync : IsSync Slots.the_row
 slots_sync = search parts depth 30
 
 pub job_sync : IsSync Job.the_row
-job_sync = declared_sync Job.the_type (compiled_sync, (slots_sync, (search parts depth 30, (search parts depth 30, (search parts depth 30, (search parts depth 30, tt))))))
+job_sync =
+    declared_sync Job.the_type (
+      compiled_sync,
+      (
+        slots_sync,
+        (
+          search parts depth 30,
+          (
+            search parts depth 30,
+            (
+              search parts depth 30,
+              (search parts depth 30, tt),
+            ),
+          ),
+        ),
+      ),
+    )
 
 module _ (κ : NamedLft) where
   sum_send : IsSend (Sum.the_row κ)
@@ -81,10 +132,36 @@ module _ (κ : NamedLft) where
   sum_sync = let t = tables_sync in let u = table_sync in search parts depth 30
 
   extreme_send : IsSend (Extreme.the_row κ)
-  extreme_send = view_send _ _ _ _ _ (declared_send (Extreme.TheInside.the_type κ) (search parts depth 30, (search (parts, table_sync) depth 30, (search parts depth 30, (search parts depth 30, (search (parts, heap.the_send) depth 30, tt))))))
+  extreme_send =
+      view_send _ _ _ _ _ (declared_send (Extreme.TheInside.the_type κ) (
+        search parts depth 30,
+        (
+          search (parts, table_sync) depth 30,
+          (
+            search parts depth 30,
+            (
+              search parts depth 30,
+              (search (parts, heap.the_send) depth 30, tt),
+            ),
+          ),
+        ),
+      ))
 
   extreme_sync : IsSync (Extreme.the_row κ)
-  extreme_sync = view_sync _ _ _ _ _ (declared_sync (Extreme.TheInside.the_type κ) (search parts depth 30, (search (parts, table_sync) depth 30, (search parts depth 30, (search parts depth 30, (search (parts, heap.the_sync) depth 30, tt))))))
+  extreme_sync =
+      view_sync _ _ _ _ _ (declared_sync (Extreme.TheInside.the_type κ) (
+        search parts depth 30,
+        (
+          search (parts, table_sync) depth 30,
+          (
+            search parts depth 30,
+            (
+              search parts depth 30,
+              (search (parts, heap.the_sync) depth 30, tt),
+            ),
+          ),
+        ),
+      ))
 
   members_send : IsSend (Members.the_row κ)
   members_send = let u = table_sync in search (parts, index_map.the_send) depth 30
@@ -99,13 +176,53 @@ module _ (κ : NamedLft) where
   aggregate_sync = let a = sum_sync in let b = extreme_sync in let c = members_sync in search parts depth 30
 
   one_table_send : IsSend (OneTable.the_row κ)
-  one_table_send = view_send _ _ _ _ _ (declared_send (OneTable.TheInside.the_type κ) (search parts depth 30, (search (parts, table_sync) depth 30, (search parts depth 30, (search parts depth 30, (search (parts, aggregate_send, index_map.the_send) depth 30, tt))))))
+  one_table_send =
+      view_send _ _ _ _ _ (declared_send (OneTable.TheInside.the_type κ) (
+        search parts depth 30,
+        (
+          search (parts, table_sync) depth 30,
+          (
+            search parts depth 30,
+            (
+              search parts depth 30,
+              (search (parts, aggregate_send, index_map.the_send) depth 30, tt),
+            ),
+          ),
+        ),
+      ))
 
   one_table_sync : IsSync (OneTable.the_row κ)
-  one_table_sync = view_sync _ _ _ _ _ (declared_sync (OneTable.TheInside.the_type κ) (search parts depth 30, (search (parts, table_sync) depth 30, (search parts depth 30, (search parts depth 30, (search (parts, aggregate_sync, index_map.the_sync) depth 30, tt))))))
+  one_table_sync =
+      view_sync _ _ _ _ _ (declared_sync (OneTable.TheInside.the_type κ) (
+        search parts depth 30,
+        (
+          search (parts, table_sync) depth 30,
+          (
+            search parts depth 30,
+            (
+              search parts depth 30,
+              (search (parts, aggregate_sync, index_map.the_sync) depth 30, tt),
+            ),
+          ),
+        ),
+      ))
 
   pub total_send : IsSend (Total.the_row κ)
-  total_send = view_send _ _ _ _ _ (declared_send (Total.TheInside.the_type κ) (search (parts, tables_sync) depth 30, (search parts depth 30, (search (parts, one_table_send) depth 30, tt))))
+  total_send =
+      view_send _ _ _ _ _ (declared_send (Total.TheInside.the_type κ) (
+        search (parts, tables_sync) depth 30,
+        (
+          search parts depth 30,
+          (search (parts, one_table_send) depth 30, tt),
+        ),
+      ))
 
   pub total_sync : IsSync (Total.the_row κ)
-  total_sync = view_sync _ _ _ _ _ (declared_sync (Total.TheInside.the_type κ) (search (parts, tables_sync) depth 30, (search parts depth 30, (search (parts, one_table_sync) depth 30, tt))))
+  total_sync =
+      view_sync _ _ _ _ _ (declared_sync (Total.TheInside.the_type κ) (
+        search (parts, tables_sync) depth 30,
+        (
+          search parts depth 30,
+          (search (parts, one_table_sync) depth 30, tt),
+        ),
+      ))
