@@ -105,9 +105,9 @@ impl Operands {
         requires some { 1 < length self.old }
         ensures value { self.new ≡ cell ∷ drop 2 self.old }
     {
-        let count = self.held.len() - 1;
-        self.held.truncate(count);
-        self.held[count - 1] = cell;
+        let place = self.held.len() - 2;
+        let _upper = self.held.pop();
+        self.held[place] = cell;
     }
 
     /// Takes so many topmost operands off.

@@ -1,5 +1,5 @@
 -- The answer of a self test, from that of its program over its file.
-use Rattle.std.proofs.Common.{◌≡◌, ℕ, ◌≤◌, List, [], ◌∷◌, ◌++◌, length, Some, refl, sym, ap, ◌∙◌, subst, arith, append-nil}
+use Rattle.std.proofs.Common.{◌≡◌, ℕ, ◌≤◌, List, [], length, Some, refl, sym, ap, ◌∙◌, subst, arith, append-nil}
 use Rattle.std.specs.Prelude.{Result, Ok, Err}
 use Rattle.sz_io.specs.Rose.{Rose}
 use Rattle.sz_io.specs.declared.files.Files as files
@@ -20,8 +20,8 @@ use Rattle.szl.specs.Checking.{checked}
 use Rattle.szl.specs.Judgement.{IsShort, HasStatements, most_program_bytes, refused, spells}
 use Rattle.szl.specs.Judging.{IsFailureOf, IsFailureOn}
 use Rattle.szl.specs.Opening.{Decides, Answers, AnswersOver, AnswersTextOver}
-use Rattle.szl.specs.Outcome.{outcome_faulted, outcome_of_program, outcome_of_statics, outcome_of_checked_run}
-use Rattle.szl.specs.Promise.{OpensFirst, AreReadToEnd}
+use Rattle.szl.specs.Outcome.{outcome_faulted, outcome_of_statics, outcome_of_checked_run}
+use Rattle.szl.specs.Promise.{AreReadToEnd}
 use Rattle.szl.specs.Running.{GivesStatics, GivesTables, IsJobOf}
 use Rattle.szl.specs.Settings.{selftest_run, HasBounds}
 use Rattle.szl.proofs.JudgementLemmas.{every_text_is_read}

@@ -11,7 +11,7 @@ use Rattle.sz_io.specs.Calls.{NamesGain, ReadToEnd}
 use Rattle.sz_io.proofs.ForCallers.{rose_later}
 use Rattle.sz_io.specs.declared.files.Files as files
 use Rattle.sz_core.specs.Programs.{Core}
-use Rattle.sz_world.specs.World.{Fault, Done, Faulted}
+use Rattle.sz_world.specs.World.{Done, Faulted}
 use Rattle.sz_world.specs.World as world
 use Rattle.sz_world.specs.Slots.{Slot}
 use Rattle.sz_mean.specs.Programs.{statics}

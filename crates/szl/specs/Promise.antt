@@ -17,7 +17,7 @@ use Rattle.szl.specs.Records.{Cut, IsCutInto}
 use Rattle.szl.specs.Outcome.{Answer, read_failed_line, write_failed_line, no_memory_line, outcome}
 
 -- The status is the outcome's, or one of the three that a device or want of memory brings: reading can fail only where
--- the words ask for files, and writing only where there are bytes to write.
+-- the words are a command line, and writing only where there are bytes to write.
 abbrev pub IsStatusOf : Answer → Status → Type 0
 IsStatusOf answer NoMemory = ⊤
 IsStatusOf answer ReadFailed = answer.status ≢ Usage

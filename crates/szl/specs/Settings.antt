@@ -4,7 +4,7 @@ use Rattle.sz_types.specs.declared.frame.Frame.{Frame}
 use Rattle.sz_types.specs.declared.frame.Frame.TheVariants.{Lines, Delimited}
 use Rattle.sz_words.specs.declared.settings.RunSettings.{RunSettings}
 use Rattle.sz_words.specs.declared.settings.Settings.{Settings}
-use Rattle.sz_words.specs.declared.settings.Settings.TheVariants.{Run, Check, Selftest}
+use Rattle.sz_words.specs.declared.settings.Settings.TheVariants.{Run, Selftest}
 
 -- how the records of the input are told apart: as lines, where nothing else is asked for
 abbrev pub frame_asked : Option Settings → Frame

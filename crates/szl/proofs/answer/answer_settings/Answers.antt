@@ -1,4 +1,4 @@
-use Rattle.std.proofs.Common.{Some, [], sym, subst}
+use Rattle.std.proofs.Common.{Some, sym, subst}
 use Rattle.std.specs.Prelude.{OnOk}
 use Rattle.szl.specs.Opening.{Answers}
 use Rattle.szl.specs.Promise.{AreReadToEnd, names_asked}
