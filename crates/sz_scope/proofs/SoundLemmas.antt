@@ -77,29 +77,9 @@ indexed_push newest entry entries indexed name h = by (cases_eq entry.name name)
         get_set_other newest entry.name name (Some (length entries)) n ∙ indexed name within
         ∙ ap (λ o. Some o) (sym (cond-false (entry.name == name) (Some (length entries)) (latest name entries) (ne_eqb entry.name name n)))
 
--- the newest entry is taken out
-pub indexed_pop : (newest : List (Option ℕ)) (entry : Entry) (entries : List Entry) → IsLinked (entry ∷ entries) → IsIndexed newest (entry ∷ entries)
-    → IsIndexed (set newest entry.name entry.hidden) entries
-indexed_pop newest entry entries linked indexed name h = by (cases_eq entry.name name)
-  where
-    within : name < length newest
-    within = omega (arith, h, length-set newest entry.name entry.hidden)
-
-    by : (entry.name ≡ name) ⊎ (entry.name ≡ name → ⊥) → slice_get (set newest entry.name entry.hidden) name ≡ Some (latest name entries)
-    by (inl p) =
-        subst (λ n. slice_get (set newest n entry.hidden) name ≡ Some entry.hidden) (sym p) (get_set_same newest name entry.hidden within)
-        ∙ ap (λ o. Some o) (linked.0 ∙ ap (λ n. latest n entries) p)
-    by (inr n) =
-        get_set_other newest entry.name name entry.hidden n ∙ indexed name within
-        ∙ ap (λ o. Some o) (cond-false (entry.name == name) (Some (length entries)) (latest name entries) (ne_eqb entry.name name n))
-
 -- room for one more name
 pub room_more : (newest : List (Option ℕ)) → HasRoomOf newest (newest ++ None ∷ [])
 room_more newest = record { room = omega (arith, length_push newest None); indexed = λ entries. indexed_more newest entries }
-
--- the same list
-pub room_same : (newest : List (Option ℕ)) → HasRoomOf newest newest
-room_same newest = record { room = omega arith; indexed = λ entries within indexed. indexed }
 
 -- more room keeps all that is sound
 pub keeps_room : (names : List (List ℕ)) (newest others : List (Option ℕ)) → HasRoomOf newest others → KeepsSound names names newest others
@@ -196,24 +176,6 @@ pub record IsClosing (depth : ℕ) (old : List Entry) (total : ℕ) (entries : L
   pub linked : IsLinked (reverse entries)
   pub indexed : IsIndexed newest (reverse entries)
 
--- one entry is taken out
-pub closing_step : (depth : ℕ) (old : List Entry) (count : ℕ) (entries less : List Entry) (newest : List (Option ℕ)) (entry : Entry)
-    → IsClosing depth old count entries newest → reverse entries ≡ entry ∷ reverse less → depth ≤ entry.depth
-    → IsClosing depth old count less (set newest entry.name entry.hidden)
-closing_step depth old count entries less newest entry c p l = record {
-  rest = sym (cond-false (nat_lt entry.depth depth) (entry ∷ reverse less) (without_deeper depth (reverse less)) (le-ltb entry.depth depth l))
-      ∙ ap (without_deeper depth) (sym p) ∙ c.rest;
-  count = length-set newest entry.name entry.hidden ∙ c.count;
-  within = (subst (IsWithin count) p c.within).1;
-  linked = (subst IsLinked p c.linked).1;
-  indexed = indexed_pop newest entry (reverse less) (subst IsLinked p c.linked) (subst (IsIndexed newest) p c.indexed);
-}
-
--- its name is among the names
-pub closing_within : (depth : ℕ) (old : List Entry) (count : ℕ) (entries less : List Entry) (newest : List (Option ℕ)) (entry : Entry)
-    → IsClosing depth old count entries newest → reverse entries ≡ entry ∷ reverse less → entry.name < length newest
-closing_within depth old count entries less newest entry c p = omega (arith, (subst (IsWithin count) p c.within).0, c.count)
-
 -- a block that is opened
 module _ (names : List (List ℕ)) (newest : List (Option ℕ)) (entries : List Entry) (depth : ℕ) (sound : IsSound names newest entries depth) where
   more : suc depth ≡ depth + 1
@@ -266,11 +228,5 @@ taken names depth (entry ∷ entries) named linked nested = by (cases_lt entry.d
         deep = omega (arith, l, nested.0)
 
 module _ (names : List (List ℕ)) (depth : ℕ) (newest others : List (Option ℕ)) (entries : List Entry) (sound : IsSound names newest entries (suc depth)) where
-  pub sound_taken : length others ≡ length newest → IsIndexed others (without_first depth entries)
-      → IsSound names others (without_first depth entries) (suc depth)
-  sound_taken same indexed =
-      let t = taken names depth entries sound.named sound.linked sound.nested in
-      record { room = omega (arith, sound.room, same); named = t.named; indexed = indexed; linked = t.linked; nested = t.nested }
-
   pub blocks_taken : blocks_of names (without_first depth entries) (suc depth) ≡ without_newest (blocks_of names entries (suc depth))
   blocks_taken = (taken names depth entries sound.named sound.linked sound.nested).blocks
