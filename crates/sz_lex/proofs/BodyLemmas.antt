@@ -305,10 +305,6 @@ escape_decodes q text at k n value v left h is e size =
     ∙ ap (λ (w : List ℕ). shift (at + k + 1 + n) w (body_at q 0 (drop (k + 1 + n) bs))) (sym (append_assoc value (take k bs) v))
     ∙ ap (λ (t : List ℕ). shift (at + k + 1 + n) (value ++ take k bs ++ v) (body_at q 0 t)) rest)
 
-pub escape_within : (q : Quoted) (text v : List ℕ) → Some v ≡ option_and_then (escape_bytes q) (escape_at text)
-    → escape_size (first text) ≤ length text
-escape_within q text v e = (stands q text v (sym e)).within
-
 -- the value of a body that is the whole text, or that isn't
 pub closes_whole : (q : Quoted) (text : List ℕ) (at k : ℕ) (value : List ℕ) → IsDecoded q text at value → Searched text at (Some k)
     → get_or text (at + k) 0 ≡ 34 → at + k + 1 ≡ length text

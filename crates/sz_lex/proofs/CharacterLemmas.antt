@@ -106,10 +106,6 @@ pub record CharacterAt (bs : List ℕ) (c n : ℕ) : Type 0 where
   pub len : n ≡ length body + 1
   pub is : IsCharacter (39 ∷ (body ++ (39 ∷ []))) c
 
-escape_case : (bs : List ℕ) → character_at (92 ∷ bs) ≡ quoted_character (option_and_then escape_code (escape_at bs))
-    (1 + escape_size (first bs)) (drop (escape_size (first bs)) bs)
-escape_case bs = refl
-
 plain_case : (b : ℕ) (bs : List ℕ) → eqb b 92 ≡ false → let n =
     prefix_len not_quote (b ∷ bs) in character_at (b ∷ bs) ≡ quoted_character (plain_character (take n (b ∷ bs))) n (drop n (b ∷ bs))
 plain_case b bs e = rw e refl
