@@ -134,11 +134,6 @@ found_more found more b names c i within fits now h = record {
   count = ap length now ∙ length-append found (b ∷ []) ∙ ap (λ (n : ℕ). n + 1) h.count;
 }
 
-pub found_all : (found : List BoundForm) (names : List (List ℕ)) (c : Exp) (i : ℕ) → length names ≤ i → IsFoundUpTo found names c i
-    → bounds_of names c ≡ map (λ (b : BoundForm). Some b) found
-found_all found names c i over h =
-    sym h.so_far ∙ ap (λ (vs : _). map (λ (b : BoundForm). Some b) found ++ bounds_of vs c) (drop_of_length-le names over) ∙ append-nil _
-
 pub found_lack : (found : List BoundForm) (names : List (List ℕ)) (c : Exp) (i n : ℕ) → i < length names
     → None ≡ first_fit (drop i names) (parts c) → n ≡ i → IsFoundUpTo found names c i → position is_none (bounds_of names c) ≡ Some n
 found_lack found names c i n within fits same h =
