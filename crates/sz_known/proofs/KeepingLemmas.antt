@@ -23,7 +23,7 @@ use Rattle.sz_known.specs.declared.meaning.Meaning.TheVariants as held
 use Rattle.sz_known.specs.Names.{Meaning, Named, Block, has, meaning_in, only, is_seen_by_functions, is_seen_by_statics}
 use Rattle.sz_known.specs.Names as names
 use Rattle.sz_known.specs.Holding.{meaning_of, Held, blocks_of, blocks_for, in_function}
-use Rattle.sz_known.specs.Keeping.{floor_of, seen_from, sits_in, fitting, sight_for, place_of, placed, is_new, kept_at, meaning_by, block_by, blocks_by}
+use Rattle.sz_known.specs.Keeping.{floor_of, seen_from, sits_in, sight_for, place_of, placed, is_new, kept_at, meaning_by, block_by, blocks_by}
 use Rattle.sz_known.specs.Keeping.{held_of, with_name, with_type, IsPlaced, ArePlacedIn, ArePlaced, IsTyped, AreTyped, IsKept}
 
 -- what is kept under a name, whose place is in the list
@@ -213,25 +213,6 @@ sits_floor : (sight : Sight) (count : ℕ) → sits_in sight count ≡ true → 
 sits_floor sights.Record count s = omega arith
 sits_floor (sights.Function outside) count s = leb-true outside count s
 sits_floor sights.Static count s = absurd (true≢false (sym s))
-
-sits_more : (sight : Sight) (count more : ℕ) → sits_in sight count ≡ true → floor_of sight ≤ more → sits_in sight more ≡ true
-sits_more sights.Record count more s l = refl
-sits_more (sights.Function outside) count more s l = le-leb outside more l
-sits_more sights.Static count more s l = s
-
-fitting_sits : (sight : Sight) (count : ℕ) → sits_in (fitting sight count) count ≡ true
-fitting_sits sights.Record count = refl
-fitting_sits sights.Static count = refl
-fitting_sits (sights.Function outside) count = by (nat_le outside count) refl
-  where
-    by : (b : Bool) → nat_le outside count ≡ b → sits_in (if b then sights.Function outside else sights.Record) count ≡ true
-    by true e = e
-    by false e = refl
-
-fitting_same : (sight : Sight) (count : ℕ) → sits_in sight count ≡ true → fitting sight count ≡ sight
-fitting_same sights.Record count s = refl
-fitting_same sights.Static count s = absurd (true≢false (sym s))
-fitting_same (sights.Function outside) count s = cond-true (nat_le outside count) (sights.Function outside) sights.Record s
 
 module _ (types : List Shape) (meanings : List Kept) where
   seen_by_routine : (sight : Sight) (count : ℕ) → sits_in sight count ≡ true → (blocks : List scopes.Block) → ArePlaced meanings blocks
