@@ -98,10 +98,6 @@ rise_length : (a b : ℕ) (vs : List Variable) → Rise a b vs → a ≤ b
 rise_length a b [] h = h
 rise_length a b (v ∷ vs) h = omega (arith, h.0, h.1)
 
-rise_to : (a b c : ℕ) (vs : List Variable) → b ≤ c → Rise a b vs → Rise a c vs
-rise_to a b c [] h k = omega (arith, h, k)
-rise_to a b c (v ∷ vs) h k = (k.0, omega (arith, h, k.1), rise_to (suc v.local) b c vs h k.2)
-
 rise_append : (a b c : ℕ) (vs ws : List Variable) → Rise a b vs → Rise b c ws → Rise a c (vs ++ ws)
 rise_append a b c [] ws h k = rise_from a b c ws h k
 rise_append a b c (v ∷ vs) ws h k =
@@ -129,14 +125,6 @@ rise_inside a b (v ∷ vs) h = by (is_seen_inside v.quantity) (rise_inside (suc 
     by : (c : Bool) → Rise (suc v.local) b (inside vs) → Rise a b (if c then v ∷ inside vs else inside vs)
     by true rest = (h.0, h.1, rest)
     by false rest = rise_from a (suc v.local) b (inside vs) (omega (arith, h.0)) rest
-
-pub have_inside : (locals : List Shape) (vs : List Variable) → HaveLocals locals vs → HaveLocals locals (inside vs)
-have_inside locals [] h = tt
-have_inside locals (v ∷ vs) h = by (is_seen_inside v.quantity) (have_inside locals vs h.1)
-  where
-    by : (c : Bool) → HaveLocals locals (inside vs) → HaveLocals locals (if c then v ∷ inside vs else inside vs)
-    by true rest = (h.0, rest)
-    by false rest = rest
 
 -- the numbers of what is bound are below the second
 pub bound_below : (a b : ℕ) (vs : List Variable) (g : Sight) → Rise a b vs → AreBelow b g.seen → AreBelow b (bound vs g).seen

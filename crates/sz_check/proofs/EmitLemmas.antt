@@ -67,12 +67,6 @@ module _ (emits : List ℕ → Bool) (h : List (List ℕ)) where
       ap (λ (xs : List Expr). exps_emit emits h (exps_of (map tree_of xs))) items
       ∙ sym (ap (exp_emits emits h) is ∙ ap (λ (b : Bool). b || exps_emit emits h (exps_of (map tree_of v.items))) (sym known ∙ silent))
 
-  pub named_call_emits : (e : Expr) (n : Ident) (v : Vec Expr) (itself : Bool) → tree_of e ≡ call n (exps_of (map tree_of v.items))
-      → itself ≡ calls emits h n.text → itself ≡ true → true ≡ exp_emits emits h (tree_of e)
-  unfolding exp_emits
-  named_call_emits e n v itself is known loud =
-      sym (ap (exp_emits emits h) is ∙ ap (λ (b : Bool). b || exps_emit emits h (exps_of (map tree_of v.items))) (sym known ∙ loud))
-
   pub list_emits : (e : Expr) (p : Place) (v : Vec Expr) (es : List Expr) → tree_of e ≡ list p (exps_of (map tree_of v.items)) → es ≡ v.items
       → exps_emit emits h (exps_of (map tree_of es)) ≡ exp_emits emits h (tree_of e)
   unfolding exp_emits
@@ -149,9 +143,6 @@ kept_front old mid count more counted is =
 pub kept_taken : (old mid : List (Bor Name)) (count : ℕ) → count ≡ length old → take (length old) (hidden_of mid) ≡ hidden_of old
     → hidden_of (take count mid) ≡ hidden_of old
 kept_taken old mid count counted is = hidden_taken count mid ∙ ap (λ n. take n (hidden_of mid)) counted ∙ is
-
-pub still_front : (old mid : List (Bor Name)) (more : List (List ℕ)) → hidden_of mid ≡ hidden_of old ++ more → take (length old) (hidden_of mid) ≡ hidden_of old
-still_front old mid more is = ap (take (length old)) is ∙ front_taken (hidden_of old) more (length old) (sym (hidden_length old))
 
 -- the names are those that there were behind a statement, a `for` and a `when` too
 pub kept_behind : (old mid : List (Bor Name)) (count : ℕ) (s : Stm) → count ≡ length old → hidden_of mid ≡ hidden_behind (hidden_of old) s

@@ -131,10 +131,6 @@ and_false : (a : Bool) → (a && false) ≡ false
 and_false true = refl
 and_false false = refl
 
-or_false : (a : Bool) → (a || false) ≡ a
-or_false true = refl
-or_false false = refl
-
 -- what the function's own name adds to what is kept of the blocks
 own_name : (name : List ℕ) (fs : List Signature) (n : Ident) (s : Signature) (blocks own : List Block) (emits : Bool)
     → names.declare n (names.function (length fs) s) blocks ≡ good own → emits ≡ by_signatures fs (meaning_of name (only is_seen_by_functions blocks))
