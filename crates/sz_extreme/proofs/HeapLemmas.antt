@@ -1,5 +1,5 @@
 -- What the calls of the heap leave: the least of all that came.
-use Rattle.std.proofs.Common.{◌≡◌, ◌∙◌, ℕ, zero, suc, ◌+◌, ◌≤◌, ◌<◌, ℤ, Bool, true, false, List, [], ◌∷◌, ◌++◌, map, take, length, true≢false, Result, Ok, Err, IsOk, OnOk, Option, Some, None, IsSome, IfSome, IsSorted, refl, sym, ap, subst, arith, is_lt, IsPermutation}
+use Rattle.std.proofs.Common.{◌≡◌, ◌∙◌, ℕ, ◌+◌, ◌≤◌, ◌<◌, ℤ, Bool, true, false, List, [], ◌∷◌, ◌++◌, map, take, length, true≢false, Result, Ok, Err, IsOk, OnOk, Option, Some, None, IsSome, IfSome, IsSorted, sym, ap, subst, arith, is_lt, IsPermutation}
 use Rattle.std.specs.List.{AllByRecursion}
 use Rattle.std.specs.BinaryHeap.{IsHeap, IsUpperBound, PopsGreatest}
 use Rattle.std.specs.List.Sorted.{IsStable}
@@ -31,11 +31,6 @@ passed_over n ps p r long all high =
     let worst = worse_than_worst rank_total rank_ties r (seen_rank p) (ranks ps) high (worst_seen p ps all) in
     sym (ap (take n) (front r (ranks ps)) ∙ worst_left_out rank_total rank_ties n (ranks ps) r (omega (arith, length-map ps seen_rank, long)) worst)
 
--- nothing can be held
-pub none_held : (n : ℕ) (all held : List Ranked) → n ≡ 0 → HoldsLeast n all held
-none_held zero all held none = refl
-none_held (suc n) all held none = absurd (omega (arith, none))
-
 -- one more is held
 pub one_more : (n : ℕ) (ps qs : List (ℤ × Value)) (p : ℤ × Value) → IsPermutation (p ∷ ps) qs → HoldsLeast n (ranks ps ++ seen_rank p ∷ []) (ranks qs)
 one_more n ps qs p moved =
@@ -60,9 +55,6 @@ worst_goes n qs rest worst popped more all =
 -- what is held of what is held
 pub held_of_held : (n : ℕ) (all some held : List Ranked) → HoldsLeast n all some → HoldsLeast n some held → HoldsLeast n all held
 held_of_held n all some held before after = after ∙ before
-
-pub all_held : (n : ℕ) (all : List Ranked) → HoldsLeast n all all
-all_held n all = refl
 
 -- what holds where a call can't fail
 pub surely : {T E P : Type 0} (r : Result T E) → IsOk r → OnOk r P → P
