@@ -9,7 +9,7 @@ use Rattle.std.proofs.lemmas.Option.{none-some, same_Some, slice_get_within}
 use Rattle.std.proofs.lemmas.List.{length_push}
 use Rattle.sz_types.specs.Data.{Shape}
 use Rattle.sz_scope.specs.Blocks as scopes
-use Rattle.sz_scope.specs.Blocks.{Declaration, found, found_in, is_declared, with_declared, without_newest}
+use Rattle.sz_scope.specs.Blocks.{Declaration, found, found_in, is_declared, with_declared}
 use Rattle.sz_scope.specs.Sight.{is_seen, blocks_where, seen_blocks}
 use Rattle.sz_scope.specs.declared.meaning.Meaning.{Meaning as Place}
 use Rattle.sz_scope.specs.declared.error.ScopeError.{ScopeError}

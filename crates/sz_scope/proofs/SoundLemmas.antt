@@ -4,11 +4,10 @@ use Rattle.std.proofs.lemmas.Bool.{cases_lt, cases_eq, eq-eqb, ne_eqb, cond-true
 use Rattle.std.proofs.lemmas.List.{length-set, length_push}
 use Rattle.sz_scope.specs.declared.entry.Entry.{Entry}
 use Rattle.sz_scope.specs.Names.{place_of, name_at}
-use Rattle.sz_scope.specs.Blocks.{without_newest}
-use Rattle.sz_scope.specs.Chain.{latest, without_deeper, without_first, IsLinked, IsNested, IsNamed, IsWithin, IsIndexed, IsSound, HasRoomOf, KeepsSound, blocks_of}
+use Rattle.sz_scope.specs.Chain.{latest, without_deeper, IsLinked, IsNested, IsNamed, IsWithin, IsIndexed, IsSound, HasRoomOf, KeepsSound, blocks_of}
 use Rattle.sz_scope.proofs.NamesLemmas.{at_place, place_stays, name_at_stays}
 use Rattle.sz_scope.proofs.ChainLemmas.{nested_weaker}
-use Rattle.sz_scope.proofs.BlocksLemmas.{blocks_stay, blocks_without, block_opened, block_declared}
+use Rattle.sz_scope.proofs.BlocksLemmas.{blocks_stay, blocks_without, block_opened}
 
 module _ {X : Type 0} where
   -- the elements of a list with one more at its end
@@ -192,41 +191,3 @@ module _ (names : List (List ℕ)) (newest : List (Option ℕ)) (entries : List 
 
   pub blocks_opened : blocks_of names entries (depth + 1) ≡ [] ∷ blocks_of names entries depth
   blocks_opened = ap (blocks_of names entries) (sym more) ∙ block_opened names entries depth sound.nested
-
--- the newest declaration of the innermost block is taken back
-record IsTaken (names : List (List ℕ)) (depth : ℕ) (entries left : List Entry) : Type 0 where
-  pub named : IsNamed names left
-  pub linked : IsLinked left
-  pub nested : IsNested (suc depth) left
-  pub blocks : blocks_of names left (suc depth) ≡ without_newest (blocks_of names entries (suc depth))
-
-taken : (names : List (List ℕ)) (depth : ℕ) (entries : List Entry) → IsNamed names entries → IsLinked entries → IsNested (suc depth) entries
-    → IsTaken names depth entries (without_first depth entries)
-taken names depth [] named linked nested = record { named = named; linked = linked; nested = nested; blocks = refl }
-taken names depth (entry ∷ entries) named linked nested = by (cases_lt entry.depth depth)
-  where
-    by : (entry.depth < depth) ⊎ (depth ≤ entry.depth) → IsTaken names depth (entry ∷ entries) (without_first depth (entry ∷ entries))
-    by (inl l) = subst (IsTaken names depth (entry ∷ entries)) (sym (cond-true (nat_lt entry.depth depth) (entry ∷ entries) entries (lt-ltb entry.depth depth l)))
-        (record {
-          named = named;
-          linked = linked;
-          nested = nested;
-          blocks = empty ∙ ap without_newest (sym empty);
-        })
-      where
-        empty : blocks_of names (entry ∷ entries) (suc depth) ≡ [] ∷ blocks_of names (entry ∷ entries) depth
-        empty = block_opened names (entry ∷ entries) depth (l, nested.1)
-    by (inr l) = subst (IsTaken names depth (entry ∷ entries)) (sym (cond-false (nat_lt entry.depth depth) (entry ∷ entries) entries (le-ltb entry.depth depth l)))
-        (record {
-          named = named.1;
-          linked = linked.1;
-          nested = nested_weaker entries (suc entry.depth) (suc depth) (omega (arith, deep)) nested.1;
-          blocks = ap without_newest (sym (block_declared names entry entries depth deep));
-        })
-      where
-        deep : entry.depth ≡ depth
-        deep = omega (arith, l, nested.0)
-
-module _ (names : List (List ℕ)) (depth : ℕ) (newest others : List (Option ℕ)) (entries : List Entry) (sound : IsSound names newest entries (suc depth)) where
-  pub blocks_taken : blocks_of names (without_first depth entries) (suc depth) ≡ without_newest (blocks_of names entries (suc depth))
-  blocks_taken = (taken names depth entries sound.named sound.linked sound.nested).blocks

@@ -2,7 +2,7 @@
 ghost use Rattle.std.specs.Prelude.{◌≡◌, ◌<◌, ◌≤◌, ◌++◌, ◌∷◌, [], ◌==◌, ℕ, suc, List, Bool, true, false, length, reverse, slice_get, set, Option, None, Some, IfOk, OnOk, OnErr, IfSome, IfNone};
 ghost use Rattle.std.specs.Option.{option_copied, option_map, ForSome};
 ghost use Rattle.sz_scope.specs.Blocks.{is_declared};
-ghost use Rattle.sz_scope.specs.Chain.{latest, first_where, without_deeper, without_first, blocks_of, HasRoomOf, IsIndexed, IsLinked, IsSound, IsWithin, FindsNewest, KeepsSound, TellsTwice};
+ghost use Rattle.sz_scope.specs.Chain.{latest, first_where, without_deeper, blocks_of, HasRoomOf, IsIndexed, IsLinked, IsSound, IsWithin, FindsNewest, KeepsSound, TellsTwice};
 ghost use Rattle.sz_scope.specs.Names.{place_of};
 ghost use Rattle.sz_scope.specs.Sight.{is_seen};
 
@@ -16,7 +16,6 @@ use crate::sight::{Sight, is_seen};
 fn pop_deeper(entries: &mut Vec<Entry>, depth: usize) -> Option<Entry>
     ensures some { IfSome result (λ e. (reverse entries.old.items ≡ e ∷ reverse entries.new.items) × (depth ≤ e.depth)) }
     ensures none { IfNone result (without_deeper depth (reverse entries.old.items) ≡ reverse entries.old.items) }
-    ensures alone { IfNone result (without_first depth (reverse entries.old.items) ≡ reverse entries.old.items) }
     ensures kept { IfNone result (entries.new.items ≡ entries.old.items) }
 {
     match entries.last() {
@@ -36,21 +35,6 @@ pub(crate) fn remove_deeper(entries: &mut Vec<Entry>, newest: &mut Vec<Option<us
 {
     while let Some(entry) = pop_deeper(entries, depth) {
         newest[entry.name] = entry.hidden;
-    }
-}
-
-// Takes out the newest entry, if `depth` blocks or more are open round it: its name means again what it meant before.
-pub(crate) fn remove_newest(entries: &mut Vec<Entry>, newest: &mut Vec<Option<usize>>, depth: usize)
-    requires within { IsWithin (length newest.old.items) (reverse entries.old.items) }
-    requires linked { IsLinked (reverse entries.old.items) }
-    requires indexed { IsIndexed newest.old.items (reverse entries.old.items) }
-    ensures entries { reverse entries.new.items ≡ without_first depth (reverse entries.old.items) }
-    ensures indexed { IsIndexed newest.new.items (reverse entries.new.items) }
-    ensures room { length newest.new.items ≡ length newest.old.items }
-{
-    match pop_deeper(entries, depth) {
-        Some(entry) => newest[entry.name] = entry.hidden,
-        None => {}
     }
 }
 

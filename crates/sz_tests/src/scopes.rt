@@ -1,7 +1,5 @@
 //! What names mean while blocks are opened and closed, step by step.
-use crate::scopes::Step::{
-    Close, Declare, Depth, Means, Nothing, Open, Seen, TakeBack, Twice, Unseen,
-};
+use crate::scopes::Step::{Close, Declare, Depth, Means, Nothing, Open, Seen, Twice, Unseen};
 use std::alloc::Global;
 use std::test::Fail;
 use sz_scope::{Meaning, ScopeError, Scopes, Sight};
@@ -15,7 +13,6 @@ enum Step {
     Declare(&'static str, Meaning),
     // A name that the innermost block has is refused.
     Twice(&'static str),
-    TakeBack,
     Depth(usize),
     Means(&'static str, Meaning),
     // The name is nowhere.
@@ -88,24 +85,12 @@ const A_NAME_THAT_IS_NOT_SEEN_IS_LOOKED_FOR_OUTSIDE: &[Step] = &[
     Seen("y", Sight::Static, 9, Meaning::Static(4)),
 ];
 
-const A_DECLARATION_IS_TAKEN_BACK: &[Step] = &[
-    TakeBack,
-    Nothing("y"),
-    Means("x", Meaning::Table(3)),
-    TakeBack,
-    Means("x", Meaning::Var(1)),
-    TakeBack,
-    Means("x", Meaning::Var(1)),
-    Depth(2),
-];
-
 // The steps behind a call, so that no proof sees them: those of each run, behind the first two blocks.
-fn runs() -> [&'static [Step]; 4] {
+fn runs() -> [&'static [Step]; 3] {
     [
         AN_INNER_BLOCK_HIDES_A_NAME_UNTIL_IT_IS_CLOSED,
         A_NAME_IS_DECLARED_ONCE_IN_A_BLOCK,
         A_NAME_THAT_IS_NOT_SEEN_IS_LOOKED_FOR_OUTSIDE,
-        A_DECLARATION_IS_TAKEN_BACK,
     ]
 }
 
@@ -128,10 +113,6 @@ fn goes(scopes: &mut Scopes, step: &Step) -> bool {
         Step::Close(was_open) => scopes.pop() == *was_open,
         Step::Declare(name, what) => declared(scopes, name, *what).is_ok(),
         Step::Twice(name) => declared(scopes, name, Meaning::Input) == Err(ScopeError::Twice),
-        Step::TakeBack => {
-            scopes.undeclare();
-            true
-        }
         Step::Depth(depth) => scopes.depth() == *depth,
         Step::Means(name, what) => scopes.find(name).copied() == Some(*what),
         Step::Nothing(name) => scopes.find(name).is_none(),
