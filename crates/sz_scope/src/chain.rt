@@ -4,13 +4,13 @@ ghost use Rattle.std.specs.Option.{option_copied, option_map, ForSome};
 ghost use Rattle.sz_scope.specs.Blocks.{is_declared};
 ghost use Rattle.sz_scope.specs.Chain.{latest, first_where, without_deeper, blocks_of, HasRoomOf, IsIndexed, IsLinked, IsSound, IsWithin, FindsNewest, KeepsSound, TellsTwice};
 ghost use Rattle.sz_scope.specs.Names.{place_of};
-ghost use Rattle.sz_scope.specs.Sight.{is_seen};
+ghost use Rattle.sz_scope.specs.Sight.{sees};
 
 use crate::NoMemory;
 use crate::entry::Entry;
 use crate::meaning::Meaning;
 use crate::names::Names;
-use crate::sight::{Sight, is_seen};
+use crate::sight::Sight;
 
 // Takes the last entry out, if `depth` blocks or more are open round it.
 fn pop_deeper(entries: &mut Vec<Entry>, depth: usize) -> Option<Entry>
@@ -137,20 +137,15 @@ pub(crate) fn newest_entry(entries: &[Entry], newest: Option<usize>) -> Option<&
 }
 
 // What the first entry that is seen means, from `newest` on along the hidden ones.
-pub(crate) fn find_seen<'a>(
-    entries: &'a [Entry],
-    newest: Option<usize>,
-    sight: Sight,
-    unbound: &[u32],
-) -> Option<&'a Meaning>
+pub(crate) fn find_seen(entries: &[Entry], newest: Option<usize>, sight: Sight) -> Option<&Meaning>
     requires linked { IsLinked (reverse entries.now) }
     requires within { ForSome newest (λ place. place < length entries.now) }
-    ensures value { FindsNewest (is_seen sight unbound.now) newest (reverse entries.now) (option_copied result) }
+    ensures value { FindsNewest (sees sight) newest (reverse entries.now) (option_copied result) }
 {
     let mut at = newest;
     while let Some(place) = at {
         let entry = &entries[place];
-        if is_seen(sight, unbound, entry.depth, entry.what) {
+        if sight.sees(entry.depth, entry.what) {
             return Some(&entry.what);
         }
         at = entry.hidden;

@@ -132,11 +132,11 @@ impl Scopes {
     }
 
     /// What a name means at a place from where not everything is seen: a name that isn't seen counts as absent from its block,
-    /// and the search goes on outward. `unbound` has the numbers of the quantified variables that aren't bound there.
-    pub fn find_seen(&self, name: &str, sight: Sight, unbound: &[u32]) -> Option<&Meaning>
-        ensures value { option_copied result ≡ found name.now (seen_blocks sight unbound.now self.now) }
+    /// and the search goes on outward.
+    pub fn find_seen(&self, name: &str, sight: Sight) -> Option<&Meaning>
+        ensures value { option_copied result ≡ found name.now (seen_blocks sight self.now) }
     {
         let name = self.names.find(name)?;
-        find_seen(self.entries.as_slice(), self.newest[name], sight, unbound)
+        find_seen(self.entries.as_slice(), self.newest[name], sight)
     }
 }

@@ -17,8 +17,8 @@ enum Step {
     Means(&'static str, Meaning),
     // The name is nowhere.
     Nothing(&'static str),
-    // What a name means from a place, where the quantified variables 0 and this one aren't bound.
-    Seen(&'static str, Sight, u32, Meaning),
+    // What a name means from a place.
+    Seen(&'static str, Sight, Meaning),
     Unseen(&'static str, Sight),
 }
 
@@ -63,26 +63,15 @@ const A_NAME_THAT_IS_NOT_SEEN_IS_LOOKED_FOR_OUTSIDE: &[Step] = &[
     Open,
     Declare("x", Meaning::Quantified(8)),
     Declare("len", Meaning::Var(9)),
-    Seen("x", Sight::Record, 9, Meaning::Quantified(8)),
-    Seen("x", Sight::Record, 8, Meaning::Table(3)),
-    Seen(
-        "x",
-        Sight::Function { outside: 2 },
-        9,
-        Meaning::Quantified(8),
-    ),
-    Seen("x", Sight::Function { outside: 3 }, 9, Meaning::Table(3)),
+    Seen("x", Sight::Record, Meaning::Quantified(8)),
+    Seen("x", Sight::Function { outside: 2 }, Meaning::Quantified(8)),
+    Seen("x", Sight::Function { outside: 3 }, Meaning::Table(3)),
     Unseen("x", Sight::Static),
-    Seen("len", Sight::Record, 9, Meaning::Var(9)),
-    Seen("len", Sight::Function { outside: 2 }, 9, Meaning::Var(9)),
-    Seen(
-        "len",
-        Sight::Function { outside: 3 },
-        9,
-        Meaning::Builtin(2),
-    ),
-    Seen("len", Sight::Static, 9, Meaning::Builtin(2)),
-    Seen("y", Sight::Static, 9, Meaning::Static(4)),
+    Seen("len", Sight::Record, Meaning::Var(9)),
+    Seen("len", Sight::Function { outside: 2 }, Meaning::Var(9)),
+    Seen("len", Sight::Function { outside: 3 }, Meaning::Builtin(2)),
+    Seen("len", Sight::Static, Meaning::Builtin(2)),
+    Seen("y", Sight::Static, Meaning::Static(4)),
 ];
 
 // The steps behind a call, so that no proof sees them: those of each run, behind the first two blocks.
@@ -116,10 +105,8 @@ fn goes(scopes: &mut Scopes, step: &Step) -> bool {
         Step::Depth(depth) => scopes.depth() == *depth,
         Step::Means(name, what) => scopes.find(name).copied() == Some(*what),
         Step::Nothing(name) => scopes.find(name).is_none(),
-        Step::Seen(name, sight, unbound, what) => {
-            scopes.find_seen(name, *sight, &[0, *unbound]).copied() == Some(*what)
-        }
-        Step::Unseen(name, sight) => scopes.find_seen(name, *sight, &[]).is_none(),
+        Step::Seen(name, sight, what) => scopes.find_seen(name, *sight).copied() == Some(*what),
+        Step::Unseen(name, sight) => scopes.find_seen(name, *sight).is_none(),
     }
 }
 
