@@ -3,3 +3,4 @@ pub mod SeenLemmas
 pub mod SameLemmas
 pub mod AlikeLemmas
 pub mod ConversionLemmas
+pub mod NumeralLemmas
