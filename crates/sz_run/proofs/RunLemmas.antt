@@ -8,10 +8,10 @@ use Rattle.sz_instr.specs.declared.line.Line.{Line}
 use Rattle.sz_instr.specs.declared.routine.Routine.{Routine}
 use Rattle.sz_world.specs.World.{World, new_world, Fault, Outcome, Done, Faulted}
 use Rattle.sz_world.specs.Slots.{Slot, undefined_slots}
-use Rattle.sz_machine.specs.States.{State, After, Goes, Halts, Faults, Stuck, faults}
+use Rattle.sz_machine.specs.States.{State, After, Goes, Halts, Faults, Stuck, faults, IsOver}
 use Rattle.sz_machine.specs.Covering.{Covers}
 use Rattle.sz_machine.specs.Running.{LeadsBy, GoesOn, RunsFor, ComesTo, EndsRecord, EndsStatic, RoutinesRunTo, RunsTo, record_start, does}
-use Rattle.sz_run.specs.Running.{IsOver, Ends, IsOnTheWay, OfEnds, LineDoes, EndsSo}
+use Rattle.sz_run.specs.Running.{Ends, IsOnTheWay, OfEnds, LineDoes, EndsSo}
 use Rattle.sz_run.specs.Ends.{RunEnds, seen_fault}
 use Rattle.sz_run.specs.declared.ends.Fault.{Fault as RunFault}
 use Rattle.sz_run.specs.Acting.{Around, world_of, state_of, in_record, in_static}
