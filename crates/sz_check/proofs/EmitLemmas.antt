@@ -17,7 +17,7 @@ use Rattle.sz_tree.specs.View.{tree_of, pair_of, step_of, stm_of}
 use Rattle.sz_check.specs.EmittingTrees.{calls, exp_emits, exps_emit, pairs_emit, steps_emit, stm_emits, stms_emit, hidden_behind}
 use Rattle.sz_check.specs.EmittingTrees.{hidden_behind_first}
 use Rattle.sz_check.specs.Hidden.{hidden_of}
-use Rattle.sz_known.proofs.TurnLemmas.{rest_more, rest_none}
+use Rattle.sz_types.proofs.ForCallers.{rest_more, rest_none}
 
 or_false : (b : Bool) → (b || false) ≡ b
 or_false true = refl

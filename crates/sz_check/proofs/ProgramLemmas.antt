@@ -20,7 +20,7 @@ use Rattle.sz_check.specs.Top.{with_items}
 use Rattle.sz_known.specs.Outcome.{Stops}
 use Rattle.sz_known.specs.declared.error.CheckError.{CheckError}
 use Rattle.sz_known.specs.declared.error.CheckError.TheVariants as errors
-use Rattle.sz_known.proofs.TurnLemmas.{rest_more, rest_none}
+use Rattle.sz_types.proofs.ForCallers.{rest_more, rest_none}
 
 -- the statements behind the first, with what the first is
 abbrev behind : List Stmt → Found → Judged Found

@@ -19,7 +19,8 @@ use Rattle.sz_known.specs.Turns.{behind, put_all}
 use Rattle.sz_check.specs.Tabling.{with_type}
 use Rattle.sz_known.specs.Outcome.{Stops}
 use Rattle.sz_known.specs.declared.error.CheckError.{CheckError}
-use Rattle.sz_known.proofs.TurnLemmas.{rest_more, rest_none, turn_fails, turn_goes, turn_ends}
+use Rattle.sz_known.proofs.TurnLemmas.{turn_fails, turn_goes, turn_ends}
+use Rattle.sz_types.proofs.ForCallers.{rest_more, rest_none}
 
 second_fails : (a b : Bool) → b ≡ false → (a && b) ≡ false
 second_fails true b h = h

@@ -15,7 +15,8 @@ use Rattle.sz_known.specs.Turns.{behind, put_all}
 use Rattle.sz_known.specs.Parts.{name_of, number_of, free_name, free_coding, judge_part, judge_field}
 use Rattle.sz_known.specs.Outcome.{Stops}
 use Rattle.sz_known.specs.declared.error.CheckError.{CheckError}
-use Rattle.sz_known.proofs.TurnLemmas.{rest_more, rest_none, turn_fails, turn_goes, turn_ends}
+use Rattle.sz_known.proofs.TurnLemmas.{turn_fails, turn_goes, turn_ends}
+use Rattle.sz_types.proofs.ForCallers.{rest_more, rest_none}
 
 put_fields : (fs : List FieldShape) → put_all with_field fs no_fields ≡ shapes_of fs
 put_fields [] = refl

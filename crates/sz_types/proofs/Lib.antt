@@ -4,3 +4,4 @@ pub mod SameLemmas
 pub mod AlikeLemmas
 pub mod ConversionLemmas
 pub mod NumeralLemmas
+pub mod ListLemmas
