@@ -55,7 +55,7 @@ impl Candidates {
     }
 
     // The candidates that a value gives.
-    #[tactic(auto, using(crate::proofs::CandidateLemmas::of_array, crate::proofs::ListLemmas::pairs_back))]
+    #[tactic(auto, using(crate::proofs::CandidateLemmas::of_array, sz_builtin::proofs::Parts::pairs_back))]
     fn of_view(alloc: Global, slice: bool, base: &View<'_>) -> Result<Candidates, NoMemory>
         ensures value { IfOk result (λ made. made ≡ candidates slice (Some (seen_view base.now))) }
     {
