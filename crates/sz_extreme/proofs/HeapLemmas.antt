@@ -1,5 +1,5 @@
 -- What the calls of the heap leave: the least of all that came.
-use Rattle.std.proofs.Common.{◌≡◌, ◌∙◌, ℕ, ◌+◌, ◌≤◌, ◌<◌, ℤ, Bool, true, false, List, [], ◌∷◌, ◌++◌, map, take, length, true≢false, Result, Ok, Err, IsOk, OnOk, Option, Some, None, IsSome, IfSome, IsSorted, sym, ap, subst, arith, is_lt, IsPermutation}
+use Rattle.std.proofs.Common.{◌≡◌, ◌∙◌, ℕ, ◌+◌, ◌≤◌, ◌<◌, ℤ, Bool, true, false, List, [], ◌∷◌, ◌++◌, map, take, length, true≢false, Option, Some, None, IsSome, IfSome, IsSorted, sym, ap, subst, arith, is_lt, IsPermutation}
 use Rattle.std.specs.List.{AllByRecursion}
 use Rattle.std.specs.BinaryHeap.{IsHeap, IsUpperBound, PopsGreatest}
 use Rattle.std.specs.List.Sorted.{IsStable}
@@ -55,11 +55,6 @@ worst_goes n qs rest worst popped more all =
 -- what is held of what is held
 pub held_of_held : (n : ℕ) (all some held : List Ranked) → HoldsLeast n all some → HoldsLeast n some held → HoldsLeast n all held
 held_of_held n all some held before after = after ∙ before
-
--- what holds where a call can't fail
-pub surely : {T E P : Type 0} (r : Result T E) → IsOk r → OnOk r P → P
-surely (Ok x) sure p = p
-surely (Err e) sure p = absurd (true≢false (sym sure))
 
 -- what is popped leaves a heap, and the least
 pub heap_next : (now next : List (ℤ × Value)) (r : Option (ℤ × Value)) → IsSome r → IfSome r (λ x. PopsGreatest rank_order now x next) → IsHeap rank_order now
