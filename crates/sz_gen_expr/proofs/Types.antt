@@ -164,7 +164,7 @@ length-pair_types k v zero = refl
 length-pair_types k v (suc n) = omega (arith, length-pair_types k v n)
 
 -- pairs of a map's types
-abbrev PairsFit : List (Datum × Datum) → Shape → Shape → Type 0
+abbrev pub PairsFit : List (Datum × Datum) → Shape → Shape → Type 0
 PairsFit ps k v = pairs_have (entries_of ps) k v ≡ true
 
 whichever : (o : Ordering) (a b c : List (Datum × Datum)) (k v : Shape) → PairsFit a k v → PairsFit b k v → PairsFit c k v
@@ -173,7 +173,7 @@ whichever Less a b c k v ha hb hc = ha
 whichever Equal a b c k v ha hb hc = hb
 whichever Greater a b c k v ha hb hc = hc
 
-put_fits : (ps : List (Datum × Datum)) (key value : Datum) (k v : Shape) → has_type key k ≡ true → has_type value v ≡ true → PairsFit ps k v
+pub put_fits : (ps : List (Datum × Datum)) (key value : Datum) (k v : Shape) → has_type key k ≡ true → has_type value v ≡ true → PairsFit ps k v
     → PairsFit (with_pair key value ps) k v
 put_fits [] key value k v hk hv h = both_in (both_in hk hv) refl
 put_fits (p ∷ ps) key value k v hk hv h =
