@@ -18,10 +18,7 @@ use Rattle.sz_check.specs.EmittingTrees.{calls, exp_emits, exps_emit, pairs_emit
 use Rattle.sz_check.specs.EmittingTrees.{hidden_behind_first}
 use Rattle.sz_check.specs.Hidden.{hidden_of}
 use Rattle.sz_types.proofs.ForCallers.{rest_more, rest_none}
-
-or_false : (b : Bool) → (b || false) ≡ b
-or_false true = refl
-or_false false = refl
+use Rattle.sz_check.proofs.TruthLemmas.{or_false, or_assoc}
 
 module _ (emits : List ℕ → Bool) (h : List (List ℕ)) where
   pub exps_turn : (es : List Expr) (i : ℕ) (e : Expr) → i < length es → e ≡ get_or es i e
@@ -167,10 +164,6 @@ module _ (old first cut second : List (Bor Name)) (count : ℕ) (names inside : 
   kept_behind_when after same = kept_front old after count inside counted (same ∙ hidden_inside)
 
 -- ---- turns of the loop over statements
-
-or_assoc : (a b c : Bool) → (a || b || c) ≡ (a || (b || c))
-or_assoc true b c = refl
-or_assoc false b c = refl
 
 module _ (emits : List ℕ → Bool) (h : List (List ℕ)) (ts : List Stmt) (i : ℕ) where
   stms_turn : (t : Stmt) → i < length ts → t ≡ get_or ts i t
