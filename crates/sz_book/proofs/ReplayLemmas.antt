@@ -49,7 +49,7 @@ drawn_home p x c d = record { drawn = d.drawn; ticket = d.ticket; shard = d.shar
 tried_home : (p : PlanData) (x : LedgerState) (c : Claim) (k : ℕ) → IsTried p x c k → IsTried p (all_home x) c k
 tried_home p x c k t = record { claim = drawn_home p x c t.claim; below = t.below; given = t.given }
 
-zero_at : (n i : ℕ) → slice_index (replicate n 0) i ≡ 0
+pub zero_at : (n i : ℕ) → slice_index (replicate n 0) i ≡ 0
 zero_at zero i = refl
 zero_at (suc n) zero = refl
 zero_at (suc n) (suc i) = zero_at n i
