@@ -69,6 +69,16 @@ trimmed n first now next (Some x) more some popped below heap least =
     held_of_held n (ranks first) (ranks now) (ranks next) least (worst_goes n now next x popped more (below heap))
 trimmed n first now next None more some popped below heap least = absurd (true≢false (sym some))
 
+-- where more than n are held, the greatest is popped, and the least of those at first are held still
+pub one_popped : (n size room room_first room_next : ℕ) (first now next : List (ℤ × Value)) (r : Option (ℤ × Value)) → n < size → n < length now
+    → (0 < size → IsSome r) → IfSome r (λ x. PopsGreatest rank_order now x next) → IfSome r (λ x. IsPermutation now (x ∷ next))
+    → IfSome r (λ x. IsHeap rank_order now → IsUpperBound rank_order x next) → room_next ≡ room
+    → (IsHeap rank_order now × HoldsLeast n (ranks first) (ranks now) × (room ≡ room_first))
+    → (IsHeap rank_order next × HoldsLeast n (ranks first) (ranks next) × (room_next ≡ room_first))
+one_popped n size room room_first room_next first now next r less more some pops popped below same held =
+    let is : IsSome r = some (omega (arith, less)) in
+    (heap_next now next r is pops held.0, trimmed n first now next r more is popped below held.0 held.1, same ∙ held.2)
+
 -- what a stable sort leaves
 pub ranks_sorted : (old new : List (ℤ × Value)) → IsSorted rank_order new → IsStable rank_order old new → ranks new ≡ sorted by_rank (ranks old)
 ranks_sorted old new in_order stable =
