@@ -20,6 +20,7 @@ pub struct Candidates {
     left: Left,
 }
 
+/// What is left of the candidates, by what they are.
 #[derive(Drop)]
 pub enum Left {
     // The next number, and how many are left.

@@ -97,11 +97,12 @@ is_for_all v = is_all v.quantity
 abbrev pub bound_inside : List Quantified → List Quantified
 bound_inside vs = filter (λ v. not (is_for_all v)) vs
 
--- whether no other variable stands behind one that speaks of all candidates
+-- whether all of these variables speak of all candidates
 abbrev pub are_for_all : List Quantified → Bool
 are_for_all [] = true
 are_for_all (v ∷ vs) = is_for_all v && are_for_all vs
 
+-- whether no other variable stands behind one that speaks of all candidates
 abbrev pub is_all_last : List Quantified → Bool
 is_all_last [] = true
 is_all_last (v ∷ vs) = if is_for_all v then are_for_all vs else is_all_last vs
