@@ -33,11 +33,12 @@ module _ (code : Code) where
       goes_on h.0 x y (λ next. RunsFor code n next x) (λ next. RunsFor code m next y) (λ next. one_end n m next x y ex ey) h.2
       (subst (λ z. GoesOn z (λ next. RunsFor code m next y) y) (sym same) k.2)
 
-is_end : (end : After) (r : Outcome (List EmitDatum)) → EndsRecord end r → IsOver end
-is_end (Goes s) r h = absurd h
-is_end (Halts w statics) r h = tt
-is_end (Faults fault) r h = tt
-is_end Stuck r h = absurd h
+-- what has an outcome is an end
+pub over_of : (end : After) (r : Outcome (List EmitDatum)) → EndsRecord end r → IsOver end
+over_of (Goes s) r h = absurd h
+over_of (Halts w statics) r h = tt
+over_of (Faults fault) r h = tt
+over_of Stuck r h = absurd h
 
 one_outcome : (end : After) (r q : Outcome (List EmitDatum)) → EndsRecord end r → EndsRecord end q → r ≡ q
 one_outcome (Goes s) r q h k = absurd h
@@ -49,5 +50,5 @@ one_outcome Stuck r q h k = absurd h
 pub runs_to_one : (code : Code) (input : List ℕ) (statics : List Slot) (budget : ℕ) (r q : Outcome (List EmitDatum))
     → RunsTo code input statics budget r → RunsTo code input statics budget q → r ≡ q
 runs_to_one code input statics budget r q h k =
-    let same = one_end code h.comes.steps k.comes.steps _ h.end k.end (is_end h.end r h.is) (is_end k.end q k.is) h.comes.runs k.comes.runs in
+    let same = one_end code h.comes.steps k.comes.steps _ h.end k.end (over_of h.end r h.is) (over_of k.end q k.is) h.comes.runs k.comes.runs in
     one_outcome h.end r q h.is (subst (λ e. EndsRecord e q) (sym same) k.is)

@@ -18,6 +18,7 @@ use Rattle.sz_run.specs.Acting.{Around, world_of, state_of, in_record, in_static
 use Rattle.sz_run.specs.declared.held.Held.{Held}
 use Rattle.sz_run.specs.declared.held.Next.TheVariants.{On, To, End, Fault as NextFault}
 use Rattle.sz_run.proofs.CoverLemmas.{found_within, drop_found, drop_past}
+use Rattle.sz_machine.proofs.OneEnd.{over_of}
 
 module _ (code : Code) where
   -- a first line, and so many lines that carry on what it leads to
@@ -132,13 +133,6 @@ done_there w statics emits same x e = subst (λ y. EndsRecord y (Done emits)) e 
 -- one that faults has the fault as its outcome
 pub faulted_there : (fault : Fault) (x : After) → Faults fault ≡ x → EndsRecord x (Faulted fault)
 faulted_there fault x e = subst (λ y. EndsRecord y (Faulted fault)) e refl
-
--- what has an outcome is an end
-pub over_of : (end : After) (r : Outcome (List EmitDatum)) → EndsRecord end r → IsOver end
-over_of (Goes s) r h = absurd h
-over_of (Halts w statics) r h = tt
-over_of (Faults fault) r h = tt
-over_of Stuck r h = absurd h
 
 -- an end has one outcome
 pub one_outcome : (end : After) (r q : Outcome (List EmitDatum)) → EndsRecord end r → EndsRecord end q → q ≡ r
