@@ -83,7 +83,7 @@ in_place_back p x i ss lane homes h low is =
     (length-set x.lists i (list_of x i ++ ss))
 
 -- the lanes of a new ledger
-none_at : (n i : ℕ) → slice_index_or {A = List ℕ} (replicate n []) i [] ≡ []
+pub none_at : (n i : ℕ) → slice_index_or {A = List ℕ} (replicate n []) i [] ≡ []
 none_at zero i = refl
 none_at (suc n) zero = refl
 none_at (suc n) (suc i) = none_at n i
