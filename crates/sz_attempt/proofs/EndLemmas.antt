@@ -8,7 +8,7 @@ use Rattle.sz_words.specs.declared.settings.Kill.{Kill}
 use Rattle.sz_total.specs.States.{TotalState}
 use Rattle.sz_attempt.specs.declared.job.Job.{Job}
 use Rattle.sz_attempt.specs.declared.job.Shard.{Shard}
-use Rattle.sz_attempt.specs.Shards.{ShardData, shard_at, records_of, IsShardIn}
+use Rattle.sz_attempt.specs.Shards.{shard_at, records_of, IsShardIn}
 use Rattle.sz_attempt.specs.Attempts.{gives, faults, dies, kills_of, means, end_of}
 use Rattle.sz_attempt.specs.Ends.{StandForEmits}
 use Rattle.sz_attempt.specs.Running.{IsDeath, run_of, RunsRecords}
@@ -20,9 +20,6 @@ module _ (job : Job) (records : List (List ℕ)) (shard : Shard) (is : IsShardIn
     (death : Option ℕ) (looked : IsDeath (kills_of s k kills) (shard.end - shard.start) death) (count : ℕ)
     (counted : count ≡ run_of death (shard.end - shard.start)) (total : TotalState) (found : Option (ℕ × Fault))
     (ran : RunsRecords job shard.first (take count (records_of records shard)) total found) where
-  at : ShardData
-  at = shard_at s records shard
-
   long : length (records_of records shard) ≡ shard.end - shard.start
   long = length_of_range records shard.start shard.end is.within
 

@@ -22,11 +22,10 @@ use Rattle.sz_total.specs.Short.{HasShortParts}
 use Rattle.sz_total.specs.Totals.{StandsFor, Gains}
 use Rattle.sz_total.specs.States.{TotalState, declarations, emit_count, shown}
 use Rattle.sz_attempt.specs.declared.job.Job.{Job}
-use Rattle.sz_attempt.specs.declared.job.Shard.{Shard}
-use Rattle.sz_attempt.specs.Shards.{IsJob, IsShardIn, records_of}
+use Rattle.sz_attempt.specs.Shards.{IsJob}
 use Rattle.sz_attempt.specs.Attempts.{means}
 use Rattle.sz_attempt.specs.Ends.{StandForEmits}
-use Rattle.sz_attempt.specs.Running.{GainsAll, HoldsNothing}
+use Rattle.sz_attempt.specs.Running.{GainsAll}
 use Rattle.sz_attempt.proofs.PaidLemmas.{emits_paid}
 use Rattle.sz_attempt.proofs.ShortLemmas.{emits_short}
 use Rattle.sz_attempt.proofs.MeansLemmas.{means_more, means_fault, fault_stays, take_of_take, length-take_within}
@@ -147,9 +146,6 @@ pub record IsRunUpTo (job : Job) (first : ℕ) (records : List (List ℕ)) (i : 
   pub few : total.count ≤ 2 ^ 32 * i
 
 module _ (job : Job) (first : ℕ) (records : List (List ℕ)) where
-  pub run_none : (total : TotalState) → HoldsNothing job total → IsRunUpTo job first records 0 total
-  run_none total none = record { emits = []; means = refl; holds = none.holds; few = omega (arith, none.holds.stands.counted) }
-
   -- one record more was run
   pub run_more : (i : ℕ) (old new : TotalState) (r : List ℕ) (es : List EmitDatum) → IsJob job → slice_get records i ≡ Some r
       → mean job.compiled job.statics job.budget r ≡ Done es → GainsAll old new es → IsRunUpTo job first records i old
@@ -170,14 +166,3 @@ module _ (job : Job) (first : ℕ) (records : List (List ℕ)) where
       ∙ ap (λ k. FaultedAt (first + k) f) (length-take_within i records (omega (arith, slice_get_within records i r there))) in
       fault_stays job first (i + 1) (first + i) (take n records) f
       (ap (means job first) (take_of_take (i + 1) n records (omega (arith, less))) ∙ here)
-
--- a record of a shard is there, and there is room for its emits
-module _ (records : List (List ℕ)) (shard : Shard) (is : IsShardIn records shard) (i : ℕ) (less : i < shard.end - shard.start) where
-  pub record_within : shard.start + i < length records
-  record_within = omega (arith, less, is.order, is.within)
-
-  pub room_for_record : (job : Job) (total : TotalState) → IsRunUpTo job shard.first (records_of records shard) i total → total.count + 2 ^ 32 ≤ 2 ^ 63
-  room_for_record job total h = omega (arith, less, h.few, is.first, is.few)
-
-  pub number_fits : shard.first + i ≤ 2 ^ 31
-  number_fits = omega (arith, less, is.few)

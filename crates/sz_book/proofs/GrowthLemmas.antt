@@ -78,9 +78,6 @@ draws p x n ss c true is e =
 draws p x n ss c false is e =
     let r : Ticket (Some c) ≡ Ticket None = e ∙ ap (λ (b : Bool). cond b (Ticket (Some (claim_of p x.drawn))) (Ticket None)) is in absurd (cc r)
 
-drawn_later : (p : PlanData) (x y : LedgerState) (c : Claim) → x.drawn ≤ y.drawn → IsDrawn p x c → IsDrawn p y c
-drawn_later p x y c up d = record { drawn = let a = d.drawn in omega arith; ticket = d.ticket; shard = d.shard }
-
 pub has_drawn : (p : PlanData) (x : LedgerState) (es : List Entry) (c : Claim) → IsLegalFrom p x es → HasDrawn c es → IsDrawn p (state_after p x es) c
 has_drawn p x [] c h d = absurd d
 has_drawn p x (e ∷ es) c h (inl d) =

@@ -1,12 +1,10 @@
 -- A history of changes leads to the state, one change more and at the opening.
 use Rattle.std.proofs.Common.{◌≡◌, ℕ, zero, suc, ◌+◌, ◌^◌, ◌<◌, ◌≤◌, ◌==◌, Bool, true, false, cond, nat_lt, min, List, [], ◌∷◌, ◌++◌, set, take, drop, length, replicate, refl, ap, sym, ◌∙◌, subst, arith, append_assoc, ltb-true, ltb-false, eq-eqb}
 use Rattle.std.specs.Prelude.{slice_index}
-use Rattle.std.specs.Int.{bit_at}
 use Rattle.std.specs.List.{sum_by}
 use Rattle.std.proofs.lemmas.List.{set-get_or, set-set, length-set, length-append, length-drop, length-replicate, get_or-set_same, take-append-le, drop-append-le, take_all}
 use Rattle.std.proofs.lemmas.List.Sums.{sum_by-cons, sum_by_push, sum_by-set}
-use Rattle.std.proofs.lemmas.Nat.Bits.{bit_at-zero}
-use Rattle.sz_book.specs.Plan.{PlanData, IsPlan, count_of}
+use Rattle.sz_book.specs.Plan.{PlanData, count_of}
 use Rattle.sz_book.specs.declared.change.Change.{Change}
 use Rattle.sz_book.specs.declared.plan.Claim.{Claim}
 use Rattle.sz_book.specs.declared.event.Event.{Event}
@@ -17,11 +15,11 @@ use Rattle.sz_book.specs.declared.event.Entry.{Entry}
 use Rattle.sz_book.specs.Machine.{LedgerState, opening, after, reply_of, Fits, IsDrawn, IsTried, IsReturned, list_of}
 use Rattle.sz_book.specs.History.{entry, state_after, IsLegal, IsTrueReport}
 use Rattle.sz_book.specs.Cores.{CoreData, ReservedData, IsSound, TakesWith}
-use Rattle.sz_book.specs.Held.{HeldData, all_home, is_change, history_after, Applies, lending, with_lendings, Replays, history_of, shards_in, changes_in, most_changes, held_data, IsHeld}
+use Rattle.sz_book.specs.Held.{HeldData, all_home, is_change, history_after, Applies, lending, with_lendings, Replays, history_of, shards_in, changes_in, held_data, IsHeld}
 use Rattle.sz_book.proofs.HistoryLemmas.{state_after-snoc, legal-snoc}
 use Rattle.sz_book.proofs.StepLemmas.{HasRows, either}
 use Rattle.sz_book.proofs.CountLemmas.{death_step}
-use Rattle.sz_book.proofs.RoomLemmas.{once-le, no_shards}
+use Rattle.sz_book.proofs.RoomLemmas.{once-le}
 use Rattle.sz_book.proofs.ChangeLemmas.{sound_after, unchanged, counts, no_more}
 
 -- what a legal history leads to, and the same with one more step
@@ -51,7 +49,7 @@ drawn_home p x c d = record { drawn = d.drawn; ticket = d.ticket; shard = d.shar
 tried_home : (p : PlanData) (x : LedgerState) (c : Claim) (k : ℕ) → IsTried p x c k → IsTried p (all_home x) c k
 tried_home p x c k t = record { claim = drawn_home p x c t.claim; below = t.below; given = t.given }
 
-zero_at : (n i : ℕ) → slice_index (replicate n 0) i ≡ 0
+pub zero_at : (n i : ℕ) → slice_index (replicate n 0) i ≡ 0
 zero_at zero i = refl
 zero_at (suc n) zero = refl
 zero_at (suc n) (suc i) = zero_at n i
@@ -91,10 +89,6 @@ goes_on p lanes log x (Settle c k) ss reply h fits answer is = one_more p lanes 
 goes_on p lanes log x (LaneOut i) ss reply h fits answer is = absurd (cc is)
 goes_on p lanes log x (LaneBack i) ss reply h fits answer is = lent_and_back p lanes log x i ss reply h fits answer
 goes_on p lanes log x (Bad s) ss reply h fits answer is = one_more p lanes log (all_home x) (all_home (after p x 0 (Bad s) ss)) (entry 0 (Bad s) ss reply) h fits answer refl
-
--- the least bad shard faults
-AreBad : (ℕ → Type 0) → LedgerState → Type 0
-AreBad faults x = x.least_bad < 2 ^ 32 → faults x.least_bad
 
 least_faults : (faults : ℕ → Type 0) (m s : ℕ) → (m < 2 ^ 32 → faults m) → faults s → (b : Bool) → nat_lt s m ≡ b → min m s < 2 ^ 32 → faults (min m s)
 least_faults faults m s h now true is low = let less = ltb-true s m is in let same : min m s ≡ s = omega arith in subst faults (sym same) now
@@ -270,22 +264,4 @@ applies_change core new cs b event ss reply came t is = record {
   step = t.step;
   history = history_told (held_data core cs b) event ss reply cs b.shards refl came is;
   kept = (ap (λ (d : CoreData). d.plan) t.kept, ap (λ (d : CoreData). d.lanes) t.kept);
-}
-
--- a held ledger at the opening
-pub held_open : (died : ℕ → ℕ → Type 0) (faults : ℕ → Type 0) (p : PlanData) (lanes room : ℕ) → IsPlan p → most_changes p ≤ room
-    → IsHeld died faults (record { plan = p; lanes = lanes; state = opening p lanes }) [] (record { room = p.shards; shards = [] }) room
-held_open died faults p lanes room plan enough = record {
-  replays = record {
-    plan = plan;
-    legal = record { from = tt };
-    state = ap (λ (n : ℕ). record (opening p lanes) { outs = replicate n 0 }) (sym (length-replicate lanes 0));
-    deaths = λ s k one. absurd (let none : bit_at (slice_index (replicate p.shards 0) s) k ≡ 0 = ap (λ (d : ℕ). bit_at d k) (zero_at p.shards s) ∙ bit_at-zero k in omega arith);
-    bad = λ low. absurd (omega arith);
-  };
-  came = refl;
-  placed = sym (no_shards lanes);
-  few = omega arith;
-  most = enough;
-  space = refl;
 }

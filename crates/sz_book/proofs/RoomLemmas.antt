@@ -10,11 +10,6 @@ use Rattle.sz_book.specs.Cores.{ReservedData, core_data, IsSound, IsKept}
 use Rattle.sz_book.specs.Counting.{once}
 use Rattle.sz_book.proofs.StepLemmas.{length-placed}
 
--- at the opening no mark is set, and no lane has a shard
-pub once_zeros : (n : ℕ) → sum_by once (replicate n 0) ≡ 0
-once_zeros zero = refl
-once_zeros (suc n) = let a = sum_by-cons once 0 (replicate n 0) in let h = once_zeros n in omega arith
-
 pub no_shards : (n : ℕ) → sum_by (λ (l : List ℕ). length l) (replicate n []) ≡ 0
 no_shards zero = refl
 no_shards (suc n) = let a = sum_by-cons (λ (l : List ℕ). length l) [] (replicate n []) in let h = no_shards n in omega arith

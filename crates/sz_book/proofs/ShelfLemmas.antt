@@ -13,6 +13,7 @@ use Rattle.sz_book.specs.Lanes.{LaneData}
 use Rattle.sz_book.specs.Held.{Applies}
 use Rattle.sz_book.specs.Books.{ShelfData, IsInPlace, AreInPlace, IsPlain, Homes, IsGiven, HaveNoShards}
 use Rattle.sz_book.proofs.StepLemmas.{either}
+use Rattle.sz_book.proofs.ReplayLemmas.{zero_at}
 
 in_place_same : (x y : LedgerState) (homes : List (Option LaneData)) → y.outs ≡ x.outs → y.lists ≡ x.lists → AreInPlace x homes → AreInPlace y homes
 in_place_same x y homes outs lists h = record {
@@ -82,12 +83,7 @@ in_place_back p x i ss lane homes h low is =
     (length-set x.lists i (list_of x i ++ ss))
 
 -- the lanes of a new ledger
-zero_at : (n i : ℕ) → slice_index (replicate n 0) i ≡ 0
-zero_at zero i = refl
-zero_at (suc n) zero = refl
-zero_at (suc n) (suc i) = zero_at n i
-
-none_at : (n i : ℕ) → slice_index_or {A = List ℕ} (replicate n []) i [] ≡ []
+pub none_at : (n i : ℕ) → slice_index_or {A = List ℕ} (replicate n []) i [] ≡ []
 none_at zero i = refl
 none_at (suc n) zero = refl
 none_at (suc n) (suc i) = none_at n i

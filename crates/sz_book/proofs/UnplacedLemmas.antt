@@ -1,9 +1,9 @@
 -- Shards that are to be placed, one more at a time.
-use Rattle.std.proofs.Common.{◌≡◌, ℕ, zero, suc, ◌+◌, ◌<◌, ◌≤◌, ◌==◌, ◌&&◌, ◌||◌, Bool, true, false, not, List, [], ◌∷◌, ◌++◌, set, take, length, refl, ap, sym, ◌∙◌, subst}
+use Rattle.std.proofs.Common.{◌≡◌, ℕ, zero, suc, ◌+◌, ◌<◌, ◌==◌, ◌&&◌, ◌||◌, Bool, true, false, not, List, [], ◌∷◌, ◌++◌, set, take, length, refl, ap, sym, ◌∙◌, subst}
 use Rattle.std.specs.Prelude.{slice_index}
 use Rattle.std.specs.List.{list_any}
 use Rattle.std.proofs.lemmas.Bool.{eqb-true, eqb-false}
-use Rattle.std.proofs.lemmas.List.{get_or-set_other, take_more, take_all}
+use Rattle.std.proofs.lemmas.List.{get_or-set_other, take_more}
 use Rattle.sz_book.specs.Machine.{AreUnplaced}
 use Rattle.sz_book.specs.Cores.{is_unplaced_behind}
 
@@ -54,6 +54,3 @@ pub not_unplaced : (marks ss : List ℕ) (i : ℕ) → i < length ss → is_unpl
 not_unplaced marks ss i low is h =
     let yes = unplaced_snoc marks (take i ss) (slice_index ss i) (subst (AreUnplaced 0 marks) (take_more ss i 0 low) (front_unplaced 0 (i + 1) marks ss h)) in
     absurd (cc (sym is ∙ yes))
-
-pub all_unplaced : (marks ss : List ℕ) (i : ℕ) → length ss ≤ i → AreUnplaced 0 marks (take i ss) → AreUnplaced 0 marks ss
-all_unplaced marks ss i all h = subst (AreUnplaced 0 marks) (take_all i ss all) h

@@ -11,6 +11,8 @@ use Rattle.sz_book.specs.declared.event.Entry.{Entry}
 use Rattle.sz_book.specs.Machine.{LedgerState, opening}
 use Rattle.sz_book.specs.History.{state_after, IsLegal, AreTrueReports}
 use Rattle.sz_book.specs.Orderly.{Phase, IsOrderly, HaveEnded}
+-- how often shard s stands in a list
+pub use Rattle.sz_book.specs.Plan.{tickets_of as times}
 
 -- the ticket that a reply gives
 abbrev pub ticket_in : Reply → Option ℕ
@@ -43,11 +45,6 @@ wins s log = filter_map (λ e. win_in s e.event e.reply) log
 abbrev pub winner_in : ℕ → List ℕ
 winner_in zero = []
 winner_in (suc w) = w ∷ []
-
--- how often shard s stands in a list
-abbrev pub times : ℕ → List ℕ → ℕ
-times s [] = 0
-times s (t ∷ ts) = if t == s then times s ts + 1 else times s ts
 
 -- 1 for a mark that is set
 abbrev pub once : ℕ → ℕ

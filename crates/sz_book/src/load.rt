@@ -8,7 +8,7 @@ pub trait Load: Sized + Drop {
     /// Which attempts of each shard died.
     ghost died: { ℕ → ℕ → Type 0 };
 
-    /// Which shards have a record that faults.
+    /// Which shards fault: a record of theirs does, and not all their attempts died.
     ghost faults: { ℕ → Type 0 };
 
     /// The plan of a value.

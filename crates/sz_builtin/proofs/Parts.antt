@@ -7,10 +7,12 @@ use Rattle.sz_value.specs.declared.value.Value.{Value}
 use Rattle.sz_builtin.specs.Places.{cut}
 use Rattle.sz_value.specs.Data.{Datum, array, data_of, parts_of, entries_of, pairs_of}
 
+-- the parts of a tuple are those that it was made of
 pub parts_back : (ds : List Datum) → parts_of (data_of ds) ≡ ds
 parts_back [] = refl
 parts_back (d ∷ ds) = ap (λ es. d ∷ es) (parts_back ds)
 
+-- the pairs of a map are those that it was made of
 pub pairs_back : (ps : List (Datum × Datum)) → pairs_of (entries_of ps) ≡ ps
 pairs_back [] = refl
 pairs_back (p ∷ ps) = ap (λ qs. p ∷ qs) (pairs_back ps)

@@ -8,6 +8,7 @@ use Rattle.std.specs.Str.{chars, encode_utf8_all, IsUtf8, IsCharBoundary}
 use Rattle.memchr.specs.Find.{OccursAt, FindsNeedle}
 use Rattle.memchr.proofs.lemmas.MatchLemmas.{OccursAt-split, OccursAt-from_part}
 use Rattle.sz_builtin.specs.Predeclared.{begins, first_place}
+use Rattle.sz_builtin.proofs.TypeLemmas.{both}
 
 -- xs stands in ys at place k
 pub record Stands (xs ys : List ℕ) (k : ℕ) : Type 0 where
@@ -21,10 +22,6 @@ abbrev pub IsFirstPlace : List ℕ → List ℕ → Option ℕ → Type 0
 IsFirstPlace xs ys r = MatchOption r ((k : ℕ) → ¬ (Stands xs ys k)) (λ k. Stands xs ys k × ((j : ℕ) → j < k → ¬ (Stands xs ys j)))
 
 -- ---- one list in another
-
-both : (a b : Bool) → (a && b) ≡ true → (a ≡ true) × (b ≡ true)
-both true b h = (refl, h)
-both false b h = absurd cc
 
 begins_rest : (xs ys : List ℕ) → begins xs ys ≡ true → (rest : List ℕ) × (ys ≡ xs ++ rest)
 begins_rest [] ys h = (ys, refl)

@@ -1,21 +1,16 @@
 -- What a value becomes by a conversion to a type. A type that converts to itself keeps the value.
-use Rattle.std.specs.Prelude.{ℕ, ◌^◌, ℤ, pos, negsuc, List, Bool, ◌&&◌, Option, Some, None, length, nat_lt, if◌then◌else◌, option_map, codes}
+use Rattle.std.specs.Prelude.{ℕ, ◌^◌, ℤ, pos, negsuc, List, Bool, ◌&&◌, Option, Some, None, nat_lt, if◌then◌else◌, option_map, codes}
 use Rattle.std.specs.Fmt.{signed_decimal}
-use Rattle.std.specs.List.{list_all}
-use Rattle.std.specs.Char.{is_ascii_digit}
 use Rattle.std.specs.Str.{is_utf8}
 use Rattle.std.specs.Str.Parse.{signed_digits_value, without_leading_sign}
 use Rattle.sz_types.specs.Data.{Shape}
+use Rattle.sz_types.specs.Numerals.{is_numeral}
 use Rattle.sz_value.specs.Data.{Datum, truth, int, time, str, bytes}
 
 -- whether the number has 64 bits and a sign
 abbrev pub fits : ℤ → Bool
 fits (pos n) = nat_lt n (2 ^ 63)
 fits (negsuc n) = nat_lt n (2 ^ 63)
-
--- whether the text is one or more decimal digits
-abbrev pub is_numeral : List ℕ → Bool
-is_numeral text = nat_lt 0 (length text) && list_all is_ascii_digit text
 
 -- the number that a text spells: an optional sign and then digits alone, within 64 bits with a sign
 abbrev pub number_in : List ℕ → Option ℤ

@@ -3,7 +3,7 @@ use Rattle.std.proofs.Common.{◌≡◌, ℕ, zero, suc, ◌+◌, ◌-◌, ◌<�
 use Rattle.sz_value.specs.Data.{Datum, int, array, data_of}
 use Rattle.sz_world.specs.Candidates.{candidates, numbers_from}
 use Rattle.sz_cells.specs.Candidates.{numbers_of}
-use Rattle.sz_cells.proofs.ListLemmas.{parts_back}
+use Rattle.sz_builtin.proofs.Parts.{parts_back}
 
 -- the candidates of an array
 pub of_array : (slice : Bool) (ds : List Datum) → candidates slice (Some (array (data_of ds))) ≡ numbers_of slice (length ds)

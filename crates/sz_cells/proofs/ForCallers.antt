@@ -1,2 +1,2 @@
 -- What the crates above may cite.
-pub use Rattle.sz_cells.proofs.ListLemmas.{are_all, all_told, parts_back}
+pub use Rattle.sz_cells.proofs.ListLemmas.{are_all, all_told}

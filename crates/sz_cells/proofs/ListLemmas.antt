@@ -5,7 +5,7 @@ use Rattle.std.specs.List.{list_all}
 use Rattle.std.specs.Option.{option_map}
 use Rattle.std.proofs.lemmas.List.{reverse-append, reverse-reverse, length-reverse, length-drop, length-take-le, take-append-drop, map-append}
 use Rattle.std.proofs.Math.Seq.{drop-append_seam, take-append_seam}
-use Rattle.sz_value.specs.Data.{Datum, parts_of, data_of, pairs_of, entries_of}
+use Rattle.sz_value.specs.Data.{Datum}
 use Rattle.sz_value.specs.Seen.{seen}
 use Rattle.sz_value.specs.declared.value.Value.{Value}
 use Rattle.sz_world.specs.Slots.{Slot, all_defined}
@@ -80,16 +80,6 @@ pub no_more_defined : (xs : List Slot) → defined_of (xs ++ None ∷ []) ≡ de
 no_more_defined [] = refl
 no_more_defined (None ∷ xs) = no_more_defined xs
 no_more_defined (Some e ∷ xs) = ap (λ ds. e ∷ ds) (no_more_defined xs)
-
--- the parts of a tuple are those that it was made of
-pub parts_back : (ds : List Datum) → parts_of (data_of ds) ≡ ds
-parts_back [] = refl
-parts_back (d ∷ ds) = ap (λ es. d ∷ es) (parts_back ds)
-
--- the pairs of a map are those that it was made of
-pub pairs_back : (ps : List (Datum × Datum)) → pairs_of (entries_of ps) ≡ ps
-pairs_back [] = refl
-pairs_back (p ∷ ps) = ap (λ qs. p ∷ qs) (pairs_back ps)
 
 -- a list and its last item, which is at this place
 pub split_last : {X : Type 0} → (xs : List X) (k : ℕ) (d : X) → suc k ≡ length xs → xs ≡ take k xs ++ get_or xs k d ∷ []

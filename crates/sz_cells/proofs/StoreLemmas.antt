@@ -12,7 +12,7 @@ use Rattle.sz_value.specs.Total.{compare_itself}
 use Rattle.sz_value.specs.Maps.{with_pair, value_at}
 use Rattle.sz_world.specs.Slots.{Slot}
 use Rattle.sz_world.specs.Stores.{with_part, with_change, to_element}
-use Rattle.sz_cells.proofs.ListLemmas.{pairs_back}
+use Rattle.sz_builtin.proofs.Parts.{pairs_back}
 
 -- the part is there, and so is what it becomes
 pub part_there : (ds : List Datum) (n : ℕ) (change : Slot → Option Datum) (d e f : Datum) → slice_get ds n ≡ Some d → change (Some d) ≡ Some e

@@ -20,6 +20,7 @@ pub struct Candidates {
     left: Left,
 }
 
+/// What is left of the candidates, by what they are.
 #[derive(Drop)]
 pub enum Left {
     // The next number, and how many are left.
@@ -55,7 +56,7 @@ impl Candidates {
     }
 
     // The candidates that a value gives.
-    #[tactic(auto, using(crate::proofs::CandidateLemmas::of_array, crate::proofs::ListLemmas::pairs_back))]
+    #[tactic(auto, using(crate::proofs::CandidateLemmas::of_array, sz_builtin::proofs::Parts::pairs_back))]
     fn of_view(alloc: Global, slice: bool, base: &View<'_>) -> Result<Candidates, NoMemory>
         ensures value { IfOk result (λ made. made ≡ candidates slice (Some (seen_view base.now))) }
     {

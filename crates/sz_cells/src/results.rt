@@ -266,7 +266,7 @@ pub fn part_of(alloc: Global, n: u32, x: &Cell) -> Result<Cell, NoMemory>
 }
 
 // A copy of the part of a value at a place.
-#[tactic(auto, using(crate::proofs::ListLemmas::parts_back))]
+#[tactic(auto, using(sz_builtin::proofs::Parts::parts_back))]
 fn part_at(alloc: Global, n: usize, value: &View<'_>) -> Result<Cell, NoMemory>
     ensures value { IfOk result (λ made. made ≡ part_at n (seen_view value.now)) }
 {

@@ -56,7 +56,7 @@ fn replaced(
 
 // A tuple or a message with the new value where the steps lead from its part at a place, if they lead somewhere.
 #[cycle(replaced)]
-#[tactic(auto, using(crate::proofs::ListLemmas::parts_back))]
+#[tactic(auto, using(sz_builtin::proofs::Parts::parts_back))]
 fn in_tuple(
     alloc: Global,
     old: Value,
@@ -99,7 +99,7 @@ fn at_key(
 
 // An array with the new value where the steps lead from its element at an index, if they lead somewhere.
 #[cycle(replaced)]
-#[tactic(auto, using(crate::proofs::ListLemmas::parts_back))]
+#[tactic(auto, using(sz_builtin::proofs::Parts::parts_back))]
 fn in_array(
     alloc: Global,
     parts: List,

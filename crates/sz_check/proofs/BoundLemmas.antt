@@ -15,7 +15,7 @@ use Rattle.sz_tree.specs.Statements.{QuantifierForm}
 use Rattle.sz_quant.specs.Fitting.{BoundForm}
 use Rattle.sz_core.specs.Nodes.{Node, type_of}
 use Rattle.sz_core.specs.Statements as core
-use Rattle.sz_core.specs.Typing.{Sight, IsNode}
+use Rattle.sz_core.specs.Typing.{Sight, IsNode, HasOwnType}
 use Rattle.sz_core.specs.Sound.{BeginsWith, candidate_type, with_all_bound, bound_inside, is_for_all, are_for_all, is_all_last, AreQuantified}
 use Rattle.sz_known.specs.Refusals.{◌>>=◌}
 use Rattle.sz_known.specs.Names.{Block, quantified, declare}
@@ -27,12 +27,13 @@ use Rattle.sz_check.specs.Quantifying.{Variable, Declared, judge_names, judge_qu
 use Rattle.sz_check.specs.Quantifying.{are_of, checked}
 use Rattle.sz_check.specs.Quantifying.{Based, judge_base, judge_bases}
 use Rattle.sz_core.proofs.ForCallers.{some_has, formed_at}
-use Rattle.sz_known.proofs.Holds.{Holds, ok_holds, err_holds, bind_holds, known, weaker, unless_holds}
+use Rattle.sz_known.proofs.Holds.{Holds, ok_holds, err_holds, bind_holds, known, weaker, unless_holds, both_hold}
 use Rattle.sz_known.proofs.Meanings.{declared}
 use Rattle.sz_known.proofs.Sights.{IsFormed, AreFormed, IsReadable, Fits, AllFit, IsWider, all_fit_wider}
 use Rattle.sz_known.proofs.TypeSound.{type_formed}
 use Rattle.sz_check_expr.proofs.AgreeLemmas.{IsTyped}
 use Rattle.sz_check_expr.proofs.ExpressionSound.{expression_typed}
+use Rattle.sz_check_expr.proofs.OwnTypes.{takes_own}
 use Rattle.sz_check.proofs.SceneLemmas.{begins_itself, begins_more, begins_on, get_before, get_next, formed_more, AreBelow, below_more, is_none}
 
 -- ---- a variable more
@@ -98,10 +99,6 @@ rise_length : (a b : ℕ) (vs : List Variable) → Rise a b vs → a ≤ b
 rise_length a b [] h = h
 rise_length a b (v ∷ vs) h = omega (arith, h.0, h.1)
 
-rise_to : (a b c : ℕ) (vs : List Variable) → b ≤ c → Rise a b vs → Rise a c vs
-rise_to a b c [] h k = omega (arith, h, k)
-rise_to a b c (v ∷ vs) h k = (k.0, omega (arith, h, k.1), rise_to (suc v.local) b c vs h k.2)
-
 rise_append : (a b c : ℕ) (vs ws : List Variable) → Rise a b vs → Rise b c ws → Rise a c (vs ++ ws)
 rise_append a b c [] ws h k = rise_from a b c ws h k
 rise_append a b c (v ∷ vs) ws h k =
@@ -129,14 +126,6 @@ rise_inside a b (v ∷ vs) h = by (is_seen_inside v.quantity) (rise_inside (suc 
     by : (c : Bool) → Rise (suc v.local) b (inside vs) → Rise a b (if c then v ∷ inside vs else inside vs)
     by true rest = (h.0, h.1, rest)
     by false rest = rise_from a (suc v.local) b (inside vs) (omega (arith, h.0)) rest
-
-pub have_inside : (locals : List Shape) (vs : List Variable) → HaveLocals locals vs → HaveLocals locals (inside vs)
-have_inside locals [] h = tt
-have_inside locals (v ∷ vs) h = by (is_seen_inside v.quantity) (have_inside locals vs h.1)
-  where
-    by : (c : Bool) → HaveLocals locals (inside vs) → HaveLocals locals (if c then v ∷ inside vs else inside vs)
-    by true rest = (h.0, rest)
-    by false rest = rest
 
 -- the numbers of what is bound are below the second
 pub bound_below : (a b : ℕ) (vs : List Variable) (g : Sight) → Rise a b vs → AreBelow b g.seen → AreBelow b (bound vs g).seen
@@ -347,19 +336,23 @@ record IsBased (g : Sight) (v : Variable) (b : BoundForm) (x : Based) : Type 0 w
   node : Node
   is : x.variable ≡ made_of v b node
   typed : IsNode g node
+  own : HasOwnType node
   candidates : candidate_type b.slice (type_of node) ≡ Some v.type
   fits : AllFit (with_fixed v.local g) x.blocks
 
 base_sound : (locals : List Shape) (g : Sight) (v : Variable) (b : BoundForm) (blocks : List Block) → g.may_emit ≡ false → AreFormed locals
     → BeginsWith locals g.locals → HasLocal locals v → AreBelow v.local g.seen → AllFit g blocks → Holds (judge_base blocks v b) (IsBased g v b)
 base_sound locals g v b blocks quiet formed begins here below fit =
-    bind_holds (subst (λ may. Holds (judge_exp blocks may None b.base) (IsTyped g)) quiet (expression_typed g blocks fit None b.base tt)) (λ n typed.
+    let both = both_hold (subst (λ may. Holds (judge_exp blocks may None b.base) (IsTyped g)) quiet (expression_typed g blocks fit None b.base tt))
+    (takes_own blocks false b.base) in
+    bind_holds both (λ n typed.
     bind_holds (unless_holds (are_of (candidate_type b.slice (type_of n)) v.type) _) (λ u fits.
     bind_holds (one_bound locals g v blocks formed begins here below fit) (λ next more.
     ok_holds (IsBased g v b) (record { variable = made_of v b n; blocks = next }) (record {
       node = n;
       is = refl;
-      typed = typed.typed;
+      typed = typed.0.typed;
+      own = typed.1;
       candidates = are_those (candidate_type b.slice (type_of n)) v.type fits;
       fits = more;
     }))))
@@ -387,6 +380,7 @@ bases_sound locals a b g (v ∷ vs) (x ∷ xs) blocks quiet formed begins have r
         is.typed,
         is_none v.local g.seen here,
         (v.type, get_on locals g.locals v.local v.type begins have.0, is.candidates),
+        is.own,
         are.quantified,
       );
     }))))

@@ -17,11 +17,8 @@ use Rattle.sz_tree.specs.View.{tree_of, pair_of, step_of, stm_of}
 use Rattle.sz_check.specs.EmittingTrees.{calls, exp_emits, exps_emit, pairs_emit, steps_emit, stm_emits, stms_emit, hidden_behind}
 use Rattle.sz_check.specs.EmittingTrees.{hidden_behind_first}
 use Rattle.sz_check.specs.Hidden.{hidden_of}
-use Rattle.sz_known.proofs.TurnLemmas.{rest_more, rest_none}
-
-or_false : (b : Bool) → (b || false) ≡ b
-or_false true = refl
-or_false false = refl
+use Rattle.sz_types.proofs.ForCallers.{rest_more, rest_none}
+use Rattle.sz_check.proofs.TruthLemmas.{or_false, or_assoc}
 
 module _ (emits : List ℕ → Bool) (h : List (List ℕ)) where
   pub exps_turn : (es : List Expr) (i : ℕ) (e : Expr) → i < length es → e ≡ get_or es i e
@@ -66,12 +63,6 @@ module _ (emits : List ℕ → Bool) (h : List (List ℕ)) where
   call_emits e n v es itself is items known silent =
       ap (λ (xs : List Expr). exps_emit emits h (exps_of (map tree_of xs))) items
       ∙ sym (ap (exp_emits emits h) is ∙ ap (λ (b : Bool). b || exps_emit emits h (exps_of (map tree_of v.items))) (sym known ∙ silent))
-
-  pub named_call_emits : (e : Expr) (n : Ident) (v : Vec Expr) (itself : Bool) → tree_of e ≡ call n (exps_of (map tree_of v.items))
-      → itself ≡ calls emits h n.text → itself ≡ true → true ≡ exp_emits emits h (tree_of e)
-  unfolding exp_emits
-  named_call_emits e n v itself is known loud =
-      sym (ap (exp_emits emits h) is ∙ ap (λ (b : Bool). b || exps_emit emits h (exps_of (map tree_of v.items))) (sym known ∙ loud))
 
   pub list_emits : (e : Expr) (p : Place) (v : Vec Expr) (es : List Expr) → tree_of e ≡ list p (exps_of (map tree_of v.items)) → es ≡ v.items
       → exps_emit emits h (exps_of (map tree_of es)) ≡ exp_emits emits h (tree_of e)
@@ -150,9 +141,6 @@ pub kept_taken : (old mid : List (Bor Name)) (count : ℕ) → count ≡ length 
     → hidden_of (take count mid) ≡ hidden_of old
 kept_taken old mid count counted is = hidden_taken count mid ∙ ap (λ n. take n (hidden_of mid)) counted ∙ is
 
-pub still_front : (old mid : List (Bor Name)) (more : List (List ℕ)) → hidden_of mid ≡ hidden_of old ++ more → take (length old) (hidden_of mid) ≡ hidden_of old
-still_front old mid more is = ap (take (length old)) is ∙ front_taken (hidden_of old) more (length old) (sym (hidden_length old))
-
 -- the names are those that there were behind a statement, a `for` and a `when` too
 pub kept_behind : (old mid : List (Bor Name)) (count : ℕ) (s : Stm) → count ≡ length old → hidden_of mid ≡ hidden_behind (hidden_of old) s
     → hidden_of (take count mid) ≡ hidden_of old
@@ -176,10 +164,6 @@ module _ (old first cut second : List (Bor Name)) (count : ℕ) (names inside : 
   kept_behind_when after same = kept_front old after count inside counted (same ∙ hidden_inside)
 
 -- ---- turns of the loop over statements
-
-or_assoc : (a b c : Bool) → (a || b || c) ≡ (a || (b || c))
-or_assoc true b c = refl
-or_assoc false b c = refl
 
 module _ (emits : List ℕ → Bool) (h : List (List ℕ)) (ts : List Stmt) (i : ℕ) where
   stms_turn : (t : Stmt) → i < length ts → t ≡ get_or ts i t

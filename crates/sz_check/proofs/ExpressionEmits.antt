@@ -2,7 +2,7 @@
 use Rattle.std.proofs.Common.{◌≡◌, ℕ, length, Bool, true, false, List, Option, Some, None, refl, sym, ap, ◌∙◌}
 use Rattle.std.specs.Prelude.{◌||◌, not, slice_get}
 use Rattle.sz_types.specs.Data.{Shape, FieldShapes}
-use Rattle.sz_types.specs.Rows.{unary_row, binary_row, index_row, slice_row, builtin_row}
+use Rattle.sz_types.specs.Rows.{unary_row, binary_row, index_row, slice_row, builtin_row, arity}
 use Rattle.sz_types.specs.declared.place.Place.{Place}
 use Rattle.sz_types.specs.declared.operator.BinOp.{BinOp}
 use Rattle.sz_types.specs.declared.operator.Builtin.{Builtin}
@@ -20,7 +20,7 @@ use Rattle.sz_known.specs.Names.{Block, Meaning, meaning_of, look_up}
 use Rattle.sz_known.specs.Names as names
 use Rattle.sz_types.specs.Conversions.{converts_to}
 use Rattle.sz_known.specs.JudgingTypes.{shape_of}
-use Rattle.sz_check_expr.specs.Agreeing.{Asks, nothing, each, in_turn, agree, counted, pairs_agree, arguments_fit, arity, asked_first, asked_behind}
+use Rattle.sz_check_expr.specs.Agreeing.{Asks, nothing, each, in_turn, agree, counted, pairs_agree, arguments_fit, asked_first, asked_behind}
 use Rattle.sz_check_expr.specs.Agreeing.{field_types}
 use Rattle.sz_check_expr.specs.Agreeing.{fields_count, taken}
 use Rattle.sz_check_expr.specs.JudgingExpressions.{judge_exp, judge_exps, judge_pairs, literal_node, variable_node}

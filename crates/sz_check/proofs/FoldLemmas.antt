@@ -1,6 +1,5 @@
 -- Turns of the loops that carry what is known from one element to the next.
-use Rattle.std.proofs.Common.{◌≡◌, ℕ, ◌+◌, ◌<◌, ◌≤◌, Bool, true, false, List, [], ◌∷◌, ◌++◌, length, get_or, drop, map, refl, sym, ap, ◌∙◌, subst, append_assoc}
-use Rattle.std.proofs.Common.{append-nil}
+use Rattle.std.proofs.Common.{◌≡◌, ℕ, ◌+◌, ◌<◌, ◌≤◌, Bool, true, false, List, [], ◌∷◌, ◌++◌, length, get_or, drop, refl, sym, ap, ◌∙◌, subst}
 use Rattle.std.specs.Prelude.{Ok, Err, if◌then◌else◌}
 use Rattle.std.proofs.lemmas.List.{drop_more}
 use Rattle.std.proofs.Math.ListN.{drop_of_length-le}
@@ -13,7 +12,7 @@ use Rattle.sz_known.specs.Scene.{Scene, with_quantified}
 use Rattle.sz_known.specs.Outcome.{Stops}
 use Rattle.sz_known.specs.declared.error.CheckError.{CheckError}
 use Rattle.sz_check.specs.EmittingTrees.{is_seen_inside}
-use Rattle.sz_check.specs.Quantifying.{Variable, Declared, judge_names, judge_quantifier, judge_quantifiers, bind, bind_inside, may_follow, all_last, names_of}
+use Rattle.sz_check.specs.Quantifying.{Variable, Declared, judge_names, judge_quantifier, judge_quantifiers, bind, bind_inside, may_follow, all_last}
 use Rattle.sz_known.proofs.TurnLemmas.{stops_then, goes_on}
 use Rattle.sz_check.proofs.StatementLoops.{assoc}
 
@@ -109,16 +108,3 @@ not_inside v blocks h = ap (λ (b : Bool). if b then (bind v blocks >>= λ x. Ok
 pub last_go : Goes may_follow all_last
 unfolding all_last
 last_go = record { more = λ v vs after. refl; none = λ after. refl }
-
--- the names of variables
-pub names_more : {X : Type 0} (view : X → Variable) (made : List (List ℕ)) (vs : List X) (i : ℕ) (v : X) (whole : List (List ℕ)) → i < length vs
-    → v ≡ get_or vs i v
-    → made ++ names_of (map view (drop i vs)) ≡ whole → (made ++ (view v).name.text ∷ []) ++ names_of (map view (drop (i + 1) vs)) ≡ whole
-names_more view made vs i v whole within is so_far =
-    append_assoc made ((view v).name.text ∷ []) (names_of (map view (drop (i + 1) vs)))
-    ∙ ap (λ (l : List _). made ++ names_of (map view l)) (sym (rest_is vs i v within is)) ∙ so_far
-
-pub names_end : {X : Type 0} (view : X → Variable) (made : List (List ℕ)) (vs : List X) (i : ℕ) (whole : List (List ℕ)) → length vs ≤ i
-    → made ++ names_of (map view (drop i vs)) ≡ whole → made ≡ whole
-names_end view made vs i whole over so_far =
-    sym (append-nil made) ∙ ap (λ (l : List _). made ++ names_of (map view l)) (sym (nothing_left vs i over)) ∙ so_far

@@ -18,6 +18,7 @@ use Rattle.sz_known.proofs.Holds.{Holds, good, ok_holds, err_holds, bind_holds, 
 use Rattle.sz_known.proofs.Meanings.{MeansIn, Mean, found_in, found, all_follow, kept_only}
 use Rattle.sz_known.proofs.Sights.{Fits, AllFit}
 use Rattle.sz_check.proofs.ExpressionEmits.{by_signatures, Agrees}
+use Rattle.sz_check.proofs.TruthLemmas.{and_true, and_false}
 
 -- ---- parameters
 
@@ -122,18 +123,6 @@ same_if_some fs (Some m) h = h
 next_is_none : (fs : List Signature) → is_emitting (slice_get fs (length fs)) ≡ false
 next_is_none [] = refl
 next_is_none (f ∷ fs) = next_is_none fs
-
-and_true : (a : Bool) → (a && true) ≡ a
-and_true true = refl
-and_true false = refl
-
-and_false : (a : Bool) → (a && false) ≡ false
-and_false true = refl
-and_false false = refl
-
-or_false : (a : Bool) → (a || false) ≡ a
-or_false true = refl
-or_false false = refl
 
 -- what the function's own name adds to what is kept of the blocks
 own_name : (name : List ℕ) (fs : List Signature) (n : Ident) (s : Signature) (blocks own : List Block) (emits : Bool)

@@ -25,7 +25,8 @@ use Rattle.sz_check.specs.Functions.{front_of, judge_header, declare_parameters,
 use Rattle.sz_known.specs.Outcome.{Stops}
 use Rattle.sz_known.specs.declared.error.CheckError.{CheckError}
 use Rattle.sz_known.proofs.Holds.{good, good_is}
-use Rattle.sz_known.proofs.TurnLemmas.{rest_more, stops_then, goes_on}
+use Rattle.sz_known.proofs.TurnLemmas.{stops_then, goes_on}
+use Rattle.sz_types.proofs.ForCallers.{rest_more}
 use Rattle.sz_check.proofs.StatementLoops.{assoc}
 
 -- a scene with this innermost block

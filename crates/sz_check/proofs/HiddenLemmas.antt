@@ -17,26 +17,15 @@ use Rattle.sz_check.specs.EmittingTrees.{calls, is_seen_inside, texts_of, quanti
 use Rattle.sz_check.specs.Quantifying.{Variable, Declared, judge_names, judge_quantifiers, bind, bind_inside}
 use Rattle.sz_known.proofs.Holds.{Holds, ok_holds, err_holds, bind_holds, known, weaker, if_holds}
 use Rattle.sz_check.proofs.ExpressionEmits.{by_signatures, Agrees}
+use Rattle.sz_check.proofs.TruthLemmas.{and_true, and_false, or_false}
 
 -- ---- truth values
-
-and_true : (a : Bool) → (a && true) ≡ a
-and_true true = refl
-and_true false = refl
-
-and_false : (a : Bool) → (a && false) ≡ false
-and_false true = refl
-and_false false = refl
 
 -- neither of two
 and_neither : (a b c : Bool) → (a && not (b || c)) ≡ (a && not b && not c)
 and_neither true true c = refl
 and_neither true false c = refl
 and_neither false b c = refl
-
-or_false : (a : Bool) → (a || false) ≡ a
-or_false true = refl
-or_false false = refl
 
 -- a name more is hidden
 calls_more : (emits : List ℕ → Bool) (h : List (List ℕ)) (name x : List ℕ) → calls emits (h ++ x ∷ []) name ≡ (calls emits h name && not (bytes_eq name x))

@@ -22,3 +22,4 @@ mod FunctionLemmas
 mod ProgramLemmas
 mod EmitLemmas
 mod TableLemmas
+mod TruthLemmas

@@ -1,8 +1,8 @@
 -- Turns of the loop over statements at the top level, and declarations that are made twice.
-use Rattle.std.proofs.Common.{◌≡◌, ℕ, ◌+◌, ◌<◌, ◌≤◌, Bool, true, false, List, ◌∷◌, ◌++◌, length, get_or, drop, map}
-use Rattle.std.proofs.Common.{refl, sym, ap, ◌∙◌, subst, append_assoc}
+use Rattle.std.proofs.Common.{◌≡◌, ℕ, ◌+◌, ◌<◌, ◌≤◌, List, ◌++◌, length, get_or, drop, map}
+use Rattle.std.proofs.Common.{refl, sym, ap, ◌∙◌, append_assoc}
 use Rattle.std.proofs.lemmas.List.{append-nil}
-use Rattle.std.specs.Prelude.{Ok, Err, if◌then◌else◌}
+use Rattle.std.specs.Prelude.{Ok, Err}
 use Rattle.std.specs.Global.{Vec}
 use Rattle.sz_tree.specs.declared.stmt.Stmt.{Stmt}
 use Rattle.sz_tree.specs.declared.stmt.Stmt.TheVariants as stmts
@@ -14,14 +14,13 @@ use Rattle.sz_tree.specs.Statements.{stms_of}
 use Rattle.sz_tree.specs.View.{stm_of, param_of, type_of}
 use Rattle.sz_tree.proofs.RowLemmas.{stm_of_function}
 use Rattle.sz_core.specs.Programs.{Item}
-use Rattle.sz_known.specs.Refusals.{Judged, ◌>>=◌, declared_twice}
-use Rattle.sz_known.specs.Names.{Meaning, Block, has, declare}
+use Rattle.sz_known.specs.Refusals.{Judged, ◌>>=◌}
 use Rattle.sz_check.specs.JudgingPrograms.{TopScene, Found, judge_function, judge_top, judge_all}
 use Rattle.sz_check.specs.Top.{with_items}
 use Rattle.sz_known.specs.Outcome.{Stops}
 use Rattle.sz_known.specs.declared.error.CheckError.{CheckError}
 use Rattle.sz_known.specs.declared.error.CheckError.TheVariants as errors
-use Rattle.sz_known.proofs.TurnLemmas.{rest_more, rest_none}
+use Rattle.sz_types.proofs.ForCallers.{rest_more, rest_none}
 
 -- the statements behind the first, with what the first is
 abbrev behind : List Stmt → Found → Judged Found
@@ -65,23 +64,3 @@ pub of_function : (k : TopScene) (s : Stmt) (n : Ident) (params : Vec Param) (t 
 of_function k s n params t body ps ss is ps_are ss_are =
     ap (λ (r : Stmt). judge_top k (stm_of r)) is ∙ ap (judge_top k) (stm_of_function n params t body)
     ∙ (λ i. judge_function k n (params_of (map param_of (sym ps_are i))) (type_of t) (stms_of (map stm_of (sym ss_are i))))
-
-abbrev only_ok : {A : Type 0} → Judged A → A → A
-only_ok (Ok y) x = y
-only_ok (Err r) x = x
-
-abbrev is_made : {A : Type 0} → Judged A → Type 0
-is_made (Ok y) = Unit {0}
-is_made (Err r) = ⊥
-
--- what is declared is the first name of the innermost block
-pub declared_is : (n : Ident) (m : Meaning) (b : Block) (bs new : List Block) → declare n m (b ∷ bs) ≡ Ok new
-    → new ≡ (record { name = n.text; meaning = m } ∷ b) ∷ bs
-declared_is n m b bs new h = by_test (has n.text b) refl
-  where
-    choice : Bool → Judged (List Block)
-    choice t = if t then declared_twice n else Ok ((record { name = n.text; meaning = m } ∷ b) ∷ bs)
-
-    by_test : (c : Bool) → has n.text b ≡ c → new ≡ (record { name = n.text; meaning = m } ∷ b) ∷ bs
-    by_test true e = absurd (subst is_made (sym h ∙ ap choice e) tt)
-    by_test false e = ap (λ (j : Judged (List Block)). only_ok j new) (sym h ∙ ap choice e)

@@ -44,20 +44,13 @@ use Rattle.sz_check.specs.JudgingStatements.{Around, in_block, in_loop, out_of_l
 use Rattle.sz_known.proofs.Holds.{Holds, good, ok_holds, err_holds, bind_holds, known, weaker, both_hold, if_holds, by_option, option_holds}
 use Rattle.sz_check.proofs.ExpressionEmits.{Agrees, Gives, expression_gives}
 use Rattle.sz_check.proofs.HiddenLemmas.{inside_names, variable_hides, quantifiers_hide, bound_hide, variables_of}
+use Rattle.sz_check.proofs.TruthLemmas.{or_false, or_assoc}
 
--- one that holds nowhere, behind one or two
-or_none : (b : Bool) → (b || false) ≡ b
-or_none true = refl
-or_none false = refl
-
+-- one that holds nowhere, behind two
 or_only : (b c : Bool) → (b || c || false) ≡ (b || c)
 or_only true c = refl
 or_only false true = refl
 or_only false false = refl
-
-or_assoc : (a b c : Bool) → (a || b || c) ≡ (a || (b || c))
-or_assoc true b c = refl
-or_assoc false b c = refl
 
 module _ (fs : List Signature) (emits : List ℕ → Bool) where
   -- the statement emits so
@@ -111,7 +104,7 @@ module _ (fs : List Signature) (emits : List ℕ → Bool) where
 
     steps_more : (xs : List Step) (e : Node) → steps_emit_core fs (xs ++ at_index e ∷ []) ≡ (steps_emit_core fs xs || node_emits fs e)
     unfolding steps_emit_core
-    steps_more [] e = or_none (node_emits fs e)
+    steps_more [] e = or_false (node_emits fs e)
     steps_more (at_index d ∷ xs) e =
         ap (λ b. node_emits fs d || b) (steps_more xs e) ∙ sym (or_assoc (node_emits fs d) (steps_emit_core fs xs) (node_emits fs e))
     steps_more (at_field n ∷ xs) e = steps_more xs e
@@ -142,7 +135,7 @@ module _ (fs : List Signature) (emits : List ℕ → Bool) where
     steps_lead : (p : Place) (t : Target) (steps : List StepForm)
         → Holds (judge_steps s p t steps) (Leads (steps_emit_core fs t.steps || steps_emit emits h steps))
     unfolding judge_steps steps_emit
-    steps_lead p t [] = ok_holds (Leads (steps_emit_core fs t.steps || false)) t (sym (or_none (steps_emit_core fs t.steps)))
+    steps_lead p t [] = ok_holds (Leads (steps_emit_core fs t.steps || false)) t (sym (or_false (steps_emit_core fs t.steps)))
     steps_lead p t (trees.at_index e ∷ steps) = bind_holds (judged_gives None e) (λ n is. bind_holds (index_leads p t t.type e n) (λ next here.
         weaker (steps_lead p next steps) (λ r rest.
         rest ∙ (λ i. here i || steps_emit emits h steps) ∙ (λ i. steps_emit_core fs t.steps || is i || steps_emit emits h steps)
@@ -282,7 +275,7 @@ module _ (fs : List Signature) (emits : List ℕ → Bool) where
         ok_holds (DoesBehind (first_emits emits h f
         || turns_emit emits (hidden_behind_first h f) c between (stm_emits emits (hidden_behind_first h f) t)) h)
         (record { scene = closed s body.scene; stm = core.block (core.stms_of (first.stm ∷ core.for_loop p n step body.stm ∷ [])) })
-        (record { stm = (λ i. start.stm i || (asked i || turn i || is.stm i || false)) ∙ ap (λ b. first_emits emits h f || b) (or_none _); agrees = g }))))))
+        (record { stm = (λ i. start.stm i || (asked i || turn i || is.stm i || false)) ∙ ap (λ b. first_emits emits h f || b) (or_false _); agrees = g }))))))
     statement_does h a s (trees.break p) g = done_does h s g _ _ (if_holds a.loop (λ loop. ok_holds (Does false) core.break refl) (λ none. err_holds _ _))
     statement_does h a s (trees.continue p) g =
         done_does h s g _ _ (if_holds a.loop (λ loop. ok_holds (Does false) core.continue refl) (λ none. err_holds _ _))

@@ -1,5 +1,5 @@
 -- Statements without statements in them are sound as they are judged.
-use Rattle.std.proofs.Common.{◌≡◌, Bool, true, false, length, Option, Some, None, true≢false, refl, sym, ap, ◌∙◌, subst}
+use Rattle.std.proofs.Common.{◌≡◌, true, length, Option, Some, None, true≢false, refl, sym, ap, ◌∙◌, subst}
 use Rattle.std.specs.Prelude.{is_some, IfSome}
 use Rattle.std.proofs.lemmas.Option.{slice_get_within}
 use Rattle.sz_types.specs.Data.{Shape}
@@ -25,7 +25,7 @@ use Rattle.sz_known.specs.Scene.{Scene}
 use Rattle.sz_check.specs.Scenes.{judge, judge_if_some}
 use Rattle.sz_check.specs.JudgingStatements.{Around}
 use Rattle.sz_check.specs.JudgingSimple.{judge_declaration, judge_initialised, judge_definition, judge_simple, judge_first, judge_between, test_if_some}
-use Rattle.sz_check.specs.JudgingSimple.{judge_return, Numbered, table_named, weight_agrees, judge_emit, done}
+use Rattle.sz_check.specs.JudgingSimple.{judge_return, Numbered, table_named, weight_agrees, same_presence, judge_emit, done}
 use Rattle.sz_known.proofs.Holds.{Holds, ok_holds, err_holds, bind_holds, known, weaker, both_hold, unless_holds}
 use Rattle.sz_known.proofs.Meanings.{looked_up}
 use Rattle.sz_known.proofs.Sights.{IsFormed, IsTableOf, Fits}
@@ -156,14 +156,8 @@ module _ (a : Around) (g : Sight) (s : Scene) (sees : Sees g s) where
   table_found n (names.predeclared b) h = err_holds _ _
   table_found n names.input h = err_holds _ _
 
-  -- whether both are there, or neither is
-  abbrev both_or_neither : Bool → Bool → Bool
-  both_or_neither true b = b
-  both_or_neither false true = false
-  both_or_neither false false = true
-
   weight_sound : (t : Option Shape) (e : Option Exp) (n : Option Node) → MayBeTyped e n
-      → Holds (weight_agrees t e n) (λ u. both_or_neither (is_some t) (is_some e) ≡ true → IsWeightOf g t n)
+      → Holds (weight_agrees t e n) (λ u. same_presence (is_some t) (is_some e) ≡ true → IsWeightOf g t n)
   weight_sound None None None h = ok_holds _ _ (λ same. tt)
   weight_sound None None (Some n) h = absurd h
   weight_sound None (Some e) n h = ok_holds _ _ (λ same. absurd (true≢false (sym same)))
@@ -179,7 +173,7 @@ module _ (a : Around) (g : Sight) (s : Scene) (sees : Sees g s) where
       bind_holds (maybe_judged t.declaration.weight w table.weight) (λ weight l.
       bind_holds (agree_in_turn g t.declaration.indexes es indexes h) (λ u types. bind_holds (agrees_holds t.declaration.element e value) (λ v element.
       bind_holds (weight_sound t.declaration.weight w weight l) (λ x weights. bind_holds (counted_holds _ es n.place) (λ y count.
-      bind_holds (unless_holds (both_or_neither (is_some t.declaration.weight) (is_some w)) _) (λ z both.
+      bind_holds (unless_holds (same_presence (is_some t.declaration.weight) (is_some w)) _) (λ z both.
       ok_holds (IsDone g a) (core.emit p t.number indexes value weight) (record {
         stm = (all_nodes g es indexes h, k.typed, (t.declaration, table.here, types count, element, weights both));
         same = refl;

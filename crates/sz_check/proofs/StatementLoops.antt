@@ -27,7 +27,8 @@ use Rattle.sz_check.specs.Targets.{judge_step}
 use Rattle.sz_check.specs.Behind.{in_front}
 use Rattle.sz_known.specs.Outcome.{Stops}
 use Rattle.sz_known.specs.declared.error.CheckError.{CheckError}
-use Rattle.sz_known.proofs.TurnLemmas.{rest_more, rest_none, behind_next, behind_ends, turn_fails, stops_then, goes_on}
+use Rattle.sz_known.proofs.TurnLemmas.{behind_next, behind_ends, turn_fails, stops_then, goes_on}
+use Rattle.sz_types.proofs.ForCallers.{rest_more, rest_none}
 
 -- what goes on from a judgement that goes on from another
 pub assoc : {A B C : Type 0} (j : Judged A) (f : A → Judged B) (g : B → Judged C) → (j >>= λ x. f x >>= g) ≡ ((j >>= f) >>= g)

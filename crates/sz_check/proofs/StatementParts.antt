@@ -239,10 +239,6 @@ module _ (a : Around) (s : Scene) (p : Place) (c : Exp) where
   pub other_stops : (n : Node) (taken : Stm) (o : Tree) (e : CheckError) → Stops e (judge_inside a s o) → Stops e (judge_else a s p c n taken o)
   other_stops n taken o e h = stops_then e (judge_inside a s o) (λ b. done b.scene (branch_of p c n taken b.stm)) _ h refl
 
-  pub other_goes_on : (n : Node) (taken : Stm) (o : Tree) (b : Behind) → judge_inside a s o ≡ Ok b
-      → judge_else a s p c n taken o ≡ done b.scene (branch_of p c n taken b.stm)
-  other_goes_on n taken o b h = sym (goes_on (judge_inside a s o) (λ b. done b.scene (branch_of p c n taken b.stm)) _ b h refl)
-
 -- ---- each statement by its own judgement
 
 module _ (a : Around) (s : Scene) where

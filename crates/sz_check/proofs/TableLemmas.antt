@@ -1,28 +1,26 @@
 -- Declarations of tables: limits that are too large, types in order, and fields that are whole numbers.
-use Rattle.std.proofs.Common.{◌≡◌, ◌≤◌, ◌<◌, ℕ, ◌+◌, Bool, true, false, List, [], ◌∷◌, ◌++◌, length, get_or, drop, map, Option, Some, refl, sym, ap, ◌∙◌}
+use Rattle.std.proofs.Common.{◌≡◌, ◌≤◌, ◌<◌, ℕ, ◌+◌, Bool, true, false, List, [], ◌∷◌, ◌++◌, length, get_or, drop, map, Option, Some, refl, ap, ◌∙◌}
 use Rattle.std.proofs.Common.{nat_eq, arith}
 use Rattle.std.specs.Prelude.{Ok, ◌&&◌, if◌then◌else◌}
 use Rattle.std.proofs.lemmas.Bool.{ne_eqb, lt-leb}
-use Rattle.sz_types.specs.Data.{Shape, FieldShapes, field, with_field, fields_of}
-use Rattle.sz_types.specs.declared.encoding.Encoding.{Encoding}
-use Rattle.sz_types.specs.Seen.{seen, seen_field}
+use Rattle.sz_types.specs.Data.{Shape}
 use Rattle.sz_types.specs.Tables.{Declaration}
-use Rattle.sz_types.specs.declared.ty.Field.{Field}
 use Rattle.sz_types.specs.declared.table.TableKind.{TableKind}
 use Rattle.sz_types.specs.declared.table.TableKind.TheVariants.{Sum, Maximum, Minimum, Set, Collection}
 use Rattle.sz_tree.specs.declared.stmt.Elem.{Elem}
 use Rattle.sz_tree.specs.Names.{Ident}
 use Rattle.sz_tree.specs.View.{elem_of, type_of}
-use Rattle.sz_core.specs.WellFormed.{kind_allows, has_sum, has_no_weight, are_whole_numbers}
+use Rattle.sz_core.specs.WellFormed.{kind_allows, has_sum, has_no_weight}
 use Rattle.sz_known.specs.Refusals.{Judged, ◌>>=◌, bad_table}
 use Rattle.sz_known.specs.Names.{Block}
 use Rattle.sz_known.specs.JudgingTypes.{judge_type}
 use Rattle.sz_check.specs.JudgingPrograms.{judge_elems, declaration_of}
 use Rattle.sz_known.specs.Turns.{behind, put_all}
-use Rattle.sz_check.specs.Tabling.{is_int, with_type}
+use Rattle.sz_check.specs.Tabling.{with_type}
 use Rattle.sz_known.specs.Outcome.{Stops}
 use Rattle.sz_known.specs.declared.error.CheckError.{CheckError}
-use Rattle.sz_known.proofs.TurnLemmas.{rest_more, rest_none, turn_fails, turn_goes, turn_ends}
+use Rattle.sz_known.proofs.TurnLemmas.{turn_fails, turn_goes, turn_ends}
+use Rattle.sz_types.proofs.ForCallers.{rest_more, rest_none}
 
 second_fails : (a b : Bool) → b ≡ false → (a && b) ≡ false
 second_fails true b h = h
@@ -73,30 +71,3 @@ module _ (blocks : List Block) where
   unfolding judge_elems
   elems_end front es i whole over so_far =
       turn_ends with_type front [] _ whole (ap (judge_elems blocks) (rest_none elem_of es i over)) so_far ∙ ap (λ (ts : List Shape). Ok ts) (put_types front)
-
--- a field in front of fields: its type decides, or else those behind it
-pub whole_numbers : (name : List ℕ) (t : Shape) (number : ℕ) (code : Encoding) (fs : FieldShapes)
-    → are_whole_numbers (with_field (field name t number code) fs) ≡ (is_int t && are_whole_numbers fs)
-whole_numbers name Shape.truth number code fs = refl
-whole_numbers name Shape.int number code fs = refl
-whole_numbers name Shape.time number code fs = refl
-whole_numbers name Shape.str number code fs = refl
-whole_numbers name Shape.bytes number code fs = refl
-whole_numbers name (Shape.array t) number code fs = refl
-whole_numbers name (Shape.mapping k v) number code fs = refl
-whole_numbers name (Shape.tuple gs) number code fs = refl
-whole_numbers name (Shape.proto gs) number code fs = refl
-
-pub whole_turn : (fs : List Field) (i : ℕ) (f : Field) → i < length fs → f ≡ get_or fs i f
-    → are_whole_numbers (fields_of (map seen_field (drop i fs))) ≡ (is_int (seen f.ty) && are_whole_numbers (fields_of (map seen_field (drop (i + 1) fs))))
-whole_turn fs i f within is = rw (rest_more seen_field fs i f within is) (whole_numbers f.name (seen f.ty) f.number f.code _)
-
-pub whole_over : (fs : List Field) (i : ℕ) → length fs ≤ i → are_whole_numbers (fields_of (map seen_field (drop i fs))) ≡ true
-whole_over fs i over = rw (rest_none seen_field fs i over) refl
-
--- where one isn't, not all are
-pub fails_whole : (b c whole : Bool) → (b && c) ≡ whole → b ≡ false → false ≡ whole
-fails_whole b c whole same h = ap (λ d. d && c) (sym h) ∙ same
-
-pub rest_holds : (b c whole : Bool) → (b && c) ≡ whole → b ≡ true → c ≡ whole
-rest_holds b c whole same h = ap (λ d. d && c) (sym h) ∙ same

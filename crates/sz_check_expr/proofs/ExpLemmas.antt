@@ -19,7 +19,8 @@ use Rattle.sz_known.specs.Turns.{behind, put_all}
 use Rattle.sz_check_expr.specs.Lists.{with_pair, judge_pair}
 use Rattle.sz_known.specs.Outcome.{Stops}
 use Rattle.sz_known.specs.declared.error.CheckError.{CheckError}
-use Rattle.sz_known.proofs.TurnLemmas.{rest_more, rest_none, stops_then, goes_on, turn_fails, turn_goes, turn_ends}
+use Rattle.sz_known.proofs.TurnLemmas.{stops_then, goes_on, turn_fails, turn_goes, turn_ends}
+use Rattle.sz_types.proofs.ForCallers.{rest_more, rest_none}
 
 -- nodes put in front of none are these nodes
 pub put_nodes : (ns : List Node) → put_all with_node ns no_nodes ≡ nodes_of ns

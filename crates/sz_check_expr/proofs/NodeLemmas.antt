@@ -2,7 +2,7 @@
 use Rattle.std.proofs.Common.{◌≡◌, ℕ, Bool, true, false, Option, Some, None, refl, sym, ◌∙◌, true≢false}
 use Rattle.std.specs.Prelude.{if◌then◌else◌, ◌||◌, not, slice_get, IfSome}
 use Rattle.sz_types.specs.Data.{Shape, FieldShapes}
-use Rattle.sz_types.specs.Rows.{binary_row, index_row, builtin_row}
+use Rattle.sz_types.specs.Rows.{binary_row, index_row, builtin_row, arity}
 use Rattle.sz_types.specs.declared.place.Place.{Place}
 use Rattle.sz_types.specs.declared.operator.BinOp.{BinOp}
 use Rattle.sz_types.specs.declared.operator.Builtin.{Builtin}
@@ -19,7 +19,7 @@ use Rattle.sz_core.specs.Typing.{Sight, HasFields, field_types, HasOwnType, Have
 use Rattle.sz_known.specs.Refusals.{Judged, ◌>>=◌, wrong_type, wrong_count}
 use Rattle.sz_known.specs.Names.{Block, Meaning}
 use Rattle.sz_known.specs.Names as names
-use Rattle.sz_check_expr.specs.Agreeing.{Asks, nothing, each, in_turn, Found, counted, arguments_fit, arity}
+use Rattle.sz_check_expr.specs.Agreeing.{Asks, nothing, each, in_turn, Found, counted, arguments_fit}
 use Rattle.sz_check_expr.specs.JudgingExpressions.{literal_node, variable_node}
 use Rattle.sz_check_expr.specs.JudgingCalls.{Callee, declared, predeclared, conversion, callee_of, asks_of_callee, declared_call, predeclared_call, conversion_node}
 use Rattle.sz_check_expr.specs.JudgingCalls.{conversion_call, made_call}

@@ -111,10 +111,3 @@ arguments_fit StrFind (more e (more k es)) (with_node n (with_node m ns)) = do
   _ ← unless (is_searched_for (type_of n)) (wrong_type (place_of e))
   taken (strfind_row (type_of n) (type_of m)) k
 arguments_fit b es ns = Ok tt
-
--- how many arguments a predeclared function has
-abbrev pub arity : Builtin → ℕ
-arity Len = 1
-arity Keys = 1
-arity HasKey = 2
-arity StrFind = 2

@@ -2,7 +2,7 @@
 use Rattle.std.specs.Prelude.{ℕ, length, Bool, not, ◌||◌, if◌then◌else◌, Option, Some, None, Ok}
 use Rattle.sz_types.specs.Data.{Shape}
 use Rattle.sz_types.specs.Conversions.{converts_to}
-use Rattle.sz_types.specs.Rows.{builtin_row}
+use Rattle.sz_types.specs.Rows.{builtin_row, arity}
 use Rattle.sz_types.specs.declared.place.Place.{Place}
 use Rattle.sz_types.specs.declared.operator.Builtin.{Builtin}
 use Rattle.sz_tree.specs.Names.{Ident}
@@ -13,7 +13,7 @@ use Rattle.sz_core.specs.Programs.{Signature}
 use Rattle.sz_known.specs.Refusals.{Judged, ◌>>=◌, unless, wrong_kind, wrong_type, wrong_count, emit_here}
 use Rattle.sz_known.specs.Names.{Meaning}
 use Rattle.sz_known.specs.Names as names
-use Rattle.sz_check_expr.specs.Agreeing.{Asks, nothing, in_turn, agree, counted, arguments_fit, arity}
+use Rattle.sz_check_expr.specs.Agreeing.{Asks, nothing, in_turn, agree, counted, arguments_fit}
 
 -- what can be called: a declared function by its number, a predeclared one, or a type by whose name a value is converted
 pub data Callee : Type 0 where

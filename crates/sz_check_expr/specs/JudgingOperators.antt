@@ -73,7 +73,7 @@ abbrev pub asked_of_right : Operation → Shape → Option Shape
 asked_of_right (of o) t = if hands_type_on o then Some t else None
 asked_of_right _ t = None
 
--- whether two values of the type have a sum, with some second type; a difference; an order
+-- whether a value of the type has a sum with one of some second type
 abbrev pub is_summand : Shape → Bool
 is_summand Shape.int = true
 is_summand Shape.time = true
@@ -82,11 +82,13 @@ is_summand Shape.bytes = true
 is_summand (Shape.array t) = true
 is_summand _ = false
 
+-- whether it has a difference
 abbrev pub is_minuend : Shape → Bool
 is_minuend Shape.int = true
 is_minuend Shape.time = true
 is_minuend _ = false
 
+-- whether two values of the type have an order
 abbrev pub is_ordered : Shape → Bool
 is_ordered Shape.int = true
 is_ordered Shape.time = true

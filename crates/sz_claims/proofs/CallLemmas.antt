@@ -15,7 +15,8 @@ use Rattle.sz_book.specs.History.{entry, state_after, IsLegal, IsTrueReport}
 use Rattle.sz_claims.specs.declared.view.Account.{Account}
 use Rattle.sz_claims.specs.declared.view.View.{View}
 use Rattle.sz_claims.specs.Rule.{Slot, Shows, IsBounded, IsOut, IsTrueOf, IsAt, AreHeld, Kept, calling, looking, Follows, Called, Looked}
-use Rattle.sz_claims.specs.Moves.{MayCall, IsPlain}
+use Rattle.sz_claims.specs.Moves.{MayCall}
+use Rattle.sz_book.specs.Books.{IsPlain}
 use Rattle.sz_book.proofs.HistoryLemmas.{state_after-snoc, legal-snoc, reports-snoc, calls_own, calls_other, starts_self, starts_empty, starts_more}
 use Rattle.sz_claims.proofs.SeatLemmas.{was, set_at, numbered_set, held_set}
 use Rattle.atomic_table.proofs.Lists.{set_else}

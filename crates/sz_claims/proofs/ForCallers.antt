@@ -34,11 +34,6 @@ number_last : (c : Claim) (k : ℕ) (es : List Entry) (n : ℕ) → HasNumber c 
 number_last c k [] n = inl (refl, refl)
 number_last c k (e ∷ es) n = inr (number_last c k es n)
 
-number_more : (c : Claim) (k : ℕ) (es : List Entry) (e : Entry) → HasNumber c k es → HasNumber c k (es ++ e ∷ [])
-number_more c k [] e h = absurd h
-number_more c k (d ∷ es) e (inl h) = inl h
-number_more c k (d ∷ es) e (inr h) = inr (number_more c k es e h)
-
 pub has_drawn_now : (v w : PassData) (c : Claim) → Calls v Draw (Ticket (Some c)) w → HasDrawn c w.mine
 has_drawn_now v w c h = subst (λ (u : PassData). HasDrawn c u.mine) (sym h.1) (drawn_last c v.mine v.number)
 
@@ -51,14 +46,6 @@ has_drawn_still v w c e r h d = has_drawn_with v w c e [] r v.lane v.lent h d
 
 pub has_number_now : (v w : PassData) (c : Claim) (k : ℕ) → Calls v (Number c) (Numbered (Some k)) w → HasNumber c k w.mine
 has_number_now v w c k h = subst (λ (u : PassData). HasNumber c k u.mine) (sym h.1) (number_last c k v.mine v.number)
-
-pub has_number_with : (v w : PassData) (c : Claim) (k : ℕ) (e : Event) (ss : List ℕ) (r : Reply) (lane : ℕ) (lent : List ℕ)
-    → CallsWith v e ss r lane lent w → HasNumber c k v.mine → HasNumber c k w.mine
-has_number_with v w c k e ss r lane lent h d =
-    subst (λ (u : PassData). HasNumber c k u.mine) (sym h.1) (number_more c k v.mine (entry v.number e ss r) d)
-
-pub has_number_still : (v w : PassData) (c : Claim) (k : ℕ) (e : Event) (r : Reply) → Calls v e r w → HasNumber c k v.mine → HasNumber c k w.mine
-has_number_still v w c k e r h d = has_number_with v w c k e [] r v.lane v.lent h d
 
 won_last : (c : Claim) (k : ℕ) (es : List Entry) (n : ℕ) → HasWon c.shard (es ++ entry n (Settle c k) [] Won ∷ [])
 won_last c k [] n = inl (refl, refl)

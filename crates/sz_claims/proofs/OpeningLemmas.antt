@@ -20,8 +20,10 @@ use Rattle.sz_book.specs.Machine.{LedgerState}
 use Rattle.sz_claims.specs.Rule.{lane_data, turn_at, Slot, Shows, IsTrueOf, IsAt, Kept, weights, newcomer, number_at, deaths_at, settled_at, bad_at}
 use Rattle.sz_claims.specs.Known.{PassData, pass_data, AreEmpty, IsEnd, IsClosed, least_of, ends_in}
 use Rattle.sz_book.proofs.HistoryLemmas.{starts_empty}
-use Rattle.sz_claims.proofs.WordLemmas.{below, zero_at}
+use Rattle.sz_claims.proofs.WordLemmas.{below}
+use Rattle.sz_book.proofs.ReplayLemmas.{zero_at}
 use Rattle.atomic_table.specs.Seated.{TableId}
+use Rattle.sz_book.proofs.ShelfLemmas.{none_at}
 
 -- zeros round one number
 zero_else : (a b y k : ℕ) → k ≢ a → slice_index (replicate a 0 ++ y ∷ replicate b 0) k ≡ 0
@@ -37,11 +39,6 @@ one_at (suc a) y rest = one_at a y rest
 one_length : (a y : ℕ) (rest : List ℕ) → length (replicate a 0 ++ y ∷ rest) ≡ a + 1 + length rest
 one_length zero y rest = omega arith
 one_length (suc a) y rest = let h = one_length a y rest in omega arith
-
-no_list : (n i : ℕ) → slice_index_or {A = List ℕ} (replicate n []) i [] ≡ []
-no_list zero i = refl
-no_list (suc n) zero = refl
-no_list (suc n) (suc i) = no_list n i
 
 -- a lane that is given to a new ledger is in its slot, and empty
 empty_home : (p : PlanData) (all : List LaneData) (i : ℕ) → AreEmpty p all → i < length all
@@ -93,7 +90,7 @@ opens died faults p lanes words slots all plan are slots_are count empty =
           turns = λ i low. at (turn_at p i) (omega arith) ∙ sym (out i);
           home = λ i low zeroth.
               ap (λ (l : List Slot). get_elem? (map some l) i) slots_are ∙ empty_home p all i empty (omega arith)
-              ∙ ap (λ (l : List ℕ). some (some (Some (lane_data p l)))) (sym (no_list lanes i));
+              ∙ ap (λ (l : List ℕ). some (some (Some (lane_data p l)))) (sym (none_at lanes i));
           out = λ i low more. absurd (more (out i));
         };
         count = ap length are ∙ one_length n (2 ^ 32) (replicate lanes 0) ∙ ap (λ (k : ℕ). n + 1 + k) (length-replicate lanes 0) ∙ (omega arith);

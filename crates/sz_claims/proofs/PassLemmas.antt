@@ -25,11 +25,6 @@ snoc [] a b (suc j) e = absurd (some-ne-none b (sym e))
 snoc (x ∷ xs) a b zero e = inl e
 snoc (x ∷ xs) a b (suc j) e = ⊎_elim inl (λ (t : (j ≡ length xs) × (a ≡ b)). inr (ap suc t.0, t.1)) (snoc xs a b j e)
 
-within : {A : Type 0} (l : List A) (j : ℕ) (a : A) → get_elem? l j ≡ some a → j < length l
-within [] j a e = absurd (some-ne-none a (sym e))
-within (x ∷ xs) zero a e = omega arith
-within (x ∷ xs) (suc j) a e = let i = within xs j a e in omega arith
-
 weights_push : (vs : List View) (w : View) → weights (vs ++ w ∷ []) ≡ weights vs + w.weight
 weights_push [] w = omega arith
 weights_push (v ∷ vs) w = omega (arith, weights_push vs w)

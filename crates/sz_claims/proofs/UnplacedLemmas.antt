@@ -14,7 +14,8 @@ use Rattle.sz_book.specs.declared.event.Reply.TheVariants.{Won, Late}
 use Rattle.sz_book.specs.declared.event.Entry.{Entry}
 use Rattle.sz_book.specs.Machine.{LedgerState, opening, after, reply_of, Fits, placed, AreUnplaced}
 use Rattle.sz_book.specs.History.{state_after, IsLegalFrom, IsLegal, calls_by, Settles, HasWon, IsAmong, HasGiven, AreDistinct}
-use Rattle.sz_claims.proofs.WordLemmas.{below, claimed, zero_at}
+use Rattle.sz_claims.proofs.WordLemmas.{below, claimed}
+use Rattle.sz_book.proofs.ReplayLemmas.{zero_at}
 
 -- what is in no lane is settled
 record IsPlaced (p : PlanData) (x : LedgerState) : Type 0 where

@@ -2,6 +2,7 @@
 use Rattle.std.specs.Prelude.{◌≡◌, ℕ, ◌^◌, ◌<◌, List, [], ◌∷◌, ◌++◌, slice_index, slice_set}
 use mathlib.Core.Option.{Option as Maybe}
 use Rattle.sz_book.specs.Plan.{PlanData, IsPlan}
+use Rattle.sz_book.specs.Books.{IsPlain}
 use Rattle.sz_book.specs.declared.event.Event.{Event}
 use Rattle.sz_book.specs.declared.event.Event.TheVariants.{Draw, Number, Died, Settle, LaneOut, LaneBack, Bad}
 use Rattle.sz_book.specs.declared.event.Reply.{Reply}
@@ -37,16 +38,6 @@ Moves v i f event reply p lanes =
     → IsPlan p → IsLegal p lanes log → Shows p lanes words homes (state_after p (opening p lanes) log) → IsBounded p words log made → made < 2 ^ 32
     → IsTrueOf p lanes log (state_after p (opening p lanes) log) made joined v → slice_index words i < 2 ^ 64
     → Moved p lanes (slice_set words i (f (slice_index words i))) homes log made v.number event (reply (slice_index words i))
-
--- the event asks for no lane and brings none back
-abbrev pub IsPlain : Event → Type 0
-IsPlain Draw = Unit {0}
-IsPlain (Number c) = Unit {0}
-IsPlain (Died c k) = Unit {0}
-IsPlain (Settle c k) = Unit {0}
-IsPlain (LaneOut i) = ⊥
-IsPlain (LaneBack i) = ⊥
-IsPlain (Bad s) = Unit {0}
 
 -- a pass with this view may make the call by a step in which word i becomes f of what it was
 pub record MayCall (died : ℕ → ℕ → Type 0) (faults : ℕ → Type 0) (p : PlanData) (lanes : ℕ) (v : View) (i : ℕ) (f : ℕ → ℕ) (event : Event) (reply : ℕ

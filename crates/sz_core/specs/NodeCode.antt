@@ -107,9 +107,6 @@ mutual
       (pairings_apart ps qs (ap tail h) i)
   pairings_apart x y h = absurd (let sizes = ap is_pair h in omega arith)
 
--- how an expression and several are stored
+-- how an expression is stored
 abbrev pub node_code : Coded Node
 node_code = record { code = node_tree; inj = node_apart }
-
-abbrev pub nodes_code : Coded Nodes
-nodes_code = record { code = nodes_tree; inj = nodes_apart }

@@ -52,10 +52,6 @@ abbrev pub pairings_of : List (Node × Node) → Pairings
 pairings_of [] = no_pairings
 pairings_of (p ∷ ps) = with_pairing p.0 p.1 (pairings_of ps)
 
-abbrev pub list_of : Nodes → List Node
-list_of no_nodes = []
-list_of (with_node e es) = e ∷ list_of es
-
 -- the type of an expression
 abbrev pub type_of : Node → Shape
 type_of (node p t f) = t

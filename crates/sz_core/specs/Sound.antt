@@ -97,21 +97,23 @@ is_for_all v = is_all v.quantity
 abbrev pub bound_inside : List Quantified → List Quantified
 bound_inside vs = filter (λ v. not (is_for_all v)) vs
 
--- whether no other variable stands behind one that speaks of all candidates
+-- whether all of these variables speak of all candidates
 abbrev pub are_for_all : List Quantified → Bool
 are_for_all [] = true
 are_for_all (v ∷ vs) = is_for_all v && are_for_all vs
 
+-- whether no other variable stands behind one that speaks of all candidates
 abbrev pub is_all_last : List Quantified → Bool
 is_all_last [] = true
 is_all_last (v ∷ vs) = if is_for_all v then are_for_all vs else is_all_last vs
 
--- each variable can be declared, has the type of its candidates, and those are made of what is seen before it is bound
+-- each variable can be declared, has the type of its candidates, and those are made of what is seen before it is bound and has a type
+-- by itself
 abbrev pub AreQuantified : Sight → List Quantified → Type 0
 AreQuantified g [] = Unit {0}
 AreQuantified g (v ∷ vs) =
     IsNode g v.base × IsFree g v.local × ((t : Shape) × (slice_get g.locals v.local ≡ Some t) × (candidate_type v.slice (type_of v.base) ≡ Some t))
-    × AreQuantified (with_bound v g) vs
+    × HasOwnType v.base × AreQuantified (with_bound v g) vs
 
 unfoldable mutual
   -- the statement is sound

@@ -95,12 +95,4 @@ impl Program {
     {
         &self.locals
     }
-
-    /// Gives the items and the types of the record's variables back, and takes no memory.
-    pub fn into_parts(self) -> (Vec<Item>, Tys)
-        ensures value { core_of (map item_of result.0.items) result.1 ≡ self }
-        ensures sound { IsSound self }
-    {
-        (self.items, self.locals)
-    }
 }

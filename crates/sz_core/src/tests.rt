@@ -198,12 +198,10 @@ fn small(alloc: Global) -> Result<Program, NoMemory>
 }
 
 #[test]
-fn a_program_gives_its_parts_back(rt: HostRuntime) -> Result<(), Fail> {
+fn a_program_shows_its_parts(rt: HostRuntime) -> Result<(), Fail> {
     let program = small(rt.alloc())?;
     assert_eq!(rt; program.items().len(), 3);
     assert!(rt; matches!(&program.items()[0], Item::Table(table) if table.name.as_str() == "t"));
-    let (items, locals) = program.into_parts();
-    assert_eq!(rt; items.len(), 3);
-    assert_eq!(rt; locals.len(), 0);
+    assert_eq!(rt; program.locals().len(), 0);
     Ok(())
 }

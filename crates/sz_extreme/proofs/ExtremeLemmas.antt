@@ -9,7 +9,7 @@ use Rattle.sz_types.specs.declared.table.TableKind.{TableKind}
 use Rattle.sz_types.specs.declared.table.TableKind.TheVariants.{Maximum, Minimum}
 use Rattle.sz_value.specs.Data.{Datum}
 use Rattle.sz_tabs.specs.Data.{Weighted, RowDatum}
-use Rattle.sz_tabs.specs.Aggregating.{StandsFor, IsNew, Gains, Joins}
+use Rattle.sz_tabs.specs.Aggregating.{StandsFor, Gains, Joins}
 use Rattle.sz_tabs.specs.Rows.{weighted_row, rows_by, rows_of}
 use Rattle.sz_tabs.specs.Sorting.{sorted}
 use Rattle.sz_tabs.proofs.ForCallers.{rows_decide, rows_join, sorted_is_permutation}
@@ -56,10 +56,6 @@ rows_shown table rs kind few =
 pub weight_again : (kind : TableKind) (n : ℤ) → turned kind (turned kind n) ≡ n
 weight_again Maximum n = omega (arith, ints)
 weight_again _ n = refl
-
--- a new one
-pub extreme_is_new : (table : Declaration) (room : ℕ) → IsNew declaration_of count_of rows_of_extremes table (record { table = table; count = 0; kept = []; room = room })
-extreme_is_new table room = record { declared = refl; empty = record { rows = refl; counted = refl } }
 
 module _ (old new : Extremes) (same : new.table ≡ old.table) where
   pub extreme_gains : (emit : Weighted) → new.count ≡ old.count + 1 → rows_of old.table new.kept ≡ rows_of old.table (old.kept ++ emit ∷ [])

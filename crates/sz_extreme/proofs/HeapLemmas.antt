@@ -1,5 +1,5 @@
 -- What the calls of the heap leave: the least of all that came.
-use Rattle.std.proofs.Common.{◌≡◌, ◌∙◌, ℕ, zero, suc, ◌+◌, ◌≤◌, ◌<◌, ℤ, Bool, true, false, List, [], ◌∷◌, ◌++◌, map, take, length, true≢false, Result, Ok, Err, IsOk, OnOk, Option, Some, None, IsSome, IfSome, IsSorted, refl, sym, ap, subst, arith, is_lt, IsPermutation}
+use Rattle.std.proofs.Common.{◌≡◌, ◌∙◌, ℕ, ◌+◌, ◌≤◌, ◌<◌, ℤ, Bool, true, false, List, [], ◌∷◌, ◌++◌, map, take, length, true≢false, Option, Some, None, IsSome, IfSome, IsSorted, sym, ap, subst, arith, is_lt, IsPermutation}
 use Rattle.std.specs.List.{AllByRecursion}
 use Rattle.std.specs.BinaryHeap.{IsHeap, IsUpperBound, PopsGreatest}
 use Rattle.std.specs.List.Sorted.{IsStable}
@@ -31,11 +31,6 @@ passed_over n ps p r long all high =
     let worst = worse_than_worst rank_total rank_ties r (seen_rank p) (ranks ps) high (worst_seen p ps all) in
     sym (ap (take n) (front r (ranks ps)) ∙ worst_left_out rank_total rank_ties n (ranks ps) r (omega (arith, length-map ps seen_rank, long)) worst)
 
--- nothing can be held
-pub none_held : (n : ℕ) (all held : List Ranked) → n ≡ 0 → HoldsLeast n all held
-none_held zero all held none = refl
-none_held (suc n) all held none = absurd (omega (arith, none))
-
 -- one more is held
 pub one_more : (n : ℕ) (ps qs : List (ℤ × Value)) (p : ℤ × Value) → IsPermutation (p ∷ ps) qs → HoldsLeast n (ranks ps ++ seen_rank p ∷ []) (ranks qs)
 one_more n ps qs p moved =
@@ -61,14 +56,6 @@ worst_goes n qs rest worst popped more all =
 pub held_of_held : (n : ℕ) (all some held : List Ranked) → HoldsLeast n all some → HoldsLeast n some held → HoldsLeast n all held
 held_of_held n all some held before after = after ∙ before
 
-pub all_held : (n : ℕ) (all : List Ranked) → HoldsLeast n all all
-all_held n all = refl
-
--- what holds where a call can't fail
-pub surely : {T E P : Type 0} (r : Result T E) → IsOk r → OnOk r P → P
-surely (Ok x) sure p = p
-surely (Err e) sure p = absurd (true≢false (sym sure))
-
 -- what is popped leaves a heap, and the least
 pub heap_next : (now next : List (ℤ × Value)) (r : Option (ℤ × Value)) → IsSome r → IfSome r (λ x. PopsGreatest rank_order now x next) → IsHeap rank_order now
     → IsHeap rank_order next
@@ -81,6 +68,16 @@ pub trimmed : (n : ℕ) (first now next : List (ℤ × Value)) (r : Option (ℤ 
 trimmed n first now next (Some x) more some popped below heap least =
     held_of_held n (ranks first) (ranks now) (ranks next) least (worst_goes n now next x popped more (below heap))
 trimmed n first now next None more some popped below heap least = absurd (true≢false (sym some))
+
+-- where more than n are held, the greatest is popped, and the least of those at first are held still
+pub one_popped : (n size room room_first room_next : ℕ) (first now next : List (ℤ × Value)) (r : Option (ℤ × Value)) → n < size → n < length now
+    → (0 < size → IsSome r) → IfSome r (λ x. PopsGreatest rank_order now x next) → IfSome r (λ x. IsPermutation now (x ∷ next))
+    → IfSome r (λ x. IsHeap rank_order now → IsUpperBound rank_order x next) → room_next ≡ room
+    → (IsHeap rank_order now × HoldsLeast n (ranks first) (ranks now) × (room ≡ room_first))
+    → (IsHeap rank_order next × HoldsLeast n (ranks first) (ranks next) × (room_next ≡ room_first))
+one_popped n size room room_first room_next first now next r less more some pops popped below same held =
+    let is : IsSome r = some (omega (arith, less)) in
+    (heap_next now next r is pops held.0, trimmed n first now next r more is popped below held.0 held.1, same ∙ held.2)
 
 -- what a stable sort leaves
 pub ranks_sorted : (old new : List (ℤ × Value)) → IsSorted rank_order new → IsStable rank_order old new → ranks new ≡ sorted by_rank (ranks old)

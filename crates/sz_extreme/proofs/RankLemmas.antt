@@ -4,7 +4,6 @@ use Rattle.std.proofs.Common.{Ordering, Less, Equal, Greater, is_lt, is_gt, is_e
 use Rattle.std.specs.List.{AllByRecursion}
 use Rattle.std.specs.Ordering.{int_cmp, ordering_then, ordering_reverse, on}
 use Rattle.std.specs.Cmp.{IsTotalOrder, on_total, int_cmp_is}
-use Rattle.std.proofs.lemmas.Bool.{cond_both}
 use Rattle.std.proofs.lemmas.Int.{ints}
 use Rattle.std.proofs.lemmas.Cmp.{alike_right, int_ranked}
 use Rattle.std.proofs.lemmas.List.{take-append-le}
@@ -17,6 +16,7 @@ use Rattle.sz_tabs.specs.Data.{Weighted}
 use Rattle.sz_tabs.specs.Sorting.{inserted, sorted}
 use Rattle.sz_tabs.specs.Rows.{least_first, greatest_first}
 use Rattle.sz_tabs.proofs.ForCallers.{Ascends, sorted_ascends, sorted_is_permutation, sorted_in_any_order, sorted_mapped, least_total, least_ties}
+use Rattle.sz_tabs.proofs.SortingLemmas.{all_inserted}
 use Rattle.sz_extreme.specs.Ranks.{turned, Ranked, by_rank, emit_of, HoldsLeast}
 
 pub rank_total : IsTotalOrder by_rank
@@ -55,14 +55,9 @@ module _ {X : Type 0} {cmp : X → X → Ordering} (total : IsTotalOrder cmp) (s
   abbrev pub IsWorst : X → List X → Type 0
   IsWorst worst xs = AllByRecursion (λ y. is_lt (cmp worst y) ≡ false) xs
 
-  all_inserted : (P : X → Type 0) (x : X) (ys : List X) → P x → AllByRecursion P ys → AllByRecursion P (inserted cmp x ys)
-  all_inserted P x [] h all = (h, tt)
-  all_inserted P x (y ∷ ys) h all =
-      cond_both (is_gt (cmp x y)) (y ∷ inserted cmp x ys) (x ∷ y ∷ ys) (AllByRecursion P) (λ above. (all.0, all_inserted P x ys h all.1)) (λ below. (h, all))
-
   all_sorted : (P : X → Type 0) (xs : List X) → AllByRecursion P xs → AllByRecursion P (sorted cmp xs)
   all_sorted P [] all = tt
-  all_sorted P (x ∷ xs) all = all_inserted P x (sorted cmp xs) all.0 (all_sorted P xs all.1)
+  all_sorted P (x ∷ xs) all = all_inserted total P x (sorted cmp xs) all.0 (all_sorted P xs all.1)
 
   -- an element that is no more than the first of ascending ones stays in front
   in_front : (x : X) (ys : List X) → AllByRecursion (λ y. is_gt (cmp x y) ≡ false) ys → inserted cmp x ys ≡ x ∷ ys

@@ -1,7 +1,5 @@
 -- How pieces of code in the making are put together.
-use Rattle.std.proofs.Common.{◌≡◌, ◌∙◌, ℕ, suc, ◌+◌, ◌<◌, ◌≤◌, List, [], ◌∷◌, ◌++◌, length, Bool, true, false, Some, refl, sym, ap, subst, append_assoc, append-nil, length-append, if◌then◌else◌, arith, drop, get_or, map}
-use Rattle.std.proofs.lemmas.List.{drop_more}
-use Rattle.std.proofs.Math.ListN.{drop_of_length-le}
+use Rattle.std.proofs.Common.{◌≡◌, ◌∙◌, ℕ, suc, ◌+◌, ◌<◌, ◌≤◌, List, [], ◌∷◌, ◌++◌, length, Bool, true, false, Some, refl, sym, ap, subst, append_assoc, append-nil, length-append, if◌then◌else◌, arith, map}
 use Rattle.std.specs.Ordering.{is_eq}
 use Rattle.sz_types.specs.Data.{Shape}
 use Rattle.sz_types.specs.Same.{alike}
@@ -231,15 +229,6 @@ pub test_within : {m1 m2 m3 m4 : Builder} {right : Tables → ℕ → List Line}
     {named named2 named3 : Tables → Type 0} (at : ℕ) → at ≡ length m1.lines → AppendsLine m1 m2 i charge place named → Appends m2 m3 right named2
     → AppendsLine m3 m4 j charge2 place2 named3 → at < length m4.lines
 test_within at is one two three = omega (arith, is, one_longer one, no_shorter two, one_longer three)
-
--- ---- elements of a list, from one on
-
-pub rest_more : {A B : Type 0} (f : A → B) (xs : List A) (i : ℕ) (x : A) → i < length xs → x ≡ get_or xs i x
-    → map f (drop i xs) ≡ f x ∷ map f (drop (i + 1) xs)
-rest_more f xs i x within is = ap (map f) (drop_more xs i x within) ∙ ap (λ (y : _). f y ∷ map f (drop (i + 1) xs)) (sym is)
-
-pub rest_none : {A B : Type 0} (f : A → B) (xs : List A) (i : ℕ) → length xs ≤ i → map f (drop i xs) ≡ []
-rest_none f xs i over = ap (map f) (drop_of_length-le xs over)
 
 -- as many as the list is long
 pub count_is : {A : Type 0} (f : A → Node) (xs : List A) → count_of (nodes_of (map f xs)) ≡ length xs

@@ -1,7 +1,7 @@
 -- Expressions of several parts: predeclared functions, arrays, tuples and maps. And the parts, one after the other.
 use Rattle.std.proofs.Common.{◌≡◌, ◌∙◌, ℕ, suc, ◌+◌, ◌*◌, ◌≤◌, List, [], ◌∷◌, length, Some, refl, sym, ap, subst, arith, drop}
 use Rattle.sz_types.specs.Data.{Shape, FieldShapes}
-use Rattle.sz_types.specs.Rows.{builtin_row}
+use Rattle.sz_types.specs.Rows.{builtin_row, arity}
 use Rattle.sz_types.specs.declared.place.Place.{Place}
 use Rattle.sz_types.specs.declared.operator.Builtin.{Builtin}
 use Rattle.sz_core.specs.Nodes.{Nodes, no_nodes, with_node, types_of}
@@ -13,7 +13,7 @@ use Rattle.sz_instr.specs.declared.code.Code.{Code}
 use Rattle.sz_world.specs.World.{World, Given, Gives, Stops, Doing, and_then, give}
 use Rattle.sz_world.specs.Slots.{Slot}
 use Rattle.sz_world.specs.Typed.{Fits, AllFit}
-use Rattle.sz_world.specs.Operations.{arity, applied, array_of, tuple_of, map_of}
+use Rattle.sz_world.specs.Operations.{applied, array_of, tuple_of, map_of}
 use Rattle.sz_world.specs.Ticks.{result_weight, builtin_weight}
 use Rattle.sz_mean.specs.Expressions.{results}
 use Rattle.sz_machine.specs.States.{State, After, Goes, goes_on, popped}

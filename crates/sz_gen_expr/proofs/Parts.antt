@@ -1,21 +1,18 @@
--- The expressions that are parts of statements: the indexes of a path, and an expression that may be missing.
-use Rattle.std.proofs.Common.{◌≡◌, ℕ, ◌+◌, ◌≤◌, List, [], ◌∷◌, length, Option, Some, None, IfSome, refl, arith, length-append}
+-- The expressions that are parts of statements: the indexes of a path.
+use Rattle.std.proofs.Common.{◌≡◌, ℕ, ◌+◌, ◌≤◌, List, [], ◌∷◌, length, refl, arith, length-append}
 use Rattle.sz_types.specs.Data.{Shape}
-use Rattle.sz_core.specs.Nodes.{Node, type_of}
+use Rattle.sz_core.specs.Nodes.{type_of}
 use Rattle.sz_core.specs.Statements.{Step, at_index, at_field}
 use Rattle.sz_core.specs.Typing.{Sight, IsNode}
 use Rattle.sz_core.specs.Sound.{LeadTo}
 use Rattle.sz_instr.specs.declared.code.Code.{Code}
-use Rattle.sz_world.specs.World.{Given, Gives, Stops, and_then, give}
-use Rattle.sz_world.specs.Slots.{Slot}
-use Rattle.sz_world.specs.Emits.{listed}
-use Rattle.sz_mean.specs.Expressions.{Setting, eval, eval_indexes, eval_if_some}
-use Rattle.sz_machine.specs.States.{State, After, Faults}
+use Rattle.sz_mean.specs.Expressions.{Setting, eval, eval_indexes}
+use Rattle.sz_machine.specs.States.{State, After}
 use Rattle.sz_machine.specs.Running.{ComesTo}
 use Rattle.sz_gen_expr.specs.Tables.{Tables, tables_in}
-use Rattle.sz_gen_expr.specs.ExpressionCode.{expression_code, indexes_code, code_if_some}
-use Rattle.sz_gen_expr.specs.Named.{HasNames, StepsHaveNames}
-use Rattle.sz_gen_expr.specs.Runs.{AllKept, with_all, AfterEval, AfterAll, CallsBelow, Ready, HasAt}
+use Rattle.sz_gen_expr.specs.ExpressionCode.{expression_code, indexes_code}
+use Rattle.sz_gen_expr.specs.Named.{StepsHaveNames}
+use Rattle.sz_gen_expr.specs.Runs.{AfterAll, CallsBelow, Ready, HasAt}
 use Rattle.sz_gen_expr.proofs.Steps.{has_front, has_back}
 use Rattle.sz_gen_expr.proofs.Composites.{none_run, after_head}
 use Rattle.sz_gen_expr.proofs.Expressions.{eval_runs}
@@ -42,17 +39,6 @@ indexes_of_path g (Shape.tuple fs) (at_field n ∷ steps) u h = indexes_of_path 
 indexes_of_path g (Shape.proto fs) (at_field n ∷ steps) u h = indexes_of_path g h.0 steps u h.2
 indexes_of_path g t (step ∷ steps) u h = absurd h
 
--- the type of an expression that may be missing, as a list
-abbrev pub type_if_some : Option Node → List Shape
-type_if_some None = []
-type_if_some (Some e) = type_of e ∷ []
-
--- the run comes to x from what such an expression gives
-abbrev pub AfterIfSome : Code → List Shape → State → ℕ → After → Given (Option Slot) → Type 0
-AfterIfSome code ts s end x (Gives o w) =
-    AllKept s.world ts (listed o) w → ComesTo code (record s { at = end; stack = with_all (listed o) s.stack; world = w }) x
-AfterIfSome code ts s end x (Stops fault) = Faults fault ≡ x
-
 module _ (code : Code) (g : Sight) (setting : Setting) (room limit : ℕ) (below : CallsBelow code g.functions setting.statics room limit setting.calls) where
   abbrev tables : Tables
   tables = tables_in code
@@ -71,15 +57,3 @@ module _ (code : Code) (g : Sight) (setting : Setting) (room limit : ℕ) (below
       indexes_run steps (record s { at = at1; stack = y ∷ s.stack; world = w }) end x sound.1 named.1 ready (omega (arith, kept.left, low))
       (has_back code.lines s.at ca cb has) (omega (arith, ends, length-append ca cb)) h1) (eval setting s.locals e s.world) h)
   indexes_run (at_field n ∷ steps) s end x sound named ready low has ends h = indexes_run steps s end x sound named ready low has ends h
-
-  pub optional_runs : (e : Option Node) (s : State) (end : ℕ) (x : After) → IfSome e (IsNode g) → IfSome e (HasNames tables)
-      → Ready g setting room s → s.world.left ≤ limit
-      → HasAt code.lines s.at (code_if_some tables e s.at) → s.at + length (code_if_some tables e s.at) ≡ end
-      → AfterIfSome code (type_if_some e) s end x (eval_if_some setting s.locals e s.world) → ComesTo code s x
-  optional_runs None s end x sound named ready low has ends h = none_run code s end x ends h
-  optional_runs (Some e) s end x sound named ready low has ends h =
-      eval_runs code g setting room limit below e s end x sound named ready low has ends (there (eval setting s.locals e s.world) h)
-    where
-      there : (r : Given Slot) → AfterIfSome code (type_of e ∷ []) s end x (and_then r (λ y. give (Some y))) → AfterEval code (type_of e) s end x r
-      there (Stops fault) h1 = h1
-      there (Gives y w) h1 = λ kept. h1 (record { left = kept.left; typed = (kept.typed, tt) })

@@ -4,7 +4,7 @@ use Rattle.std.specs.Prelude.{slice_get}
 use Rattle.std.specs.Option.{option_map, option_and_then}
 use Rattle.std.specs.Ordering.{match_ordering}
 use Rattle.sz_types.specs.Data.{Shape, FieldShapes, no_fields, with_field, field}
-use Rattle.sz_types.specs.Rows.{unary_row, binary_row, index_row, slice_row, builtin_row}
+use Rattle.sz_types.specs.Rows.{unary_row, binary_row, index_row, slice_row, builtin_row, arity}
 use Rattle.sz_types.specs.declared.operator.UnOp.{UnOp}
 use Rattle.sz_types.specs.declared.operator.BinOp.{BinOp}
 use Rattle.sz_types.specs.declared.operator.Builtin.{Builtin}
@@ -20,7 +20,7 @@ use Rattle.sz_core.specs.Typing.{HasFields, field_types, AreAll}
 use Rattle.sz_world.specs.Slots.{Slot, all_defined}
 use Rattle.sz_world.specs.Typed.{Fits, AllFit}
 use Rattle.sz_machine.specs.Covering.{HasPart}
-use Rattle.sz_world.specs.Operations.{unary_of, binary_of, arity, applied, element_of, slice_of, part_at, part_of, array_of, tuple_of, with_pairs, map_of}
+use Rattle.sz_world.specs.Operations.{unary_of, binary_of, applied, element_of, slice_of, part_at, part_of, array_of, tuple_of, with_pairs, map_of}
 
 pub unary_fits : (op : UnOp) (t u : Shape) (x : Slot) → unary_row op t ≡ Some u → Fits x t → Fits (unary_of op x) u
 unary_fits op t u None r h = tt
@@ -164,7 +164,7 @@ length-pair_types k v zero = refl
 length-pair_types k v (suc n) = omega (arith, length-pair_types k v n)
 
 -- pairs of a map's types
-abbrev PairsFit : List (Datum × Datum) → Shape → Shape → Type 0
+abbrev pub PairsFit : List (Datum × Datum) → Shape → Shape → Type 0
 PairsFit ps k v = pairs_have (entries_of ps) k v ≡ true
 
 whichever : (o : Ordering) (a b c : List (Datum × Datum)) (k v : Shape) → PairsFit a k v → PairsFit b k v → PairsFit c k v
@@ -173,7 +173,7 @@ whichever Less a b c k v ha hb hc = ha
 whichever Equal a b c k v ha hb hc = hb
 whichever Greater a b c k v ha hb hc = hc
 
-put_fits : (ps : List (Datum × Datum)) (key value : Datum) (k v : Shape) → has_type key k ≡ true → has_type value v ≡ true → PairsFit ps k v
+pub put_fits : (ps : List (Datum × Datum)) (key value : Datum) (k v : Shape) → has_type key k ≡ true → has_type value v ≡ true → PairsFit ps k v
     → PairsFit (with_pair key value ps) k v
 put_fits [] key value k v hk hv h = both_in (both_in hk hv) refl
 put_fits (p ∷ ps) key value k v hk hv h =

@@ -7,7 +7,7 @@ use Rattle.sz_core.specs.Sound.{Around}
 use Rattle.sz_core.specs.Sound.{in_loop as inner}
 use Rattle.sz_instr.specs.declared.line.Line.{Line}
 use Rattle.sz_instr.specs.declared.code.Code.{Code}
-use Rattle.sz_instr.specs.declared.instr.Instr.TheVariants.{Discard, Jump}
+use Rattle.sz_instr.specs.declared.instr.Instr.TheVariants.{Discard}
 use Rattle.sz_world.specs.World.{World, Given, Gives, Stops, Doing, and_then, give, spend, paid}
 use Rattle.sz_world.specs.Slots.{Slot}
 use Rattle.sz_mean.specs.Endings.{Ending, Normal, Breaks, Continues, Returns, Running, then_run, then_loop, chosen}
@@ -34,10 +34,6 @@ pub all_kept_since : (before later : World) (ts : List Shape) (vs : List Slot) (
 all_kept_since before later ts vs w le k = let le1 = k.left in record { left = omega arith; typed = k.typed }
 
 module _ (code : Code) (types : List Shape) (x : After) where
-  -- a run that goes to a line by a jump
-  pub jumps : (s : State) (to : ℕ) (p : Place) → HasAt code.lines s.at (line (Jump to) 0 p ∷ []) → ComesTo code (record s { at = to }) x → ComesTo code s x
-  jumps s to p has h = at_line code s (line (Jump to) 0 p) x has.0 tt h
-
   pub return_later : (r : Option Shape) (flags : ℕ) (s : State) (at : ℕ) (l : List Slot) (w1 : World) → w1.left ≤ s.world.left
       → (v : Slot) (w : World) → AfterReturn code r flags s x v w → AfterReturn code r flags (record s { at = at; locals = l; world = w1 }) x v w
   return_later None flags s at l w1 le v w h = h

@@ -97,7 +97,7 @@ module _ (code : Code) (g : Sight) (set : Setting) (room : ℕ) (below : (limit 
         candidates = sound.2.2;
         local = sound.2.1;
       } in
-      (known, variables_run vs (with_bound v (seeing g seen)) s sound.3 of.1 fixed)
+      (known, variables_run vs (with_bound v (seeing g seen)) s sound.4 of.1 fixed)
 
   mutual
     unfolding IsStm AreStms

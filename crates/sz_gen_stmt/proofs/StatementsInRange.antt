@@ -117,7 +117,7 @@ module _ (code : Code) (g : Sight) (room : IsRoomFor code g) where
   variables_in_range (v ∷ vs) seen sound names = (
     λ at fits. node_in_range code g room seen v.base at sound.0 names.0 fits,
     local_in_range code g room v.local sound.2.0 sound.2.1,
-    variables_in_range vs (with_bound v (seeing g seen)) sound.3 names.1,
+    variables_in_range vs (with_bound v (seeing g seen)) sound.4 names.1,
   )
 
   mutual

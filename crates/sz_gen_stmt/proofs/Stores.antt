@@ -1,8 +1,7 @@
 -- What a store makes of a value has the value's type.
-use Rattle.std.proofs.Common.{◌≡◌, ℕ, zero, suc, pos, negsuc, List, [], ◌∷◌, map, Ordering, Less, Equal, Greater, Bool, true, false, ◌&&◌, cond, Option, Some, None, IfSome, refl, sym, subst}
+use Rattle.std.proofs.Common.{◌≡◌, ℕ, zero, suc, pos, negsuc, List, [], ◌∷◌, map, Bool, true, false, ◌&&◌, cond, Option, Some, None, IfSome, refl, sym, subst}
 use Rattle.std.specs.Prelude.{slice_get, slice_set}
 use Rattle.std.specs.Option.{option_map}
-use Rattle.std.specs.Ordering.{match_ordering}
 use Rattle.std.specs.BTreeMap.{is_at}
 use Rattle.sz_value.specs.Order.{compare}
 use Rattle.sz_types.specs.Data.{Shape, FieldShapes, no_fields, with_field, field}
@@ -15,6 +14,7 @@ use Rattle.sz_world.specs.Typed.{Fits, AllFit}
 use Rattle.sz_world.specs.Stores.{Step, by_index, by_field, to_element, to_part, ways_of, with_part, with_change, replaced, Stored, Holds, Undefined, Outside, unless_outside, store_of, stored}
 use Rattle.sz_machine.specs.Covering.{LeadsTo}
 use Rattle.sz_builtin.proofs.TypeLemmas.{both, both_in}
+use Rattle.sz_gen_expr.proofs.Types.{PairsFit, put_fits}
 
 -- a change that keeps a type
 abbrev Keeps : (Slot → Option Datum) → Shape → Type 0
@@ -116,25 +116,6 @@ value_has key (entry l w es) k v h =
     at : (here : Bool) → has_type w v ≡ true → Fits (value_at key (pairs_of es)) v → Fits (cond here (Some w) (value_at key (pairs_of es))) v
     at true h k = h
     at false h k = k
-
--- pairs of a map's types
-abbrev PairsFit : List (Datum × Datum) → Shape → Shape → Type 0
-PairsFit ps k v = pairs_have (entries_of ps) k v ≡ true
-
-whichever : (o : Ordering) (a b c : List (Datum × Datum)) (k v : Shape) → PairsFit a k v → PairsFit b k v → PairsFit c k v
-    → PairsFit (match_ordering o a b c) k v
-whichever Less a b c k v ha hb hc = ha
-whichever Equal a b c k v ha hb hc = hb
-whichever Greater a b c k v ha hb hc = hc
-
-put_fits : (ps : List (Datum × Datum)) (key value : Datum) (k v : Shape) → has_type key k ≡ true → has_type value v ≡ true → PairsFit ps k v
-    → PairsFit (with_pair key value ps) k v
-put_fits [] key value k v hk hv h = both_in (both_in hk hv) refl
-put_fits (p ∷ ps) key value k v hk hv h =
-    let q = both (has_type p.0 k && has_type p.1 v) (pairs_have (entries_of ps) k v) h in
-    let here = both (has_type p.0 k) (has_type p.1 v) q.0 in
-    whichever (compare key p.0) ((key, value) ∷ p ∷ ps) ((p.0, value) ∷ ps) (p ∷ with_pair key value ps) k v
-    (both_in (both_in hk hv) h) (both_in (both_in here.0 hv) q.1) (both_in q.0 (put_fits ps key value k v hk hv q.1))
 
 entries_back : (es : Entries) (k v : Shape) → pairs_have es k v ≡ true → PairsFit (pairs_of es) k v
 entries_back no_entries k v h = refl

@@ -1,16 +1,15 @@
 -- What happens to places, and to the bytes left, when a file is called, opened, read or put.
 use Rattle.std.proofs.Common.{Vec, Global, ◌≡◌, ◌≢◌, inl, inr, ℕ, ◌<◌, Bool, true, false, if◌then◌else◌, List, [], ◌∷◌, ◌++◌, length, drop}
-use Rattle.std.proofs.Common.{Option, Some, None, option_and_then, Result, refl, sym, ap, subst, ◌∙◌, arith, length-append}
+use Rattle.std.proofs.Common.{Option, Some, None, option_and_then, refl, sym, ap, subst, ◌∙◌, arith, length-append}
 use Rattle.std.proofs.Math.ListN.{set}
 use Rattle.std.proofs.lemmas.List.{with_items_is}
 use Rattle.std.specs.Vec.{with_items}
 use Rattle.std.specs.List.{slice_get}
 use Rattle.std.specs.Option.{option_map, option_map_or}
-use Rattle.std.specs.Io.KnownBytes.{ReadConsumes}
 use Rattle.sz_io.specs.declared.held_file.HeldFile.{HeldFile}
 use Rattle.sz_io.specs.declared.held_file.Place.{Place}
 use Rattle.sz_io.specs.HeldFiles.{place_in, bytes_at, held_in, rest_of, left_in, CallsOneFile}
-use Rattle.sz_io.proofs.Gets.{slice_get-set, slice_get-set_same, slice_get-set_other}
+use Rattle.sz_io.proofs.Gets.{slice_get-set, slice_get-set_other}
 use Rattle.sz_io.proofs.Gets.{slice_get-push, slice_get-push_old, slice_get-push_new}
 use Rattle.sz_io.specs.Placed.{IsPlaced, ArePlaced}
 
@@ -58,10 +57,6 @@ left_in-called old new opened i number called = at (slice_get opened number) whe
   at None = refl
   at (Some place) = ap (λ bytes. Some (drop place.at bytes)) (called.same_bytes place.file)
 
-pub left_in-set_same : (files : List HeldFile) (opened : List Place) (k : ℕ) (place : Place) → k < length opened
-    → left_in files (set opened k place) k ≡ rest_of files place
-left_in-set_same files opened k place inside = ap (option_and_then (rest_of files)) (slice_get-set_same opened k place inside)
-
 pub left_in-set_other : (files : List HeldFile) (opened : List Place) (k j : ℕ) (place : Place) → j ≢ k
     → left_in files (set opened k place) j ≡ left_in files opened j
 left_in-set_other files opened k j place apart = ap (option_and_then (rest_of files)) (slice_get-set_other opened k j place apart)
@@ -90,19 +85,6 @@ held_in-called old new i name called = ap (option_map (bytes_at new)) (called.sa
   at : (p : Option ℕ) → option_map (bytes_at new) p ≡ option_map (bytes_at old) p
   at None = refl
   at (Some k) = ap Some (called.same_bytes k)
-
--- ---- a read
-
--- what a read gave is what the opened file had next
-pub left_in-read : {E : Type 0} (old new : List HeldFile) (opened : List Place) (i k : ℕ) (place moved : Place) (result : Result ℕ E)
-    (into : List ℕ) → CallsOneFile old new i → slice_get opened k ≡ Some place → k < length opened
-    → ReadConsumes (rest_of old place) (rest_of old moved) result into
-    → ReadConsumes (left_in old opened k) (left_in new (set opened k moved) k) result into
-left_in-read old new opened i k place moved result into called there inside read =
-    let before : left_in old opened k ≡ rest_of old place = ap (option_and_then (rest_of old)) there in
-    let after : left_in new (set opened k moved) k ≡ rest_of old moved =
-    left_in-set_same new opened k moved inside ∙ ap (λ bytes. Some (drop moved.at bytes)) (called.same_bytes moved.file) in
-    rw (before, after) read
 
 -- ---- the files in their vector
 

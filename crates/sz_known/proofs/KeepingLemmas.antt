@@ -9,8 +9,8 @@ use Rattle.std.proofs.lemmas.Option.{none-some, same_Some, slice_get_within}
 use Rattle.std.proofs.lemmas.List.{length_push}
 use Rattle.sz_types.specs.Data.{Shape}
 use Rattle.sz_scope.specs.Blocks as scopes
-use Rattle.sz_scope.specs.Blocks.{Declaration, found, found_in, is_declared, with_declared, without_newest}
-use Rattle.sz_scope.specs.Sight.{is_seen, blocks_where, seen_blocks}
+use Rattle.sz_scope.specs.Blocks.{Declaration, found, found_in, is_declared, with_declared}
+use Rattle.sz_scope.specs.Sight.{sees, blocks_where, seen_blocks}
 use Rattle.sz_scope.specs.declared.meaning.Meaning.{Meaning as Place}
 use Rattle.sz_scope.specs.declared.error.ScopeError.{ScopeError}
 use Rattle.sz_scope.specs.declared.error.ScopeError.TheVariants.{Twice, NoMemory}
@@ -23,7 +23,7 @@ use Rattle.sz_known.specs.declared.meaning.Meaning.TheVariants as held
 use Rattle.sz_known.specs.Names.{Meaning, Named, Block, has, meaning_in, only, is_seen_by_functions, is_seen_by_statics}
 use Rattle.sz_known.specs.Names as names
 use Rattle.sz_known.specs.Holding.{meaning_of, Held, blocks_of, blocks_for, in_function}
-use Rattle.sz_known.specs.Keeping.{floor_of, seen_from, sits_in, fitting, sight_for, place_of, placed, is_new, kept_at, meaning_by, block_by, blocks_by}
+use Rattle.sz_known.specs.Keeping.{floor_of, seen_from, sits_in, sight_for, place_of, placed, is_new, kept_at, meaning_by, block_by, blocks_by}
 use Rattle.sz_known.specs.Keeping.{held_of, with_name, with_type, IsPlaced, ArePlacedIn, ArePlaced, IsTyped, AreTyped, IsKept}
 
 -- what is kept under a name, whose place is in the list
@@ -47,7 +47,7 @@ module _ (types : List Shape) (meanings : List Kept) where
   means what h = ap (λ o. option_map_or (meaning_of types) o names.input) h.here
 
   of_routine : (sight : Sight) (count depth : ℕ) (place : ℕ) (m : Kept) → sits_in sight count ≡ true
-      → is_seen sight [] depth (placed place m) ≡ (nat_le (floor_of sight) depth || is_seen_by_functions (meaning_of types m))
+      → sees sight depth (placed place m) ≡ (nat_le (floor_of sight) depth || is_seen_by_functions (meaning_of types m))
   of_routine sights.Record count depth place (held.Variable v t) s = sym (ap (λ b. b || false) (le-leb 0 depth (omega arith)))
   of_routine sights.Record count depth place (held.Quantified v t) s = sym (ap (λ b. b || false) (le-leb 0 depth (omega arith)))
   of_routine sights.Record count depth place (held.Static v t) s = sym (ap (λ b. b || true) (le-leb 0 depth (omega arith)))
@@ -67,7 +67,7 @@ module _ (types : List Shape) (meanings : List Kept) where
   of_routine sights.Static count depth place m s = absurd (true≢false (sym s))
 
   of_static : (depth : ℕ) (place : ℕ) (m : Kept)
-      → is_seen sights.Static [] depth (placed place m) ≡ is_seen_by_statics (meaning_of types m)
+      → sees sights.Static depth (placed place m) ≡ is_seen_by_statics (meaning_of types m)
   of_static depth place (held.Variable v t) = refl
   of_static depth place (held.Quantified v t) = refl
   of_static depth place (held.Static v t) = refl
@@ -78,33 +78,33 @@ module _ (types : List Shape) (meanings : List Kept) where
   of_static depth place held.Input = refl
 
   routine_sees : (sight : Sight) (count depth : ℕ) (what : Place) → sits_in sight count ≡ true → IsPlaced meanings what
-      → is_seen sight [] depth what ≡ (nat_le (floor_of sight) depth || is_seen_by_functions (meaning_by types meanings what))
+      → sees sight depth what ≡ (nat_le (floor_of sight) depth || is_seen_by_functions (meaning_by types meanings what))
   routine_sees sight count depth what s p =
       let h = held_by meanings what p in
-      ap (is_seen sight [] depth) (sym h.is) ∙ of_routine sight count depth h.place h.kept s
+      ap (sees sight depth) (sym h.is) ∙ of_routine sight count depth h.place h.kept s
       ∙ ap (λ m. nat_le (floor_of sight) depth || is_seen_by_functions m) (sym (means what h))
 
   static_sees : (depth : ℕ) (what : Place) → IsPlaced meanings what
-      → is_seen sights.Static [] depth what ≡ is_seen_by_statics (meaning_by types meanings what)
+      → sees sights.Static depth what ≡ is_seen_by_statics (meaning_by types meanings what)
   static_sees depth what p =
       let h = held_by meanings what p in
-      ap (is_seen sights.Static [] depth) (sym h.is) ∙ of_static depth h.place h.kept ∙ ap is_seen_by_statics (sym (means what h))
+      ap (sees sights.Static depth) (sym h.is) ∙ of_static depth h.place h.kept ∙ ap is_seen_by_statics (sym (means what h))
 
   -- a block of which a part is seen, by a test of what the blocks keep that is a test of what it means
-  part_by : (test : Place → Bool) (sees : Meaning → Bool)
-      → ((what : Place) → IsPlaced meanings what → test what ≡ sees (meaning_by types meanings what))
+  part_by : (test : Place → Bool) (kept : Meaning → Bool)
+      → ((what : Place) → IsPlaced meanings what → test what ≡ kept (meaning_by types meanings what))
       → (block : scopes.Block) → ArePlacedIn meanings block
-      → block_by types meanings (filter (λ (d : Declaration). test d.what) block) ≡ filter (λ (n : Named). sees n.meaning) (block_by types meanings block)
-  part_by test sees same [] h = refl
-  part_by test sees same (d ∷ block) h = by (test d.what) (sees (meaning_by types meanings d.what)) (same d.what h.0) (part_by test sees same block h.1)
+      → block_by types meanings (filter (λ (d : Declaration). test d.what) block) ≡ filter (λ (n : Named). kept n.meaning) (block_by types meanings block)
+  part_by test kept same [] h = refl
+  part_by test kept same (d ∷ block) h = by (test d.what) (kept (meaning_by types meanings d.what)) (same d.what h.0) (part_by test kept same block h.1)
     where
       front : Named
       front = record { name = d.name; meaning = meaning_by types meanings d.what }
 
       by : (b c : Bool) → b ≡ c
-          → block_by types meanings (filter (λ (d : Declaration). test d.what) block) ≡ filter (λ (n : Named). sees n.meaning) (block_by types meanings block)
+          → block_by types meanings (filter (λ (d : Declaration). test d.what) block) ≡ filter (λ (n : Named). kept n.meaning) (block_by types meanings block)
           → block_by types meanings (if b then d ∷ filter (λ (d : Declaration). test d.what) block else filter (λ (d : Declaration). test d.what) block)
-          ≡ (if c then front ∷ filter (λ (n : Named). sees n.meaning) (block_by types meanings block) else filter (λ (n : Named). sees n.meaning)
+          ≡ (if c then front ∷ filter (λ (n : Named). kept n.meaning) (block_by types meanings block) else filter (λ (n : Named). kept n.meaning)
           (block_by types meanings block))
       by true true e rest = ap (λ (l : Block). front ∷ l) rest
       by false false e rest = rest
@@ -214,28 +214,9 @@ sits_floor sights.Record count s = omega arith
 sits_floor (sights.Function outside) count s = leb-true outside count s
 sits_floor sights.Static count s = absurd (true≢false (sym s))
 
-sits_more : (sight : Sight) (count more : ℕ) → sits_in sight count ≡ true → floor_of sight ≤ more → sits_in sight more ≡ true
-sits_more sights.Record count more s l = refl
-sits_more (sights.Function outside) count more s l = le-leb outside more l
-sits_more sights.Static count more s l = s
-
-fitting_sits : (sight : Sight) (count : ℕ) → sits_in (fitting sight count) count ≡ true
-fitting_sits sights.Record count = refl
-fitting_sits sights.Static count = refl
-fitting_sits (sights.Function outside) count = by (nat_le outside count) refl
-  where
-    by : (b : Bool) → nat_le outside count ≡ b → sits_in (if b then sights.Function outside else sights.Record) count ≡ true
-    by true e = e
-    by false e = refl
-
-fitting_same : (sight : Sight) (count : ℕ) → sits_in sight count ≡ true → fitting sight count ≡ sight
-fitting_same sights.Record count s = refl
-fitting_same sights.Static count s = absurd (true≢false (sym s))
-fitting_same (sights.Function outside) count s = cond-true (nat_le outside count) (sights.Function outside) sights.Record s
-
 module _ (types : List Shape) (meanings : List Kept) where
   seen_by_routine : (sight : Sight) (count : ℕ) → sits_in sight count ≡ true → (blocks : List scopes.Block) → ArePlaced meanings blocks
-      → blocks_by types meanings (seen_blocks sight [] blocks) ≡ seen_from sight (blocks_by types meanings blocks)
+      → blocks_by types meanings (seen_blocks sight blocks) ≡ seen_from sight (blocks_by types meanings blocks)
   seen_by_routine sight count s [] h = refl
   seen_by_routine sight count s (block ∷ blocks) h = λ i. in_block i ∷ seen_by_routine sight count s blocks h.1 i
     where
@@ -245,11 +226,11 @@ module _ (types : List Shape) (meanings : List Kept) where
       whole true (n ∷ block) = ap (λ (l : Block). n ∷ l) (whole true block)
       whole false block = refl
 
-      in_block : block_by types meanings (filter (λ (d : Declaration). is_seen sight [] (length blocks) d.what) block)
+      in_block : block_by types meanings (filter (λ (d : Declaration). sees sight (length blocks) d.what) block)
           ≡ (if nat_le (floor_of sight) (length (blocks_by types meanings blocks)) then block_by types meanings block
           else filter (λ (n : Named). is_seen_by_functions n.meaning) (block_by types meanings block))
       in_block =
-          part_by types meanings (is_seen sight [] (length blocks)) (λ m. nat_le (floor_of sight) (length blocks) || is_seen_by_functions m)
+          part_by types meanings (sees sight (length blocks)) (λ m. nat_le (floor_of sight) (length blocks) || is_seen_by_functions m)
           (λ what p. routine_sees types meanings sight count (length blocks) what s p) block h.0
           ∙ whole (nat_le (floor_of sight) (length blocks)) (block_by types meanings block)
           ∙ ap (λ n. if nat_le (floor_of sight) n then block_by types meanings block else filter (λ (n : Named). is_seen_by_functions n.meaning)
@@ -257,15 +238,15 @@ module _ (types : List Shape) (meanings : List Kept) where
           (sym (length_by types meanings blocks))
 
   seen_by_static : (blocks : List scopes.Block) → ArePlaced meanings blocks
-      → blocks_by types meanings (seen_blocks sights.Static [] blocks) ≡ only is_seen_by_statics (blocks_by types meanings blocks)
+      → blocks_by types meanings (seen_blocks sights.Static blocks) ≡ only is_seen_by_statics (blocks_by types meanings blocks)
   seen_by_static [] h = refl
   seen_by_static (block ∷ blocks) h =
-      λ i. part_by types meanings (is_seen sights.Static [] (length blocks)) is_seen_by_statics
+      λ i. part_by types meanings (sees sights.Static (length blocks)) is_seen_by_statics
       (λ what p. static_sees types meanings (length blocks) what p) block h.0 i
       ∷ seen_by_static blocks h.1 i
 
   seen_by_statement : (sight : Sight) (locals : List Shape) (blocks : List scopes.Block) → IsKept types meanings blocks sight
-      → blocks_by types meanings (seen_blocks sight [] blocks) ≡ blocks_of (held_of (blocks_by types meanings blocks) sight types locals)
+      → blocks_by types meanings (seen_blocks sight blocks) ≡ blocks_of (held_of (blocks_by types meanings blocks) sight types locals)
   seen_by_statement sight locals [] k = absurd (omega (arith, k.some))
   seen_by_statement sight locals (block ∷ blocks) k =
       seen_by_routine sight (length (block ∷ blocks) - 1) k.sits (block ∷ blocks) k.placed
@@ -278,7 +259,7 @@ module _ (types : List Shape) (meanings : List Kept) where
       within = omega (arith, sits_floor sight (length (block ∷ blocks) - 1) k.sits, length_by types meanings blocks)
 
   blocks_seen : (sight : Sight) (locals : List Shape) (site : Site) (blocks : List scopes.Block) → IsKept types meanings blocks sight
-      → blocks_by types meanings (seen_blocks (sight_for sight site) [] blocks)
+      → blocks_by types meanings (seen_blocks (sight_for sight site) blocks)
       ≡ blocks_for (held_of (blocks_by types meanings blocks) sight types locals) site
   blocks_seen sight locals site [] k = absurd (omega (arith, k.some))
   blocks_seen sight locals sites.Statement blocks k = seen_by_statement sight locals blocks k
@@ -290,17 +271,17 @@ module _ (types : List Shape) (meanings : List Kept) where
 
   -- what is found by the list of meanings is what the name stands for
   pub find_is : (name : List ℕ) (locals : List Shape) (site : Site) (blocks : List scopes.Block) (sight : Sight) → IsKept types meanings blocks sight
-      → (o : Option Place) → o ≡ found name (seen_blocks (sight_for sight site) [] blocks)
+      → (o : Option Place) → o ≡ found name (seen_blocks (sight_for sight site) blocks)
       → option_map (meaning_by types meanings) o ≡ names.meaning_of name (blocks_for (held_of (blocks_by types meanings blocks) sight types locals) site)
   find_is name locals site blocks sight k o p =
       ap (option_map (meaning_by types meanings)) p
-      ∙ found_means types meanings name (seen_blocks (sight_for sight site) [] blocks)
+      ∙ found_means types meanings name (seen_blocks (sight_for sight site) blocks)
       ∙ ap (names.meaning_of name) (blocks_seen sight locals site blocks k)
 
-  pub found_placed : (name : List ℕ) (sees : Sight) (blocks : List scopes.Block) (sight : Sight) → IsKept types meanings blocks sight
-      → (what : Place) → Some what ≡ found name (seen_blocks sees [] blocks) → IsPlaced meanings what
-  found_placed name sees blocks sight k what p =
-      found_is_placed types meanings name (seen_blocks sees [] blocks) (placed_where types meanings (is_seen sees []) blocks k.placed) what (sym p)
+  pub found_placed : (name : List ℕ) (from : Sight) (blocks : List scopes.Block) (sight : Sight) → IsKept types meanings blocks sight
+      → (what : Place) → Some what ≡ found name (seen_blocks from blocks) → IsPlaced meanings what
+  found_placed name from blocks sight k what p =
+      found_is_placed types meanings name (seen_blocks from blocks) (placed_where types meanings (sees from) blocks k.placed) what (sym p)
 
   -- the place of what is found is in the list
   pub place_within : (what : Place) → IsPlaced meanings what → (place : ℕ) → place_of what ≡ Some place → place < length meanings

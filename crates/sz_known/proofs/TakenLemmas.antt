@@ -49,10 +49,6 @@ module _ (name : List ℕ) (what : Meaning) (before after : List scopes.Block) (
       by (Err Twice) p q = ap names_in q
       by (Err NoMemory) p q = tt
 
-pub length_declared : (d : scopes.Declaration) (blocks : List scopes.Block) → length (with_declared d blocks) ≡ length blocks
-length_declared d [] = refl
-length_declared d (block ∷ blocks) = refl
-
 -- a number is among others whichever end they are read from
 pub number_has : (number : ℕ) (keys : List ℕ) → list_any (nat_eq number) keys ≡ has_number number (reverse keys)
 number_has number [] = refl

@@ -5,10 +5,6 @@ use Rattle.std.specs.List.{list_any}
 use Rattle.std.specs.Cmp.Lexicographic.{bytes_decides}
 use Rattle.std.proofs.lemmas.Bool.{eqb-true, eq-eqb}
 
--- a test that is passed is not failed
-pub clash : {A : Type 0} {b : Bool} → b ≡ true → b ≡ false → A
-clash p q = absurd (true≢false (sym p ∙ q))
-
 pub not_so : (b : Bool) → not b ≡ true → b ≡ false
 not_so false h = refl
 not_so true h = absurd (true≢false (sym h))

@@ -1,7 +1,6 @@
 -- Lists that are judged from the front.
-use Rattle.std.proofs.Common.{◌≡◌, ℕ, ◌+◌, ◌<◌, ◌≤◌, List, [], ◌∷◌, ◌++◌, length, get_or, drop, map, refl, sym, ap, ◌∙◌, subst}
-use Rattle.std.proofs.lemmas.List.{drop_more, map-append}
-use Rattle.std.proofs.Math.ListN.{drop_of_length-le}
+use Rattle.std.proofs.Common.{◌≡◌, List, [], ◌∷◌, ◌++◌, map, refl, sym, ap, ◌∙◌, subst}
+use Rattle.std.proofs.lemmas.List.{map-append}
 use Rattle.std.specs.Prelude.{Result, Ok, Err}
 use Rattle.sz_known.specs.Refusals.{Judged, ◌>>=◌, Refusal}
 use Rattle.sz_known.specs.Turns.{behind, put_all}
@@ -40,14 +39,6 @@ stops_behind put front (errors.Refused n p name) j f whole h same =
 -- a judgement that is made goes on
 pub goes_on : {A B : Type 0} (j : Judged A) (f : A → Judged B) (whole : Judged B) (x : A) → j ≡ Ok x → (j >>= f) ≡ whole → f x ≡ whole
 goes_on j f whole x h same = ap (λ (k : Judged _). k >>= f) (sym h) ∙ same
-
--- the elements from a place on
-pub rest_more : {A B : Type 0} (f : A → B) (xs : List A) (i : ℕ) (x : A) → i < length xs → x ≡ get_or xs i x
-    → map f (drop i xs) ≡ f x ∷ map f (drop (i + 1) xs)
-rest_more f xs i x within is = ap (map f) (drop_more xs i x within) ∙ ap (λ (y : _). f y ∷ map f (drop (i + 1) xs)) (sym is)
-
-pub rest_none : {A B : Type 0} (f : A → B) (xs : List A) (i : ℕ) → length xs ≤ i → map f (drop i xs) ≡ []
-rest_none f xs i over = ap (map f) (drop_of_length-le xs over)
 
 -- ---- one turn of a loop that collects what it judges
 

@@ -1,10 +1,8 @@
 -- Turns of the loops over parts of tuples and fields of messages.
-use Rattle.std.proofs.Common.{◌≡◌, ℕ, ◌+◌, ◌<◌, ◌≤◌, Bool, true, false, not, ◌&&◌, List, [], ◌∷◌, ◌++◌, length, get_or, drop, map, refl, sym, ap, ◌∙◌}
+use Rattle.std.proofs.Common.{◌≡◌, ℕ, ◌+◌, ◌<◌, ◌≤◌, Bool, true, false, List, [], ◌∷◌, ◌++◌, length, get_or, drop, map, refl, ap, ◌∙◌}
 use Rattle.std.specs.Prelude.{Ok, Err, if◌then◌else◌, Option, Some, None}
 use Rattle.sz_types.specs.Data.{Shape, FieldShape, field, FieldShapes, no_fields, with_field, fields_of as shapes_of}
 use Rattle.sz_types.specs.declared.encoding.Encoding.TheVariants.{Plain}
-use Rattle.sz_types.specs.declared.encoding.Encoding.{Encoding}
-use Rattle.sz_core.specs.WellFormed.{is_field_type, takes_encoding}
 use Rattle.sz_tree.specs.declared.types.Param.{Param}
 use Rattle.sz_tree.specs.declared.types.ProtoField.{ProtoField}
 use Rattle.sz_tree.specs.Names.{Ident}
@@ -14,10 +12,11 @@ use Rattle.sz_known.specs.Refusals.{Judged, ◌>>=◌, bad_field, has_name}
 use Rattle.sz_known.specs.Names.{Block}
 use Rattle.sz_known.specs.JudgingTypes.{judge_type, judge_parts, judge_fields, Coding, coded, coding_of, field_number, encoding_of}
 use Rattle.sz_known.specs.Turns.{behind, put_all}
-use Rattle.sz_known.specs.Parts.{name_of, number_of, has_number, free_name, free_coding, judge_part, judge_field}
+use Rattle.sz_known.specs.Parts.{name_of, number_of, free_name, free_coding, judge_part, judge_field}
 use Rattle.sz_known.specs.Outcome.{Stops}
 use Rattle.sz_known.specs.declared.error.CheckError.{CheckError}
-use Rattle.sz_known.proofs.TurnLemmas.{rest_more, rest_none, turn_fails, turn_goes, turn_ends}
+use Rattle.sz_known.proofs.TurnLemmas.{turn_fails, turn_goes, turn_ends}
+use Rattle.sz_types.proofs.ForCallers.{rest_more, rest_none}
 
 put_fields : (fs : List FieldShape) → put_all with_field fs no_fields ≡ shapes_of fs
 put_fields [] = refl
@@ -114,24 +113,3 @@ module _ (blocks : List Block) (ps : List ProtoField) where
   unfolding judge_fields
   fields_ends front taken used i whole over so_far =
       turn_ends with_field front no_fields _ whole (rw (rest_none field_of ps i over) refl) so_far ∙ ap (λ (fs : FieldShapes). Ok fs) (put_fields front)
-
--- the number of a field that has a coding is free
-pub coding_free : (n : Ident) (used : List ℕ) (t : Shape) (k : Option ℕ) (word : Option Encoding) (c : Coding)
-    → free_coding n (coding_of used t k word) ≡ Ok c → has_number c.number used ≡ false
-coding_free n used t None word c p = absurd cc
-coding_free n used t (Some k) None c p = absurd cc
-coding_free n used t (Some k) (Some code) c p = by (has_number k used) refl (is_field_type t) (takes_encoding code t) p
-  where
-    made : Coding
-    made = record { number = k; code = code }
-
-    numbers : Judged Coding → ℕ
-    numbers (Ok d) = d.number
-    numbers (Err r) = k
-
-    by : (b : Bool) → has_number k used ≡ b → (d e : Bool)
-        → free_coding n (if not b && d && e then Some (record { number = k; code = code }) else None) ≡ Ok c → has_number c.number used ≡ false
-    by false same true true p = ap (λ m. has_number m used) (sym (ap numbers p)) ∙ same
-    by false same true false p = absurd cc
-    by false same false e p = absurd cc
-    by true same d e p = absurd cc

@@ -211,7 +211,7 @@ impl Known {
         ensures types { IfSome result (IsOfTypes self.now.outside.types) }
     {
         let sight = sight_for(self.sight, site);
-        let found = self.scopes.find_seen(name.text().as_str(), sight, &[])?;
+        let found = self.scopes.find_seen(name.text().as_str(), sight)?;
         match place_of(*found) {
             Some(place) => Some(self.meanings[place].means(&self.types)),
             None => Some(Means::Input),

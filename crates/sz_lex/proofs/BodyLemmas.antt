@@ -1,5 +1,5 @@
 -- Where the body of a literal ends, found from mark to mark: a quote, a backslash or a newline.
-use Rattle.std.proofs.Common.{◌≡◌, ℕ, zero, suc, ◌+◌, ◌-◌, ◌≤◌, ◌<◌, Bool, true, false, not, eqb, List, [], ◌∷◌, ◌++◌, length, take, drop}
+use Rattle.std.proofs.Common.{◌≡◌, ℕ, zero, suc, ◌+◌, ◌-◌, ◌≤◌, ◌<◌, Bool, true, false, eqb, List, [], ◌∷◌, ◌++◌, length, take, drop}
 use Rattle.std.proofs.Common.{get_or, Option, Some, None, refl, sym, ap, subst, ◌∙◌, append_assoc, arith}
 use Rattle.std.proofs.lemmas.List.{length-append, drop_more, drop-drop, drop_at, drop_all, take_rest, get_or-drop, append-nil}
 use Rattle.std.proofs.lemmas.Bool.{eqb-true, eq-eqb}
@@ -10,6 +10,7 @@ use Rattle.sz_lex.specs.declared.escape.Quoted.{Quoted}
 use Rattle.sz_lex.specs.Literals.{is_plain, escape_bytes}
 use Rattle.sz_lex.specs.Reading.{whole_value, Body, longer, body_at, escape_at, escape_size, first}
 use Rattle.sz_lex.proofs.LiteralLemmas.{none_some, at_quote, at_escape, at_plain, at_newline, ahead, skipped, EscapeAt, escape_is}
+use Rattle.sz_lex.proofs.SearchLemmas.{no_test}
 
 -- a body behind so many bytes more, which stand for these
 abbrev pub shift : ℕ → List ℕ → Option Body → Option Body
@@ -54,10 +55,6 @@ plain_run q (b ∷ bs) (suc k) le plain =
     ∙ shift_shift 1 k (b ∷ []) (take k bs) (body_at q 0 (drop k bs))
     ∙ ap (λ (n : ℕ). shift n (b ∷ take k bs) (body_at q 0 (drop k bs))) e
 
-no_mark : (x : Bool) → (x ≡ true → ⊥) → not x ≡ true
-no_mark true h = absurd (h refl)
-no_mark false h = refl
-
 at_end : (q : Quoted) → body_at q 0 [] ≡ None
 unfolding body_at
 at_end q = refl
@@ -65,7 +62,7 @@ at_end q = refl
 -- no mark: the body doesn't end
 unmarked : (q : Quoted) (bs : List ℕ) → IsFirstByte (is_byte3 34 92 10) bs None → body_at q 0 bs ≡ None
 unmarked q bs h =
-    plain_run q bs (length bs) (omega arith) (λ i lt. no_mark (is_byte3 34 92 10 (get_or bs i 0)) (h i (omega arith) lt))
+    plain_run q bs (length bs) (omega arith) (λ i lt. no_test (is_byte3 34 92 10 (get_or bs i 0)) (h i (omega arith) lt))
     ∙ ap (λ (t : List ℕ). shift (length bs) (take (length bs) bs) (body_at q 0 t)) (drop_all (length bs) bs (omega arith))
     ∙ ap (shift (length bs) (take (length bs) bs)) (at_end q)
 
@@ -74,7 +71,7 @@ marked : (q : Quoted) (bs : List ℕ) (k b : ℕ) → IsFirstByte (is_byte3 34 9
     → body_at q 0 bs ≡ shift k (take k bs) (body_at q 0 (b ∷ drop (k + 1) bs))
 marked q bs k b h is =
     let within : k < length bs = h.0.high in
-    plain_run q bs k (omega arith) (λ i lt. no_mark (is_byte3 34 92 10 (get_or bs i 0)) (h.0.before i (omega arith) lt))
+    plain_run q bs k (omega arith) (λ i lt. no_test (is_byte3 34 92 10 (get_or bs i 0)) (h.0.before i (omega arith) lt))
     ∙ ap (λ (t : List ℕ). shift k (take k bs) (body_at q 0 t)) (drop_more bs k 0 within ∙ ap (λ (x : ℕ). x ∷ drop (k + 1) bs) is)
 
 quote_marked : (q : Quoted) (bs : List ℕ) (k : ℕ) → IsFirstByte (is_byte3 34 92 10) bs (Some k) → get_or bs k 0 ≡ 34
@@ -304,10 +301,6 @@ escape_decodes q text at k n value v left h is e size =
     ∙ ap (λ (x : ℕ). shift x (value ++ (take k bs ++ v)) (body_at q 0 (drop (k + 1 + n) bs))) m
     ∙ ap (λ (w : List ℕ). shift (at + k + 1 + n) w (body_at q 0 (drop (k + 1 + n) bs))) (sym (append_assoc value (take k bs) v))
     ∙ ap (λ (t : List ℕ). shift (at + k + 1 + n) (value ++ take k bs ++ v) (body_at q 0 t)) rest)
-
-pub escape_within : (q : Quoted) (text v : List ℕ) → Some v ≡ option_and_then (escape_bytes q) (escape_at text)
-    → escape_size (first text) ≤ length text
-escape_within q text v e = (stands q text v (sym e)).within
 
 -- the value of a body that is the whole text, or that isn't
 pub closes_whole : (q : Quoted) (text : List ℕ) (at k : ℕ) (value : List ℕ) → IsDecoded q text at value → Searched text at (Some k)

@@ -1,5 +1,5 @@
 -- A character literal is read as it is written, and no other way.
-use Rattle.std.proofs.Common.{◌≡◌, ◌≢◌, ℕ, suc, ◌+◌, ◌<◌, Bool, true, false, not, ◌||◌, ◌&&◌, eqb, List, [], ◌∷◌, ◌++◌, length, take, drop}
+use Rattle.std.proofs.Common.{◌≡◌, ◌≢◌, ℕ, suc, ◌+◌, ◌<◌, Bool, true, false, not, ◌||◌, eqb, List, [], ◌∷◌, ◌++◌, length, take, drop}
 use Rattle.std.proofs.Common.{get_or, Option, Some, None, refl, sym, ap, subst, ◌∙◌, arith}
 use Rattle.std.proofs.lemmas.List.{take_at, drop_at, append-nil, length-append, take-append-drop, get_or_at}
 use Rattle.std.proofs.lemmas.List.Sums.{prefix_len_is}
@@ -16,6 +16,7 @@ use Rattle.sz_lex.specs.declared.escape.Escape.{Escape}
 use Rattle.sz_lex.specs.Literals.{escape_of, escape_code, IsCharacter, plain, escaped}
 use Rattle.sz_lex.specs.Reading.{escape_size, escape_at, first, not_quote, only_plain, plain_character, quoted_character, character_at}
 use Rattle.sz_lex.proofs.LiteralLemmas.{none_some, escape_read, first_front, escape_is}
+use Rattle.sz_lex.proofs.WordLemmas.{and_parts}
 
 -- ---- a character that needs no escape
 
@@ -23,10 +24,6 @@ use Rattle.sz_lex.proofs.LiteralLemmas.{none_some, escape_read, first_front, esc
 pub record IsPlain (c : ℕ) : Type 0 where
   pub scalar : IsScalar c
   pub itself : (eqb c 39 || eqb c 92 || eqb c 10) ≡ false
-
-both : (x y : Bool) → (x && y) ≡ true → (x ≡ true) × (y ≡ true)
-both true y h = (refl, h)
-both false y h = absurd cc
 
 pub plain_read : (c : ℕ) → IsPlain c → plain_character (encode_utf8 c) ≡ Some c
 plain_read c h =
@@ -62,7 +59,7 @@ plain_is bytes c h = go (is_utf8 bytes) refl
         let o = one_plain (chars bytes) c only in
         let scalars : all_scalars (c ∷ []) ≡ true = ap all_scalars (sym o.one) ∙ scalars-chars bytes utf8 in
         record {
-          is = record { scalar = (both _ true scalars).0; itself = o.itself };
+          is = record { scalar = (and_parts _ true scalars).0; itself = o.itself };
           text = sym (encodes-chars bytes utf8) ∙ ap encode_utf8_all o.one ∙ append-nil (encode_utf8 c);
         }
 
@@ -105,10 +102,6 @@ pub record CharacterAt (bs : List ℕ) (c n : ℕ) : Type 0 where
   pub parts : bs ≡ body ++ (39 ∷ rest)
   pub len : n ≡ length body + 1
   pub is : IsCharacter (39 ∷ (body ++ (39 ∷ []))) c
-
-escape_case : (bs : List ℕ) → character_at (92 ∷ bs) ≡ quoted_character (option_and_then escape_code (escape_at bs))
-    (1 + escape_size (first bs)) (drop (escape_size (first bs)) bs)
-escape_case bs = refl
 
 plain_case : (b : ℕ) (bs : List ℕ) → eqb b 92 ≡ false → let n =
     prefix_len not_quote (b ∷ bs) in character_at (b ∷ bs) ≡ quoted_character (plain_character (take n (b ∷ bs))) n (drop n (b ∷ bs))

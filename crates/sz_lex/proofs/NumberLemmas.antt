@@ -11,7 +11,7 @@ use Rattle.sz_lex.specs.Literals.{character_escape}
 use Rattle.sz_lex.specs.Reading.{push_digit}
 use Rattle.sz_lex.proofs.LiteralLemmas.{none_some}
 
-no_lt : (a b : ℕ) → b ≤ a → nat_lt a b ≡ false
+pub no_lt : (a b : ℕ) → b ≤ a → nat_lt a b ≡ false
 no_lt a b le = go (nat_lt a b) refl
   where
     go : (x : Bool) → nat_lt a b ≡ x → nat_lt a b ≡ false

@@ -10,7 +10,7 @@ use Rattle.std.specs.Option.{option_map}
 use Rattle.memchr.specs.Find.{IsFirstByte, is_byte}
 use Rattle.sz_lex.specs.Reading.{plain_character, quoted_character, unescaped_at}
 
-no_test : (x : Bool) → (x ≡ true → ⊥) → not x ≡ true
+pub no_test : (x : Bool) → (x ≡ true → ⊥) → not x ≡ true
 no_test true h = absurd (h refl)
 no_test false h = refl
 

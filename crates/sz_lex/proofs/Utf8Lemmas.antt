@@ -31,7 +31,7 @@ use Rattle.sz_lex.proofs.WordLemmas.{apart, and_parts, letter_word, digit_word, 
 use Rattle.sz_lex.proofs.ItemLemmas.{no_empty}
 use Rattle.sz_lex.proofs.LawLemmas.{spans_in_order}
 use Rattle.sz_lex.proofs.LiteralLemmas.{none_some, values_of, escaped_of, plain_value}
-use Rattle.sz_lex.proofs.NumberLemmas.{four_digits}
+use Rattle.sz_lex.proofs.NumberLemmas.{four_digits, no_lt}
 
 -- ---- the ends of a token are ASCII
 
@@ -193,13 +193,6 @@ behind_lows (b ∷ l) rest h utf8 = let p = and_parts (nat_lt b 128) (all_low l)
 record IsAsciiEscape (text : List ℕ) (e : Escape) : Type 0 where
   low : all_low text ≡ true
   scalar : (c : ℕ) → e ≡ escapes.Char c → IsScalar c
-
-no_lt : (a b : ℕ) → b ≤ a → nat_lt a b ≡ false
-no_lt a b le = go (nat_lt a b) refl
-  where
-    go : (x : Bool) → nat_lt a b ≡ x → nat_lt a b ≡ false
-    go true e = absurd (omega (arith, ltb-true a b e))
-    go false e = e
 
 digit_low : (b : ℕ) → nat_lt (digit_value b) 16 ≡ true → nat_lt b 128 ≡ true
 digit_low b h = go (nat_lt b 128) refl

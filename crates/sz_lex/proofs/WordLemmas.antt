@@ -41,9 +41,6 @@ digit_no_letter b h = grind (arith, nat_tests)
 pub letter_no_quotes : (b : ℕ) → is_letter b ≡ true → (eqb b 34 ≡ false) × (eqb b 39 ≡ false)
 letter_no_quotes b h = (grind (arith, nat_tests), grind (arith, nat_tests))
 
-pub digit_no_quotes : (b : ℕ) → is_digit b ≡ true → (eqb b 34 ≡ false) × (eqb b 39 ≡ false)
-digit_no_quotes b h = (grind (arith, nat_tests), grind (arith, nat_tests))
-
 pub letter_word : (b : ℕ) → is_letter b ≡ true → is_word b ≡ true
 letter_word b h = rw h refl
 

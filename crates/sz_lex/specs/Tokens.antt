@@ -111,6 +111,7 @@ pub record NoToken (q : Place) (comment : Bool) (p : Place) (text : List ℕ) : 
   pub hash : (byte == 35) ≡ false
   pub none : (k : Kind) (l : List ℕ) → IsLexeme k (byte ∷ l) → ⊥
 
+-- what is left has no token, by a byte at the place q
 abbrev pub BadCharAt : Place → Tail
 BadCharAt q comment at p text = NoToken q comment p text
 
@@ -130,6 +131,7 @@ pub record NoLiteral (q : Place) (comment : Bool) (p : Place) (text : List ℕ) 
   pub begins : begins_literal rest ≡ true
   pub none : (k : Kind) (l others : List ℕ) → rest ≡ l ++ others → IsLexeme k l → IsLongest l others → ⊥
 
+-- what is left has no token, by the beginning of a literal at the place q
 abbrev pub BadLiteralAt : Place → Tail
 BadLiteralAt q comment at p text = NoLiteral q comment p text
 

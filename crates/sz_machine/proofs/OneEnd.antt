@@ -6,14 +6,8 @@ use Rattle.sz_instr.specs.declared.line.Line.{Line}
 use Rattle.sz_instr.specs.declared.code.Code.{Code}
 use Rattle.sz_world.specs.World.{World, Fault, Outcome, Done, Faulted}
 use Rattle.sz_world.specs.Slots.{Slot}
-use Rattle.sz_machine.specs.States.{State, After, Goes, Halts, Faults, Stuck}
+use Rattle.sz_machine.specs.States.{State, After, IsOver, Goes, Halts, Faults, Stuck}
 use Rattle.sz_machine.specs.Running.{does, LeadsBy, Leads, GoesOn, RunsFor, ComesTo, EndsRecord, RunsTo}
-
--- nothing goes on from there
-abbrev pub IsEnd : After → Type 0
-IsEnd (Halts w statics) = Unit {0}
-IsEnd (Faults fault) = Unit {0}
-IsEnd _ = ⊥
 
 module _ (code : Code) where
   -- a line leads to one thing
@@ -21,8 +15,8 @@ module _ (code : Code) where
   one_next None s x y h k = absurd h
   one_next (Some l) s x y h k = sym h.1 ∙ k.1
 
-  no_end : (s : State) (x : After) → IsEnd x → Goes s ≡ x → ⊥
-  no_end s x end e = subst IsEnd (sym e) end
+  no_end : (s : State) (x : After) → IsOver x → Goes s ≡ x → ⊥
+  no_end s x end e = subst IsOver (sym e) end
 
   -- what a run goes on to ends in one way, if the runs behind it do
   goes_on : (z x y : After) (P Q : State → Type 0) → ((s : State) → P s → Q s → x ≡ y) → GoesOn z P x → GoesOn z Q y → x ≡ y
@@ -31,7 +25,7 @@ module _ (code : Code) where
   goes_on (Faults fault) x y P Q same h k = sym h ∙ k
   goes_on Stuck x y P Q same h k = absurd h
 
-  pub one_end : (n m : ℕ) (s : State) (x y : After) → IsEnd x → IsEnd y → RunsFor code n s x → RunsFor code m s y → x ≡ y
+  pub one_end : (n m : ℕ) (s : State) (x y : After) → IsOver x → IsOver y → RunsFor code n s x → RunsFor code m s y → x ≡ y
   one_end zero m s x y ex ey h k = absurd (no_end s x ex h)
   one_end (suc n) zero s x y ex ey h k = absurd (no_end s y ey k)
   one_end (suc n) (suc m) s x y ex ey h k =
@@ -39,11 +33,12 @@ module _ (code : Code) where
       goes_on h.0 x y (λ next. RunsFor code n next x) (λ next. RunsFor code m next y) (λ next. one_end n m next x y ex ey) h.2
       (subst (λ z. GoesOn z (λ next. RunsFor code m next y) y) (sym same) k.2)
 
-is_end : (end : After) (r : Outcome (List EmitDatum)) → EndsRecord end r → IsEnd end
-is_end (Goes s) r h = absurd h
-is_end (Halts w statics) r h = tt
-is_end (Faults fault) r h = tt
-is_end Stuck r h = absurd h
+-- what has an outcome is an end
+pub over_of : (end : After) (r : Outcome (List EmitDatum)) → EndsRecord end r → IsOver end
+over_of (Goes s) r h = absurd h
+over_of (Halts w statics) r h = tt
+over_of (Faults fault) r h = tt
+over_of Stuck r h = absurd h
 
 one_outcome : (end : After) (r q : Outcome (List EmitDatum)) → EndsRecord end r → EndsRecord end q → r ≡ q
 one_outcome (Goes s) r q h k = absurd h
@@ -55,5 +50,5 @@ one_outcome Stuck r q h k = absurd h
 pub runs_to_one : (code : Code) (input : List ℕ) (statics : List Slot) (budget : ℕ) (r q : Outcome (List EmitDatum))
     → RunsTo code input statics budget r → RunsTo code input statics budget q → r ≡ q
 runs_to_one code input statics budget r q h k =
-    let same = one_end code h.comes.steps k.comes.steps _ h.end k.end (is_end h.end r h.is) (is_end k.end q k.is) h.comes.runs k.comes.runs in
+    let same = one_end code h.comes.steps k.comes.steps _ h.end k.end (over_of h.end r h.is) (over_of k.end q k.is) h.comes.runs k.comes.runs in
     one_outcome h.end r q h.is (subst (λ e. EndsRecord e q) (sym same) k.is)

@@ -2,7 +2,7 @@
 -- to something. In a state that no row covers nothing happens.
 use Rattle.std.specs.Prelude.{◌≡◌, ℕ, ◌<◌, ◌≤◌, ◌*◌, List, [], ◌∷◌, map, length, slice_get, Bool, true, false, not, Option, Some, None, IfSome, IsSome, IsNone}
 use Rattle.sz_types.specs.Data.{Shape}
-use Rattle.sz_types.specs.Rows.{unary_row, binary_row, index_row, slice_row, builtin_row}
+use Rattle.sz_types.specs.Rows.{unary_row, binary_row, index_row, slice_row, builtin_row, arity}
 use Rattle.sz_types.specs.Conversions.{converts_to}
 use Rattle.sz_types.specs.Tables.{Declaration}
 use Rattle.sz_types.specs.declared.operator.UnOp.{UnOp}
@@ -19,7 +19,7 @@ use Rattle.sz_instr.specs.declared.routine.Routine.{Routine}
 use Rattle.sz_instr.specs.declared.code.Code.{Code}
 use Rattle.sz_world.specs.Slots.{Slot, slot_at}
 use Rattle.sz_world.specs.Typed.{Fits, AllFit}
-use Rattle.sz_world.specs.Operations.{arity, part_at}
+use Rattle.sz_world.specs.Operations.{part_at}
 use Rattle.sz_world.specs.Emits.{EmitParts}
 use Rattle.sz_world.specs.Stores.{by_index, by_field}
 use Rattle.sz_world.specs.Stores as stores

@@ -14,7 +14,8 @@ use Rattle.sz_instr.specs.declared.routine.Routine.{Routine}
 use Rattle.sz_instr.specs.declared.code.Code.{Code}
 use Rattle.sz_world.specs.World.{undefined_used, store_outside, calls_too_deep, most_open_calls}
 use Rattle.sz_world.specs.Slots.{Slot, slot_at, all_defined, fresh}
-use Rattle.sz_world.specs.Operations.{unary_of, binary_of, arity, applied, converted_plainly, decoded_as, array_of, tuple_of, map_of}
+use Rattle.sz_world.specs.Operations.{unary_of, binary_of, applied, converted_plainly, decoded_as, array_of, tuple_of, map_of}
+use Rattle.sz_types.specs.Rows.{arity}
 use Rattle.sz_world.specs.Operations.{element_of, slice_of, part_of, definedness}
 use Rattle.sz_world.specs.Emits.{EmitParts, emit_of, with_emit}
 use Rattle.sz_world.specs.Candidates.{candidates}

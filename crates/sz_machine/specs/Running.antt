@@ -10,7 +10,8 @@ use Rattle.sz_instr.specs.declared.routine.Routine.{Routine}
 use Rattle.sz_instr.specs.declared.code.Code.{Code}
 use Rattle.sz_world.specs.World.{World, new_world, spend, budget_passed, Outcome, Done, Faulted}
 use Rattle.sz_world.specs.Slots.{Slot, undefined_slots}
-use Rattle.sz_world.specs.Operations.{binary_of, arity, applied, converted_plainly, decoded_as, array_of, tuple_of, map_of, slice_of}
+use Rattle.sz_world.specs.Operations.{binary_of, applied, converted_plainly, decoded_as, array_of, tuple_of, map_of, slice_of}
+use Rattle.sz_types.specs.Rows.{arity}
 use Rattle.sz_world.specs.Ticks.{result_weight, binary_weight, builtin_weight, conversion_weight}
 use Rattle.sz_world.specs.Emits.{emit_weight}
 use Rattle.sz_machine.specs.States.{State, After, Goes, Halts, Faults, Stuck, faults, entered, popped}

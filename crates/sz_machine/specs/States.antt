@@ -31,6 +31,12 @@ pub data After : Type 0 where
   Faults : (fault : Fault) → After
   Stuck : After
 
+-- a run is over: nothing goes on from there
+abbrev pub IsOver : After → Type 0
+IsOver (Halts w statics) = Unit {0}
+IsOver (Faults fault) = Unit {0}
+IsOver _ = ⊥
+
 -- the state in which a routine is entered that nothing called
 abbrev pub entered : Routine → List Slot → Slot → World → State
 entered routine statics input world = record {

@@ -12,12 +12,12 @@ use Rattle.sz_value.specs.Order.{compare}
 use Rattle.sz_value.specs.Seen.{seen}
 use Rattle.sz_value.specs.declared.value.Value.{Value}
 use Rattle.sz_tabs.specs.Data.{Weighted}
-use Rattle.sz_tabs.specs.Aggregating.{weighted, IsNew, Gains as Gained, Joins}
+use Rattle.sz_tabs.specs.Aggregating.{weighted, Gains as Gained, Joins}
 use Rattle.sz_tabs.specs.Rows.{rows_of, values_of, rows_by, set_rows, value_row}
 use Rattle.sz_tabs.specs.Sorting.{sorted, distinct}
 use Rattle.sz_tabs.proofs.ForCallers.{rows_decide, rows_join, rows_in_any_order}
 use Rattle.sz_members.specs.Data.{Counted, times, emits_of, rows_of_members}
-use Rattle.sz_members.specs.Repeats.{value_eq, emits_held, AllCame, AreFew, full_by, is_full, CountsAgain, Gains, GainsAll}
+use Rattle.sz_members.specs.Repeats.{value_eq, emits_held, AllCame, AreFew, full_by, is_full, CountsAgain, Gains}
 use Rattle.sz_members.specs.Kept.{IsOfMembers}
 use Rattle.sz_members.proofs.RepeatsLemmas.{emits_behind, came_behind}
 use Rattle.sz_members.proofs.FullLemmas.{full_shows, values_of_both}
@@ -64,11 +64,6 @@ pub record IsUpTo (table : Declaration) (first others held rest : List (Value ×
   pub few : AreFew table (length held)
   pub count : length (emits_held held) + length (emits_held rest) ≤ length (emits_held first) + length (emits_held others)
 
--- at first all are left, and the next value came no more often than there are emits left
-pub up_to_none : (table : Declaration) (first others : List (Value × ℕ)) → AllCame first → AllCame others → AreFew table (length first)
-    → IsUpTo table first others first others
-up_to_none table first others came left few = record { rows = refl; came = came; left = left; few = few; count = omega arith }
-
 pub emits_left : (table : Declaration) (first others held rest : List (Value × ℕ)) (v : Value) (n : ℕ) → IsUpTo table first others held ((v, n) ∷ rest)
     → length (emits_held held) + n ≤ length (emits_held first) + length (emits_held others)
 emits_left table first others held rest v n before =
@@ -85,14 +80,6 @@ up_to_more table first others held now rest v n before gained = record {
   few = gained.few before.few;
   count =
       omega (arith, gained.count, before.count, length-append (times n (seen v)) (emits_held rest), length-replicate n (weighted (seen v) None));
-}
-
-pub up_to_all : (table : Declaration) (first others held : List (Value × ℕ)) → IsUpTo table first others held [] → GainsAll table others first held
-up_to_all table first others held end = record {
-  rows = ap (rows_of table) (sym (append-nil (emits_held held))) ∙ end.rows;
-  came = end.came;
-  few = end.few;
-  count = omega (arith, end.count);
 }
 
 abbrev declaration_of : Counted → Declaration
@@ -112,11 +99,6 @@ unweighted table front value weight kind = by_values table (front ++ weighted va
         subst (λ k. rows_by k table.limit vs ≡ rows_by k table.limit ws) (sym is) (ap (λ l. set_rows table.limit (distinct compare l)) same)
     by_values table vs ws (inr is) same =
         subst (λ k. rows_by k table.limit vs ≡ rows_by k table.limit ws) (sym is) (ap (λ l. map value_row (sorted compare l)) same)
-
--- a new one
-pub members_are_new : (table : Declaration) (room : ℕ)
-    → IsNew declaration_of count_of rows_of_members table (record { table = table; count = 0; kept = []; room = room })
-members_are_new table room = record { declared = refl; empty = record { rows = refl; counted = refl } }
 
 -- what the type's models see after an emit, and after a merge: mine is the old one, and yours the other
 pub members_gained : (mine old : Counted) → mine ≡ old → IsOfMembers mine.table.kind → (new : List (Datum × ℕ)) (room : ℕ) (value : Datum) (weight : Option ℤ)

@@ -1,5 +1,5 @@
 -- What counting a value again, or for the first time, leaves of the emits.
-use Rattle.std.proofs.Common.{◌≡◌, ◌∙◌, ℕ, ◌+◌, ◌≤◌, ◌<◌, Bool, true, false, cond, true≢false, Some, None, Result, Ok, Err, IsOk, OnOk, List, [], ◌∷◌, ◌++◌}
+use Rattle.std.proofs.Common.{◌≡◌, ◌∙◌, ℕ, ◌+◌, ◌≤◌, ◌<◌, Bool, true, false, cond, true≢false, Some, None, List, [], ◌∷◌, ◌++◌}
 use Rattle.std.proofs.Common.{map, length, refl, sym, ap, subst, arith, append_assoc, append-nil, IsPermutation, Ordering, Less, Equal, Greater, is_eq}
 use Rattle.std.specs.Ordering.{eq_by_cmp}
 use Rattle.std.specs.Map.{lookup, set_value}
@@ -109,8 +109,3 @@ counts_again v n es r there new is long = record {
   came = λ all. subst AllCame (sym is) (came_more (seen v) n (value_eq v) (equal_data v) es r there all);
   values = long;
 }
-
--- what holds where a call can't fail
-pub surely : {T E P : Type 0} (r : Result T E) → IsOk r → OnOk r P → P
-surely (Ok x) sure p = p
-surely (Err e) sure p = absurd (true≢false (sym sure))

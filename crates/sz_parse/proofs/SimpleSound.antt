@@ -40,7 +40,7 @@ perhaps_shorter R h None ts rest p = omega (arith, ap length p)
 perhaps_shorter R h (Some x) ts rest p = h x ts rest p
 
 module _ (text : Spelling) where
-  label_elem_shorter : (e : ElemForm) (ts rest : List Token) → ReadsElem text e ts rest → length rest < length ts
+  pub label_elem_shorter : (e : ElemForm) (ts rest : List Token) → ReadsElem text e ts rest → length rest < length ts
   unfolding ReadsElem
   label_elem_shorter e ts rest i = omega (arith, label_shorter text e.name ts i.0 i.1, type_shorter text e.of i.0 rest i.2)
 
@@ -250,12 +250,8 @@ module _ (text : Spelling) (sub : Sub) (d : ℕ) (h : IsSound text sub d) where
       (λ a c. some_holds _ _ (bind_holds (name_sound text a) (λ n at. some_holds _ _ ((a, c, at), omega arith)))))
       (λ a c. some_holds _ _ (bind_holds (index_sound a) (λ x g. some_holds _ _ ((a, g.behind, c, g.reads, g.closes), g.low))))
 
-  step_shorter : (x : StepForm) (ts rest : List Token) → ReadsStep text x ts rest → length rest < length ts
-  step_shorter (at_index e) ts rest i = omega (arith, is_length i.2, shorter text e i.0 i.1 i.3, is_length i.4)
-  step_shorter (at_field n) ts rest i = omega (arith, is_length i.1, name_length i.2)
-
   pub path_item : IsItem (path_step text sub) (StepItem text d)
-  path_item = record { sound = λ ts r e. (path_step_sound ts).holds r e; shorter = λ x ts rest i. step_shorter x ts rest i.0 }
+  path_item = record { sound = λ ts r e. (path_step_sound ts).holds r e; shorter = λ x ts rest i. path_shorter text x ts rest i.0 }
 
   assign_sound : (ts0 : List Token) (n : Ident) (ts : List Token) → AtName text n ts0 ts → Holds (assign_at text sub n ts) (ParsedSimple text (suc d) ts0)
   unfolding assign_at ReadsSimple simple_height

@@ -1,5 +1,5 @@
 -- What is read as a table or a quantifier is spelled so.
-use Rattle.std.proofs.Common.{◌≡◌, ℕ, ◌≤◌, ◌<◌, List, [], ◌∷◌, length, refl, ap, ◌∙◌, arith}
+use Rattle.std.proofs.Common.{◌≡◌, ℕ, ◌≤◌, List, [], ◌∷◌, refl, ap, ◌∙◌, arith}
 use Rattle.sz_lex.specs.declared.token.Token.{Token}
 use Rattle.sz_lex.specs.declared.token.Kind.{Kind}
 use Rattle.sz_lex.specs.declared.token.Kind.TheVariants as kinds
@@ -8,7 +8,6 @@ use Rattle.sz_lex.specs.declared.word.Word.{Word}
 use Rattle.sz_lex.specs.declared.word.Word.TheVariants as words
 use Rattle.sz_tree.specs.Names.{Ident}
 use Rattle.sz_tree.specs.Types.{Typ, params_of, type_height, param_heights}
-use Rattle.sz_tree.specs.Statements.{ElemForm}
 use Rattle.sz_tree.specs.Statements.{greatest, elem_height, quantifier_height, table_height}
 use Rattle.sz_parse_expr.specs.Tokens.{Spelling, token, IsWord}
 use Rattle.sz_parse_expr.specs.Types.{ReadsType, ReadsElem, ReadsParams}
@@ -25,8 +24,7 @@ use Rattle.sz_parse_expr.proofs.Holds.{Holds, some_holds, none_holds, bind_holds
 use Rattle.sz_parse_expr.proofs.Items.{IsItem, Low, all_sound, many_split, known}
 use Rattle.sz_parse_expr.proofs.TokenLemmas.{after_sign_sound, after_word_sound, name_sound, is_length, name_length}
 use Rattle.sz_parse_expr.proofs.TypeSound.{IsSoundType, number_sound, elem_sound, params_sound}
-use Rattle.sz_parse_expr.proofs.TypeSound.{label_shorter, type_shorter}
-use Rattle.sz_parse.proofs.SimpleSound.{one_quantifier_shorter, ParsedPart}
+use Rattle.sz_parse.proofs.SimpleSound.{label_elem_shorter, one_quantifier_shorter, ParsedPart}
 
 -- ---- tables and quantifiers
 
@@ -43,14 +41,10 @@ module _ (text : Spelling) (ty : SubType) (d : ℕ) (h : IsSoundType text ty d) 
       (λ a o. some_holds _ _ (bind_holds (elem_sound text ty d h a) (λ e g. bind_holds (after_sign_sound signs.CloseBracket e.1) (λ r c.
       some_holds _ _ ((a, e.1, o, (g.behind, g.label, g.reads), c), g.low)))))
 
-  elem_shorter : (e : ElemForm) (ts rest : List Token) → ReadsElem text e ts rest → length rest < length ts
-  unfolding ReadsElem
-  elem_shorter e ts rest i = omega (arith, label_shorter text e.name ts i.0 i.1, type_shorter text e.of i.0 rest i.2)
-
   pub table_index_item : IsItem (table_index_step text ty) (Low (ReadsTableIndex text) elem_height d)
   table_index_item = record {
     sound = λ ts r e. (table_index_sound ts).holds r e;
-    shorter = λ x ts rest i. omega (arith, is_length i.0.2, elem_shorter x i.0.0 i.0.1 i.0.3, is_length i.0.4);
+    shorter = λ x ts rest i. omega (arith, is_length i.0.2, label_elem_shorter text x i.0.0 i.0.1 i.0.3, is_length i.0.4);
   }
 
   table_weight_sound : (ts : List Token) → Holds (table_weight_at text ty ts) (ParsedPart (ReadsTableWeight text) elem_height d ts)

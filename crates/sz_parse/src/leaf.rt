@@ -149,6 +149,7 @@ pub fn declared<'t>(
     params(alloc, text, inner, tokens)
 }
 
+// A declaration without a type, behind its name and `:=`.
 #[tactic(auto, unfolding(crate::specs::ReadingStatements::define_at, sz_parse_expr::specs::Reading::bind))]
 pub fn define<'t>(
     alloc: Global,
@@ -165,6 +166,7 @@ pub fn define<'t>(
     Ok((Stmt::Define(name, value), rest))
 }
 
+// An assignment, a change by one or a call, behind its first name.
 #[tactic(auto, unfolding(crate::specs::ReadingStatements::simple_stm_at, sz_parse_expr::specs::Reading::bind))]
 pub fn simple_statement<'t>(
     alloc: Global,
@@ -181,6 +183,7 @@ pub fn simple_statement<'t>(
     Ok((Stmt::Simple(part), rest))
 }
 
+// The declaration of a table, behind its name, colon and `table`.
 #[tactic(auto, unfolding(crate::specs::ReadingStatements::table_stm_at, sz_parse_expr::specs::Reading::bind))]
 pub fn table_statement<'t>(
     alloc: Global,
@@ -196,6 +199,7 @@ pub fn table_statement<'t>(
     Ok((Stmt::Table(name, part), rest))
 }
 
+// The declaration of a static, behind its first word.
 #[tactic(auto, unfolding(crate::specs::ReadingStatements::static_at, sz_parse_expr::specs::Reading::bind))]
 pub fn static_statement<'t>(
     alloc: Global,
@@ -215,6 +219,7 @@ pub fn static_statement<'t>(
     Ok((Stmt::Static(place, name, of, value), rest))
 }
 
+// The declaration of a type by its name, behind its first word.
 #[tactic(auto, unfolding(crate::specs::ReadingStatements::typedef_at, sz_parse_expr::specs::Reading::bind))]
 pub fn type_statement<'t>(
     alloc: Global,
@@ -233,6 +238,7 @@ pub fn type_statement<'t>(
     Ok((Stmt::Type(place, name, of), rest))
 }
 
+// A `return`, behind its first word.
 #[tactic(auto, unfolding(crate::specs::ReadingStatements::return_at, sz_parse_expr::specs::Reading::bind))]
 pub fn return_statement<'t>(
     alloc: Global,
@@ -249,6 +255,7 @@ pub fn return_statement<'t>(
     Ok((Stmt::Return(place, value), rest))
 }
 
+// An `emit`, behind its first word.
 #[tactic(auto, unfolding(crate::specs::ReadingStatements::emit_at, sz_parse_expr::specs::Reading::bind))]
 pub fn emit<'t>(
     alloc: Global,
@@ -269,6 +276,7 @@ pub fn emit<'t>(
     Ok((Stmt::Emit(place, table, indexes, value, weight), rest))
 }
 
+// A `break`, behind its first word.
 #[tactic(auto, unfolding(crate::specs::ReadingStatements::break_at, sz_parse_expr::specs::Reading::bind))]
 pub fn break_statement(place: Place, tokens: &[Token]) -> Result<(Stmt, &[Token]), Failed>
     ensures read { Gives (λ x. (stm_of x.0, x.1.now)) result (break_at place tokens.now) }
@@ -277,6 +285,7 @@ pub fn break_statement(place: Place, tokens: &[Token]) -> Result<(Stmt, &[Token]
     Ok((Stmt::Break(place), rest))
 }
 
+// A `continue`, behind its first word.
 #[tactic(auto, unfolding(crate::specs::ReadingStatements::continue_at, sz_parse_expr::specs::Reading::bind))]
 pub fn continue_statement(place: Place, tokens: &[Token]) -> Result<(Stmt, &[Token]), Failed>
     ensures read { Gives (λ x. (stm_of x.0, x.1.now)) result (continue_at place tokens.now) }

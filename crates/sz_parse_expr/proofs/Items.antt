@@ -57,12 +57,6 @@ pub all_complete : {A : Type 0} {step : List Token → Option (Read A)} {R : A �
 unfolding all_at
 all_complete i h xs ts rest m f none = many_complete i h xs (length ts) ts rest m (omega arith) f none
 
-pub many_shorter : {A : Type 0} {step : List Token → Option (Read A)} {R : A → List Token → List Token → Type 0} → IsItem step R
-    → (xs : List A) (ts rest : List Token) → Many R xs ts rest → length rest ≤ length ts
-unfolding Many
-many_shorter i [] ts rest m = omega (arith, ap length m)
-many_shorter i (x ∷ xs) ts rest m = omega (arith, i.shorter x ts m.0 m.1, many_shorter i xs m.0 rest m.2)
-
 -- an item that is so spelled and at most so high
 abbrev pub Low : {A : Type 0} → (A → List Token → List Token → Type 0) → (A → ℕ) → ℕ → A → List Token → List Token → Type 0
 Low S h d x ts rest = S x ts rest × (h x ≤ d)

@@ -1,5 +1,5 @@
 -- How the text of the tables is printed one after the other.
-use Rattle.std.proofs.Common.{◌≡◌, ◌∙◌, ℕ, suc, ◌+◌, ◌<◌, List, [], ◌∷◌, ◌++◌, map, length, get_or, drop, refl, sym, ap, arith, append_assoc, append-nil}
+use Rattle.std.proofs.Common.{◌≡◌, ◌∙◌, ℕ, suc, ◌+◌, ◌<◌, List, [], ◌∷◌, ◌++◌, map, length, get_or, drop, refl, sym, ap, arith, append_assoc}
 use Rattle.std.specs.Prelude.{slice_get}
 use Rattle.std.specs.Option.{option_map}
 use Rattle.std.proofs.Math.Seq.{drop-cons}
@@ -21,9 +21,6 @@ pub record IsTextUpTo (items : List TableDecl) (state : TotalState) (at : ℕ) (
   pub printed : (emits : List EmitDatum) → StandsFor declarations emit_count shown state emits
       → text ++ text_from items at emits ≡ lines_from 0 (map seen_table items) emits
 
-pub text_none : (items : List TableDecl) (state : TotalState) → IsTextUpTo items state 0 []
-text_none items state = record { printed = λ emits stands. refl }
-
 pub text_more : (items : List TableDecl) (state : TotalState) (at : ℕ) (text next : List ℕ) (item : TableDecl) (rows : List Indexed)
     → at < length items → map seen_table items ≡ state.tables → item ≡ get_or items at item → rows ≡ shown state at
     → next ≡ text ++ table_lines (seen_table item) rows → IsTextUpTo items state at text → IsTextUpTo items state (at + 1) next
@@ -42,12 +39,3 @@ text_more items state at text next item rows less same is shows grown before = r
       ∙ ap (λ xs. text ++ lines_from at (map seen_table xs) emits) (sym front)
       ∙ before.printed emits stands;
 }
-
-pub text_all : (items : List TableDecl) (state : TotalState) (text : List ℕ) → IsTextUpTo items state (length items) text
-    → (emits : List EmitDatum) → StandsFor declarations emit_count shown state emits → text ≡ lines_from 0 (map seen_table items) emits
-text_all items state text all emits stands =
-    sym (append-nil text) ∙ ap (λ xs. text ++ lines_from (length items) (map seen_table xs) emits) (sym (dropped items)) ∙ all.printed emits stands
-  where
-    dropped : (xs : List TableDecl) → drop (length xs) xs ≡ []
-    dropped [] = refl
-    dropped (x ∷ xs) = dropped xs

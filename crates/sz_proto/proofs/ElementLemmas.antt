@@ -43,10 +43,6 @@ truths_append (pos zero ∷ ns) ms = ap (λ (bs : List Bool). false ∷ bs) (tru
 truths_append (pos (suc n) ∷ ns) ms = ap (λ (bs : List Bool). true ∷ bs) (truths_append ns ms)
 truths_append (negsuc n ∷ ns) ms = ap (λ (bs : List Bool). true ∷ bs) (truths_append ns ms)
 
-pub no_truths : truths_of [] ≡ []
-unfolding truths_of
-no_truths = refl
-
 -- the truth value that one more number stands for
 pub truths_more : (ns : List ℤ) (i : ℕ) (d : ℤ) → i < length ns → truths_of (take (i + 1) ns) ≡ truths_of (take i ns) ++ truths_of (get_or ns i d ∷ [])
 truths_more ns i d lt = ap truths_of (take_more ns i d lt) ∙ truths_append (take i ns) (get_or ns i d ∷ [])

@@ -23,6 +23,7 @@ use Rattle.sz_proto.specs.Elements.{in_all}
 use Rattle.sz_proto.specs.Messages.{tuple_of, for_each, message_in, values_of, value_of}
 use Rattle.sz_proto.specs.Found.{contents, with_number, found_within, message_each, IsOrdered}
 use Rattle.sz_proto.proofs.GoingLemmas.{Goes, goes_on, goes_end}
+use Rattle.sz_proto.proofs.ReadingLemmas.{skipped}
 
 -- what the fields of a number hold
 pub occurrences_found : (bytes : List ℕ) (number : ℕ) (fs : List WireField)
@@ -96,10 +97,6 @@ pub values_end : (types : List Field) (depth : ℕ) (found : List wire.Field) (i
 unfolding values_of
 values_end types depth found i got h over = goes_end (values_of (fields_of (map seen_field types)) depth found) got
     (h ∙ ap (λ (fs : List Field). option_map (λ more. got ++ more) (values_of (fields_of (map seen_field fs)) depth found)) (drop_all i types over))
-
-skipped : {A : Type 0} (found : Option (List A)) → option_and_then (λ first. option_map (λ more. first ++ more) found) (Some []) ≡ found
-skipped None = refl
-skipped (Some xs) = refl
 
 pub messages_each : (value_of : List ℕ → Option Datum) (cs : List Content) → in_all (message_each value_of) cs ≡ for_each value_of (payloads cs)
 unfolding in_all for_each payloads

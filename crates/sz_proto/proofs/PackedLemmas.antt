@@ -6,7 +6,7 @@ use Rattle.std.proofs.lemmas.List.{drop-drop}
 use Rattle.sz_wire.specs.Field.{fixed_at}
 use Rattle.sz_types.specs.declared.encoding.Encoding.{Encoding}
 use Rattle.sz_proto.specs.Elements.{packed_at, packed_within}
-use Rattle.sz_proto.proofs.GoingLemmas.{Goes, goes_start, goes_on, goes_end}
+use Rattle.sz_proto.proofs.GoingLemmas.{Goes, goes_on, goes_end}
 
 -- elements are read up to a place
 pub record IsUnpacking (code : Encoding) (bytes : List ℕ) (at : ℕ) (got : List ℤ) : Type 0 where
@@ -14,14 +14,6 @@ pub record IsUnpacking (code : Encoding) (bytes : List ℕ) (at : ℕ) (got : Li
   pub enough : length bytes - at ≤ left
   pub goes : Goes (packed_within (length bytes) code bytes) got (packed_within left code (drop at bytes))
   pub place : at ≤ length bytes
-
-pub starts_unpacking : (code : Encoding) (bytes : List ℕ) → IsUnpacking code bytes 0 []
-starts_unpacking code bytes = record {
-  left = length bytes;
-  enough = omega arith;
-  goes = goes_start (packed_within (length bytes) code bytes);
-  place = omega arith;
-}
 
 one_more : (left : ℕ) (code : Encoding) (rest more : List ℕ) (n : ℤ) → 0 < length rest → length rest ≤ left → packed_at code rest ≡ Some (n, more)
     → (turns : ℕ) × (left ≡ suc turns) × (packed_within left code rest ≡ option_map (λ ns. n ∷ ns) (packed_within turns code more))

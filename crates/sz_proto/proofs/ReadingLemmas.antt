@@ -131,7 +131,7 @@ read_none bytes depth from to at before now high h lt found =
     let none = none_more h.left depth (drop at (take to bytes)) (omega (arith, len, lt)) found in
     h.goes ∙ ap (option_map (λ fs. map (field_in bytes) h.added ++ fs)) none
 
-skipped : {A : Type 0} (found : Option (List A)) → option_and_then (λ first. option_map (λ more. first ++ more) found) (Some []) ≡ found
+pub skipped : {A : Type 0} (found : Option (List A)) → option_and_then (λ first. option_map (λ more. first ++ more) found) (Some []) ≡ found
 skipped None = refl
 skipped (Some xs) = refl
 

@@ -67,10 +67,6 @@ pub text_end : (last : List ℕ) → last_text_of last [] ≡ Some (values.str l
 unfolding in_all last_or
 text_end last = refl
 
-pub octets_more : (last p : List ℕ) (cs : List Content) → last_or last (payloads (span p ∷ cs)) ≡ last_or p (payloads cs)
-unfolding payloads last_or
-octets_more last p cs = refl
-
 pub octets_end : (last : List ℕ) → last_or last (payloads []) ≡ last
 unfolding payloads last_or
 octets_end last = refl

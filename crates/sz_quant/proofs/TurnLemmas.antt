@@ -2,7 +2,6 @@
 use Rattle.std.proofs.Common.{◌≡◌, ℕ, ◌+◌, ◌<◌, ◌≤◌, List, [], ◌∷◌, ◌++◌, length, get_or, drop, map, refl, ap, sym, ◌∙◌, append_assoc, append-nil, arith, suc, length-append}
 use Rattle.std.proofs.lemmas.List.{drop_more, map-append}
 use Rattle.std.proofs.lemmas.Bool.{lt-ltb}
-use Rattle.std.proofs.Math.ListN.{drop_of_length-le}
 use Rattle.std.specs.Prelude.{Option, Some, None, Result, Err}
 use Rattle.std.specs.List.{position, position_or_len}
 use Rattle.std.specs.Option.{is_none}
@@ -11,6 +10,7 @@ use Rattle.sz_tree.specs.declared.expr.Pair.{Pair}
 use Rattle.std.specs.Global.{Vec}
 use Rattle.std.specs.Borrow.{Bor}
 use Rattle.sz_types.specs.declared.place.Place.{Place}
+use Rattle.sz_types.proofs.ForCallers.{rest_more, rest_none}
 use Rattle.sz_tree.specs.declared.expr.Expr.TheVariants as exprs
 use Rattle.sz_tree.specs.Names.{Ident}
 use Rattle.sz_tree.specs.Expressions.{Exp, call, list, mapping, exps_of, pairs_of}
@@ -21,14 +21,6 @@ use Rattle.sz_quant.specs.Fitting.{BoundForm, first_fit, bounds_of}
 use Rattle.sz_quant.specs.Seen.{seen_ref}
 use Rattle.sz_quant.specs.declared.error.BoundsError.{BoundsError}
 use Rattle.sz_quant.specs.declared.error.BoundsError.TheVariants as errors
-
--- the elements from a place on
-pub rest_more : {A B : Type 0} (f : A → B) (xs : List A) (i : ℕ) (x : A) → i < length xs → x ≡ get_or xs i x
-    → map f (drop i xs) ≡ f x ∷ map f (drop (i + 1) xs)
-rest_more f xs i x within is = ap (map f) (drop_more xs i x within) ∙ ap (λ (y : _). f y ∷ map f (drop (i + 1) xs)) (sym is)
-
-pub rest_none : {A B : Type 0} (f : A → B) (xs : List A) (i : ℕ) → length xs ≤ i → map f (drop i xs) ≡ []
-rest_none f xs i over = ap (map f) (drop_of_length-le xs over)
 
 -- ---- parts that are appended
 
@@ -133,11 +125,6 @@ found_more found more b names c i within fits now h = record {
       ∙ ap (λ (bs : _). map (λ (x : BoundForm). Some x) found ++ bs) (sym (bounds_turn names c i within)) ∙ h.so_far;
   count = ap length now ∙ length-append found (b ∷ []) ∙ ap (λ (n : ℕ). n + 1) h.count;
 }
-
-pub found_all : (found : List BoundForm) (names : List (List ℕ)) (c : Exp) (i : ℕ) → length names ≤ i → IsFoundUpTo found names c i
-    → bounds_of names c ≡ map (λ (b : BoundForm). Some b) found
-found_all found names c i over h =
-    sym h.so_far ∙ ap (λ (vs : _). map (λ (b : BoundForm). Some b) found ++ bounds_of vs c) (drop_of_length-le names over) ∙ append-nil _
 
 pub found_lack : (found : List BoundForm) (names : List (List ℕ)) (c : Exp) (i n : ℕ) → i < length names
     → None ≡ first_fit (drop i names) (parts c) → n ≡ i → IsFoundUpTo found names c i → position is_none (bounds_of names c) ≡ Some n

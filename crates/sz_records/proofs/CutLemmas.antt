@@ -1,12 +1,12 @@
 -- How the cut of a file goes on, step by step.
-use Rattle.std.proofs.Common.{◌≡◌, ℕ, ◌+◌, List, [], ◌∷◌, ◌++◌, drop, Option, Some, None, refl, sym, ap, ◌∙◌, append_assoc}
-use Rattle.std.proofs.lemmas.List.{append-nil, drop-append-le, drop-drop}
+use Rattle.std.proofs.Common.{◌≡◌, ℕ, ◌+◌, List, [], ◌∷◌, ◌++◌, drop, refl, sym, ap, ◌∙◌, append_assoc}
+use Rattle.std.proofs.lemmas.List.{drop-append-le, drop-drop}
 use Rattle.sz_types.specs.declared.frame.Frame.{Frame}
 use Rattle.sz_records.specs.declared.ending.Ending.{Ending}
 use Rattle.sz_records.specs.declared.limits.FrameLimits.{FrameLimits}
 use Rattle.sz_records.specs.declared.cutter.Cutter.{Cutter}
 use Rattle.sz_records.specs.Cutting.{record_of, stopped, unfinished, at_end, standing, IsCut}
-use Rattle.sz_records.specs.Steps.{IsCutOn, IsSame, IsPassed, IsLeft, Grew, CutsFront, CutsOff}
+use Rattle.sz_records.specs.Steps.{IsCutOn, IsPassed, Grew, CutsFront}
 use Rattle.sz_records.proofs.StayLemmas.{record_stays}
 
 -- a record in front of a cut
@@ -29,10 +29,6 @@ unfolding IsCut
 cut_end frame limits p n bytes [] e stood h = rw stood h
 cut_end frame limits p n bytes (r ∷ rs) e stood h = rw stood h
 
-pub starts_cutting : (cutter : Cutter) (bytes : List ℕ) (before : List (List ℕ)) → CutsFront cutter cutter bytes (drop 0 bytes) before before
-starts_cutting cutter bytes before =
-    record { of = record { frame = refl; limits = refl }; given = []; gained = sym (append-nil before); goes_on = λ more rs e h. h }
-
 pub passes_on : {old now new : Cutter} {bytes : List ℕ} (at size : ℕ) {before mid after : List (List ℕ)}
     → CutsFront old now bytes (drop at bytes) before mid → IsPassed now new (drop at bytes) mid after size
     → CutsFront old new bytes (drop (at + size) bytes) before after
@@ -50,24 +46,6 @@ passes_on {old} {now} {new} {bytes} at size {before} {mid} {after} s p = record 
       let one : IsCutOn now (left ++ more) (p.kept ∷ rs) e = cut_record now.frame now.limits now.place now.count (left ++ more) p.kept size rs e stood h' in
       let all : IsCutOn old (bytes ++ more) (s.given ++ p.kept ∷ rs) e = s.goes_on more (p.kept ∷ rs) e one in
       rw (append_assoc s.given (p.kept ∷ []) rs) all);
-}
-
--- what is left stands as it stood
-still_left : {now new : Cutter} (left : List ℕ) (ending : Option Ending) → IsSame now new → IsLeft now left ending → IsLeft new left ending
-still_left left None same h = rw (same.of.frame, same.of.limits, same.place, same.count) h
-still_left left (Some e) same h = rw (same.of.frame, same.of.limits, same.place, same.count) h
-
-pub is_over : {old now new : Cutter} {bytes left : List ℕ} {before mid after : List (List ℕ)} (ending : Option Ending)
-    → CutsFront old now bytes left before mid → IsSame now new → after ≡ mid → IsLeft now left ending
-    → CutsOff old new bytes left before after ending
-is_over {old} {now} {new} {bytes} {left} ending s same e over = record {
-  front = record {
-    of = record { frame = same.of.frame ∙ s.of.frame; limits = same.of.limits ∙ s.of.limits };
-    given = s.given;
-    gained = e ∙ s.gained;
-    goes_on = λ more rs why h. s.goes_on more rs why (rw (same.of.frame, same.of.limits, same.place, same.count) at h);
-  };
-  over = still_left left ending same over;
 }
 
 -- records were added all along

@@ -1,8 +1,8 @@
 -- Records that lie in one list of bytes.
-use Rattle.std.proofs.Common.{◌≡◌, ℕ, zero, suc, ◌+◌, ◌-◌, ◌<◌, ◌≤◌, List, [], ◌∷◌, ◌++◌, length, take, drop, map, set, get_or, Some, refl, sym, subst, ap, ◌∙◌, arith, length-drop}
+use Rattle.std.proofs.Common.{◌≡◌, ℕ, zero, suc, ◌+◌, ◌-◌, ◌<◌, ◌≤◌, List, [], ◌∷◌, ◌++◌, length, take, drop, map, get_or, Some, refl, sym, subst, ap, ◌∙◌, arith, length-drop}
 use Rattle.std.specs.Prelude.{slice_get}
 use Rattle.std.specs.List.{slice_range, copy_within}
-use Rattle.std.proofs.lemmas.List.{take_all, take-append-le, take-append-drop, drop-append-le, drop-drop, length-take-le, append_assoc, append-nil, take_more_set, drop-set-lt, drop_more, drop_all}
+use Rattle.std.proofs.lemmas.List.{take_all, take-append-le, take-append-drop, drop-append-le, drop-drop, length-take-le}
 use Rattle.std.proofs.Math.Seq.{drop-append_seam}
 use Rattle.std.proofs.lemmas.List.Edits.{take-paste}
 use Rattle.sz_records.specs.Held.{records_at, AreEnds}
@@ -153,22 +153,3 @@ kept ends bytes n place h le is =
 -- the places in front of one are lowered, and the others are still to be
 abbrev pub AreLowered : ℕ → List ℕ → List ℕ → ℕ → Type 0
 AreLowered front all now i = take i now ++ map (λ place. place - front) (drop i now) ≡ map (λ place. place - front) all
-
-pub lowered_more : (front : ℕ) (all now : List ℕ) (i p : ℕ) → AreLowered front all now i → i < length now → p ≡ get_or now i p
-    → AreLowered front all (set now i (p - front)) (i + 1)
-lowered_more front all now i p h lt is =
-    let rest : drop i now ≡ p ∷ drop (i + 1) now = drop_more {X = ℕ} now i p lt ∙ ap (λ (x : ℕ). x ∷ drop (i + 1) now) (sym is) in
-    let here : take i now ++ (p - front) ∷ map (λ place. place - front) (drop (i + 1) now) ≡ map (λ place. place - front) all = rw rest at h in
-    rw (
-      take_more_set now i (p - front) lt,
-      drop-set-lt (i + 1) now i (p - front) (omega arith),
-      append_assoc (take i now) ((p - front) ∷ [])
-          (map (λ place. place - front) (drop (i + 1) now)),
-    ) here
-
-pub lowered_all : (front : ℕ) (all now : List ℕ) (i : ℕ) → AreLowered front all now i → length now ≤ i → now ≡ map (λ place. place - front) all
-lowered_all front all now i h over =
-    let all_taken : take i now ≡ now = take_all i now over in
-    let none : drop i now ≡ [] = drop_all i now over in
-    let here : now ++ [] ≡ map (λ place. place - front) all = rw (all_taken, none) at h in
-    sym (append-nil now) ∙ here

@@ -1,80 +1,26 @@
 -- What it tells of operands, calls and candidate lists that the row of an instruction covers a state.
-use Rattle.std.proofs.Common.{◌≡◌, ℕ, Bool, zero, suc, ◌+◌, ◌<◌, ◌≤◌, List, [], ◌∷◌, length, drop, slice_get, unwrap_or, Option, Some, None, IsSome, IsNone, refl, ap, subst, arith}
-use Rattle.sz_types.specs.Data.{Shape}
+use Rattle.std.proofs.Common.{◌≡◌, ℕ, Bool, zero, suc, ◌<◌, ◌≤◌, List, [], ◌∷◌, length, drop, slice_get, unwrap_or, Some, None, IsSome, IsNone, refl, ap, arith}
 use Rattle.sz_value.specs.Data.{Datum}
 use Rattle.sz_instr.specs.declared.instr.Instr.{Instr}
 use Rattle.sz_instr.specs.declared.instr.Instr.TheVariants.{Push, Local, Static, Input, Keep, KeepStatic, Clear, Store, Unary, Binary, Apply}
 use Rattle.sz_instr.specs.declared.instr.Instr.TheVariants.{Convert, Decode, MakeArray, MakeTuple, MakeMap, Index, Slice, Field, Def, Tick, Jump, Test}
 use Rattle.sz_instr.specs.declared.instr.Instr.TheVariants.{AndTest, OrTest, Call, Return, EndRecord, Discard, Emit, Enter, Next, Leave, Meets, Fails}
 use Rattle.sz_instr.specs.declared.step.Step.{Step}
-use Rattle.sz_instr.specs.declared.routine.Routine.{Routine}
 use Rattle.sz_world.specs.Slots.{Slot}
-use Rattle.sz_machine.specs.States.{Caller}
-use Rattle.sz_machine.specs.Rows.{indexes_in}
 use Rattle.sz_types.specs.declared.operator.BinOp.{BinOp}
 use Rattle.sz_run.specs.Acting.{IsInside, IsApart}
-use Rattle.sz_machine.specs.Covering.{OnOne, OnTwo, OnThree, HasConversion, HasArguments, HasCaller, HasList, StoresInto}
-
--- there is an operand
-pub one_there : (P : Slot → Type 0) (stack : List Slot) → OnOne stack P → 0 < length stack
-one_there P [] h = absurd h
-one_there P (x ∷ stack) h = omega arith
-
--- there are two
-pub two_there : (P : Slot → Slot → Type 0) (stack : List Slot) → OnTwo stack P → 1 < length stack
-two_there P [] h = absurd h
-two_there P (x ∷ []) h = absurd h
-two_there P (y ∷ x ∷ stack) h = omega arith
-
--- there are three
-pub three_there : (P : Slot → Slot → Slot → Type 0) (stack : List Slot) → OnThree stack P → 2 < length stack
-three_there P [] h = absurd h
-three_there P (x ∷ []) h = absurd h
-three_there P (y ∷ x ∷ []) h = absurd h
-three_there P (z ∷ y ∷ x ∷ stack) h = omega arith
+use Rattle.sz_machine.specs.Covering.{HasList}
 
 -- there is a candidate list
 pub list_there : (lists : List (List Datum)) → HasList lists → 0 < length lists
 list_there [] h = absurd h
 list_there (cs ∷ lists) h = omega arith
 
--- a routine waits
-pub caller_there : (callers : List Caller) → HasCaller callers → 0 < length callers
-caller_there [] h = absurd h
-caller_there (c ∷ callers) h = omega arith
-
--- there are a value and the indexes of a path
-pub stored_there : (path : List Step) (old : Slot) (stack : List Slot) → StoresInto path old stack → indexes_in path + 1 ≤ length stack
-stored_there path old [] h = absurd h
-stored_there path old (x ∷ stack) h = omega (arith, h.0)
-
 -- an item that is found is within
 pub found_within : {X : Type 0} → (xs : List X) (n : ℕ) (x : X) → slice_get xs n ≡ Some x → n < length xs
 found_within [] n x e = absurd (cc)
 found_within (y ∷ xs) zero x e = omega arith
 found_within (y ∷ xs) (suc n) x e = let rest = found_within xs n x e in omega (arith, rest)
-
--- there is a type
-pub type_there : (types : List Shape) (ty : ℕ) (stack : List Slot) → OnOne stack (HasConversion (slice_get types ty)) → ty < length types
-type_there types ty [] h = absurd h
-type_there types ty (x ∷ stack) h = by (slice_get types ty) refl h
-  where
-    by : (o : Option Shape) → slice_get types ty ≡ o → HasConversion o x → ty < length types
-    by None e h = absurd h
-    by (Some t) e h = found_within types ty t e
-
--- there is a function
-pub function_there : (functions : List Routine) (f : ℕ) (stack : List Slot) → HasArguments (slice_get functions f) stack → f < length functions
-function_there functions f stack h = by (slice_get functions f) refl h
-  where
-    by : (o : Option Routine) → slice_get functions f ≡ o → HasArguments o stack → f < length functions
-    by None e h = absurd h
-    by (Some r) e h = found_within functions f r e
-
--- and so are its arguments
-pub arguments_there : (functions : List Routine) (f : ℕ) (r : Routine) (stack : List Slot) → slice_get functions f ≡ Some r
-    → HasArguments (slice_get functions f) stack → r.params ≤ length stack
-arguments_there functions f r stack e h = subst (λ o. HasArguments o stack) e h
 
 -- what has to do with neither statics nor the record is inside
 pub is_inside : (i : Instr) → ((n : ℕ) → i ≡ Static n → ⊥) → (i ≡ Input → ⊥) → ((n : ℕ) → i ≡ KeepStatic n → ⊥) → IsInside i

@@ -8,16 +8,17 @@ use Rattle.sz_instr.specs.declared.line.Line.{Line}
 use Rattle.sz_instr.specs.declared.routine.Routine.{Routine}
 use Rattle.sz_world.specs.World.{World, new_world, Fault, Outcome, Done, Faulted}
 use Rattle.sz_world.specs.Slots.{Slot, undefined_slots}
-use Rattle.sz_machine.specs.States.{State, After, Goes, Halts, Faults, Stuck, faults}
+use Rattle.sz_machine.specs.States.{State, After, Goes, Halts, Faults, Stuck, faults, IsOver}
 use Rattle.sz_machine.specs.Covering.{Covers}
 use Rattle.sz_machine.specs.Running.{LeadsBy, GoesOn, RunsFor, ComesTo, EndsRecord, EndsStatic, RoutinesRunTo, RunsTo, record_start, does}
-use Rattle.sz_run.specs.Running.{IsOver, Ends, IsOnTheWay, OfEnds, LineDoes, EndsSo}
+use Rattle.sz_run.specs.Running.{Ends, IsOnTheWay, OfEnds, LineDoes, EndsSo}
 use Rattle.sz_run.specs.Ends.{RunEnds, seen_fault}
 use Rattle.sz_run.specs.declared.ends.Fault.{Fault as RunFault}
 use Rattle.sz_run.specs.Acting.{Around, world_of, state_of, in_record, in_static}
 use Rattle.sz_run.specs.declared.held.Held.{Held}
 use Rattle.sz_run.specs.declared.held.Next.TheVariants.{On, To, End, Fault as NextFault}
 use Rattle.sz_run.proofs.CoverLemmas.{found_within, drop_found, drop_past}
+use Rattle.sz_machine.proofs.OneEnd.{over_of}
 
 module _ (code : Code) where
   -- a first line, and so many lines that carry on what it leads to
@@ -132,13 +133,6 @@ done_there w statics emits same x e = subst (λ y. EndsRecord y (Done emits)) e 
 -- one that faults has the fault as its outcome
 pub faulted_there : (fault : Fault) (x : After) → Faults fault ≡ x → EndsRecord x (Faulted fault)
 faulted_there fault x e = subst (λ y. EndsRecord y (Faulted fault)) e refl
-
--- what has an outcome is an end
-pub over_of : (end : After) (r : Outcome (List EmitDatum)) → EndsRecord end r → IsOver end
-over_of (Goes s) r h = absurd h
-over_of (Halts w statics) r h = tt
-over_of (Faults fault) r h = tt
-over_of Stuck r h = absurd h
 
 -- an end has one outcome
 pub one_outcome : (end : After) (r q : Outcome (List EmitDatum)) → EndsRecord end r → EndsRecord end q → q ≡ r

@@ -1,23 +1,22 @@
 -- A line in two steps: its charge is taken, and then its instruction takes the weight of its result and acts.
-use Rattle.std.proofs.Common.{◌≡◌, ◌∙◌, ℕ, ◌+◌, ◌<◌, length, slice_get, unwrap_or, Option, Some, None, true, false, refl, sym, ap, subst, arith}
+use Rattle.std.proofs.Common.{◌≡◌, ◌∙◌, ℕ, ◌+◌, ◌<◌, length, slice_get, unwrap_or, Option, Some, None, true, refl, sym, ap, subst, arith}
 use Rattle.sz_instr.specs.declared.instr.Instr.{Instr}
 use Rattle.sz_instr.specs.declared.instr.Instr.TheVariants.{Push, Local, Static, Input, Keep, KeepStatic, Clear, Store, Unary, Binary, Apply}
 use Rattle.sz_instr.specs.declared.instr.Instr.TheVariants.{Convert, Decode, MakeArray, MakeTuple, MakeMap, Index, Slice, Field, Def, Tick, Jump, Test}
 use Rattle.sz_instr.specs.declared.instr.Instr.TheVariants.{AndTest, OrTest, Call, Return, EndRecord, Discard, Emit, Enter, Next, Leave, Meets, Fails}
 use Rattle.sz_instr.specs.declared.line.Line.{Line}
 use Rattle.sz_instr.specs.declared.code.Code.{Code}
-use Rattle.sz_world.specs.World.{World, spend, budget_passed}
-use Rattle.sz_machine.specs.States.{State, faults}
+use Rattle.sz_world.specs.World.{World, spend}
+use Rattle.sz_machine.specs.States.{State}
 use Rattle.sz_machine.specs.Rows.{act}
 use Rattle.sz_machine.specs.Covering.{Covers}
 use Rattle.sz_machine.specs.Running.{weight_added, charge_of, charged, does}
 use Rattle.sz_run.specs.declared.held.Held.{Held}
 use Rattle.sz_run.specs.declared.held.Next.{Next as Going}
-use Rattle.sz_run.specs.declared.held.Next.TheVariants.{Fault as Stops}
 use Rattle.sz_run.specs.Running.{LineDoes}
 use Rattle.sz_run.specs.Acting.{Around, world_of, state_of, when_paid, weighs_and_acts, leads, DoesFromTo, Paid, base_charge, TakesCandidate}
 use Rattle.sz_run.proofs.CoverLemmas.{list_there}
-use Rattle.sz_run.proofs.PayLemmas.{world, spend_more, spend_less}
+use Rattle.sz_run.proofs.PayLemmas.{world, spend_more}
 
 -- what is known of each instruction: its ticks are a charge and a weight, whether its row covers a state doesn't depend on the
 -- world, and a candidate is taken of a list that is there
@@ -89,16 +88,6 @@ module _ (code : Code) (line : Line) (old : Held) (a b : Around) where
       with_left mid.left new next (subst (λ h. spend ticks (world_of old) ≡ Some (world_of h)) paid.kept paid.spent)
       (subst (λ h. DoesFromTo a b (weighs_and_acts code line.instr) h next new) paid.kept acts)
 
-  -- the line passes the budget
-  pub step_faults : (mid : Held) → Paid (base_charge line.charge line.instr old.calls.lists) old false mid
-      → does code line (state_of old a) ≡ faults budget_passed line.place
-  step_faults mid paid =
-      let ticks = base_charge line.charge line.instr old.calls.lists in
-      let weight = weight_added code line.instr old.operands in
-      let split = splits code line.charge line.instr (state_of old a) in
-      let short = ap (λ n. spend n (world_of old)) split.charge ∙ spend_less ticks weight old.left old.emits paid.spent in
-      ap (charged code line (state_of old a)) short
-
   -- its row covers the state whose charge is taken
   pub still_covered : (mid : Held) → Paid (base_charge line.charge line.instr old.calls.lists) old true mid → Covers code line.instr (state_of old a)
       → Covers code line.instr (state_of mid a)
@@ -118,8 +107,3 @@ module _ (code : Code) (line : Line) (old : Held) (a b : Around) where
       → Paid (base_charge line.charge line.instr old.calls.lists) old true mid → DoesFromTo a b (weighs_and_acts code line.instr) mid next new
       → LineDoes code a b old next new
   line_goes mid new next found paid acts = line_does new next found (step_does mid new next paid acts)
-
-  -- one whose charge isn't there stops
-  pub line_stops : (mid : Held) → slice_get code.lines a.at ≡ Some line → Paid (base_charge line.charge line.instr old.calls.lists) old false mid
-      → LineDoes code a b old (Stops budget_passed) mid
-  line_stops mid found paid = line_does mid (Stops budget_passed) found (step_faults mid paid)

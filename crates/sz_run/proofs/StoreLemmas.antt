@@ -1,12 +1,11 @@
 -- What comes of a store, from the cell that it makes.
-use Rattle.std.proofs.Common.{◌≡◌, ℕ, suc, List, Option, Some, None, slice_set, unwrap_or, refl, ap}
+use Rattle.std.proofs.Common.{◌≡◌, ℕ, suc, List, Option, Some, None, slice_set, unwrap_or, ap}
 use Rattle.std.specs.Option.{option_map}
 use Rattle.sz_types.specs.declared.place.Place.{Place}
 use Rattle.sz_value.specs.Data.{Datum}
-use Rattle.sz_world.specs.World.{store_outside}
 use Rattle.sz_world.specs.Slots.{Slot}
 use Rattle.sz_world.specs.Stores.{unless_outside}
-use Rattle.sz_machine.specs.States.{State, Goes, faults}
+use Rattle.sz_machine.specs.States.{State, Goes}
 use Rattle.sz_machine.specs.Rows.{after_store}
 use Rattle.sz_cells.specs.Storing.{defined}
 
@@ -17,8 +16,3 @@ module _ (place : Place) (n : ℕ) (s : State) (stack : List Slot) where
   holds None cell e = absurd (cc)
   holds (Some d) cell e =
       ap (λ o. Goes (record s { at = suc s.at; stack = stack; locals = slice_set s.locals n (unwrap_or o (Some d)) })) e
-
-  -- it led outside
-  pub leads_outside : (x : Option Datum) → option_map defined x ≡ None → after_store (unless_outside x) place n s stack ≡ faults store_outside place
-  leads_outside None e = refl
-  leads_outside (Some d) e = absurd (cc)

@@ -4,19 +4,13 @@ use Rattle.sz_instr.specs.declared.code.Code.{Code}
 use Rattle.sz_instr.specs.declared.line.Line.{Line}
 use Rattle.sz_world.specs.World.{World}
 use Rattle.sz_world.specs.Slots.{Slot}
-use Rattle.sz_machine.specs.States.{State, After, Halts, Faults}
+use Rattle.sz_machine.specs.States.{State, After, IsOver, Halts, Faults}
 use Rattle.sz_machine.specs.Running.{ComesTo, does}
 use Rattle.sz_run.specs.declared.ends.Fault.{Fault}
 use Rattle.sz_run.specs.declared.held.Held.{Held}
 use Rattle.sz_run.specs.declared.held.Next.{Next}
 use Rattle.sz_run.specs.Acting.{Around, state_of, leads}
 use Rattle.sz_run.specs.Ends.{seen_fault}
-
--- a run is over
-abbrev pub IsOver : After → Type 0
-IsOver (Halts w statics) = Unit {0}
-IsOver (Faults fault) = Unit {0}
-IsOver _ = ⊥
 
 -- from the state the run comes to its end
 pub record Ends (code : Code) (s : State) : Type 0 where

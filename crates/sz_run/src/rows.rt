@@ -4,7 +4,7 @@ ghost use Rattle.sz_instr.specs.declared.code.Code.{Code};
 ghost use Rattle.sz_instr.specs.declared.instr.Instr.TheVariants as instr;
 ghost use Rattle.sz_value.specs.Data.{int};
 ghost use Rattle.sz_machine.specs.Rows.{act};
-ghost use Rattle.sz_world.specs.Operations.{arity};
+ghost use Rattle.sz_types.specs.Rows.{arity};
 ghost use Rattle.sz_run.specs.Acting.{Does, weighs_and_acts};
 
 use crate::held::{Held, Next, again};

@@ -5,7 +5,7 @@ use Rattle.std.proofs.lemmas.List.{reverse-append, length-reverse, length_push}
 use Rattle.std.proofs.lemmas.Option.{none-some, same_Some}
 use Rattle.sz_scope.specs.declared.meaning.Meaning.{Meaning}
 use Rattle.sz_scope.specs.declared.entry.Entry.{Entry}
-use Rattle.sz_scope.specs.Chain.{latest, first_where, oldest, without_deeper, without_first, IsLinked, IsNested, IsIndexed}
+use Rattle.sz_scope.specs.Chain.{latest, first_where, oldest, IsLinked, IsNested, IsIndexed}
 
 -- the newest entry of a name is one of the entries
 pub latest_within : (name : ℕ) (entries : List Entry) (at : ℕ) → latest name entries ≡ Some at → at < length entries
@@ -122,23 +122,3 @@ newest_fits newest all indexed None at within some none i is = absurd (none-some
 newest_fits newest all indexed (Some name) at within some none i is =
     let p : at ≡ latest name (reverse all) = same_Some at (latest name (reverse all)) (sym (some name refl) ∙ indexed name (within name refl)) in
     omega (arith, latest_within name (reverse all) i (sym p ∙ is), length-reverse all)
-
--- where no entry is deep enough to be taken out, the first isn't
-pub first_stays : (depth : ℕ) (entries : List Entry) → without_deeper depth entries ≡ entries → without_first depth entries ≡ entries
-first_stays depth [] p = refl
-first_stays depth (entry ∷ entries) p = by (nat_lt entry.depth depth) p
-  where
-    no_longer : (es : List Entry) → length (without_deeper depth es) ≤ length es
-    no_longer [] = omega arith
-    no_longer (e ∷ es) = this (nat_lt e.depth depth) (no_longer es)
-      where
-        this : (b : Bool) → length (without_deeper depth es) ≤ length es → length (if b then e ∷ es else without_deeper depth es) ≤ suc (length es)
-        this true rest = omega arith
-        this false rest = omega (arith, rest)
-
-    by : (b : Bool) → (if b then entry ∷ entries else without_deeper depth entries) ≡ entry ∷ entries → (if b then entry ∷ entries else entries) ≡ entry ∷ entries
-    by true p = refl
-    by false p = absurd (longer (ap length p) (no_longer entries))
-      where
-        longer : length (without_deeper depth entries) ≡ suc (length entries) → length (without_deeper depth entries) ≤ length entries → ⊥
-        longer p l = omega (arith, p, l)

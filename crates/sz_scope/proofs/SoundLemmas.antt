@@ -4,11 +4,10 @@ use Rattle.std.proofs.lemmas.Bool.{cases_lt, cases_eq, eq-eqb, ne_eqb, cond-true
 use Rattle.std.proofs.lemmas.List.{length-set, length_push}
 use Rattle.sz_scope.specs.declared.entry.Entry.{Entry}
 use Rattle.sz_scope.specs.Names.{place_of, name_at}
-use Rattle.sz_scope.specs.Blocks.{without_newest}
-use Rattle.sz_scope.specs.Chain.{latest, without_deeper, without_first, IsLinked, IsNested, IsNamed, IsWithin, IsIndexed, IsSound, HasRoomOf, KeepsSound, blocks_of}
+use Rattle.sz_scope.specs.Chain.{latest, without_deeper, IsLinked, IsNested, IsNamed, IsWithin, IsIndexed, IsSound, HasRoomOf, KeepsSound, blocks_of}
 use Rattle.sz_scope.proofs.NamesLemmas.{at_place, place_stays, name_at_stays}
 use Rattle.sz_scope.proofs.ChainLemmas.{nested_weaker}
-use Rattle.sz_scope.proofs.BlocksLemmas.{blocks_stay, blocks_without, block_opened, block_declared}
+use Rattle.sz_scope.proofs.BlocksLemmas.{blocks_stay, blocks_without, block_opened}
 
 module _ {X : Type 0} where
   -- the elements of a list with one more at its end
@@ -77,29 +76,9 @@ indexed_push newest entry entries indexed name h = by (cases_eq entry.name name)
         get_set_other newest entry.name name (Some (length entries)) n ∙ indexed name within
         ∙ ap (λ o. Some o) (sym (cond-false (entry.name == name) (Some (length entries)) (latest name entries) (ne_eqb entry.name name n)))
 
--- the newest entry is taken out
-pub indexed_pop : (newest : List (Option ℕ)) (entry : Entry) (entries : List Entry) → IsLinked (entry ∷ entries) → IsIndexed newest (entry ∷ entries)
-    → IsIndexed (set newest entry.name entry.hidden) entries
-indexed_pop newest entry entries linked indexed name h = by (cases_eq entry.name name)
-  where
-    within : name < length newest
-    within = omega (arith, h, length-set newest entry.name entry.hidden)
-
-    by : (entry.name ≡ name) ⊎ (entry.name ≡ name → ⊥) → slice_get (set newest entry.name entry.hidden) name ≡ Some (latest name entries)
-    by (inl p) =
-        subst (λ n. slice_get (set newest n entry.hidden) name ≡ Some entry.hidden) (sym p) (get_set_same newest name entry.hidden within)
-        ∙ ap (λ o. Some o) (linked.0 ∙ ap (λ n. latest n entries) p)
-    by (inr n) =
-        get_set_other newest entry.name name entry.hidden n ∙ indexed name within
-        ∙ ap (λ o. Some o) (cond-false (entry.name == name) (Some (length entries)) (latest name entries) (ne_eqb entry.name name n))
-
 -- room for one more name
 pub room_more : (newest : List (Option ℕ)) → HasRoomOf newest (newest ++ None ∷ [])
 room_more newest = record { room = omega (arith, length_push newest None); indexed = λ entries. indexed_more newest entries }
-
--- the same list
-pub room_same : (newest : List (Option ℕ)) → HasRoomOf newest newest
-room_same newest = record { room = omega arith; indexed = λ entries within indexed. indexed }
 
 -- more room keeps all that is sound
 pub keeps_room : (names : List (List ℕ)) (newest others : List (Option ℕ)) → HasRoomOf newest others → KeepsSound names names newest others
@@ -196,24 +175,6 @@ pub record IsClosing (depth : ℕ) (old : List Entry) (total : ℕ) (entries : L
   pub linked : IsLinked (reverse entries)
   pub indexed : IsIndexed newest (reverse entries)
 
--- one entry is taken out
-pub closing_step : (depth : ℕ) (old : List Entry) (count : ℕ) (entries less : List Entry) (newest : List (Option ℕ)) (entry : Entry)
-    → IsClosing depth old count entries newest → reverse entries ≡ entry ∷ reverse less → depth ≤ entry.depth
-    → IsClosing depth old count less (set newest entry.name entry.hidden)
-closing_step depth old count entries less newest entry c p l = record {
-  rest = sym (cond-false (nat_lt entry.depth depth) (entry ∷ reverse less) (without_deeper depth (reverse less)) (le-ltb entry.depth depth l))
-      ∙ ap (without_deeper depth) (sym p) ∙ c.rest;
-  count = length-set newest entry.name entry.hidden ∙ c.count;
-  within = (subst (IsWithin count) p c.within).1;
-  linked = (subst IsLinked p c.linked).1;
-  indexed = indexed_pop newest entry (reverse less) (subst IsLinked p c.linked) (subst (IsIndexed newest) p c.indexed);
-}
-
--- its name is among the names
-pub closing_within : (depth : ℕ) (old : List Entry) (count : ℕ) (entries less : List Entry) (newest : List (Option ℕ)) (entry : Entry)
-    → IsClosing depth old count entries newest → reverse entries ≡ entry ∷ reverse less → entry.name < length newest
-closing_within depth old count entries less newest entry c p = omega (arith, (subst (IsWithin count) p c.within).0, c.count)
-
 -- a block that is opened
 module _ (names : List (List ℕ)) (newest : List (Option ℕ)) (entries : List Entry) (depth : ℕ) (sound : IsSound names newest entries depth) where
   more : suc depth ≡ depth + 1
@@ -230,47 +191,3 @@ module _ (names : List (List ℕ)) (newest : List (Option ℕ)) (entries : List 
 
   pub blocks_opened : blocks_of names entries (depth + 1) ≡ [] ∷ blocks_of names entries depth
   blocks_opened = ap (blocks_of names entries) (sym more) ∙ block_opened names entries depth sound.nested
-
--- the newest declaration of the innermost block is taken back
-record IsTaken (names : List (List ℕ)) (depth : ℕ) (entries left : List Entry) : Type 0 where
-  pub named : IsNamed names left
-  pub linked : IsLinked left
-  pub nested : IsNested (suc depth) left
-  pub blocks : blocks_of names left (suc depth) ≡ without_newest (blocks_of names entries (suc depth))
-
-taken : (names : List (List ℕ)) (depth : ℕ) (entries : List Entry) → IsNamed names entries → IsLinked entries → IsNested (suc depth) entries
-    → IsTaken names depth entries (without_first depth entries)
-taken names depth [] named linked nested = record { named = named; linked = linked; nested = nested; blocks = refl }
-taken names depth (entry ∷ entries) named linked nested = by (cases_lt entry.depth depth)
-  where
-    by : (entry.depth < depth) ⊎ (depth ≤ entry.depth) → IsTaken names depth (entry ∷ entries) (without_first depth (entry ∷ entries))
-    by (inl l) = subst (IsTaken names depth (entry ∷ entries)) (sym (cond-true (nat_lt entry.depth depth) (entry ∷ entries) entries (lt-ltb entry.depth depth l)))
-        (record {
-          named = named;
-          linked = linked;
-          nested = nested;
-          blocks = empty ∙ ap without_newest (sym empty);
-        })
-      where
-        empty : blocks_of names (entry ∷ entries) (suc depth) ≡ [] ∷ blocks_of names (entry ∷ entries) depth
-        empty = block_opened names (entry ∷ entries) depth (l, nested.1)
-    by (inr l) = subst (IsTaken names depth (entry ∷ entries)) (sym (cond-false (nat_lt entry.depth depth) (entry ∷ entries) entries (le-ltb entry.depth depth l)))
-        (record {
-          named = named.1;
-          linked = linked.1;
-          nested = nested_weaker entries (suc entry.depth) (suc depth) (omega (arith, deep)) nested.1;
-          blocks = ap without_newest (sym (block_declared names entry entries depth deep));
-        })
-      where
-        deep : entry.depth ≡ depth
-        deep = omega (arith, l, nested.0)
-
-module _ (names : List (List ℕ)) (depth : ℕ) (newest others : List (Option ℕ)) (entries : List Entry) (sound : IsSound names newest entries (suc depth)) where
-  pub sound_taken : length others ≡ length newest → IsIndexed others (without_first depth entries)
-      → IsSound names others (without_first depth entries) (suc depth)
-  sound_taken same indexed =
-      let t = taken names depth entries sound.named sound.linked sound.nested in
-      record { room = omega (arith, sound.room, same); named = t.named; indexed = indexed; linked = t.linked; nested = t.nested }
-
-  pub blocks_taken : blocks_of names (without_first depth entries) (suc depth) ≡ without_newest (blocks_of names entries (suc depth))
-  blocks_taken = (taken names depth entries sound.named sound.linked sound.nested).blocks

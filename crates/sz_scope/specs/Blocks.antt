@@ -32,9 +32,3 @@ is_declared name (block ∷ blocks) = is_some (found_in name block)
 abbrev pub with_declared : Declaration → List Block → List Block
 with_declared declaration [] = []
 with_declared declaration (block ∷ blocks) = (declaration ∷ block) ∷ blocks
-
--- the blocks without the newest declaration of the innermost, if it has one
-abbrev pub without_newest : List Block → List Block
-without_newest [] = []
-without_newest ([] ∷ blocks) = [] ∷ blocks
-without_newest ((declaration ∷ block) ∷ blocks) = block ∷ blocks

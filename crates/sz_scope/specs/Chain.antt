@@ -26,11 +26,6 @@ abbrev pub without_deeper : ℕ → List Entry → List Entry
 without_deeper depth [] = []
 without_deeper depth (entry ∷ entries) = if nat_lt entry.depth depth then entry ∷ entries else without_deeper depth entries
 
--- the entries without the newest, if it is as deep as this or deeper
-abbrev pub without_first : ℕ → List Entry → List Entry
-without_first depth [] = []
-without_first depth (entry ∷ entries) = if nat_lt entry.depth depth then entry ∷ entries else entries
-
 -- each entry links to the one of its name that was the newest before it
 abbrev pub IsLinked : List Entry → Type 0
 IsLinked [] = Unit {0}

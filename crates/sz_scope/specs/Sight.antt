@@ -1,6 +1,5 @@
 -- What of the open blocks is seen at a place of a program.
-use Rattle.std.specs.Prelude.{ℕ, Bool, true, false, not, ◌&&◌, ◌||◌, ◌==◌, List, [], ◌∷◌, length, filter, nat_le}
-use Rattle.std.specs.List.{list_any}
+use Rattle.std.specs.Prelude.{ℕ, Bool, true, false, not, ◌&&◌, ◌||◌, List, [], ◌∷◌, length, filter, nat_le}
 use Rattle.sz_scope.specs.declared.meaning.Meaning.{Meaning}
 use Rattle.sz_scope.specs.declared.meaning.Meaning.TheVariants.{Var, Quantified, Table, Input}
 use Rattle.sz_scope.specs.declared.sight.Sight.{Sight}
@@ -25,20 +24,11 @@ sees Record depth what = true
 sees (Function outside) depth what = nat_le outside depth || not (is_of_record what)
 sees Static depth what = not (is_table what) && not (is_of_record what)
 
--- whether what is meant is one of the quantified variables that aren't bound
-abbrev pub is_unbound : List ℕ → Meaning → Bool
-is_unbound unbound (Quantified number) = list_any (λ other. other == number) unbound
-is_unbound unbound _ = false
-
--- the same while these quantified variables aren't bound
-abbrev pub is_seen : Sight → List ℕ → ℕ → Meaning → Bool
-is_seen sight unbound depth what = not (is_unbound unbound what) && sees sight depth what
-
 -- the blocks without the declarations that fail a test of their depth and meaning
 abbrev pub blocks_where : (ℕ → Meaning → Bool) → List Block → List Block
 blocks_where test [] = []
 blocks_where test (block ∷ blocks) = filter (λ declaration. test (length blocks) declaration.what) block ∷ blocks_where test blocks
 
 -- the blocks without what isn't seen
-abbrev pub seen_blocks : Sight → List ℕ → List Block → List Block
-seen_blocks sight unbound blocks = blocks_where (is_seen sight unbound) blocks
+abbrev pub seen_blocks : Sight → List Block → List Block
+seen_blocks sight blocks = blocks_where (sees sight) blocks

@@ -2,21 +2,20 @@
 ghost use Rattle.std.specs.Prelude.{◌≡◌, ◌<◌, ◌≤◌, ◌++◌, ◌∷◌, [], ◌==◌, ℕ, suc, List, Bool, true, false, length, reverse, slice_get, set, Option, None, Some, IfOk, OnOk, OnErr, IfSome, IfNone};
 ghost use Rattle.std.specs.Option.{option_copied, option_map, ForSome};
 ghost use Rattle.sz_scope.specs.Blocks.{is_declared};
-ghost use Rattle.sz_scope.specs.Chain.{latest, first_where, without_deeper, without_first, blocks_of, HasRoomOf, IsIndexed, IsLinked, IsSound, IsWithin, FindsNewest, KeepsSound, TellsTwice};
+ghost use Rattle.sz_scope.specs.Chain.{latest, first_where, without_deeper, blocks_of, HasRoomOf, IsIndexed, IsLinked, IsSound, IsWithin, FindsNewest, KeepsSound, TellsTwice};
 ghost use Rattle.sz_scope.specs.Names.{place_of};
-ghost use Rattle.sz_scope.specs.Sight.{is_seen};
+ghost use Rattle.sz_scope.specs.Sight.{sees};
 
 use crate::NoMemory;
 use crate::entry::Entry;
 use crate::meaning::Meaning;
 use crate::names::Names;
-use crate::sight::{Sight, is_seen};
+use crate::sight::Sight;
 
 // Takes the last entry out, if `depth` blocks or more are open round it.
 fn pop_deeper(entries: &mut Vec<Entry>, depth: usize) -> Option<Entry>
     ensures some { IfSome result (λ e. (reverse entries.old.items ≡ e ∷ reverse entries.new.items) × (depth ≤ e.depth)) }
     ensures none { IfNone result (without_deeper depth (reverse entries.old.items) ≡ reverse entries.old.items) }
-    ensures alone { IfNone result (without_first depth (reverse entries.old.items) ≡ reverse entries.old.items) }
     ensures kept { IfNone result (entries.new.items ≡ entries.old.items) }
 {
     match entries.last() {
@@ -36,21 +35,6 @@ pub(crate) fn remove_deeper(entries: &mut Vec<Entry>, newest: &mut Vec<Option<us
 {
     while let Some(entry) = pop_deeper(entries, depth) {
         newest[entry.name] = entry.hidden;
-    }
-}
-
-// Takes out the newest entry, if `depth` blocks or more are open round it: its name means again what it meant before.
-pub(crate) fn remove_newest(entries: &mut Vec<Entry>, newest: &mut Vec<Option<usize>>, depth: usize)
-    requires within { IsWithin (length newest.old.items) (reverse entries.old.items) }
-    requires linked { IsLinked (reverse entries.old.items) }
-    requires indexed { IsIndexed newest.old.items (reverse entries.old.items) }
-    ensures entries { reverse entries.new.items ≡ without_first depth (reverse entries.old.items) }
-    ensures indexed { IsIndexed newest.new.items (reverse entries.new.items) }
-    ensures room { length newest.new.items ≡ length newest.old.items }
-{
-    match pop_deeper(entries, depth) {
-        Some(entry) => newest[entry.name] = entry.hidden,
-        None => {}
     }
 }
 
@@ -153,20 +137,15 @@ pub(crate) fn newest_entry(entries: &[Entry], newest: Option<usize>) -> Option<&
 }
 
 // What the first entry that is seen means, from `newest` on along the hidden ones.
-pub(crate) fn find_seen<'a>(
-    entries: &'a [Entry],
-    newest: Option<usize>,
-    sight: Sight,
-    unbound: &[u32],
-) -> Option<&'a Meaning>
+pub(crate) fn find_seen(entries: &[Entry], newest: Option<usize>, sight: Sight) -> Option<&Meaning>
     requires linked { IsLinked (reverse entries.now) }
     requires within { ForSome newest (λ place. place < length entries.now) }
-    ensures value { FindsNewest (is_seen sight unbound.now) newest (reverse entries.now) (option_copied result) }
+    ensures value { FindsNewest (sees sight) newest (reverse entries.now) (option_copied result) }
 {
     let mut at = newest;
     while let Some(place) = at {
         let entry = &entries[place];
-        if is_seen(sight, unbound, entry.depth, entry.what) {
+        if sight.sees(entry.depth, entry.what) {
             return Some(&entry.what);
         }
         at = entry.hidden;

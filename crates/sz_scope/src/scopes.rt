@@ -1,13 +1,11 @@
 //! The open blocks with their declarations.
 ghost use Rattle.std.specs.Prelude.{◌≡◌, ◌+◌, ◌-◌, ◌^◌, ◌<◌, ◌↔◌, [], ◌∷◌, drop, length, nat_lt, IsTrue, IsErr, Err, IfOk, OnOk, OnErr};
 ghost use Rattle.std.specs.Option.{option_copied};
-ghost use Rattle.sz_scope.specs.Blocks.{found, is_declared, with_declared, without_newest};
+ghost use Rattle.sz_scope.specs.Blocks.{found, is_declared, with_declared};
 ghost use Rattle.sz_scope.specs.Sight.{seen_blocks};
 
 use crate::NoMemory;
-use crate::chain::{
-    find_seen, is_twice, newest_entry, place_for, push_entry, remove_deeper, remove_newest,
-};
+use crate::chain::{find_seen, is_twice, newest_entry, place_for, push_entry, remove_deeper};
 use crate::entry::Entry;
 use crate::error::ScopeError;
 use crate::meaning::Meaning;
@@ -125,16 +123,6 @@ impl Scopes {
         Ok(())
     }
 
-    /// Takes the newest declaration of the innermost block back. Nothing changes where the innermost block declares nothing, or no
-    /// block is open.
-    pub fn undeclare(&mut self)
-        ensures value { self.new ≡ without_newest self.old }
-    {
-        if self.depth > 0 {
-            remove_newest(&mut self.entries, &mut self.newest, self.depth - 1);
-        }
-    }
-
     /// What a name means where everything is seen: what it means in the innermost block that has it. None where no block has it.
     pub fn find(&self, name: &str) -> Option<&Meaning>
         ensures value { option_copied result ≡ found name.now self.now }
@@ -144,11 +132,11 @@ impl Scopes {
     }
 
     /// What a name means at a place from where not everything is seen: a name that isn't seen counts as absent from its block,
-    /// and the search goes on outward. `unbound` has the numbers of the quantified variables that aren't bound there.
-    pub fn find_seen(&self, name: &str, sight: Sight, unbound: &[u32]) -> Option<&Meaning>
-        ensures value { option_copied result ≡ found name.now (seen_blocks sight unbound.now self.now) }
+    /// and the search goes on outward.
+    pub fn find_seen(&self, name: &str, sight: Sight) -> Option<&Meaning>
+        ensures value { option_copied result ≡ found name.now (seen_blocks sight self.now) }
     {
         let name = self.names.find(name)?;
-        find_seen(self.entries.as_slice(), self.newest[name], sight, unbound)
+        find_seen(self.entries.as_slice(), self.newest[name], sight)
     }
 }

@@ -1,6 +1,6 @@
 //! What of the names is seen at a place.
 ghost use Rattle.std.specs.Prelude.{◌≡◌};
-ghost use Rattle.sz_scope.specs.Sight.{is_seen, is_of_record, sees};
+ghost use Rattle.sz_scope.specs.Sight.{is_of_record, sees};
 
 use crate::meaning::Meaning;
 
@@ -17,7 +17,7 @@ pub enum Sight {
 
 impl Sight {
     // Whether a meaning is seen, in a block round which `depth` blocks are open.
-    fn sees(self, depth: usize, what: Meaning) -> bool
+    pub(crate) fn sees(self, depth: usize, what: Meaning) -> bool
         ensures value { result ≡ sees self depth what }
     {
         match self {
@@ -38,15 +38,5 @@ fn is_of_record(what: Meaning) -> bool
     match what {
         Meaning::Var(_) | Meaning::Quantified(_) | Meaning::Input => true,
         _ => false,
-    }
-}
-
-// Whether a meaning is seen, in a block round which `depth` blocks are open, while these quantified variables aren't bound.
-pub(crate) fn is_seen(sight: Sight, unbound: &[u32], depth: usize, what: Meaning) -> bool
-    ensures value { result ≡ is_seen sight unbound.now depth what }
-{
-    match what {
-        Meaning::Quantified(number) if unbound.contains(&number) => false,
-        _ => sight.sees(depth, what),
     }
 }

@@ -1,7 +1,6 @@
 -- Sums that grow number by number.
 use Rattle.std.proofs.Common.{◌≡◌, ◌∙◌, ℕ, zero, suc, ◌+◌, ◌<◌, ◌≤◌, ℤ, pos, ◌+ℤ◌, List, [], ◌∷◌, length, take, get_or, refl, sym, ap, subst, arith}
 use Rattle.std.specs.Prelude.{slice_index_or}
-use Rattle.std.proofs.lemmas.List.{take_all}
 use Rattle.sz_tabs.specs.Bounds.{IsWithin, AreWithin, added_at}
 use Rattle.sz_tabs.specs.Rows.{plus}
 use Rattle.sz_tabs.proofs.ForCallers.{plus_nothing}
@@ -27,11 +26,6 @@ length_kept [] [] le = refl
 length_kept [] (n ∷ ns) le = absurd (omega (arith, le))
 length_kept (m ∷ ms) [] le = refl
 length_kept (m ∷ ms) (n ∷ ns) le = let more = length_kept ms ns (omega (arith, le)) in omega (arith, more)
-
-pub place_kept : (k : ℕ) (n : ℤ) (ms : List ℤ) → k < length ms → length (added_at k n ms) ≡ length ms
-place_kept k n [] there = absurd (omega (arith, there))
-place_kept zero n (m ∷ ms) there = refl
-place_kept (suc k) n (m ∷ ms) there = let more = place_kept k n ms (omega (arith, there)) in omega (arith, more)
 
 pub length_first : (ms ns : List ℤ) → length ms ≤ length (plus ms ns)
 length_first [] ns = omega arith
@@ -81,6 +75,3 @@ module _ (first now more : List ℤ) (count : ℕ) (room : length more ≤ lengt
       → AreWithin a (added_at count n now)
   grown_next_within a n there is within fits =
       subst (AreWithin a) (sym (grown_next n there is)) (partial a first more (count + 1) within fits room)
-
-  pub grown_all : length more ≤ count → now ≡ plus first more
-  grown_all all = h.is ∙ ap (plus first) (take_all count more all)

@@ -3,12 +3,11 @@ use Rattle.std.proofs.Common.{◌≡◌, ◌∙◌, ℕ, zero, suc, ◌+◌, ◌
 use Rattle.std.proofs.lemmas.Int.{ints}
 use Rattle.std.proofs.lemmas.List.{length-append, map-append}
 use Rattle.sz_types.specs.Tables.{Declaration}
-use Rattle.sz_types.specs.declared.table.TableKind.{TableKind}
 use Rattle.sz_types.specs.declared.table.TableKind.TheVariants.{Sum}
 use Rattle.sz_value.specs.Data.{Datum}
 use Rattle.sz_tabs.specs.Data.{Weighted, Shown, RowDatum, sums}
 use Rattle.sz_tabs.specs.Bounds.{IsWithin, AreWithin}
-use Rattle.sz_tabs.specs.Aggregating.{StandsFor, IsNew, Gains, Joins}
+use Rattle.sz_tabs.specs.Aggregating.{StandsFor, Gains, Joins}
 use Rattle.sz_tabs.specs.Rows.{plus, components_of, values_of, sums_of, sum_rows, rows_by, rows_of}
 use Rattle.sz_tabs.proofs.ForCallers.{within_plus, plus_comm, sums_of_one_more, sums_of_both}
 use Rattle.sz_sum.specs.Data.{Summed, rows_of_sum, width}
@@ -48,17 +47,6 @@ kept_new table numbers kind are = record {
   wide = ap length are ∙ length_zeros (width table.element);
   few = omega arith;
   within = subst (AreWithin 0) (sym are) (zeros_within 0 (width table.element));
-}
-
--- no emits have no rows in a table of sums
-no_rows_of : (table : Declaration) (kind : TableKind) → table.kind ≡ kind → kind ≡ Sum → rows_of table [] ≡ []
-no_rows_of table kind is sum = ap (λ k. rows_by k table.limit []) (is ∙ sum)
-
-pub sum_is_new : (table : Declaration) (numbers : List ℤ) → table.kind ≡ Sum
-    → IsNew declaration_of count_of rows_of_sum table (record { table = table; count = 0; numbers = numbers })
-sum_is_new table numbers kind = record {
-  declared = refl;
-  empty = record { rows = sym (no_rows_of table table.kind refl kind); counted = refl };
 }
 
 -- one emit more, and the emits of both sides

@@ -2,7 +2,7 @@
 use Rattle.std.proofs.Common.{◌≡◌, ◌∙◌, ℕ, zero, suc, ◌+◌, ◌*◌, ◌^◌, ◌<◌, ◌≤◌, ℤ, pos, negsuc, ◌+ℤ◌, List, [], ◌∷◌, ◌++◌, map, length, take, get_or, set, refl, sym, ap, subst, arith, SFits, to_z, of_z}
 use mir.Syntax.{w128}
 use Rattle.std.proofs.lemmas.Int.{ints, to_z-of_z}
-use Rattle.std.proofs.lemmas.List.{take_more, take_all, length-map, length-take, map-append}
+use Rattle.std.proofs.lemmas.List.{take_more, length-map, length-take, map-append}
 use Rattle.sz_value.specs.Data.{Datum, data_of, parts_of}
 use Rattle.sz_value.specs.Seen.{seen}
 use Rattle.sz_value.specs.declared.value.Value.{Value}
@@ -152,12 +152,6 @@ added_more first now next parts count part n there is number fits added h =
       upto = omega arith;
     }
 
-pub added_all : (first now : List ℤ) (parts : List Value) (count : ℕ) → length parts ≤ count → IsAdded first now parts count
-    → (now ≡ plus first (numbers_of parts)) × AreWithin (2 ^ 63) (numbers_of parts)
-added_all first now parts count all h =
-    let whole = ap numbers_of (take_all count parts all) in
-    (h.is ∙ ap (plus first) whole, subst (AreWithin (2 ^ 63)) whole h.fit)
-
 -- the sums with one value more
 pub sums_of_one_more : (vs : List Datum) (v : Datum) → sums_of (vs ++ v ∷ []) ≡ plus (sums_of vs) (components_of v)
 sums_of_one_more [] v = plus_nothing (components_of v)
@@ -167,9 +161,6 @@ sums_of_one_more (u ∷ vs) v = ap (plus (components_of u)) (sums_of_one_more vs
 pub record IsSummed (sums : List ℤ) (kept : List Kept) (count : ℕ) : Type 0 where
   pub is : sums ≡ sums_of (values_of (map seen_kept (take count kept)))
   pub within : AreWithin (2 ^ 63 * count) sums
-
-pub summed_none : (kept : List Kept) → IsSummed [] kept 0
-summed_none kept = record { is = refl; within = tt }
 
 pub summed_within : (sums : List ℤ) (kept : List Kept) (count : ℕ) → count < 2 ^ 63 → IsSummed sums kept count → AreWithin (2 ^ 126) sums
 summed_within sums kept count few h = within_further (2 ^ 63 * count) (2 ^ 126) sums (omega arith) h.within
@@ -189,7 +180,3 @@ summed_more sums next kept count one there is added fits h =
           ∙ sym (sums_of_one_more (values_of (map seen_kept so_far)) (seen one.value)) ∙ ap sums_of (sym behind);
       within = subst (λ most. AreWithin most next) wide (subst (AreWithin (2 ^ 63 * count + 2 ^ 63)) (sym added) within);
     }
-
-pub summed_all : (sums : List ℤ) (kept : List Kept) (count : ℕ) → length kept ≤ count → IsSummed sums kept count
-    → sums ≡ sums_of (values_of (map seen_kept kept))
-summed_all sums kept count all h = h.is ∙ ap (λ l. sums_of (values_of (map seen_kept l))) (take_all count kept all)

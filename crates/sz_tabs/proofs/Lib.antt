@@ -7,3 +7,4 @@ pub mod AddingLemmas
 pub mod JoiningLemmas
 pub mod TestLemmas
 pub mod StandardFacts
+pub mod CallLemmas

@@ -15,7 +15,7 @@ use Rattle.sz_value.specs.Seen.{seen}
 use Rattle.sz_value.specs.Total.{compare_total}
 use Rattle.sz_value.specs.declared.value.Value.{Value}
 use Rattle.sz_tabs.specs.Data.{Weighted, RowDatum}
-use Rattle.sz_tabs.specs.Aggregating.{IsNew, Gains, Joins}
+use Rattle.sz_tabs.specs.Aggregating.{Gains, Joins}
 use Rattle.sz_tabs.specs.Listing.{Listing}
 use Rattle.sz_tabs.specs.Sorting.{sorted, distinct}
 use Rattle.sz_tabs.specs.Rows.{least_first, greatest_first, value_row, overflow_row, set_rows, rows_of}
@@ -89,9 +89,6 @@ plain_count a = length a.emits
 
 abbrev plain_shown : Listing → List RowDatum
 plain_shown a = rows_of a.table a.emits
-
-pub plain_is_new : (table : Declaration) → IsNew plain_declaration plain_count plain_shown table (record { table = table; emits = [] })
-plain_is_new table = record { declared = refl; empty = record { rows = refl; counted = refl } }
 
 module _ (old new : Listing) (same : new.table ≡ old.table) where
   pub plain_gains : (emit : Weighted) → new.emits ≡ old.emits ++ emit ∷ [] → Gains plain_declaration plain_count plain_shown old new emit

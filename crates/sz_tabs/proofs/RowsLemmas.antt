@@ -1,7 +1,7 @@
 -- Laws of the rows of emits.
-use Rattle.std.proofs.Common.{◌≡◌, ◌∙◌, ℕ, zero, suc, ◌+ℤ◌, ℤ, Option, Some, None, List, [], ◌∷◌, ◌++◌, map, take, refl, sym, ap, arith, true, false, cond, Ordering, Less, Equal, Greater, is_eq, int_cmp, true≢false, le-ltb, IsPermutation}
+use Rattle.std.proofs.Common.{◌≡◌, ◌∙◌, ℕ, zero, suc, ◌+ℤ◌, ℤ, Option, Some, None, List, [], ◌∷◌, ◌++◌, map, take, refl, sym, ap, arith, true, false, cond, Ordering, Equal, is_eq, int_cmp, true≢false, le-ltb, IsPermutation}
 use Rattle.std.specs.Option.{option_cmp}
-use Rattle.std.specs.Ordering.{ordering_then, flip_args}
+use Rattle.std.specs.Ordering.{flip_args}
 use Rattle.std.specs.Cmp.{IsTotalOrder, int_cmp_total, then_total, on_total, back_total, signed_Decides}
 use Rattle.std.specs.Cmp.Lexicographic.{options_total}
 use Rattle.std.proofs.lemmas.Int.{ints}
@@ -13,7 +13,7 @@ use Rattle.sz_types.specs.declared.table.TableKind.{TableKind}
 use Rattle.sz_types.specs.declared.table.TableKind.TheVariants.{Sum, Maximum, Minimum, Set, Collection}
 use Rattle.sz_value.specs.Data.{Datum}
 use Rattle.sz_value.specs.Order.{compare}
-use Rattle.sz_value.specs.Total.{compare_total, compare_ties}
+use Rattle.sz_value.specs.Total.{compare_total, compare_ties, both_equal}
 use Rattle.sz_tabs.specs.Data.{EmitDatum, Weighted, sums, RowDatum}
 use Rattle.sz_tabs.specs.Sorting.{sorted, distinct}
 use Rattle.sz_tabs.specs.Rows.{went_to, brought_by, brought_to, values_of, components_of, plus, sums_of, least_first, greatest_first, value_row, weighted_row, sum_rows, set_rows, rows_by, rows_of}
@@ -27,11 +27,6 @@ least_total = then_total (on_total (λ (w : Weighted). w.weight) (options_total 
 pub greatest_total : IsTotalOrder greatest_first
 greatest_total =
     then_total (on_total (λ (w : Weighted). w.weight) (back_total (options_total int_cmp_total))) (on_total (λ (w : Weighted). w.value) compare_total)
-
-both_equal : (a b : Ordering) → ordering_then a b ≡ Equal → (a ≡ Equal) × (b ≡ Equal)
-both_equal Less b tied = absurd (true≢false (sym (ap is_eq tied)))
-both_equal Equal b tied = (refl, tied)
-both_equal Greater b tied = absurd (true≢false (sym (ap is_eq tied)))
 
 weights_tie : (v w : Option ℤ) → option_cmp int_cmp v w ≡ Equal → v ≡ w
 weights_tie None None tied = refl

@@ -56,7 +56,7 @@ module _ {X : Type 0} {cmp : X → X → Ordering} (total : IsTotalOrder cmp) wh
   all_weaker P Q f [] all = tt
   all_weaker P Q f (x ∷ xs) all = (f x all.0, all_weaker P Q f xs all.1)
 
-  all_inserted : (P : X → Type 0) (x : X) (ys : List X) → P x → AllByRecursion P ys → AllByRecursion P (inserted cmp x ys)
+  pub all_inserted : (P : X → Type 0) (x : X) (ys : List X) → P x → AllByRecursion P ys → AllByRecursion P (inserted cmp x ys)
   all_inserted P x [] h all = (h, tt)
   all_inserted P x (y ∷ ys) h all =
       cond_both (is_gt (cmp x y)) (y ∷ inserted cmp x ys) (x ∷ y ∷ ys) (AllByRecursion P) (λ above. (all.0, all_inserted P x ys h all.1)) (λ below. (h, all))

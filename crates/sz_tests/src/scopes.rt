@@ -1,7 +1,5 @@
 //! What names mean while blocks are opened and closed, step by step.
-use crate::scopes::Step::{
-    Close, Declare, Depth, Means, Nothing, Open, Seen, TakeBack, Twice, Unseen,
-};
+use crate::scopes::Step::{Close, Declare, Depth, Means, Nothing, Open, Seen, Twice, Unseen};
 use std::alloc::Global;
 use std::test::Fail;
 use sz_scope::{Meaning, ScopeError, Scopes, Sight};
@@ -15,13 +13,12 @@ enum Step {
     Declare(&'static str, Meaning),
     // A name that the innermost block has is refused.
     Twice(&'static str),
-    TakeBack,
     Depth(usize),
     Means(&'static str, Meaning),
     // The name is nowhere.
     Nothing(&'static str),
-    // What a name means from a place, where the quantified variables 0 and this one aren't bound.
-    Seen(&'static str, Sight, u32, Meaning),
+    // What a name means from a place.
+    Seen(&'static str, Sight, Meaning),
     Unseen(&'static str, Sight),
 }
 
@@ -66,46 +63,23 @@ const A_NAME_THAT_IS_NOT_SEEN_IS_LOOKED_FOR_OUTSIDE: &[Step] = &[
     Open,
     Declare("x", Meaning::Quantified(8)),
     Declare("len", Meaning::Var(9)),
-    Seen("x", Sight::Record, 9, Meaning::Quantified(8)),
-    Seen("x", Sight::Record, 8, Meaning::Table(3)),
-    Seen(
-        "x",
-        Sight::Function { outside: 2 },
-        9,
-        Meaning::Quantified(8),
-    ),
-    Seen("x", Sight::Function { outside: 3 }, 9, Meaning::Table(3)),
+    Seen("x", Sight::Record, Meaning::Quantified(8)),
+    Seen("x", Sight::Function { outside: 2 }, Meaning::Quantified(8)),
+    Seen("x", Sight::Function { outside: 3 }, Meaning::Table(3)),
     Unseen("x", Sight::Static),
-    Seen("len", Sight::Record, 9, Meaning::Var(9)),
-    Seen("len", Sight::Function { outside: 2 }, 9, Meaning::Var(9)),
-    Seen(
-        "len",
-        Sight::Function { outside: 3 },
-        9,
-        Meaning::Builtin(2),
-    ),
-    Seen("len", Sight::Static, 9, Meaning::Builtin(2)),
-    Seen("y", Sight::Static, 9, Meaning::Static(4)),
-];
-
-const A_DECLARATION_IS_TAKEN_BACK: &[Step] = &[
-    TakeBack,
-    Nothing("y"),
-    Means("x", Meaning::Table(3)),
-    TakeBack,
-    Means("x", Meaning::Var(1)),
-    TakeBack,
-    Means("x", Meaning::Var(1)),
-    Depth(2),
+    Seen("len", Sight::Record, Meaning::Var(9)),
+    Seen("len", Sight::Function { outside: 2 }, Meaning::Var(9)),
+    Seen("len", Sight::Function { outside: 3 }, Meaning::Builtin(2)),
+    Seen("len", Sight::Static, Meaning::Builtin(2)),
+    Seen("y", Sight::Static, Meaning::Static(4)),
 ];
 
 // The steps behind a call, so that no proof sees them: those of each run, behind the first two blocks.
-fn runs() -> [&'static [Step]; 4] {
+fn runs() -> [&'static [Step]; 3] {
     [
         AN_INNER_BLOCK_HIDES_A_NAME_UNTIL_IT_IS_CLOSED,
         A_NAME_IS_DECLARED_ONCE_IN_A_BLOCK,
         A_NAME_THAT_IS_NOT_SEEN_IS_LOOKED_FOR_OUTSIDE,
-        A_DECLARATION_IS_TAKEN_BACK,
     ]
 }
 
@@ -128,17 +102,11 @@ fn goes(scopes: &mut Scopes, step: &Step) -> bool {
         Step::Close(was_open) => scopes.pop() == *was_open,
         Step::Declare(name, what) => declared(scopes, name, *what).is_ok(),
         Step::Twice(name) => declared(scopes, name, Meaning::Input) == Err(ScopeError::Twice),
-        Step::TakeBack => {
-            scopes.undeclare();
-            true
-        }
         Step::Depth(depth) => scopes.depth() == *depth,
         Step::Means(name, what) => scopes.find(name).copied() == Some(*what),
         Step::Nothing(name) => scopes.find(name).is_none(),
-        Step::Seen(name, sight, unbound, what) => {
-            scopes.find_seen(name, *sight, &[0, *unbound]).copied() == Some(*what)
-        }
-        Step::Unseen(name, sight) => scopes.find_seen(name, *sight, &[]).is_none(),
+        Step::Seen(name, sight, what) => scopes.find_seen(name, *sight).copied() == Some(*what),
+        Step::Unseen(name, sight) => scopes.find_seen(name, *sight).is_none(),
     }
 }
 

@@ -6,9 +6,7 @@ use std::cmp::Ordering;
 use std::hash::{DefaultHasher, Hash, Hasher};
 use std::test::Fail;
 use std::thread::Builder;
-use sz_value::{
-    List, NoMemory, Pairs, Slot, Slots, Text, Value, copy, copy_slot, equal, order, weight,
-};
+use sz_value::{List, NoMemory, Pairs, Slot, Slots, Text, Value, copy, equal, order, weight};
 
 // Each value is less than all behind it.
 const ASCENDING: &[Given] = &[
@@ -228,7 +226,7 @@ fn slots_hold_values_and_none(rt: HostRuntime) -> Result<(), Fail> {
     let alloc = rt.alloc();
     let mut slots = Slots::with_capacity(alloc, 1)?;
     for given in [Nothing, Int(3)] {
-        slots.push(copy_slot(alloc, &slot_of(alloc, given)?)?)?;
+        slots.push(slot_of(alloc, given)?)?;
     }
     assert!(rt; matches!(slots.pop(), Some(Slot::Defined(Value::Int(3)))));
     assert!(rt; matches!(slots.pop(), Some(Slot::Undefined)));

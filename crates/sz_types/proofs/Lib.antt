@@ -3,3 +3,5 @@ pub mod SeenLemmas
 pub mod SameLemmas
 pub mod AlikeLemmas
 pub mod ConversionLemmas
+pub mod NumeralLemmas
+pub mod ListLemmas

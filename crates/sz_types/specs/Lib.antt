@@ -3,6 +3,7 @@ pub mod Data
 pub mod Seen
 pub mod Same
 pub mod Conversions
+pub mod Numerals
 pub mod Rows
 pub mod Tables
 pub mod SeenTables

@@ -1,5 +1,5 @@
 -- Which types operators, places, predeclared functions and conversions take, and which type each gives: a row for each.
-use Rattle.std.specs.Prelude.{Bool, true, false, Option, Some, None, if◌then◌else◌, List, [], ◌∷◌}
+use Rattle.std.specs.Prelude.{ℕ, Bool, true, false, Option, Some, None, if◌then◌else◌, List, [], ◌∷◌}
 use Rattle.sz_types.specs.Data.{Shape, truth, int, time, str, bytes, array, mapping, proto}
 use Rattle.sz_types.specs.Same.{alike}
 use Rattle.sz_types.specs.Conversions.{converts_to}
@@ -110,3 +110,10 @@ builtin_row _ _ = None
 abbrev pub convert_row : Shape → Shape → Option Shape
 convert_row bytes (proto _) = None
 convert_row from to = if converts_to from to then Some to else None
+
+-- how many arguments a predeclared function takes
+abbrev pub arity : Builtin → ℕ
+arity Len = 1
+arity Keys = 1
+arity HasKey = 2
+arity StrFind = 2

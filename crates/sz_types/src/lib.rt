@@ -8,6 +8,7 @@ mod encoding;
 mod fields;
 mod frame;
 mod laws;
+mod numerals;
 mod operator;
 mod place;
 mod table;
@@ -24,6 +25,7 @@ pub use frame::Frame;
 pub use laws::{
     a_type_converts_to_itself, alike_is_an_equivalence, alike_is_equal, conversions_are_the_table,
 };
+pub use numerals::digits_up_to;
 pub use operator::{BinOp, Builtin, UnOp};
 pub use place::Place;
 /// There was no memory: the one answer of each call that takes memory which no clause speaks of.

@@ -125,7 +125,8 @@ int_ties m n tied = (signed_Decides m n).0 (ap is_eq tied)
 letters_tie : (s t : List ℕ) → slice_cmp nat_cmp s t ≡ Equal → s ≡ t
 letters_tie s t tied = (bytes_decides s t).0 (texts_ties s t ∙ ap is_eq tied)
 
-both_equal : (a b : Ordering) → ordering_then a b ≡ Equal → (a ≡ Equal) × (b ≡ Equal)
+-- what is told apart by neither of two orders
+pub both_equal : (a b : Ordering) → ordering_then a b ≡ Equal → (a ≡ Equal) × (b ≡ Equal)
 both_equal Less b tied = absurd (true≢false (sym (ap is_eq tied)))
 both_equal Equal b tied = (refl, tied)
 both_equal Greater b tied = absurd (true≢false (sym (ap is_eq tied)))

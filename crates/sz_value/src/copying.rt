@@ -1,10 +1,9 @@
-//! Copies of values and slots.
+//! Copies of values.
 ghost use Rattle.std.specs.Prelude.{◌≡◌, IfOk};
-ghost use Rattle.sz_value.specs.Seen.{seen, seen_pair, seen_slot};
+ghost use Rattle.sz_value.specs.Seen.{seen, seen_pair};
 
 use crate::NoMemory;
 use crate::octets::Octets;
-use crate::slots::Slot;
 use crate::value::{List, Pair, Pairs, Value};
 use std::alloc::Global;
 
@@ -57,14 +56,4 @@ fn copy_pair(alloc: Global, pair: &Pair) -> Result<Pair, NoMemory>
     let key = copy(alloc, &pair.key)?;
     let value = copy(alloc, &pair.value)?;
     Ok(Pair { key, value })
-}
-
-/// A copy of the slot.
-pub fn copy_slot(alloc: Global, slot: &Slot) -> Result<Slot, NoMemory>
-    ensures value { IfOk result (λ made. seen_slot made ≡ seen_slot slot.now) }
-{
-    match slot {
-        Slot::Defined(value) => Ok(Slot::Defined(copy(alloc, value)?)),
-        Slot::Undefined => Ok(Slot::Undefined),
-    }
 }

@@ -14,7 +14,7 @@ mod text;
 mod value;
 mod weighing;
 
-pub use copying::{copy, copy_list, copy_pairs, copy_slot};
+pub use copying::{copy, copy_list, copy_pairs};
 pub use laws::{
     a_pair_sets_its_key, compounds_compare_by_parts, compounds_weigh_their_parts, order_is_total,
     ties_are_equal,

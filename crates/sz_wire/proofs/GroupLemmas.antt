@@ -14,9 +14,6 @@ pub record IsInGroup (bytes : List ℕ) (levels number at place : ℕ) : Type 0 
   pub ends : (turns : ℕ) → length bytes - at ≤ turns
       → (left : ℕ) × (length bytes - place ≤ left) × (group_end left levels number (drop place bytes) ≡ group_end turns levels number (drop at bytes))
 
-pub begins_group : (bytes : List ℕ) (levels number at : ℕ) → IsInGroup bytes levels number at at
-begins_group bytes levels number at = record { later = omega arith; ends = λ turns le. (turns, le, refl) }
-
 -- no key, no end
 no_key : (left levels number : ℕ) (bytes : List ℕ) → key_at bytes ≡ None → group_end left levels number bytes ≡ None
 unfolding group_end

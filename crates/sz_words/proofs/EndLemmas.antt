@@ -1,7 +1,7 @@
 -- All words whose dashes fit: the walk has no fault exactly where they have parts, and ends with these.
 use Rattle.std.proofs.Common.{◌≡◌, ℕ, List, [], ◌∷◌, length, take, drop, arith, Bool, true, false, true≢false, refl, ap, sym}
 use Rattle.std.proofs.Common.{◌∙◌, subst, Option, Some, None}
-use Rattle.std.specs.Prelude.{bytes_eq, codes, fold, if◌then◌else◌, not, ◌&&◌, ◌||◌}
+use Rattle.std.specs.Prelude.{bytes_eq, codes, fold, if◌then◌else◌, not, ◌||◌}
 use Rattle.std.specs.List.{list_any, before_first, after_first, position_or_len}
 use Rattle.std.proofs.lemmas.List.{take_all}
 use Rattle.clap.specs.Walk.{Held, Text, Waiting, Walk, idle, nothing_held}
@@ -59,11 +59,6 @@ pub or_is_false : (a b : Bool) → (a || b) ≡ false → (a ≡ false) × (b �
 or_is_false false false e = (refl, refl)
 or_is_false false true e = absurd (true≢false e)
 or_is_false true b e = absurd (true≢false e)
-
-pub and_is_true : (a b : Bool) → (a && b) ≡ true → (a ≡ true) × (b ≡ true)
-and_is_true true true e = (refl, refl)
-and_is_true true false e = absurd (true≢false (sym e))
-and_is_true false b e = absurd (true≢false (sym e))
 
 pub undashed : (word : Text) (words : List Text) → dashes_fit true (word ∷ words) ≡ true → (is_dashed word ≡ false) × (dashes_fit false words ≡ true)
 undashed word words fit = go (is_dashed word) refl

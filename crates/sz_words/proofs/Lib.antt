@@ -4,7 +4,6 @@ pub mod EndLemmas
 pub mod FoundLemmas
 pub mod ListLemmas
 pub mod MatchLemmas
-pub mod NumberLemmas
 pub mod RowLemmas
 pub mod RuleLemmas
 pub mod StepLemmas

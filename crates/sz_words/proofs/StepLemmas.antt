@@ -89,10 +89,6 @@ pub to_name : (held : Held) (word : Text) (b : Bool)
 to_name held word true = refl
 to_name held word false = refl
 
-pub or_false : (b : Bool) → (b || false) ≡ b
-or_false true = refl
-or_false false = refl
-
 pub name_walked : (held : Held) (q : Waiting) (ended : Bool) (word : Text) → is_quiet q ≡ true → (ended || is_name word) ≡ true
     → walked rules [] (at held q ended) word ≡ at (name_held word held) positional ended
 unfolding walked

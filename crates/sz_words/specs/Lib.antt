@@ -1,7 +1,9 @@
-pub mod Asked
-pub mod Dashes
+-- what the public contracts rest on
+pub mod Texts
 pub mod Lists
-pub mod Matches
 pub mod Parts
 pub mod Settings
-pub mod Texts
+-- what the functions inside the crate promise each other
+pub mod Dashes
+pub mod Asked
+pub mod Matches

@@ -1,9 +1,8 @@
 //! The numbers that words write.
-ghost use Rattle.std.specs.Prelude.{◌≡◌, ◌≤◌, ◌<◌, ◌^◌, ◌+◌, ◌*◌, ◌&&◌, IsTrue, nat_le, Some, None, if◌then◌else◌};
-ghost use Rattle.std.specs.Prelude.{IfSome, length};
-ghost use Rattle.std.specs.Char.{is_ascii_digit, digit_value};
-ghost use Rattle.std.specs.Str.Parse.{digits_value};
-ghost use Rattle.sz_words.specs.Texts.{number_in, is_numeral};
+ghost use Rattle.std.specs.Prelude.{◌≡◌};
+ghost use Rattle.sz_words.specs.Texts.{number_in};
+
+use sz_types::digits_up_to;
 
 /// The number that a text writes: 1 to 20 decimal digits with a value from `least` to `most`. Zeros may stand in front.
 pub fn number_in(text: &[u8], least: u64, most: u64) -> Option<u64>
@@ -26,32 +25,4 @@ pub fn small_number_in(text: &[u8], least: u32, most: u32) -> Option<u32>
         Some(value) => Some(value as u32),
         None => None,
     }
-}
-
-// The number that the text writes, if it is all digits, at least one, and the number is at most `most`.
-fn digits_up_to(text: &[u8], most: u64) -> Option<u64>
-    ensures value { result ≡ (if is_numeral text.now && nat_le (digits_value 10 text.now) most
-        then Some (digits_value 10 text.now) else None) }
-{
-    if text.is_empty() {
-        return None;
-    }
-    let mut value = 0u64;
-    for byte in text {
-        if !byte.is_ascii_digit() {
-            return None;
-        }
-        value = appended(value, *byte, most)?;
-    }
-    Some(value)
-}
-
-// The number that is written by the digits of `value` and one digit more, if it is at most `most`.
-fn appended(value: u64, digit: u8, most: u64) -> Option<u64>
-    requires { IsTrue (is_ascii_digit digit) }
-    ensures value { result ≡ (if nat_le (value * 10 + digit_value digit) most
-        then Some (value * 10 + digit_value digit) else None) }
-{
-    let next = value.checked_mul(10)?.checked_add(u64::from(digit - b'0'))?;
-    if next <= most { Some(next) } else { None }
 }

@@ -163,10 +163,14 @@ fault_ends job round place k number fault less end none =
 pub died_dies : (job : Job) (round : Round) (place k j : ℕ) → IsEndOf job round place k (answers.Died j) → Dies job (shards_of round) place k
 died_dies job round place k j end = record { shard = end.0; there = end.1; dies = ap dies_at end.2 }
 
-pub fault_faults : (job : Job) (round : Round) (place k number : ℕ) (fault : SeenFault) → IsEndOf job round place k (answers.Fault number fault)
-    → Faults job (shards_of round) place
-fault_faults job round place k number fault end =
-    record { shard = end.0; there = end.1; faults = ap is_clean (faults_means job end.0 k number (seen_fault fault) end.2) }
+pub fault_faults : (job : Job) (round : Round) (place k number : ℕ) (fault : SeenFault) → k < job.attempts
+    → IsEndOf job round place k (answers.Fault number fault) → Faults job (shards_of round) place
+fault_faults job round place k number fault less end = record {
+  shard = end.0;
+  there = end.1;
+  alive = not_all job end.0 job.attempts k less (ap dies_at end.2);
+  faults = ap is_clean (faults_means job end.0 k number (seen_fault fault) end.2);
+}
 
 -- all attempts of the shard at a place died that have a number below this one
 abbrev pub AllDied : Job → Round → ℕ → ℕ → Type 0

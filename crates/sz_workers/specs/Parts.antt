@@ -52,10 +52,11 @@ module _ (job : Job) (shards : List ShardData) where
     pub there : slice_get shards s ≡ Some shard
     pub dies : dies_at (end_of job shard k) ≡ true
 
-  -- a record of the shard at a place faults
+  -- a record of the shard at a place faults, and the shard isn't lost
   pub record Faults (s : ℕ) : Type 0 where
     pub shard : ShardData
     pub there : slice_get shards s ≡ Some shard
+    pub alive : is_lost job shard ≡ false
     pub faults : HasFault (shard_means job shard)
 
 -- what a function gives for each item of a list, one behind the other

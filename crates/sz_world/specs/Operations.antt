@@ -5,7 +5,6 @@ use Rattle.sz_types.specs.Data.{Shape}
 use Rattle.sz_types.specs.declared.operator.UnOp.{UnOp}
 use Rattle.sz_types.specs.declared.operator.BinOp.{BinOp}
 use Rattle.sz_types.specs.declared.operator.Builtin.{Builtin}
-use Rattle.sz_types.specs.declared.operator.Builtin.TheVariants.{Len, Keys, HasKey, StrFind}
 use Rattle.sz_value.specs.Data.{Datum, truth, int, bytes, array, tuple, mapping, data_of, entries_of, parts_of}
 use Rattle.sz_value.specs.Maps.{with_pair}
 use Rattle.sz_builtin.specs.Operators.{unary, binary}
@@ -48,13 +47,6 @@ part_of n x = option_and_then (part_at n) x
 -- whether a slot is defined
 abbrev pub definedness : Slot → Slot
 definedness x = Some (truth (is_some x))
-
--- how many arguments a predeclared function takes
-abbrev pub arity : Builtin → ℕ
-arity Len = 1
-arity Keys = 1
-arity HasKey = 2
-arity StrFind = 2
 
 -- what a value becomes by a conversion to a type: bytes that become a message are decoded
 abbrev pub became : Shape → Datum → Option Datum

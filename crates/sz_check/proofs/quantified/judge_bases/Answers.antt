@@ -4,7 +4,8 @@ use Rattle.std.proofs.lemmas.Result.{err_from_is_err_and}
 use Rattle.sz_quant.specs.Seen.{bound_of}
 use Rattle.sz_core.specs.View.{quantified_of}
 use Rattle.sz_known.specs.Holding.{blocks_of}
-use Rattle.sz_known.proofs.TurnLemmas.{rest_more, rest_none, map_push}
+use Rattle.sz_known.proofs.TurnLemmas.{map_push}
+use Rattle.sz_types.proofs.ForCallers.{rest_more, rest_none}
 use Rattle.sz_check.specs.Quantified.{variable_of, based_of}
 use Rattle.sz_check.proofs.WhenLemmas.{stops_as, bases_go, bases_fail, bases_lack, bases_end}
 use Rattle.sz_check.proofs.quantified.judge_bases.Goals as goal

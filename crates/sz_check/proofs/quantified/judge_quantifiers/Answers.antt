@@ -1,7 +1,7 @@
 use Rattle.std.proofs.Common.{◌∙◌, arith}
 use Rattle.std.proofs.lemmas.Result.{err_from_is_err_and}
 use Rattle.sz_tree.specs.View.{quantifier_of}
-use Rattle.sz_known.proofs.TurnLemmas.{rest_more, rest_none}
+use Rattle.sz_types.proofs.ForCallers.{rest_more, rest_none}
 use Rattle.sz_check.specs.Quantified.{declared_of}
 use Rattle.sz_check.proofs.FoldLemmas.{quantifiers_go, fold_fails, fold_goes, fold_ends}
 use Rattle.sz_check.proofs.quantified.judge_quantifiers.Goals as goal

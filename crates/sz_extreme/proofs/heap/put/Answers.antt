@@ -2,7 +2,8 @@
 use Rattle.std.proofs.Common.{◌++◌, ◌∷◌, [], ◌+◌, ◌<◌, ◌≤◌, map, arith}
 use Rattle.std.specs.BinaryHeap.{heap_items}
 use Rattle.sz_extreme.specs.Ranks.{seen_rank}
-use Rattle.sz_extreme.proofs.HeapLemmas.{ranks, one_more, held_of_held, surely}
+use Rattle.sz_extreme.proofs.HeapLemmas.{ranks, one_more, held_of_held}
+use Rattle.sz_tabs.proofs.ForCallers.{surely}
 use Rattle.sz_extreme.proofs.heap.put.Goals as goal
 
 pub returns : goal.returns

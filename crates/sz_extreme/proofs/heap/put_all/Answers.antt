@@ -1,7 +1,8 @@
 -- What is put is trimmed.
 use Rattle.std.proofs.Common.{◌++◌, ◌∷◌, [], ◌+◌, ◌<◌, ◌≤◌, map, arith}
 use Rattle.std.specs.BinaryHeap.{heap_items}
-use Rattle.sz_extreme.proofs.HeapLemmas.{ranks, all_more, held_of_held, surely}
+use Rattle.sz_extreme.proofs.HeapLemmas.{ranks, all_more, held_of_held}
+use Rattle.sz_tabs.proofs.ForCallers.{surely}
 use Rattle.sz_extreme.proofs.heap.put_all.Goals as goal
 
 pub returns : goal.returns

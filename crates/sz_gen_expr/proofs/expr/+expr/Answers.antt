@@ -13,7 +13,8 @@ use Rattle.sz_gen_expr.specs.Tables.{line}
 use Rattle.sz_gen_expr.specs.ExpressionCode.{conversion, count_of, pair_count_of}
 use Rattle.sz_gen_expr.specs.Named.{HasTarget}
 use Rattle.sz_gen_expr.specs.Building.{Appends, AppendsLine, AppendsNode, AppendsNodes, AppendsPairings, Nothing}
-use Rattle.sz_gen_expr.proofs.Builds.{none, behind, closes, closed_by, three_behind, of_form, decides, test_within, rest_more, rest_none}
+use Rattle.sz_gen_expr.proofs.Builds.{none, behind, closes, closed_by, three_behind, of_form, decides, test_within}
+use Rattle.sz_types.proofs.ForCallers.{rest_more, rest_none}
 use Rattle.sz_gen_expr.proofs.expr.+expr.Goals as goal
 
 -- ---- the loops

@@ -3,7 +3,8 @@ use Rattle.std.proofs.Common.{◌+◌, ◌<◌, length, map, drop, sym, subst, a
 use Rattle.std.proofs.lemmas.Result.{on_ok_weaker}
 use Rattle.sz_core.specs.View.{node_of, quantified_of}
 use Rattle.sz_gen_expr.specs.ExpressionCode.{expression_code}
-use Rattle.sz_gen_expr.proofs.Builds.{behind, renamed, no_more, rest_more, rest_none}
+use Rattle.sz_gen_expr.proofs.Builds.{behind, renamed, no_more}
+use Rattle.sz_types.proofs.ForCallers.{rest_more, rest_none}
 use Rattle.sz_gen_stmt.specs.StatementCode.{variable_code_of}
 use Rattle.sz_gen_stmt.specs.SearchCode.{holds_code}
 use Rattle.sz_gen_stmt.specs.Making.{AppendsHolds}

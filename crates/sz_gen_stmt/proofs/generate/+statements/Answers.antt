@@ -9,7 +9,8 @@ use Rattle.sz_core.specs.Nodes.{nodes_of}
 use Rattle.sz_core.specs.Statements.{store, emit, stms_of}
 use Rattle.sz_core.specs.View.{node_of, step_of, quantity_of, quantified_of, stm_of}
 use Rattle.sz_core.proofs.ForCallers.{stm_of_block}
-use Rattle.sz_gen_expr.proofs.Builds.{none, behind, renamed, no_more, closed_by, rest_more, rest_none}
+use Rattle.sz_gen_expr.proofs.Builds.{none, behind, renamed, no_more, closed_by}
+use Rattle.sz_types.proofs.ForCallers.{rest_more, rest_none}
 use Rattle.sz_gen_expr.specs.ExpressionCode.{expression_code}
 use Rattle.sz_gen_stmt.specs.StatementCode.{test_code, in_search, variable_code_of, statement_code}
 use Rattle.sz_gen_stmt.specs.SearchCode.{search_code}

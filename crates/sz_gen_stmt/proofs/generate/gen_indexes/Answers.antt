@@ -1,7 +1,8 @@
 use Rattle.std.proofs.Common.{◌∙◌, ◌∷◌, ◌+◌, sym, ap, subst, map, drop}
 use Rattle.sz_core.specs.declared.stmt.CoreStep.{CoreStep}
 use Rattle.sz_core.specs.View.{step_of}
-use Rattle.sz_gen_expr.proofs.Builds.{none, behind, rest_more, rest_none}
+use Rattle.sz_gen_expr.proofs.Builds.{none, behind}
+use Rattle.sz_types.proofs.ForCallers.{rest_more, rest_none}
 use Rattle.sz_gen_stmt.specs.Making.{AppendsIndexes}
 use Rattle.sz_gen_stmt.proofs.generate.gen_indexes.Goals as goal
 

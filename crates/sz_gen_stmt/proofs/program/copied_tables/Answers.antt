@@ -3,7 +3,7 @@ use Rattle.sz_types.specs.SeenTables.{seen_table}
 use Rattle.sz_core.specs.declared.program.Item.{Item}
 use Rattle.sz_core.specs.Programs.{tables_of}
 use Rattle.sz_core.specs.View.{item_of}
-use Rattle.sz_gen_expr.proofs.Builds.{rest_more, rest_none}
+use Rattle.sz_types.proofs.ForCallers.{rest_more, rest_none}
 use Rattle.sz_gen_stmt.proofs.Made.{no_table}
 use Rattle.sz_gen_stmt.proofs.program.copied_tables.Goals as goal
 

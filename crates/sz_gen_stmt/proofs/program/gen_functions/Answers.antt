@@ -1,7 +1,7 @@
 use Rattle.std.proofs.Common.{◌∙◌, ◌∷◌, ◌+◌, sym, ap, subst, map, drop}
 use Rattle.sz_core.specs.declared.program.Item.{Item}
 use Rattle.sz_core.specs.View.{item_of, function_of}
-use Rattle.sz_gen_expr.proofs.Builds.{rest_more, rest_none}
+use Rattle.sz_types.proofs.ForCallers.{rest_more, rest_none}
 use Rattle.sz_core.specs.Programs.{functions_of}
 use Rattle.sz_gen_stmt.specs.Making.{ExtendsFunctions}
 use Rattle.sz_gen_stmt.proofs.Made.{extends_none, function_before, no_function}

@@ -1,7 +1,8 @@
 use Rattle.std.proofs.Common.{◌∙◌, ◌∷◌, ◌+◌, sym, ap, subst, map, drop}
 use Rattle.sz_core.specs.declared.program.Item.{Item}
 use Rattle.sz_core.specs.View.{item_of}
-use Rattle.sz_gen_expr.proofs.Builds.{none, behind, rest_more, rest_none}
+use Rattle.sz_gen_expr.proofs.Builds.{none, behind}
+use Rattle.sz_types.proofs.ForCallers.{rest_more, rest_none}
 use Rattle.sz_core.specs.Statements.{stms_of}
 use Rattle.sz_core.specs.Programs.{statements_of}
 use Rattle.sz_gen_stmt.specs.StatementCode.{no_exits}

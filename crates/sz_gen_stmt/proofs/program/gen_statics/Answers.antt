@@ -1,7 +1,7 @@
 use Rattle.std.proofs.Common.{◌∙◌, ◌∷◌, ◌+◌, length, sym, ap, subst, map, drop}
 use Rattle.sz_core.specs.declared.program.Item.{Item}
 use Rattle.sz_core.specs.View.{item_of, static_of}
-use Rattle.sz_gen_expr.proofs.Builds.{rest_more, rest_none}
+use Rattle.sz_types.proofs.ForCallers.{rest_more, rest_none}
 use Rattle.sz_core.specs.Programs.{statics_of}
 use Rattle.sz_gen_stmt.specs.Making.{ExtendsStatics}
 use Rattle.sz_gen_stmt.proofs.Made.{extends_none, static_before, no_static}

@@ -6,7 +6,7 @@ use Rattle.indexmap.specs.IndexMap.{spare}
 use Rattle.sz_types.specs.SeenTables.{seen_table}
 use Rattle.sz_value.specs.Seen.{seen}
 use Rattle.sz_members.specs.Repeats.{value_eq, is_full}
-use Rattle.sz_members.proofs.RepeatsLemmas.{surely}
+use Rattle.sz_tabs.proofs.ForCallers.{surely}
 use Rattle.sz_members.proofs.MembersLemmas.{gains_again, gains_new, gains_full}
 use Rattle.sz_members.proofs.counting.put.Goals as goal
 use Rattle.sz_members.proofs.counting.put.Goals.{then-count_again-via-then-count_again, then-count_again-via-else-count_again+then-is_full}

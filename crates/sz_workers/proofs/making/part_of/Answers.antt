@@ -14,7 +14,8 @@ pub returns-in-Fault-clause-missed : goal.returns-in-Fault-clause-missed
 returns-in-Fault-clause-missed g c =
     let job = g.N.RoundName.job in
     let round = g.N.RoundName.round in
-    fault_faults job round c.args.place c.args.number _ _ (subst (IsEndOf job round c.args.place c.args.number) c.in-Fault.is c.requires.end)
+    fault_faults job round c.args.place c.args.number _ _ c.requires.number
+    (subst (IsEndOf job round c.args.place c.args.number) c.in-Fault.is c.requires.end)
 
 pub returns-in-Died-clause-missed : goal.returns-in-Died-clause-missed
 returns-in-Died-clause-missed g c =

@@ -12,7 +12,7 @@ pub returns-in_err-found : goal.returns-in_err-found
 returns-in_err-found c =
     let k = c.self.inside in
     let asked = c.in_err-found.ensures.value
-    ∙ (λ i. found ((c.as_str.ensures.value ∙ c.text.ensures.value) i) (seen_blocks (c.sight_for-sight.ensures.value i) [] k.scopes)) in
+    ∙ (λ i. found ((c.as_str.ensures.value ∙ c.text.ensures.value) i) (seen_blocks (c.sight_for-sight.ensures.value i) k.scopes)) in
     record {
       value = ap maybe_means_of c.from_residual.ensures
           ∙ find_is k.types k.meanings.items c.args.name.now.text k.locals c.args.site k.scopes k.sight c.self.invariant _ asked
@@ -34,7 +34,7 @@ pub returns-in-Some : goal.returns-in-Some
 returns-in-Some c =
     let k = c.self.inside in
     let asked = c.in_ok-found.ensures.value
-    ∙ (λ i. found ((c.as_str.ensures.value ∙ c.text.ensures.value) i) (seen_blocks (c.sight_for-sight.ensures.value i) [] k.scopes)) in
+    ∙ (λ i. found ((c.as_str.ensures.value ∙ c.text.ensures.value) i) (seen_blocks (c.sight_for-sight.ensures.value i) k.scopes)) in
     let h = found_placed k.types k.meanings.items c.as_str.result.now c.sight_for-sight.result k.scopes k.sight c.self.invariant
     c.in_ok-found.found.now c.in_ok-found.ensures.value in
     let placed = sym c.place_of.ensures.value ∙ c.in-Some.is in
@@ -54,7 +54,7 @@ pub returns-in-None : goal.returns-in-None
 returns-in-None c =
     let k = c.self.inside in
     let asked = c.in_ok-found.ensures.value
-    ∙ (λ i. found ((c.as_str.ensures.value ∙ c.text.ensures.value) i) (seen_blocks (c.sight_for-sight.ensures.value i) [] k.scopes)) in
+    ∙ (λ i. found ((c.as_str.ensures.value ∙ c.text.ensures.value) i) (seen_blocks (c.sight_for-sight.ensures.value i) k.scopes)) in
     record {
       value = ap (λ m. Some m) (record_means k.types k.meanings.items c.in_ok-found.found.now (sym c.place_of.ensures.value ∙ c.in-None.is))
           ∙ find_is k.types k.meanings.items c.args.name.now.text k.locals c.args.site k.scopes k.sight c.self.invariant _ asked

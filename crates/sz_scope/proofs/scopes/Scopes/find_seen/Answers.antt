@@ -1,17 +1,16 @@
 use Rattle.std.proofs.Common.{ap, ◌∙◌, option_map, rules}
 use Rattle.sz_scope.specs.Blocks.{found}
-use Rattle.sz_scope.specs.Sight.{is_seen, seen_blocks}
+use Rattle.sz_scope.specs.Sight.{sees, seen_blocks}
 use Rattle.sz_scope.proofs.LookupLemmas.{lookup, looked_up, not_found, place_known}
 use Rattle.sz_scope.proofs.scopes.Scopes.find_seen.Goals as goal
 
 -- a name without a place isn't found
 pub returns-in_err-name : goal.returns-in_err-name
 returns-in_err-name c =
-    let sees = is_seen c.args.sight c.args.unbound.now in
     record {
       value = ap (option_map (λ x. x.now)) c.from_residual.ensures
-          ∙ not_found c.self.inside.entries.items c.args.name.now sees c.self.invariant (c.in_err-name.ensures.value)
-          ∙ ap (λ blocks. found c.args.name.now (seen_blocks c.args.sight c.args.unbound.now blocks)) c.self.view_is;
+          ∙ not_found c.self.inside.entries.items c.args.name.now (sees c.args.sight) c.self.invariant (c.in_err-name.ensures.value)
+          ∙ ap (λ blocks. found c.args.name.now (seen_blocks c.args.sight blocks)) c.self.view_is;
     }
 
 -- one with a place has its newest entry there
@@ -26,10 +25,9 @@ find_seen-requires-clause-within c =
 
 pub returns : goal.returns
 returns c =
-    let sees = is_seen c.args.sight c.args.unbound.now in
     let look = lookup c.self.inside.entries.items c.args.name.now c.self.invariant (c.in_ok-name.ensures.value) c.index.ensures c.as_slice.ensures.value in
     record {
       value = c.find_seen.ensures.value c.in_ok-name.name look.latest
-          ∙ looked_up c.self.inside.entries.items c.args.name.now sees c.self.invariant (c.in_ok-name.ensures.value) look
-          ∙ ap (λ blocks. found c.args.name.now (seen_blocks c.args.sight c.args.unbound.now blocks)) c.self.view_is;
+          ∙ looked_up c.self.inside.entries.items c.args.name.now (sees c.args.sight) c.self.invariant (c.in_ok-name.ensures.value) look
+          ∙ ap (λ blocks. found c.args.name.now (seen_blocks c.args.sight blocks)) c.self.view_is;
     }

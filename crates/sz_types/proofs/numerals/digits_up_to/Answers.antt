@@ -1,7 +1,7 @@
 -- Where one more digit is refused, the text is.
 use Rattle.std.proofs.Common.{◌∙◌}
-use Rattle.sz_words.proofs.NumberLemmas.{refused}
-use Rattle.sz_words.proofs.numbers.digits_up_to.Goals as goal
+use Rattle.sz_types.proofs.NumeralLemmas.{refused}
+use Rattle.sz_types.proofs.numerals.digits_up_to.Goals as goal
 
 pub returns-in_err-value : goal.returns-in_err-value
 returns-in_err-value c =

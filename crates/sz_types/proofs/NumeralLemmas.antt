@@ -4,7 +4,7 @@ use Rattle.std.proofs.Common.{nat_le, Bool, true, false, ◌&&◌, if◌then◌e
 use Rattle.std.specs.List.{list_all}
 use Rattle.std.specs.Char.{is_ascii_digit, digit_value}
 use Rattle.std.specs.Str.Parse.{digits_value, digits_value_after}
-use Rattle.sz_builtin.specs.Conversions.{is_numeral}
+use Rattle.sz_types.specs.Numerals.{is_numeral}
 use Rattle.std.proofs.lemmas.List.{at_drop_more}
 use Rattle.std.proofs.lemmas.Grind.{common_steps}
 use Rattle.std.proofs.lemmas.Bool.Decides.{nat_tests}
