@@ -14,11 +14,11 @@ use Rattle.sz_tree.specs.declared.stmt.Stmt.{Stmt}
 use Rattle.sz_tree.specs.Expressions.{call, list, mapping, exps_of, pairs_of}
 use Rattle.sz_tree.specs.Statements.{StepForm, at_index, at_field, FirstForm, first_declare, first_define, first_simple, Stm, block, declare, define, stms_of}
 use Rattle.sz_tree.specs.View.{tree_of, pair_of, step_of, stm_of}
-use Rattle.sz_check.specs.EmittingTrees.{calls, exp_emits, exps_emit, pairs_emit, steps_emit, stm_emits, stms_emit, hidden_behind}
-use Rattle.sz_check.specs.EmittingTrees.{hidden_behind_first}
+use Rattle.sz_judge.specs.EmittingTrees.{calls, exp_emits, exps_emit, pairs_emit, steps_emit, stm_emits, stms_emit, hidden_behind}
+use Rattle.sz_judge.specs.EmittingTrees.{hidden_behind_first}
 use Rattle.sz_check.specs.Hidden.{hidden_of}
 use Rattle.sz_types.proofs.ForCallers.{rest_more, rest_none}
-use Rattle.sz_check.proofs.TruthLemmas.{or_false, or_assoc}
+use Rattle.sz_judge.proofs.TruthLemmas.{or_false, or_assoc}
 
 module _ (emits : List ℕ → Bool) (h : List (List ℕ)) where
   pub exps_turn : (es : List Expr) (i : ℕ) (e : Expr) → i < length es → e ≡ get_or es i e

@@ -1,19 +1,3 @@
-mod SceneLemmas
-mod BoundLemmas
-mod WhenSound
-mod PathLemmas
-mod StatementLemmas
-mod StatementSound
-mod ItemLemmas
-mod TopLemmas
-mod ItemSound
-mod ExpressionEmits
-mod HiddenLemmas
-mod StatementEmits
-mod FunctionEmits
-mod FunctionSound
-mod ProgramSound
-mod StandardFacts
 mod StatementParts
 mod StatementLoops
 mod FoldLemmas
@@ -22,4 +6,3 @@ mod FunctionLemmas
 mod ProgramLemmas
 mod EmitLemmas
 mod TableLemmas
-mod TruthLemmas

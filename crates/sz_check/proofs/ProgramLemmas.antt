@@ -14,8 +14,8 @@ use Rattle.sz_tree.specs.Statements.{stms_of}
 use Rattle.sz_tree.specs.View.{stm_of, param_of, type_of}
 use Rattle.sz_tree.proofs.RowLemmas.{stm_of_function}
 use Rattle.sz_core.specs.Programs.{Item}
-use Rattle.sz_known.specs.Refusals.{Judged, ◌>>=◌}
-use Rattle.sz_check.specs.JudgingPrograms.{TopScene, Found, judge_function, judge_top, judge_all}
+use Rattle.sz_judge.specs.Refusals.{Judged, ◌>>=◌}
+use Rattle.sz_judge.specs.JudgingPrograms.{TopScene, Found, judge_function, judge_top, judge_all}
 use Rattle.sz_check.specs.Top.{with_items}
 use Rattle.sz_known.specs.Outcome.{Stops}
 use Rattle.sz_known.specs.declared.error.CheckError.{CheckError}

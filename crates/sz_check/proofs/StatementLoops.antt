@@ -13,15 +13,15 @@ use Rattle.sz_tree.specs.Types.{params_of}
 use Rattle.sz_tree.specs.View.{step_of, stm_of, param_of, type_of}
 use Rattle.sz_core.specs.Statements.{Stm, with_stm}
 use Rattle.sz_core.specs.Statements as core
-use Rattle.sz_known.specs.Refusals.{Judged, ◌>>=◌}
-use Rattle.sz_known.specs.Names as names
-use Rattle.sz_known.specs.JudgingTypes.{judge_type}
-use Rattle.sz_check_expr.specs.JudgingParts.{field_in}
-use Rattle.sz_known.specs.Scene.{Scene, with_variable}
-use Rattle.sz_check.specs.Scenes.{Behind, AllBehind, judge}
-use Rattle.sz_check.specs.JudgingStatements.{Around, judge_stm, judge_stms}
-use Rattle.sz_check.specs.JudgingPaths.{Target, stepped, indexed, judge_steps}
-use Rattle.sz_check.specs.JudgingPrograms.{judge_parameters}
+use Rattle.sz_judge.specs.Refusals.{Judged, ◌>>=◌}
+use Rattle.sz_judge.specs.Names as names
+use Rattle.sz_judge.specs.JudgingTypes.{judge_type}
+use Rattle.sz_judge.specs.JudgingParts.{field_in}
+use Rattle.sz_judge.specs.Scene.{Scene, with_variable}
+use Rattle.sz_judge.specs.Scenes.{Behind, AllBehind, judge}
+use Rattle.sz_judge.specs.JudgingStatements.{Around, judge_stm, judge_stms}
+use Rattle.sz_judge.specs.JudgingPaths.{Target, stepped, indexed, judge_steps}
+use Rattle.sz_judge.specs.JudgingPrograms.{judge_parameters}
 use Rattle.sz_known.specs.Turns.{behind, put_all}
 use Rattle.sz_check.specs.Targets.{judge_step}
 use Rattle.sz_check.specs.Behind.{in_front}

@@ -11,16 +11,16 @@ use Rattle.sz_tree.specs.Types.{Typ, Params}
 use Rattle.sz_core.specs.Nodes.{Node, Nodes}
 use Rattle.sz_core.specs.Statements.{Stm, Stms, stms_of}
 use Rattle.sz_core.specs.Statements as core
-use Rattle.sz_known.specs.Refusals.{Judged, ◌>>=◌, unless, wrong_weight, misplaced}
-use Rattle.sz_known.specs.Names.{look_up, Meaning}
-use Rattle.sz_check_expr.specs.Agreeing.{in_turn, agree, agrees, counted}
-use Rattle.sz_check_expr.specs.JudgingExpressions.{judge_exps}
-use Rattle.sz_check_expr.specs.JudgingOperators.{test}
-use Rattle.sz_known.specs.Scene.{Scene, opened}
-use Rattle.sz_check.specs.Scenes.{Behind, AllBehind, judge, judge_if_some, closed}
-use Rattle.sz_check.specs.JudgingStatements.{Around, in_block, in_loop, judge_stm, judge_stms}
-use Rattle.sz_check.specs.JudgingSimple.{Numbered, judge_first, judge_between, test_if_some, table_named, weight_agrees}
-use Rattle.sz_check.specs.JudgingSimple.{judge_definition, judge_simple, judge_return, done, judge_emit, same_presence}
+use Rattle.sz_judge.specs.Refusals.{Judged, ◌>>=◌, unless, wrong_weight, misplaced}
+use Rattle.sz_judge.specs.Names.{look_up, Meaning}
+use Rattle.sz_judge.specs.Agreeing.{in_turn, agree, agrees, counted}
+use Rattle.sz_judge.specs.JudgingExpressions.{judge_exps}
+use Rattle.sz_judge.specs.JudgingOperators.{test}
+use Rattle.sz_judge.specs.Scene.{Scene, opened}
+use Rattle.sz_judge.specs.Scenes.{Behind, AllBehind, judge, judge_if_some, closed}
+use Rattle.sz_judge.specs.JudgingStatements.{Around, in_block, in_loop, judge_stm, judge_stms}
+use Rattle.sz_judge.specs.JudgingSimple.{Numbered, judge_first, judge_between, test_if_some, table_named, weight_agrees}
+use Rattle.sz_judge.specs.JudgingSimple.{judge_definition, judge_simple, judge_return, done, judge_emit, same_presence}
 use Rattle.sz_known.specs.Outcome.{Stops, Judges}
 use Rattle.sz_known.specs.declared.error.CheckError.{CheckError}
 use Rattle.sz_known.proofs.TurnLemmas.{stops_then, goes_on}

@@ -11,10 +11,10 @@ use Rattle.sz_tree.specs.declared.stmt.Elem.{Elem}
 use Rattle.sz_tree.specs.Names.{Ident}
 use Rattle.sz_tree.specs.View.{elem_of, type_of}
 use Rattle.sz_core.specs.WellFormed.{kind_allows, has_sum, has_no_weight}
-use Rattle.sz_known.specs.Refusals.{Judged, ◌>>=◌, bad_table}
-use Rattle.sz_known.specs.Names.{Block}
-use Rattle.sz_known.specs.JudgingTypes.{judge_type}
-use Rattle.sz_check.specs.JudgingPrograms.{judge_elems, declaration_of}
+use Rattle.sz_judge.specs.Refusals.{Judged, ◌>>=◌, bad_table}
+use Rattle.sz_judge.specs.Names.{Block}
+use Rattle.sz_judge.specs.JudgingTypes.{judge_type}
+use Rattle.sz_judge.specs.JudgingPrograms.{judge_elems, declaration_of}
 use Rattle.sz_known.specs.Turns.{behind, put_all}
 use Rattle.sz_check.specs.Tabling.{with_type}
 use Rattle.sz_known.specs.Outcome.{Stops}

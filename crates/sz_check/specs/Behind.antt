@@ -20,16 +20,16 @@ use Rattle.sz_core.specs.declared.stmt.CoreStmt.{CoreStmt}
 use Rattle.sz_core.specs.View.{stm_of, node_of}
 use Rattle.sz_check.specs.declared.emitted.Parts.{Parts}
 use Rattle.sz_check.specs.declared.stmt.Around.{Around as Standing}
-use Rattle.sz_known.specs.Refusals.{Judged, ◌>>=◌, unless, wrong_weight}
-use Rattle.sz_known.specs.Names.{look_up}
-use Rattle.sz_check_expr.specs.Agreeing.{in_turn, agree, agrees, counted}
-use Rattle.sz_check_expr.specs.JudgingExpressions.{judge_exps}
-use Rattle.sz_check_expr.specs.JudgingOperators.{test}
-use Rattle.sz_known.specs.Scene.{Scene, opened}
-use Rattle.sz_check.specs.Scenes.{Behind, AllBehind, judge, judge_if_some, closed}
-use Rattle.sz_check.specs.JudgingSimple.{Numbered, judge_first, judge_between, test_if_some, table_named, weight_agrees, same_presence, done}
-use Rattle.sz_check.specs.JudgingStatements.{Around, in_block, in_loop, out_of_loops, judge_stm}
-use Rattle.sz_check.specs.Quantifying.{Variable, in_bound}
+use Rattle.sz_judge.specs.Refusals.{Judged, ◌>>=◌, unless, wrong_weight}
+use Rattle.sz_judge.specs.Names.{look_up}
+use Rattle.sz_judge.specs.Agreeing.{in_turn, agree, agrees, counted}
+use Rattle.sz_judge.specs.JudgingExpressions.{judge_exps}
+use Rattle.sz_judge.specs.JudgingOperators.{test}
+use Rattle.sz_judge.specs.Scene.{Scene, opened}
+use Rattle.sz_judge.specs.Scenes.{Behind, AllBehind, judge, judge_if_some, closed}
+use Rattle.sz_judge.specs.JudgingSimple.{Numbered, judge_first, judge_between, test_if_some, table_named, weight_agrees, same_presence, done}
+use Rattle.sz_judge.specs.JudgingStatements.{Around, in_block, in_loop, out_of_loops, judge_stm}
+use Rattle.sz_judge.specs.Quantifying.{Variable, in_bound}
 use Rattle.sz_check_expr.specs.Asking.{asked_of}
 use Rattle.sz_known.specs.Holding.{Held, scene_of}
 

@@ -3,7 +3,7 @@ ghost use Rattle.std.specs.Prelude.{◌≡◌};
 ghost use Rattle.std.specs.Option.{option_map};
 ghost use Rattle.sz_tree.specs.Statements.{declare};
 ghost use Rattle.sz_tree.specs.View.{tree_of, type_of};
-ghost use Rattle.sz_check.specs.JudgingStatements.{Around, judge_stm};
+ghost use Rattle.sz_judge.specs.JudgingStatements.{Around, judge_stm};
 ghost use Rattle.sz_known.specs.Holding.{scene_of};
 ghost use Rattle.sz_check.specs.Behind.{behind_of};
 ghost use Rattle.sz_known.specs.Outcome.{Judges};
@@ -15,7 +15,7 @@ use sz_known::{CheckError, Known};
 use sz_tree::{Expr, Name, TypeTree};
 
 // `name: type;`, or `name: type = e;`, wherever it stands.
-#[tactic(auto, unfolding(crate::specs::JudgingStatements::judge_stm))]
+#[tactic(auto, unfolding(sz_judge::specs::JudgingStatements::judge_stm))]
 pub fn judge_declared(
     alloc: Global,
     known: &mut Known,

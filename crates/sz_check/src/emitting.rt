@@ -4,11 +4,11 @@ ghost use Rattle.std.specs.Option.{option_map};
 ghost use Rattle.sz_tree.specs.Expressions.{exps_of, pairs_of};
 ghost use Rattle.sz_tree.specs.Statements.{stms_of, when, for_loop};
 ghost use Rattle.sz_tree.specs.View.{tree_of, pair_of, step_of, simple_of, first_of, quantifier_of, stm_of};
-ghost use Rattle.sz_known.specs.Refusals.{has_name};
+ghost use Rattle.sz_judge.specs.Refusals.{has_name};
 ghost use Rattle.sz_known.specs.Holding.{blocks_of, maybe_means_of};
-ghost use Rattle.sz_check.specs.EmittingTrees.{means_emitting, emits_by, is_seen_inside, texts_of, quantified_names, calls, exp_emits, exps_emit};
-ghost use Rattle.sz_check.specs.EmittingTrees.{pairs_emit, part_emits, steps_emit, simple_emits, between_emits, first_emits, hidden_behind_first};
-ghost use Rattle.sz_check.specs.EmittingTrees.{hidden_behind, stm_emits, stms_emit, for_emits, when_emits};
+ghost use Rattle.sz_judge.specs.EmittingTrees.{means_emitting, emits_by, is_seen_inside, texts_of, quantified_names, calls, exp_emits, exps_emit};
+ghost use Rattle.sz_judge.specs.EmittingTrees.{pairs_emit, part_emits, steps_emit, simple_emits, between_emits, first_emits, hidden_behind_first};
+ghost use Rattle.sz_judge.specs.EmittingTrees.{hidden_behind, stm_emits, stms_emit, for_emits, when_emits};
 ghost use Rattle.sz_check.specs.Hidden.{hidden_of};
 
 use std::alloc::{AllocError, Global};
@@ -46,7 +46,7 @@ fn calls(known: &Known, hidden: &[&Name], name: &Name) -> bool
 
 // Whether evaluating the expression can emit.
 #[cycle(emits)]
-#[tactic(auto, unfolding(crate::specs::EmittingTrees::exp_emits), using(sz_tree::proofs::RowLemmas::tree_of_call, sz_tree::proofs::RowLemmas::tree_of_list, sz_tree::proofs::RowLemmas::tree_of_map))]
+#[tactic(auto, unfolding(sz_judge::specs::EmittingTrees::exp_emits), using(sz_tree::proofs::RowLemmas::tree_of_call, sz_tree::proofs::RowLemmas::tree_of_list, sz_tree::proofs::RowLemmas::tree_of_map))]
 fn exp_emits(known: &Known, hidden: &[&Name], tree: &Expr) -> bool
     ensures value { result ≡ exp_emits (emits_by (blocks_of known.now)) (hidden_of hidden.now) (tree_of tree.now) }
 {
@@ -109,7 +109,7 @@ fn part_emits(known: &Known, hidden: &[&Name], tree: &Option<Expr>) -> bool
 }
 
 // Whether a step is by an index that can emit.
-#[tactic(auto, unfolding(crate::specs::EmittingTrees::steps_emit))]
+#[tactic(auto, unfolding(sz_judge::specs::EmittingTrees::steps_emit))]
 fn step_emits(known: &Known, hidden: &[&Name], step: &Step) -> bool
     ensures value { result ≡ steps_emit (emits_by (blocks_of known.now)) (hidden_of hidden.now) (step_of step.now ∷ []) }
 {
@@ -228,7 +228,7 @@ fn hide_quantified<'t>(
 
 // Whether the statement can emit. A variable that it declares is hidden behind it.
 #[cycle(stm_emits)]
-#[tactic(auto, unfolding(crate::specs::EmittingTrees::stm_emits), using(sz_tree::proofs::RowLemmas::stm_of_block))]
+#[tactic(auto, unfolding(sz_judge::specs::EmittingTrees::stm_emits), using(sz_tree::proofs::RowLemmas::stm_of_block))]
 fn stm_emits<'t>(
     known: &Known,
     hidden: &mut Vec<&'t Name>,

@@ -5,7 +5,6 @@ mod declared;
 mod emitted;
 mod emitting;
 mod function;
-mod laws;
 mod program;
 mod quantified;
 mod simple;
@@ -14,6 +13,5 @@ mod table;
 mod target;
 mod top;
 
-pub use laws::{a_small_program_is_judged, judged_programs_are_sound};
 pub use program::check;
 pub use sz_known::CheckError;

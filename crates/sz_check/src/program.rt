@@ -3,7 +3,7 @@ ghost use Rattle.std.specs.Prelude.{◌≡◌, ◌++◌, IfOk, map as each, None
 ghost use Rattle.sz_tree.specs.Statements.{stms_of};
 ghost use Rattle.sz_tree.specs.View.{tree_of, type_of, stm_of, program_of};
 ghost use Rattle.sz_core.specs.View.{item_of};
-ghost use Rattle.sz_check.specs.JudgingPrograms.{judge_static, judge_typedef, judge_statement, judge_top, judge_all, known_at_first, judge_program};
+ghost use Rattle.sz_judge.specs.JudgingPrograms.{judge_static, judge_typedef, judge_statement, judge_top, judge_all, known_at_first, judge_program};
 ghost use Rattle.sz_check.specs.Top.{found_all, found_one, found_with, items_in, top_of, core_seen};
 ghost use Rattle.sz_known.specs.Outcome.{Judges};
 

@@ -8,8 +8,8 @@ ghost use Rattle.sz_core.specs.Sound.{candidate_type};
 ghost use Rattle.sz_core.specs.View.{quantity_of, quantified_of};
 ghost use Rattle.sz_known.specs.Holding.{blocks_of, outside_of, scene_of};
 ghost use Rattle.sz_known.specs.Outcome.{Judges};
-ghost use Rattle.sz_check.specs.Quantifying.{judge_names, judge_quantifier, judge_quantifiers, none_declared, judge_front, bind, bind_inside, judge_bound};
-ghost use Rattle.sz_check.specs.Quantifying.{names_of, all_bounded, may_follow, all_last, are_of, checked, judge_base, judge_bases, quantify};
+ghost use Rattle.sz_judge.specs.Quantifying.{judge_names, judge_quantifier, judge_quantifiers, none_declared, judge_front, bind, bind_inside, judge_bound};
+ghost use Rattle.sz_judge.specs.Quantifying.{names_of, all_bounded, may_follow, all_last, are_of, checked, judge_base, judge_bases, quantify};
 ghost use Rattle.sz_check.specs.Quantified.{variable_of, declared_of, front_of, based_of};
 
 use crate::emitting::is_seen_inside;

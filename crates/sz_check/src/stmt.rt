@@ -5,7 +5,7 @@ ghost use Rattle.sz_tree.specs.Statements.{stms_of, block, if_only, while, do_wh
 ghost use Rattle.sz_tree.specs.View.{tree_of, stm_of, simple_of, first_of, quantifier_of};
 ghost use Rattle.sz_core.specs.Statements.{block as core_block, stms_of as core_stms_of};
 ghost use Rattle.sz_core.specs.View.{node_of, stm_of as core_stm_of};
-ghost use Rattle.sz_check.specs.JudgingStatements.{judge_stm, judge_stms};
+ghost use Rattle.sz_judge.specs.JudgingStatements.{judge_stm, judge_stms};
 ghost use Rattle.sz_known.specs.Holding.{scene_of};
 ghost use Rattle.sz_check.specs.Behind.{behind_of, all_behind_of, around_of, branch_of, judge_inside, judge_else, judge_turns, judge_for, judge_bound_body};
 ghost use Rattle.sz_check.specs.Quantified.{variable_of};
@@ -160,7 +160,7 @@ fn judge_inside(
 }
 
 #[cycle(stmt)]
-#[tactic(auto, unfolding(crate::specs::JudgingStatements::judge_stm))]
+#[tactic(auto, unfolding(sz_judge::specs::JudgingStatements::judge_stm))]
 fn judge_block(
     alloc: Global,
     known: &mut Known,
@@ -240,7 +240,7 @@ fn judge_else(
 }
 
 #[cycle(stmt)]
-#[tactic(auto, unfolding(crate::specs::JudgingStatements::judge_stm))]
+#[tactic(auto, unfolding(sz_judge::specs::JudgingStatements::judge_stm))]
 fn judge_while(
     alloc: Global,
     known: &mut Known,
@@ -260,7 +260,7 @@ fn judge_while(
 }
 
 #[cycle(stmt)]
-#[tactic(auto, unfolding(crate::specs::JudgingStatements::judge_stm))]
+#[tactic(auto, unfolding(sz_judge::specs::JudgingStatements::judge_stm))]
 fn judge_do_while(
     alloc: Global,
     known: &mut Known,
@@ -357,7 +357,7 @@ fn judge_bound_body(
 }
 
 #[cycle(stmt)]
-#[tactic(auto, unfolding(crate::specs::JudgingStatements::judge_stm))]
+#[tactic(auto, unfolding(sz_judge::specs::JudgingStatements::judge_stm))]
 fn judge_when(
     alloc: Global,
     known: &mut Known,

@@ -3,7 +3,7 @@ ghost use Rattle.std.specs.Prelude.{◌≡◌, [], IfOk, map as each};
 ghost use Rattle.sz_types.specs.Seen.{seen};
 ghost use Rattle.sz_tree.specs.View.{tree_of, step_of};
 ghost use Rattle.sz_core.specs.View.{node_of, step_of as core_step_of};
-ghost use Rattle.sz_check.specs.JudgingPaths.{target_of, stepped, indexed, judge_steps, judge_path};
+ghost use Rattle.sz_judge.specs.JudgingPaths.{target_of, stepped, indexed, judge_steps, judge_path};
 ghost use Rattle.sz_known.specs.Holding.{means_of, scene_of};
 ghost use Rattle.sz_check.specs.Targets.{target_seen, into_string, judge_step, path_form, assignable};
 ghost use Rattle.sz_known.specs.Outcome.{Judges};
@@ -166,7 +166,7 @@ pub fn judge_path(
 }
 
 // A path that is a name alone.
-#[tactic(auto, unfolding(crate::specs::JudgingPaths::judge_steps))]
+#[tactic(auto, unfolding(sz_judge::specs::JudgingPaths::judge_steps))]
 pub fn judge_variable(alloc: Global, known: &Known, name: &Name) -> Result<Target, CheckError>
     ensures value { Judges target_seen result (judge_path (scene_of known.now) (path_form name.now [])) }
 {

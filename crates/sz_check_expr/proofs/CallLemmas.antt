@@ -16,10 +16,10 @@ use Rattle.sz_tree.specs.View.{tree_of}
 use Rattle.sz_core.specs.declared.expr.CoreExpr.{CoreExpr}
 use Rattle.sz_core.specs.Nodes.{Node, Nodes, no_nodes, with_node, nodes_of, types_of}
 use Rattle.sz_core.specs.View.{node_of}
-use Rattle.sz_known.specs.Refusals.{Judged, ◌>>=◌}
-use Rattle.sz_check_expr.specs.JudgingCalls.{conversion_node, conversion_call}
-use Rattle.sz_check_expr.specs.JudgingComposites.{asks_of_list, made_tuple}
-use Rattle.sz_check_expr.specs.Agreeing.{in_turn, field_types, fields_count}
+use Rattle.sz_judge.specs.Refusals.{Judged, ◌>>=◌}
+use Rattle.sz_judge.specs.JudgingCalls.{conversion_node, conversion_call}
+use Rattle.sz_judge.specs.JudgingComposites.{asks_of_list, made_tuple}
+use Rattle.sz_judge.specs.Agreeing.{in_turn, field_types, fields_count}
 use Rattle.sz_check_expr.specs.Calling.{first_node, conversion_of_first, tuple_of}
 
 -- whether there is one expression

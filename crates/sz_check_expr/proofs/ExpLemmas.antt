@@ -9,12 +9,12 @@ use Rattle.sz_tree.specs.declared.operator.BinaryOp.{BinaryOp}
 use Rattle.sz_tree.specs.Expressions.{Lit, Exp, literal, paren, index, slice, binary, exps_of, pairs_of}
 use Rattle.sz_tree.specs.View.{tree_of, pair_of}
 use Rattle.sz_core.specs.Nodes.{Node, type_of, Nodes, no_nodes, with_node, nodes_of, Pairings, no_pairings, with_pairing, pairings_of}
-use Rattle.sz_known.specs.Refusals.{Judged, ◌>>=◌}
-use Rattle.sz_known.specs.Names.{Block}
-use Rattle.sz_check_expr.specs.Agreeing.{Asks, asked_first, asked_behind}
-use Rattle.sz_check_expr.specs.JudgingParts.{made_index, made_slice}
-use Rattle.sz_check_expr.specs.JudgingOperators.{operation_of, asked_of_right, made_binary}
-use Rattle.sz_check_expr.specs.JudgingExpressions.{literal_node, judge_exp, judge_exps, judge_pairs}
+use Rattle.sz_judge.specs.Refusals.{Judged, ◌>>=◌}
+use Rattle.sz_judge.specs.Names.{Block}
+use Rattle.sz_judge.specs.Agreeing.{Asks, asked_first, asked_behind}
+use Rattle.sz_judge.specs.JudgingParts.{made_index, made_slice}
+use Rattle.sz_judge.specs.JudgingOperators.{operation_of, asked_of_right, made_binary}
+use Rattle.sz_judge.specs.JudgingExpressions.{literal_node, judge_exp, judge_exps, judge_pairs}
 use Rattle.sz_known.specs.Turns.{behind, put_all}
 use Rattle.sz_check_expr.specs.Lists.{with_pair, judge_pair}
 use Rattle.sz_known.specs.Outcome.{Stops}

@@ -1,10 +1,4 @@
 -- what the public contracts rest on
-pub mod Agreeing
-pub mod JudgingCalls
-pub mod JudgingComposites
-pub mod JudgingParts
-pub mod JudgingOperators
-pub mod JudgingExpressions
 pub mod Asking
 pub mod Kinds
 -- what the functions inside the crate promise each other

@@ -5,7 +5,7 @@ ghost use Rattle.sz_tree.specs.Expressions.{exps_of, pairs_of};
 ghost use Rattle.sz_tree.specs.View.{tree_of, pair_of};
 ghost use Rattle.sz_core.specs.Nodes.{nodes_of, pairings_of};
 ghost use Rattle.sz_core.specs.View.{node_of, pairing_of};
-ghost use Rattle.sz_check_expr.specs.Agreeing.{agrees, agree, pairs_agree, counted, converted};
+ghost use Rattle.sz_judge.specs.Agreeing.{agrees, agree, pairs_agree, counted, converted};
 ghost use Rattle.sz_check_expr.specs.Asking.{asks_of, asked_of};
 ghost use Rattle.sz_check_expr.specs.Calling.{fits};
 ghost use Rattle.sz_known.specs.Outcome.{Judges};

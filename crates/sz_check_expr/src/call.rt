@@ -7,10 +7,10 @@ ghost use Rattle.sz_types.specs.declared.operator.Builtin.TheVariants.{HasKey, S
 ghost use Rattle.sz_tree.specs.View.{tree_of};
 ghost use Rattle.sz_core.specs.Nodes.{nodes_of, with_node};
 ghost use Rattle.sz_core.specs.View.{node_of, signature_of};
-ghost use Rattle.sz_check_expr.specs.Agreeing.{arguments_fit};
+ghost use Rattle.sz_judge.specs.Agreeing.{arguments_fit};
 ghost use Rattle.sz_types.specs.Rows.{arity};
-ghost use Rattle.sz_check_expr.specs.JudgingExpressions.{variable_node};
-ghost use Rattle.sz_check_expr.specs.JudgingCalls.{callee_of, asks_of_callee, declared_call, predeclared_call, conversion_call, made_call};
+ghost use Rattle.sz_judge.specs.JudgingExpressions.{variable_node};
+ghost use Rattle.sz_judge.specs.JudgingCalls.{callee_of, asks_of_callee, declared_call, predeclared_call, conversion_call, made_call};
 ghost use Rattle.sz_check_expr.specs.Asking.{asks_of};
 ghost use Rattle.sz_check_expr.specs.Calling.{callee_seen, first_node, conversion_of_first};
 ghost use Rattle.sz_known.specs.Holding.{means_of};

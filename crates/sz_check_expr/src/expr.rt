@@ -5,7 +5,7 @@ ghost use Rattle.sz_tree.specs.Expressions.{exps_of, pairs_of, named, call, def,
 ghost use Rattle.sz_tree.specs.View.{tree_of, pair_of};
 ghost use Rattle.sz_core.specs.Nodes.{nodes_of, pairings_of};
 ghost use Rattle.sz_core.specs.View.{node_of, pairing_of};
-ghost use Rattle.sz_check_expr.specs.JudgingExpressions.{judge_exp, judge_exps, judge_pairs};
+ghost use Rattle.sz_judge.specs.JudgingExpressions.{judge_exp, judge_exps, judge_pairs};
 ghost use Rattle.sz_check_expr.specs.Asking.{asks_of, asked_of};
 ghost use Rattle.sz_known.specs.Holding.{blocks_for};
 ghost use Rattle.sz_known.specs.Sites.{may_emit};
@@ -75,7 +75,7 @@ pub fn judge_exp(
 }
 
 // A name as a value.
-#[tactic(auto, unfolding(crate::specs::JudgingExpressions::judge_exp))]
+#[tactic(auto, unfolding(sz_judge::specs::JudgingExpressions::judge_exp))]
 fn judge_named(
     alloc: Global,
     known: &Known,
@@ -90,7 +90,7 @@ fn judge_named(
 
 /// A checked call, or its first refusal: what the name calls, the arguments, and then the call of them.
 #[cycle(expr)]
-#[tactic(auto, unfolding(crate::specs::JudgingExpressions::judge_exp))]
+#[tactic(auto, unfolding(sz_judge::specs::JudgingExpressions::judge_exp))]
 pub fn judge_call(
     alloc: Global,
     known: &Known,
@@ -108,7 +108,7 @@ pub fn judge_call(
 
 // `def(e)`.
 #[cycle(expr)]
-#[tactic(auto, unfolding(crate::specs::JudgingExpressions::judge_exp))]
+#[tactic(auto, unfolding(sz_judge::specs::JudgingExpressions::judge_exp))]
 fn judge_def(
     alloc: Global,
     known: &Known,
@@ -130,7 +130,7 @@ fn judge_def(
 
 // A conversion to a type that is a word.
 #[cycle(expr)]
-#[tactic(auto, unfolding(crate::specs::JudgingExpressions::judge_exp))]
+#[tactic(auto, unfolding(sz_judge::specs::JudgingExpressions::judge_exp))]
 fn judge_conversion(
     alloc: Global,
     known: &Known,
@@ -148,7 +148,7 @@ fn judge_conversion(
 
 // `{e, ..}`.
 #[cycle(expr)]
-#[tactic(auto, unfolding(crate::specs::JudgingExpressions::judge_exp))]
+#[tactic(auto, unfolding(sz_judge::specs::JudgingExpressions::judge_exp))]
 fn judge_list(
     alloc: Global,
     known: &Known,
@@ -167,7 +167,7 @@ fn judge_list(
 
 // `{k: v, ..}`.
 #[cycle(expr)]
-#[tactic(auto, unfolding(crate::specs::JudgingExpressions::judge_exp))]
+#[tactic(auto, unfolding(sz_judge::specs::JudgingExpressions::judge_exp))]
 fn judge_mapping(
     alloc: Global,
     known: &Known,
@@ -187,7 +187,7 @@ fn judge_mapping(
 
 // `e.name`.
 #[cycle(expr)]
-#[tactic(auto, unfolding(crate::specs::JudgingExpressions::judge_exp))]
+#[tactic(auto, unfolding(sz_judge::specs::JudgingExpressions::judge_exp))]
 fn judge_field(
     alloc: Global,
     known: &Known,
@@ -205,7 +205,7 @@ fn judge_field(
 
 // An operator before its operand.
 #[cycle(expr)]
-#[tactic(auto, unfolding(crate::specs::JudgingExpressions::judge_exp))]
+#[tactic(auto, unfolding(sz_judge::specs::JudgingExpressions::judge_exp))]
 fn judge_unary(
     alloc: Global,
     known: &Known,

@@ -8,8 +8,8 @@ ghost use Rattle.sz_types.specs.Rows.{both_int, ordered, sum_row, difference_row
 ghost use Rattle.sz_types.specs.Rows.{strfind_row, builtin_row};
 ghost use Rattle.sz_core.specs.Nodes.{nodes_of, types_of};
 ghost use Rattle.sz_core.specs.View.{node_of};
-ghost use Rattle.sz_check_expr.specs.Agreeing.{is_searched_for, is_map};
-ghost use Rattle.sz_check_expr.specs.JudgingParts.{has_index};
+ghost use Rattle.sz_judge.specs.Agreeing.{is_searched_for, is_map};
+ghost use Rattle.sz_judge.specs.JudgingParts.{has_index};
 ghost use Rattle.sz_check_expr.specs.Kinds.{is_compared};
 
 use crate::kind::{Kind, type_kind};

@@ -20,8 +20,8 @@ use Rattle.sz_known.specs.declared.site.Site.{Site}
 use Rattle.sz_known.specs.declared.site.Site.TheVariants as sites
 use Rattle.sz_known.specs.declared.meaning.Meaning.{Meaning as Kept}
 use Rattle.sz_known.specs.declared.meaning.Meaning.TheVariants as held
-use Rattle.sz_known.specs.Names.{Meaning, Named, Block, has, meaning_in, only, is_seen_by_functions, is_seen_by_statics}
-use Rattle.sz_known.specs.Names as names
+use Rattle.sz_judge.specs.Names.{Meaning, Named, Block, has, meaning_in, only, is_seen_by_functions, is_seen_by_statics}
+use Rattle.sz_judge.specs.Names as names
 use Rattle.sz_known.specs.Holding.{meaning_of, Held, blocks_of, blocks_for, in_function}
 use Rattle.sz_known.specs.Keeping.{floor_of, seen_from, sits_in, sight_for, place_of, placed, is_new, kept_at, meaning_by, block_by, blocks_by}
 use Rattle.sz_known.specs.Keeping.{held_of, with_name, with_type, IsPlaced, ArePlacedIn, ArePlaced, IsTyped, AreTyped, IsKept}

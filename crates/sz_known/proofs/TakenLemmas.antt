@@ -9,7 +9,7 @@ use Rattle.sz_scope.specs.Blocks.{found_in, is_declared, with_declared}
 use Rattle.sz_scope.specs.declared.meaning.Meaning.{Meaning}
 use Rattle.sz_scope.specs.declared.error.ScopeError.{ScopeError}
 use Rattle.sz_scope.specs.declared.error.ScopeError.TheVariants.{Twice, NoMemory}
-use Rattle.sz_known.specs.Refusals.{has_name}
+use Rattle.sz_judge.specs.Refusals.{has_name}
 use Rattle.sz_known.specs.Parts.{names_in, has_number}
 use Rattle.sz_known.specs.Keeping.{is_new}
 use Rattle.sz_known.proofs.KeepingLemmas.{new_is}

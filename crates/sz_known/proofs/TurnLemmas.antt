@@ -2,7 +2,7 @@
 use Rattle.std.proofs.Common.{◌≡◌, List, [], ◌∷◌, ◌++◌, map, refl, sym, ap, ◌∙◌, subst}
 use Rattle.std.proofs.lemmas.List.{map-append}
 use Rattle.std.specs.Prelude.{Result, Ok, Err}
-use Rattle.sz_known.specs.Refusals.{Judged, ◌>>=◌, Refusal}
+use Rattle.sz_judge.specs.Refusals.{Judged, ◌>>=◌, Refusal}
 use Rattle.sz_known.specs.Turns.{behind, put_all}
 use Rattle.sz_known.specs.Outcome.{Stops, Judges}
 use Rattle.sz_known.specs.declared.error.CheckError.{CheckError}

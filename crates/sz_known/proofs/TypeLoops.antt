@@ -8,9 +8,9 @@ use Rattle.sz_tree.specs.declared.types.ProtoField.{ProtoField}
 use Rattle.sz_tree.specs.Names.{Ident}
 use Rattle.sz_tree.specs.Types.{params_of, fields_of}
 use Rattle.sz_tree.specs.View.{param_of, field_of, type_of}
-use Rattle.sz_known.specs.Refusals.{Judged, ◌>>=◌, bad_field, has_name}
-use Rattle.sz_known.specs.Names.{Block}
-use Rattle.sz_known.specs.JudgingTypes.{judge_type, judge_parts, judge_fields, Coding, coded, coding_of, field_number, encoding_of}
+use Rattle.sz_judge.specs.Refusals.{Judged, ◌>>=◌, bad_field, has_name}
+use Rattle.sz_judge.specs.Names.{Block}
+use Rattle.sz_judge.specs.JudgingTypes.{judge_type, judge_parts, judge_fields, Coding, coded, coding_of, field_number, encoding_of}
 use Rattle.sz_known.specs.Turns.{behind, put_all}
 use Rattle.sz_known.specs.Parts.{name_of, number_of, free_name, free_coding, judge_part, judge_field}
 use Rattle.sz_known.specs.Outcome.{Stops}

@@ -13,9 +13,9 @@ use Rattle.sz_known.specs.declared.meaning.Meaning.{Meaning as Kept}
 use Rattle.sz_known.specs.declared.meaning.Meaning.TheVariants as held
 use Rattle.sz_known.specs.declared.meaning.Means.{Means}
 use Rattle.sz_known.specs.declared.meaning.Means.TheVariants as lent
-use Rattle.sz_known.specs.Names.{Meaning, Named, Block, only, predeclared_names, is_seen_by_functions, is_seen_by_statics}
-use Rattle.sz_known.specs.Names as names
-use Rattle.sz_known.specs.Scene.{Scene}
+use Rattle.sz_judge.specs.Names.{Meaning, Named, Block, only, predeclared_names, is_seen_by_functions, is_seen_by_statics}
+use Rattle.sz_judge.specs.Names as names
+use Rattle.sz_judge.specs.Scene.{Scene}
 use Rattle.sz_known.specs.Written.{type_at}
 
 -- what a name stands for, where types have these numbers

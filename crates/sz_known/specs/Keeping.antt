@@ -15,7 +15,7 @@ use Rattle.sz_known.specs.declared.site.Site.{Site}
 use Rattle.sz_known.specs.declared.site.Site.TheVariants as sites
 use Rattle.sz_known.specs.declared.meaning.Meaning.{Meaning as Kept}
 use Rattle.sz_known.specs.declared.meaning.Meaning.TheVariants as held
-use Rattle.sz_known.specs.Names.{Meaning, Named, Block, input, is_seen_by_functions}
+use Rattle.sz_judge.specs.Names.{Meaning, Named, Block, input, is_seen_by_functions}
 use Rattle.sz_known.specs.Holding.{meaning_of, Held}
 
 -- round how many blocks the routine stands

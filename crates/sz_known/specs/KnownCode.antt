@@ -11,7 +11,7 @@ use Rattle.sz_scope.specs.declared.sight.Sight.TheVariants.{Record, Function, St
 use Rattle.sz_core.specs.OperatorCode.{builtin_code}
 use Rattle.sz_core.specs.ProgramCode.{signature_code}
 use Rattle.sz_core.specs.Programs.{Signature}
-use Rattle.sz_known.specs.Names.{Meaning, Block, variable, quantified, static, type_name, table, function, predeclared, input}
+use Rattle.sz_judge.specs.Names.{Meaning, Block, variable, quantified, static, type_name, table, function, predeclared, input}
 use Rattle.sz_known.specs.Holding.{Outside, Held}
 
 -- a meaning as one of several things: a list of at most one declaration stands for a table, or for the record itself

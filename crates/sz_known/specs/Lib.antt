@@ -1,10 +1,6 @@
 -- what the public contracts rest on
-pub mod Refusals
 pub mod Outcome
-pub mod Names
 pub mod Sites
-pub mod JudgingTypes
-pub mod Scene
 pub mod Written
 pub mod Holding
 pub mod Keeping

@@ -2,7 +2,7 @@
 use Rattle.std.specs.Prelude.{◌≡◌, Result, Ok, Err}
 use Rattle.sz_known.specs.declared.error.CheckError.{CheckError}
 use Rattle.sz_known.specs.declared.error.CheckError.TheVariants as errors
-use Rattle.sz_known.specs.Refusals.{Judged}
+use Rattle.sz_judge.specs.Refusals.{Judged}
 
 -- the judgement is this refusal, unless memory ran out
 abbrev pub Stops : {Y : Type 0} → CheckError → Judged Y → Type 0

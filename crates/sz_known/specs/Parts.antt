@@ -7,9 +7,9 @@ use Rattle.sz_types.specs.declared.encoding.Encoding.TheVariants.{Plain}
 use Rattle.sz_scope.specs.Blocks as scopes
 use Rattle.sz_tree.specs.Names.{Ident}
 use Rattle.sz_tree.specs.Types.{Typ, FieldForm}
-use Rattle.sz_known.specs.Refusals.{Judged, ◌>>=◌, bad_field, has_name}
-use Rattle.sz_known.specs.Names.{Block}
-use Rattle.sz_known.specs.JudgingTypes.{Coding, judge_type, coding_of, field_number, encoding_of}
+use Rattle.sz_judge.specs.Refusals.{Judged, ◌>>=◌, bad_field, has_name}
+use Rattle.sz_judge.specs.Names.{Block}
+use Rattle.sz_judge.specs.JudgingTypes.{Coding, judge_type, coding_of, field_number, encoding_of}
 
 -- the name and the number of a field
 abbrev pub name_of : FieldShape → List ℕ

@@ -1,6 +1,6 @@
 -- Judgements of lists, turn by turn.
 use Rattle.std.specs.Prelude.{List, [], ◌∷◌, Ok}
-use Rattle.sz_known.specs.Refusals.{Judged, ◌>>=◌}
+use Rattle.sz_judge.specs.Refusals.{Judged, ◌>>=◌}
 
 -- the judgement of a whole list, by its front, which is judged, and the judgement of what is behind it
 abbrev pub behind : {A B : Type 0} → (A → B → B) → List A → Judged B → Judged B

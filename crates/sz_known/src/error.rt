@@ -1,6 +1,6 @@
 //! Why a program is not checked.
 ghost use Rattle.std.specs.Prelude.{◌≡◌, Err, None as Nothing};
-ghost use Rattle.sz_known.specs.Refusals.{refused_for};
+ghost use Rattle.sz_judge.specs.Refusals.{refused_for};
 ghost use Rattle.sz_known.specs.Outcome.{Stops};
 ghost use Rattle.sz_known.specs.declared.error.CheckError.TheVariants.{Refused as refused};
 

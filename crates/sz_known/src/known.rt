@@ -2,11 +2,11 @@
 ghost use Rattle.std.specs.Prelude.{◌≡◌, ◌∷◌, ◌++◌, ◌-◌, ◌<◌, [], length, not, Bool, IfOk, IfSome, OnErr, codes, if◌then◌else◌};
 ghost use Rattle.sz_types.specs.Data.{Shape};
 ghost use Rattle.sz_types.specs.Seen.{seen};
-ghost use Rattle.sz_known.specs.Names.{Block, Named, has, look_up, declare, type_name};
-ghost use Rattle.sz_known.specs.Names as names;
+ghost use Rattle.sz_judge.specs.Names.{Block, Named, has, look_up, declare, type_name};
+ghost use Rattle.sz_judge.specs.Names as names;
 ghost use Rattle.sz_known.specs.Outcome.{Judges, Stops};
-ghost use Rattle.sz_known.specs.Refusals.{unseen, has_name, left_out_names};
-ghost use Rattle.sz_known.specs.Scene.{with_variable, with_quantified};
+ghost use Rattle.sz_judge.specs.Refusals.{unseen, has_name, left_out_names};
+ghost use Rattle.sz_judge.specs.Scene.{with_variable, with_quantified};
 ghost use Rattle.sz_known.specs.Holding.{at_first, meaning_of, means_of, maybe_means_of, IsOfTypes, Held, blocks_of, blocks_for, scene_of, outside_of, in_function, IsRoundFunction};
 ghost use Rattle.sz_known.specs.Keeping.{floor_of, sits_in, place_of, placed, sight_for, fitting, with_name, with_type, IsBySight, IsTyped, without_innermost, at_no_name};
 ghost use Rattle.sz_known.specs.Written.{shape_in};

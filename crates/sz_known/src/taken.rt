@@ -1,6 +1,6 @@
 //! Names and numbers that are taken, found by hashing.
 ghost use Rattle.std.specs.Prelude.{◌≡◌, ◌∷◌, [], not, IfOk, OnOk, if◌then◌else◌};
-ghost use Rattle.sz_known.specs.Refusals.{has_name};
+ghost use Rattle.sz_judge.specs.Refusals.{has_name};
 ghost use Rattle.sz_known.specs.Parts.{has_number};
 ghost use Rattle.sz_known.specs.Keeping.{is_new};
 

@@ -5,7 +5,7 @@ ghost use Rattle.sz_types.specs.Data.{Shape, fields_of};
 ghost use Rattle.sz_types.specs.Seen.{seen};
 ghost use Rattle.sz_tree.specs.Types.{tuple, proto, params_of, fields_of as trees_of};
 ghost use Rattle.sz_tree.specs.View.{type_of, param_of, field_of};
-ghost use Rattle.sz_known.specs.JudgingTypes.{shape_of, type_named, field_number, encoding_of, coding_of, judge_type, judge_parts, judge_fields};
+ghost use Rattle.sz_judge.specs.JudgingTypes.{shape_of, type_named, field_number, encoding_of, coding_of, judge_type, judge_parts, judge_fields};
 ghost use Rattle.sz_known.specs.Holding.{means_of, blocks_of, IsOfTypes};
 ghost use Rattle.sz_known.specs.Parts.{free_name, free_coding, coding_seen, judge_part, judge_field};
 ghost use Rattle.sz_known.specs.Written.{shape_in, field_in};
@@ -152,7 +152,7 @@ fn judge_coding(
 
 /// The type of a tree, as it is written, or its first refusal: 6, 8, 16 at a name, 18 at a field or a part.
 #[cycle(types)]
-#[tactic(auto, unfolding(crate::specs::JudgingTypes::judge_type))]
+#[tactic(auto, unfolding(sz_judge::specs::JudgingTypes::judge_type))]
 pub fn judge_written(alloc: Global, known: &Known, tree: &TypeTree) -> Result<Written, CheckError>
     ensures value { Judges (shape_in known.now.outside.types) result (judge_type (blocks_of known.now) (type_of tree.now)) }
 {
@@ -186,7 +186,7 @@ pub fn judge_type(alloc: Global, known: &Known, tree: &TypeTree) -> Result<Ty, C
 
 // A tuple type.
 #[cycle(types)]
-#[tactic(auto, using(crate::proofs::WrittenLemmas::shape_in_tuple), unfolding(crate::specs::JudgingTypes::judge_type))]
+#[tactic(auto, using(crate::proofs::WrittenLemmas::shape_in_tuple), unfolding(sz_judge::specs::JudgingTypes::judge_type))]
 fn judge_tuple(
     alloc: Global,
     known: &Known,
@@ -201,7 +201,7 @@ fn judge_tuple(
 
 // A proto type.
 #[cycle(types)]
-#[tactic(auto, using(crate::proofs::WrittenLemmas::shape_in_proto), unfolding(crate::specs::JudgingTypes::judge_type))]
+#[tactic(auto, using(crate::proofs::WrittenLemmas::shape_in_proto), unfolding(sz_judge::specs::JudgingTypes::judge_type))]
 fn judge_proto(
     alloc: Global,
     known: &Known,

@@ -1,6 +1,6 @@
 use Rattle.std.proofs.Common.{sym, ap, ◌∙◌, arith}
 use Rattle.sz_known.specs.Holding.{blocks_of}
-use Rattle.sz_check.specs.EmittingTrees.{emits_by}
+use Rattle.sz_judge.specs.EmittingTrees.{emits_by}
 use Rattle.sz_check.specs.Hidden.{hidden_of}
 use Rattle.sz_tree.proofs.RowLemmas.{tree_of_call, tree_of_list, tree_of_map}
 use Rattle.sz_tree.specs.View.{tree_of}

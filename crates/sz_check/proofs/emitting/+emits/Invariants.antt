@@ -3,7 +3,7 @@ use Rattle.std.proofs.Common.{◌≡◌, map, drop}
 use Rattle.sz_tree.specs.Expressions.{exps_of, pairs_of}
 use Rattle.sz_tree.specs.View.{tree_of, pair_of}
 use Rattle.sz_known.specs.Holding.{blocks_of}
-use Rattle.sz_check.specs.EmittingTrees.{emits_by, exps_emit, pairs_emit}
+use Rattle.sz_judge.specs.EmittingTrees.{emits_by, exps_emit, pairs_emit}
 use Rattle.sz_check.specs.Hidden.{hidden_of}
 use Rattle.sz_check.proofs.emitting.+emits.Given as goal
 

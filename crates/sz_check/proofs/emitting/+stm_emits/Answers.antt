@@ -5,7 +5,7 @@ use Rattle.sz_tree.specs.View.{tree_of, first_of, quantifier_of, stm_of}
 use Rattle.std.specs.Option.{option_map}
 use Rattle.sz_tree.proofs.RowLemmas.{stm_of_block}
 use Rattle.sz_known.specs.Holding.{blocks_of}
-use Rattle.sz_check.specs.EmittingTrees.{emits_by, exp_emits, stm_emits, stms_emit, quantified_names}
+use Rattle.sz_judge.specs.EmittingTrees.{emits_by, exp_emits, stm_emits, stms_emit, quantified_names}
 use Rattle.sz_check.specs.Hidden.{hidden_of}
 use Rattle.sz_check.proofs.EmitLemmas.{block_emits, kept_taken, kept_behind, kept_behind_for, hidden_inside, kept_behind_when, first_holds, second_decides}
 use Rattle.sz_check.proofs.EmitLemmas.{stms_go, stms_end, front_grows}

@@ -3,7 +3,7 @@ use Rattle.std.proofs.Common.{◌≡◌, ◌++◌, ◌||◌, ℕ, List, map, dro
 use Rattle.sz_tree.specs.Statements.{stms_of}
 use Rattle.sz_tree.specs.View.{stm_of}
 use Rattle.sz_known.specs.Holding.{blocks_of}
-use Rattle.sz_check.specs.EmittingTrees.{emits_by, stms_emit}
+use Rattle.sz_judge.specs.EmittingTrees.{emits_by, stms_emit}
 use Rattle.sz_check.specs.Hidden.{hidden_of}
 use Rattle.sz_check.proofs.emitting.+stm_emits.Given as goal
 

@@ -1,6 +1,6 @@
 -- The names that are left decide.
 use Rattle.std.proofs.Common.{◌≡◌, drop}
-use Rattle.sz_known.specs.Refusals.{has_name}
+use Rattle.sz_judge.specs.Refusals.{has_name}
 use Rattle.sz_check.specs.Hidden.{hidden_of}
 use Rattle.sz_check.proofs.emitting.has_name.Given as goal
 

@@ -1,6 +1,6 @@
 -- What is hidden by now, and the names that are left, are what was hidden and all of them.
 use Rattle.std.proofs.Common.{◌≡◌, ◌++◌, drop}
-use Rattle.sz_check.specs.EmittingTrees.{texts_of}
+use Rattle.sz_judge.specs.EmittingTrees.{texts_of}
 use Rattle.sz_check.specs.Hidden.{hidden_of}
 use Rattle.sz_check.proofs.emitting.hide_names.Given as goal
 

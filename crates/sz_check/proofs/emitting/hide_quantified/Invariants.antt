@@ -1,7 +1,7 @@
 -- What is hidden by now, and the names of the quantifiers that are left, are what was hidden and those of all.
 use Rattle.std.proofs.Common.{◌≡◌, ◌++◌, drop, map}
 use Rattle.sz_tree.specs.View.{quantifier_of}
-use Rattle.sz_check.specs.EmittingTrees.{quantified_names}
+use Rattle.sz_judge.specs.EmittingTrees.{quantified_names}
 use Rattle.sz_check.specs.Hidden.{hidden_of}
 use Rattle.sz_check.proofs.emitting.hide_quantified.Given as goal
 

@@ -1,6 +1,6 @@
 use Rattle.std.proofs.Common.{sym, ◌∙◌, arith}
 use Rattle.sz_known.specs.Holding.{blocks_of}
-use Rattle.sz_check.specs.EmittingTrees.{emits_by}
+use Rattle.sz_judge.specs.EmittingTrees.{emits_by}
 use Rattle.sz_check.specs.Hidden.{hidden_of}
 use Rattle.sz_check.proofs.EmitLemmas.{steps_turn, holds_whole, rest_decides}
 use Rattle.sz_check.proofs.emitting.steps_emit.Goals as goal

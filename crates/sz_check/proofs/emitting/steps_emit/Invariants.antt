@@ -2,7 +2,7 @@
 use Rattle.std.proofs.Common.{◌≡◌, map, drop}
 use Rattle.sz_tree.specs.View.{step_of}
 use Rattle.sz_known.specs.Holding.{blocks_of}
-use Rattle.sz_check.specs.EmittingTrees.{emits_by, steps_emit}
+use Rattle.sz_judge.specs.EmittingTrees.{emits_by, steps_emit}
 use Rattle.sz_check.specs.Hidden.{hidden_of}
 use Rattle.sz_check.proofs.emitting.steps_emit.Given as goal
 

@@ -3,7 +3,7 @@ use Rattle.std.proofs.Common.{map}
 use Rattle.sz_tree.specs.View.{program_of}
 use Rattle.sz_core.specs.View.{item_of}
 use Rattle.sz_core.specs.Programs.{core_of}
-use Rattle.sz_check.proofs.ProgramSound.{program_sound}
+use Rattle.sz_sound.proofs.ProgramSound.{program_sound}
 use Rattle.sz_check.proofs.program.check.Goals as goal
 
 pub new-requires : goal.new-requires

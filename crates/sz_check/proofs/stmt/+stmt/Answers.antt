@@ -5,7 +5,7 @@ use Rattle.sz_tree.specs.Statements.{stms_of}
 use Rattle.sz_tree.specs.View.{tree_of, stm_of}
 use Rattle.sz_known.specs.Outcome.{Stops, Judges}
 use Rattle.sz_tree.proofs.RowLemmas.{stm_of_block}
-use Rattle.sz_check.specs.JudgingStatements.{judge_stm}
+use Rattle.sz_judge.specs.JudgingStatements.{judge_stm}
 use Rattle.sz_known.specs.Holding.{Held, scene_of}
 use Rattle.sz_check.specs.Behind.{around_of, behind_of, judge_else}
 use Rattle.sz_known.proofs.TurnLemmas.{map_push, judged_as}

@@ -2,7 +2,7 @@
 use Rattle.std.proofs.Common.{◌≡◌, map, drop}
 use Rattle.sz_types.specs.Seen.{seen}
 use Rattle.sz_tree.specs.View.{elem_of}
-use Rattle.sz_check.specs.JudgingPrograms.{judge_elems}
+use Rattle.sz_judge.specs.JudgingPrograms.{judge_elems}
 use Rattle.sz_known.specs.Holding.{blocks_of}
 use Rattle.sz_known.specs.Turns.{behind}
 use Rattle.sz_check.specs.Tabling.{with_type}

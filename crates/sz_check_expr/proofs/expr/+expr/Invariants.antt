@@ -4,7 +4,7 @@ use Rattle.sz_tree.specs.Expressions.{exps_of, pairs_of}
 use Rattle.sz_tree.specs.View.{tree_of, pair_of}
 use Rattle.sz_core.specs.Nodes.{with_node}
 use Rattle.sz_core.specs.View.{node_of, pairing_of}
-use Rattle.sz_check_expr.specs.JudgingExpressions.{judge_exps, judge_pairs}
+use Rattle.sz_judge.specs.JudgingExpressions.{judge_exps, judge_pairs}
 use Rattle.sz_check_expr.specs.Asking.{asks_of, asked_of}
 use Rattle.sz_known.specs.Holding.{blocks_for}
 use Rattle.sz_known.specs.Sites.{may_emit}

@@ -3,7 +3,7 @@ use Rattle.std.proofs.lemmas.Result.{err_from_is_err_and}
 use Rattle.sz_tree.specs.View.{type_of}
 use Rattle.sz_tree.proofs.RowLemmas.{type_of_tuple, type_of_proto}
 use Rattle.sz_known.specs.Holding.{blocks_of}
-use Rattle.sz_known.specs.JudgingTypes.{judge_type}
+use Rattle.sz_judge.specs.JudgingTypes.{judge_type}
 use Rattle.sz_known.specs.Written.{shape_in, field_in}
 use Rattle.sz_known.proofs.TurnLemmas.{map_push, judged_as}
 use Rattle.sz_known.proofs.TypeLoops.{parts_fails, parts_goes, parts_ends, fields_fails, fields_goes, fields_ends}

@@ -2,7 +2,7 @@ use Rattle.std.proofs.Common.{ap, sym, subst, ◌∙◌, IfSome, refl, Some, [],
 use Rattle.std.proofs.lemmas.Option.{slice_get_read}
 use Rattle.sz_scope.specs.Blocks.{found}
 use Rattle.sz_scope.specs.Sight.{seen_blocks}
-use Rattle.sz_known.specs.Names.{meaning_of}
+use Rattle.sz_judge.specs.Names.{meaning_of}
 use Rattle.sz_known.specs.Holding.{maybe_means_of, IsOfTypes, blocks_for}
 use Rattle.sz_known.proofs.KeepingLemmas.{find_is, found_placed, place_within, place_means, record_means, types_are}
 use Rattle.sz_known.proofs.known.Known.find.Goals as goal

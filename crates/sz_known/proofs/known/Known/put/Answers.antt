@@ -1,5 +1,5 @@
 use Rattle.std.proofs.Common.{◌≡◌, sym, subst, IfOk, OnErr, not, length, if◌then◌else◌, rules}
-use Rattle.sz_known.specs.Names.{has}
+use Rattle.sz_judge.specs.Names.{has}
 use Rattle.sz_known.specs.Holding.{meaning_of}
 use Rattle.sz_known.specs.Keeping.{held_of, blocks_by, with_name, IsTyped}
 use Rattle.sz_known.proofs.KeepingLemmas.{kept_by_put, put_new, put_ok, put_err, types_are}

@@ -1,6 +1,6 @@
 use Rattle.std.proofs.Common.{◌≡◌, ◌∷◌, IfOk, not, subst, sym, if◌then◌else◌}
 use Rattle.sz_scope.specs.declared.meaning.Meaning.TheVariants.{Input}
-use Rattle.sz_known.specs.Refusals.{has_name}
+use Rattle.sz_judge.specs.Refusals.{has_name}
 use Rattle.sz_known.specs.Parts.{names_in}
 use Rattle.sz_known.proofs.TakenLemmas.{taken_free, taken_ok}
 use Rattle.sz_known.proofs.taken.TakenNames.add.Goals as goal

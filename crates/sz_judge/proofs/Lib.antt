@@ -1,0 +1,3 @@
+-- for the crates above
+pub mod Holds
+pub mod TruthLemmas
