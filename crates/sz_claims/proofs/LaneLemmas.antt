@@ -1,5 +1,5 @@
 -- A lane is lent, and comes back.
-use Rattle.std.proofs.Common.{◌≡◌, ◌≢◌, ◌⊎◌, ℕ, ◌+◌, ◌*◌, ◌<◌, ◌==◌, min, Bool, MatchBool, true, false, cond, List, [], ◌∷◌, ◌++◌, set, length}
+use Rattle.std.proofs.Common.{◌≡◌, ◌≢◌, ℕ, ◌+◌, ◌*◌, ◌<◌, ◌==◌, min, Bool, MatchBool, true, false, cond, List, [], ◌∷◌, ◌++◌, set, length}
 use Rattle.std.proofs.Common.{refl, ap, sym, ◌∙◌, subst, inl, inr, ⊎_elim, arith, Some, None, length-set, eq-eqb, ne_eqb}
 use Rattle.std.specs.Prelude.{slice_index, slice_index_or}
 use Rattle.std.proofs.lemmas.List.{get_or-set_same, get_or-set_other, set-get_or}
@@ -8,11 +8,10 @@ use mathlib.Core.Logic.{dite}
 use native.Mathlib.Decide.{ℕ_discrete}
 use lib.ListN.{get_elem?}
 use prog.Atomic.{either}
-use Rattle.atomic_table.specs.Table.{State, Me, Allows, Act, keeps, takes, gives, Valid, stepped, carried_after, rest}
+use Rattle.atomic_table.specs.Table.{Me, Allows, Act, keeps, takes, gives, Valid, stepped, carried_after, rest}
 use Rattle.atomic_table.proofs.Lists.{exchanged, set_else, set_here}
 use Rattle.sz_book.specs.Plan.{PlanData, count_of}
 use Rattle.sz_book.specs.declared.event.Event.TheVariants.{LaneOut, LaneBack}
-use Rattle.sz_book.specs.declared.event.Reply.{Reply}
 use Rattle.sz_book.specs.declared.event.Reply.TheVariants.{Noted, Lane}
 use Rattle.sz_book.specs.declared.event.Entry.{Entry}
 use Rattle.sz_book.specs.Machine.{LedgerState, opening, after, reply_of, list_of, placed}

@@ -21,7 +21,7 @@ use Rattle.sz_book.specs.History.{entry, state_after, IsLegal, IsLegalFrom, HasD
 use Rattle.sz_claims.specs.Rule.{Slot, Shows, number_at, deaths_at, settled_at, bad_at, Called}
 use Rattle.sz_claims.specs.Moves.{Moved, Moves}
 use Rattle.sz_claims.proofs.SumLemmas.{dries_grow, bars_grow}
-use Rattle.sz_claims.proofs.WordLemmas.{below, by_test, set_same, set_other, slots_set, claimed, drew, tried, bound_other}
+use Rattle.sz_claims.proofs.WordLemmas.{by_test, set_same, set_other, slots_set, claimed, drew, tried, bound_other}
 
 -- ---- Died
 

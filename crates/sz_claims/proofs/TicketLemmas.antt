@@ -1,6 +1,6 @@
 -- Draws and asks for a number make their calls.
-use Rattle.std.proofs.Common.{◌≡◌, ◌≢◌, ◌⊎◌, ℕ, ◌+◌, ◌-◌, ◌*◌, ◌%◌, ◌^◌, ◌<◌, ◌≤◌, min, Bool, true, false, cond, List, [], ◌∷◌, ◌++◌, set, refl, ap}
-use Rattle.std.proofs.Common.{sym, ◌∙◌, subst, ⊎_elim, le_trans, arith, None, length-set, eqb-true, lt-ltb, le-ltb, eq-eqb}
+use Rattle.std.proofs.Common.{◌≡◌, ◌≢◌, ℕ, ◌+◌, ◌*◌, ◌%◌, ◌^◌, ◌<◌, ◌≤◌, min, Bool, true, false, cond, List, [], ◌∷◌, ◌++◌, set, refl, ap}
+use Rattle.std.proofs.Common.{sym, ◌∙◌, subst, ⊎_elim, le_trans, arith, length-set, eqb-true, lt-ltb, le-ltb, eq-eqb}
 use Rattle.std.specs.Prelude.{slice_index}
 use Rattle.std.proofs.Math.Nat.{mul-le-mul}
 use Rattle.std.proofs.lemmas.List.{set-get_or}

@@ -1,15 +1,13 @@
 -- A shard that a pass won, and that came with no lane yet, is there to bring.
-use Rattle.std.proofs.Common.{◌≡◌, ◌≢◌, ◌⊎◌, ℕ, zero, suc, ◌+◌, ◌-◌, ◌<◌, ◌≤◌, ◌==◌, Bool, true, false, cond, nat_lt, List, [], ◌∷◌, ◌++◌}
-use Rattle.std.proofs.Common.{set, length, replicate, refl, ap, sym, ◌∙◌, subst, inl, inr, ⊎_elim, arith, length-set, eqb-true, eq-eqb, ne_eqb}
+use Rattle.std.proofs.Common.{◌≡◌, ◌≢◌, ℕ, zero, suc, ◌+◌, ◌-◌, ◌<◌, ◌≤◌, ◌==◌, Bool, true, false, cond, nat_lt, List, [], ◌∷◌}
+use Rattle.std.proofs.Common.{set, length, refl, ap, sym, ◌∙◌, subst, inl, inr, ⊎_elim, arith, length-set, eqb-true, eq-eqb, ne_eqb}
 use Rattle.std.specs.Prelude.{slice_index}
 use Rattle.std.proofs.lemmas.List.{get_or-set_same, get_or-set_other, length-replicate}
 use mathlib.Core.Logic.{dite}
 use native.Mathlib.Decide.{ℕ_discrete}
 use Rattle.sz_book.specs.Plan.{PlanData, IsPlan, count_of}
-use Rattle.sz_book.specs.declared.plan.Claim.{Claim}
 use Rattle.sz_book.specs.declared.event.Event.{Event}
 use Rattle.sz_book.specs.declared.event.Event.TheVariants.{Draw, Number, Died, Settle, LaneOut, LaneBack, Bad}
-use Rattle.sz_book.specs.declared.event.Reply.{Reply}
 use Rattle.sz_book.specs.declared.event.Reply.TheVariants.{Won, Late}
 use Rattle.sz_book.specs.declared.event.Entry.{Entry}
 use Rattle.sz_book.specs.Machine.{LedgerState, opening, after, reply_of, Fits, placed, AreUnplaced}

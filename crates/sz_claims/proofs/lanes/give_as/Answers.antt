@@ -1,4 +1,4 @@
-use Rattle.std.proofs.Common.{ℕ, ◌++◌, refl, ap, sym, subst}
+use Rattle.std.proofs.Common.{ℕ, ◌++◌, refl, sym, subst}
 use Rattle.atomic_table.specs.Table.{Me, Allows}
 use Rattle.sz_claims.specs.declared.view.View.{View}
 use Rattle.sz_claims.specs.Rule.{Slot, Kept, Given, turn_at}

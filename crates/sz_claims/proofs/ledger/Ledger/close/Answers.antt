@@ -1,4 +1,4 @@
-use Rattle.std.proofs.Common.{◌≡◌, ◌+◌, ◌*◌, ◌≤◌, map, ap, sym, ◌∙◌, arith}
+use Rattle.std.proofs.Common.{◌≡◌, ◌+◌, ◌*◌, map, ap, sym, ◌∙◌, arith}
 use Rattle.std.specs.Mem.Slots.{slots_items}
 use lib.ListN.{get_elem?}
 use Rattle.sz_claims.specs.Known.{ends_in}

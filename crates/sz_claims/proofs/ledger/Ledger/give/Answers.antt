@@ -1,4 +1,4 @@
-use Rattle.std.proofs.Common.{◌≡◌, ◌<◌, ap, sym, ◌∙◌, subst, arith}
+use Rattle.std.proofs.Common.{ap, sym, subst, arith}
 use Rattle.sz_claims.specs.Known.{MayGive}
 use Rattle.sz_claims.proofs.SoundLemmas.{one_ledger, sound_given}
 use Rattle.sz_claims.proofs.ViewLemmas.{one_lane}

@@ -1,4 +1,4 @@
-use Rattle.std.proofs.Common.{◌≡◌, ◌<◌, ap, sym, ◌∙◌, arith}
+use Rattle.std.proofs.Common.{◌<◌, ap, ◌∙◌, arith}
 use Rattle.sz_claims.proofs.SoundLemmas.{one_ledger, sound_asked}
 use Rattle.sz_claims.proofs.ViewLemmas.{asked_as}
 use Rattle.sz_claims.proofs.ledger.Ledger.lend.Goals as goal

@@ -1,4 +1,4 @@
-use Rattle.std.proofs.Common.{◌≡◌, ◌-◌, ◌++◌, ◌∷◌, [], ◌+◌, ◌*◌, ◌<◌, ◌^◌, false, replicate, ap, ◌∙◌, arith}
+use Rattle.std.proofs.Common.{◌-◌, ◌++◌, ◌∷◌, ◌+◌, ◌*◌, ◌<◌, ◌^◌, false, replicate, ap, ◌∙◌, arith}
 use Rattle.sz_claims.proofs.OpeningLemmas.{opens}
 use Rattle.sz_claims.proofs.SoundLemmas.{sound_first}
 use Rattle.sz_claims.proofs.ledger.Ledger.make.Goals as goal
