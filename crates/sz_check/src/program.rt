@@ -15,6 +15,7 @@ use std::alloc::{AllocError, Global};
 use sz_check_expr::{converted, judge_exp};
 use sz_core::{Item, Program, Static};
 use sz_known::{CheckError, Known, Meaning, Site, judge_type, judge_written, small};
+use sz_sound::judged_programs_are_sound;
 use sz_tree::{Expr, Name, Stmt, Tree, TypeTree};
 use sz_types::{Place, Tys, copy_ty};
 
@@ -130,5 +131,6 @@ pub fn check(alloc: Global, tree: &Tree) -> Result<Program, CheckError>
     ensures value { Judges (λ program. program) result (judge_program (program_of tree.now)) }
 {
     let (items, locals) = judge_items(alloc, tree)?;
+    judged_programs_are_sound();
     Ok(Program::new(items, locals))
 }
