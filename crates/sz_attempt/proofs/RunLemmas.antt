@@ -17,7 +17,7 @@ use Rattle.sz_machine.specs.Running.{RunsTo}
 use Rattle.sz_machine.proofs.EmitsFit.{emits_fit}
 use Rattle.sz_run.specs.declared.ends.RunEnd.{RunEnd}
 use Rattle.sz_run.specs.Ends.{seen_end, RunEnds}
-use Rattle.sz_gen_stmt.specs.Compiled.{IsCompiled}
+use Rattle.sz_code.specs.Compiled.{IsCompiled}
 use Rattle.sz_total.specs.Short.{HasShortParts}
 use Rattle.sz_total.specs.Totals.{StandsFor, Gains}
 use Rattle.sz_total.specs.States.{TotalState, declarations, emit_count, shown}

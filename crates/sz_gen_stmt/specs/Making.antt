@@ -8,15 +8,15 @@ use Rattle.sz_core.specs.Statements.{Step, Quantified, Stm, Stms}
 use Rattle.sz_instr.specs.declared.line.Line.{Line}
 use Rattle.sz_instr.specs.declared.routine.Routine.{Routine}
 use Rattle.sz_gen_expr.specs.declared.builder.Builder.{Builder}
-use Rattle.sz_gen_expr.specs.Tables.{Tables, HasConstant}
-use Rattle.sz_gen_expr.specs.ExpressionCode.{expression_code, indexes_code}
-use Rattle.sz_gen_expr.specs.Named.{HasNames, StepsHaveNames}
+use Rattle.sz_code.specs.Tables.{Tables, HasConstant}
+use Rattle.sz_code.specs.ExpressionCode.{expression_code, indexes_code}
+use Rattle.sz_code.specs.Named.{HasNames, StepsHaveNames}
 use Rattle.sz_gen_expr.specs.Building.{tables_made, Grows, Appends}
-use Rattle.sz_gen_stmt.specs.StatementCode as codes
-use Rattle.sz_gen_stmt.specs.StatementCode.{in_search, variable_code_of, statement_code, statements_code}
-use Rattle.sz_gen_stmt.specs.SearchCode.{holds_code, search_code}
-use Rattle.sz_gen_stmt.specs.Named.{FlagsHaveNames, BasesHaveNames, StmHasNames, StmsHaveNames, FunctionsHaveNames, StaticsHaveNames}
-use Rattle.sz_gen_stmt.specs.ProgramCode.{function_code, functions_code, function_routines, static_code, statics_code, static_routines}
+use Rattle.sz_code.specs.StatementCode as codes
+use Rattle.sz_code.specs.StatementCode.{in_search, variable_code_of, statement_code, statements_code}
+use Rattle.sz_code.specs.SearchCode.{holds_code, search_code}
+use Rattle.sz_code.specs.NamedStatements.{FlagsHaveNames, BasesHaveNames, StmHasNames, StmsHaveNames, FunctionsHaveNames, StaticsHaveNames}
+use Rattle.sz_code.specs.ProgramCode.{function_code, functions_code, function_routines, static_code, statics_code, static_routines}
 use Rattle.sz_gen_stmt.specs.declared.generate.Exits.{Exits}
 
 -- the exits as the code's definition has them

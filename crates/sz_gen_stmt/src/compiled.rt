@@ -1,7 +1,7 @@
 //! Compiled programs.
 ghost use Rattle.std.specs.Prelude.{◌≡◌, IfOk};
 ghost use Rattle.sz_core.specs.Programs.{tables_of};
-ghost use Rattle.sz_gen_stmt.specs.Compiled.{IsCompiled};
+ghost use Rattle.sz_code.specs.Compiled.{IsCompiled};
 
 use crate::program::gen_program;
 use std::alloc::Global;
@@ -9,10 +9,11 @@ use std::marker::Model;
 use std::snapshot::Snapshot;
 use sz_core::Program;
 use sz_instr::Code;
+use sz_simulates::code_of_a_sound_program_is_compiled;
 use sz_types::TableDecls;
 use sz_value::NoMemory;
 
-/// The code of a program, which does what the program means, as `IsCompiled` of `specs/Compiled.antt` says.
+/// The code of a program, which does what the program means, as `IsCompiled` of `sz_code` says.
 ///
 /// At run time there is the code alone, with the declarations of the tables. Contracts see the program.
 #[derive(Drop)]
@@ -24,7 +25,7 @@ pub struct Compiled {
 impl Model for Compiled {
     ghost use Rattle.sz_core.specs.Programs.{Core};
     ghost use Rattle.sz_core.specs.ProgramCode.{core_code};
-    ghost use Rattle.sz_gen_stmt.specs.Compiled.{IsCompiled};
+    ghost use Rattle.sz_code.specs.Compiled.{IsCompiled};
 
     ghost Value = { Core };
 
@@ -51,11 +52,12 @@ impl Compiled {
     }
 }
 
-/// The code of a program.
+/// The code of a program. That it is the program compiled is a law of its definition.
 pub fn compile(alloc: Global, program: Program) -> Result<Compiled, NoMemory>
     ensures value { IfOk result (λ compiled. compiled ≡ program) }
 {
     let code = gen_program(alloc, &program)?;
+    code_of_a_sound_program_is_compiled();
     Ok(Compiled {
         code,
         program: Snapshot::of(&program),

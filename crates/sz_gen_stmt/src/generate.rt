@@ -6,12 +6,12 @@ ghost use Rattle.sz_core.specs.Statements.{store, emit, stms_of};
 ghost use Rattle.sz_core.specs.View.{node_of, step_of, quantified_of, stm_of};
 ghost use Rattle.sz_instr.specs.declared.instr.Instr.TheVariants.{Push};
 ghost use Rattle.sz_value.specs.Data.{truth};
-ghost use Rattle.sz_gen_expr.specs.Tables.{constant_number, HasConstant};
-ghost use Rattle.sz_gen_expr.specs.ExpressionCode.{code_if_some};
-ghost use Rattle.sz_gen_expr.specs.Named.{HasNames};
+ghost use Rattle.sz_code.specs.Tables.{constant_number, HasConstant};
+ghost use Rattle.sz_code.specs.ExpressionCode.{code_if_some};
+ghost use Rattle.sz_code.specs.Named.{HasNames};
 ghost use Rattle.sz_gen_expr.specs.Building.{Appends, AppendsLine, Nothing};
-ghost use Rattle.sz_gen_stmt.specs.FreeLines.{no_place};
-ghost use Rattle.sz_gen_stmt.specs.StatementCode.{no_exits, discards, test_code, bare_step};
+ghost use Rattle.sz_code.specs.FreeLines.{no_place};
+ghost use Rattle.sz_code.specs.StatementCode.{no_exits, discards, test_code, bare_step};
 ghost use Rattle.sz_gen_stmt.specs.Making.{exits_of, AppendsStm, AppendsStms, AppendsSearch, AppendsHolds, AppendsIndexes};
 
 use std::alloc::Global;

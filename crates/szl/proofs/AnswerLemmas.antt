@@ -22,7 +22,7 @@ use Rattle.sz_attempt.specs.declared.job.Job.{Job}
 use Rattle.sz_attempt.specs.Shards.{ShardData, IsJob}
 use Rattle.sz_core.specs.Sound.{IsSound}
 use Rattle.sz_world.specs.Typed.{AllFit}
-use Rattle.sz_gen_stmt.specs.Simulates.{static_types}
+use Rattle.sz_code.specs.Simulates.{static_types}
 use Rattle.szl.specs.Settings.{HasBounds}
 use Rattle.sz_attempt.specs.Attempts.{shard_means, is_lost, all_die, dies_at, end_of}
 use Rattle.sz_rounds.specs.Outcomes.{ShardsEnd, emitted, faulted, lost, then_shards, outcome_of}

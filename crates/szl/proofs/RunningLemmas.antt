@@ -11,8 +11,8 @@ use Rattle.sz_value.specs.declared.slots.Slots.{Slots}
 use Rattle.sz_run.specs.declared.ends.StaticsEnd.{StaticsEnd}
 use Rattle.sz_run.specs.declared.ends.StaticsEnd.TheVariants as statics_ends
 use Rattle.sz_run.specs.Ends.{seen_statics_end, StaticsRunEnds}
-use Rattle.sz_gen_stmt.specs.Simulates.{static_types}
-use Rattle.sz_gen_stmt.specs.Compiled.{IsCompiled}
+use Rattle.sz_code.specs.Simulates.{static_types}
+use Rattle.sz_code.specs.Compiled.{IsCompiled}
 
 -- what the code does is what the program means
 module _ (program : Core) (code : Code) (compiled : IsCompiled program code) (budget : ℕ) (least : 1 ≤ budget) (most : budget ≤ 2 ^ 32) where

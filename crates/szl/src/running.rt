@@ -1,6 +1,6 @@
 //! A program run over an input.
 ghost use Rattle.std.specs.Prelude.{◌≡◌, ◌≤◌, ◌^◌, IfOk, length};
-ghost use Rattle.sz_gen_stmt.specs.Simulates.{static_types};
+ghost use Rattle.sz_code.specs.Simulates.{static_types};
 ghost use Rattle.sz_world.specs.Typed.{AllFit};
 ghost use Rattle.sz_attempt.specs.Shards.{IsJob};
 ghost use Rattle.szl.specs.Running.{GivesStatics, GivesTables, GivesTotal, IsJobOf, vec_items_of};

@@ -9,9 +9,9 @@ use Rattle.sz_core.specs.Nodes.{Node, nodes_of, pairings_of}
 use Rattle.sz_core.specs.View.{node_of, form_of, pairing_of}
 use Rattle.sz_core.proofs.ForCallers.{form_of_call, form_of_builtin, form_of_array, form_of_tuple, form_of_map}
 use Rattle.sz_instr.specs.declared.instr.Instr.TheVariants.{AndTest, OrTest, MakeArray, MakeTuple, MakeMap}
-use Rattle.sz_gen_expr.specs.Tables.{line}
-use Rattle.sz_gen_expr.specs.ExpressionCode.{conversion, count_of, pair_count_of}
-use Rattle.sz_gen_expr.specs.Named.{HasTarget}
+use Rattle.sz_code.specs.Tables.{line}
+use Rattle.sz_code.specs.ExpressionCode.{conversion, count_of, pair_count_of}
+use Rattle.sz_code.specs.Named.{HasTarget}
 use Rattle.sz_gen_expr.specs.Building.{Appends, AppendsLine, AppendsNode, AppendsNodes, AppendsPairings, Nothing}
 use Rattle.sz_gen_expr.proofs.Builds.{none, behind, closes, closed_by, three_behind, of_form, decides, test_within}
 use Rattle.sz_types.proofs.ForCallers.{rest_more, rest_none}

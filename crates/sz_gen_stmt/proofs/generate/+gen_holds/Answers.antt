@@ -2,11 +2,11 @@
 use Rattle.std.proofs.Common.{◌+◌, ◌<◌, length, map, drop, sym, subst, arith}
 use Rattle.std.proofs.lemmas.Result.{on_ok_weaker}
 use Rattle.sz_core.specs.View.{node_of, quantified_of}
-use Rattle.sz_gen_expr.specs.ExpressionCode.{expression_code}
+use Rattle.sz_code.specs.ExpressionCode.{expression_code}
 use Rattle.sz_gen_expr.proofs.Builds.{behind, renamed, no_more}
 use Rattle.sz_types.proofs.ForCallers.{rest_more, rest_none}
-use Rattle.sz_gen_stmt.specs.StatementCode.{variable_code_of}
-use Rattle.sz_gen_stmt.specs.SearchCode.{holds_code}
+use Rattle.sz_code.specs.StatementCode.{variable_code_of}
+use Rattle.sz_code.specs.SearchCode.{holds_code}
 use Rattle.sz_gen_stmt.specs.Making.{AppendsHolds}
 use Rattle.sz_gen_stmt.proofs.Made.{starts, stays}
 use Rattle.sz_gen_stmt.proofs.SearchMade.{all_made}

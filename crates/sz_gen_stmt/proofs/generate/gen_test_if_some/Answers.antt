@@ -2,10 +2,10 @@ use Rattle.std.proofs.Common.{sym, subst, IfSome}
 use Rattle.std.proofs.lemmas.Result.{on_ok_weaker}
 use Rattle.std.specs.Option.{option_map}
 use Rattle.sz_core.specs.View.{node_of}
-use Rattle.sz_gen_expr.specs.Named.{HasNames}
+use Rattle.sz_code.specs.Named.{HasNames}
 use Rattle.sz_gen_expr.specs.Building.{Appends}
 use Rattle.sz_gen_expr.proofs.Builds.{renamed}
-use Rattle.sz_gen_stmt.specs.StatementCode.{test_code}
+use Rattle.sz_code.specs.StatementCode.{test_code}
 use Rattle.sz_gen_stmt.proofs.generate.gen_test_if_some.Goals as goal
 
 -- a missing test

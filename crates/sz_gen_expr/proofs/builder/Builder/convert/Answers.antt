@@ -2,7 +2,7 @@ use Rattle.std.proofs.Common.{◌∙◌, sym, ap, [], ◌∷◌, ◌++◌}
 use Rattle.sz_types.specs.Seen.{seen as shape_of}
 use Rattle.sz_instr.specs.declared.instr.Instr.{Instr}
 use Rattle.sz_instr.specs.declared.instr.Instr.TheVariants.{Tick}
-use Rattle.sz_gen_expr.specs.Tables.{line}
+use Rattle.sz_code.specs.Tables.{line}
 use Rattle.sz_gen_expr.proofs.Numbers.{says_alike}
 use Rattle.sz_gen_expr.proofs.Builds.{pushed, kept_pushed, type_pushed}
 use Rattle.sz_gen_expr.proofs.builder.Builder.convert.Goals as goal
