@@ -1,7 +1,7 @@
 //! Runs by example: each list of deaths of two shards of one record. The lines are as in `runs.rt`, and `tools/make-kill-lists` made them.
 
 /// The runs.
-pub(super) const RUNS: &str = r#"== a shard is lost where both attempts die
+pub const RUNS: &str = r#"== a shard is lost where both attempts die
 < 3¶4¶
 $ [run p f --shard 1 --attempts 2]
 c: table sum of int; x: int = input; emit c <- x; => 0 c[] = 7¶

@@ -1,10 +1,14 @@
 //! Large programs, which `check` judges.
-use crate::STACK_BYTES;
-use crate::judge::{checked, tree_in};
 use itoa::Buffer;
 use std::alloc::{AllocError, Global};
 use std::test::Fail;
 use std::thread::Builder;
+use sz_check::check;
+use sz_lex::lex;
+use sz_parse::parse;
+
+/// How much stack the program runs a command line on, as in `szl_cli`.
+const STACK_BYTES: usize = 2 << 30;
 
 /// Appends words with a number behind each but the last.
 fn push(text: &mut String, words: &[&str], numbers: &[u32]) -> Result<(), AllocError> {
@@ -91,10 +95,13 @@ fn is_fine(alloc: Global, text: &str) -> bool {
     if text.len() > 1_048_576 {
         return false;
     }
-    let Ok(tree) = tree_in(alloc, text.as_bytes()) else {
+    let Ok(tokens) = lex(alloc, text.as_bytes()) else {
         return false;
     };
-    checked(alloc, &tree).is_ok()
+    let Ok(tree) = parse(alloc, &tokens) else {
+        return false;
+    };
+    check(alloc, &tree).is_ok()
 }
 
 /// Whether nothing is refused of large programs.

@@ -1,7 +1,7 @@
 //! Runs by example: the ticks that statements, calls and statics take. The lines are as in `runs.rt`.
 
 /// The runs.
-pub(super) const RUNS: &str =
+pub const RUNS: &str =
     r#"== ticks: an emit takes one, and the weights of its parts if they are defined
 < ¶
 $ [run p f --budget 3]

@@ -1,7 +1,7 @@
 //! Checks by example: the first refusal of a program. The lines are as in `runs.rt`.
 
 /// The runs.
-pub(super) const RUNS: &str = r#"== check: unknown names
+pub const RUNS: &str = r#"== check: unknown names
 $ [check p]
 x: int = y; => 2 ! program: unknown name: y at 1:10
 y: int = 1; x: int = y; => 0

@@ -1,5 +1,5 @@
 //! Command lines that are drawn: each leaves the same by any number of workers.
-use super::{PLAIN, Setting, left};
+use crate::command::{PLAIN, Setting, left};
 use std::alloc::Global;
 use std::fmt::Write;
 use std::sync::Wait;

@@ -1,7 +1,7 @@
 //! Runs by example: searches by `when`. The lines are as in `runs.rt`.
 
 /// The runs.
-pub(super) const RUNS: &str = r#"== when: the first candidates, each of them, and all of them
+pub const RUNS: &str = r#"== when: the first candidates, each of them, and all of them
 < xab¶
 at: table collection of {i: int, j: int};¶a: array of int = {1, 2, 2};¶b: array of int = {2};¶when (i, j: some int; a[i] == b[j]) emit at <- {i, j};¶s: string = input;¶when (i, j: some int; s[i:j] == "ab") emit at <- {i, j};¶ => 0 at[] = {1, 0}¶at[] = {1, 3}¶
 < ¶

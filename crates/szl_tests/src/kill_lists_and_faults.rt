@@ -1,7 +1,7 @@
 //! Runs by example: deaths in front of and behind a record that faults. The lines are as in `runs.rt`, and `tools/make-kill-lists` made them.
 
 /// The runs.
-pub(super) const RUNS: &str = r#"== a death counts in front of the record that faults
+pub const RUNS: &str = r#"== a death counts in front of the record that faults
 < 3¶x¶5¶6¶
 $ [run p f --shard 2 --attempts 2 --workers 3]
 c: table sum of int; x: int = input; if (x > 0) emit c <- x; => 3 ! record 2: undefined value used at 1:38

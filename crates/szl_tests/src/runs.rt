@@ -15,7 +15,7 @@
 //! `examples/runs.txt` has the runs of this file and of those beside it, in one.
 
 /// The runs.
-pub(super) const RUNS: &str = r#"== tables hold the sums of all lines
+pub const RUNS: &str = r#"== tables hold the sums of all lines
 count: table sum of int;¶total: table sum of int;¶sum_of_squares: table sum of int;¶x: int = input;¶emit count <- 1;¶emit total <- x;¶emit sum_of_squares <- x * x;¶ => 0
 < 3¶-1¶
 count: table sum of int;¶total: table sum of int;¶sum_of_squares: table sum of int;¶x: int = input;¶emit count <- 1;¶emit total <- x;¶emit sum_of_squares <- x * x;¶ => 0 count[] = 2¶total[] = 2¶sum_of_squares[] = 10¶

@@ -1,5 +1,5 @@
 //! Which attempts are made of shards, as gates count and hold them.
-use super::{PLAIN, Setting, left_by, text_of};
+use crate::command::{PLAIN, Setting, left_by, text_of};
 use std::sync::atomic::AtomicU64;
 use std::sync::atomic::Ordering::SeqCst;
 use std::test::Fail;

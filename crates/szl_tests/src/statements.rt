@@ -1,7 +1,7 @@
 //! Runs by example: what statements, functions and statics do, and how records fault. The lines are as in `runs.rt`.
 
 /// The runs.
-pub(super) const RUNS: &str = r#"== an undefined value ends the record where it has to be defined
+pub const RUNS: &str = r#"== an undefined value ends the record where it has to be defined
 < ¶
 x: int;¶x = 1 / 0; => 3 ! record 1: undefined value used at 2:1
 x: int;¶x++; => 3 ! record 1: undefined value used at 2:1

@@ -1,7 +1,7 @@
 //! Runs by example: what tables of each kind print. The lines are as in `runs.rt`.
 
 /// The runs.
-pub(super) const RUNS: &str = r#"== a maximum has the greatest by weight, with a row for each repeat
+pub const RUNS: &str = r#"== a maximum has the greatest by weight, with a row for each repeat
 m: table maximum(2) of string weight int; s: string = input; emit m <- s weight len(s); => 0
 < b¶a¶a¶
 best: table maximum(2) of string weight w: int;¶s: string = input;¶emit best <- s weight 5;¶ => 0 best[] = "a" weight 5¶best[] = "a" weight 5¶

@@ -1,7 +1,7 @@
 //! Runs by example: what expressions give. The lines are as in `runs.rt`.
 
 /// The runs.
-pub(super) const RUNS: &str = r#"== values are computed as they are grouped
+pub const RUNS: &str = r#"== values are computed as they are grouped
 < 3¶
 c: table sum of int; x: int = input; emit c <- (x + 1) * 2; => 0 c[] = 8¶
 c: table sum of int; x: int = input; emit c <- x + 1 * 2; => 0 c[] = 5¶

@@ -1,7 +1,7 @@
 //! Runs by example: the ticks that expressions take. The lines are as in `runs.rt`.
 
 /// The runs.
-pub(super) const RUNS: &str = r#"== ticks: a literal, a variable and a declaration take one each
+pub const RUNS: &str = r#"== ticks: a literal, a variable and a declaration take one each
 < ¶
 $ [run p f --budget 2]
 x := 1; => 0

@@ -1,8 +1,7 @@
 //! Runs by example: messages, and values of proto types. The lines are as in `runs.rt`.
 
 /// The runs.
-pub(super) const RUNS: &str =
-    r#"== messages: a record becomes a message by the numbers of its fields
+pub const RUNS: &str = r#"== messages: a record becomes a message by the numbers of its fields
 $ [run p f --frame delimited]
 < \x11\x08\x05\x08\x07\x12\x02\x01\x02\x10\x03\x2b\x08\x01\x2c\x0a\x01\x78
 type M = proto { a: int @ 1, b: array of int @ 2 };¶m: M = input;¶out: table collection of {a: int, b: array of int};¶emit out <- {m.a, m.b};¶ => 0 out[] = {7, {1, 2, 3}}¶

@@ -1,23 +1,6 @@
 //! `szl` runs a program over the records of a file, and prints its tables; or it checks a program.
 #![tactic(auto)]
 
-mod answer;
-mod failure;
-mod judge;
-mod laws;
-mod lines;
-mod opening;
-mod records;
-mod refusal;
-mod rounds;
-mod running;
-mod selftest;
-mod status;
-#[cfg(test)]
-mod tests;
-mod top;
-
-use status::Status;
 use std::alloc::{AllocError, Global};
 use std::fs::Files;
 use std::io::{self, Input, Stderr, Stdout};
@@ -26,7 +9,7 @@ use std::sync::Wait;
 use std::thread::{Builder, Threads};
 use std::{env, thread};
 use sz_io::{NoGate, OsFiles, OsSink, write_whole};
-use top::szl_main;
+use szl::{Status, szl_main};
 
 /// The words of the command line without the program's name. Words that aren't UTF-8 are no command line.
 fn given_words(rt: &HostRuntime) -> Result<Vec<String>, AllocError> {

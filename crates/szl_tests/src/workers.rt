@@ -1,7 +1,7 @@
 //! Runs by example: workers. The lines are as in `runs.rt`.
 
 /// The runs.
-pub(super) const RUNS: &str = r#"== there are 1 to 64 workers, and 4 where none are asked for
+pub const RUNS: &str = r#"== there are 1 to 64 workers, and 4 where none are asked for
 < 3¶-1¶
 $ [run p f]
 c: table sum of int; x: int = input; emit c <- x; => 0 c[] = 2¶

@@ -1,0 +1,20 @@
+//! The top call: it runs a program over the records of a file, and prints its tables; or it checks a program.
+#![tactic(auto)]
+
+mod answer;
+mod failure;
+mod judge;
+mod laws;
+mod lines;
+mod opening;
+mod records;
+mod refusal;
+mod rounds;
+mod running;
+mod selftest;
+mod status;
+mod top;
+
+pub use laws::{readings_are_unique, sizes_are_shards};
+pub use status::Status;
+pub use top::szl_main;
