@@ -1,2 +1,4 @@
 pub mod CallLemmas
+pub mod LeftLemmas
+pub mod TurnLemmas
 pub mod WonLemmas

@@ -14,7 +14,7 @@ use Rattle.sz_book.specs.declared.event.Event.TheVariants.{Settle}
 use Rattle.sz_book.specs.declared.event.Reply.{Reply}
 use Rattle.sz_book.specs.declared.event.Reply.TheVariants.{Won, Late}
 use Rattle.sz_book.specs.declared.event.Entry.{Entry}
-use Rattle.sz_book.specs.Machine.{LedgerState, opening, after}
+use Rattle.sz_book.specs.Machine.{LedgerState, opening}
 use Rattle.sz_book.specs.History.{entry, state_after, IsLegal, IsLegalFrom, calls_by, Settles, HasWon, HasGiven, IsAmong, AreDistinct, AreApart}
 use Rattle.sz_book.proofs.HistoryLemmas.{calls_own}
 use Rattle.sz_book.proofs.CountLemmas.{each_shard_counts_once}
@@ -22,7 +22,7 @@ use Rattle.sz_claims.specs.Known.{PassData, Calls, AreInHand}
 use Rattle.sz_claims.proofs.ForCallers.{in_hand_now, in_hand_still}
 use Rattle.sz_claims.proofs.UnplacedLemmas.{are_unplaced}
 use Rattle.sz_crew.specs.Working.{IsInPlace, AreWon, IsAtWork}
-use Rattle.sz_crew.proofs.CallLemmas.{in_place_call}
+use Rattle.sz_crew.proofs.CallLemmas.{in_place_call, legal_parts}
 
 won_before : (s : ℕ) (es : List Entry) (e : Entry) → HasWon s (es ++ e ∷ []) → HasWon s es ⊎ (Settles s e.event × (e.reply ≡ Won))
 won_before s [] e (inl h) = inr h
@@ -64,12 +64,6 @@ in_hand_joined ss ts mine h g apart = record {
   won = λ s in'. ⊎_elim (λ (a : IsAmong s ss). h.won s a) (λ (b : IsAmong s ts). g.won s b) (among_either s ss ts in');
   fresh = λ s in'. ⊎_elim (λ (a : IsAmong s ss). h.fresh s a) (λ (b : IsAmong s ts). g.fresh s b) (among_either s ss ts in');
 }
-
--- a legal history's front is one, and what comes behind it goes on
-legal_parts : (p : PlanData) (x : LedgerState) (es ds : List Entry) → IsLegalFrom p x (es ++ ds)
-    → IsLegalFrom p x es × IsLegalFrom p (state_after p x es) ds
-legal_parts p x [] ds h = (tt, h)
-legal_parts p x (e ∷ es) ds h = let t = legal_parts p (after p x e.by e.event e.shards) es ds h.2 in ((h.0, h.1, t.0), t.1)
 
 -- a settlement is won where the shard was not settled
 open_shard : (n : ℕ) → Won ≡ cond (n == 0) Won (Late (n - 1)) → n ≡ 0

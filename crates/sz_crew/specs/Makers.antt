@@ -1,4 +1,4 @@
--- What is true of an attempt that gave no part.
+-- What is true of an attempt that gave a part, and of one that gave none.
 use Rattle.std.specs.Prelude.{ℕ}
 use Rattle.sz_crew.specs.declared.maker.Missed.{Missed}
 use Rattle.sz_crew.specs.declared.maker.Missed.TheVariants.{Died, Bad, NoMemory}
@@ -8,3 +8,7 @@ abbrev pub IsTrueMiss : (ℕ → ℕ → Type 0) → (ℕ → Type 0) → ℕ �
 IsTrueMiss died faults s k Died = died s k
 IsTrueMiss died faults s k Bad = faults s
 IsTrueMiss died faults s k NoMemory = Unit {0}
+
+-- attempt k of shard s did not die, and shard s doesn't fault
+abbrev pub IsTruePart : (ℕ → ℕ → Type 0) → (ℕ → Type 0) → ℕ → ℕ → Type 0
+IsTruePart died faults s k = ¬ died s k × ¬ faults s

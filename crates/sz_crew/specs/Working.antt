@@ -10,8 +10,10 @@ pub record Goes (v w : PassData) : Type 0 where
   pub ledger : w.ledger ≡ v.ledger
   pub number : w.number ≡ v.number
   pub made : w.made ≡ v.made
+  pub limit : w.limit ≡ v.limit
   pub joined : w.joined ≡ v.joined
   pub lane : w.lane ≡ v.lane
+  pub lent : w.lent ≡ v.lent
   pub seen : StartsWith w.seen v.seen
   pub mine : StartsWith w.mine v.mine
 

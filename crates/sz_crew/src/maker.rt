@@ -1,7 +1,7 @@
 //! Who makes attempts.
-ghost use Rattle.std.specs.Prelude.{◌≡◌, ◌<◌, [], ◌∷◌, IfOk, IfErr};
+ghost use Rattle.std.specs.Prelude.{◌≡◌, ◌<◌, [], ◌∷◌, IfOk, OnOk, IfErr};
 ghost use Rattle.sz_book.specs.Plan.{PlanData};
-ghost use Rattle.sz_crew.specs.Makers.{IsTrueMiss};
+ghost use Rattle.sz_crew.specs.Makers.{IsTrueMiss, IsTruePart};
 
 use sz_book::{Claim, Load};
 
@@ -26,6 +26,7 @@ pub trait Maker<T: Load> {
         requires within { claim.now.shard < (plan self.old).shards }
         requires number { number < (plan self.old).attempts }
         ensures part { IfOk result (λ part. (T.plan part ≡ plan self.old) × T.stands part (claim.now.shard ∷ [])) }
+        ensures gave { OnOk result (IsTruePart T.died T.faults claim.now.shard number) }
         ensures missed { IfErr result (λ why. IsTrueMiss T.died T.faults claim.now.shard number why) }
         ensures plan { plan self.new ≡ plan self.old };
 }

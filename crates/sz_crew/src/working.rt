@@ -1,7 +1,11 @@
 //! The work of one worker.
-ghost use Rattle.std.specs.Prelude.{◌≡◌, ◌<◌, [], ◌∷◌, IfOk, OnOk};
+ghost use Rattle.std.specs.Prelude.{◌≡◌, ◌<◌, [], ◌∷◌, IfOk, OnOk, OnErr};
 ghost use Rattle.sz_book.specs.History.{HasDrawn, HasNumber};
-ghost use Rattle.sz_crew.specs.Working.{Goes, IsAtWork};
+ghost use Rattle.sz_book.specs.Orderly.{asks, tries, ended};
+ghost use Rattle.sz_crew.specs.Makers.{IsTruePart};
+ghost use Rattle.sz_crew.specs.Working.{Goes, IsInPlace, IsAtWork};
+ghost use Rattle.sz_crew.specs.Turns.{HasWorked, HasStopped};
+ghost use Rattle.sz_crew.specs.Tickets.{Leads, Stops, phase_behind};
 
 use crate::maker::{Maker, Missed};
 use sz_book::{Claim, Lane, Load, NoMemory, Plan, Settled};
@@ -19,13 +23,14 @@ pub fn work<T: Load, M: Maker<T>>(
     requires of { (pass.old.ledger ≡ ledger.now) × (M.plan maker.old ≡ plan.now) }
     requires ready { IsAtWork plan.now pass.old pocket.old }
     ensures goes { Goes pass.old pass.new }
+    ensures place { IsInPlace pass.new }
+    ensures plan { M.plan maker.new ≡ M.plan maker.old }
+    ensures worked { OnOk result (HasWorked T.died T.faults plan.now pass.old pass.new) }
+    ensures stopped { OnErr result (HasStopped T.died T.faults plan.now pass.old pass.new) }
     ensures won { OnOk result (IsAtWork plan.now pass.new pocket.new) }
 {
-    for _drawn in 0..plan.ticket_count() + 1 {
-        match ledger.draw(pass) {
-            Some(claim) => try_shard(maker, plan, ledger, pass, pocket, &claim)?,
-            None => return Ok(()),
-        }
+    while let Some(claim) = ledger.draw(pass) {
+        try_shard(maker, plan, ledger, pass, pocket, &claim)?;
     }
     Ok(())
 }
@@ -42,18 +47,14 @@ fn try_shard<T: Load, M: Maker<T>>(
     requires of { (pass.old.ledger ≡ ledger.now) × (M.plan maker.old ≡ plan.now) }
     requires ready { IsAtWork plan.now pass.old pocket.old }
     requires drew { HasDrawn claim.now pass.old.mine }
-    ensures goes { Goes pass.old pass.new }
     ensures plan { M.plan maker.new ≡ M.plan maker.old }
+    ensures ok { OnOk result (Leads T.died T.faults plan.now pass.old pass.new claim.now.ticket asks ended) }
+    ensures err { OnErr result (Stops T.died T.faults plan.now pass.old pass.new claim.now.ticket asks) }
     ensures won { OnOk result (IsAtWork plan.now pass.new pocket.new) }
 {
-    for _asked in 0..plan.attempts() + 1 {
-        match ledger.number(pass, claim) {
-            Some(number) => {
-                if try_once(maker, plan, ledger, pass, pocket, claim, number)? {
-                    return Ok(());
-                }
-            }
-            None => return Ok(()),
+    while let Some(number) = ledger.number(pass, claim) {
+        if try_once(maker, plan, ledger, pass, pocket, claim, number)? {
+            return Ok(());
         }
     }
     Ok(())
@@ -73,9 +74,10 @@ fn try_once<T: Load, M: Maker<T>>(
     requires ready { IsAtWork plan.now pass.old pocket.old }
     requires drew { HasDrawn claim.now pass.old.mine }
     requires given { HasNumber claim.now number pass.old.mine }
-    ensures goes { Goes pass.old pass.new }
     ensures plan { M.plan maker.new ≡ M.plan maker.old }
-    ensures won { IfOk result (λ ended. IsAtWork plan.now pass.new pocket.new) }
+    ensures ok { IfOk result (λ done. Leads T.died T.faults plan.now pass.old pass.new claim.now.ticket (tries number) (phase_behind done)) }
+    ensures err { OnErr result (Stops T.died T.faults plan.now pass.old pass.new claim.now.ticket (tries number)) }
+    ensures won { OnOk result (IsAtWork plan.now pass.new pocket.new) }
 {
     match maker.attempt(claim, number) {
         Ok(part) => {
@@ -109,7 +111,8 @@ fn settle<T: Load>(
     requires drew { HasDrawn claim.now pass.old.mine }
     requires given { HasNumber claim.now number pass.old.mine }
     requires part { (T.plan part ≡ plan.now) × T.stands part (claim.now.shard ∷ []) }
-    ensures goes { Goes pass.old pass.new }
+    requires gave { IsTruePart T.died T.faults claim.now.shard number }
+    ensures led { Leads T.died T.faults plan.now pass.old pass.new claim.now.ticket (tries number) ended }
     ensures won { OnOk result (IsAtWork plan.now pass.new pocket.new) }
 {
     match ledger.settle(pass, claim, number) {

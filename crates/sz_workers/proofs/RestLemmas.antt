@@ -14,7 +14,7 @@ use Rattle.sz_book.specs.History.{IsAmong, AreApart}
 use Rattle.sz_attempt.specs.declared.job.Job.{Job}
 use Rattle.sz_attempt.specs.Shards.{ShardData, IsJob}
 use Rattle.sz_attempt.specs.declared.ends.AttemptEnd.TheVariants as answers
-use Rattle.sz_attempt.specs.Attempts.{gives, faults, end_of, dies_at, all_die, is_lost, is_clean}
+use Rattle.sz_attempt.specs.Attempts.{gives, faults, shard_means, end_of, dies_at, all_die, is_lost, is_clean}
 use Rattle.sz_attempt.specs.Ends.{StandForEmits}
 use Rattle.sz_rounds.specs.declared.round.Round.{Round}
 use Rattle.sz_rounds.specs.Outcomes.{emitted, faulted, lost, outcome_of}
@@ -171,6 +171,22 @@ fault_faults job round place k number fault less end = record {
   alive = not_all job end.0 job.attempts k less (ap dies_at end.2);
   faults = ap is_clean (faults_means job end.0 k number (seen_fault fault) end.2);
 }
+
+-- an attempt that gave its emits did not die, and its shard doesn't fault
+pub part_lives : (job : Job) (round : Round) (place k : ℕ) (total : TotalState) → IsEndOf job round place k (answers.Part total)
+    → ¬ Dies job (shards_of round) place k × ¬ Faults job (shards_of round) place
+part_lives job round place k total end =
+    let shards : List ShardData = shards_of round in (
+      (λ (d : Dies job shards place k).
+          let same : end.0 ≡ d.shard = same_there shards place end.0 d.shard end.1 d.there in
+          let lives : dies_at (end_of job d.shard k) ≡ false = subst (λ (q : ShardData). dies_at (end_of job q k) ≡ false) same (ap dies_at end.2.1) in
+          let wrong : true ≡ false = sym d.dies ∙ lives in absurd (cc wrong)),
+      (λ (f : Faults job shards place).
+          let same : end.0 ≡ f.shard = same_there shards place end.0 f.shard end.1 f.there in
+          let clean : is_clean (shard_means job f.shard) ≡ true =
+          subst (λ (q : ShardData). is_clean (shard_means job q) ≡ true) same (ap is_clean (gives_means job end.0 k end.2.0 end.2.1)) in
+          let wrong : true ≡ false = sym clean ∙ f.faults in absurd (cc wrong)),
+    )
 
 -- all attempts of the shard at a place died that have a number below this one
 abbrev pub AllDied : Job → Round → ℕ → ℕ → Type 0

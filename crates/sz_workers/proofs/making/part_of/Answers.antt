@@ -1,6 +1,6 @@
 use Rattle.std.proofs.Common.{subst}
 use Rattle.sz_workers.specs.Ends.{IsEndOf}
-use Rattle.sz_workers.proofs.RestLemmas.{part_holds, fault_faults, died_dies}
+use Rattle.sz_workers.proofs.RestLemmas.{part_holds, part_lives, fault_faults, died_dies}
 use Rattle.sz_workers.proofs.making.part_of.Goals as goal
 
 pub returns-in-Part-clause-part : goal.returns-in-Part-clause-part
@@ -8,6 +8,13 @@ returns-in-Part-clause-part g c =
     let job = g.N.RoundName.job in
     let round = g.N.RoundName.round in
     part_holds job round c.args.place c.args.number c.in-Part.total c.requires.job c.requires.round c.requires.number
+    (subst (IsEndOf job round c.args.place c.args.number) c.in-Part.is c.requires.end)
+
+pub returns-in-Part-clause-gave : goal.returns-in-Part-clause-gave
+returns-in-Part-clause-gave g c =
+    let job = g.N.RoundName.job in
+    let round = g.N.RoundName.round in
+    part_lives job round c.args.place c.args.number c.in-Part.total
     (subst (IsEndOf job round c.args.place c.args.number) c.in-Part.is c.requires.end)
 
 pub returns-in-Fault-clause-missed : goal.returns-in-Fault-clause-missed
