@@ -31,16 +31,12 @@ abbrev pub is_one_node : Nodes → Bool
 is_one_node (with_node n no_nodes) = true
 is_one_node _ = false
 
-as_it_is : (j : Judged Node) → j ≡ (j >>= λ c. Ok c)
-as_it_is (Ok c) = refl
-as_it_is (Err r) = refl
-
 pub conversion_is : (n : Ident) (t : Shape) (es : Exps) (ns : Nodes)
     → conversion_call n t es ns ≡ conversion_of_first n t es (first_node ns) (is_one es && is_one_node ns)
 conversion_is n t end ns = refl
 conversion_is n t (more e end) no_nodes = refl
 conversion_is n t (more e (more f es)) no_nodes = refl
-conversion_is n t (more e end) (with_node m no_nodes) = as_it_is (conversion_node n.place t e m)
+conversion_is n t (more e end) (with_node m no_nodes) = refl
 conversion_is n t (more e end) (with_node m (with_node o ns)) = refl
 conversion_is n t (more e (more f es)) (with_node m ns) = refl
 

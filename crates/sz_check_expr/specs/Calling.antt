@@ -1,5 +1,5 @@
 -- What contracts see of what is called.
-use Rattle.std.specs.Prelude.{Bool, if◌then◌else◌, Option, Some, None, Ok}
+use Rattle.std.specs.Prelude.{Bool, true, false, Option, Some, None, Ok}
 use Rattle.sz_types.specs.Data.{Shape, FieldShapes}
 use Rattle.sz_types.specs.declared.place.Place.{Place}
 use Rattle.sz_types.specs.Seen.{seen}
@@ -21,10 +21,6 @@ callee_seen (called.Declared n s) = declared n (signature_of s.now)
 callee_seen (called.Predeclared b) = predeclared b
 callee_seen (called.Conversion t) = conversion (seen t)
 
--- a slice, which has the type of what it is cut from
-abbrev pub slice_node : Place → Node → Node → Node → Node
-slice_node p n m o = node p (type_of n) (forms.slice n m o)
-
 -- an argument that fits, or of the wrong type
 abbrev pub fits : Bool → Exp → Judged Unit
 fits holds e = unless holds (wrong_type (place_of e))
@@ -40,9 +36,10 @@ first_node (with_node n ns) = Some n
 
 -- a conversion by the name of a type of the first argument, which must be the only one
 abbrev pub conversion_of_first : Ident → Shape → Exps → Option Node → Bool → Judged Node
-conversion_of_first n t (more e es) (Some m) is_single = do
-  c ← conversion_node n.place t e m
-  if is_single then Ok c else wrong_count n.place
+conversion_of_first n t (more e es) (Some m) true = conversion_node n.place t e m
+conversion_of_first n t (more e es) (Some m) false = do
+  _ ← conversion_node n.place t e m
+  wrong_count n.place
 conversion_of_first n t es m is_single = wrong_count n.place
 
 -- a tuple or a message with these parts

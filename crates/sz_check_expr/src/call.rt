@@ -1,5 +1,5 @@
 //! Names as values, and calls.
-ghost use Rattle.std.specs.Prelude.{◌≡◌, map as each};
+ghost use Rattle.std.specs.Prelude.{◌≡◌, IfOk, map as each};
 ghost use Rattle.std.specs.Option.{option_map};
 ghost use Rattle.sz_types.specs.Seen.{seen};
 ghost use Rattle.sz_tree.specs.Expressions.{exps_of, more};
@@ -20,11 +20,11 @@ use crate::agreement::{agree, counted, fits};
 use crate::asks::Asks;
 use crate::path::conversion_node;
 use crate::rows::{builtin_row, has_elements, has_keys_of, is_found_in, is_map, is_searched_for};
-use std::alloc::Global;
+use std::alloc::{AllocError, Global};
 use sz_core::{CoreExpr, Form, Signature};
 use sz_known::{CheckError, Means};
 use sz_tree::{Expr, Name};
-use sz_types::{Builtin, Ty, copy_ty};
+use sz_types::{Builtin, Ty, converts, copy_ty};
 
 // A name as a value.
 pub fn variable_node(alloc: Global, name: &Name, means: Means<'_>) -> Result<CoreExpr, CheckError>
@@ -192,34 +192,39 @@ fn predeclared_call(
     }
 }
 
-// The first of these, if there is one.
-fn first_of(nodes: Vec<CoreExpr>) -> Option<CoreExpr>
-    ensures value { option_map node_of result ≡ first_node (nodes_of (each node_of nodes.items)) }
+// The first of these on the heap, if there is one.
+fn first_of(alloc: Global, nodes: Vec<CoreExpr>) -> Result<Option<Box<CoreExpr>>, AllocError>
+    ensures value { IfOk result
+        (λ first. option_map (λ n. node_of n.value) first ≡ first_node (nodes_of (each node_of nodes.items))) }
 {
-    nodes.into_iter().next()
+    match nodes.into_iter().next() {
+        Some(node) => Ok(Some(Box::new(alloc, node)?)),
+        None => Ok(None),
+    }
 }
 
 // A conversion by the name of a type of the first argument, which must be the only one.
 fn conversion_of_first(
-    alloc: Global,
     name: &Name,
     ty: Ty,
     trees: &[Expr],
-    node: Option<CoreExpr>,
+    node: Option<Box<CoreExpr>>,
     is_single: bool,
 ) -> Result<CoreExpr, CheckError>
     ensures value { Judges node_of result
-        (conversion_of_first name.now (seen ty) (exps_of (each tree_of trees.now)) (option_map node_of node) is_single) }
+        (conversion_of_first name.now (seen ty) (exps_of (each tree_of trees.now)) (option_map (λ n. node_of n.value) node)
+        is_single) }
 {
     let place = name.place();
     let ([tree, ..], Some(node)) = (trees, node) else {
         return Err(CheckError::at(12, place));
     };
-    let converted = conversion_node(alloc, place, ty, tree, node)?;
     if is_single {
-        Ok(converted)
-    } else {
+        conversion_node(place, ty, tree, node)
+    } else if converts(&node.ty, &ty) {
         Err(CheckError::at(12, place))
+    } else {
+        Err(CheckError::at(9, tree.place()))
     }
 }
 
@@ -236,7 +241,7 @@ fn conversion_call(
         (conversion_call name.now (seen ty) (exps_of (each tree_of trees.now)) (nodes_of (each node_of nodes.items))) }
 {
     let is_single = trees.len() == 1 && nodes.len() == 1;
-    conversion_of_first(alloc, name, ty, trees, first_of(nodes), is_single)
+    conversion_of_first(name, ty, trees, first_of(alloc, nodes)?, is_single)
 }
 
 // A call, once its arguments are judged.
