@@ -1,6 +1,5 @@
 //! Names as values, and calls.
-ghost use Rattle.std.specs.Prelude.{◌≡◌, IfOk, map as each};
-ghost use Rattle.std.specs.Option.{option_map};
+ghost use Rattle.std.specs.Prelude.{◌≡◌, map as each};
 ghost use Rattle.sz_types.specs.Seen.{seen};
 ghost use Rattle.sz_tree.specs.Expressions.{exps_of, more};
 ghost use Rattle.sz_types.specs.declared.operator.Builtin.TheVariants.{HasKey, StrFind};
@@ -12,19 +11,18 @@ ghost use Rattle.sz_types.specs.Rows.{arity};
 ghost use Rattle.sz_judge.specs.JudgingExpressions.{variable_node};
 ghost use Rattle.sz_judge.specs.JudgingCalls.{callee_of, asks_of_callee, declared_call, predeclared_call, conversion_call, made_call};
 ghost use Rattle.sz_check_expr.specs.Asking.{asks_of};
-ghost use Rattle.sz_check_expr.specs.Calling.{callee_seen, first_node, conversion_of_first};
+ghost use Rattle.sz_check_expr.specs.Calling.{callee_seen, first_converts, first_converted};
 ghost use Rattle.sz_known.specs.Holding.{means_of};
 ghost use Rattle.sz_known.specs.Outcome.{Judges};
 
 use crate::agreement::{agree, counted, fits};
 use crate::asks::Asks;
-use crate::path::conversion_node;
 use crate::rows::{builtin_row, has_elements, has_keys_of, is_found_in, is_map, is_searched_for};
-use std::alloc::{AllocError, Global};
+use std::alloc::Global;
 use sz_core::{CoreExpr, Form, Signature};
 use sz_known::{CheckError, Means};
 use sz_tree::{Expr, Name};
-use sz_types::{Builtin, Ty, converts, copy_ty};
+use sz_types::{Builtin, Place, Ty, converts, copy_ty};
 
 // A name as a value.
 pub fn variable_node(alloc: Global, name: &Name, means: Means<'_>) -> Result<CoreExpr, CheckError>
@@ -192,39 +190,46 @@ fn predeclared_call(
     }
 }
 
-// The first of these on the heap, if there is one.
-fn first_of(alloc: Global, nodes: Vec<CoreExpr>) -> Result<Option<Box<CoreExpr>>, AllocError>
-    ensures value { IfOk result
-        (λ first. option_map (λ n. node_of n.value) first ≡ first_node (nodes_of (each node_of nodes.items))) }
+// The first argument converts to the type, and is the only one.
+fn first_converts(
+    place: Place,
+    ty: &Ty,
+    trees: &[Expr],
+    nodes: &[CoreExpr],
+    is_single: bool,
+) -> Result<(), CheckError>
+    ensures value { Judges (λ x. x) result
+        (first_converts place (seen ty.now) (exps_of (each tree_of trees.now)) (nodes_of (each node_of nodes.now)) is_single) }
 {
-    match nodes.into_iter().next() {
-        Some(node) => Ok(Some(Box::new(alloc, node)?)),
-        None => Ok(None),
+    let [tree, ..] = trees else {
+        return Err(CheckError::at(12, place));
+    };
+    let [node, ..] = nodes else {
+        return Err(CheckError::at(12, place));
+    };
+    fits(converts(&node.ty, ty), tree)?;
+    if is_single {
+        Ok(())
+    } else {
+        Err(CheckError::at(12, place))
     }
 }
 
-// A conversion by the name of a type of the first argument, which must be the only one.
-fn conversion_of_first(
-    name: &Name,
+// The first of these, converted to the type.
+fn first_converted(
+    alloc: Global,
+    place: Place,
     ty: Ty,
-    trees: &[Expr],
-    node: Option<Box<CoreExpr>>,
-    is_single: bool,
+    nodes: Vec<CoreExpr>,
 ) -> Result<CoreExpr, CheckError>
-    ensures value { Judges node_of result
-        (conversion_of_first name.now (seen ty) (exps_of (each tree_of trees.now)) (option_map (λ n. node_of n.value) node)
-        is_single) }
+    ensures value { Judges node_of result (first_converted place (seen ty) (nodes_of (each node_of nodes.items))) }
 {
-    let place = name.place();
-    let ([tree, ..], Some(node)) = (trees, node) else {
-        return Err(CheckError::at(12, place));
-    };
-    if is_single {
-        conversion_node(place, ty, tree, node)
-    } else if converts(&node.ty, &ty) {
-        Err(CheckError::at(12, place))
-    } else {
-        Err(CheckError::at(9, tree.place()))
+    match nodes.into_iter().next() {
+        Some(node) => {
+            let form = Form::Convert(Box::new(alloc, node)?);
+            Ok(CoreExpr { place, ty, form })
+        }
+        None => Err(CheckError::at(12, place)),
     }
 }
 
@@ -240,8 +245,10 @@ fn conversion_call(
     ensures value { Judges node_of result
         (conversion_call name.now (seen ty) (exps_of (each tree_of trees.now)) (nodes_of (each node_of nodes.items))) }
 {
+    let place = name.place();
     let is_single = trees.len() == 1 && nodes.len() == 1;
-    conversion_of_first(name, ty, trees, first_of(alloc, nodes)?, is_single)
+    first_converts(place, &ty, trees, nodes.as_slice(), is_single)?;
+    first_converted(alloc, place, ty, nodes)
 }
 
 // A call, once its arguments are judged.
