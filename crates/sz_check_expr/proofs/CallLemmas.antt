@@ -1,9 +1,10 @@
 -- Calls and composites, by what the code looks at first.
 use Rattle.std.proofs.Common.{◌≡◌, ◌<◌, Bool, true, false, List, [], ◌∷◌, length, map, Some, None, refl, sym, nat_eq, arith}
 use Rattle.std.proofs.lemmas.Bool.{ne_eqb}
-use Rattle.std.specs.Prelude.{Ok, Err, ◌&&◌}
+use Rattle.std.specs.Prelude.{Ok, ◌&&◌, if◌then◌else◌}
 use Rattle.sz_types.specs.Data.{Shape, FieldShapes, fields_of}
 use Rattle.sz_types.specs.Rows.{builtin_row}
+use Rattle.sz_types.specs.Conversions.{converts_to}
 use Rattle.sz_types.specs.Seen.{seen_field}
 use Rattle.sz_types.specs.declared.place.Place.{Place}
 use Rattle.sz_types.specs.declared.ty.Field.{Field}
@@ -11,16 +12,17 @@ use Rattle.sz_types.specs.declared.operator.Builtin.{Builtin}
 use Rattle.sz_types.specs.declared.operator.Builtin.TheVariants.{Len, Keys, HasKey, StrFind}
 use Rattle.sz_tree.specs.Names.{Ident}
 use Rattle.sz_tree.specs.declared.expr.Expr.{Expr}
-use Rattle.sz_tree.specs.Expressions.{Exps, end, more, exps_of}
+use Rattle.sz_tree.specs.Expressions.{Exps, end, more, exps_of, place_of}
 use Rattle.sz_tree.specs.View.{tree_of}
 use Rattle.sz_core.specs.declared.expr.CoreExpr.{CoreExpr}
-use Rattle.sz_core.specs.Nodes.{Node, Nodes, no_nodes, with_node, nodes_of, types_of}
+use Rattle.sz_core.specs.Nodes.{Node, node, Nodes, no_nodes, with_node, nodes_of, type_of, types_of}
+use Rattle.sz_core.specs.Nodes as forms
 use Rattle.sz_core.specs.View.{node_of}
-use Rattle.sz_judge.specs.Refusals.{Judged, ◌>>=◌}
-use Rattle.sz_judge.specs.JudgingCalls.{conversion_node, conversion_call}
+use Rattle.sz_judge.specs.Refusals.{◌>>=◌, unless, wrong_type, wrong_count}
+use Rattle.sz_judge.specs.JudgingCalls.{conversion_call}
 use Rattle.sz_judge.specs.JudgingComposites.{asks_of_list, made_tuple}
 use Rattle.sz_judge.specs.Agreeing.{in_turn, field_types, fields_count}
-use Rattle.sz_check_expr.specs.Calling.{first_node, conversion_of_first, tuple_of}
+use Rattle.sz_check_expr.specs.Calling.{first_converts, first_converted, tuple_of}
 
 -- whether there is one expression
 abbrev pub is_one : Exps → Bool
@@ -31,18 +33,29 @@ abbrev pub is_one_node : Nodes → Bool
 is_one_node (with_node n no_nodes) = true
 is_one_node _ = false
 
-as_it_is : (j : Judged Node) → j ≡ (j >>= λ c. Ok c)
-as_it_is (Ok c) = refl
-as_it_is (Err r) = refl
+-- one argument, and one beside others
+alone : (converts : Bool) (n : Node) (p q : Place)
+    → (if converts then Ok n else wrong_type q) ≡ ((unless converts (wrong_type q) >>= λ _. unless true (wrong_count p)) >>= λ _. Ok n)
+alone true n p q = refl
+alone false n p q = refl
 
-pub conversion_is : (n : Ident) (t : Shape) (es : Exps) (ns : Nodes)
-    → conversion_call n t es ns ≡ conversion_of_first n t es (first_node ns) (is_one es && is_one_node ns)
+beside : (converts : Bool) (n : Node) (p q : Place)
+    → ((if converts then Ok n else wrong_type q) >>= λ (_ : Node). wrong_count p)
+    ≡ ((unless converts (wrong_type q) >>= λ _. unless false (wrong_count p)) >>= λ _. Ok n)
+beside true n p q = refl
+beside false n p q = refl
+
+pub conversion_is : (n : Ident) (t : Shape) (es : Exps) (ns : Nodes) → conversion_call n t es ns
+    ≡ (first_converts n.place t es ns (is_one es && is_one_node ns) >>= λ _. first_converted n.place t ns)
 conversion_is n t end ns = refl
 conversion_is n t (more e end) no_nodes = refl
 conversion_is n t (more e (more f es)) no_nodes = refl
-conversion_is n t (more e end) (with_node m no_nodes) = as_it_is (conversion_node n.place t e m)
-conversion_is n t (more e end) (with_node m (with_node o ns)) = refl
-conversion_is n t (more e (more f es)) (with_node m ns) = refl
+conversion_is n t (more e end) (with_node m no_nodes) =
+    alone (converts_to (type_of m) t) (node n.place t (forms.convert m)) n.place (place_of e)
+conversion_is n t (more e end) (with_node m (with_node o ns)) =
+    beside (converts_to (type_of m) t) (node n.place t (forms.convert m)) n.place (place_of e)
+conversion_is n t (more e (more f es)) (with_node m ns) =
+    beside (converts_to (type_of m) t) (node n.place t (forms.convert m)) n.place (place_of e)
 
 pub one_is : (es : List Expr) → is_one (exps_of (map tree_of es)) ≡ nat_eq (length es) 1
 one_is [] = refl

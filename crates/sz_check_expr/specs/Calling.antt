@@ -1,9 +1,9 @@
 -- What contracts see of what is called.
-use Rattle.std.specs.Prelude.{Bool, if◌then◌else◌, Option, Some, None, Ok}
+use Rattle.std.specs.Prelude.{Bool, Some, Ok}
 use Rattle.sz_types.specs.Data.{Shape, FieldShapes}
+use Rattle.sz_types.specs.Conversions.{converts_to}
 use Rattle.sz_types.specs.declared.place.Place.{Place}
 use Rattle.sz_types.specs.Seen.{seen}
-use Rattle.sz_tree.specs.Names.{Ident}
 use Rattle.sz_tree.specs.Expressions.{Exp, Exps, more, place_of}
 use Rattle.sz_core.specs.Nodes.{Node, node, Nodes, no_nodes, with_node, type_of}
 use Rattle.sz_core.specs.Nodes as forms
@@ -12,7 +12,7 @@ use Rattle.sz_check_expr.specs.declared.call.Callee.{Callee as Called}
 use Rattle.sz_check_expr.specs.declared.call.Callee.TheVariants as called
 use Rattle.sz_judge.specs.Refusals.{Judged, ◌>>=◌, unless, wrong_type, wrong_count}
 use Rattle.sz_judge.specs.Agreeing.{in_turn, agree, counted, field_types, fields_count}
-use Rattle.sz_judge.specs.JudgingCalls.{Callee, declared, predeclared, conversion, conversion_node}
+use Rattle.sz_judge.specs.JudgingCalls.{Callee, declared, predeclared, conversion}
 use Rattle.sz_judge.specs.JudgingComposites.{made_list}
 
 -- what is called
@@ -20,10 +20,6 @@ abbrev pub callee_seen : Called → Callee
 callee_seen (called.Declared n s) = declared n (signature_of s.now)
 callee_seen (called.Predeclared b) = predeclared b
 callee_seen (called.Conversion t) = conversion (seen t)
-
--- a slice, which has the type of what it is cut from
-abbrev pub slice_node : Place → Node → Node → Node → Node
-slice_node p n m o = node p (type_of n) (forms.slice n m o)
 
 -- an argument that fits, or of the wrong type
 abbrev pub fits : Bool → Exp → Judged Unit
@@ -33,17 +29,17 @@ fits holds e = unless holds (wrong_type (place_of e))
 abbrev pub made_array : Place → Shape → Exps → Nodes → Judged Node
 made_array p t es ns = made_list p (Some (Shape.array t)) es ns
 
--- the first of some expressions
-abbrev pub first_node : Nodes → Option Node
-first_node no_nodes = None
-first_node (with_node n ns) = Some n
+-- the first argument converts to the type, and is the only one
+abbrev pub first_converts : Place → Shape → Exps → Nodes → Bool → Judged Unit
+first_converts p t (more e es) (with_node m ms) is_single = do
+  _ ← fits (converts_to (type_of m) t) e
+  unless is_single (wrong_count p)
+first_converts p t es ms is_single = wrong_count p
 
--- a conversion by the name of a type of the first argument, which must be the only one
-abbrev pub conversion_of_first : Ident → Shape → Exps → Option Node → Bool → Judged Node
-conversion_of_first n t (more e es) (Some m) is_single = do
-  c ← conversion_node n.place t e m
-  if is_single then Ok c else wrong_count n.place
-conversion_of_first n t es m is_single = wrong_count n.place
+-- the first of some expressions, converted to the type
+abbrev pub first_converted : Place → Shape → Nodes → Judged Node
+first_converted p t (with_node m ms) = Ok (node p t (forms.convert m))
+first_converted p t no_nodes = wrong_count p
 
 -- a tuple or a message with these parts
 abbrev pub tuple_of : Place → Shape → FieldShapes → Exps → Nodes → Judged Node

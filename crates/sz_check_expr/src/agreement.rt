@@ -96,6 +96,7 @@ pub fn converted(
     if alike(&node.ty, ty) {
         Ok(node)
     } else {
-        conversion_node(alloc, tree.place(), copy_ty(alloc, ty)?, tree, node)
+        let node = Box::new(alloc, node)?;
+        conversion_node(tree.place(), copy_ty(alloc, ty)?, tree, node)
     }
 }

@@ -1,6 +1,5 @@
 //! Names as values, and calls.
 ghost use Rattle.std.specs.Prelude.{◌≡◌, map as each};
-ghost use Rattle.std.specs.Option.{option_map};
 ghost use Rattle.sz_types.specs.Seen.{seen};
 ghost use Rattle.sz_tree.specs.Expressions.{exps_of, more};
 ghost use Rattle.sz_types.specs.declared.operator.Builtin.TheVariants.{HasKey, StrFind};
@@ -12,19 +11,18 @@ ghost use Rattle.sz_types.specs.Rows.{arity};
 ghost use Rattle.sz_judge.specs.JudgingExpressions.{variable_node};
 ghost use Rattle.sz_judge.specs.JudgingCalls.{callee_of, asks_of_callee, declared_call, predeclared_call, conversion_call, made_call};
 ghost use Rattle.sz_check_expr.specs.Asking.{asks_of};
-ghost use Rattle.sz_check_expr.specs.Calling.{callee_seen, first_node, conversion_of_first};
+ghost use Rattle.sz_check_expr.specs.Calling.{callee_seen, first_converts, first_converted};
 ghost use Rattle.sz_known.specs.Holding.{means_of};
 ghost use Rattle.sz_known.specs.Outcome.{Judges};
 
 use crate::agreement::{agree, counted, fits};
 use crate::asks::Asks;
-use crate::path::conversion_node;
 use crate::rows::{builtin_row, has_elements, has_keys_of, is_found_in, is_map, is_searched_for};
 use std::alloc::Global;
 use sz_core::{CoreExpr, Form, Signature};
 use sz_known::{CheckError, Means};
 use sz_tree::{Expr, Name};
-use sz_types::{Builtin, Ty, copy_ty};
+use sz_types::{Builtin, Place, Ty, converts, copy_ty};
 
 // A name as a value.
 pub fn variable_node(alloc: Global, name: &Name, means: Means<'_>) -> Result<CoreExpr, CheckError>
@@ -192,34 +190,46 @@ fn predeclared_call(
     }
 }
 
-// The first of these, if there is one.
-fn first_of(nodes: Vec<CoreExpr>) -> Option<CoreExpr>
-    ensures value { option_map node_of result ≡ first_node (nodes_of (each node_of nodes.items)) }
-{
-    nodes.into_iter().next()
-}
-
-// A conversion by the name of a type of the first argument, which must be the only one.
-fn conversion_of_first(
-    alloc: Global,
-    name: &Name,
-    ty: Ty,
+// The first argument converts to the type, and is the only one.
+fn first_converts(
+    place: Place,
+    ty: &Ty,
     trees: &[Expr],
-    node: Option<CoreExpr>,
+    nodes: &[CoreExpr],
     is_single: bool,
-) -> Result<CoreExpr, CheckError>
-    ensures value { Judges node_of result
-        (conversion_of_first name.now (seen ty) (exps_of (each tree_of trees.now)) (option_map node_of node) is_single) }
+) -> Result<(), CheckError>
+    ensures value { Judges (λ x. x) result
+        (first_converts place (seen ty.now) (exps_of (each tree_of trees.now)) (nodes_of (each node_of nodes.now)) is_single) }
 {
-    let place = name.place();
-    let ([tree, ..], Some(node)) = (trees, node) else {
+    let [tree, ..] = trees else {
         return Err(CheckError::at(12, place));
     };
-    let converted = conversion_node(alloc, place, ty, tree, node)?;
+    let [node, ..] = nodes else {
+        return Err(CheckError::at(12, place));
+    };
+    fits(converts(&node.ty, ty), tree)?;
     if is_single {
-        Ok(converted)
+        Ok(())
     } else {
         Err(CheckError::at(12, place))
+    }
+}
+
+// The first of these, converted to the type.
+fn first_converted(
+    alloc: Global,
+    place: Place,
+    ty: Ty,
+    nodes: Vec<CoreExpr>,
+) -> Result<CoreExpr, CheckError>
+    ensures value { Judges node_of result (first_converted place (seen ty) (nodes_of (each node_of nodes.items))) }
+{
+    match nodes.into_iter().next() {
+        Some(node) => {
+            let form = Form::Convert(Box::new(alloc, node)?);
+            Ok(CoreExpr { place, ty, form })
+        }
+        None => Err(CheckError::at(12, place)),
     }
 }
 
@@ -235,8 +245,10 @@ fn conversion_call(
     ensures value { Judges node_of result
         (conversion_call name.now (seen ty) (exps_of (each tree_of trees.now)) (nodes_of (each node_of nodes.items))) }
 {
+    let place = name.place();
     let is_single = trees.len() == 1 && nodes.len() == 1;
-    conversion_of_first(alloc, name, ty, trees, first_of(nodes), is_single)
+    first_converts(place, &ty, trees, nodes.as_slice(), is_single)?;
+    first_converted(alloc, place, ty, nodes)
 }
 
 // A call, once its arguments are judged.

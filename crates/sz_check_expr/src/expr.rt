@@ -53,25 +53,40 @@ pub fn judge_exp(
             judge_mapping(alloc, known, site, asked, *place, pairs.as_slice())
         }
         Expr::Index(place, part, key) => {
-            let node = judge_exp(alloc, known, site, None, part)?;
-            let at = judge_exp(alloc, known, site, None, key)?;
+            let node = judge_part(alloc, known, site, None, part)?;
+            let at = judge_part(alloc, known, site, None, key)?;
             made_index(alloc, *place, part, key, node, at)
         }
         Expr::Slice(place, part, from, to) => {
-            let node = judge_exp(alloc, known, site, None, part)?;
-            let first = judge_exp(alloc, known, site, None, from)?;
-            let last = judge_exp(alloc, known, site, None, to)?;
+            let node = judge_part(alloc, known, site, None, part)?;
+            let first = judge_part(alloc, known, site, None, from)?;
+            let last = judge_part(alloc, known, site, None, to)?;
             made_slice(alloc, *place, part, from, to, node, first, last)
         }
         Expr::Field(place, part, name) => judge_field(alloc, known, site, *place, part, name),
         Expr::Unary(place, op, part) => judge_unary(alloc, known, site, *place, *op, part),
         Expr::Binary(place, op, left, right) => {
-            let first = judge_exp(alloc, known, site, None, left)?;
+            let first = judge_part(alloc, known, site, None, left)?;
             let asked = asked_of_right(*op, &first.ty);
-            let second = judge_exp(alloc, known, site, asked, right)?;
+            let second = judge_part(alloc, known, site, asked, right)?;
             made_binary(alloc, *place, *op, left, right, first, second)
         }
     }
+}
+
+// The checked expression on the heap, as a part of another.
+#[cycle(expr)]
+fn judge_part(
+    alloc: Global,
+    known: &Known,
+    site: Site,
+    asked: Option<&Ty>,
+    tree: &Expr,
+) -> Result<Box<CoreExpr>, CheckError>
+    ensures value { Judges (λ made. node_of made.value) result
+        (judge_exp (blocks_for known.now site) (may_emit site) (asked_of asked.entry) (tree_of tree.now)) }
+{
+    Ok(Box::new(alloc, judge_exp(alloc, known, site, asked, tree)?)?)
 }
 
 // A name as a value.
@@ -119,13 +134,9 @@ fn judge_def(
     ensures value { (asked : Option Shape) → Judges node_of result
         (judge_exp (blocks_for known.now site) (may_emit site) asked (def place (tree_of tree.now))) }
 {
-    let node = judge_exp(alloc, known, site, None, tree)?;
-    let form = Form::Def(Box::new(alloc, node)?);
-    Ok(CoreExpr {
-        place,
-        ty: Ty::Bool,
-        form,
-    })
+    let form = Form::Def(judge_part(alloc, known, site, None, tree)?);
+    let ty = Ty::Bool;
+    Ok(CoreExpr { place, ty, form })
 }
 
 // A conversion to a type that is a word.
@@ -142,8 +153,8 @@ fn judge_conversion(
     ensures value { (asked : Option Shape) → Judges node_of result
         (judge_exp (blocks_for known.now site) (may_emit site) asked (convert place basic (tree_of tree.now))) }
 {
-    let node = judge_exp(alloc, known, site, None, tree)?;
-    conversion_node(alloc, place, basic_type(basic), tree, node)
+    let node = judge_part(alloc, known, site, None, tree)?;
+    conversion_node(place, basic_type(basic), tree, node)
 }
 
 // `{e, ..}`.
@@ -199,7 +210,7 @@ fn judge_field(
     ensures value { (asked : Option Shape) → Judges node_of result
         (judge_exp (blocks_for known.now site) (may_emit site) asked (field place (tree_of tree.now) name.now)) }
 {
-    let node = judge_exp(alloc, known, site, None, tree)?;
+    let node = judge_part(alloc, known, site, None, tree)?;
     made_field(alloc, place, tree, node, name)
 }
 
@@ -217,8 +228,8 @@ fn judge_unary(
     ensures value { (asked : Option Shape) → Judges node_of result
         (judge_exp (blocks_for known.now site) (may_emit site) asked (unary place op (tree_of tree.now))) }
 {
-    let node = judge_exp(alloc, known, site, None, tree)?;
-    made_unary(alloc, place, op, tree, node)
+    let node = judge_part(alloc, known, site, None, tree)?;
+    made_unary(place, op, tree, node)
 }
 
 /// Checked expressions in order, of which these types are asked, or the first refusal in them.

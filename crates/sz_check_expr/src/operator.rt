@@ -32,17 +32,16 @@ fn unary_of(op: UnaryOp) -> UnOp
 
 // An operator before its operand.
 pub fn made_unary(
-    alloc: Global,
     place: Place,
     op: UnaryOp,
     tree: &Expr,
-    node: CoreExpr,
+    node: Box<CoreExpr>,
 ) -> Result<CoreExpr, CheckError>
-    ensures value { Judges node_of result (made_unary place op (tree_of tree.now) (node_of node)) }
+    ensures value { Judges node_of result (made_unary place op (tree_of tree.now) (node_of node.value)) }
 {
     match unary_row(unary_of(op), &node.ty) {
         Some(ty) => {
-            let form = Form::Unary(unary_of(op), Box::new(alloc, node)?);
+            let form = Form::Unary(unary_of(op), node);
             Ok(CoreExpr { place, ty, form })
         }
         None => Err(CheckError::at(9, tree.place())),
@@ -135,18 +134,18 @@ fn made_operator(
     op: BinOp,
     left: &Expr,
     right: &Expr,
-    first: CoreExpr,
-    second: CoreExpr,
+    first: Box<CoreExpr>,
+    second: Box<CoreExpr>,
 ) -> Result<CoreExpr, CheckError>
     ensures value { Judges node_of result
-        (made_operator place op (tree_of left.now) (tree_of right.now) (node_of first) (node_of second)) }
+        (made_operator place op (tree_of left.now) (tree_of right.now) (node_of first.value) (node_of second.value)) }
 {
     if !takes_left(op, &first.ty) {
         return Err(CheckError::at(9, left.place()));
     }
     match binary_row(alloc, op, &first.ty, &second.ty)? {
         Some(ty) => {
-            let form = Form::Binary(op, Box::new(alloc, first)?, Box::new(alloc, second)?);
+            let form = Form::Binary(op, first, second);
             Ok(CoreExpr { place, ty, form })
         }
         None => Err(CheckError::at(9, right.place())),
@@ -167,11 +166,11 @@ pub fn made_binary(
     op: BinaryOp,
     left: &Expr,
     right: &Expr,
-    first: CoreExpr,
-    second: CoreExpr,
+    first: Box<CoreExpr>,
+    second: Box<CoreExpr>,
 ) -> Result<CoreExpr, CheckError>
     ensures value { Judges node_of result
-        (made_binary place (operation_of op) (tree_of left.now) (tree_of right.now) (node_of first) (node_of second)) }
+        (made_binary place (operation_of op) (tree_of left.now) (tree_of right.now) (node_of first.value) (node_of second.value)) }
 {
     let operation = operation_of(op);
     if let Operation::Of(op) = operation {
@@ -179,7 +178,6 @@ pub fn made_binary(
     }
     test(left, &first)?;
     test(right, &second)?;
-    let (first, second) = (Box::new(alloc, first)?, Box::new(alloc, second)?);
     let form = match operation {
         Operation::Or => Form::Or(first, second),
         _ => Form::And(first, second),

@@ -1,22 +1,20 @@
 //! Conversions, and parts of values: indexes, slices and fields.
-ghost use Rattle.std.specs.Prelude.{◌≡◌, IfOk, map as each};
+ghost use Rattle.std.specs.Prelude.{◌≡◌, map as each};
 ghost use Rattle.std.specs.Option.{option_map};
 ghost use Rattle.sz_types.specs.Data.{fields_of};
 ghost use Rattle.sz_types.specs.Seen.{seen, seen_field};
 ghost use Rattle.sz_tree.specs.View.{tree_of};
-ghost use Rattle.sz_core.specs.Nodes.{slice};
-ghost use Rattle.sz_core.specs.View.{node_of, form_of};
+ghost use Rattle.sz_core.specs.View.{node_of};
 ghost use Rattle.sz_judge.specs.Agreeing.{field_named};
 ghost use Rattle.sz_judge.specs.JudgingCalls.{conversion_node};
 ghost use Rattle.sz_judge.specs.JudgingParts.{made_index, whole, made_slice, field_in, made_field};
 ghost use Rattle.sz_check_expr.specs.Asking.{found_of};
-ghost use Rattle.sz_check_expr.specs.Calling.{slice_node};
 ghost use Rattle.sz_known.specs.Outcome.{Judges};
 
 use crate::agreement::fits;
 use crate::kind::{Kind, type_kind};
 use crate::rows::{alike, has_elements, has_slices, index_row};
-use std::alloc::{AllocError, Global};
+use std::alloc::Global;
 use sz_core::{CoreExpr, Form};
 use sz_known::{CheckError, small};
 use sz_tree::{Expr, Name};
@@ -24,18 +22,17 @@ use sz_types::{Field, Place, Ty, converts, copy_ty};
 
 // A conversion at this place of an expression to a type.
 pub fn conversion_node(
-    alloc: Global,
     place: Place,
     ty: Ty,
     tree: &Expr,
-    node: CoreExpr,
+    node: Box<CoreExpr>,
 ) -> Result<CoreExpr, CheckError>
-    ensures value { Judges node_of result (conversion_node place (seen ty) (tree_of tree.now) (node_of node)) }
+    ensures value { Judges node_of result (conversion_node place (seen ty) (tree_of tree.now) (node_of node.value)) }
 {
     if !converts(&node.ty, &ty) {
         return Err(CheckError::at(9, tree.place()));
     }
-    let form = Form::Convert(Box::new(alloc, node)?);
+    let form = Form::Convert(node);
     Ok(CoreExpr { place, ty, form })
 }
 
@@ -45,18 +42,18 @@ pub fn made_index(
     place: Place,
     tree: &Expr,
     index: &Expr,
-    node: CoreExpr,
-    at_node: CoreExpr,
+    node: Box<CoreExpr>,
+    at_node: Box<CoreExpr>,
 ) -> Result<CoreExpr, CheckError>
     ensures value { Judges node_of result
-        (made_index place (tree_of tree.now) (tree_of index.now) (node_of node) (node_of at_node)) }
+        (made_index place (tree_of tree.now) (tree_of index.now) (node_of node.value) (node_of at_node.value)) }
 {
     if !has_elements(&node.ty) {
         return Err(CheckError::at(9, tree.place()));
     }
     match index_row(alloc, &node.ty, &at_node.ty)? {
         Some(ty) => {
-            let form = Form::Index(Box::new(alloc, node)?, Box::new(alloc, at_node)?);
+            let form = Form::Index(node, at_node);
             Ok(CoreExpr { place, ty, form })
         }
         None => Err(CheckError::at(9, index.place())),
@@ -70,35 +67,6 @@ pub fn whole(tree: &Expr, node: &CoreExpr) -> Result<(), CheckError>
     fits(alike(&node.ty, &Ty::Int), tree)
 }
 
-// The form of a slice.
-fn slice_form(
-    alloc: Global,
-    node: CoreExpr,
-    first: CoreExpr,
-    last: CoreExpr,
-) -> Result<Form, AllocError>
-    ensures value { IfOk result (λ made. form_of made ≡ slice (node_of node) (node_of first) (node_of last)) }
-{
-    let node = Box::new(alloc, node)?;
-    let first = Box::new(alloc, first)?;
-    Ok(Form::Slice(node, first, Box::new(alloc, last)?))
-}
-
-// A slice, which has the type of what it is cut from.
-fn sliced(
-    alloc: Global,
-    place: Place,
-    node: CoreExpr,
-    first: CoreExpr,
-    last: CoreExpr,
-) -> Result<CoreExpr, AllocError>
-    ensures value { IfOk result (λ made. node_of made ≡ slice_node place (node_of node) (node_of first) (node_of last)) }
-{
-    let ty = copy_ty(alloc, &node.ty)?;
-    let form = slice_form(alloc, node, first, last)?;
-    Ok(CoreExpr { place, ty, form })
-}
-
 // `e[i: j]`.
 pub fn made_slice(
     alloc: Global,
@@ -106,19 +74,22 @@ pub fn made_slice(
     tree: &Expr,
     from: &Expr,
     to: &Expr,
-    node: CoreExpr,
-    first: CoreExpr,
-    last: CoreExpr,
+    node: Box<CoreExpr>,
+    first: Box<CoreExpr>,
+    last: Box<CoreExpr>,
 ) -> Result<CoreExpr, CheckError>
     ensures value { Judges node_of result
-        (made_slice place (tree_of tree.now) (tree_of from.now) (tree_of to.now) (node_of node) (node_of first) (node_of last)) }
+        (made_slice place (tree_of tree.now) (tree_of from.now) (tree_of to.now) (node_of node.value) (node_of first.value)
+        (node_of last.value)) }
 {
     if !has_slices(&node.ty) {
         return Err(CheckError::at(9, tree.place()));
     }
     whole(from, &first)?;
     whole(to, &last)?;
-    Ok(sliced(alloc, place, node, first, last)?)
+    let ty = copy_ty(alloc, &node.ty)?;
+    let form = Form::Slice(node, first, last);
+    Ok(CoreExpr { place, ty, form })
 }
 
 // The field with this name, with its place, counted from 0.
@@ -157,13 +128,13 @@ pub fn made_field(
     alloc: Global,
     place: Place,
     tree: &Expr,
-    node: CoreExpr,
+    node: Box<CoreExpr>,
     name: &Name,
 ) -> Result<CoreExpr, CheckError>
-    ensures value { Judges node_of result (made_field place (tree_of tree.now) (node_of node) name.now) }
+    ensures value { Judges node_of result (made_field place (tree_of tree.now) (node_of node.value) name.now) }
 {
     let (number, ty) = field_in(alloc, tree.place(), &node.ty, name)?;
     let (number, ty) = (small(number)?, copy_ty(alloc, ty)?);
-    let form = Form::Field(Box::new(alloc, node)?, number);
+    let form = Form::Field(node, number);
     Ok(CoreExpr { place, ty, form })
 }

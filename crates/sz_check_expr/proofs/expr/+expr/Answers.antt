@@ -47,7 +47,7 @@ judge_exp-returns-in_err-last-in-Slice t c =
     let p = err_from_is_err_and c.from_residual-in_err-last-in-Slice.result c.from_residual-in_err-last-in-Slice.ensures.1 in
     let blocks = blocks_for c.args.known.now c.args.site in
     let stopped = slice_stops blocks (may_emit c.args.site) (asked_of c.args.asked) c.in-Slice.place (tree_of c.in-Slice.part.value) (tree_of c.in-Slice.from.value)
-    (tree_of c.in-Slice.to.value) (node_of c.in_ok-node-in-Slice.node) (node_of c.in_ok-first-in-Slice.first) c.in_err-last-in-Slice.field-0.0
+    (tree_of c.in-Slice.to.value) (node_of c.in_ok-node-in-Slice.node.value) (node_of c.in_ok-first-in-Slice.first.value) c.in_err-last-in-Slice.field-0.0
     (rw c.deref-in-Slice.ensures at c.in_ok-node-in-Slice.ensures.value) (rw c.deref-in-Slice-2.ensures at c.in_ok-first-in-Slice.ensures.value)
     (rw c.deref-in-Slice-3.ensures at c.in_err-last-in-Slice.ensures.value) in
     record {
