@@ -12,6 +12,7 @@ use crate::limit::MAX_HEIGHT;
 use crate::nodes::{field, indexed, joined, sliced};
 use crate::operators::{conversion_of, operator, quoted, string, unary_of};
 use crate::token::{expect, ident, name, skip, spelled};
+use crate::values::{at_most, with};
 use std::alloc::Global;
 use sz_lex::{Kind, Quoted, Sign, Token, Word};
 use sz_tree::{Expr, Literal, Name, Pair};
@@ -89,11 +90,11 @@ fn chain<'t>(
         let Some((op, after)) = operator(below + 1, rest) else {
             return Ok((left, height, rest));
         };
-        if left.level() > op.left_level() || height > inner {
-            return Err(Failed::Syntax);
-        }
-        let (right, right_height, after) = expr(alloc, text, inner, below, after)?;
-        left = joined(alloc, op, left, right)?;
+        left = at_most(op.left_level(), left.level(), left)?;
+        left = at_most(inner, height, left)?;
+        let right = expr(alloc, text, inner, below, after);
+        let (front, (right, right_height, after)) = with(left, right)?;
+        left = joined(alloc, op, front, right)?;
         height = 1 + height.max(right_height);
         rest = after;
     }
@@ -202,18 +203,14 @@ fn part<'t>(
 {
     match skip(Sign::OpenBracket, tokens) {
         Some(rest) => {
-            if left_height > inner {
-                return Err(Failed::Syntax);
-            }
+            let left = at_most(inner, left_height, left)?;
             let (tree, height, rest) = bracket(alloc, text, inner, left, left_height, rest)?;
             Ok(((tree, true), height, rest))
         }
         None => match skip(Sign::Dot, tokens) {
             Some(rest) => {
-                if left_height > inner {
-                    return Err(Failed::Syntax);
-                }
-                let (name, rest) = name(alloc, text, rest)?;
+                let left = at_most(inner, left_height, left)?;
+                let (left, (name, rest)) = with(left, name(alloc, text, rest))?;
                 Ok(((field(alloc, left, name)?, true), 1 + left_height, rest))
             }
             None => Ok(((left, false), left_height, tokens)),
@@ -239,10 +236,10 @@ fn bracket<'t>(
     ensures measured { IfOk result (λ x. x.1 ≡ height (tree_of x.0)) }
     ensures low { IfOk result (λ x. x.1 ≤ inner + 1) }
 {
-    let (at, at_height, rest) = expr(alloc, text, inner, 5, tokens)?;
+    let (left, (at, at_height, rest)) = with(left, expr(alloc, text, inner, 5, tokens))?;
     match skip(Sign::Colon, rest) {
         None => {
-            let rest = expect(Sign::CloseBracket, rest)?;
+            let ((left, at), rest) = with((left, at), expect(Sign::CloseBracket, rest))?;
             let tree = indexed(alloc, left, at)?;
             Ok((tree, 1 + left_height.max(at_height), rest))
         }
@@ -272,8 +269,8 @@ fn slice<'t>(
     ensures measured { IfOk result (λ x. x.1 ≡ height (tree_of x.0)) }
     ensures low { IfOk result (λ x. x.1 ≤ inner + 1) }
 {
-    let (to, to_height, rest) = expr(alloc, text, inner, 5, tokens)?;
-    let rest = expect(Sign::CloseBracket, rest)?;
+    let (front, (to, to_height, rest)) = with((left, from), expr(alloc, text, inner, 5, tokens))?;
+    let (((left, from), to), rest) = with((front, to), expect(Sign::CloseBracket, rest))?;
     let tree = sliced(alloc, left, from, to)?;
     Ok((tree, 1 + front_height.max(to_height), rest))
 }
@@ -383,7 +380,7 @@ fn closed<'t>(
     ensures low { IfOk result (λ x. x.1 ≤ inner) }
 {
     let (tree, height, rest) = expr(alloc, text, inner, 5, tokens)?;
-    let rest = expect(Sign::CloseParen, rest)?;
+    let (tree, rest) = with(tree, expect(Sign::CloseParen, rest))?;
     Ok((tree, height, rest))
 }
 
@@ -423,10 +420,8 @@ fn named<'t>(
     match skip(Sign::OpenParen, tokens) {
         None => Ok((Expr::Named(name), 1, tokens)),
         Some(rest) => {
-            if inner == 0 {
-                return Err(Failed::Syntax);
-            }
-            let (arguments, height, rest) = call(alloc, text, inner, rest)?;
+            let name = at_most(inner, 1, name)?;
+            let (name, (arguments, height, rest)) = with(name, call(alloc, text, inner, rest))?;
             Ok((Expr::call(name, arguments), 1 + height.max(1), rest))
         }
     }
@@ -528,17 +523,10 @@ fn composite<'t>(
     match skip(Sign::Colon, rest) {
         None => list(alloc, text, inner, place, first, height, rest),
         Some(rest) => {
-            let (value, value_height, rest) = expr(alloc, text, inner, 5, rest)?;
-            let pair = Pair { key: first, value };
-            map(
-                alloc,
-                text,
-                inner,
-                place,
-                pair,
-                height.max(value_height),
-                rest,
-            )
+            let value = expr(alloc, text, inner, 5, rest);
+            let (key, (value, value_height, rest)) = with(first, value)?;
+            let height = height.max(value_height);
+            map(alloc, text, inner, place, Pair { key, value }, height, rest)
         }
     }
 }
@@ -604,8 +592,8 @@ fn pair<'t>(
     ensures low { IfOk result (λ x. x.1 ≤ inner) }
 {
     let (key, key_height, rest) = expr(alloc, text, inner, 5, tokens)?;
-    let rest = expect(Sign::Colon, rest)?;
-    let (value, value_height, rest) = expr(alloc, text, inner, 5, rest)?;
+    let (key, rest) = with(key, expect(Sign::Colon, rest))?;
+    let (key, (value, value_height, rest)) = with(key, expr(alloc, text, inner, 5, rest))?;
     Ok((Pair { key, value }, key_height.max(value_height), rest))
 }
 

@@ -8,6 +8,7 @@ mod nodes;
 mod operators;
 mod token;
 mod types;
+mod values;
 
 pub use expression::{call, condition, expr};
 pub use failed::Failed;

@@ -1,6 +1,6 @@
 //! Types.
-ghost use Rattle.std.specs.Prelude.{◌≡◌, ◌≤◌, ◌<◌, map as each};
-ghost use Rattle.sz_tree.specs.Types.{params_of, fields_of};
+ghost use Rattle.std.specs.Prelude.{◌≡◌, ◌≤◌, ◌<◌, Some as Just, map as each};
+ghost use Rattle.sz_tree.specs.Types.{map_type, params_of, fields_of};
 ghost use Rattle.sz_tree.specs.View.{type_of, param_of, field_of, elem_of};
 ghost use Rattle.sz_parse_expr.specs.Reading.{utf8_in};
 ghost use Rattle.sz_parse_expr.specs.ReadingTypes.{number_at, label_at, maybe_name_at, elem_at, param_at, params_behind, params_at, proto_field_at, proto_fields_behind, proto_fields_at, array_at, map_type_at, tuple_at, proto_at, basic_of, type_worded, type_step, type_at};
@@ -9,6 +9,7 @@ ghost use Rattle.sz_parse_expr.specs.Outcome.{Gives};
 use crate::failed::Failed;
 use crate::limit::MAX_HEIGHT;
 use crate::token::{expect, expect_word, ident, name, skip};
+use crate::values::with;
 use std::alloc::Global;
 use sz_lex::{Kind, Sign, Token, Word};
 use sz_tree::{BasicType, Elem, Name, Param, ProtoField, TypeTree};
@@ -38,8 +39,7 @@ pub fn label<'t>(
     ensures value { Gives (λ x. (x.0, x.1.now)) result (label_at (utf8_in text.now) tokens.now) }
 {
     let (name, rest) = name(alloc, text, tokens)?;
-    let rest = expect(Sign::Colon, rest)?;
-    Ok((name, rest))
+    with(name, expect(Sign::Colon, rest))
 }
 
 // A name, if there is one.
@@ -154,6 +154,21 @@ fn array<'t>(
     Ok((TypeTree::Array(place, Box::new(alloc, of)?), rest))
 }
 
+// A map of these types.
+fn mapped(
+    alloc: Global,
+    place: Place,
+    name: Option<Name>,
+    key: TypeTree,
+    value: TypeTree,
+) -> Result<TypeTree, Failed>
+    ensures value { Gives type_of result (Just (map_type place name (type_of key) (type_of value))) }
+{
+    let ((name, value), key) = with((name, value), Box::new(alloc, key))?;
+    let ((name, key), value) = with((name, key), Box::new(alloc, value))?;
+    Ok(TypeTree::Map(place, name, key, value))
+}
+
 #[cycle(types)]
 #[tactic(auto, unfolding(crate::specs::ReadingTypes::map_type_at, crate::specs::Reading::bind))]
 fn map<'t>(
@@ -167,12 +182,11 @@ fn map<'t>(
     ensures read { Gives (λ x. (type_of x.0, x.1.now)) result (map_type_at (utf8_in text.now) (type_at (utf8_in text.now) inner) place tokens.now) }
 {
     let rest = expect(Sign::OpenBracket, tokens)?;
-    let (Elem { name, of: key }, rest) = elem(alloc, text, inner, rest)?;
-    let rest = expect(Sign::CloseBracket, rest)?;
-    let rest = expect_word(Word::Of, rest)?;
-    let (value, rest) = type_tree(alloc, text, inner, rest)?;
-    let tree = TypeTree::Map(place, name, Box::new(alloc, key)?, Box::new(alloc, value)?);
-    Ok((tree, rest))
+    let (Elem { name, of }, rest) = elem(alloc, text, inner, rest)?;
+    let (key, rest) = with((name, of), expect(Sign::CloseBracket, rest))?;
+    let (key, rest) = with(key, expect_word(Word::Of, rest))?;
+    let ((name, key), (value, rest)) = with(key, type_tree(alloc, text, inner, rest))?;
+    Ok((mapped(alloc, place, name, key, value)?, rest))
 }
 
 /// A type, with a name and a colon before it or without.
@@ -189,7 +203,7 @@ pub fn elem<'t>(
 {
     match label(alloc, text, tokens) {
         Ok((name, rest)) => {
-            let (of, rest) = type_tree(alloc, text, inner, rest)?;
+            let (name, (of, rest)) = with(name, type_tree(alloc, text, inner, rest))?;
             let name = Some(name);
             Ok((Elem { name, of }, rest))
         }
@@ -249,7 +263,7 @@ fn param<'t>(
     ensures read { Gives (λ x. (param_of x.0, x.1.now)) result (param_at (utf8_in text.now) (type_at (utf8_in text.now) inner) tokens.now) }
 {
     let (name, rest) = label(alloc, text, tokens)?;
-    let (of, rest) = type_tree(alloc, text, inner, rest)?;
+    let (name, (of, rest)) = with(name, type_tree(alloc, text, inner, rest))?;
     Ok((Param { name, of }, rest))
 }
 
@@ -304,10 +318,10 @@ fn field<'t>(
     requires depth { inner < MAX_HEIGHT }
     ensures read { Gives (λ x. (field_of x.0, x.1.now)) result (proto_field_at (utf8_in text.now) (type_at (utf8_in text.now) inner) tokens.now) }
 {
-    let (Param { name, of }, rest) = param(alloc, text, inner, tokens)?;
-    let rest = expect(Sign::At, rest)?;
-    let (number, rest) = number(rest)?;
-    let (label, rest) = maybe_name(alloc, text, rest)?;
+    let (param, rest) = param(alloc, text, inner, tokens)?;
+    let (param, rest) = with(param, expect(Sign::At, rest))?;
+    let (param, (number, rest)) = with(param, number(rest))?;
+    let (Param { name, of }, (label, rest)) = with(param, maybe_name(alloc, text, rest))?;
     let field = ProtoField {
         name,
         of,

@@ -1,10 +1,11 @@
-use Rattle.std.proofs.Common.{◌≡◌, ◌+◌, ◌-◌, ◌≤◌, [], ◌∷◌, ◌++◌, refl, sym, ap, ◌∙◌, inl, inr, arith}
-use Rattle.std.specs.Prelude.{map}
+use Rattle.std.proofs.Common.{◌≡◌, ◌+◌, ◌-◌, ◌≤◌, [], ◌∷◌, ◌++◌, refl, sym, ap, subst, ◌∙◌, inl, inr, arith}
+use Rattle.std.specs.Prelude.{map, IfOk}
 use Rattle.std.proofs.lemmas.Result.{err_from_is_err_and}
 use Rattle.sz_tree.specs.Expressions.{height, pair_heights, pairs_of, binary, place_of}
 use Rattle.sz_tree.specs.View.{tree_of, pair_of}
 use Rattle.sz_parse_expr.specs.Reading.{utf8_in}
 use Rattle.sz_parse_expr.specs.ReadingExpressions.{expr_at, comma_step, pair_step}
+use Rattle.sz_parse_expr.specs.Outcome.{Gives}
 use Rattle.sz_parse_expr.proofs.Holds.{some_is}
 use Rattle.sz_parse_expr.proofs.PostfixSound.{comma_item, pair_item}
 use Rattle.sz_parse_expr.proofs.ExpressionSound.{expr_sound}
@@ -17,32 +18,48 @@ use Rattle.sz_parse_expr.proofs.expression.+expr.Goals as goal
 
 -- ---- operators
 
-pub chain-returns-then-level-left_level-clause-read : goal.chain-returns-then-level-left_level-clause-read
-chain-returns-then-level-left_level-clause-read t c =
-    chain_refused (expr_at (utf8_in c.args.text.now) c.args.inner) c.args.inner c.args.below c.loop.counter (c.args.inner + 1)
-    (tree_of c.loop.left) c.loop.rest.now c.in-Some.after.now c.in-Some.op _ (omega arith) c.in-Some.ensures.value
-    (elim c.then-level-left_level.either [ inl p ↦ inl (omega arith) | inr p ↦ inr (omega arith) ]) c.loop.invariant.read
-
-pub chain-returns-in_err-right-clause-read : goal.chain-returns-in_err-right-clause-read
-chain-returns-in_err-right-clause-read t c =
+pub chain-returns-in_err-left-clause-read : goal.chain-returns-in_err-left-clause-read
+chain-returns-in_err-left-clause-read t c =
     let p = err_from_is_err_and c.from_residual.result c.from_residual.ensures.1 in
-    rw (p.1, p.2) (chain_fails c.in_err-right.field-0.0 (expr_at (utf8_in c.args.text.now) c.args.inner) c.args.inner c.args.below c.loop.counter
+    let far = c.in_err-left.ensures.err in
+    rw (p.1, p.2, far.0) (chain_refused (expr_at (utf8_in c.args.text.now) c.args.inner) c.args.inner c.args.below c.loop.counter (c.args.inner + 1)
+    (tree_of c.loop.left) c.loop.rest.now c.in-Some.after.now c.in-Some.op _ (omega arith) c.in-Some.ensures.value
+    (inl (omega (arith, far.1))) c.loop.invariant.read)
+
+pub chain-returns-in_err-left-2-clause-read : goal.chain-returns-in_err-left-2-clause-read
+chain-returns-in_err-left-2-clause-read t c =
+    let p = err_from_is_err_and c.from_residual-in_err-left-2.result c.from_residual-in_err-left-2.ensures.1 in
+    let high = c.in_err-left-2.ensures.err in
+    rw (p.1, p.2, high.0) (chain_refused (expr_at (utf8_in c.args.text.now) c.args.inner) c.args.inner c.args.below c.loop.counter (c.args.inner + 1)
+    (tree_of c.loop.left) c.loop.rest.now c.in-Some.after.now c.in-Some.op _ (omega arith) c.in-Some.ensures.value
+    (inr (omega (arith, high.1))) c.loop.invariant.read)
+
+pub chain-returns-in_err-front-clause-read : goal.chain-returns-in_err-front-clause-read
+chain-returns-in_err-front-clause-read t c =
+    let p = err_from_is_err_and c.from_residual-in_err-front.result c.from_residual-in_err-front.ensures.1 in
+    rw (p.1, p.2) (chain_fails c.in_err-front.field-0.0 (expr_at (utf8_in c.args.text.now) c.args.inner) c.args.inner c.args.below c.loop.counter
     (c.args.inner + 1) (tree_of c.loop.left) c.loop.rest.now c.in-Some.after.now c.in-Some.op _ (omega arith) c.in-Some.ensures.value
-    (omega arith) (omega arith) c.in_err-right.ensures.read c.loop.invariant.read)
+    (omega (arith, c.in_ok-left.ensures.ok.1)) (omega (arith, c.in_ok-left-2.ensures.ok.1))
+    (subst (λ r. Gives (λ x. (tree_of x.0, x.2.now)) r (expr_at (utf8_in c.args.text.now) c.args.inner c.args.below c.in-Some.after.now))
+    c.in_err-front.ensures.err c.expr-right.ensures.read) c.loop.invariant.read)
 
 pub chain-loop-preserved : goal.chain-loop-preserved
 unfolding height
 chain-loop-preserved t c =
-    let made : tree_of c.in_ok-left.left ≡ binary (place_of (tree_of c.loop.left)) c.in-Some.op (tree_of c.loop.left) (tree_of c.in_ok-right.right) =
-    sym (some_is c.in_ok-left.ensures.value) in
-    let right : c.in_ok-right.right_height ≡ height (tree_of c.in_ok-right.right) = c.in_ok-right.ensures.measured in
-    let low : c.in_ok-right.right_height ≤ c.args.inner = c.in_ok-right.ensures.low in
+    let front : c.in_ok-front.front ≡ c.loop.left = c.in_ok-front.ensures.ok.0 ∙ c.in_ok-left-2.ensures.ok.0 ∙ c.in_ok-left.ensures.ok.0 in
+    let made : tree_of c.in_ok-left-3.left ≡ binary (place_of (tree_of c.loop.left)) c.in-Some.op (tree_of c.loop.left) (tree_of c.in_ok-front.right) =
+    sym (some_is c.in_ok-left-3.ensures.value) ∙ ap (λ e. binary (place_of (tree_of e)) c.in-Some.op (tree_of e) (tree_of c.in_ok-front.right)) front in
+    let measured : c.in_ok-front.right_height ≡ height (tree_of c.in_ok-front.right) =
+    subst (λ r. IfOk r (λ x. x.1 ≡ height (tree_of x.0))) c.in_ok-front.ensures.ok.1 c.expr-right.ensures.measured in
+    let low : c.in_ok-front.right_height ≤ c.args.inner = subst (λ r. IfOk r (λ x. x.1 ≤ c.args.inner)) c.in_ok-front.ensures.ok.1 c.expr-right.ensures.low in
     record {
       read = rw made (chain_goes_on (expr_at (utf8_in c.args.text.now) c.args.inner) c.args.inner c.args.below c.loop.counter (c.args.inner + 1)
-          (tree_of c.loop.left) (tree_of c.in_ok-right.right) c.loop.rest.now c.in-Some.after.now c.in_ok-right.after.now c.in-Some.op _
-          (omega arith) c.in-Some.ensures.value (omega arith) (omega arith) c.in_ok-right.ensures.read c.loop.invariant.read);
-      measured = rw made (omega arith);
-      low = omega arith;
+          (tree_of c.loop.left) (tree_of c.in_ok-front.right) c.loop.rest.now c.in-Some.after.now c.in_ok-front.after.now c.in-Some.op _
+          (omega arith) c.in-Some.ensures.value (omega (arith, c.in_ok-left.ensures.ok.1)) (omega (arith, c.in_ok-left-2.ensures.ok.1))
+          (subst (λ r. Gives (λ x. (tree_of x.0, x.2.now)) r (expr_at (utf8_in c.args.text.now) c.args.inner c.args.below c.in-Some.after.now))
+          c.in_ok-front.ensures.ok.1 c.expr-right.ensures.read) c.loop.invariant.read);
+      measured = rw made (omega (arith, c.in_ok-left-2.ensures.ok.1));
+      low = omega (arith, c.in_ok-left-2.ensures.ok.1);
     }
 
 pub chain-returns-in_default-clause-read : goal.chain-returns-in_default-clause-read
