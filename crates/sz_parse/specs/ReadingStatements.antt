@@ -21,6 +21,10 @@ use Rattle.sz_parse_expr.specs.ReadingExpressions.{Sub, call_at, condition_at, e
 use Rattle.sz_parse_expr.specs.ReadingTypes.{SubType, label_at, params_at, type_at}
 use Rattle.sz_parse.specs.ReadingTables.{table_at, quantifiers_at}
 
+-- what was read, with this sign behind it
+unfoldable pub closed_by : {A : Type 0} → Sign → Read A → Read A
+closed_by s read = read >>= λ x. after_sign s x.1 >>= λ r. Some (x.0, r)
+
 -- what read gives, unless this sign stands there
 unfoldable pub unless_at : {A : Type 0} → Sign → (List Token → Read A) → List Token → Read (Option A)
 unless_at s read ts = choose (after_sign s ts) (read ts >>= λ x. Some (Some x.0, x.1)) (λ _. Some (None, ts))
@@ -31,6 +35,10 @@ init_at sub ts = choose (after_sign signs.Assign ts) (Some (None, ts)) (λ a. su
 
 unfoldable pub weight_at : Sub → List Token → Read (Option Exp)
 weight_at sub ts = choose (after_word words.Weight ts) (Some (None, ts)) (λ a. sub 5 a >>= λ x. Some (Some x.0, x.1))
+
+-- the expression behind a sign
+unfoldable pub behind_at : Sub → Sign → List Token → Read Exp
+behind_at sub s ts = after_sign s ts >>= λ a. sub 5 a
 
 -- an expression and a closing bracket
 unfoldable pub index_at : Sub → List Token → Read Exp
@@ -109,12 +117,22 @@ body_at st ts = all_at (stm_step st) ts >>= λ y. after_sign signs.CloseBrace y.
 unfoldable pub block_at : (List Token → Read Stm) → Place → List Token → Read Stm
 block_at st p ts = body_at st ts >>= λ y. Some (block p (stms_of y.0), y.1)
 
+-- a statement with a semicolon behind it
+abbrev pub ended_at : Stm → List Token → Read Stm
+ended_at s ts = after_sign signs.Semicolon ts >>= λ z. Some (s, z)
+
 -- what a name and a colon begin
 unfoldable pub declare_at : Readers → Ident → List Token → Read Stm
 declare_at r n ts = r.type ts >>= λ t. init_at r.expr t.1 >>= λ e. after_sign signs.Semicolon e.1 >>= λ z. Some (declare n t.0 e.0, z)
 
 unfoldable pub declared_at : Spelling → SubType → List Token → Read (List (Ident × Typ))
 declared_at text ty ts = choose (after_sign signs.CloseParen ts) (params_at text ty ts) (λ _. Some ([], ts))
+
+-- the parameters of a function, with the signs around them
+unfoldable pub parameters_at : Spelling → SubType → List Token → Read (List (Ident × Typ))
+parameters_at text ty ts =
+    after_sign signs.OpenParen ts >>= λ a. declared_at text ty a >>= λ ps. after_sign signs.CloseParen ps.1 >>= λ b. after_sign signs.Colon b >>= λ c.
+    Some (ps.0, c)
 
 unfoldable pub function_at : Spelling → Readers → Ident → List Token → Read Stm
 function_at text r n ts =

@@ -28,6 +28,10 @@ table_index_step text ty ts = choose (after_sign signs.OpenBracket ts) None (λ 
 unfoldable pub table_weight_at : Spelling → SubType → List Token → Read (Option ElemForm)
 table_weight_at text ty ts = choose (after_word words.Weight ts) (Some (None, ts)) (λ a. elem_at text ty a >>= λ e. Some (Some e.0, e.1))
 
+-- what a table keeps, and its weight
+unfoldable pub table_parts_at : Spelling → SubType → List Token → Read (ElemForm × Option ElemForm)
+table_parts_at text ty ts = after_word words.Of ts >>= λ o. elem_at text ty o >>= λ e. table_weight_at text ty e.1 >>= λ w. Some ((e.0, w.0), w.1)
+
 -- what stands behind `table`, up to the semicolon
 unfoldable pub table_at : Spelling → SubType → List Token → Read TableForm
 table_at text ty ts =

@@ -1,14 +1,15 @@
 //! Statements that have no statements for parts, and parts of statements.
 ghost use Rattle.std.specs.Prelude.{◌≡◌, ◌<◌, map as each};
 ghost use Rattle.std.specs.Option.{option_map};
-ghost use Rattle.sz_lex.specs.declared.sign.Sign.TheVariants.{Semicolon, CloseParen};
-ghost use Rattle.sz_tree.specs.View.{tree_of, first_of, simple_of, param_of, stm_of};
+ghost use Rattle.sz_lex.specs.declared.sign.Sign.TheVariants.{Semicolon, OpenBrace, CloseParen};
+ghost use Rattle.sz_tree.specs.View.{tree_of, type_of, first_of, simple_of, param_of, stm_of};
 ghost use Rattle.sz_parse_expr.specs.Reading.{utf8_in};
 ghost use Rattle.sz_parse_expr.specs.ReadingExpressions.{expr_at};
 ghost use Rattle.sz_parse_expr.specs.ReadingTypes.{type_at};
-ghost use Rattle.sz_parse.specs.ReadingStatements.{unless_at, init_at, weight_at, simple_at, first_at, declare_at, declared_at, table_stm_at, define_at, simple_stm_at, static_at, typedef_at, break_at, continue_at, return_at, emit_at, readers_at};
+ghost use Rattle.sz_parse.specs.ReadingStatements.{unless_at, init_at, weight_at, simple_at, first_at, declare_at, declared_at, parameters_at, table_stm_at, define_at, simple_stm_at, static_at, typedef_at, return_at, emit_at, closed_by, readers_at};
 ghost use Rattle.sz_parse_expr.specs.Outcome.{Gives};
 
+use crate::signs::{before, behind, ended};
 use crate::simple::{first, indexes, simple, simple_behind};
 use crate::table::table;
 use std::alloc::Global;
@@ -16,11 +17,11 @@ use sz_lex::{Sign, Token, Word};
 use sz_parse_expr::{
     Failed, MAX_HEIGHT, expect, expr, label, name, params, skip, skip_word, type_tree,
 };
-use sz_tree::{Expr, First, Name, Param, Simple, Stmt};
+use sz_tree::{Expr, First, Name, Param, Simple, Stmt, TypeTree};
 use sz_types::Place;
 
-// An expression, unless this sign stands there.
-#[tactic(auto, unfolding(crate::specs::ReadingStatements::unless_at, sz_parse_expr::specs::Reading::bind, sz_parse_expr::specs::Reading::choose))]
+// An expression unless this sign stands there, and the sign.
+#[tactic(auto, unfolding(crate::specs::ReadingStatements::closed_by, crate::specs::ReadingStatements::unless_at, sz_parse_expr::specs::Reading::bind, sz_parse_expr::specs::Reading::choose))]
 pub fn maybe_expr<'t>(
     alloc: Global,
     text: &[u8],
@@ -29,17 +30,17 @@ pub fn maybe_expr<'t>(
     tokens: &'t [Token],
 ) -> Result<(Option<Expr>, &'t [Token]), Failed>
     requires depth { inner < MAX_HEIGHT }
-    ensures read { Gives (λ x. (option_map tree_of x.0, x.1.now)) result (unless_at sign (expr_at (utf8_in text.now) inner 5) tokens.now) }
+    ensures read { Gives (λ x. (option_map tree_of x.0, x.1.now)) result (closed_by sign (unless_at sign (expr_at (utf8_in text.now) inner 5) tokens.now)) }
 {
-    if let Some(_) = skip(sign, tokens) {
-        return Ok((None, tokens));
+    if let Some(rest) = skip(sign, tokens) {
+        return Ok((None, rest));
     }
     let (tree, _, rest) = expr(alloc, text, inner, 5, tokens)?;
-    Ok((Some(tree), rest))
+    before(Some(tree), sign, rest)
 }
 
-// The first part of a `for`, unless a semicolon stands there.
-#[tactic(auto, unfolding(crate::specs::ReadingStatements::unless_at, sz_parse_expr::specs::Reading::bind, sz_parse_expr::specs::Reading::choose))]
+// The first part of a `for` unless a semicolon stands there, and the semicolon.
+#[tactic(auto, unfolding(crate::specs::ReadingStatements::closed_by, crate::specs::ReadingStatements::unless_at, sz_parse_expr::specs::Reading::bind, sz_parse_expr::specs::Reading::choose))]
 pub fn maybe_first<'t>(
     alloc: Global,
     text: &[u8],
@@ -47,17 +48,17 @@ pub fn maybe_first<'t>(
     tokens: &'t [Token],
 ) -> Result<(Option<First>, &'t [Token]), Failed>
     requires depth { inner < MAX_HEIGHT }
-    ensures read { Gives (λ x. (option_map first_of x.0, x.1.now)) result (unless_at Semicolon (first_at (utf8_in text.now) inner) tokens.now) }
+    ensures read { Gives (λ x. (option_map first_of x.0, x.1.now)) result (closed_by Semicolon (unless_at Semicolon (first_at (utf8_in text.now) inner) tokens.now)) }
 {
-    if let Some(_) = skip(Sign::Semicolon, tokens) {
-        return Ok((None, tokens));
+    if let Some(rest) = skip(Sign::Semicolon, tokens) {
+        return Ok((None, rest));
     }
     let (part, rest) = first(alloc, text, inner, tokens)?;
-    Ok((Some(part), rest))
+    before(Some(part), Sign::Semicolon, rest)
 }
 
-// The step of a `for`, unless a closing parenthesis stands there.
-#[tactic(auto, unfolding(crate::specs::ReadingStatements::unless_at, sz_parse_expr::specs::Reading::bind, sz_parse_expr::specs::Reading::choose))]
+// The step of a `for` unless a closing parenthesis stands there, and the parenthesis.
+#[tactic(auto, unfolding(crate::specs::ReadingStatements::closed_by, crate::specs::ReadingStatements::unless_at, sz_parse_expr::specs::Reading::bind, sz_parse_expr::specs::Reading::choose))]
 pub fn maybe_simple<'t>(
     alloc: Global,
     text: &[u8],
@@ -65,13 +66,13 @@ pub fn maybe_simple<'t>(
     tokens: &'t [Token],
 ) -> Result<(Option<Simple>, &'t [Token]), Failed>
     requires depth { inner < MAX_HEIGHT }
-    ensures read { Gives (λ x. (option_map simple_of x.0, x.1.now)) result (unless_at CloseParen (simple_at (utf8_in text.now) inner) tokens.now) }
+    ensures read { Gives (λ x. (option_map simple_of x.0, x.1.now)) result (closed_by CloseParen (unless_at CloseParen (simple_at (utf8_in text.now) inner) tokens.now)) }
 {
-    if let Some(_) = skip(Sign::CloseParen, tokens) {
-        return Ok((None, tokens));
+    if let Some(rest) = skip(Sign::CloseParen, tokens) {
+        return Ok((None, rest));
     }
     let (part, rest) = simple(alloc, text, inner, tokens)?;
-    Ok((Some(part), rest))
+    before(Some(part), Sign::CloseParen, rest)
 }
 
 // The expression behind an equals sign, if one stands there.
@@ -128,13 +129,12 @@ pub fn declare<'t>(
 {
     let (of, rest) = type_tree(alloc, text, inner, tokens)?;
     let (value, rest) = init(alloc, text, inner, rest)?;
-    let rest = expect(Sign::Semicolon, rest)?;
-    Ok((Stmt::Declare(name, of, value), rest))
+    ended(Stmt::Declare(name, of, value), rest)
 }
 
 // Parameters, up to the closing parenthesis.
 #[tactic(auto, unfolding(crate::specs::ReadingStatements::declared_at, sz_parse_expr::specs::Reading::choose))]
-pub fn declared<'t>(
+fn declared<'t>(
     alloc: Global,
     text: &[u8],
     inner: u32,
@@ -147,6 +147,39 @@ pub fn declared<'t>(
         return Ok((Vec::new(alloc), tokens));
     }
     params(alloc, text, inner, tokens)
+}
+
+// The parameters of a function, with the signs around them.
+#[tactic(auto, unfolding(crate::specs::ReadingStatements::parameters_at, sz_parse_expr::specs::Reading::bind))]
+pub fn parameters<'t>(
+    alloc: Global,
+    text: &[u8],
+    inner: u32,
+    tokens: &'t [Token],
+) -> Result<(Vec<Param>, &'t [Token]), Failed>
+    requires depth { inner < MAX_HEIGHT }
+    ensures read { Gives (λ x. (each param_of x.0.items, x.1.now)) result
+        (parameters_at (utf8_in text.now) (type_at (utf8_in text.now) inner) tokens.now) }
+{
+    let rest = expect(Sign::OpenParen, tokens)?;
+    let (params, rest) = declared(alloc, text, inner, rest)?;
+    let (params, rest) = before(params, Sign::CloseParen, rest)?;
+    before(params, Sign::Colon, rest)
+}
+
+// The type that a function gives, and the brace that opens its body.
+#[tactic(auto, unfolding(crate::specs::ReadingStatements::closed_by, sz_parse_expr::specs::Reading::bind))]
+pub fn returned<'t>(
+    alloc: Global,
+    text: &[u8],
+    inner: u32,
+    tokens: &'t [Token],
+) -> Result<(TypeTree, &'t [Token]), Failed>
+    requires depth { inner < MAX_HEIGHT }
+    ensures read { Gives (λ x. (type_of x.0, x.1.now)) result (closed_by OpenBrace (type_at (utf8_in text.now) inner tokens.now)) }
+{
+    let (of, rest) = type_tree(alloc, text, inner, tokens)?;
+    before(of, Sign::OpenBrace, rest)
 }
 
 // A declaration without a type, behind its name and `:=`.
@@ -162,8 +195,7 @@ pub fn define<'t>(
     ensures read { Gives (λ x. (stm_of x.0, x.1.now)) result (define_at (readers_at (utf8_in text.now) inner) name tokens.now) }
 {
     let (value, _, rest) = expr(alloc, text, inner, 5, tokens)?;
-    let rest = expect(Sign::Semicolon, rest)?;
-    Ok((Stmt::Define(name, value), rest))
+    ended(Stmt::Define(name, value), rest)
 }
 
 // An assignment, a change by one or a call, behind its first name.
@@ -179,8 +211,7 @@ pub fn simple_statement<'t>(
     ensures read { Gives (λ x. (stm_of x.0, x.1.now)) result (simple_stm_at (utf8_in text.now) (readers_at (utf8_in text.now) inner) inner name tokens.now) }
 {
     let (part, rest) = simple_behind(alloc, text, inner, name, tokens)?;
-    let rest = expect(Sign::Semicolon, rest)?;
-    Ok((Stmt::Simple(part), rest))
+    ended(Stmt::Simple(part), rest)
 }
 
 // The declaration of a table, behind its name, colon and `table`.
@@ -200,7 +231,7 @@ pub fn table_statement<'t>(
 }
 
 // The declaration of a static, behind its first word.
-#[tactic(auto, unfolding(crate::specs::ReadingStatements::static_at, sz_parse_expr::specs::Reading::bind))]
+#[tactic(auto, unfolding(crate::specs::ReadingStatements::static_at, crate::specs::ReadingStatements::behind_at, sz_parse_expr::specs::Reading::bind))]
 pub fn static_statement<'t>(
     alloc: Global,
     text: &[u8],
@@ -213,10 +244,8 @@ pub fn static_statement<'t>(
 {
     let (name, rest) = label(alloc, text, tokens)?;
     let (of, rest) = type_tree(alloc, text, inner, rest)?;
-    let rest = expect(Sign::Assign, rest)?;
-    let (value, _, rest) = expr(alloc, text, inner, 5, rest)?;
-    let rest = expect(Sign::Semicolon, rest)?;
-    Ok((Stmt::Static(place, name, of, value), rest))
+    let (value, rest) = behind(alloc, text, inner, Sign::Assign, rest)?;
+    ended(Stmt::Static(place, name, of, value), rest)
 }
 
 // The declaration of a type by its name, behind its first word.
@@ -234,12 +263,11 @@ pub fn type_statement<'t>(
     let (name, rest) = name(alloc, text, tokens)?;
     let rest = expect(Sign::Assign, rest)?;
     let (of, rest) = type_tree(alloc, text, inner, rest)?;
-    let rest = expect(Sign::Semicolon, rest)?;
-    Ok((Stmt::Type(place, name, of), rest))
+    ended(Stmt::Type(place, name, of), rest)
 }
 
 // A `return`, behind its first word.
-#[tactic(auto, unfolding(crate::specs::ReadingStatements::return_at, sz_parse_expr::specs::Reading::bind))]
+#[tactic(auto, unfolding(crate::specs::ReadingStatements::return_at, crate::specs::ReadingStatements::closed_by, sz_parse_expr::specs::Reading::bind))]
 pub fn return_statement<'t>(
     alloc: Global,
     text: &[u8],
@@ -251,12 +279,11 @@ pub fn return_statement<'t>(
     ensures read { Gives (λ x. (stm_of x.0, x.1.now)) result (return_at (readers_at (utf8_in text.now) inner) place tokens.now) }
 {
     let (value, rest) = maybe_expr(alloc, text, inner, Sign::Semicolon, tokens)?;
-    let rest = expect(Sign::Semicolon, rest)?;
     Ok((Stmt::Return(place, value), rest))
 }
 
 // An `emit`, behind its first word.
-#[tactic(auto, unfolding(crate::specs::ReadingStatements::emit_at, sz_parse_expr::specs::Reading::bind))]
+#[tactic(auto, unfolding(crate::specs::ReadingStatements::emit_at, crate::specs::ReadingStatements::behind_at, sz_parse_expr::specs::Reading::bind))]
 pub fn emit<'t>(
     alloc: Global,
     text: &[u8],
@@ -269,27 +296,7 @@ pub fn emit<'t>(
 {
     let (table, rest) = name(alloc, text, tokens)?;
     let (indexes, rest) = indexes(alloc, text, inner, rest)?;
-    let rest = expect(Sign::Arrow, rest)?;
-    let (value, _, rest) = expr(alloc, text, inner, 5, rest)?;
+    let (value, rest) = behind(alloc, text, inner, Sign::Arrow, rest)?;
     let (weight, rest) = weight(alloc, text, inner, rest)?;
-    let rest = expect(Sign::Semicolon, rest)?;
-    Ok((Stmt::Emit(place, table, indexes, value, weight), rest))
-}
-
-// A `break`, behind its first word.
-#[tactic(auto, unfolding(crate::specs::ReadingStatements::break_at, sz_parse_expr::specs::Reading::bind))]
-pub fn break_statement(place: Place, tokens: &[Token]) -> Result<(Stmt, &[Token]), Failed>
-    ensures read { Gives (λ x. (stm_of x.0, x.1.now)) result (break_at place tokens.now) }
-{
-    let rest = expect(Sign::Semicolon, tokens)?;
-    Ok((Stmt::Break(place), rest))
-}
-
-// A `continue`, behind its first word.
-#[tactic(auto, unfolding(crate::specs::ReadingStatements::continue_at, sz_parse_expr::specs::Reading::bind))]
-pub fn continue_statement(place: Place, tokens: &[Token]) -> Result<(Stmt, &[Token]), Failed>
-    ensures read { Gives (λ x. (stm_of x.0, x.1.now)) result (continue_at place tokens.now) }
-{
-    let rest = expect(Sign::Semicolon, tokens)?;
-    Ok((Stmt::Continue(place), rest))
+    ended(Stmt::Emit(place, table, indexes, value, weight), rest)
 }

@@ -5,6 +5,7 @@ mod error;
 mod laws;
 mod leaf;
 mod program;
+mod signs;
 mod simple;
 mod stmt;
 mod table;

@@ -7,6 +7,7 @@ ghost use Rattle.sz_parse_expr.specs.ReadingTypes.{type_at};
 ghost use Rattle.sz_parse.specs.ReadingStatements.{index_at, index_step, begins_step, step_item, path_step, assign_at, simple_behind, simple_at, first_behind, first_at};
 ghost use Rattle.sz_parse_expr.specs.Outcome.{Gives, Sees};
 
+use crate::signs::{before, behind};
 use std::alloc::Global;
 use sz_lex::{Sign, Token};
 use sz_parse_expr::{Failed, MAX_HEIGHT, call, expect, expr, name, skip, type_tree};
@@ -24,8 +25,7 @@ fn index<'t>(
     ensures read { Gives (λ x. (tree_of x.0, x.1.now)) result (index_at (expr_at (utf8_in text.now) inner) tokens.now) }
 {
     let (tree, _, rest) = expr(alloc, text, inner, 5, tokens)?;
-    let rest = expect(Sign::CloseBracket, rest)?;
-    Ok((tree, rest))
+    before(tree, Sign::CloseBracket, rest)
 }
 
 // Expressions, each in brackets.
@@ -104,7 +104,7 @@ fn steps<'t>(
 }
 
 // An assignment, behind the name of its variable.
-#[tactic(auto, unfolding(crate::specs::ReadingStatements::assign_at, sz_parse_expr::specs::Reading::bind))]
+#[tactic(auto, unfolding(crate::specs::ReadingStatements::assign_at, crate::specs::ReadingStatements::behind_at, sz_parse_expr::specs::Reading::bind))]
 fn assign<'t>(
     alloc: Global,
     text: &[u8],
@@ -116,8 +116,7 @@ fn assign<'t>(
     ensures read { Gives (λ x. (simple_of x.0, x.1.now)) result (assign_at (utf8_in text.now) (expr_at (utf8_in text.now) inner) name tokens.now) }
 {
     let (steps, rest) = steps(alloc, text, inner, tokens)?;
-    let rest = expect(Sign::Assign, rest)?;
-    let (value, _, rest) = expr(alloc, text, inner, 5, rest)?;
+    let (value, rest) = behind(alloc, text, inner, Sign::Assign, rest)?;
     Ok((Simple::Assign(Path { name, steps }, value), rest))
 }
 
@@ -176,7 +175,7 @@ pub fn simple<'t>(
 }
 
 // The first part of a `for`, behind its name.
-#[tactic(auto, unfolding(crate::specs::ReadingStatements::first_behind, sz_parse_expr::specs::Reading::bind, sz_parse_expr::specs::Reading::choose))]
+#[tactic(auto, unfolding(crate::specs::ReadingStatements::first_behind, crate::specs::ReadingStatements::behind_at, sz_parse_expr::specs::Reading::bind, sz_parse_expr::specs::Reading::choose))]
 fn first_behind<'t>(
     alloc: Global,
     text: &[u8],
@@ -190,8 +189,7 @@ fn first_behind<'t>(
 {
     if let Some(rest) = skip(Sign::Colon, tokens) {
         let (of, rest) = type_tree(alloc, text, inner, rest)?;
-        let rest = expect(Sign::Assign, rest)?;
-        let (value, _, rest) = expr(alloc, text, inner, 5, rest)?;
+        let (value, rest) = behind(alloc, text, inner, Sign::Assign, rest)?;
         return Ok((First::Declare(name, of, value), rest));
     }
     if let Some(rest) = skip(Sign::Define, tokens) {

@@ -6,15 +6,15 @@ ghost use Rattle.sz_parse.specs.ReadingStatements.{begins_stm, stm_step, body_at
 ghost use Rattle.sz_parse_expr.specs.Outcome.{Gives, Sees};
 
 use crate::leaf::{
-    break_statement, continue_statement, declare, declared, define, emit, maybe_expr, maybe_first,
-    maybe_simple, return_statement, simple_statement, static_statement, table_statement,
-    type_statement,
+    declare, define, emit, maybe_expr, maybe_first, maybe_simple, parameters, return_statement,
+    returned, simple_statement, static_statement, table_statement, type_statement,
 };
+use crate::signs::{before, beside, ended};
 use crate::table::quantifiers;
 use std::alloc::Global;
 use sz_lex::{Kind, Sign, Token, Word};
 use sz_parse_expr::{
-    Failed, MAX_HEIGHT, condition, expect, expect_word, expr, ident, skip, skip_word, type_tree,
+    Failed, MAX_HEIGHT, condition, expect, expect_word, expr, ident, skip, skip_word,
 };
 use sz_tree::{Name, Stmt};
 use sz_types::Place;
@@ -51,7 +51,23 @@ pub fn statement<'t>(
     step(alloc, text, depth - 1, tokens)
 }
 
-// In what follows, the parts of a statement have at most the height `inner`.
+// In what follows, the parts of a statement have at most the height `inner`. This reads a part.
+#[cycle(statement)]
+#[tactic(auto)]
+fn boxed<'t>(
+    alloc: Global,
+    text: &[u8],
+    inner: u32,
+    tokens: &'t [Token],
+) -> Result<(Box<Stmt>, &'t [Token]), Failed>
+    requires depth { inner < MAX_HEIGHT }
+    ensures read { Gives (λ x. (stm_of x.0.value, x.1.now)) result (stm_at (utf8_in text.now) inner tokens.now) }
+{
+    let (tree, rest) = statement(alloc, text, inner, tokens)?;
+    Ok((Box::new(alloc, tree)?, rest))
+}
+
+// What a token begins.
 #[cycle(statement)]
 #[tactic(auto, unfolding(crate::specs::ReadingStatements::step_at, sz_parse_expr::specs::Reading::bind))]
 fn step<'t>(
@@ -124,7 +140,7 @@ fn colon<'t>(
 
 // A function, behind its first word.
 #[cycle(statement)]
-#[tactic(auto, unfolding(crate::specs::ReadingStatements::function_at, sz_parse_expr::specs::Reading::bind))]
+#[tactic(auto, unfolding(crate::specs::ReadingStatements::function_at, crate::specs::ReadingStatements::parameters_at, crate::specs::ReadingStatements::closed_by, sz_parse_expr::specs::Reading::bind))]
 fn function<'t>(
     alloc: Global,
     text: &[u8],
@@ -135,13 +151,9 @@ fn function<'t>(
     requires depth { inner < MAX_HEIGHT }
     ensures read { Gives (λ x. (stm_of x.0, x.1.now)) result (function_at (utf8_in text.now) (readers_at (utf8_in text.now) inner) name tokens.now) }
 {
-    let rest = expect(Sign::OpenParen, tokens)?;
-    let (params, rest) = declared(alloc, text, inner, rest)?;
-    let rest = expect(Sign::CloseParen, rest)?;
-    let rest = expect(Sign::Colon, rest)?;
-    let (of, rest) = type_tree(alloc, text, inner, rest)?;
-    let rest = expect(Sign::OpenBrace, rest)?;
-    let (statements, rest) = body(alloc, text, inner, rest)?;
+    let (params, rest) = parameters(alloc, text, inner, tokens)?;
+    let (of, rest) = returned(alloc, text, inner, rest)?;
+    let (of, statements, rest) = beside(of, body(alloc, text, inner, rest))?;
     Ok((Stmt::function(name, params, of, statements), rest))
 }
 
@@ -174,8 +186,7 @@ fn body<'t>(
     ensures read { Gives (λ x. (each stm_of x.0.items, x.1.now)) result (body_at (stm_at (utf8_in text.now) inner) tokens.now) }
 {
     let (statements, rest) = statements(alloc, text, inner, tokens)?;
-    let rest = expect(Sign::CloseBrace, rest)?;
-    Ok((statements, rest))
+    before(statements, Sign::CloseBrace, rest)
 }
 
 // Statements, up to a closing brace or the end.
@@ -201,6 +212,7 @@ fn statements<'t>(
 
 // What a word begins.
 #[cycle(statement)]
+#[tactic(auto, unfolding(crate::specs::ReadingStatements::break_at, crate::specs::ReadingStatements::continue_at))]
 fn worded<'t>(
     alloc: Global,
     text: &[u8],
@@ -219,8 +231,8 @@ fn worded<'t>(
         Word::While => repeat(alloc, text, inner, place, tokens),
         Word::Do => repeat_until(alloc, text, inner, place, tokens),
         Word::For => for_loop(alloc, text, inner, place, tokens),
-        Word::Break => break_statement(place, tokens),
-        Word::Continue => continue_statement(place, tokens),
+        Word::Break => ended(Stmt::Break(place), tokens),
+        Word::Continue => ended(Stmt::Continue(place), tokens),
         Word::Return => return_statement(alloc, text, inner, place, tokens),
         Word::Emit => emit(alloc, text, inner, place, tokens),
         Word::When => when(alloc, text, inner, place, tokens),
@@ -241,16 +253,12 @@ fn choice<'t>(
     ensures read { Gives (λ x. (stm_of x.0, x.1.now)) result (if_at (readers_at (utf8_in text.now) inner) place tokens.now) }
 {
     let (test, _, rest) = condition(alloc, text, inner, tokens)?;
-    let (part, rest) = statement(alloc, text, inner, rest)?;
+    let (test, part, rest) = beside(test, boxed(alloc, text, inner, rest))?;
     match skip_word(Word::Else, rest) {
-        None => {
-            let part = Box::new(alloc, part)?;
-            Ok((Stmt::If(place, test, part, None), rest))
-        }
+        None => Ok((Stmt::If(place, test, part, None), rest)),
         Some(rest) => {
-            let (other, rest) = statement(alloc, text, inner, rest)?;
-            let part = Box::new(alloc, part)?;
-            let other = Box::new(alloc, other)?;
+            let other = boxed(alloc, text, inner, rest);
+            let ((test, part), other, rest) = beside((test, part), other)?;
             Ok((Stmt::If(place, test, part, Some(other)), rest))
         }
     }
@@ -269,8 +277,8 @@ fn repeat<'t>(
     ensures read { Gives (λ x. (stm_of x.0, x.1.now)) result (while_at (readers_at (utf8_in text.now) inner) place tokens.now) }
 {
     let (test, _, rest) = condition(alloc, text, inner, tokens)?;
-    let (part, rest) = statement(alloc, text, inner, rest)?;
-    Ok((Stmt::While(place, test, Box::new(alloc, part)?), rest))
+    let (test, part, rest) = beside(test, boxed(alloc, text, inner, rest))?;
+    Ok((Stmt::While(place, test, part), rest))
 }
 
 #[cycle(statement)]
@@ -285,15 +293,14 @@ fn repeat_until<'t>(
     requires depth { inner < MAX_HEIGHT }
     ensures read { Gives (λ x. (stm_of x.0, x.1.now)) result (do_at (readers_at (utf8_in text.now) inner) place tokens.now) }
 {
-    let (part, rest) = statement(alloc, text, inner, tokens)?;
+    let (part, rest) = boxed(alloc, text, inner, tokens)?;
     let rest = expect_word(Word::While, rest)?;
     let (test, _, rest) = condition(alloc, text, inner, rest)?;
-    let rest = expect(Sign::Semicolon, rest)?;
-    Ok((Stmt::DoWhile(place, Box::new(alloc, part)?, test), rest))
+    ended(Stmt::DoWhile(place, part, test), rest)
 }
 
 #[cycle(statement)]
-#[tactic(auto, unfolding(crate::specs::ReadingStatements::for_at, sz_parse_expr::specs::Reading::bind))]
+#[tactic(auto, unfolding(crate::specs::ReadingStatements::for_at, crate::specs::ReadingStatements::closed_by, sz_parse_expr::specs::Reading::bind))]
 fn for_loop<'t>(
     alloc: Global,
     text: &[u8],
@@ -306,14 +313,13 @@ fn for_loop<'t>(
 {
     let rest = expect(Sign::OpenParen, tokens)?;
     let (first, rest) = maybe_first(alloc, text, inner, rest)?;
-    let rest = expect(Sign::Semicolon, rest)?;
-    let (test, rest) = maybe_expr(alloc, text, inner, Sign::Semicolon, rest)?;
-    let rest = expect(Sign::Semicolon, rest)?;
-    let (next, rest) = maybe_simple(alloc, text, inner, rest)?;
-    let rest = expect(Sign::CloseParen, rest)?;
-    let (part, rest) = statement(alloc, text, inner, rest)?;
-    let tree = Stmt::For(place, first, test, next, Box::new(alloc, part)?);
-    Ok((tree, rest))
+    let test = maybe_expr(alloc, text, inner, Sign::Semicolon, rest);
+    let (first, test, rest) = beside(first, test)?;
+    let next = maybe_simple(alloc, text, inner, rest);
+    let (head, next, rest) = beside((first, test), next)?;
+    let part = boxed(alloc, text, inner, rest);
+    let (((first, test), next), part, rest) = beside((head, next), part)?;
+    Ok((Stmt::For(place, first, test, next, part), rest))
 }
 
 #[cycle(statement)]
@@ -331,8 +337,7 @@ fn when<'t>(
     let rest = expect(Sign::OpenParen, tokens)?;
     let (quantifiers, rest) = quantifiers(alloc, text, inner, rest)?;
     let (test, _, rest) = expr(alloc, text, inner, 5, rest)?;
-    let rest = expect(Sign::CloseParen, rest)?;
-    let (part, rest) = statement(alloc, text, inner, rest)?;
-    let tree = Stmt::When(place, quantifiers, test, Box::new(alloc, part)?);
-    Ok((tree, rest))
+    let (test, rest) = before(test, Sign::CloseParen, rest)?;
+    let (test, part, rest) = beside(test, boxed(alloc, text, inner, rest))?;
+    Ok((Stmt::When(place, quantifiers, test, part), rest))
 }

@@ -4,9 +4,10 @@ ghost use Rattle.sz_tree.specs.View.{elem_of, table_of, quantifier_of};
 ghost use Rattle.std.specs.Option.{option_map};
 ghost use Rattle.sz_parse_expr.specs.Reading.{utf8_in, all_at};
 ghost use Rattle.sz_parse_expr.specs.ReadingTypes.{type_at};
-ghost use Rattle.sz_parse.specs.ReadingTables.{argument_at, table_index_at, table_index_step, table_weight_at, table_at, name_step, names_behind, names_at, quantity_of, quantity_at, quantifier_at, begins_quantifier, quantifier_step, quantifiers_behind, quantifiers_at};
+ghost use Rattle.sz_parse.specs.ReadingTables.{argument_at, table_index_at, table_index_step, table_weight_at, table_parts_at, table_at, name_step, names_behind, names_at, quantity_of, quantity_at, quantifier_at, begins_quantifier, quantifier_step, quantifiers_behind, quantifiers_at};
 ghost use Rattle.sz_parse_expr.specs.Outcome.{Gives, Sees};
 
+use crate::signs::before;
 use std::alloc::Global;
 use sz_lex::{Kind, Sign, Token, Word};
 use sz_parse_expr::{
@@ -41,8 +42,7 @@ fn table_index<'t>(
     ensures read { Gives (λ x. (elem_of x.0, x.1.now)) result (table_index_at (utf8_in text.now) (type_at (utf8_in text.now) inner) tokens.now) }
 {
     let (item, rest) = elem(alloc, text, inner, tokens)?;
-    let rest = expect(Sign::CloseBracket, rest)?;
-    Ok((item, rest))
+    before(item, Sign::CloseBracket, rest)
 }
 
 // The indexes of a table.
@@ -86,8 +86,26 @@ fn table_weight<'t>(
     }
 }
 
+// What a table keeps, and its weight if it has one.
+#[tactic(auto, unfolding(crate::specs::ReadingTables::table_parts_at, sz_parse_expr::specs::Reading::bind))]
+fn table_parts<'t>(
+    alloc: Global,
+    text: &[u8],
+    inner: u32,
+    tokens: &'t [Token],
+) -> Result<(Elem, Option<Elem>, &'t [Token]), Failed>
+    requires depth { inner < MAX_HEIGHT }
+    ensures read { Gives (λ x. ((elem_of x.0, option_map elem_of x.1), x.2.now)) result
+        (table_parts_at (utf8_in text.now) (type_at (utf8_in text.now) inner) tokens.now) }
+{
+    let rest = expect_word(Word::Of, tokens)?;
+    let (of, rest) = elem(alloc, text, inner, rest)?;
+    let (weight, rest) = table_weight(alloc, text, inner, rest)?;
+    Ok((of, weight, rest))
+}
+
 // What stands behind `table`, up to the semicolon.
-#[tactic(auto, unfolding(crate::specs::ReadingTables::table_at, sz_parse_expr::specs::Reading::bind))]
+#[tactic(auto, unfolding(crate::specs::ReadingTables::table_at, crate::specs::ReadingTables::table_parts_at, sz_parse_expr::specs::Reading::bind))]
 pub fn table<'t>(
     alloc: Global,
     text: &[u8],
@@ -100,10 +118,7 @@ pub fn table<'t>(
     let (kind, rest) = name(alloc, text, tokens)?;
     let (argument, rest) = argument(rest)?;
     let (indexes, rest) = table_indexes(alloc, text, inner, rest)?;
-    let rest = expect_word(Word::Of, rest)?;
-    let (of, rest) = elem(alloc, text, inner, rest)?;
-    let (weight, rest) = table_weight(alloc, text, inner, rest)?;
-    let rest = expect(Sign::Semicolon, rest)?;
+    let (of, weight, rest) = table_parts(alloc, text, inner, rest)?;
     let table = Table {
         kind,
         argument,
@@ -111,7 +126,7 @@ pub fn table<'t>(
         of,
         weight,
     };
-    Ok((table, rest))
+    before(table, Sign::Semicolon, rest)
 }
 
 // A name, and those that follow it with a comma before each.
@@ -213,16 +228,15 @@ fn quantifier<'t>(
     ensures read { Gives (λ x. (quantifier_of x.0, x.1.now)) result (quantifier_at (utf8_in text.now) (type_at (utf8_in text.now) inner) tokens.now) }
 {
     let (names, rest) = names(alloc, text, tokens)?;
-    let rest = expect(Sign::Colon, rest)?;
+    let (names, rest) = before(names, Sign::Colon, rest)?;
     let (quantity, rest) = quantity(rest)?;
     let (of, rest) = type_tree(alloc, text, inner, rest)?;
-    let rest = expect(Sign::Semicolon, rest)?;
     let quantifier = Quantifier {
         names,
         quantity,
         of,
     };
-    Ok((quantifier, rest))
+    before(quantifier, Sign::Semicolon, rest)
 }
 
 // One or more quantifiers.

@@ -10,6 +10,9 @@ use Rattle.sz_parse.proofs.stmt.+statement.Given as goal
 abbrev pub decreases-statement : goal.decreases-statement
 decreases-statement l = 16 * l.depth
 
+abbrev pub decreases-boxed : goal.decreases-boxed
+decreases-boxed l = 16 * l.inner + 1
+
 abbrev pub decreases-step : goal.decreases-step
 decreases-step l = 16 * l.inner + 9
 
