@@ -1,11 +1,11 @@
 -- Statements by their parts.
-use Rattle.std.proofs.Common.{◌≡◌, true, [], ◌∷◌, length, Option, Some, None, refl, sym, ap, ◌∙◌}
+use Rattle.std.proofs.Common.{◌≡◌, List, true, [], ◌∷◌, length, Option, Some, None, refl, sym, ap, ◌∙◌}
 use Rattle.std.proofs.Math.Path.{fun_ext}
 use Rattle.std.specs.Prelude.{Result, Ok, Err, is_some, if◌then◌else◌}
 use Rattle.sz_types.specs.declared.place.Place.{Place}
 use Rattle.sz_tree.specs.Names.{Ident}
 use Rattle.sz_tree.specs.Expressions.{Exp, Exps}
-use Rattle.sz_tree.specs.Statements.{SimpleForm, FirstForm, TableForm, Stm as Tree, Stms as Trees, block, for_loop}
+use Rattle.sz_tree.specs.Statements.{SimpleForm, FirstForm, TableForm, QuantifierForm, Stm as Tree, Stms as Trees, block, for_loop}
 use Rattle.sz_tree.specs.Statements as trees
 use Rattle.sz_tree.specs.Types.{Typ, Params}
 use Rattle.sz_core.specs.Nodes.{Node, Nodes}
@@ -16,6 +16,7 @@ use Rattle.sz_judge.specs.Names.{look_up, Meaning}
 use Rattle.sz_judge.specs.Agreeing.{in_turn, agree, agrees, counted}
 use Rattle.sz_judge.specs.JudgingExpressions.{judge_exps}
 use Rattle.sz_judge.specs.JudgingOperators.{test}
+use Rattle.sz_judge.specs.Quantifying.{judge_front, quantify}
 use Rattle.sz_judge.specs.Scene.{Scene, opened}
 use Rattle.sz_judge.specs.Scenes.{Behind, AllBehind, judge, judge_if_some, closed}
 use Rattle.sz_judge.specs.JudgingStatements.{Around, in_block, in_loop, judge_stm, judge_stms}
@@ -27,20 +28,21 @@ use Rattle.sz_known.proofs.TurnLemmas.{stops_then, goes_on}
 use Rattle.sz_core.specs.declared.stmt.CoreStmt.{CoreStmt}
 use Rattle.sz_core.specs.View.{stm_of}
 use Rattle.sz_known.specs.Holding.{Held, outside_of, scene_of}
-use Rattle.sz_check.specs.Behind.{behind_of, branch_of, judge_inside, judge_else, judge_turns, judge_for, Emitted, judge_emitted, emitted_fits}
-use Rattle.sz_check.specs.Behind.{judge_emit_by_parts}
+use Rattle.sz_check.specs.Behind.{behind_of, branch_of, while_of, do_while_of, judge_inside, judge_else, judge_turns, judge_for}
+use Rattle.sz_check.specs.Behind.{judge_quantified, judge_bound_body, Emitted, judge_emitted, emitted_fits, judge_emit_by_parts}
 
-tested : {A B : Type 0} (u : Judged Unit) (x : A) (f : A → B) → (u >>= λ _. Ok (f x)) ≡ ((u >>= λ _. Ok x) >>= λ y. Ok (f y))
-tested (Ok t) x f = refl
-tested (Err r) x f = refl
+tested : (u : Judged Unit) (s : Scene) (x : Stm) (f : Behind → Behind)
+    → (u >>= λ _. Ok (f (record { scene = s; stm = x }))) ≡ (done s (u >>= λ _. Ok x) >>= λ b. Ok (f b))
+tested (Ok t) s x f = refl
+tested (Err r) s x f = refl
 
 turns_then : (p : Place) (j : Judged (Option Node)) (k : Judged Stm) (l : Judged Behind) (u : Option Node → Judged Unit) (f : Behind → Behind)
     → (j >>= λ n. k >>= λ step. l >>= λ body. u n >>= λ _. Ok (f (record { scene = body.scene; stm = core.for_loop p n step body.stm })))
-    ≡ ((j >>= λ n. k >>= λ step. l >>= λ body. u n >>= λ _. Ok (record { scene = body.scene; stm = core.for_loop p n step body.stm })) >>= λ t. Ok (f t))
+    ≡ ((j >>= λ n. k >>= λ step. l >>= λ body. done body.scene (u n >>= λ _. Ok (core.for_loop p n step body.stm))) >>= λ t. Ok (f t))
 turns_then p (Err r) k l u f = refl
 turns_then p (Ok n) (Err r) l u f = refl
 turns_then p (Ok n) (Ok step) (Err r) u f = refl
-turns_then p (Ok n) (Ok step) (Ok body) u f = tested (u n) (record { scene = body.scene; stm = core.for_loop p n step body.stm }) f
+turns_then p (Ok n) (Ok step) (Ok body) u f = tested (u n) body.scene (core.for_loop p n step body.stm) f
 
 -- a `for`, where its parts are judged
 abbrev for_end : Scene → Place → Behind → Option Node → Stm → Behind → Behind
@@ -147,25 +149,9 @@ unfolding judge_stm
 block_stops a k inner p ts e opening h =
     stops_then e (judge_stms a (scene_of inner) ts) (ended k) _ h (ap (from_inside (λ s. judge_stms a s ts) (ended k)) opening)
 
--- ---- a test behind what it chooses
+-- ---- a `for` by what is judged of it
 
-tested_stops : {A B C : Type 0} (j : Judged A) (k : Judged B) (x : A) (y : B) (u : A → Judged Unit) (f : A → B → C) (e : CheckError)
-    → j ≡ Ok x → k ≡ Ok y → Stops e (u x) → Stops e (j >>= λ n. k >>= λ b. u n >>= λ _. Ok (f n b))
-tested_stops j k x y u f e h g stop =
-    stops_then e (u x) (λ _. Ok (f x y)) _ stop
-    (goes_on k (λ b. u x >>= λ _. Ok (f x b)) _ y g (goes_on j (λ n. k >>= λ b. u n >>= λ _. Ok (f n b)) _ x h refl))
-
-abbrev while_end : Place → Node → Behind → Behind
-while_end p n body = record { scene = body.scene; stm = core.while p n body.stm }
-
--- a test that is refused behind a part statement that is judged
-pub while_stops : (a in_body : Around) (s : Scene) (p : Place) (c : Exp) (t : Tree) (n : Node) (b : Behind) (e : CheckError) → in_body ≡ in_loop a
-    → judge s None c ≡ Ok n → judge_inside in_body s t ≡ Ok b → Stops e (test c n) → Stops e (judge_stm a s (trees.while p c t))
-unfolding judge_stm
-while_stops a in_body s p c t n b e same h g stop =
-    tested_stops (judge s None c) (judge_inside (in_loop a) s t) n b (test c) (while_end p) e h (ap (λ (u : Around). judge_inside u s t) (sym same) ∙ g) stop
-
--- the same of a `for`
+-- what a `for` does behind its first part
 abbrev behind_first : Around → Scene → Place → Option Exp → Option SimpleForm → Tree → Behind → Judged Behind
 behind_first a s p c between t first =
     judge_turns a first.scene p c between t
@@ -203,13 +189,37 @@ branched : (u : Judged Unit) (s : Scene) (x : Stm) → (u >>= λ _. Ok (record {
 branched (Ok t) s x = refl
 branched (Err r) s x = refl
 
--- an `if` is its test, its part, and then a branch over the test
+test_first : {A B : Type 0} (u : Judged Unit) (j : Judged A) (f : A → Judged B) → (u >>= λ _. j >>= f) ≡ ((u >>= λ _. j) >>= f)
+test_first (Ok t) j f = refl
+test_first (Err r) j f = refl
+
+-- an `if` is its test, its part, and then a branch over the test; so are the loops, and a `when` by its parts
 module _ (a : Around) (s : Scene) (p : Place) (c : Exp) where
   pub if_only_is : (t : Tree)
       → judge_stm a s (trees.if_only p c t)
       ≡ (judge s None c >>= λ n. judge_inside a s t >>= λ b. done b.scene (branch_of p c n b.stm core.nothing))
   unfolding judge_stm
   if_only_is t = λ i. judge s None c >>= λ n. judge_inside a s t >>= λ b. branched (test c n) b.scene (core.branch p n b.stm core.nothing) i
+
+  pub while_is : (t : Tree)
+      → judge_stm a s (trees.while p c t)
+      ≡ (judge s None c >>= λ n. judge_inside (in_loop a) s t >>= λ b. done b.scene (while_of p c n b.stm))
+  unfolding judge_stm
+  while_is t = λ i. judge s None c >>= λ n. judge_inside (in_loop a) s t >>= λ b. branched (test c n) b.scene (core.while p n b.stm) i
+
+  pub do_while_is : (t : Tree)
+      → judge_stm a s (trees.do_while p t c)
+      ≡ (judge_inside (in_loop a) s t >>= λ b. judge b.scene None c >>= λ n. done b.scene (do_while_of p c b.stm n))
+  unfolding judge_stm
+  do_while_is t = λ i. judge_inside (in_loop a) s t >>= λ b. judge b.scene None c >>= λ n. branched (test c n) b.scene (core.do_while p b.stm n) i
+
+  pub when_is : (qs : List QuantifierForm) (t : Tree)
+      → judge_stm a s (trees.when p qs c t)
+      ≡ (judge_front s qs c >>= λ f. judge_bound_body a f.scene f.variables t >>= λ b. judge_quantified b.scene f.variables c f.condition
+      >>= λ vs. Ok (record { scene = b.scene; stm = core.when p vs f.condition b.stm }))
+  unfolding judge_stm
+  when_is qs t = λ i. judge_front s qs c >>= λ f. judge_bound_body a f.scene f.variables t
+      >>= λ b. test_first (test c f.condition) (quantify b.scene f.variables c) (λ vs. Ok (record { scene = b.scene; stm = core.when p vs f.condition b.stm })) i
 
   pub if_else_is : (t e : Tree)
       → judge_stm a s (trees.if_else p c t e) ≡ (judge s None c >>= λ n. judge_inside a s t >>= λ b. judge_else a b.scene p c n b.stm e)

@@ -1,5 +1,5 @@
 -- What contracts see of what is known behind a statement.
-use Rattle.std.specs.Prelude.{ℕ, List, [], ◌∷◌, length, map, true, is_some, Option, Some, None, Ok}
+use Rattle.std.specs.Prelude.{ℕ, pos, List, [], ◌∷◌, length, map, true, is_some, Option, Some, None, Ok}
 use Rattle.std.specs.Borrow.{Bor}
 use Rattle.sz_types.specs.Data.{Shape}
 use Rattle.sz_types.specs.Rows.{sum_row, difference_row}
@@ -13,7 +13,9 @@ use Rattle.sz_tree.specs.Names.{Ident}
 use Rattle.sz_tree.specs.Expressions.{Exp, Exps}
 use Rattle.sz_tree.specs.Statements.{SimpleForm, FirstForm, Stm as Tree}
 use Rattle.std.specs.Option.{option_map}
-use Rattle.sz_core.specs.Nodes.{Node, Nodes, nodes_of}
+use Rattle.sz_value.specs.Data.{Datum}
+use Rattle.sz_core.specs.Nodes.{Node, Nodes, node, nodes_of}
+use Rattle.sz_core.specs.Nodes as forms
 use Rattle.sz_core.specs.Statements as core
 use Rattle.sz_core.specs.Statements.{Stm, with_stm, stms_of}
 use Rattle.sz_core.specs.declared.stmt.CoreStmt.{CoreStmt}
@@ -29,7 +31,7 @@ use Rattle.sz_judge.specs.Scene.{Scene, opened}
 use Rattle.sz_judge.specs.Scenes.{Behind, AllBehind, judge, judge_if_some, closed}
 use Rattle.sz_judge.specs.JudgingSimple.{Numbered, judge_first, judge_between, test_if_some, table_named, weight_agrees, same_presence, done}
 use Rattle.sz_judge.specs.JudgingStatements.{Around, in_block, in_loop, out_of_loops, judge_stm}
-use Rattle.sz_judge.specs.Quantifying.{Variable, in_bound}
+use Rattle.sz_judge.specs.Quantifying.{Variable, in_bound, quantify}
 use Rattle.sz_check_expr.specs.Asking.{asked_of}
 use Rattle.sz_known.specs.Holding.{Held, scene_of}
 
@@ -45,6 +47,16 @@ numbered_of t = record { number = t.0; declaration = seen_table t.1.now }
 abbrev pub change_row : BinOp → Shape → Shape → Option Shape
 change_row Add = sum_row
 change_row _ = difference_row
+
+-- the operands of `name + 1`, and the whole, all at one place
+abbrev pub one_at : Place → Node
+one_at p = node p Shape.int (forms.constant (Datum.int (pos 1)))
+
+abbrev pub variable_at : Place → ℕ → Shape → Node
+variable_at p k t = node p t (forms.local k)
+
+abbrev pub changed_at : Place → BinOp → ℕ → Shape → Shape → Node
+changed_at p o k t u = node p u (forms.binary o (variable_at p k t) (one_at p))
 
 -- checked statements, and what is known behind them
 abbrev pub all_behind_of : Held → List CoreStmt → AllBehind
@@ -72,6 +84,29 @@ branch_of p c n taken other = do
   _ ← test c n
   Ok (core.branch p n taken other)
 
+-- a loop over a test, which must be a truth value: in front of each turn, or behind it
+abbrev pub while_of : Place → Exp → Node → Stm → Judged Stm
+while_of p c n body = do
+  _ ← test c n
+  Ok (core.while p n body)
+
+abbrev pub do_while_of : Place → Exp → Stm → Node → Judged Stm
+do_while_of p c body n = do
+  _ ← test c n
+  Ok (core.do_while p body n)
+
+-- the turns of a `for` over a test that may be missing
+abbrev pub for_of : Place → Option Exp → Option Node → Stm → Stm → Judged Stm
+for_of p c n step body = do
+  _ ← test_if_some c n
+  Ok (core.for_loop p n step body)
+
+-- the variables of a `when` by their rules, where its condition is a truth value
+abbrev pub judge_quantified : Scene → List Variable → Exp → Node → Judged (List core.Quantified)
+judge_quantified s vs c n = do
+  _ ← test c n
+  quantify s vs c
+
 -- what an `if` does behind its part: the other part, and then the branch over the test
 abbrev pub judge_else : Around → Scene → Place → Exp → Node → Stm → Tree → Judged Behind
 judge_else a s p c n taken t = do
@@ -84,8 +119,7 @@ judge_turns a s p c between t = do
   n ← judge_if_some s None c
   step ← judge_between s between
   body ← judge_inside (in_loop a) s t
-  _ ← test_if_some c n
-  Ok (record { scene = body.scene; stm = core.for_loop p n step body.stm })
+  done body.scene (for_of p c n step body.stm)
 
 -- a `for`: its first part, and then what it does, in a block
 abbrev pub judge_for : Around → Scene → Place → Option FirstForm → Option Exp → Option SimpleForm → Tree → Judged Behind

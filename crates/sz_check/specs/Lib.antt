@@ -8,3 +8,4 @@ pub mod Top
 pub mod Functions
 pub mod FunctionParts
 pub mod Tabling
+pub mod Declaring

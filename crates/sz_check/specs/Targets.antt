@@ -1,8 +1,9 @@
 -- What contracts see of where a path has come to, and one step of it.
-use Rattle.std.specs.Prelude.{List, map, None, false, Ok}
+use Rattle.std.specs.Prelude.{ℕ, List, map, None, false, Ok}
 use Rattle.sz_types.specs.Data.{Shape}
 use Rattle.sz_types.specs.Seen.{seen}
 use Rattle.sz_types.specs.declared.place.Place.{Place}
+use Rattle.sz_types.specs.declared.ty.Ty.{Ty}
 use Rattle.sz_tree.specs.Names.{Ident}
 use Rattle.sz_tree.specs.Statements.{StepForm, PathForm}
 use Rattle.sz_tree.specs.Statements as trees
@@ -11,6 +12,7 @@ use Rattle.sz_core.specs.Statements.{at_index, at_field}
 use Rattle.sz_core.specs.View.{step_of}
 use Rattle.sz_check.specs.declared.target.Target.{Target as Reached}
 use Rattle.sz_judge.specs.Refusals.{Judged, ◌>>=◌, unless, not_assignable}
+use Rattle.sz_judge.specs.Agreeing.{Found}
 use Rattle.sz_judge.specs.JudgingParts.{field_in}
 use Rattle.sz_judge.specs.Scene.{Scene}
 use Rattle.sz_judge.specs.Scenes.{judge}
@@ -25,8 +27,18 @@ abbrev pub path_form : Ident → List StepForm → PathForm
 path_form n steps = record { name = n; steps = steps }
 
 -- a step by an index into a string
-abbrev pub into_string : Target → Node → Target
-into_string t n = record (stepped t (at_index n) Shape.int) { assignable = false }
+abbrev pub into_string : Target → Node → Shape → Target
+into_string t n u = record (stepped t (at_index n) u) { assignable = false }
+
+-- a step by an index from a value of one type to one of another
+abbrev pub to_part : Target → Shape → Node → Shape → Target
+to_part t Shape.str n u = into_string t n u
+to_part t Shape.bytes n u = into_string t n u
+to_part t _ n u = stepped t (at_index n) u
+
+-- a field by its number, and its type
+abbrev pub part_of : ℕ × Ty → Found
+part_of f = record { place = f.0; type = seen f.1 }
 
 -- the next step of a path that begins at this place
 abbrev pub judge_step : Scene → Place → Target → StepForm → Judged Target

@@ -1,5 +1,5 @@
 //! Declarations of functions.
-ghost use Rattle.std.specs.Prelude.{◌≡◌, length, IfOk, map as each};
+ghost use Rattle.std.specs.Prelude.{◌≡◌, ◌++◌, ◌∷◌, [], length, IfOk, map as each};
 ghost use Rattle.sz_types.specs.Seen.{seen};
 ghost use Rattle.sz_tree.specs.Types.{params_of};
 ghost use Rattle.sz_tree.specs.Statements.{stms_of};
@@ -142,6 +142,19 @@ fn judge_body(
     Ok(Body { locals, statements })
 }
 
+// Takes over a copy of a signature.
+fn push_signature(
+    alloc: Global,
+    signatures: &mut Vec<Signature>,
+    signature: &Signature,
+) -> Result<(), AllocError>
+    ensures value { IfOk result
+        (λ _. each signature_of signatures.new.items ≡ each signature_of signatures.old.items ++ signature_of signature.now ∷ []) }
+{
+    signatures.push(copy_signature(alloc, signature)?)?;
+    Ok(())
+}
+
 // What the statements of a function make of it, whose own name is known.
 fn finished(
     alloc: Global,
@@ -152,7 +165,7 @@ fn finished(
     ensures value { IfOk result
         (λ i. found_one top.new i ≡ finished (top_of top.old) (blocks_of top.old.known) (signature_of signature) (body_of body)) }
 {
-    top.functions.push(copy_signature(alloc, &signature)?)?;
+    push_signature(alloc, &mut top.functions, &signature)?;
     Ok(Item::Function(Function {
         signature,
         locals: body.locals,

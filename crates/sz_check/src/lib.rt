@@ -1,6 +1,7 @@
 //! From the syntax tree of a program to the checked one, or to the first refusal.
 #![tactic(auto)]
 
+mod composed;
 mod declared;
 mod emitted;
 mod emitting;

@@ -2,8 +2,9 @@
 ghost use Rattle.std.specs.Prelude.{◌≡◌, ◌++◌, IfOk, map as each, None as Nothing};
 ghost use Rattle.sz_tree.specs.Statements.{stms_of};
 ghost use Rattle.sz_tree.specs.View.{tree_of, type_of, stm_of, program_of};
-ghost use Rattle.sz_core.specs.View.{item_of};
+ghost use Rattle.sz_core.specs.View.{item_of, static_of};
 ghost use Rattle.sz_judge.specs.JudgingPrograms.{judge_static, judge_typedef, judge_statement, judge_top, judge_all, known_at_first, judge_program};
+ghost use Rattle.sz_check.specs.Declaring.{declare_static};
 ghost use Rattle.sz_check.specs.Top.{found_all, found_one, found_with, items_in, top_of, core_seen};
 ghost use Rattle.sz_known.specs.Outcome.{Judges};
 
@@ -18,6 +19,22 @@ use sz_known::{CheckError, Known, Meaning, Site, judge_type, judge_written, smal
 use sz_sound::judged_programs_are_sound;
 use sz_tree::{Expr, Name, Stmt, Tree, TypeTree};
 use sz_types::{Place, Tys, copy_ty};
+
+// A static under its name, with the next number.
+fn declare_static(
+    alloc: Global,
+    top: &mut Top,
+    name: &Name,
+    made: Static,
+) -> Result<Item, CheckError>
+    ensures value { Judges (λ i. found_one top.new i) result (declare_static (top_of top.old) name.now (static_of made)) }
+{
+    let statics = small(top.statics as usize + 1)?;
+    let meaning = Meaning::Static(top.statics, copy_ty(alloc, &made.ty)?);
+    top.known.declare(alloc, name, meaning)?;
+    top.statics = statics;
+    Ok(Item::Static(made))
+}
 
 // `static name: type = e;`
 fn judge_static(
@@ -34,11 +51,7 @@ fn judge_static(
     let ty = judge_type(alloc, &top.known, of)?;
     let node = judge_exp(alloc, &top.known, Site::Static, Some(&ty), tree)?;
     let value = converted(alloc, &ty, tree, node)?;
-    let statics = small(top.statics as usize + 1)?;
-    let meaning = Meaning::Static(top.statics, copy_ty(alloc, &ty)?);
-    top.known.declare(alloc, name, meaning)?;
-    top.statics = statics;
-    Ok(Item::Static(Static { place, ty, value }))
+    declare_static(alloc, top, name, Static { place, ty, value })
 }
 
 // `type name = type;`

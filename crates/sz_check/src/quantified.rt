@@ -5,16 +5,17 @@ ghost use Rattle.sz_tree.specs.View.{tree_of, quantifier_of};
 ghost use Rattle.sz_quant.specs.Fitting.{bounds_of as bound_forms};
 ghost use Rattle.sz_quant.specs.Seen.{bound_of};
 ghost use Rattle.sz_core.specs.Sound.{candidate_type};
-ghost use Rattle.sz_core.specs.View.{quantity_of, quantified_of};
+ghost use Rattle.sz_core.specs.View.{node_of, quantity_of, quantified_of};
 ghost use Rattle.sz_known.specs.Holding.{blocks_of, outside_of, scene_of};
 ghost use Rattle.sz_known.specs.Outcome.{Judges};
 ghost use Rattle.sz_judge.specs.Quantifying.{judge_names, judge_quantifier, judge_quantifiers, none_declared, judge_front, bind, bind_inside, judge_bound};
 ghost use Rattle.sz_judge.specs.Quantifying.{names_of, all_bounded, may_follow, all_last, are_of, checked, judge_base, judge_bases, quantify};
+ghost use Rattle.sz_check.specs.Behind.{judge_quantified};
 ghost use Rattle.sz_check.specs.Quantified.{variable_of, declared_of, front_of, based_of};
 
 use crate::emitting::is_seen_inside;
 use std::alloc::{AllocError, Global};
-use sz_check_expr::{Kind, alike, judge_exp, type_kind};
+use sz_check_expr::{Kind, alike, judge_exp, test, type_kind};
 use sz_core::{CoreExpr, CoreQuantity, Quantified};
 use sz_known::{CheckError, Known, Meaning, Site, judge_type};
 use sz_list::Items;
@@ -315,7 +316,7 @@ fn judge_bases(
 }
 
 // The variables as they are in the checked tree, by their rules.
-pub fn quantify(
+fn quantify(
     alloc: Global,
     known: &mut Known,
     variables: &[Variable<'_>],
@@ -331,4 +332,20 @@ pub fn quantify(
     let made = judge_bases(alloc, known, variables, found.as_slice())?;
     known.close();
     Ok(made)
+}
+
+// The variables of a `when` by their rules, where its condition is a truth value.
+pub fn judge_quantified(
+    alloc: Global,
+    known: &mut Known,
+    front: &Front<'_>,
+    condition: &Expr,
+) -> Result<Vec<Quantified>, CheckError>
+    ensures value { Judges (λ made. each quantified_of made.items) result
+        (judge_quantified (scene_of known.old) (each variable_of front.now.variables.items) (tree_of condition.now)
+        (node_of front.now.condition)) }
+    ensures kept { IfOk result (λ _. known.new ≡ known.old) }
+{
+    test(condition, &front.condition)?;
+    quantify(alloc, known, front.variables.as_slice(), condition)
 }

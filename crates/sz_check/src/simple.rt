@@ -5,16 +5,18 @@ ghost use Rattle.std.specs.Option.{option_map};
 ghost use Rattle.sz_types.specs.Seen.{seen};
 ghost use Rattle.sz_tree.specs.View.{tree_of, type_of, path_of, simple_of, first_of};
 ghost use Rattle.sz_core.specs.Statements.{nothing};
-ghost use Rattle.sz_core.specs.View.{node_of, stm_of};
+ghost use Rattle.sz_core.specs.Nodes.{node};
+ghost use Rattle.sz_core.specs.View.{form_of, node_of, stm_of};
 ghost use Rattle.sz_judge.specs.Scenes.{judge_if_some};
 ghost use Rattle.sz_judge.specs.JudgingSimple.{judge_declaration, judge_initialised, judge_definition, judge_assignment, judge_change, judge_simple};
 ghost use Rattle.sz_judge.specs.JudgingSimple.{judge_first, judge_between, test_if_some, judge_return};
 ghost use Rattle.sz_check_expr.specs.Asking.{asked_of};
 ghost use Rattle.sz_known.specs.Holding.{scene_of};
-ghost use Rattle.sz_check.specs.Behind.{behind_of, change_row};
+ghost use Rattle.sz_check.specs.Behind.{behind_of, change_row, one_at, variable_at, changed_at};
 ghost use Rattle.sz_known.specs.Outcome.{Judges};
 
-use crate::target::{judge_path, judge_variable};
+use crate::composed::boxed;
+use crate::target::{Target, judge_path, judge_variable};
 use std::alloc::{AllocError, Global};
 use sz_check_expr::{agrees, converted, difference_row, judge_call, judge_exp, sum_row, test};
 use sz_core::{CoreExpr, CoreStmt, Form};
@@ -101,6 +103,46 @@ fn changed_type(alloc: Global, op: BinOp, ty: &Ty) -> Result<Option<Ty>, AllocEr
     }
 }
 
+// An operand at this place.
+fn operand(alloc: Global, place: Place, ty: Ty, form: Form) -> Result<Box<CoreExpr>, AllocError>
+    ensures value { IfOk result (λ made. node_of made.value ≡ node place (seen ty) (form_of form)) }
+{
+    Ok(Box::new(alloc, CoreExpr { place, ty, form })?)
+}
+
+// The number 1, as an operand at this place.
+fn one(alloc: Global, place: Place) -> Result<Box<CoreExpr>, AllocError>
+    ensures value { IfOk result (λ made. node_of made.value ≡ one_at place) }
+{
+    operand(alloc, place, Ty::Int, Form::Constant(Value::Int(1)))
+}
+
+// A variable, as an operand at this place.
+fn variable(alloc: Global, place: Place, target: Target) -> Result<Box<CoreExpr>, AllocError>
+    ensures value { IfOk result (λ made. node_of made.value ≡ variable_at place target.local (seen target.ty)) }
+{
+    operand(alloc, place, target.ty, Form::Local(target.local))
+}
+
+// `name + 1` or `name - 1` at this place, which has the type.
+fn changed(
+    alloc: Global,
+    place: Place,
+    op: BinOp,
+    ty: Ty,
+    target: Target,
+) -> Result<CoreExpr, AllocError>
+    ensures value { IfOk result (λ made. node_of made ≡ changed_at place op target.local (seen target.ty) (seen ty)) }
+{
+    let one = one(alloc, place)?;
+    let variable = variable(alloc, place, target)?;
+    Ok(CoreExpr {
+        place,
+        ty,
+        form: Form::Binary(op, variable, one),
+    })
+}
+
 // `name++` or `name--`: `name = name + 1` or `name = name - 1`, all of it at the place of the name.
 fn judge_change(
     alloc: Global,
@@ -115,19 +157,9 @@ fn judge_change(
     let Some(ty) = changed_type(alloc, op, &target.ty)? else {
         return Err(CheckError::at(9, place));
     };
-    let variable = CoreExpr {
-        place,
-        ty: target.ty,
-        form: Form::Local(target.local),
-    };
-    let one = CoreExpr {
-        place,
-        ty: Ty::Int,
-        form: Form::Constant(Value::Int(1)),
-    };
-    let form = Form::Binary(op, Box::new(alloc, variable)?, Box::new(alloc, one)?);
-    let node = CoreExpr { place, ty, form };
-    Ok(CoreStmt::Store(place, target.local, Vec::new(alloc), node))
+    let local = target.local;
+    let node = changed(alloc, place, op, ty, target)?;
+    Ok(CoreStmt::Store(place, local, Vec::new(alloc), node))
 }
 
 // An assignment or a call.
@@ -172,17 +204,18 @@ pub fn judge_first(
     }
 }
 
-// What is done between the turns of a `for`.
+// What is done between the turns of a `for`, in a box.
 pub fn judge_between(
     alloc: Global,
     known: &Known,
     tree: &Option<Simple>,
-) -> Result<CoreStmt, CheckError>
-    ensures value { Judges stm_of result (judge_between (scene_of known.now) (option_map simple_of tree.now)) }
+) -> Result<Box<CoreStmt>, CheckError>
+    ensures value { Judges (λ s. stm_of s.value) result
+        (judge_between (scene_of known.now) (option_map simple_of tree.now)) }
 {
     match tree {
-        Some(tree) => judge_simple(alloc, known, tree),
-        None => Ok(nothing(alloc)),
+        Some(tree) => Ok(boxed(alloc, judge_simple(alloc, known, tree)?)?),
+        None => Ok(boxed(alloc, nothing(alloc))?),
     }
 }
 

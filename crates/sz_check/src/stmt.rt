@@ -1,25 +1,24 @@
 //! Statements.
-ghost use Rattle.std.specs.Prelude.{◌≡◌, ◌∷◌, [], true, false, IfOk, map as each};
+ghost use Rattle.std.specs.Prelude.{◌≡◌, true, false, IfOk, map as each};
 ghost use Rattle.std.specs.Option.{option_map};
 ghost use Rattle.sz_tree.specs.Statements.{stms_of, block, if_only, while, do_while, when};
 ghost use Rattle.sz_tree.specs.View.{tree_of, stm_of, simple_of, first_of, quantifier_of};
-ghost use Rattle.sz_core.specs.Statements.{block as core_block, stms_of as core_stms_of};
 ghost use Rattle.sz_core.specs.View.{node_of, stm_of as core_stm_of};
 ghost use Rattle.sz_judge.specs.JudgingStatements.{judge_stm, judge_stms};
 ghost use Rattle.sz_known.specs.Holding.{scene_of};
-ghost use Rattle.sz_check.specs.Behind.{behind_of, all_behind_of, around_of, branch_of, judge_inside, judge_else, judge_turns, judge_for, judge_bound_body};
+ghost use Rattle.sz_check.specs.Behind.{behind_of, all_behind_of, around_of, judge_inside, judge_else, judge_turns, judge_for, judge_bound_body};
 ghost use Rattle.sz_check.specs.Quantified.{variable_of};
 ghost use Rattle.sz_known.specs.Outcome.{Judges};
 
+use crate::composed::{alone, boxed, branch, do_while_loop, for_loop, joined, while_loop};
 use crate::declared::judge_declared;
 use crate::emitted::judge_emit;
-use crate::quantified::{Variable, judge_bound, judge_front, quantify};
+use crate::quantified::{Variable, judge_bound, judge_front, judge_quantified};
 use crate::simple::{
     judge_between, judge_definition, judge_first, judge_return, judge_simple, judge_test, nothing,
-    test_if_some,
 };
-use std::alloc::{AllocError, Global};
-use sz_check_expr::{judge_exp, test};
+use std::alloc::Global;
+use sz_check_expr::judge_exp;
 use sz_core::{CoreExpr, CoreStmt};
 use sz_known::{CheckError, Known, Site};
 use sz_tree::{Expr, First, Quantifier, Simple, Stmt};
@@ -124,39 +123,22 @@ pub fn judge_stm(
     }
 }
 
-// A branch over a test, which must be a truth value.
-fn branch(
-    alloc: Global,
-    place: Place,
-    condition: &Expr,
-    node: CoreExpr,
-    taken: CoreStmt,
-    other: CoreStmt,
-) -> Result<CoreStmt, CheckError>
-    ensures value { Judges core_stm_of result
-        (branch_of place (tree_of condition.now) (node_of node) (core_stm_of taken) (core_stm_of other)) }
-{
-    test(condition, &node)?;
-    let (taken, other) = (Box::new(alloc, taken)?, Box::new(alloc, other)?);
-    Ok(CoreStmt::Branch(place, node, taken, other))
-}
-
-// A part statement, which is judged in a block of its own.
+// A part statement, which is judged in a block of its own, and stands in a box.
 #[cycle(stmt)]
 fn judge_inside(
     alloc: Global,
     known: &mut Known,
     around: Around<'_>,
     tree: &Stmt,
-) -> Result<CoreStmt, CheckError>
-    ensures value { Judges (λ s. behind_of known.new s) result
+) -> Result<Box<CoreStmt>, CheckError>
+    ensures value { Judges (λ s. behind_of known.new s.value) result
         (judge_inside (around_of around.entry) (scene_of known.old) (stm_of tree.now)) }
     ensures outside { IfOk result (λ _. known.new.outside ≡ known.old.outside) }
 {
     known.open()?;
     let statement = judge_stm(alloc, known, around, tree)?;
     known.close();
-    Ok(statement)
+    Ok(boxed(alloc, statement)?)
 }
 
 #[cycle(stmt)]
@@ -212,9 +194,10 @@ fn judge_if_only(
         (judge_stm (around_of around.entry) (scene_of known.old) (if_only place (tree_of condition.now) (stm_of taken.now))) }
     ensures outside { IfOk result (λ _. known.new.outside ≡ known.old.outside) }
 {
+    let other = boxed(alloc, nothing(alloc))?;
     let node = judge_exp(alloc, known, Site::Statement, None, condition)?;
     let taken = judge_inside(alloc, known, around, taken)?;
-    branch(alloc, place, condition, node, taken, nothing(alloc))
+    branch(place, condition, node, taken, other)
 }
 
 // What an `if` does behind its part: the other part, and then the branch over the test.
@@ -228,19 +211,19 @@ fn judge_else(
     other: &Stmt,
     condition: &Expr,
     node: CoreExpr,
-    taken: CoreStmt,
+    taken: Box<CoreStmt>,
 ) -> Result<CoreStmt, CheckError>
     ensures value { Judges (λ s. behind_of known.new s) result
         (judge_else (around_of around.entry) (scene_of known.old) place (tree_of condition.now) (node_of node)
-        (core_stm_of taken) (stm_of other.now)) }
+        (core_stm_of taken.value) (stm_of other.now)) }
     ensures outside { IfOk result (λ _. known.new.outside ≡ known.old.outside) }
 {
     let other = judge_inside(alloc, known, around, other)?;
-    branch(alloc, place, condition, node, taken, other)
+    branch(place, condition, node, taken, other)
 }
 
 #[cycle(stmt)]
-#[tactic(auto, unfolding(sz_judge::specs::JudgingStatements::judge_stm))]
+#[tactic(auto, using(crate::proofs::StatementParts::while_is, crate::proofs::StatementParts::done_is))]
 fn judge_while(
     alloc: Global,
     known: &mut Known,
@@ -255,12 +238,11 @@ fn judge_while(
 {
     let node = judge_exp(alloc, known, Site::Statement, None, condition)?;
     let body = judge_inside(alloc, known, around.inside_loop(), body)?;
-    test(condition, &node)?;
-    Ok(CoreStmt::While(place, node, Box::new(alloc, body)?))
+    while_loop(place, condition, node, body)
 }
 
 #[cycle(stmt)]
-#[tactic(auto, unfolding(sz_judge::specs::JudgingStatements::judge_stm))]
+#[tactic(auto, using(crate::proofs::StatementParts::do_while_is, crate::proofs::StatementParts::done_is))]
 fn judge_do_while(
     alloc: Global,
     known: &mut Known,
@@ -275,23 +257,12 @@ fn judge_do_while(
 {
     let body = judge_inside(alloc, known, around.inside_loop(), body)?;
     let node = judge_exp(alloc, known, Site::Statement, None, condition)?;
-    test(condition, &node)?;
-    Ok(CoreStmt::DoWhile(place, Box::new(alloc, body)?, node))
-}
-
-// Two statements in a block.
-fn joined(alloc: Global, first: CoreStmt, second: CoreStmt) -> Result<CoreStmt, AllocError>
-    ensures value { IfOk result
-        (λ made. core_stm_of made ≡ core_block (core_stms_of (core_stm_of first ∷ core_stm_of second ∷ []))) }
-{
-    let mut statements = Vec::new(alloc);
-    statements.push(first)?;
-    statements.push(second)?;
-    Ok(CoreStmt::block(statements))
+    do_while_loop(place, condition, body, node)
 }
 
 // What a `for` does behind its first part.
 #[cycle(stmt)]
+#[tactic(auto, using(crate::proofs::StatementParts::done_is))]
 fn judge_turns(
     alloc: Global,
     known: &mut Known,
@@ -309,9 +280,7 @@ fn judge_turns(
     let node = judge_test(alloc, known, condition)?;
     let step = judge_between(alloc, known, between)?;
     let body = judge_inside(alloc, known, around.inside_loop(), body)?;
-    test_if_some(condition, &node)?;
-    let (step, body) = (Box::new(alloc, step)?, Box::new(alloc, body)?);
-    Ok(CoreStmt::For(place, node, step, body))
+    for_loop(place, condition, node, step, body)
 }
 
 #[cycle(stmt)]
@@ -332,9 +301,10 @@ fn judge_for(
 {
     known.open()?;
     let start = judge_first(alloc, known, first)?;
+    let front = alone(alloc, start)?;
     let turns = judge_turns(alloc, known, around, place, body, condition, between)?;
     known.close();
-    Ok(joined(alloc, start, turns)?)
+    Ok(joined(front, turns)?)
 }
 
 // The statement inside a `when`, where it sees these variables.
@@ -345,8 +315,8 @@ fn judge_bound_body(
     around: Around<'_>,
     tree: &Stmt,
     variables: &[Variable<'_>],
-) -> Result<CoreStmt, CheckError>
-    ensures value { Judges (λ s. behind_of known.new s) result
+) -> Result<Box<CoreStmt>, CheckError>
+    ensures value { Judges (λ s. behind_of known.new s.value) result
         (judge_bound_body (around_of around.entry) (scene_of known.old) (each variable_of variables.now) (stm_of tree.now)) }
     ensures outside { IfOk result (λ _. known.new.outside ≡ known.old.outside) }
 {
@@ -357,7 +327,7 @@ fn judge_bound_body(
 }
 
 #[cycle(stmt)]
-#[tactic(auto, unfolding(sz_judge::specs::JudgingStatements::judge_stm))]
+#[tactic(auto, using(crate::proofs::StatementParts::when_is))]
 fn judge_when(
     alloc: Global,
     known: &mut Known,
@@ -373,10 +343,7 @@ fn judge_when(
     ensures outside { IfOk result (λ _. known.new.outside ≡ known.old.outside) }
 {
     let front = judge_front(alloc, known, quantifiers, condition)?;
-    let variables = front.variables.as_slice();
-    let body = judge_bound_body(alloc, known, around, body, variables)?;
-    test(condition, &front.condition)?;
-    let variables = quantify(alloc, known, variables, condition)?;
-    let body = Box::new(alloc, body)?;
+    let body = judge_bound_body(alloc, known, around, body, front.variables.as_slice())?;
+    let variables = judge_quantified(alloc, known, &front, condition)?;
     Ok(CoreStmt::When(place, variables, front.condition, body))
 }

@@ -1,5 +1,5 @@
 //! Declarations of tables.
-ghost use Rattle.std.specs.Prelude.{◌≡◌, map as each};
+ghost use Rattle.std.specs.Prelude.{◌≡◌, IfOk, Some as Just, map as each};
 ghost use Rattle.std.specs.Option.{option_map};
 ghost use Rattle.sz_types.specs.Data.{fields_of};
 ghost use Rattle.sz_types.specs.Seen.{seen, seen_field};
@@ -9,13 +9,14 @@ ghost use Rattle.sz_core.specs.View.{item_of};
 ghost use Rattle.sz_core.specs.WellFormed.{are_whole_numbers, has_sum, is_weight, has_no_weight, is_between, is_allowed};
 ghost use Rattle.sz_judge.specs.JudgingPrograms.{kind_of, has_limit, limit_of, judge_elems, judge_weight, allowed, declaration_of, judge_table};
 ghost use Rattle.sz_judge.specs.Refusals.{no_kind};
+ghost use Rattle.sz_check.specs.Declaring.{declare_table, table_of as made_of};
 ghost use Rattle.sz_check.specs.Tabling.{is_int};
 ghost use Rattle.sz_known.specs.Holding.{blocks_of};
 ghost use Rattle.sz_check.specs.Top.{found_one, top_of};
 ghost use Rattle.sz_known.specs.Outcome.{Judges, Stops};
 
 use crate::top::Top;
-use std::alloc::Global;
+use std::alloc::{AllocError, Global};
 use sz_check_expr::{Kind, type_kind};
 use sz_core::Item;
 use sz_known::{CheckError, Known, Meaning, judge_type};
@@ -169,8 +170,67 @@ fn is_allowed(table: &TableDecl) -> bool
     }
 }
 
-// A declaration of a table by its parts; the limit is wrong where there is none.
+// A table of this kind, with this limit.
+fn made_table(
+    alloc: Global,
+    name: &Name,
+    kind: TableKind,
+    limit: u32,
+    indexes: Tys,
+    element: Ty,
+    weight: Option<Ty>,
+) -> Result<TableDecl, AllocError>
+    ensures value { IfOk result
+        (λ made. seen_table made ≡ made_of name.now kind limit indexes (seen element) (option_map seen weight)) }
+{
+    let name = Text::from_str(alloc, name.text().as_str())?;
+    Ok(TableDecl {
+        name,
+        kind,
+        limit,
+        indexes,
+        element,
+        weight,
+    })
+}
+
+// The table, if its kind allows it.
+fn allowed(word: &Name, table: TableDecl) -> Result<TableDecl, CheckError>
+    ensures value { Judges seen_table result (allowed word.now (seen_table table)) }
+{
+    if is_allowed(&table) {
+        Ok(table)
+    } else {
+        Err(CheckError::at(17, word.place()))
+    }
+}
+
+// A declaration of a table by its parts, where it has a limit.
 #[tactic(auto, using(crate::proofs::TableLemmas::too_large))]
+fn limited(
+    alloc: Global,
+    name: &Name,
+    word: &Name,
+    kind: TableKind,
+    limit: u64,
+    indexes: Tys,
+    element: Ty,
+    weight: Option<Ty>,
+) -> Result<TableDecl, CheckError>
+    ensures value { Judges seen_table result
+        (declaration_of name.now word.now kind (Just limit) indexes (seen element) (option_map seen weight)) }
+{
+    // No kind has a limit that is too large for its field.
+    let Ok(limit) = u32::try_from(limit) else {
+        return Err(CheckError::at(17, word.place()));
+    };
+    allowed(
+        word,
+        made_table(alloc, name, kind, limit, indexes, element, weight)?,
+    )
+}
+
+// A declaration of a table by its parts; the limit is wrong where there is none.
 fn declaration_of(
     alloc: Global,
     name: &Name,
@@ -184,31 +244,32 @@ fn declaration_of(
     ensures value { Judges seen_table result
         (declaration_of name.now word.now kind limit indexes (seen element) (option_map seen weight)) }
 {
-    let Some(limit) = limit else {
-        return Err(CheckError::at(17, word.place()));
-    };
-    // No kind has a limit that is too large for its field.
-    let Ok(limit) = u32::try_from(limit) else {
-        return Err(CheckError::at(17, word.place()));
-    };
-    let name = Text::from_str(alloc, name.text().as_str())?;
-    let table = TableDecl {
-        name,
-        kind,
-        limit,
-        indexes,
-        element,
-        weight,
-    };
-    if is_allowed(&table) {
-        Ok(table)
-    } else {
-        Err(CheckError::at(17, word.place()))
+    match limit {
+        Some(limit) => limited(alloc, name, word, kind, limit, indexes, element, weight),
+        None => Err(CheckError::at(17, word.place())),
     }
 }
 
 // The most tables of a program.
 const MOST_TABLES: u32 = 64;
+
+// A table under its name, with the next number.
+fn declare_table(
+    alloc: Global,
+    top: &mut Top,
+    name: &Name,
+    table: TableDecl,
+) -> Result<Item, CheckError>
+    ensures value { Judges (λ i. found_one top.new i) result (declare_table (top_of top.old) name.now (seen_table table)) }
+{
+    if top.tables >= MOST_TABLES {
+        return Err(CheckError::at(21, name.place()));
+    }
+    let meaning = Meaning::Table(top.tables, copy_table(alloc, &table)?);
+    top.known.declare(alloc, name, meaning)?;
+    top.tables += 1;
+    Ok(Item::Table(table))
+}
 
 // `name: table kind (limit) [index].. of element weight weight;`
 pub fn judge_table(
@@ -228,11 +289,5 @@ pub fn judge_table(
     let table = declaration_of(
         alloc, name, &tree.kind, kind, limit, indexes, element, weight,
     )?;
-    if top.tables >= MOST_TABLES {
-        return Err(CheckError::at(21, name.place()));
-    }
-    let meaning = Meaning::Table(top.tables, copy_table(alloc, &table)?);
-    top.known.declare(alloc, name, meaning)?;
-    top.tables += 1;
-    Ok(Item::Table(table))
+    declare_table(alloc, top, name, table)
 }

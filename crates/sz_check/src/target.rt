@@ -3,9 +3,10 @@ ghost use Rattle.std.specs.Prelude.{◌≡◌, [], IfOk, map as each};
 ghost use Rattle.sz_types.specs.Seen.{seen};
 ghost use Rattle.sz_tree.specs.View.{tree_of, step_of};
 ghost use Rattle.sz_core.specs.View.{node_of, step_of as core_step_of};
+ghost use Rattle.sz_judge.specs.JudgingParts.{field_in};
 ghost use Rattle.sz_judge.specs.JudgingPaths.{target_of, stepped, indexed, judge_steps, judge_path};
 ghost use Rattle.sz_known.specs.Holding.{means_of, scene_of};
-ghost use Rattle.sz_check.specs.Targets.{target_seen, into_string, judge_step, path_form, assignable};
+ghost use Rattle.sz_check.specs.Targets.{target_seen, into_string, to_part, part_of, judge_step, path_form, assignable};
 ghost use Rattle.sz_known.specs.Outcome.{Judges};
 
 use std::alloc::{AllocError, Global};
@@ -60,15 +61,54 @@ fn stepped(target: Target, step: CoreStep, ty: Ty) -> Result<Target, AllocError>
 }
 
 // A step into a string, where nothing can be assigned.
-fn into_string(target: Target, node: CoreExpr) -> Result<Target, AllocError>
-    ensures value { IfOk result (λ made. target_seen made ≡ into_string (target_seen target) (node_of node)) }
+fn into_string(target: Target, node: CoreExpr, ty: Ty) -> Result<Target, AllocError>
+    ensures value { IfOk result (λ made. target_seen made ≡ into_string (target_seen target) (node_of node) (seen ty)) }
 {
-    let mut next = stepped(target, CoreStep::Index(node), Ty::Int)?;
+    let mut next = stepped(target, CoreStep::Index(node), ty)?;
     next.assignable = false;
     Ok(next)
 }
 
-// A step by an index: to an element, to the value of a key, or into a string.
+// A step by an index to a value of this type: to an element, to the value of a key, or into a string.
+fn to_part(target: Target, node: CoreExpr, ty: Ty) -> Result<Target, AllocError>
+    ensures value { IfOk result
+        (λ made. target_seen made ≡ to_part (target_seen target) (seen target.ty) (node_of node) (seen ty)) }
+{
+    match type_kind(&target.ty) {
+        Kind::Str | Kind::Bytes => into_string(target, node, ty),
+        _ => stepped(target, CoreStep::Index(node), ty),
+    }
+}
+
+// The type of what an index leads to.
+fn part_type(
+    alloc: Global,
+    place: Place,
+    target: &Target,
+    tree: &Expr,
+    node: &CoreExpr,
+) -> Result<Ty, CheckError>
+    ensures value { Judges (λ ty. to_part (target_seen target.now) (seen target.now.ty) (node_of node.now) (seen ty)) result
+        (indexed place (target_seen target.now) (seen target.now.ty) (tree_of tree.now) (node_of node.now)) }
+{
+    match type_kind(&target.ty) {
+        Kind::Array(element) => {
+            whole(tree, node)?;
+            Ok(copy_ty(alloc, element)?)
+        }
+        Kind::Map(key, value) => {
+            agrees(Some(key), tree, node)?;
+            Ok(copy_ty(alloc, value)?)
+        }
+        Kind::Str | Kind::Bytes => {
+            whole(tree, node)?;
+            Ok(Ty::Int)
+        }
+        _ => Err(CheckError::at(9, place)),
+    }
+}
+
+// A step by an index.
 fn indexed(
     alloc: Global,
     place: Place,
@@ -79,23 +119,16 @@ fn indexed(
     ensures value { Judges target_seen result
         (indexed place (target_seen target) (seen target.ty) (tree_of tree.now) (node_of node)) }
 {
-    match type_kind(&target.ty) {
-        Kind::Array(element) => {
-            whole(tree, &node)?;
-            let ty = copy_ty(alloc, element)?;
-            Ok(stepped(target, CoreStep::Index(node), ty)?)
-        }
-        Kind::Map(key, value) => {
-            agrees(Some(key), tree, &node)?;
-            let ty = copy_ty(alloc, value)?;
-            Ok(stepped(target, CoreStep::Index(node), ty)?)
-        }
-        Kind::Str | Kind::Bytes => {
-            whole(tree, &node)?;
-            Ok(into_string(target, node)?)
-        }
-        _ => Err(CheckError::at(9, place)),
-    }
+    let ty = part_type(alloc, place, &target, tree, &node)?;
+    Ok(to_part(target, node, ty)?)
+}
+
+// The field of a value of this type: its number, and its type.
+fn field_part(alloc: Global, place: Place, of: &Ty, name: &Name) -> Result<(u32, Ty), CheckError>
+    ensures value { Judges part_of result (field_in place (seen of.now) name.now) }
+{
+    let (number, ty) = field_in(alloc, place, of, name)?;
+    Ok((small(number)?, copy_ty(alloc, ty)?))
 }
 
 // The next step of a path that begins at this place.
@@ -114,8 +147,7 @@ fn judge_step(
             indexed(alloc, place, target, tree, node)
         }
         Step::Field(name) => {
-            let (number, ty) = field_in(alloc, place, &target.ty, name)?;
-            let (number, ty) = (small(number)?, copy_ty(alloc, ty)?);
+            let (number, ty) = field_part(alloc, place, &target.ty, name)?;
             Ok(stepped(target, CoreStep::Field(number), ty)?)
         }
     }

@@ -13,7 +13,7 @@ use Rattle.sz_check.specs.Quantified.{variable_of}
 use Rattle.sz_check.proofs.WhenLemmas.{body_stops, body_made}
 use Rattle.sz_check.proofs.StatementLoops.{stms_fail, stms_go, stms_end}
 use Rattle.sz_check.proofs.StatementParts.{inside_made, inside_stops, block_made, block_stops, for_first_stops, for_turns_stop, for_made}
-use Rattle.sz_check.proofs.StatementParts.{while_stops, else_test_stops, else_part_stops, else_goes_on, other_stops}
+use Rattle.sz_check.proofs.StatementParts.{else_test_stops, else_part_stops, else_goes_on, other_stops}
 use borrow.Enum.Known.{ValuesAt}
 use borrow.Enum.Total.{values_d, values_d_at}
 use Rattle.sz_tree.specs.contracts.stmt.Stmt.{enum}
@@ -49,11 +49,11 @@ judge_inside-returns-in_err-statement-clause-value t c =
     (stm_of c.args.tree.now) c.in_err-statement.field-0.0 c.in_ok-open.ensures.value c.in_err-statement.ensures.value)
 
 pub judge_inside-returns-clause-value : goal.judge_inside-returns-clause-value
-judge_inside-returns-clause-value t c =
-    inside_made (around_of c.args.around) c.args.known.now c.open.new.self c.judge_stm.new.known c.close.new.self (stm_of c.args.tree.now)
+judge_inside-returns-clause-value t c = rw c.in_ok-boxed.ensures.value
+    (inside_made (around_of c.args.around) c.args.known.now c.open.new.self c.judge_stm.new.known c.close.new.self (stm_of c.args.tree.now)
     (core_stm_of c.in_ok-statement.statement)
     c.in_ok-open.ensures.value c.in_ok-statement.ensures.value
-    (c.close.ensures.value c.args.known.now (c.in_ok-statement.ensures.outside ∙ ap (λ (k : Held). k.outside) c.in_ok-open.ensures.value))
+    (c.close.ensures.value c.args.known.now (c.in_ok-statement.ensures.outside ∙ ap (λ (k : Held). k.outside) c.in_ok-open.ensures.value)))
 
 pub judge_inside-returns-clause-outside : goal.judge_inside-returns-clause-outside
 judge_inside-returns-clause-outside t c =
@@ -99,7 +99,7 @@ judge_for-returns-in_err-turns-clause-value t c =
     c.in_ok-open.ensures.value c.in_ok-start.ensures.value c.in_err-turns.ensures.value)
 
 pub judge_for-returns-clause-value : goal.judge_for-returns-clause-value
-judge_for-returns-clause-value t c = rw c.in_ok-joined.ensures.value
+judge_for-returns-clause-value t c = rw (c.in_ok-joined.ensures.value, c.in_ok-front.ensures.value)
     (for_made (around_of c.args.around) c.args.known.now c.open.new.self c.judge_first.new.known c.args.place _ _ _ _ c.judge_turns.new.known
     c.close.new.self
     (core_stm_of c.in_ok-start.start) (core_stm_of c.in_ok-turns.turns) c.in_ok-open.ensures.value c.in_ok-start.ensures.value c.in_ok-turns.ensures.value
@@ -125,21 +125,12 @@ pub judge_bound_body-returns-clause-value : goal.judge_bound_body-returns-clause
 judge_bound_body-returns-clause-value t c =
     body_made (around_of c.args.around) _ c.args.known.now c.judge_bound.new.known (map variable_of c.args.variables.now) (stm_of c.args.tree.now)
     (ap around_of c.out_of_loops.ensures.value) c.in_ok-judge_bound.ensures.value c.judge_inside.new.known c.close.new.self
-    (core_stm_of c.in_ok-statement.statement) c.in_ok-statement.ensures.value
+    (core_stm_of c.in_ok-statement.statement.value) c.in_ok-statement.ensures.value
     (c.close.ensures.value c.args.known.now (c.in_ok-statement.ensures.outside ∙ c.in_ok-judge_bound.ensures.outside))
 
 pub judge_bound_body-returns-clause-outside : goal.judge_bound_body-returns-clause-outside
 judge_bound_body-returns-clause-outside t c =
     ap (λ (k : Held). k.outside) (c.close.ensures.value c.args.known.now (c.in_ok-statement.ensures.outside ∙ c.in_ok-judge_bound.ensures.outside))
-
--- ---- a test behind what it chooses
-
-pub judge_while-returns-in_err-test-clause-value : goal.judge_while-returns-in_err-test-clause-value
-judge_while-returns-in_err-test-clause-value t c =
-    let p = err_from_is_err_and c.from_residual-in_err-test.result c.from_residual-in_err-test.ensures.1 in
-    rw (p.1, p.2)
-    (while_stops (around_of c.args.around) _ (scene_of c.args.known.now) c.args.place (tree_of c.args.condition.now) (stm_of c.args.body.now) _ _
-    c.in_err-test.field-0.0 (ap around_of c.inside_loop.ensures.value) c.in_ok-node.ensures.value c.in_ok-body.ensures.value c.in_err-test.ensures.value)
 
 -- ---- an `if` with another part
 
@@ -148,7 +139,7 @@ judge_else-returns-in_err-other-clause-value t c =
     let p = err_from_is_err_and c.from_residual.result c.from_residual.ensures.1 in
     rw (p.1, p.2)
     (other_stops (around_of c.args.around) (scene_of c.args.known.now) c.args.place (tree_of c.args.condition.now) (node_of c.args.node)
-    (core_stm_of c.args.taken) (stm_of c.args.other.now) c.in_err-other.field-0.0 c.in_err-other.ensures.value)
+    (core_stm_of c.args.taken.value) (stm_of c.args.other.now) c.in_err-other.field-0.0 c.in_err-other.ensures.value)
 
 pub judge_stm-returns-in_err-node-in-If-default-default-default-Some-clause-value :
     goal.judge_stm-returns-in_err-node-in-If-default-default-default-Some-clause-value
@@ -188,12 +179,12 @@ judge_stm-returns-in_ok-taken-in-If-default-default-default-Some-clause-value t 
     let is = rw other at arm.is in
     let goes = else_goes_on (around_of c.args.around) (scene_of c.args.known.now) arm.place (tree_of arm.test) (stm_of arm.taken.value)
     (stm_of arm.other.value) (node_of c.in_ok-node-in-If-default-default-default-Some.node)
-    (behind_of c.judge_inside.new.known c.in_ok-taken-in-If-default-default-default-Some.taken)
+    (behind_of c.judge_inside.new.known c.in_ok-taken-in-If-default-default-default-Some.taken.value)
     c.in_ok-node-in-If-default-default-default-Some.ensures.value
     (rw c.deref-in-If-default-default-default-Some.ensures at c.in_ok-taken-in-If-default-default-default-Some.ensures.value) in
     let judged = subst (λ (u : _). Judges (λ s. behind_of c.judge_else.new.known s) c.judge_else.result
     (judge_else (around_of c.args.around) (scene_of c.judge_inside.new.known) arm.place (tree_of arm.test)
-    (node_of c.in_ok-node-in-If-default-default-default-Some.node) (core_stm_of c.in_ok-taken-in-If-default-default-default-Some.taken) (stm_of u)))
+    (node_of c.in_ok-node-in-If-default-default-default-Some.node) (core_stm_of c.in_ok-taken-in-If-default-default-default-Some.taken.value) (stm_of u)))
     c.deref-in-If-default-default-default-Some-2.ensures c.judge_else.ensures.value in
     subst (λ (tree : _). Judges (λ s. behind_of c.judge_else.new.known s) c.judge_else.result
     (judge_stm (around_of c.args.around) (scene_of c.args.known.now) (stm_of tree))) (sym is)
