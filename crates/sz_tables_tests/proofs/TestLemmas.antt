@@ -1,5 +1,5 @@
 -- Whole numbers fit the tables of the tests.
-use Rattle.std.proofs.Common.{◌≡◌, ◌∙◌, ℤ, Bool, true, false, cond, Option, Some, None, is_some, List, [], ◌∷◌, ◌++◌, All, refl, sym, subst}
+use Rattle.std.proofs.Common.{◌≡◌, ◌∙◌, ◌⊎◌, ℤ, Bool, true, false, cond, Option, Some, None, is_some, List, [], ◌∷◌, ◌++◌, All, refl, sym, subst}
 use Rattle.std.specs.Prelude.{slice_get}
 use Rattle.std.proofs.lemmas.List.Elements.{All-push, All-nil}
 use Rattle.std.proofs.lemmas.Option.{slice_get_within, get_or_from_slice_get}
@@ -79,3 +79,7 @@ pub fit_still : (now table : Declaration) (b : Bool) (n w : ℤ) (weight : Optio
     → Fits now (weighted (int n) weight)
 fit_still now table b n w weight fit same is =
     subst (λ d. Fits d (weighted (int n) weight)) (sym same) (subst (λ o. Fits table (weighted (int n) o)) (sym is) (fit n w))
+
+-- what is one of two, under another name
+pub one_of_two : {A : Type 0} (now kind first second : A) → now ≡ kind → (kind ≡ first) ⊎ (kind ≡ second) → (now ≡ first) ⊎ (now ≡ second)
+one_of_two now kind first second is which = subst (λ k. (k ≡ first) ⊎ (k ≡ second)) (sym is) which

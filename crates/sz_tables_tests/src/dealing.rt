@@ -7,7 +7,7 @@ ghost use Rattle.sz_value.specs.Data.{int};
 ghost use Rattle.sz_tabs.specs.Aggregating.{weighted};
 ghost use Rattle.sz_tabs.specs.Fitting.{Fits};
 
-use crate::tables::{numbers_in, table_of_numbers};
+use crate::tables::{add_number, are_same, numbers_from, table_of_numbers, with};
 use std::alloc::Global;
 use std::test::Fail;
 use sz_extreme::Extreme;
@@ -15,7 +15,6 @@ use sz_members::Members;
 use sz_sum::Sum;
 use sz_tabs::{Aggregator, NoMemory, PlainAggregator, Rows};
 use sz_types::{TableDecl, TableKind};
-use sz_value::Value;
 
 // A whole number, its weight, and the aggregator that it is dealt to.
 type Dealt = (i64, i64, u64);
@@ -73,18 +72,26 @@ fn merged_rows<A: Aggregator + Drop>(
     requires few { length dealt.now < 2 ^ 32 }
 {
     for (number, weight, side) in dealt {
-        let value = Value::Int(*number);
         let weight = weight_if(by_weight, *weight);
         match *side {
-            0 => first.add(&value, weight)?,
-            1 => second.add(&value, weight)?,
-            _ => third.add(&value, weight)?,
+            0 => add_number(&mut first, *number, weight)?,
+            1 => add_number(&mut second, *number, weight)?,
+            _ => add_number(&mut third, *number, weight)?,
         }
     }
+    merged_by(order, first, second, third)?.rows()
+}
+
+// Three sides, merged in one of three orders.
+fn merged_by<A: Aggregator + Drop>(order: u64, first: A, second: A, third: A) -> Result<A, NoMemory>
+    requires second_same { A.declaration second ≡ A.declaration first }
+    requires third_same { A.declaration third ≡ A.declaration first }
+    requires room { A.count first + A.count second + A.count third ≤ 2 ^ 63 }
+{
     match order {
-        0 => merged(merged(first, second)?, third)?.rows(),
-        1 => merged(first, merged(second, third)?)?.rows(),
-        _ => merged(merged(third, first)?, second)?.rows(),
+        0 => merged(merged(first, second)?, third),
+        1 => merged(first, merged(second, third)?),
+        _ => merged(merged(third, first)?, second),
     }
 }
 
@@ -114,10 +121,10 @@ fn plain_rows(
     requires few { length dealt.now < 2 ^ 32 }
 {
     let first = PlainAggregator::new(alloc, table)?;
-    let second = PlainAggregator::new(alloc, table)?;
-    let third = PlainAggregator::new(alloc, table)?;
-    let rows = merged_rows(first, second, third, dealt, by_weight, 0)?;
-    numbers_in(alloc, &rows)
+    let (first, second) = with(first, PlainAggregator::new(alloc, table))?;
+    let ((first, second), third) = with((first, second), PlainAggregator::new(alloc, table))?;
+    let rows = merged_rows(first, second, third, dealt, by_weight, 0);
+    numbers_from(alloc, rows)
 }
 
 // The rows that a sum has of the emits, in numbers.
@@ -134,10 +141,10 @@ fn sum_rows(
     requires few { length dealt.now < 2 ^ 32 }
 {
     let first = Sum::new(alloc, table)?;
-    let second = Sum::new(alloc, table)?;
-    let third = Sum::new(alloc, table)?;
-    let rows = merged_rows(first, second, third, dealt, false, order)?;
-    numbers_in(alloc, &rows)
+    let (first, second) = with(first, Sum::new(alloc, table))?;
+    let ((first, second), third) = with((first, second), Sum::new(alloc, table))?;
+    let rows = merged_rows(first, second, third, dealt, false, order);
+    numbers_from(alloc, rows)
 }
 
 // The rows that an aggregator of extremes has of the emits, in numbers.
@@ -156,8 +163,8 @@ fn extreme_rows(
     let first = Extreme::new(alloc, table);
     let second = Extreme::new(alloc, table);
     let third = Extreme::new(alloc, table);
-    let rows = merged_rows(first, second, third, dealt, true, order)?;
-    numbers_in(alloc, &rows)
+    let rows = merged_rows(first, second, third, dealt, true, order);
+    numbers_from(alloc, rows)
 }
 
 // The rows that an aggregator of members has of the emits, in numbers.
@@ -176,8 +183,109 @@ fn members_rows(
     let first = Members::new(alloc, table);
     let second = Members::new(alloc, table);
     let third = Members::new(alloc, table);
-    let rows = merged_rows(first, second, third, dealt, false, order)?;
-    numbers_in(alloc, &rows)
+    let rows = merged_rows(first, second, third, dealt, false, order);
+    numbers_from(alloc, rows)
+}
+
+// Whether a sum has the rows of the plain aggregator.
+fn sum_agrees(alloc: Global, limit: u32, dealt: &[Dealt], order: u64) -> Result<bool, NoMemory>
+    requires few { length dealt.now < 2 ^ 32 }
+{
+    let table = table_of_numbers(alloc, TableKind::Sum, limit, false)?;
+    let want = plain_rows(alloc, &table, dealt, false);
+    let same = are_same(want, sum_rows(alloc, &table, dealt, order));
+    drop(table);
+    same
+}
+
+// Whether an aggregator of extremes has the rows of the plain one.
+#[tactic(auto, using(crate::proofs::TestLemmas::one_of_two))]
+fn extreme_agrees(
+    alloc: Global,
+    kind: TableKind,
+    limit: u32,
+    dealt: &[Dealt],
+    order: u64,
+) -> Result<bool, NoMemory>
+    requires kind { (kind ≡ kinds.Maximum) ⊎ (kind ≡ kinds.Minimum) }
+    requires few { length dealt.now < 2 ^ 32 }
+{
+    let table = table_of_numbers(alloc, kind, limit, true)?;
+    let want = plain_rows(alloc, &table, dealt, true);
+    let same = are_same(want, extreme_rows(alloc, &table, dealt, order));
+    drop(table);
+    same
+}
+
+// Whether an aggregator of members has the rows of the plain one.
+#[tactic(auto, using(crate::proofs::TestLemmas::one_of_two))]
+fn members_agree(
+    alloc: Global,
+    kind: TableKind,
+    limit: u32,
+    dealt: &[Dealt],
+    order: u64,
+) -> Result<bool, NoMemory>
+    requires kind { (kind ≡ kinds.Set) ⊎ (kind ≡ kinds.Collection) }
+    requires few { length dealt.now < 2 ^ 32 }
+{
+    let table = table_of_numbers(alloc, kind, limit, false)?;
+    let want = plain_rows(alloc, &table, dealt, false);
+    let same = are_same(want, members_rows(alloc, &table, dealt, order));
+    drop(table);
+    same
+}
+
+// Whether the aggregator of such a table has the rows of the plain one.
+fn agrees(
+    alloc: Global,
+    kind: TableKind,
+    limit: u32,
+    dealt: &[Dealt],
+    order: u64,
+) -> Result<bool, NoMemory>
+    requires few { length dealt.now < 2 ^ 32 }
+{
+    match kind {
+        TableKind::Sum => sum_agrees(alloc, limit, dealt, order),
+        TableKind::Maximum => extreme_agrees(alloc, TableKind::Maximum, limit, dealt, order),
+        TableKind::Minimum => extreme_agrees(alloc, TableKind::Minimum, limit, dealt, order),
+        TableKind::Set => members_agree(alloc, TableKind::Set, limit, dealt, order),
+        TableKind::Collection => members_agree(alloc, TableKind::Collection, limit, dealt, order),
+    }
+}
+
+// Whether it is so for so many emits that are drawn from the seed.
+fn agrees_from(
+    alloc: Global,
+    kind: TableKind,
+    limit: u32,
+    count: u64,
+    seed: u64,
+) -> Result<bool, NoMemory>
+    requires seed { seed ≤ 65536 }
+{
+    let dealt = deal(alloc, seed, count)?;
+    if dealt.len() < 1000 {
+        agrees(alloc, kind, limit, &dealt, seed % 3)
+    } else {
+        Ok(false)
+    }
+}
+
+// The tables with their limits: there are seven different numbers, so forty emits fill the first two sets and just fit the third.
+const TABLES: &[(&str, TableKind, u32)] = &[
+    ("sum", TableKind::Sum, 0),
+    ("maximum", TableKind::Maximum, 3),
+    ("minimum", TableKind::Minimum, 3),
+    ("collection", TableKind::Collection, 0),
+    ("set of 1", TableKind::Set, 1),
+    ("set of 3", TableKind::Set, 3),
+    ("set of 7", TableKind::Set, 7),
+];
+
+fn declared() -> &'static [(&'static str, TableKind, u32)] {
+    TABLES
 }
 
 // How many emits there are, around the limit of the tables and above it.
@@ -188,93 +296,12 @@ fn counts() -> &'static [u64] {
 }
 
 #[test]
-fn sums_are_those_of_the_plain_aggregator(rt: HostRuntime) -> Result<(), Fail> {
-    let alloc = rt.alloc();
-    let table = table_of_numbers(alloc, TableKind::Sum, 0, false)?;
-    for count in counts() {
-        for seed in 1..10u64 {
-            let dealt = deal(alloc, seed, *count)?;
-            if dealt.len() < 1000 {
-                let want = plain_rows(alloc, &table, &dealt, false)?;
-                let sums = sum_rows(alloc, &table, &dealt, seed % 3)?;
-                assert!(rt; sums == want, "at {count} from {seed}");
-            }
-        }
-    }
-    Ok(())
-}
-
-#[test]
-fn maxima_are_those_of_the_plain_aggregator(rt: HostRuntime) -> Result<(), Fail> {
-    let alloc = rt.alloc();
-    let table = table_of_numbers(alloc, TableKind::Maximum, 3, true)?;
-    for count in counts() {
-        for seed in 1..10u64 {
-            let dealt = deal(alloc, seed, *count)?;
-            if dealt.len() < 1000 {
-                let want = plain_rows(alloc, &table, &dealt, true)?;
-                let rows = extreme_rows(alloc, &table, &dealt, seed % 3)?;
-                assert!(rt; rows == want, "at {count} from {seed}");
-            }
-        }
-    }
-    Ok(())
-}
-
-#[test]
-fn minima_are_those_of_the_plain_aggregator(rt: HostRuntime) -> Result<(), Fail> {
-    let alloc = rt.alloc();
-    let table = table_of_numbers(alloc, TableKind::Minimum, 3, true)?;
-    for count in counts() {
-        for seed in 1..10u64 {
-            let dealt = deal(alloc, seed, *count)?;
-            if dealt.len() < 1000 {
-                let want = plain_rows(alloc, &table, &dealt, true)?;
-                let rows = extreme_rows(alloc, &table, &dealt, seed % 3)?;
-                assert!(rt; rows == want, "at {count} from {seed}");
-            }
-        }
-    }
-    Ok(())
-}
-
-#[test]
-fn collections_are_those_of_the_plain_aggregator(rt: HostRuntime) -> Result<(), Fail> {
-    let alloc = rt.alloc();
-    let table = table_of_numbers(alloc, TableKind::Collection, 0, false)?;
-    for count in counts() {
-        for seed in 1..10u64 {
-            let dealt = deal(alloc, seed, *count)?;
-            if dealt.len() < 1000 {
-                let want = plain_rows(alloc, &table, &dealt, false)?;
-                let rows = members_rows(alloc, &table, &dealt, seed % 3)?;
-                assert!(rt; rows == want, "at {count} from {seed}");
-            }
-        }
-    }
-    Ok(())
-}
-
-// The limits of sets: there are seven different numbers, so forty emits fill the first two sets and just fit the third.
-const LIMITS: &[u32] = &[1, 3, 7];
-
-fn limits() -> &'static [u32] {
-    LIMITS
-}
-
-#[test]
-fn sets_are_those_of_the_plain_aggregator(rt: HostRuntime) -> Result<(), Fail> {
-    let alloc = rt.alloc();
-    for limit in limits() {
-        let table = table_of_numbers(alloc, TableKind::Set, *limit, false)?;
+fn rows_are_those_of_the_plain_aggregator(rt: HostRuntime) -> Result<(), Fail> {
+    for (name, kind, limit) in declared() {
         for count in counts() {
             for seed in 1..10u64 {
-                let dealt = deal(alloc, seed, *count)?;
-                if dealt.len() < 1000 {
-                    let want = plain_rows(alloc, &table, &dealt, false)?;
-                    let rows = members_rows(alloc, &table, &dealt, seed % 3)?;
-                    assert!(rt; rows == want, "at {limit} and {count} from {seed}");
-                }
+                let same = agrees_from(rt.alloc(), *kind, *limit, *count, seed).unwrap_or(false);
+                assert!(rt; same, "{name} at {count} from {seed}");
             }
         }
     }

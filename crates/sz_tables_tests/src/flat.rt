@@ -1,6 +1,8 @@
 //! Values as bytes: what is read is written again, what spells nothing isn't read, and lists are kept flat.
-ghost use Rattle.std.specs.Prelude.{◌≡◌, ◌∷◌, [], IfOk};
+ghost use Rattle.std.specs.Prelude.{◌≡◌, ◌∷◌, [], IfOk, OnOk};
 ghost use Rattle.sz_value.specs.Data.{int};
+ghost use Rattle.sz_value.specs.Seen.{seen};
+ghost use Rattle.sz_flat.specs.Spelling.{HasShortLengths};
 
 use std::alloc::Global;
 use std::test::Fail;
@@ -67,8 +69,15 @@ fn unspelled() -> &'static [&'static [u8]] {
 #[tactic(auto, using(sz_flat::proofs::ForCallers::short_spelling))]
 fn is_spelled(alloc: Global, flat: &[u8], weighs: u64) -> Result<bool, FlatError> {
     let value = from_flat(alloc, flat)?;
-    let again = to_flat(alloc, &value)?;
-    Ok(again.as_slice() == flat && weight(&value) == weighs)
+    is_written(alloc, &value, flat, weighs)
+}
+
+// Whether the value is written as these bytes, and has this weight.
+fn is_written(alloc: Global, value: &Value, flat: &[u8], weighs: u64) -> Result<bool, FlatError>
+    requires short { HasShortLengths (seen value.now) }
+{
+    let again = to_flat(alloc, value)?;
+    Ok(again.as_slice() == flat && weight(value) == weighs)
 }
 
 #[test]
@@ -80,11 +89,14 @@ fn what_is_read_is_written_again(rt: HostRuntime) -> Result<(), Fail> {
     Ok(())
 }
 
+fn is_refused(alloc: Global, flat: &[u8]) -> bool {
+    matches!(&from_flat(alloc, flat), Err(FlatError::NotFlat))
+}
+
 #[test]
 fn what_spells_nothing_is_refused(rt: HostRuntime) -> Result<(), Fail> {
     for flat in unspelled() {
-        let refused = matches!(&from_flat(rt.alloc(), flat), Err(FlatError::NotFlat));
-        assert!(rt; refused, "at {flat:?}");
+        assert!(rt; is_refused(rt.alloc(), flat), "at {flat:?}");
     }
     Ok(())
 }
@@ -100,15 +112,20 @@ fn parts_of(value: &Value) -> Option<(i64, &str)> {
     }
 }
 
+// Whether the bytes spell a tuple of these parts.
+fn has_parts(alloc: Global, flat: &[u8], number: i64, text: &str) -> bool {
+    match from_flat(alloc, flat) {
+        Ok(value) => parts_of(&value) == Some((number, text)),
+        Err(_) => false,
+    }
+}
+
 #[test]
 fn a_tuple_has_its_parts(rt: HostRuntime) -> Result<(), Fail> {
     let flat = [
         7, 0, 0, 0, 2, 2, 0, 0, 0, 0, 0, 0, 0, 1, 4, 0, 0, 0, 1, 0x61,
     ];
-    match from_flat(rt.alloc(), &flat) {
-        Ok(value) => assert!(rt; parts_of(&value) == Some((1, "a"))),
-        Err(_) => assert!(rt; false),
-    }
+    assert!(rt; has_parts(rt.alloc(), &flat, 1, "a"));
     Ok(())
 }
 
@@ -150,14 +167,21 @@ fn two_numbers(alloc: Global, first: i64, second: i64) -> Result<List, NoMemory>
     Ok(list)
 }
 
-// Two numbers, kept flat where other two were before.
+// Keeps two numbers, in place of what was kept.
 #[tactic(auto, using(crate::proofs::TestLemmas::two_short))]
+fn set_two(kept: &mut FlatList, alloc: Global, first: i64, second: i64) -> Result<(), NoMemory>
+    ensures value { OnOk result (kept.new ≡ int first ∷ int second ∷ []) }
+{
+    kept.set(&two_numbers(alloc, first, second)?)
+}
+
+// Two numbers, kept flat where other two were before.
 fn kept_flat(alloc: Global, first: i64, second: i64) -> Result<FlatList, NoMemory>
     ensures value { IfOk result (λ list. list ≡ int first ∷ int second ∷ []) }
 {
     let mut kept = FlatList::new(alloc);
-    kept.set(&two_numbers(alloc, second, second)?)?;
-    kept.set(&two_numbers(alloc, first, second)?)?;
+    set_two(&mut kept, alloc, second, second)?;
+    set_two(&mut kept, alloc, first, second)?;
     Ok(kept)
 }
 
@@ -169,24 +193,43 @@ fn numbers_of(list: &List) -> Option<(i64, i64)> {
     }
 }
 
+// Whether a copy of two numbers that are kept flat gives them back.
+fn are_given_back(alloc: Global, first: i64, second: i64) -> Result<bool, NoMemory> {
+    let copied = copied_flat(alloc, first, second)?;
+    let values = copied.values(alloc)?;
+    Ok(!copied.is_empty() && numbers_of(&values) == Some((first, second)))
+}
+
+fn copied_flat(alloc: Global, first: i64, second: i64) -> Result<FlatList, NoMemory> {
+    kept_flat(alloc, first, second)?.copied(alloc)
+}
+
 #[test]
 fn a_flat_list_gives_its_values_back(rt: HostRuntime) -> Result<(), Fail> {
     let alloc = rt.alloc();
-    let kept = kept_flat(alloc, -1, i64::MAX)?;
-    let copied = kept.copied(alloc)?;
-    let values = copied.values(alloc)?;
-    assert!(rt; numbers_of(&values) == Some((-1, i64::MAX)));
-    assert!(rt; !copied.is_empty());
+    assert!(rt; are_given_back(alloc, -1, i64::MAX)?);
     assert!(rt; FlatList::new(alloc).is_empty());
     Ok(())
 }
 
+// Two numbers, and whether they are equal to 1 and 2.
+const TWOS: &[(i64, i64, bool)] = &[(1, 2, true), (1, 3, false), (2, 1, false)];
+
+fn twos() -> &'static [(i64, i64, bool)] {
+    TWOS
+}
+
+// Whether these two numbers, kept flat, are equal to 1 and 2.
+fn are_one_and_two(alloc: Global, first: i64, second: i64) -> Result<bool, NoMemory> {
+    let kept = kept_flat(alloc, 1, 2)?;
+    Ok(kept == kept_flat(alloc, first, second)?)
+}
+
 #[test]
 fn flat_lists_are_equal_where_their_values_are(rt: HostRuntime) -> Result<(), Fail> {
-    let alloc = rt.alloc();
-    let kept = kept_flat(alloc, 1, 2)?;
-    assert!(rt; kept == kept_flat(alloc, 1, 2)?);
-    assert!(rt; !(kept == kept_flat(alloc, 1, 3)?));
-    assert!(rt; !(kept == kept_flat(alloc, 2, 1)?));
+    for (first, second, equal) in twos() {
+        let found = are_one_and_two(rt.alloc(), *first, *second)?;
+        assert!(rt; found == *equal, "at {first} and {second}");
+    }
     Ok(())
 }

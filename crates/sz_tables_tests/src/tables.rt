@@ -1,11 +1,14 @@
 //! Tables of whole numbers, and the rows of aggregators as numbers.
-ghost use Rattle.std.specs.Prelude.{◌≡◌, ◌∷◌, [], true, is_some, IfOk};
+ghost use Rattle.std.specs.Prelude.{◌≡◌, ◌∷◌, [], ◌<◌, ◌+◌, ◌^◌, true, Ok, is_some, IfOk, OnOk};
 ghost use Rattle.sz_types.specs.Data.{Shape};
 ghost use Rattle.sz_types.specs.SeenTables.{seen_table};
+ghost use Rattle.sz_value.specs.Data.{int};
+ghost use Rattle.sz_tabs.specs.Aggregating.{weighted};
+ghost use Rattle.sz_tabs.specs.Fitting.{Fits};
 ghost use Rattle.sz_total.specs.Weights.{ranks, HasItsWeights};
 
 use std::alloc::Global;
-use sz_tabs::{NoMemory, RowValue, Rows};
+use sz_tabs::{Aggregator, NoMemory, RowValue, Rows};
 use sz_types::{TableDecl, TableKind, Text, Ty, Tys};
 use sz_value::Value;
 
@@ -84,4 +87,45 @@ fn add_numbers(numbers: &mut Vec<i128>, value: &RowValue) -> Result<(), NoMemory
         _ => numbers.push(-1000)?,
     }
     Ok(())
+}
+
+/// The numbers of the rows, where there are rows.
+pub(crate) fn numbers_from(
+    alloc: Global,
+    rows: Result<Rows, NoMemory>,
+) -> Result<Vec<i128>, NoMemory> {
+    numbers_in(alloc, &rows?)
+}
+
+/// Whether the numbers are the same, where there are both.
+pub(crate) fn are_same(
+    want: Result<Vec<i128>, NoMemory>,
+    found: Result<Vec<i128>, NoMemory>,
+) -> Result<bool, NoMemory> {
+    let (want, found) = with(want?, found)?;
+    Ok(found == want)
+}
+
+/// Adds a whole number, with a weight where the table has weights.
+pub(crate) fn add_number<A: Aggregator + Drop>(
+    to: &mut A,
+    number: i64,
+    weight: Option<i64>,
+) -> Result<(), NoMemory>
+    requires fits { Fits (A.declaration to.old) (weighted (int number) weight) }
+    requires room { A.count to.old < 2 ^ 63 }
+    ensures same { OnOk result (A.declaration to.new ≡ A.declaration to.old) }
+    ensures count { OnOk result (A.count to.new ≡ A.count to.old + 1) }
+{
+    to.add(&Value::Int(number), weight)
+}
+
+/// Two values, where there is the second: the first is held in this call alone while the second may be missing.
+pub(crate) fn with<T: Drop, U>(first: T, second: Result<U, NoMemory>) -> Result<(T, U), NoMemory>
+    ensures both { IfOk result (λ x. (x.0 ≡ first) × (second ≡ Ok x.1)) }
+{
+    match second {
+        Ok(second) => Ok((first, second)),
+        Err(error) => Err(error),
+    }
 }

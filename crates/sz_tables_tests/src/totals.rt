@@ -6,10 +6,10 @@ ghost use Rattle.sz_value.specs.Data.{int};
 ghost use Rattle.sz_value.specs.Seen.{seen};
 ghost use Rattle.sz_total.specs.Weights.{HaveTheirWeights};
 
-use crate::tables::{indexed_table, numbers_in};
+use crate::tables::{add_number, are_same, indexed_table, numbers_from, numbers_in};
 use std::alloc::Global;
 use std::test::Fail;
-use sz_tabs::{Aggregator, Emit, NoMemory, PlainAggregator};
+use sz_tabs::{Aggregator, Emit, NoMemory, PlainAggregator, Rows};
 use sz_total::{TableRows, Total};
 use sz_types::{TableDecl, TableDecls, TableKind};
 use sz_value::{List, Value};
@@ -94,9 +94,34 @@ pub(crate) fn add_dealt<'a>(
     let number = dealt.table as usize;
     if number < tables.len() && number < 100 {
         let emit = emit_of(alloc, tables.get(number), number as u32, dealt)?;
-        total.add(&emit)?;
+        let added = total.add(&emit);
+        drop(emit);
+        added
+    } else {
+        Ok(())
     }
-    Ok(())
+}
+
+// The total of what was dealt to this side.
+fn dealt_to<'a>(
+    alloc: Global,
+    tables: &'a TableDecls,
+    dealt: &[Dealt],
+    side: u64,
+) -> Result<Total<'a>, NoMemory>
+    requires weights { HaveTheirWeights tables.now }
+    requires numbers { All (λ table. (table.element ≡ Shape.int) × (table.indexes ≡ Shape.int ∷ [])) tables.now }
+    requires few { length dealt.now < 2 ^ 32 }
+    ensures same { IfOk result (λ total. total.tables ≡ tables.now) }
+    ensures count { IfOk result (λ total. total.count ≤ length dealt.now) }
+{
+    let mut total = Total::new(alloc, tables)?;
+    for one in dealt {
+        if one.side == side {
+            add_dealt(alloc, &mut total, tables, one)?;
+        }
+    }
+    Ok(total)
 }
 
 // The numbers of the rows of three totals that what was dealt went to, merged in one of three orders.
@@ -110,22 +135,30 @@ fn total_numbers(
     requires numbers { All (λ table. (table.element ≡ Shape.int) × (table.indexes ≡ Shape.int ∷ [])) tables.now }
     requires few { length dealt.now < 2 ^ 32 }
 {
-    let mut first = Total::new(alloc, tables)?;
-    let mut second = Total::new(alloc, tables)?;
-    let mut third = Total::new(alloc, tables)?;
-    for one in dealt {
-        match one.side {
-            0 => add_dealt(alloc, &mut first, tables, one)?,
-            1 => add_dealt(alloc, &mut second, tables, one)?,
-            _ => add_dealt(alloc, &mut third, tables, one)?,
-        }
-    }
-    let total = match order {
-        0 => merged(merged(first, second)?, third)?,
-        1 => merged(first, merged(second, third)?)?,
-        _ => merged(merged(third, first)?, second)?,
-    };
+    let first = dealt_to(alloc, tables, dealt, 0)?;
+    let second = dealt_to(alloc, tables, dealt, 1)?;
+    let third = dealt_to(alloc, tables, dealt, 2)?;
+    let total = merged_by(order, first, second, third)?;
     numbers_of(alloc, &total, tables)
+}
+
+// Three totals, merged in one of three orders.
+fn merged_by<'a>(
+    order: u64,
+    first: Total<'a>,
+    second: Total<'a>,
+    third: Total<'a>,
+) -> Result<Total<'a>, NoMemory>
+    requires second_same { second.tables ≡ first.tables }
+    requires third_same { third.tables ≡ first.tables }
+    requires room { first.count + second.count + third.count ≤ 2 ^ 63 }
+    ensures same { IfOk result (λ total. total.tables ≡ first.entry.tables) }
+{
+    match order {
+        0 => merged(merged(first, second)?, third),
+        1 => merged(first, merged(second, third)?),
+        _ => merged(merged(third, first)?, second),
+    }
 }
 
 // The first total with the second merged into it.
@@ -188,7 +221,6 @@ fn plain_numbers(alloc: Global, tables: &TableDecls, dealt: &[Dealt]) -> Result<
 }
 
 // Appends the index and the numbers of the plain rows under it, if there are rows.
-#[tactic(auto, using(crate::proofs::TestLemmas::number_fits))]
 fn push_plain(
     alloc: Global,
     table: &TableDecl,
@@ -200,16 +232,51 @@ fn push_plain(
     requires element { (seen_table table.now).element ≡ Shape.int }
     requires few { length dealt.now < 2 ^ 32 }
 {
-    let mut plain = PlainAggregator::new(alloc, table)?;
+    let rows = plain_rows(alloc, table, number, index, dealt);
+    push_under(index, &numbers_from(alloc, rows)?, numbers)
+}
+
+// The rows that a plain aggregator has of what was dealt to this table under this index.
+fn plain_rows(
+    alloc: Global,
+    table: &TableDecl,
+    number: u64,
+    index: i64,
+    dealt: &[Dealt],
+) -> Result<Rows, NoMemory>
+    requires element { (seen_table table.now).element ≡ Shape.int }
+    requires few { length dealt.now < 2 ^ 32 }
+{
+    let plain = PlainAggregator::new(alloc, table)?;
+    rows_under(plain, table, number, index, dealt)
+}
+
+// The rows that this new aggregator of the table then has.
+#[tactic(auto, using(crate::proofs::TestLemmas::number_fits))]
+fn rows_under<A: Aggregator + Drop>(
+    mut plain: A,
+    table: &TableDecl,
+    number: u64,
+    index: i64,
+    dealt: &[Dealt],
+) -> Result<Rows, NoMemory>
+    requires same { A.declaration plain ≡ seen_table table.now }
+    requires empty { A.count plain ≡ 0 }
+    requires element { (seen_table table.now).element ≡ Shape.int }
+    requires few { length dealt.now < 2 ^ 32 }
+{
     for one in dealt {
         if one.table == number && one.index == index {
-            plain.add(&Value::Int(one.number), weight_for(table, one.weight))?;
+            add_number(&mut plain, one.number, weight_for(table, one.weight))?;
         }
     }
-    let under = numbers_in(alloc, &plain.rows()?)?;
+    plain.rows()
+}
+
+fn push_under(index: i64, under: &[i128], numbers: &mut Vec<i128>) -> Result<(), NoMemory> {
     if !under.is_empty() {
         numbers.push(i128::from(index))?;
-        numbers.extend_from_slice(&under)?;
+        numbers.extend_from_slice(under)?;
     }
     Ok(())
 }
@@ -257,18 +324,29 @@ fn counts() -> &'static [u64] {
     COUNTS
 }
 
+// Whether totals and plain aggregators have the same rows of so many emits that are drawn from the seed.
+fn agrees_from(alloc: Global, tables: &TableDecls, count: u64, seed: u64) -> Result<bool, NoMemory>
+    requires weights { HaveTheirWeights tables.now }
+    requires numbers { All (λ table. (table.element ≡ Shape.int) × (table.indexes ≡ Shape.int ∷ [])) tables.now }
+    requires seed { seed ≤ 65536 }
+{
+    let dealt = deal(alloc, seed, count)?;
+    if dealt.len() < 1000 {
+        let want = plain_numbers(alloc, tables, &dealt);
+        are_same(want, total_numbers(alloc, tables, &dealt, seed % 3))
+    } else {
+        Ok(false)
+    }
+}
+
 #[test]
 fn totals_in_any_order_have_the_plain_rows(rt: HostRuntime) -> Result<(), Fail> {
     let alloc = rt.alloc();
     let tables = declarations(alloc)?;
     for count in counts() {
         for seed in 1..7u64 {
-            let dealt = deal(alloc, seed, *count)?;
-            if dealt.len() < 1000 {
-                let want = plain_numbers(alloc, &tables, &dealt)?;
-                let rows = total_numbers(alloc, &tables, &dealt, seed % 3)?;
-                assert!(rt; rows == want, "at {count} from {seed}");
-            }
+            let same = agrees_from(alloc, &tables, *count, seed).unwrap_or(false);
+            assert!(rt; same, "at {count} from {seed}");
         }
     }
     Ok(())
