@@ -393,8 +393,14 @@ fn agree(found: &Slot, wanted: &Slot) -> bool {
 
 // Whether a call makes this of values.
 fn makes(alloc: Global, call: Call, given: &[Given], wanted: Given) -> Result<bool, NoMemory> {
-    let found = answer(alloc, call, &list_of(alloc, given)?)?;
-    Ok(agree(&found, &slot_of(alloc, wanted)?))
+    let values = list_of(alloc, given)?;
+    let found = answer(alloc, call, &values)?;
+    is_given(alloc, &found, wanted)
+}
+
+fn is_given(alloc: Global, found: &Slot, wanted: Given) -> Result<bool, NoMemory> {
+    let wanted = slot_of(alloc, wanted)?;
+    Ok(agree(found, &wanted))
 }
 
 #[test]

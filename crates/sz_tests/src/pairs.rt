@@ -50,19 +50,26 @@ fn of_equal_keys_the_last_pair_stands_in_any_order(rt: HostRuntime) -> Result<()
     Ok(())
 }
 
-#[test]
-fn many_falling_keys_make_a_map(rt: HostRuntime) -> Result<(), Fail> {
-    let alloc = rt.alloc();
+// A map of so many numbers, from pairs with falling keys.
+fn falling(alloc: Global, count: i64) -> Result<Pairs, NoMemory> {
     let mut given = Vec::new(alloc);
-    for n in 0..2000i64 {
+    for n in 0..count {
         given.push((i64::wrapping_neg(n), n))?;
     }
-    let pairs = Pairs::from_pairs(alloc, pairs_of(alloc, given.as_slice())?)?;
+    Pairs::from_pairs(alloc, pairs_of(alloc, given.as_slice())?)
+}
+
+fn number_at(pairs: &Pairs, key: i64) -> Option<i64> {
+    let key = Value::Int(key);
+    let number = pairs.get(&key).map(number_in);
+    drop(key);
+    number
+}
+
+#[test]
+fn many_falling_keys_make_a_map(rt: HostRuntime) -> Result<(), Fail> {
+    let pairs = falling(rt.alloc(), 2000)?;
     assert_eq!(rt; pairs.len(), 2000);
-    assert!(rt;
-        pairs
-            .get(&Value::Int(-1999))
-            .is_some_and(|value| number_in(value) == 1999)
-    );
+    assert!(rt; number_at(&pairs, -1999) == Some(1999));
     Ok(())
 }

@@ -110,13 +110,21 @@ fn goes(scopes: &mut Scopes, step: &Step) -> bool {
     }
 }
 
+// The first of the steps, behind the first two blocks, that doesn't go as it says.
+fn first_wrong(alloc: Global, steps: &[Step]) -> Result<Option<usize>, Fail> {
+    let mut scopes = Scopes::new(alloc)?;
+    for (number, step) in blocks().iter().chain(steps).enumerate() {
+        if !goes(&mut scopes, step) {
+            return Ok(Some(number));
+        }
+    }
+    Ok(None)
+}
+
 #[test]
 fn blocks_and_names_go_as_the_steps_say(rt: HostRuntime) -> Result<(), Fail> {
     for (run, steps) in runs().iter().enumerate() {
-        let mut scopes = Scopes::new(rt.alloc())?;
-        for (number, step) in blocks().iter().chain(*steps).enumerate() {
-            assert!(rt; goes(&mut scopes, step), "step {number} of run {run}");
-        }
+        assert_eq!(rt; first_wrong(rt.alloc(), steps)?, None, "in run {run}");
     }
     Ok(())
 }
@@ -131,26 +139,53 @@ fn declare_many(scopes: &mut Scopes, alloc: Global, count: u32) -> Result<bool, 
     Ok(all)
 }
 
+// Whether all steps go as they say.
+fn all_go(scopes: &mut Scopes, steps: &[Step]) -> bool {
+    let mut all = true;
+    for step in steps {
+        all = all && goes(scopes, step);
+    }
+    all
+}
+
+// Opens this many blocks, each of which has a name, and says whether each could be.
+fn open_many(scopes: &mut Scopes, count: u32) -> bool {
+    let mut all = true;
+    for depth in 1..count {
+        all = all && all_go(scopes, &[Open, Declare("name7", Meaning::Table(depth))]);
+    }
+    all
+}
+
+// Closes as many, and says whether each was open.
+fn close_many(scopes: &mut Scopes, count: u32) -> bool {
+    let mut all = true;
+    for _ in 1..count {
+        all = all && goes(scopes, &Close(true));
+    }
+    all
+}
+
+// What the names mean in the innermost of 256 blocks.
+const IN_DEEP_BLOCKS: &[Step] = &[
+    Depth(256),
+    Means("name19999", Meaning::Var(19_999)),
+    Means("name7", Meaning::Table(255)),
+    Unseen("name7", Sight::Static),
+];
+
+fn in_deep_blocks() -> &'static [Step] {
+    IN_DEEP_BLOCKS
+}
+
 #[test]
 fn many_names_and_deep_blocks(rt: HostRuntime) -> Result<(), Fail> {
     let mut scopes = Scopes::new(rt.alloc())?;
     assert!(rt; goes(&mut scopes, &Open));
     assert!(rt; declare_many(&mut scopes, rt.alloc(), 20_000)?);
-    for depth in 1..256u32 {
-        assert!(rt; goes(&mut scopes, &Open));
-        assert!(rt; goes(&mut scopes, &Declare("name7", Meaning::Table(depth))));
-    }
-    for step in [
-        Depth(256),
-        Means("name19999", Meaning::Var(19_999)),
-        Means("name7", Meaning::Table(255)),
-        Unseen("name7", Sight::Static),
-    ] {
-        assert!(rt; goes(&mut scopes, &step));
-    }
-    for _ in 1..256u32 {
-        assert!(rt; goes(&mut scopes, &Close(true)));
-    }
+    assert!(rt; open_many(&mut scopes, 256));
+    assert!(rt; all_go(&mut scopes, in_deep_blocks()));
+    assert!(rt; close_many(&mut scopes, 256));
     assert!(rt; goes(&mut scopes, &Means("name7", Meaning::Var(7))));
     Ok(())
 }

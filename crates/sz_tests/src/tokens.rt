@@ -2,7 +2,7 @@
 use std::alloc::Global;
 use std::fmt::Write;
 use std::test::Fail;
-use sz_lex::{LexError, Quoted, decode, lex};
+use sz_lex::{LexError, Quoted, Tokens, decode, lex};
 use sz_types::Place;
 
 // In each line a text stands before `=>`, and behind it the kinds of its tokens, or why it has none.
@@ -157,17 +157,24 @@ fn outcome(alloc: Global, text: &[u8]) -> Result<String, Fail> {
     }
     match lex(alloc, text) {
         Ok(tokens) => {
-            let mut kinds = String::new(alloc);
-            for token in tokens.as_slice() {
-                write!(kinds, " {:?}", token.kind)?;
-            }
-            Ok(kinds)
+            let kinds = kinds_of(alloc, &tokens);
+            drop(tokens);
+            kinds
         }
         Err(LexError::BadChar(place)) => refusal(alloc, "bad character", place),
         Err(LexError::BadLiteral(place)) => refusal(alloc, "bad literal", place),
         Err(LexError::NotUtf8(place)) => refusal(alloc, "not UTF-8", place),
         Err(LexError::NoMemory) => Ok(format!(in alloc; "no memory")?),
     }
+}
+
+// The kinds of tokens, each behind a space.
+fn kinds_of(alloc: Global, tokens: &Tokens) -> Result<String, Fail> {
+    let mut kinds = String::new(alloc);
+    for token in tokens.as_slice() {
+        write!(kinds, " {:?}", token.kind)?;
+    }
+    Ok(kinds)
 }
 
 fn refusal(alloc: Global, reason: &str, place: Place) -> Result<String, Fail> {
@@ -202,17 +209,22 @@ fn literals_are_decoded(rt: HostRuntime) -> Result<(), Fail> {
     Ok(())
 }
 
+// The places of tokens with their lengths in bytes, each behind a space.
+fn places_of(alloc: Global, tokens: &Tokens) -> Result<String, Fail> {
+    let mut places = String::new(alloc);
+    for token in tokens.as_slice() {
+        let (place, len) = (token.place, tokens.lexeme(token).len());
+        write!(places, " {}:{}+{len}", place.line, place.column)?;
+    }
+    Ok(places)
+}
+
 #[test]
 fn places_count_lines_and_bytes(rt: HostRuntime) -> Result<(), Fail> {
     let (text, wanted) = placed();
     if text.len() <= 1_048_576 {
-        let mut found = String::new(rt.alloc());
         let tokens = lex(rt.alloc(), text.as_bytes())?;
-        for token in tokens.as_slice() {
-            let (place, len) = (token.place, tokens.lexeme(token).len());
-            write!(found, " {}:{}+{len}", place.line, place.column)?;
-        }
-        assert_eq!(rt; found.as_str(), wanted);
+        assert_eq!(rt; places_of(rt.alloc(), &tokens)?.as_str(), wanted);
     }
     Ok(())
 }

@@ -21,8 +21,8 @@ fn levels() -> &'static [(BinaryOp, u32, u32)] {
 #[test]
 fn operators_bind_by_their_level(rt: HostRuntime) -> Result<(), Fail> {
     for (op, level, left) in levels() {
-        assert_eq!(rt; op.level(), *level, "of {op:?}");
-        assert_eq!(rt; op.left_level(), *left, "of {op:?}");
+        let found = (op.level(), op.left_level());
+        assert_eq!(rt; found, (*level, *left), "of {op:?}");
     }
     Ok(())
 }
@@ -35,43 +35,88 @@ fn name(alloc: Global, column: u32, text: &str) -> Result<Name, NoMemory> {
     Ok(Name::new(at(column), Text::from_str(alloc, text)?))
 }
 
-// The columns of a call, of a sum of it and a number, of a list of that sum and of a map, and the levels of the first two.
+// The column of an expression, and its level.
+fn shown(expression: &Expr) -> [u32; 2] {
+    [expression.place().column, expression.level()]
+}
+
+// The same of the first of them.
+fn shown_first(expressions: &[Expr]) -> [u32; 2] {
+    expressions.first().map_or([0, 0], shown)
+}
+
+// A call of `f` with `x`.
+fn call(alloc: Global) -> Result<Box<Expr>, NoMemory> {
+    let arguments = vec![in alloc; Expr::Named(name(alloc, 3, "x")?)]?;
+    let function = name(alloc, 1, "f")?;
+    Ok(Box::new(alloc, Expr::call(function, arguments))?)
+}
+
+// The sum of a call and a number, alone.
+fn sum(alloc: Global, call: Box<Expr>) -> Result<Vec<Expr>, NoMemory> {
+    let number = Box::new(alloc, Expr::Literal(at(8), Literal::Number(1)))?;
+    let sum = Expr::Binary(at(2), BinaryOp::Add, call, number);
+    Ok(vec![in alloc; sum]?)
+}
+
+// The column of an expression that is dropped.
+fn expression_column(expression: Expr) -> u32 {
+    let column = expression.place().column;
+    drop(expression);
+    column
+}
+
+// The column of a statement that is dropped.
+fn statement_column(statement: Stmt) -> u32 {
+    let column = statement.place().column;
+    drop(statement);
+    column
+}
+
+// The column of a type that is dropped.
+fn type_column(tree: TypeTree) -> u32 {
+    let column = tree.place().column;
+    drop(tree);
+    column
+}
+
+// The columns and the levels of a call and of a sum of it and a number, and the columns of a list of that sum and of a map.
 fn expressions(alloc: Global) -> Result<[u32; 6], NoMemory> {
-    let argument = Expr::Named(name(alloc, 3, "x")?);
-    let call = Expr::call(name(alloc, 1, "f")?, vec![in alloc; argument]?);
-    let (call_column, call_level) = (call.place().column, call.level());
-    let left = Box::new(alloc, call)?;
-    let right = Box::new(alloc, Expr::Literal(at(8), Literal::Number(1)))?;
-    let sum = Expr::Binary(at(2), BinaryOp::Add, left, right);
-    let (sum_column, sum_level) = (sum.place().column, sum.level());
-    let list = Expr::list(at(9), vec![in alloc; sum]?).place();
-    let map = Expr::map(at(7), Vec::new(alloc)).place();
+    let call = call(alloc)?;
+    let [call_column, call_level] = shown(&call);
+    let sums = sum(alloc, call)?;
+    let [sum_column, sum_level] = shown_first(&sums);
     Ok([
         call_column,
         call_level,
         sum_column,
         sum_level,
-        list.column,
-        map.column,
+        expression_column(Expr::list(at(9), sums)),
+        expression_column(Expr::map(at(7), Vec::new(alloc))),
     ])
+}
+
+// The column of a step, and a body that takes it alone.
+fn body(alloc: Global) -> Result<(u32, Vec<Stmt>), NoMemory> {
+    let step = Simple::Increment(name(alloc, 4, "i")?);
+    let column = step.place().column;
+    Ok((column, vec![in alloc; Stmt::Simple(step)]?))
+}
+
+fn tuple(alloc: Global) -> TypeTree {
+    TypeTree::tuple(at(5), Vec::new(alloc))
 }
 
 // The columns of a tuple and of a message, and of a step, of a function whose body it is, and of a block.
 fn statements(alloc: Global) -> Result<[u32; 5], NoMemory> {
-    let tuple = TypeTree::tuple(at(5), Vec::new(alloc));
-    let tuple_column = tuple.place().column;
-    let proto = TypeTree::proto(at(6), Vec::new(alloc)).place();
-    let step = Simple::Increment(name(alloc, 4, "i")?);
-    let step_column = step.place().column;
-    let body = vec![in alloc; Stmt::Simple(step)]?;
-    let function = Stmt::function(name(alloc, 2, "g")?, Vec::new(alloc), tuple, body).place();
-    let block = Stmt::block(at(1), Vec::new(alloc)).place();
+    let (step_column, body) = body(alloc)?;
+    let name = name(alloc, 2, "g")?;
     Ok([
-        tuple_column,
-        proto.column,
+        type_column(tuple(alloc)),
+        type_column(TypeTree::proto(at(6), Vec::new(alloc))),
         step_column,
-        function.column,
-        block.column,
+        statement_column(Stmt::function(name, Vec::new(alloc), tuple(alloc), body)),
+        statement_column(Stmt::block(at(1), Vec::new(alloc))),
     ])
 }
 

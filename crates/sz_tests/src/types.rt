@@ -160,15 +160,33 @@ fn is_listed(from: Given, to: Given) -> bool {
     }
 }
 
-// Whether two types, at these places of the table, and the copy of the first, are the same where the places are, and
+// The copy of a type that is dropped.
+fn copied(alloc: Global, given: Given) -> Result<Ty, NoMemory> {
+    let ty = type_of(alloc, given)?;
+    copy_ty(alloc, &ty)
+}
+
+// Whether the copy of a type and another one, at these places of the table, are the same where the places are, and
 // convert as the tables say.
 fn is_right(alloc: Global, i: usize, k: usize, from: Given, to: Given) -> Result<bool, NoMemory> {
-    let made = copy_ty(alloc, &type_of(alloc, from)?)?;
+    let made = copied(alloc, from)?;
+    is_told_of(alloc, &made, to, i == k, i == k || is_listed(from, to))
+}
+
+// Whether a type is the same as this one, and converts to it, if that is told.
+fn is_told_of(
+    alloc: Global,
+    made: &Ty,
+    to: Given,
+    is_same: bool,
+    goes_over: bool,
+) -> Result<bool, NoMemory> {
     let other = type_of(alloc, to)?;
-    Ok(
-        same(&made, &other) == (i == k)
-            && converts(&made, &other) == (i == k || is_listed(from, to)),
-    )
+    Ok(stand_so(made, &other, is_same, goes_over))
+}
+
+fn stand_so(from: &Ty, to: &Ty, is_same: bool, goes_over: bool) -> bool {
+    same(from, to) == is_same && converts(from, to) == goes_over
 }
 
 #[test]
@@ -187,12 +205,17 @@ fn types_that_differ_in_one_place_are_not_the_same_and_convert_as_the_rows_say(
     Ok(())
 }
 
+// The text, as a string and as bytes in between.
+fn given_back(text: Text) -> Text {
+    let text = Text::from_string(text.into_string());
+    Text::from_utf8(text.into_bytes())
+}
+
 #[test]
 fn a_text_is_made_and_given_back(rt: HostRuntime) -> Result<(), Fail> {
     let text = Text::from_str(rt.alloc(), "größe")?;
     assert_eq!(rt; text.as_bytes(), b"gr\xc3\xb6\xc3\x9fe".as_slice());
-    let text = Text::from_string(text.into_string());
-    let text = Text::from_utf8(text.into_bytes());
+    let text = given_back(text);
     assert_eq!(rt; text.as_str(), "größe");
     Ok(())
 }
@@ -209,17 +232,24 @@ fn fields_are_pushed_and_given_back(rt: HostRuntime) -> Result<(), Fail> {
     Ok(())
 }
 
-#[test]
-fn types_are_pushed_and_given_back(rt: HostRuntime) -> Result<(), Fail> {
-    let alloc = rt.alloc();
+// The types of strings and of whole numbers, pushed and copied.
+fn copied_types(alloc: Global) -> Result<Tys, NoMemory> {
     let mut types = Tys::new(alloc);
     types.push(Ty::Str)?;
     types.push(Ty::Int)?;
-    let types = Tys::from_vec(copy_tys(alloc, &types)?.into_vec());
+    Ok(Tys::from_vec(copy_tys(alloc, &types)?.into_vec()))
+}
+
+// Whether the types are those of strings and of whole numbers.
+fn are_str_and_int(types: &[Ty]) -> bool {
+    matches!(types, [Ty::Str, Ty::Int])
+}
+
+#[test]
+fn types_are_pushed_and_given_back(rt: HostRuntime) -> Result<(), Fail> {
+    let types = copied_types(rt.alloc())?;
     assert_eq!(rt; types.len(), 2);
-    for (ty, wanted) in types.as_slice().iter().zip([Ty::Str, Ty::Int]) {
-        assert!(rt; same(ty, &wanted));
-    }
+    assert!(rt; are_str_and_int(types.as_slice()));
     Ok(())
 }
 
@@ -248,13 +278,23 @@ fn is_table(table: &TableDecl, name: &str) -> bool {
         && matches!(table.weight, Some(Ty::Int))
 }
 
-#[test]
-fn declarations_are_pushed_and_given_back(rt: HostRuntime) -> Result<(), Fail> {
-    let alloc = rt.alloc();
+// The copy of a declaration that is dropped.
+fn copied_table(alloc: Global, name: &str) -> Result<TableDecl, NoMemory> {
+    let made = table(alloc, name)?;
+    copy_table(alloc, &made)
+}
+
+// Two declarations, the second copied, given back as a list.
+fn declared(alloc: Global) -> Result<TableDecls, NoMemory> {
     let mut tables = TableDecls::new(alloc);
     tables.push(table(alloc, "best")?)?;
-    tables.push(copy_table(alloc, &table(alloc, "worst")?)?)?;
-    let tables = TableDecls::from_vec(tables.into_vec());
+    tables.push(copied_table(alloc, "worst")?)?;
+    Ok(TableDecls::from_vec(tables.into_vec()))
+}
+
+#[test]
+fn declarations_are_pushed_and_given_back(rt: HostRuntime) -> Result<(), Fail> {
+    let tables = declared(rt.alloc())?;
     assert_eq!(rt; tables.len(), 2);
     for (table, name) in tables.as_slice().iter().zip(["best", "worst"]) {
         assert!(rt; is_table(table, name));
@@ -279,8 +319,12 @@ fn chain(alloc: Global, height: u32) -> Result<Ty, NoMemory> {
 // Whether a type of this height is the same as its copy, and converts to it. Both are dropped.
 fn handle_chain(alloc: Global, height: u32) -> Result<bool, NoMemory> {
     let ty = chain(alloc, height)?;
-    let made = copy_ty(alloc, &ty)?;
-    Ok(same(&ty, &made) && converts(&ty, &made))
+    is_its_copy(alloc, &ty)
+}
+
+fn is_its_copy(alloc: Global, ty: &Ty) -> Result<bool, NoMemory> {
+    let made = copy_ty(alloc, ty)?;
+    Ok(stand_so(ty, &made, true, true))
 }
 
 #[test]

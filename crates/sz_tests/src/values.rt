@@ -85,17 +85,29 @@ fn hash_of(value: &Value) -> u64 {
 
 // Whether a value is less than all behind it, more than all before it, and equal to its copy alone, as which it hashes.
 fn stands_at(alloc: Global, values: &[Value], place: usize) -> Result<bool, NoMemory> {
-    let mut all = true;
-    if let Some(value) = values.get(place) {
-        let made = copy(alloc, value)?;
-        all = hash_of(&made) == hash_of(value);
-        for (k, other) in values.iter().enumerate() {
-            all = all
-                && order(&made, other) == place.cmp(&k)
-                && equal(&made, other) == (place == k);
-        }
+    match values.get(place) {
+        Some(value) => copy_stands_at(alloc, values, place, value),
+        None => Ok(true),
     }
-    Ok(all)
+}
+
+fn copy_stands_at(
+    alloc: Global,
+    values: &[Value],
+    place: usize,
+    value: &Value,
+) -> Result<bool, NoMemory> {
+    let made = copy(alloc, value)?;
+    Ok(hash_of(&made) == hash_of(value) && is_between(values, place, &made))
+}
+
+// Whether this is less than all values behind the place, more than all before it, and equal to the one there alone.
+fn is_between(values: &[Value], place: usize, made: &Value) -> bool {
+    let mut all = true;
+    for (k, other) in values.iter().enumerate() {
+        all = all && order(made, other) == place.cmp(&k) && equal(made, other) == (place == k);
+    }
+    all
 }
 
 #[test]
@@ -121,9 +133,17 @@ fn values_are_sorted_by_their_order(rt: HostRuntime) -> Result<(), Fail> {
     Ok(())
 }
 
+fn hash_of_int(number: i64) -> u64 {
+    hash_of(&Value::Int(number))
+}
+
+fn hash_of_time(number: i64) -> u64 {
+    hash_of(&Value::Time(number))
+}
+
 #[test]
 fn values_of_two_kinds_have_two_hashes(rt: HostRuntime) -> Result<(), Fail> {
-    assert!(rt; hash_of(&Value::Int(1)) != hash_of(&Value::Time(1)));
+    assert!(rt; hash_of_int(1) != hash_of_time(1));
     Ok(())
 }
 
@@ -137,16 +157,31 @@ fn weights_count_bytes_and_parts(rt: HostRuntime) -> Result<(), Fail> {
     Ok(())
 }
 
+// Whether a text and its copy are ASCII.
+fn is_ascii_with_its_copy(alloc: Global, text: &Text) -> Result<bool, NoMemory> {
+    let made = text.copy(alloc)?;
+    Ok(text.is_ascii() && made.is_ascii())
+}
+
+// Whether two texts as one, with its copy, are ASCII.
+fn is_ascii_as_one(alloc: Global, first: &Text, second: &Text) -> Result<bool, NoMemory> {
+    let joined = Text::joined(alloc, first, second)?;
+    is_ascii_with_its_copy(alloc, &joined)
+}
+
 // Whether two texts, with their copies, and both as one, are ASCII.
+fn all_ascii(alloc: Global, first: &Text, second: &Text) -> Result<[bool; 3], NoMemory> {
+    Ok([
+        is_ascii_with_its_copy(alloc, first)?,
+        is_ascii_with_its_copy(alloc, second)?,
+        is_ascii_as_one(alloc, first, second)?,
+    ])
+}
+
 fn are_ascii(alloc: Global, first: &str, second: &str) -> Result<[bool; 3], NoMemory> {
     let first = Text::new(alloc, first)?;
     let second = Text::from_string(String::from_str(alloc, second)?);
-    let joined = Text::joined(alloc, &first, &second)?;
-    Ok([
-        first.is_ascii() && first.copy(alloc)?.is_ascii(),
-        second.is_ascii() && second.copy(alloc)?.is_ascii(),
-        joined.is_ascii() && joined.copy(alloc)?.is_ascii(),
-    ])
+    all_ascii(alloc, &first, &second)
 }
 
 #[test]
@@ -160,15 +195,27 @@ fn a_text_remembers_whether_it_is_ascii(rt: HostRuntime) -> Result<(), Fail> {
     Ok(())
 }
 
+// Whether this is the part of an ASCII text between two places, if they are in it.
+fn is_cut(
+    alloc: Global,
+    text: &Text,
+    from: usize,
+    to: usize,
+    wanted: &str,
+) -> Result<bool, NoMemory> {
+    if text.is_ascii() && from <= to && to <= text.len() {
+        let part = text.ascii_part(alloc, from, to)?;
+        Ok(part.as_str() == wanted && part.is_ascii())
+    } else {
+        Ok(false)
+    }
+}
+
 #[test]
 fn a_part_of_an_ascii_text_is_cut_by_bytes(rt: HostRuntime) -> Result<(), Fail> {
     let text = Text::new(rt.alloc(), "abcd")?;
-    if text.is_ascii() && text.len() == 4 {
-        for (from, to, wanted) in [(1, 3, "bc"), (4, 4, "")] {
-            let part = text.ascii_part(rt.alloc(), from, to)?;
-            assert!(rt; part.as_str() == wanted && part.is_ascii());
-        }
-    }
+    assert!(rt; is_cut(rt.alloc(), &text, 1, 3, "bc")?);
+    assert!(rt; is_cut(rt.alloc(), &text, 4, 4, "")?);
     Ok(())
 }
 
@@ -180,12 +227,22 @@ fn number_in(value: &Value) -> i64 {
     }
 }
 
+// The same of a value that is dropped.
+fn number_of(value: Value) -> i64 {
+    let number = number_in(&value);
+    drop(value);
+    number
+}
+
 // The number that another replaces at a key, or minus that other where the key isn't there.
 fn replaced(pairs: &mut Pairs, key: i64, number: i64) -> i64 {
-    match pairs.replace(&Value::Int(key), Value::Int(number)) {
-        Ok(old) => number_in(&old),
-        Err(new) => -number_in(&new).max(-1),
-    }
+    let key = Value::Int(key);
+    let found = match pairs.replace(&key, Value::Int(number)) {
+        Ok(old) => number_of(old),
+        Err(new) => -number_of(new).max(-1),
+    };
+    drop(key);
+    found
 }
 
 // Pairs are put in and replaced: the numbers that were replaced, and at the end those at the keys 0 to 5.
@@ -207,18 +264,41 @@ fn of_equal_keys_the_last_pair_stands(rt: HostRuntime) -> Result<(), Fail> {
     Ok(())
 }
 
+// The number that stood in front, where there are two, and another one stands now.
+fn put_in_front(list: &mut List, number: i64) -> i64 {
+    if list.len() == 2 {
+        number_of(list.replace(0, Value::Int(number)))
+    } else {
+        1000
+    }
+}
+
+// The last number, which is taken off.
+fn last_number(list: &mut List) -> i64 {
+    match list.pop() {
+        Some(last) => number_of(last),
+        None => 1000,
+    }
+}
+
 #[test]
 fn a_list_gives_back_what_it_was_given(rt: HostRuntime) -> Result<(), Fail> {
     let mut list = list_of(rt.alloc(), &[Int(4), Int(5)])?;
-    if list.len() == 2 {
-        let old = list.replace(0, Value::Int(6));
-        assert_eq!(rt; number_in(&old), 4);
-    }
-    assert_eq!(rt; list.pop().map_or(0, |last| number_in(&last)), 5);
+    assert_eq!(rt; put_in_front(&mut list, 6), 4);
+    assert_eq!(rt; last_number(&mut list), 5);
     for value in list.as_slice() {
         assert_eq!(rt; number_in(value), 6);
     }
     Ok(())
+}
+
+// What is taken off the slots: whether there was a slot, and the number in it.
+fn popped(slots: &mut Slots) -> (bool, Option<i64>) {
+    match slots.pop() {
+        Some(Slot::Defined(value)) => (true, Some(number_of(value))),
+        Some(Slot::Undefined) => (true, None),
+        None => (false, None),
+    }
 }
 
 #[test]
@@ -228,8 +308,8 @@ fn slots_hold_values_and_none(rt: HostRuntime) -> Result<(), Fail> {
     for given in [Nothing, Int(3)] {
         slots.push(slot_of(alloc, given)?)?;
     }
-    assert!(rt; matches!(slots.pop(), Some(Slot::Defined(Value::Int(3)))));
-    assert!(rt; matches!(slots.pop(), Some(Slot::Undefined)));
+    assert!(rt; popped(&mut slots) == (true, Some(3)));
+    assert!(rt; popped(&mut slots) == (true, None));
     assert!(rt; slots.is_empty());
     Ok(())
 }
@@ -243,19 +323,35 @@ fn chain(alloc: Global, height: u64, number: i64) -> Result<Value, NoMemory> {
     Ok(value)
 }
 
-// What a chain weighs, how it stands to its copy and to a chain with a greater number, and whether it is equal to each
-// and hashes as its copy does. All are dropped at the end.
-fn handle_chain(alloc: Global, height: u64) -> Result<(u64, [Ordering; 2], [bool; 3]), NoMemory> {
-    let value = chain(alloc, height, 0)?;
-    let made = copy(alloc, &value)?;
+// Whether a chain weighs what its levels do, is equal to its copy and less than a chain with a greater number, and hashes
+// as its copy does. All are dropped at the end.
+fn handle_chain(alloc: Global, height: u32) -> Result<bool, NoMemory> {
+    let value = chain(alloc, u64::from(height), 0)?;
+    with_its_copy(alloc, height, &value)
+}
+
+fn with_its_copy(alloc: Global, height: u32, value: &Value) -> Result<bool, NoMemory> {
+    let made = copy(alloc, value)?;
+    with_a_greater(alloc, height, value, &made)
+}
+
+fn with_a_greater(
+    alloc: Global,
+    height: u32,
+    value: &Value,
+    made: &Value,
+) -> Result<bool, NoMemory> {
+    let height = u64::from(height);
     let greater = chain(alloc, height, 1)?;
-    let orders = [order(&made, &value), order(&value, &greater)];
-    let same = [
-        equal(&made, &value),
-        equal(&value, &greater),
-        hash_of(&made) == hash_of(&value),
-    ];
-    Ok((weight(&value), orders, same))
+    Ok(weight(value) == height + 1 && stand_so(value, made, &greater))
+}
+
+fn stand_so(value: &Value, made: &Value, greater: &Value) -> bool {
+    order(made, value) == Ordering::Equal
+        && order(value, greater) == Ordering::Less
+        && equal(made, value)
+        && !equal(value, greater)
+        && hash_of(made) == hash_of(value)
 }
 
 #[test]
@@ -266,9 +362,6 @@ fn a_value_of_thirty_thousand_levels_fits_a_stack_of_64_mebibytes(
     let thread = Builder::new()
         .stack_size(64 << 20)
         .spawn(&rt, move || handle_chain(alloc, 30_000))?;
-    let found = thread.join(&rt)?;
-    assert_eq!(rt; found.0, 30_001);
-    assert_eq!(rt; found.1, [Ordering::Equal, Ordering::Less]);
-    assert_eq!(rt; found.2, [true, false, true]);
+    assert_eq!(rt; thread.join(&rt), Ok(true));
     Ok(())
 }
