@@ -4,7 +4,7 @@ use std::test::Fail;
 use sz_value::{NoMemory, Pair, Pairs, Value};
 
 // The pairs that are given, and those of the map.
-const ROWS: [(&[(i64, i64)], &[(i64, i64)]); 6] = [
+const ROWS: &[(&[(i64, i64)], &[(i64, i64)])] = &[
     (&[], &[]),
     (&[(4, 1)], &[(4, 1)]),
     (&[(1, 5), (2, 6), (3, 7)], &[(1, 5), (2, 6), (3, 7)]),
@@ -12,6 +12,11 @@ const ROWS: [(&[(i64, i64)], &[(i64, i64)]); 6] = [
     (&[(2, 1), (1, 5), (2, 2), (2, 3)], &[(1, 5), (2, 3)]),
     (&[(0, 9), (-1, 8), (0, 7), (-1, 6)], &[(-1, 6), (0, 7)]),
 ];
+
+// The table behind a call, so that no proof sees what stands in it.
+fn rows() -> &'static [(&'static [(i64, i64)], &'static [(i64, i64)])] {
+    ROWS
+}
 
 fn pairs_of(alloc: Global, given: &[(i64, i64)]) -> Result<Vec<Pair>, NoMemory> {
     let mut pairs = Vec::new(alloc);
@@ -39,13 +44,17 @@ fn numbers_of(alloc: Global, pairs: &Pairs) -> Result<Vec<(i64, i64)>, NoMemory>
     Ok(numbers)
 }
 
+// Whether a map that is made from the pairs has these.
+fn gives(alloc: Global, given: &[(i64, i64)], want: &[(i64, i64)]) -> Result<bool, NoMemory> {
+    let pairs = Pairs::from_pairs(alloc, pairs_of(alloc, given)?)?;
+    let numbers = numbers_of(alloc, &pairs)?;
+    Ok(numbers.as_slice() == want)
+}
+
 #[test]
 fn of_equal_keys_the_last_pair_stands_in_any_order(rt: HostRuntime) -> Result<(), Fail> {
-    let alloc = rt.alloc();
-    for (given, want) in ROWS {
-        let pairs = Pairs::from_pairs(alloc, pairs_of(alloc, given)?)?;
-        let numbers = numbers_of(alloc, &pairs)?;
-        assert_eq!(rt; numbers.as_slice(), want);
+    for (row, (given, want)) in rows().iter().enumerate() {
+        assert!(rt; gives(rt.alloc(), given, want)?, "row {row}");
     }
     Ok(())
 }

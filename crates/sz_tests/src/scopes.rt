@@ -178,14 +178,21 @@ fn in_deep_blocks() -> &'static [Step] {
     IN_DEEP_BLOCKS
 }
 
+// Whether a block with many names, and as many blocks in it as there may be, go as they should.
+fn many_go(scopes: &mut Scopes, alloc: Global) -> Result<bool, Fail> {
+    Ok(
+        goes(scopes, &Open)
+            && declare_many(scopes, alloc, 20_000)?
+            && open_many(scopes, 256)
+            && all_go(scopes, in_deep_blocks())
+            && close_many(scopes, 256)
+            && goes(scopes, &Means("name7", Meaning::Var(7))),
+    )
+}
+
 #[test]
 fn many_names_and_deep_blocks(rt: HostRuntime) -> Result<(), Fail> {
     let mut scopes = Scopes::new(rt.alloc())?;
-    assert!(rt; goes(&mut scopes, &Open));
-    assert!(rt; declare_many(&mut scopes, rt.alloc(), 20_000)?);
-    assert!(rt; open_many(&mut scopes, 256));
-    assert!(rt; all_go(&mut scopes, in_deep_blocks()));
-    assert!(rt; close_many(&mut scopes, 256));
-    assert!(rt; goes(&mut scopes, &Means("name7", Meaning::Var(7))));
+    assert!(rt; many_go(&mut scopes, rt.alloc())?);
     Ok(())
 }

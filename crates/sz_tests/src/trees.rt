@@ -120,10 +120,15 @@ fn statements(alloc: Global) -> Result<[u32; 5], NoMemory> {
     ])
 }
 
+// Whether a name has its text and its place.
+fn a_name_is_right(alloc: Global) -> Result<bool, NoMemory> {
+    let x = name(alloc, 3, "x")?;
+    Ok(x.text().as_str() == "x" && x.place() == at(3))
+}
+
 #[test]
 fn a_tree_is_built_and_knows_its_places(rt: HostRuntime) -> Result<(), Fail> {
-    let x = name(rt.alloc(), 3, "x")?;
-    assert!(rt; x.text().as_str() == "x" && x.place() == at(3));
+    assert!(rt; a_name_is_right(rt.alloc())?);
     assert_eq!(rt; expressions(rt.alloc())?, [1, 0, 2, 2, 9, 7]);
     assert_eq!(rt; statements(rt.alloc())?, [5, 6, 4, 2, 1]);
     Ok(())

@@ -220,15 +220,24 @@ fn a_text_is_made_and_given_back(rt: HostRuntime) -> Result<(), Fail> {
     Ok(())
 }
 
+// The fields `x` and `y`, copied.
+fn copied_fields(alloc: Global) -> Result<Fields, NoMemory> {
+    let fields = numbers(alloc, &["x", "y"])?;
+    Ok(Fields::from_vec(copy_fields(alloc, &fields)?.into_vec()))
+}
+
+fn are_x_and_y(fields: &[Field]) -> bool {
+    match fields {
+        [x, y] => x.name.as_str() == "x" && y.name.as_str() == "y",
+        _ => false,
+    }
+}
+
 #[test]
 fn fields_are_pushed_and_given_back(rt: HostRuntime) -> Result<(), Fail> {
-    let alloc = rt.alloc();
-    let fields = numbers(alloc, &["x", "y"])?;
-    let fields = Fields::from_vec(copy_fields(alloc, &fields)?.into_vec());
+    let fields = copied_fields(rt.alloc())?;
     assert_eq!(rt; fields.len(), 2);
-    for (field, name) in fields.as_slice().iter().zip(["x", "y"]) {
-        assert_eq!(rt; field.name.as_str(), name);
-    }
+    assert!(rt; are_x_and_y(fields.as_slice()));
     Ok(())
 }
 
@@ -292,13 +301,18 @@ fn declared(alloc: Global) -> Result<TableDecls, NoMemory> {
     Ok(TableDecls::from_vec(tables.into_vec()))
 }
 
+fn are_best_and_worst(tables: &[TableDecl]) -> bool {
+    match tables {
+        [best, worst] => is_table(best, "best") && is_table(worst, "worst"),
+        _ => false,
+    }
+}
+
 #[test]
 fn declarations_are_pushed_and_given_back(rt: HostRuntime) -> Result<(), Fail> {
     let tables = declared(rt.alloc())?;
     assert_eq!(rt; tables.len(), 2);
-    for (table, name) in tables.as_slice().iter().zip(["best", "worst"]) {
-        assert!(rt; is_table(table, name));
-    }
+    assert!(rt; are_best_and_worst(tables.as_slice()));
     Ok(())
 }
 
