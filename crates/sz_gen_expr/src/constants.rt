@@ -13,9 +13,14 @@ use sz_value::{List, Value, copy};
 /// Constants, each once, in the order in which they came, found by hashing.
 ///
 /// Contracts see the list of their plain data.
-#[derive(Drop)]
 pub struct Constants {
     held: IndexSet<Value>,
+}
+
+impl Drop for Constants {
+    fn drop(self) {
+        let Constants { held: _ } = self;
+    }
 }
 
 impl Model for Constants {

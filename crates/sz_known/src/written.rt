@@ -31,7 +31,6 @@ pub enum Written {
 
 /// A part of a tuple, or a field of a message.
 #[cycle(written)]
-#[derive(Drop)]
 pub struct WrittenField {
     pub name: Text,
     pub ty: Written,
@@ -39,10 +38,26 @@ pub struct WrittenField {
     pub code: Encoding,
 }
 
+impl Drop for WrittenField {
+    fn drop(self) {
+        let WrittenField {
+            name: _,
+            ty: _,
+            number: _,
+            code: _,
+        } = self;
+    }
+}
+
 /// The named types of a program by number. Contracts see them with all names written out.
-#[derive(Drop)]
 pub struct NamedTypes {
     held: Vec<Written>,
+}
+
+impl Drop for NamedTypes {
+    fn drop(self) {
+        let NamedTypes { held: _ } = self;
+    }
 }
 
 impl Model for NamedTypes {
