@@ -11,7 +11,7 @@ use std::marker::Model;
 ///
 /// Contracts see it as plain data, by `seen` of `specs/Seen.antt`.
 #[cycle(value)]
-#[derive(Debug, Drop)]
+#[derive(Debug)]
 pub enum Value {
     Bool(bool),
     Int(i64),
@@ -22,6 +22,22 @@ pub enum Value {
     Array(List),
     Tuple(List),
     Map(Pairs),
+}
+
+impl Drop for Value {
+    #[cycle(drop)]
+    fn drop(self) {
+        match self {
+            Value::Bool(_)
+            | Value::Int(_)
+            | Value::Time(_)
+            | Value::Str(_)
+            | Value::Bytes(_)
+            | Value::Array(_)
+            | Value::Tuple(_)
+            | Value::Map(_) => {}
+        }
+    }
 }
 
 /// The elements of an array, or the fields of a tuple, in order. Places are counted from 0.
