@@ -14,7 +14,6 @@ use sz_types::{Encoding, Field, Fields, Text, Ty};
 
 /// A type as it is written.
 #[cycle(written)]
-#[derive(Drop)]
 pub enum Written {
     Bool,
     Int,
@@ -29,6 +28,24 @@ pub enum Written {
     Named(u32),
 }
 
+impl Drop for Written {
+    #[cycle(drop)]
+    fn drop(self) {
+        match self {
+            Written::Bool
+            | Written::Int
+            | Written::Time
+            | Written::Str
+            | Written::Bytes
+            | Written::Array(_)
+            | Written::Map(_, _)
+            | Written::Tuple(_)
+            | Written::Proto(_)
+            | Written::Named(_) => {}
+        }
+    }
+}
+
 /// A part of a tuple, or a field of a message.
 #[cycle(written)]
 pub struct WrittenField {
@@ -39,6 +56,7 @@ pub struct WrittenField {
 }
 
 impl Drop for WrittenField {
+    #[cycle(drop)]
     fn drop(self) {
         let WrittenField {
             name: _,
