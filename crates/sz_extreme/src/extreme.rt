@@ -20,24 +20,13 @@ use sz_value::Value;
 /// one table share it.
 ///
 /// Contracts see the declaration, the number of emits, those that are kept in any order, and for how many there is room.
+#[derive(Drop)]
 pub struct Extreme<'a> {
     alloc: Global,
     table: &'a TableDecl,
     count: u64,
     room: usize,
     held: Heap,
-}
-
-impl<'a> Drop for Extreme<'a> {
-    fn drop(self) {
-        let Extreme {
-            alloc: _,
-            table: _,
-            count: _,
-            room: _,
-            held: _,
-        } = self;
-    }
 }
 
 impl<'a> Model for Extreme<'a> {
