@@ -9,3 +9,5 @@ mod judged;
 mod programs;
 #[cfg(test)]
 mod quantified;
+#[cfg(test)]
+mod trees;

@@ -5,8 +5,6 @@ mod expr;
 mod laws;
 mod program;
 mod stmt;
-#[cfg(test)]
-mod tests;
 
 pub use expr::{CoreExpr, CorePair, Form};
 pub use laws::{

@@ -8,8 +8,6 @@ mod line;
 mod range;
 mod routine;
 mod step;
-#[cfg(test)]
-mod tests;
 
 pub use code::Code;
 pub use instr::Instr;

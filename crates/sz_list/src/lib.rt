@@ -2,8 +2,6 @@
 #![tactic(auto)]
 
 mod items;
-#[cfg(test)]
-mod tests;
 
 pub use items::Items;
 /// There was no memory: the one answer of each call that takes memory which no clause speaks of.

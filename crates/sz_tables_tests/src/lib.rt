@@ -6,6 +6,8 @@ mod dealing;
 #[cfg(test)]
 mod flat;
 #[cfg(test)]
+mod plain;
+#[cfg(test)]
 mod printing;
 #[cfg(test)]
 mod tables;

@@ -9,8 +9,6 @@ mod plain;
 mod plain_rows;
 mod row;
 mod sums;
-#[cfg(test)]
-mod tests;
 
 pub use aggregator::Aggregator;
 pub use emit::{Emit, Emits};

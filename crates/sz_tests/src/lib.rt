@@ -6,6 +6,8 @@ mod deep;
 #[cfg(test)]
 mod given;
 #[cfg(test)]
+mod lists;
+#[cfg(test)]
 mod operations;
 #[cfg(test)]
 mod scopes;

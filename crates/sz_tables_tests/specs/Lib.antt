@@ -1,0 +1,2 @@
+-- what the tests rest on
+pub mod Pairs
