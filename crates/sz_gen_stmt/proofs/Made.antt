@@ -2,7 +2,8 @@
 use Rattle.std.proofs.Common.{◌≡◌, ◌∙◌, ℕ, suc, ◌+◌, ◌<◌, List, [], ◌∷◌, ◌++◌, length, Option, Some, None, pos, refl, sym, ap, subst, arith}
 use Rattle.std.proofs.Common.{append_assoc, append-nil, length-append}
 use Rattle.std.specs.Prelude.{is_some}
-use Rattle.std.specs.Option.{option_map}
+use Rattle.std.specs.Option.{option_map, option_copied}
+use Rattle.std.specs.Borrow.{Bor}
 use Rattle.sz_types.specs.declared.place.Place.{Place}
 use Rattle.sz_types.specs.Tables.{Declaration}
 use Rattle.sz_value.specs.Data.{Datum}
@@ -13,17 +14,16 @@ use Rattle.sz_core.specs.declared.program.Item.{Item}
 use Rattle.sz_core.specs.declared.program.Item.TheVariants as items
 use Rattle.sz_core.specs.Programs as program
 use Rattle.sz_core.specs.View.{stm_of, item_of}
-use Rattle.sz_instr.specs.declared.instr.Instr.{Instr}
 use Rattle.sz_instr.specs.declared.instr.Instr.TheVariants.{Jump, Test, Tick, KeepStatic, EndRecord}
 use Rattle.sz_instr.specs.declared.line.Line.{Line}
 use Rattle.sz_instr.specs.declared.routine.Routine.{Routine}
 use Rattle.sz_instr.specs.declared.code.Code.{Code}
 use Rattle.sz_mean.specs.Programs.{body_of}
 use Rattle.sz_gen_expr.specs.declared.builder.Builder.{Builder}
-use Rattle.sz_code.specs.Tables.{Tables, HasConstant}
-use Rattle.sz_code.specs.ExpressionCode.{followed}
-use Rattle.sz_gen_expr.specs.Building.{tables_made, Grows, Appends, AppendsLine, AppendsNode, Lands, Nothing}
-use Rattle.sz_gen_expr.proofs.Builds.{grows_itself, grows_on, grows_same, behind, no_shorter, one_longer}
+use Rattle.sz_code.specs.Tables.{Tables, HasConstant, line}
+use Rattle.sz_code.specs.ExpressionCode.{followed, expression_code}
+use Rattle.sz_gen_expr.specs.Building.{tables_made, Grows, Appends, AppendsLine, AppendsClosed, Lands, Nothing}
+use Rattle.sz_gen_expr.proofs.Builds.{grows_itself, grows_on, grows_same, landed_grows, behind}
 use Rattle.sz_code.specs.StatementCode as codes
 use Rattle.sz_code.specs.FreeLines.{no_place}
 use Rattle.sz_code.specs.StatementCode.{no_exits, branch_code, loop_code, loop_behind_code}
@@ -40,20 +40,13 @@ pub some_mapped : {A B : Type 0} (f : A → B) (o : Option A) → is_some o ≡ 
 some_mapped f None = refl
 some_mapped f (Some a) = refl
 
+pub lent_is : {A B : Type 0} (f : A → B) (lent : Option (Bor A)) (o : Option A) → option_copied lent ≡ o → option_map (λ a. f a.now) lent ≡ option_map f o
+lent_is f None o is = ap (option_map f) is
+lent_is f (Some a) o is = ap (option_map f) is
+
 -- ---- where a line gets its target
 
-pub landed_grows : {old new : Builder} {at : ℕ} → Lands old new at → Grows (tables_made old) (tables_made new)
-landed_grows {old} {new} h = grows_same (tables_made old) (tables_made new) h.constants h.types
-
--- a line just appended is there, and stays
-pub starts : {old new : Builder} {i : Tables → Instr} {charge : ℕ} {place : Place} {named : Tables → Type 0} {at : ℕ}
-    → at ≡ length old.lines → AppendsLine old new i charge place named → at < length new.lines
-starts is h = omega (arith, is, one_longer h)
-
-pub stays : {old new : Builder} {code : Tables → ℕ → List Line} {named : Tables → Type 0} {at : ℕ}
-    → at < length old.lines → Appends old new code named → at < length new.lines
-stays within h = omega (arith, within, no_shorter h)
-
+-- a line stays where another one gets its target
 pub stays_landed : {old new : Builder} {at to : ℕ} → at < length old.lines → Lands old new to → at < length new.lines
 stays_landed {old} {new} {at} {to} within h = omega (arith, within, ap length h.lines, length-patched old.lines to (length old.lines))
 
@@ -220,17 +213,20 @@ function_made old m1 m2 new f params locals is_params is_locals functions lines 
     }
 
 -- a static: where it begins, its value, which is kept, and the end
-pub static_made : (old m1 m2 m3 new : Builder) (s : Static) (n : ℕ) → n ≡ length old.statics
+pub static_made : (old m1 m2 new : Builder) (s : Static) (n : ℕ) → n ≡ length old.statics
     → m1.statics ≡ old.statics ++ record { entry = length old.lines; params = 0; locals = 0 } ∷ []
     → m1.lines ≡ old.lines → m1.functions ≡ old.functions → m1.constants ≡ old.constants → m1.types ≡ old.types
-    → AppendsNode m1 m2 s.value → AppendsLine m2 m3 (λ tables. KeepStatic n) 1 s.place Nothing
-    → AppendsLine m3 new (λ tables. EndRecord) 0 no_place Nothing
+    → AppendsClosed m1 m2 s.value (KeepStatic n) s.place
+    → AppendsLine m2 new (λ tables. EndRecord) 0 no_place Nothing
     → ExtendsStatic old new (length old.statics) s
-static_made old m1 m2 m3 new s n is statics lines functions constants types h k l =
-    let whole = behind h (behind k l) in
+static_made old m1 m2 new s n is statics lines functions constants types h k =
+    let whole = behind h k in
     subst (λ i. ExtendsStatic old new i s) is record {
       grows = grows_on (grows_same (tables_made old) (tables_made m1) constants types) whole.grows;
-      lines = λ tables g. whole.lines tables g ∙ ap (λ c. c ++ static_code tables n s (length c)) lines;
+      lines = λ tables g. whole.lines tables g
+          ∙ ap (λ l. m1.lines ++ l) (append_assoc (expression_code tables s.value (length m1.lines)) (line (KeepStatic n) 1 s.place ∷ [])
+          (line EndRecord 0 no_place ∷ []))
+          ∙ ap (λ c. c ++ static_code tables n s (length c)) lines;
       functions = λ tables g. whole.functions ∙ functions ∙ sym (append-nil old.functions);
       statics = λ tables g. whole.statics ∙ statics;
       names = λ tables g. (whole.names tables g).0;

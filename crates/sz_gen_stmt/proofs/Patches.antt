@@ -5,6 +5,7 @@ use Rattle.sz_instr.specs.declared.line.Line.{Line}
 use Rattle.sz_types.specs.declared.place.Place.{Place}
 use Rattle.sz_code.specs.Tables.{line}
 use Rattle.sz_gen_expr.specs.Building.{patched}
+use Rattle.sz_gen_expr.proofs.Patches.{patched_behind}
 use Rattle.sz_code.specs.FreeLines.{goes}
 use Rattle.sz_code.specs.StatementCode.{branch_code, loop_code, loop_behind_code}
 
@@ -19,10 +20,6 @@ patched-append (x ∷ a) b n to =
     let e : length (x ∷ a) + n ≡ suc (length a + n) = omega arith in
     ap (λ k. patched (x ∷ (a ++ b)) k to) e ∙ ap (λ k. x ∷ k) (patched-append a b n to)
 
-pub patched-append_end : (a b : List Line) (to : ℕ) → patched (a ++ b) (length a) to ≡ a ++ patched b 0 to
-patched-append_end [] b to = refl
-patched-append_end (x ∷ a) b to = ap (λ k. x ∷ k) (patched-append_end a b to)
-
 pub one_add : (n : ℕ) → 1 + n ≡ suc n
 one_add n = omega arith
 
@@ -36,7 +33,7 @@ pub suc_plus : (m n : ℕ) → suc m + n ≡ suc (m + n)
 suc_plus m n = omega arith
 
 -- what brings code in the making and its definition to one form
-pub ruleset patches = (append_assoc, length-append, add_assoc, patched-append, patched-append_end, one_add, two_add, three_add, suc_plus, length-patched)
+pub ruleset patches = (append_assoc, length-append, add_assoc, patched-append, patched_behind, one_add, two_add, three_add, suc_plus, length-patched)
 
 pub branch_lines : (base ce : List Line) (ca cb : ℕ → List Line) (c1 c2 c3 c4 c5 c6 c7 : List Line) (p : Place) (skip over : ℕ)
     → c1 ≡ base ++ ce → skip ≡ length c1 → c2 ≡ c1 ++ line (Test 0) 1 p ∷ [] → c3 ≡ c2 ++ ca (length c2) → over ≡ length c3 → c4 ≡ c3 ++ goes 0 ∷ []

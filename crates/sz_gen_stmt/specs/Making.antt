@@ -1,10 +1,16 @@
 -- Code in the making, with the code of statements and routines behind what it has.
-use Rattle.std.specs.Prelude.{◌≡◌, ℕ, pos, List, [], ◌∷◌, ◌++◌, length, map}
+use Rattle.std.specs.Prelude.{◌≡◌, ℕ, ◌+◌, pos, List, [], ◌∷◌, ◌++◌, length, map, Option, None, Some, IfSome}
+use Rattle.std.specs.Option.{option_map}
+use Rattle.std.specs.Borrow.{Bor}
 use Rattle.sz_value.specs.Data.{Datum}
 use Rattle.sz_core.specs.Programs.{Function, Static}
 use Rattle.sz_types.specs.declared.place.Place.{Place}
 use Rattle.sz_core.specs.Nodes.{Node}
 use Rattle.sz_core.specs.Statements.{Step, Quantified, Stm, Stms}
+use Rattle.sz_core.specs.declared.expr.CoreExpr.{CoreExpr}
+use Rattle.sz_core.specs.declared.stmt.CoreStmt.{CoreStmt}
+use Rattle.sz_core.specs.View.{node_of, stm_of}
+use Rattle.sz_instr.specs.declared.instr.Instr.TheVariants.{Enter}
 use Rattle.sz_instr.specs.declared.line.Line.{Line}
 use Rattle.sz_instr.specs.declared.routine.Routine.{Routine}
 use Rattle.sz_gen_expr.specs.declared.builder.Builder.{Builder}
@@ -13,7 +19,8 @@ use Rattle.sz_code.specs.ExpressionCode.{expression_code, indexes_code}
 use Rattle.sz_code.specs.Named.{HasNames, StepsHaveNames}
 use Rattle.sz_gen_expr.specs.Building.{tables_made, Grows, Appends}
 use Rattle.sz_code.specs.StatementCode as codes
-use Rattle.sz_code.specs.StatementCode.{in_search, variable_code_of, statement_code, statements_code}
+use Rattle.sz_code.specs.StatementCode.{in_loop, in_search, test_code, loop_code, variable_code_of, statement_code, statements_code}
+use Rattle.sz_code.specs.FreeLines.{free}
 use Rattle.sz_code.specs.SearchCode.{holds_code, search_code}
 use Rattle.sz_code.specs.NamedStatements.{FlagsHaveNames, BasesHaveNames, StmHasNames, StmsHaveNames, FunctionsHaveNames, StaticsHaveNames}
 use Rattle.sz_code.specs.ProgramCode.{function_code, functions_code, function_routines, static_code, statics_code, static_routines}
@@ -23,6 +30,18 @@ use Rattle.sz_gen_stmt.specs.declared.generate.Exits.{Exits}
 abbrev pub exits_of : Exits → codes.Exits
 exits_of out = record { on_break = out.on_break; on_continue = out.on_continue; flags = out.flags }
 
+-- an expression or a statement, where there is one
+abbrev pub node_if_some : Option (Bor CoreExpr) → Option Node
+node_if_some = option_map (λ e. node_of e.now)
+
+abbrev pub stm_if_some : Option (Bor CoreStmt) → Option Stm
+stm_if_some = option_map (λ s. stm_of s.now)
+
+-- the code of a statement, where there is one
+abbrev pub code_if_any : Tables → Option Stm → codes.Exits → ℕ → List Line
+code_if_any tables None out at = []
+code_if_any tables (Some s) out at = statement_code tables s out at
+
 -- the code of a statement more
 abbrev pub AppendsStm : Builder → Builder → Stm → codes.Exits → Type 0
 AppendsStm old new s out = Appends old new (λ tables at. statement_code tables s out at) (λ tables. StmHasNames tables s)
@@ -30,6 +49,25 @@ AppendsStm old new s out = Appends old new (λ tables at. statement_code tables 
 -- the code of statements more
 abbrev pub AppendsStms : Builder → Builder → Stms → codes.Exits → Type 0
 AppendsStms old new ss out = Appends old new (λ tables at. statements_code tables ss out at) (λ tables. StmsHaveNames tables ss)
+
+-- the code of a statement more, where there is one
+abbrev pub AppendsIfAny : Builder → Builder → Option Stm → codes.Exits → Type 0
+AppendsIfAny old new s out = Appends old new (λ tables at. code_if_any tables s out at) (λ tables. IfSome s (StmHasNames tables))
+
+-- the code of a loop's test more, which goes to a line where it is false
+abbrev pub AppendsTest : Builder → Builder → Place → Option Node → (away : ℕ) → Type 0
+AppendsTest old new place test away = Appends old new (λ tables at. test_code tables place test away at) (λ tables. IfSome test (HasNames tables))
+
+-- the code of a loop that is tested before each turn more
+abbrev pub AppendsLoop : Builder → Builder → Place → (test : Option Node) → (between : Option Stm) → (body : Stm) → codes.Exits → Type 0
+AppendsLoop old new place test between body out = Appends old new
+    (λ tables at. loop_code place (code_if_any tables between out) (test_code tables place test (at + 1))
+    (statement_code tables body (in_loop out (at + 1) (at + 2))) at)
+    (λ tables. IfSome test (HasNames tables) × IfSome between (StmHasNames tables) × StmHasNames tables body)
+
+-- the code of a variable's base more, and the line that makes the list of its candidates
+abbrev pub AppendsCandidates : Builder → Builder → Quantified → Type 0
+AppendsCandidates old new v = Appends old new (λ tables at. expression_code tables v.base at ++ free (Enter v.slice) ∷ []) (λ tables. HasNames tables v.base)
 
 -- the code of a search over these variables more, which goes to a line where it fails
 abbrev pub AppendsSearch : Builder → Builder → Place → List Quantified → Node → Stm → codes.Exits → (fail : ℕ) → Type 0

@@ -3,6 +3,7 @@
 
 mod compiled;
 mod generate;
+mod parts;
 mod program;
 
 pub use compiled::{Compiled, compile};

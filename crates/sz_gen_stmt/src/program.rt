@@ -11,10 +11,11 @@ ghost use Rattle.sz_code.specs.StatementCode.{no_exits};
 ghost use Rattle.sz_code.specs.ProgramCode.{IsCodeOf, returns_undefined};
 ghost use Rattle.sz_gen_stmt.specs.Making.{AppendsStms, ExtendsFunction, ExtendsFunctions, ExtendsStatic, ExtendsStatics};
 
-use crate::generate::{Exits, free, gen_stmt, gen_stmts};
+use crate::generate::{Exits, gen_stmt, gen_stmts};
+use crate::parts::free;
 use std::alloc::Global;
 use sz_core::{Function, Item, Program, Static};
-use sz_gen_expr::{Builder, gen_expr, small};
+use sz_gen_expr::{Builder, gen_closed, small};
 use sz_instr::{Code, Instr, Routine};
 use sz_types::{BinOp, Place, TableDecls, copy_table};
 use sz_value::{NoMemory, Value};
@@ -129,8 +130,7 @@ fn gen_static(held: &Static, into: &mut Builder) -> Result<(), NoMemory>
     ensures made { OnOk result (ExtendsStatic into.old into.new (length into.old.statics) (static_of held.now)) }
 {
     let number = into.begin_static()?;
-    gen_expr(&held.value, into)?;
-    into.close(Instr::KeepStatic(number), held.place)?;
+    gen_closed(&held.value, Instr::KeepStatic(number), held.place, into)?;
     free(Instr::EndRecord, into)
 }
 

@@ -59,7 +59,8 @@ gen_list-returns t c = record { made = on_ok_weaker c.close.result (λ h. closed
 pub gen_map-returns : goal.gen_map-returns
 gen_map-returns t c = record {
   made = on_ok_weaker c.close.result (λ h. closed_by c.in_ok-gen_pairs.ensures.made
-      (subst (λ n. AppendsLine c.gen_pairs.new.into c.close.new.self (λ tables. MakeMap n) 1 c.args.place Nothing) c.in_ok-count.ensures.value h)) c.close.ensures.made;
+      (subst (λ n. AppendsLine c.gen_pairs.new.into c.close.new.self (λ tables. MakeMap n) 1 c.args.place Nothing) c.in_ok-count.ensures.value h))
+      c.close.ensures.made;
 }
 
 pub gen_decided-land-requires : goal.gen_decided-land-requires
@@ -96,43 +97,53 @@ gen_expr-returns-in_ok-gen_expr-in-Convert t c = record {
       (closes (subst (λ d. AppendsNode c.args.into.now c.gen_expr.new.into (node_of d)) c.deref-in-Convert.ensures c.in_ok-gen_expr-in-Convert.ensures.made)
       (subst (λ (d : CoreExpr). Appends c.gen_expr.new.into c.convert.new.self
       (λ tables at. line (conversion tables (shape_of d.ty) (shape_of c.args.e.now.ty)) 1 c.args.e.now.place ∷ [])
-      (λ tables. HasTarget tables (alike (shape_of d.ty) (shape_of c.args.e.now.ty)) (shape_of c.args.e.now.ty))) c.deref-in-Convert-2.ensures h))) c.convert.ensures.made;
+      (λ tables. HasTarget tables (alike (shape_of d.ty) (shape_of c.args.e.now.ty)) (shape_of c.args.e.now.ty))) c.deref-in-Convert-2.ensures h)))
+      c.convert.ensures.made;
 }
 
 pub gen_expr-returns-in_ok-gen_expr-in-Index : goal.gen_expr-returns-in_ok-gen_expr-in-Index
 gen_expr-returns-in_ok-gen_expr-in-Index t c = record {
   made = on_ok_weaker c.gen_closed-in-Index.result (λ h. of_form c.args.e.now _ (ap form_of c.in-Index.is)
-      (closed_behind (node_of c.in-Index.index.value) Index c.args.e.now.place (subst (λ d. AppendsNode c.args.into.now c.gen_expr-in-Index.new.into (node_of d)) c.deref-in-Index.ensures c.in_ok-gen_expr-in-Index.ensures.made)
-      (subst (λ d. AppendsClosed c.gen_expr-in-Index.new.into c.gen_closed-in-Index.new.into (node_of d) Index c.args.e.now.place) c.deref-in-Index-2.ensures h))) c.gen_closed-in-Index.ensures.made;
+      (closed_behind (node_of c.in-Index.index.value) Index c.args.e.now.place (subst (λ d. AppendsNode c.args.into.now c.gen_expr-in-Index.new.into
+      (node_of d)) c.deref-in-Index.ensures c.in_ok-gen_expr-in-Index.ensures.made)
+      (subst (λ d. AppendsClosed c.gen_expr-in-Index.new.into c.gen_closed-in-Index.new.into (node_of d) Index c.args.e.now.place)
+      c.deref-in-Index-2.ensures h))) c.gen_closed-in-Index.ensures.made;
 }
 
 pub gen_expr-returns-in_ok-gen_expr-in-Binary : goal.gen_expr-returns-in_ok-gen_expr-in-Binary
 gen_expr-returns-in_ok-gen_expr-in-Binary t c = record {
   made = on_ok_weaker c.gen_closed-in-Binary.result (λ h. of_form c.args.e.now _ (ap form_of c.in-Binary.is)
-      (closed_behind (node_of c.in-Binary.right.value) (Binary c.in-Binary.operator) c.args.e.now.place (subst (λ d. AppendsNode c.args.into.now c.gen_expr-in-Binary.new.into (node_of d)) c.deref-in-Binary.ensures c.in_ok-gen_expr-in-Binary.ensures.made)
-      (subst (λ d. AppendsClosed c.gen_expr-in-Binary.new.into c.gen_closed-in-Binary.new.into (node_of d) (Binary c.in-Binary.operator) c.args.e.now.place) c.deref-in-Binary-2.ensures h))) c.gen_closed-in-Binary.ensures.made;
+      (closed_behind (node_of c.in-Binary.right.value) (Binary c.in-Binary.operator) c.args.e.now.place (subst (λ d. AppendsNode c.args.into.now
+      c.gen_expr-in-Binary.new.into (node_of d)) c.deref-in-Binary.ensures c.in_ok-gen_expr-in-Binary.ensures.made)
+      (subst (λ d. AppendsClosed c.gen_expr-in-Binary.new.into c.gen_closed-in-Binary.new.into (node_of d) (Binary c.in-Binary.operator)
+      c.args.e.now.place) c.deref-in-Binary-2.ensures h))) c.gen_closed-in-Binary.ensures.made;
 }
 
 pub gen_expr-returns-in_ok-gen_expr-in-Slice-2 : goal.gen_expr-returns-in_ok-gen_expr-in-Slice-2
 gen_expr-returns-in_ok-gen_expr-in-Slice-2 t c = record {
   made = on_ok_weaker c.gen_closed-in-Slice.result (λ h. of_form c.args.e.now _ (ap form_of c.in-Slice.is)
-      (renamed (λ tables n. (n.0.0, n.0.1, n.1)) (closed_behind (node_of c.in-Slice.to.value) Slice c.args.e.now.place (behind (subst (λ d. AppendsNode c.args.into.now c.gen_expr-in-Slice.new.into (node_of d)) c.deref-in-Slice.ensures c.in_ok-gen_expr-in-Slice.ensures.made)
-      (subst (λ d. AppendsNode c.gen_expr-in-Slice.new.into c.gen_expr-in-Slice-2.new.into (node_of d)) c.deref-in-Slice-2.ensures c.in_ok-gen_expr-in-Slice-2.ensures.made))
-      (subst (λ d. AppendsClosed c.gen_expr-in-Slice-2.new.into c.gen_closed-in-Slice.new.into (node_of d) Slice c.args.e.now.place) c.deref-in-Slice-3.ensures h)))) c.gen_closed-in-Slice.ensures.made;
+      (renamed (λ tables n. (n.0.0, n.0.1, n.1)) (closed_behind (node_of c.in-Slice.to.value) Slice c.args.e.now.place (behind (subst
+      (λ d. AppendsNode c.args.into.now c.gen_expr-in-Slice.new.into (node_of d)) c.deref-in-Slice.ensures c.in_ok-gen_expr-in-Slice.ensures.made)
+      (subst (λ d. AppendsNode c.gen_expr-in-Slice.new.into c.gen_expr-in-Slice-2.new.into (node_of d)) c.deref-in-Slice-2.ensures
+      c.in_ok-gen_expr-in-Slice-2.ensures.made))
+      (subst (λ d. AppendsClosed c.gen_expr-in-Slice-2.new.into c.gen_closed-in-Slice.new.into (node_of d) Slice c.args.e.now.place)
+      c.deref-in-Slice-3.ensures h)))) c.gen_closed-in-Slice.ensures.made;
 }
 
 pub gen_expr-returns-in_ok-gen_expr-in-And : goal.gen_expr-returns-in_ok-gen_expr-in-And
 gen_expr-returns-in_ok-gen_expr-in-And t c = record {
   made = on_ok_weaker c.gen_decided.result (λ h. of_form c.args.e.now _ (ap form_of c.in-And.is)
       (behind (subst (λ d. AppendsNode c.args.into.now c.gen_expr-in-And.new.into (node_of d)) c.deref-in-And.ensures c.in_ok-gen_expr-in-And.ensures.made)
-      (subst (λ d. AppendsDecided c.gen_expr-in-And.new.into c.gen_decided.new.into (AndTest 0) c.args.e.now.place (node_of d)) c.deref-in-And-2.ensures h))) c.gen_decided.ensures.made;
+      (subst (λ d. AppendsDecided c.gen_expr-in-And.new.into c.gen_decided.new.into (AndTest 0) c.args.e.now.place (node_of d))
+      c.deref-in-And-2.ensures h))) c.gen_decided.ensures.made;
 }
 
 pub gen_expr-returns-in_ok-gen_expr-in-Or : goal.gen_expr-returns-in_ok-gen_expr-in-Or
 gen_expr-returns-in_ok-gen_expr-in-Or t c = record {
   made = on_ok_weaker c.gen_decided-in-Or.result (λ h. of_form c.args.e.now _ (ap form_of c.in-Or.is)
       (behind (subst (λ d. AppendsNode c.args.into.now c.gen_expr-in-Or.new.into (node_of d)) c.deref-in-Or.ensures c.in_ok-gen_expr-in-Or.ensures.made)
-      (subst (λ d. AppendsDecided c.gen_expr-in-Or.new.into c.gen_decided-in-Or.new.into (OrTest 0) c.args.e.now.place (node_of d)) c.deref-in-Or-2.ensures h))) c.gen_decided-in-Or.ensures.made;
+      (subst (λ d. AppendsDecided c.gen_expr-in-Or.new.into c.gen_decided-in-Or.new.into (OrTest 0) c.args.e.now.place (node_of d))
+      c.deref-in-Or-2.ensures h))) c.gen_decided-in-Or.ensures.made;
 }
 
 -- ---- lists and a line

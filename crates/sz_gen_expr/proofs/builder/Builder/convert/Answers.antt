@@ -26,6 +26,8 @@ returns c =
       made = on_ok_weaker c.close-2.result (λ h. type_pushed from to n c.args.place
           (sym (says_alike c.same.result from to c.same.ensures.value) ∙ c.if-same.false)
           (c.in_ok-number.ensures.value ∙ c.in_ok-type_number.ensures.number)
-          c.in_ok-type_number.ensures.kept c.type_number.ensures.constants c.type_number.ensures.lines c.type_number.ensures.functions c.type_number.ensures.statics
-          (subst (λ i. AppendsLine c.type_number.new.self c.close-2.new.self (λ tables. i) 1 c.args.place Nothing) c.changing.ensures.value h)) c.close-2.ensures.made;
+          c.in_ok-type_number.ensures.kept c.type_number.ensures.constants c.type_number.ensures.lines c.type_number.ensures.functions
+          c.type_number.ensures.statics
+          (subst (λ i. AppendsLine c.type_number.new.self c.close-2.new.self (λ tables. i) 1 c.args.place Nothing) c.changing.ensures.value h))
+          c.close-2.ensures.made;
     }

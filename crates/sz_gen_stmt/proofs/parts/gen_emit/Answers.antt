@@ -7,7 +7,7 @@ use Rattle.sz_instr.specs.declared.instr.Instr.TheVariants.{Emit}
 use Rattle.sz_gen_expr.specs.Building.{AppendsLine, Nothing}
 use Rattle.sz_gen_expr.proofs.Builds.{closed_by, three_behind}
 use Rattle.sz_gen_stmt.proofs.Made.{some_mapped}
-use Rattle.sz_gen_stmt.proofs.generate.gen_emit.Goals as goal
+use Rattle.sz_gen_stmt.proofs.parts.gen_emit.Goals as goal
 
 pub returns : goal.returns
 returns c = record {

@@ -3,7 +3,7 @@ use Rattle.std.proofs.Common.{◌≡◌, subst, arith}
 use Rattle.sz_gen_expr.specs.Building.{Appends, Nothing}
 use Rattle.sz_code.specs.StatementCode.{discards}
 use Rattle.sz_gen_stmt.proofs.SearchMade.{discards_more}
-use Rattle.sz_gen_stmt.proofs.generate.gen_discards.Goals as goal
+use Rattle.sz_gen_stmt.proofs.parts.gen_discards.Goals as goal
 
 pub loop-preserved : goal.loop-preserved
 loop-preserved c = discards_more c.loop.counter c.loop.invariant c.in_ok-free.ensures.made

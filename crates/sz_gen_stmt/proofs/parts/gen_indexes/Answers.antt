@@ -4,7 +4,7 @@ use Rattle.sz_core.specs.View.{step_of}
 use Rattle.sz_gen_expr.proofs.Builds.{none, behind}
 use Rattle.sz_types.proofs.ForCallers.{rest_more, rest_none}
 use Rattle.sz_gen_stmt.specs.Making.{AppendsIndexes}
-use Rattle.sz_gen_stmt.proofs.generate.gen_indexes.Goals as goal
+use Rattle.sz_gen_stmt.proofs.parts.gen_indexes.Goals as goal
 
 -- an index
 pub loop-step-preserved : goal.loop-step-preserved

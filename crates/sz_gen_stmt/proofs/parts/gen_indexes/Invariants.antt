@@ -3,7 +3,7 @@ use Rattle.std.proofs.Common.{map, drop}
 use Rattle.sz_core.specs.View.{step_of}
 use Rattle.sz_gen_expr.specs.declared.builder.Builder.{Builder}
 use Rattle.sz_gen_stmt.specs.Making.{AppendsIndexes}
-use Rattle.sz_gen_stmt.proofs.generate.gen_indexes.Given as goal
+use Rattle.sz_gen_stmt.proofs.parts.gen_indexes.Given as goal
 
 abbrev pub invariant-loop-step : goal.invariant-loop-step
 invariant-loop-step l =
