@@ -4,5 +4,3 @@ mod FoldLemmas
 mod WhenLemmas
 mod FunctionLemmas
 mod ProgramLemmas
-mod EmitLemmas
-mod TableLemmas

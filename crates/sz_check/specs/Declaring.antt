@@ -1,25 +1,12 @@
 -- Declarations at the top level, where their parts are judged.
 use Rattle.std.specs.Prelude.{ℕ, ◌+◌, List, [], ◌∷◌, Option, nat_lt, Ok}
-use Rattle.sz_types.specs.Data.{Shape}
 use Rattle.sz_types.specs.Tables.{Declaration}
-use Rattle.sz_types.specs.declared.table.TableKind.{TableKind}
 use Rattle.sz_tree.specs.Names.{Ident}
 use Rattle.sz_core.specs.Programs.{Static}
 use Rattle.sz_core.specs.Programs as items
 use Rattle.sz_judge.specs.Refusals.{Judged, ◌>>=◌, unless, too_many}
 use Rattle.sz_judge.specs.Names as names
 use Rattle.sz_judge.specs.JudgingPrograms.{TopScene, Found, blocks_of, with_blocks, most_tables}
-
--- a table by its parts
-abbrev pub table_of : Ident → TableKind → ℕ → List Shape → Shape → Option Shape → Declaration
-table_of n kind limit indexes element weight = record {
-  name = n.text;
-  kind = kind;
-  limit = limit;
-  indexes = indexes;
-  element = element;
-  weight = weight;
-}
 
 -- a table under its name, with the next number
 abbrev pub declare_table : TopScene → Ident → Declaration → Judged Found

@@ -13,11 +13,11 @@ ghost use Rattle.sz_check.specs.FunctionParts.{body_of};
 ghost use Rattle.sz_check.specs.Top.{found_one, top_of};
 ghost use Rattle.sz_known.specs.Outcome.{Judges};
 
-use crate::emitting::body_emits;
 use crate::stmt::{Around, judge_stms};
 use crate::top::Top;
 use std::alloc::{AllocError, Global};
 use sz_core::{CoreStmt, Function, Item, Signature};
+use sz_emitting::body_emits;
 use sz_known::{CheckError, Known, Meaning, judge_type, small};
 use sz_tree::{Name, Param, Stmt, TypeTree};
 use sz_types::{Ty, Tys, copy_ty, copy_tys};

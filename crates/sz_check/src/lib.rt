@@ -4,7 +4,6 @@
 mod composed;
 mod declared;
 mod emitted;
-mod emitting;
 mod function;
 mod program;
 mod quantified;

@@ -13,11 +13,11 @@ ghost use Rattle.sz_judge.specs.Quantifying.{names_of, all_bounded, may_follow, 
 ghost use Rattle.sz_check.specs.Behind.{judge_quantified};
 ghost use Rattle.sz_check.specs.Quantified.{variable_of, declared_of, front_of, based_of};
 
-use crate::emitting::is_seen_inside;
 use std::alloc::{AllocError, Global};
-use sz_check_expr::{Kind, alike, judge_exp, test, type_kind};
+use sz_check_expr::{alike, judge_exp, test};
 use sz_core::{CoreExpr, CoreQuantity, Quantified};
-use sz_known::{CheckError, Known, Meaning, Site, judge_type};
+use sz_emitting::is_seen_inside;
+use sz_known::{CheckError, Kind, Known, Meaning, Site, judge_type, type_kind};
 use sz_list::Items;
 use sz_quant::{Bound, Bounds, BoundsError, Names, bounds};
 use sz_tree::{Expr, Name, Quantifier, Quantity};

@@ -10,9 +10,9 @@ ghost use Rattle.sz_check.specs.Targets.{target_seen, into_string, to_part, part
 ghost use Rattle.sz_known.specs.Outcome.{Judges};
 
 use std::alloc::{AllocError, Global};
-use sz_check_expr::{Kind, agrees, field_in, judge_exp, type_kind, whole};
+use sz_check_expr::{agrees, field_in, judge_exp, whole};
 use sz_core::{CoreExpr, CoreStep};
-use sz_known::{CheckError, Known, Means, Site, small};
+use sz_known::{CheckError, Kind, Known, Means, Site, small, type_kind};
 use sz_tree::{Expr, Name, Step};
 use sz_types::{Place, Ty, copy_ty};
 

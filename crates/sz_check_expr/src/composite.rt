@@ -13,10 +13,9 @@ ghost use Rattle.sz_known.specs.Outcome.{Judges};
 
 use crate::agreement::{agree, counted, pairs_agree};
 use crate::asks::Asks;
-use crate::kind::{Kind, type_kind};
 use std::alloc::Global;
 use sz_core::{CoreExpr, CorePair, Form};
-use sz_known::CheckError;
+use sz_known::{CheckError, Kind, type_kind};
 use sz_tree::{Expr, Pair};
 use sz_types::{Field, Place, Ty, copy_ty};
 

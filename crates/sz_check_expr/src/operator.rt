@@ -10,11 +10,10 @@ ghost use Rattle.sz_check_expr.specs.Operating.{operation_seen};
 ghost use Rattle.sz_known.specs.Outcome.{Judges};
 
 use crate::agreement::fits;
-use crate::kind::{Kind, type_kind};
 use crate::rows::{alike, binary_row, unary_row};
 use std::alloc::Global;
 use sz_core::{CoreExpr, Form};
-use sz_known::CheckError;
+use sz_known::{CheckError, Kind, type_kind};
 use sz_tree::{BinaryOp, Expr, UnaryOp};
 use sz_types::{BinOp, Place, Ty, UnOp};
 

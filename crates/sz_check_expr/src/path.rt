@@ -12,11 +12,10 @@ ghost use Rattle.sz_check_expr.specs.Asking.{found_of};
 ghost use Rattle.sz_known.specs.Outcome.{Judges};
 
 use crate::agreement::fits;
-use crate::kind::{Kind, type_kind};
 use crate::rows::{alike, has_elements, has_slices, index_row};
 use std::alloc::Global;
 use sz_core::{CoreExpr, Form};
-use sz_known::{CheckError, small};
+use sz_known::{CheckError, Kind, small, type_kind};
 use sz_tree::{Expr, Name};
 use sz_types::{Field, Place, Ty, converts, copy_ty};
 

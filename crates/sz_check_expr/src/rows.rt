@@ -10,11 +10,11 @@ ghost use Rattle.sz_core.specs.Nodes.{nodes_of, types_of};
 ghost use Rattle.sz_core.specs.View.{node_of};
 ghost use Rattle.sz_judge.specs.Agreeing.{is_searched_for, is_map};
 ghost use Rattle.sz_judge.specs.JudgingParts.{has_index};
-ghost use Rattle.sz_check_expr.specs.Kinds.{is_compared};
+ghost use Rattle.sz_check_expr.specs.Operating.{is_compared};
 
-use crate::kind::{Kind, type_kind};
 use std::alloc::{AllocError, Global};
 use sz_core::CoreExpr;
+use sz_known::{Kind, type_kind};
 use sz_types::{BinOp, Builtin, Ty, UnOp, copy_ty, same};
 
 // Whether the types are the same.

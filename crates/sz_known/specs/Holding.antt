@@ -1,5 +1,5 @@
 -- What contracts see of what is known in front of a statement.
-use Rattle.std.specs.Prelude.{◌≡◌, ℕ, suc, List, [], ◌∷◌, length, Bool, true, false, Option}
+use Rattle.std.specs.Prelude.{◌≡◌, ℕ, suc, List, [], ◌∷◌, length, Option}
 use Rattle.std.specs.Option.{option_map}
 use Rattle.sz_types.specs.Data.{Shape}
 use Rattle.sz_types.specs.Seen.{seen}

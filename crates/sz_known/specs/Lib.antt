@@ -2,6 +2,7 @@
 pub mod Outcome
 pub mod Sites
 pub mod Written
+pub mod Kinds
 pub mod Holding
 pub mod Keeping
 -- what the functions inside the crate promise each other

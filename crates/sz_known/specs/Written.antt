@@ -1,6 +1,7 @@
 -- Types as they are written, whose names stand for types that were named before.
 use Rattle.std.specs.Prelude.{ℕ, List, [], ◌∷◌, ◌++◌, slice_get, unwrap_or}
 use Rattle.sz_types.specs.Data.{Shape, FieldShape, FieldShapes, no_fields, with_field, field}
+use Rattle.sz_judge.specs.JudgingTypes.{shape_of}
 use Rattle.sz_known.specs.declared.written.Written.{Written, Row_of-WrittenField, end_of-WrittenField, more_of-WrittenField}
 use Rattle.sz_known.specs.declared.written.Written.TheVariants as written
 use Rattle.sz_known.specs.declared.written.WrittenField.{WrittenField}
@@ -13,11 +14,7 @@ module _ (types : List Shape) where
   abbrev mutual
     -- what is written, with the names in it written out by these types
     pub shape_in : Written → Shape
-    shape_in written.Bool = Shape.truth
-    shape_in written.Int = Shape.int
-    shape_in written.Time = Shape.time
-    shape_in written.Str = Shape.str
-    shape_in written.Bytes = Shape.bytes
+    shape_in (written.Basic b) = shape_of b
     shape_in (written.Array' b t) = Shape.array (shape_in t)
     shape_in (written.Map' b k c v) = Shape.mapping (shape_in k) (shape_in v)
     shape_in (written.Tuple' s fs) = Shape.tuple (fields_in_row fs)

@@ -9,7 +9,7 @@ use sz_tree::Name;
 use sz_types::{Place, Text};
 
 /// Why `check` gives no program.
-#[derive(Debug, Drop)]
+#[derive(Drop)]
 pub enum CheckError {
     /// The first refusal: its number, the place that it names, and the name that its text has.
     Refused {

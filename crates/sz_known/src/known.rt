@@ -16,7 +16,8 @@ use crate::error::CheckError;
 use crate::meaning::{Meaning, Means};
 use crate::number::small;
 use crate::site::Site;
-use crate::taken::is_new;
+use crate::taken::{is_new, one_block};
+use crate::waiting::beside;
 use crate::written::{NamedTypes, Written};
 use std::alloc::{AllocError, Global};
 use std::marker::Model;
@@ -158,23 +159,29 @@ impl Known {
         ensures value { IfOk result (λ made. scene_of made ≡ at_first) }
     {
         let mut known = Known::in_one_block(alloc)?;
-        known.put("strfind", Meaning::Predeclared(Builtin::StrFind))?;
-        known.put("haskey", Meaning::Predeclared(Builtin::HasKey))?;
-        known.put("keys", Meaning::Predeclared(Builtin::Keys))?;
-        known.put("len", Meaning::Predeclared(Builtin::Len))?;
-        known.put("input", Meaning::Input)?;
-        known.open()?;
+        let (_, known) = beside(known.put_predeclared(), known)?;
         Ok(known)
+    }
+
+    // The predeclared names in the one block, and an empty block inside it.
+    fn put_predeclared(&mut self) -> Result<(), AllocError>
+        requires first { self.old ≡ at_no_name }
+        ensures value { IfOk result (λ _. scene_of self.new ≡ at_first) }
+    {
+        self.put("strfind", Meaning::Predeclared(Builtin::StrFind))?;
+        self.put("haskey", Meaning::Predeclared(Builtin::HasKey))?;
+        self.put("keys", Meaning::Predeclared(Builtin::Keys))?;
+        self.put("len", Meaning::Predeclared(Builtin::Len))?;
+        self.put("input", Meaning::Input)?;
+        self.open()
     }
 
     // No names, in the one block that is open.
     fn in_one_block(alloc: Global) -> Result<Known, AllocError>
         ensures value { IfOk result (λ made. made ≡ at_no_name) }
     {
-        let mut scopes = Scopes::new(alloc)?;
-        scopes.push()?;
         Ok(Known {
-            scopes,
+            scopes: one_block(alloc)?,
             meanings: Vec::new(alloc),
             types: NamedTypes::new(alloc),
             sight: Sight::Record,
@@ -191,7 +198,8 @@ impl Known {
             self.old)) }
         ensures err { OnErr result (self.new ≡ self.old) }
     {
-        let what = placed(small(self.meanings.len())?, &meaning);
+        let (place, meaning) = beside(small(self.meanings.len()), meaning)?;
+        let what = placed(place, &meaning);
         self.meanings.push(meaning)?;
         is_new(self.scopes.declare(name, what))
     }
@@ -268,6 +276,19 @@ impl Known {
         self.declare(alloc, name, Meaning::Type(number))
     }
 
+    // A type more among those of the routine's variables: its number, and a copy of it.
+    fn add_local(&mut self, alloc: Global, ty: Ty) -> Result<(u32, Ty), AllocError>
+        ensures number { IfOk result (λ x. x.0 ≡ length self.old.locals) }
+        ensures copy { IfOk result (λ x. seen x.1 ≡ seen ty) }
+        ensures ok { IfOk result (λ _. self.new ≡ record self.old { locals = self.old.locals ++ seen ty ∷ [] }) }
+        ensures err { OnErr result (self.new ≡ self.old) }
+    {
+        let (number, ty) = beside(small(self.locals.len()), ty)?;
+        let (copy, ty) = beside(copy_ty(alloc, &ty), ty)?;
+        let (_, copy) = beside(self.locals.push(ty), copy)?;
+        Ok((number, copy))
+    }
+
     /// A variable more, which has the next number of its routine, counted from 0; or the refusal 7.
     pub fn declare_variable(
         &mut self,
@@ -279,10 +300,8 @@ impl Known {
         ensures number { IfOk result (λ number. number ≡ length self.old.locals) }
         ensures outside { self.new.outside ≡ self.old.outside }
     {
-        let number = small(self.locals.len())?;
-        let copy = copy_ty(alloc, &ty)?;
+        let (number, copy) = self.add_local(alloc, ty)?;
         self.declare(alloc, name, Meaning::Variable(number, copy))?;
-        self.locals.push(ty)?;
         Ok(number)
     }
 
@@ -297,10 +316,8 @@ impl Known {
         ensures number { IfOk result (λ number. number ≡ length self.old.locals) }
         ensures outside { self.new.outside ≡ self.old.outside }
     {
-        let number = small(self.locals.len())?;
-        let copy = copy_ty(alloc, &ty)?;
+        let (number, copy) = self.add_local(alloc, ty)?;
         self.declare(alloc, name, Meaning::Quantified(number, copy))?;
-        self.locals.push(ty)?;
         Ok(number)
     }
 

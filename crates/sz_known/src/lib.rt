@@ -3,6 +3,7 @@
 #![tactic(auto)]
 
 mod error;
+mod kind;
 mod known;
 mod meaning;
 mod number;
@@ -10,12 +11,15 @@ mod site;
 mod sort;
 mod taken;
 mod types;
+mod waiting;
 mod written;
 
 pub use error::CheckError;
+pub use kind::{Kind, type_kind};
 pub use known::{Aside, Known};
 pub use meaning::{Meaning, Means};
 pub use number::small;
 pub use site::Site;
-pub use types::{basic_type, judge_type, judge_written};
-pub use written::{NamedType, NamedTypes, Written, WrittenField};
+pub use types::{judge_type, judge_written};
+pub use waiting::beside;
+pub use written::{NamedType, NamedTypes, Written, WrittenField, basic_type};

@@ -1,10 +1,12 @@
 //! What fields of a message a type makes.
 ghost use Rattle.std.specs.Prelude.{◌≡◌, Bool};
 ghost use Rattle.sz_core.specs.WellFormed.{takes_encoding};
+ghost use Rattle.sz_judge.specs.JudgingTypes.{shape_of};
 ghost use Rattle.sz_known.specs.Sorts.{as_many, sort_at, is_field, encodes};
 ghost use Rattle.sz_known.specs.Written.{shape_in, shapes_of};
 
 use crate::written::Written;
+use sz_tree::BasicType;
 use sz_types::Encoding;
 
 // What a field of a type holds: one number, one other thing, as many of these as there are, or what no field can hold.
@@ -47,19 +49,24 @@ impl Sort {
     }
 }
 
+// What a field holds of a type that a word stands for.
+fn basic_sort(basic: BasicType) -> Sort
+    ensures value { (inside : Bool) → result ≡ sort_at inside (shape_of basic) }
+{
+    match basic {
+        BasicType::Int | BasicType::Time => Sort::Number,
+        BasicType::Bool | BasicType::String | BasicType::Bytes => Sort::Other,
+    }
+}
+
 // What a field holds of a type that is written with these types, or of the elements of one.
 pub fn sort_of(written: &Written, types: &[Written], inside: bool) -> Sort
     ensures value { result ≡ sort_at inside (shape_in (shapes_of types.now) written.now) }
 {
     match written {
-        Written::Int => Sort::Number,
-        Written::Time => Sort::Number,
-        Written::Bool => Sort::Other,
-        Written::Str => Sort::Other,
-        Written::Bytes => Sort::Other,
+        Written::Basic(basic) => basic_sort(*basic),
         Written::Proto(_) => Sort::Other,
-        Written::Map(_, _) => Sort::Neither,
-        Written::Tuple(_) => Sort::Neither,
+        Written::Map(_, _) | Written::Tuple(_) => Sort::Neither,
         Written::Array(element) => {
             if inside {
                 Sort::Neither

@@ -4,6 +4,7 @@ ghost use Rattle.sz_judge.specs.Refusals.{has_name};
 ghost use Rattle.sz_known.specs.Parts.{has_number};
 ghost use Rattle.sz_known.specs.Keeping.{is_new};
 
+use crate::waiting::beside;
 use indexmap::IndexSet;
 use std::alloc::{AllocError, Global};
 use std::marker::Model;
@@ -42,14 +43,23 @@ pub fn is_new(declared: Result<(), ScopeError>) -> Result<bool, AllocError>
     }
 }
 
+// One block, which declares nothing.
+pub fn one_block(alloc: Global) -> Result<Scopes, AllocError>
+    ensures value { IfOk result (λ made. made ≡ [] ∷ []) }
+{
+    let mut scopes = Scopes::new(alloc)?;
+    let (_, scopes) = beside(scopes.push(), scopes)?;
+    Ok(scopes)
+}
+
 impl TakenNames {
     // No name is taken.
     pub fn new(alloc: Global) -> Result<TakenNames, AllocError>
         ensures value { IfOk result (λ made. made ≡ []) }
     {
-        let mut held = Scopes::new(alloc)?;
-        held.push()?;
-        Ok(TakenNames { held })
+        Ok(TakenNames {
+            held: one_block(alloc)?,
+        })
     }
 
     // Takes a name, and says whether it was free.

@@ -5,7 +5,7 @@ ghost use Rattle.sz_types.specs.Data.{Shape, fields_of};
 ghost use Rattle.sz_types.specs.Seen.{seen};
 ghost use Rattle.sz_tree.specs.Types.{tuple, proto, params_of, fields_of as trees_of};
 ghost use Rattle.sz_tree.specs.View.{type_of, param_of, field_of};
-ghost use Rattle.sz_judge.specs.JudgingTypes.{shape_of, type_named, field_number, encoding_of, coding_of, judge_type, judge_parts, judge_fields};
+ghost use Rattle.sz_judge.specs.JudgingTypes.{type_named, field_number, encoding_of, coding_of, judge_type, judge_parts, judge_fields};
 ghost use Rattle.sz_known.specs.Holding.{means_of, blocks_of, IsOfTypes};
 ghost use Rattle.sz_known.specs.Parts.{free_name, free_coding, coding_seen, judge_part, judge_field};
 ghost use Rattle.sz_known.specs.Written.{shape_in, field_in};
@@ -16,36 +16,11 @@ use crate::known::Known;
 use crate::meaning::Means;
 use crate::site::Site;
 use crate::taken::{TakenNames, TakenNumbers};
+use crate::waiting::beside;
 use crate::written::{NamedTypes, Written, WrittenField};
 use std::alloc::Global;
-use sz_tree::{BasicType, Name, Param, ProtoField, TypeTree};
+use sz_tree::{Name, Param, ProtoField, TypeTree};
 use sz_types::{Encoding, Place, Text, Ty};
-
-/// The type that a word stands for.
-pub fn basic_type(basic: BasicType) -> Ty
-    ensures value { seen result ≡ shape_of basic }
-{
-    match basic {
-        BasicType::Bool => Ty::Bool,
-        BasicType::Int => Ty::Int,
-        BasicType::String => Ty::Str,
-        BasicType::Bytes => Ty::Bytes,
-        BasicType::Time => Ty::Time,
-    }
-}
-
-// The same as it is written.
-fn basic_written(basic: BasicType) -> Written
-    ensures value { (types : List Shape) → shape_in types result ≡ shape_of basic }
-{
-    match basic {
-        BasicType::Bool => Written::Bool,
-        BasicType::Int => Written::Int,
-        BasicType::String => Written::Str,
-        BasicType::Bytes => Written::Bytes,
-        BasicType::Time => Written::Time,
-    }
-}
 
 // The type that a name stands for, which is one of these types.
 fn type_named(
@@ -157,19 +132,16 @@ pub fn judge_written(alloc: Global, known: &Known, tree: &TypeTree) -> Result<Wr
     ensures value { Judges (shape_in known.now.outside.types) result (judge_type (blocks_of known.now) (type_of tree.now)) }
 {
     match tree {
-        TypeTree::Basic(_, basic) => Ok(basic_written(*basic)),
+        TypeTree::Basic(_, basic) => Ok(Written::Basic(*basic)),
         TypeTree::Named(name) => {
             let means = known.look_up(alloc, Site::Statement, name)?;
             type_named(alloc, known.types(), name, means)
         }
-        TypeTree::Array(_, element) => {
-            let element = judge_written(alloc, known, element)?;
-            Ok(Written::Array(Box::new(alloc, element)?))
-        }
+        TypeTree::Array(_, element) => Ok(Written::Array(judge_boxed(alloc, known, element)?)),
         TypeTree::Map(_, _, key, value) => {
-            let key = judge_written(alloc, known, key)?;
-            let value = judge_written(alloc, known, value)?;
-            Ok(Written::Map(Box::new(alloc, key)?, Box::new(alloc, value)?))
+            let key = judge_boxed(alloc, known, key)?;
+            let value = judge_boxed(alloc, known, value)?;
+            Ok(Written::Map(key, value))
         }
         TypeTree::Tuple(place, parts) => judge_tuple(alloc, known, *place, parts.as_slice()),
         TypeTree::Proto(place, fields) => judge_proto(alloc, known, *place, fields.as_slice()),
@@ -181,7 +153,18 @@ pub fn judge_type(alloc: Global, known: &Known, tree: &TypeTree) -> Result<Ty, C
     ensures value { Judges seen result (judge_type (blocks_of known.now) (type_of tree.now)) }
 {
     let written = judge_written(alloc, known, tree)?;
-    Ok(known.types().write_out(alloc, &written)?)
+    let ty = known.types().write_out(alloc, &written);
+    drop(written);
+    Ok(ty?)
+}
+
+// The type on the heap, as a part of another.
+#[cycle(types)]
+fn judge_boxed(alloc: Global, known: &Known, tree: &TypeTree) -> Result<Box<Written>, CheckError>
+    ensures value { Judges (λ made. shape_in known.now.outside.types made.value) result
+        (judge_type (blocks_of known.now) (type_of tree.now)) }
+{
+    Ok(Box::new(alloc, judge_written(alloc, known, tree)?)?)
 }
 
 // A tuple type.
@@ -196,7 +179,10 @@ fn judge_tuple(
     ensures value { Judges (shape_in known.now.outside.types) result
         (judge_type (blocks_of known.now) (tuple place (params_of (each param_of trees.now)))) }
 {
-    Ok(Written::Tuple(judge_parts(alloc, known, trees)?))
+    let mut taken = TakenNames::new(alloc)?;
+    let parts = judge_parts(alloc, known, trees, &mut taken);
+    drop(taken);
+    Ok(Written::Tuple(parts?))
 }
 
 // A proto type.
@@ -211,7 +197,12 @@ fn judge_proto(
     ensures value { Judges (shape_in known.now.outside.types) result
         (judge_type (blocks_of known.now) (proto place (trees_of (each field_of trees.now)))) }
 {
-    Ok(Written::Proto(judge_fields(alloc, known, trees)?))
+    let mut taken = TakenNames::new(alloc)?;
+    let mut used = TakenNumbers::new(alloc);
+    let fields = judge_fields(alloc, known, trees, &mut taken, &mut used);
+    drop(taken);
+    drop(used);
+    Ok(Written::Proto(fields?))
 }
 
 // The next part of a tuple, whose name must be free.
@@ -227,7 +218,7 @@ fn judge_part(
     ensures taken { IfOk result (λ made. taken.new ≡ made.name ∷ taken.old) }
 {
     let ty = judge_written(alloc, known, &tree.of)?;
-    let name = take_name(alloc, &tree.name, taken)?;
+    let (name, ty) = beside(take_name(alloc, &tree.name, taken), ty)?;
     Ok(WrittenField {
         name,
         ty,
@@ -242,15 +233,14 @@ fn judge_parts(
     alloc: Global,
     known: &Known,
     trees: &[Param],
+    taken: &mut TakenNames,
 ) -> Result<Vec<WrittenField>, CheckError>
     ensures value { Judges (λ made. fields_of (each (field_in known.now.outside.types) made.items)) result
-        (judge_parts (blocks_of known.now) [] (params_of (each param_of trees.now))) }
+        (judge_parts (blocks_of known.now) taken.old (params_of (each param_of trees.now))) }
 {
-    let mut taken = TakenNames::new(alloc)?;
     let mut parts = Vec::new(alloc);
     for tree in trees {
-        let part = judge_part(alloc, known, tree, &mut taken)?;
-        parts.push(part)?;
+        parts.push(judge_part(alloc, known, tree, taken)?)?;
     }
     Ok(parts)
 }
@@ -270,9 +260,10 @@ fn judge_field(
     ensures used { IfOk result (λ made. used.new ≡ made.number ∷ used.old) }
 {
     let ty = judge_written(alloc, known, &tree.of)?;
-    let (number, code) = judge_coding(alloc, known.types(), tree, &ty, used)?;
-    let name = take_name(alloc, &tree.name, taken)?;
-    used.add(number)?;
+    let coding = judge_coding(alloc, known.types(), tree, &ty, used);
+    let ((number, code), ty) = beside(coding, ty)?;
+    let (name, ty) = beside(take_name(alloc, &tree.name, taken), ty)?;
+    let (_, (name, ty)) = beside(used.add(number), (name, ty))?;
     Ok(WrittenField {
         name,
         ty,
@@ -287,16 +278,15 @@ fn judge_fields(
     alloc: Global,
     known: &Known,
     trees: &[ProtoField],
+    taken: &mut TakenNames,
+    used: &mut TakenNumbers,
 ) -> Result<Vec<WrittenField>, CheckError>
     ensures value { Judges (λ made. fields_of (each (field_in known.now.outside.types) made.items)) result
-        (judge_fields (blocks_of known.now) [] [] (trees_of (each field_of trees.now))) }
+        (judge_fields (blocks_of known.now) taken.old used.old (trees_of (each field_of trees.now))) }
 {
-    let mut taken = TakenNames::new(alloc)?;
-    let mut used = TakenNumbers::new(alloc);
     let mut fields = Vec::new(alloc);
     for tree in trees {
-        let field = judge_field(alloc, known, tree, &mut taken, &mut used)?;
-        fields.push(field)?;
+        fields.push(judge_field(alloc, known, tree, taken, used)?)?;
     }
     Ok(fields)
 }

@@ -3,23 +3,35 @@
 //! A type that is built from named types is so as long as its own text, however high it is with all names written out.
 ghost use Rattle.std.specs.Prelude.{◌≡◌, ◌++◌, ◌∷◌, [], length, map, false, IfOk, OnErr};
 ghost use Rattle.sz_types.specs.Seen.{seen, seen_fields};
+ghost use Rattle.sz_judge.specs.JudgingTypes.{shape_of};
 ghost use Rattle.sz_known.specs.Sorts.{sort_at};
 ghost use Rattle.sz_known.specs.Written.{shape_in, field_in, type_at, shapes_of};
 
 use crate::number::small;
 use crate::sort::{Sort, sort_of};
+use crate::waiting::beside;
 use std::alloc::{AllocError, Global};
 use std::marker::Model;
+use sz_tree::BasicType;
 use sz_types::{Encoding, Field, Fields, Text, Ty};
+
+/// The type that a word stands for.
+pub fn basic_type(basic: BasicType) -> Ty
+    ensures value { seen result ≡ shape_of basic }
+{
+    match basic {
+        BasicType::Bool => Ty::Bool,
+        BasicType::Int => Ty::Int,
+        BasicType::String => Ty::Str,
+        BasicType::Bytes => Ty::Bytes,
+        BasicType::Time => Ty::Time,
+    }
+}
 
 /// A type as it is written.
 #[cycle(written)]
 pub enum Written {
-    Bool,
-    Int,
-    Time,
-    Str,
-    Bytes,
+    Basic(BasicType),
     Array(Box<Written>),
     Map(Box<Written>, Box<Written>),
     Tuple(Vec<WrittenField>),
@@ -121,7 +133,7 @@ impl NamedTypes {
         ensures ok { IfOk result (λ _. self.new ≡ self.old ++ shape_in self.old written ∷ []) }
         ensures err { OnErr result (self.new ≡ self.old) }
     {
-        let number = small(self.held.len())?;
+        let (number, written) = beside(small(self.held.len()), written)?;
         self.held.push(written)?;
         Ok(number)
     }
@@ -156,18 +168,11 @@ fn write_out(alloc: Global, written: &Written, types: &[Written]) -> Result<Ty, 
     ensures value { IfOk result (λ ty. seen ty ≡ shape_in (shapes_of types.now) written.now) }
 {
     match written {
-        Written::Bool => Ok(Ty::Bool),
-        Written::Int => Ok(Ty::Int),
-        Written::Time => Ok(Ty::Time),
-        Written::Str => Ok(Ty::Str),
-        Written::Bytes => Ok(Ty::Bytes),
-        Written::Array(element) => {
-            let element = write_out(alloc, element, types)?;
-            Ok(Ty::Array(Box::new(alloc, element)?))
-        }
+        Written::Basic(basic) => Ok(basic_type(*basic)),
+        Written::Array(element) => Ok(Ty::Array(write_out_part(alloc, element, types)?)),
         Written::Map(key, value) => {
-            let key = Box::new(alloc, write_out(alloc, key, types)?)?;
-            let value = Box::new(alloc, write_out(alloc, value, types)?)?;
+            let key = write_out_part(alloc, key, types)?;
+            let value = write_out_part(alloc, value, types)?;
             Ok(Ty::Map(key, value))
         }
         Written::Tuple(fields) => Ok(Ty::Tuple(write_out_fields(alloc, fields.as_slice(), types)?)),
@@ -183,6 +188,18 @@ fn write_out(alloc: Global, written: &Written, types: &[Written]) -> Result<Ty, 
     }
 }
 
+// The same on the heap, as a part of another type.
+#[cycle(write_out)]
+fn write_out_part(
+    alloc: Global,
+    written: &Written,
+    types: &[Written],
+) -> Result<Box<Ty>, AllocError>
+    ensures value { IfOk result (λ made. seen made.value ≡ shape_in (shapes_of types.now) written.now) }
+{
+    Ok(Box::new(alloc, write_out(alloc, written, types)?)?)
+}
+
 // The fields, with all names in their types written out.
 #[cycle(write_out)]
 fn write_out_fields(
@@ -195,7 +212,7 @@ fn write_out_fields(
     let mut held = Vec::with_capacity(alloc, fields.len())?;
     for field in fields {
         let name = Text::from_str(alloc, field.name.as_str())?;
-        let ty = write_out(alloc, &field.ty, types)?;
+        let (ty, name) = beside(write_out(alloc, &field.ty, types), name)?;
         held.push(Field {
             name,
             ty,

@@ -9,8 +9,8 @@ use Rattle.sz_known.proofs.WrittenLemmas.{shape_in_tuple, shape_in_proto, named_
 use Rattle.sz_known.proofs.written.+write_out.Goals as goal
 
 -- a name goes on among the types before it
-pub write_out-write_out-requires-in-Some : goal.write_out-write_out-requires-in-Some
-write_out-write_out-requires-in-Some t c =
+pub write_out-write_out-requires : goal.write_out-write_out-requires
+write_out-write_out-requires t c =
     let types = c.args.types.now in
     let read = slice_get_read types (length types) c.in-Named.number c.in-Some.named.now refl c.in-Some.ensures.lookup.3.0 c.in-Some.ensures.lookup.1 in
     let less = depths_less types c.in-Named.number c.in-Some.named.now read in
@@ -21,7 +21,7 @@ write_out-returns-in-Some t c =
     let types = c.args.types.now in
     let read = slice_get_read types (length types) c.in-Named.number c.in-Some.named.now refl c.in-Some.ensures.lookup.3.0 c.in-Some.ensures.lookup.1 in
     let same = named_is types c.in-Named.number c.in-Some.named.now read ∙ sym (ap (shape_in (shapes_of types)) c.in-Named.is) in
-    record { value = subst (λ s. IfOk c.write_out-in-Some.result (λ ty. seen ty ≡ s)) same c.write_out-in-Some.ensures.value }
+    record { value = subst (λ s. IfOk c.write_out.result (λ ty. seen ty ≡ s)) same c.write_out.ensures.value }
 
 pub write_out-returns-in-None : goal.write_out-returns-in-None
 write_out-returns-in-None t c =

@@ -1,4 +1,4 @@
-use Rattle.std.proofs.Common.{ap, sym, subst, ◌∙◌, IfSome, refl, Some, [], rules}
+use Rattle.std.proofs.Common.{ap, sym, subst, ◌∙◌, IfSome, refl, Some, rules}
 use Rattle.std.proofs.lemmas.Option.{slice_get_read}
 use Rattle.sz_scope.specs.Blocks.{found}
 use Rattle.sz_scope.specs.Sight.{seen_blocks}

@@ -1,0 +1,2 @@
+-- what the proofs of this crate rest on
+mod TableLemmas

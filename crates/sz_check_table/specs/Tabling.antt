@@ -1,0 +1,58 @@
+-- Parts of the declaration of a table.
+use Rattle.std.specs.Prelude.{◌≡◌, ℕ, List, ◌∷◌, Bool, true, false, Option, Some, Result, Ok, Err}
+use Rattle.std.specs.Option.{option_map}
+use Rattle.sz_types.specs.Data.{Shape}
+use Rattle.sz_types.specs.Seen.{seen}
+use Rattle.sz_types.specs.Tables.{Declaration}
+use Rattle.sz_types.specs.declared.table.TableKind.{TableKind}
+use Rattle.sz_tree.specs.Names.{Ident}
+use Rattle.sz_tree.specs.Statements.{TableForm}
+use Rattle.sz_judge.specs.Refusals.{Judged, ◌>>=◌}
+use Rattle.sz_judge.specs.Names.{Block}
+use Rattle.sz_judge.specs.JudgingTypes.{judge_type}
+use Rattle.sz_judge.specs.JudgingPrograms.{judge_elems, judge_weight, declaration_of}
+use Rattle.sz_known.specs.Outcome.{Stops}
+use Rattle.sz_known.specs.declared.error.CheckError.{CheckError}
+use Rattle.sz_check_table.specs.declared.table.Types.{Types as Held}
+
+-- a type in front of others
+abbrev pub with_type : Shape → List Shape → List Shape
+with_type t ts = t ∷ ts
+
+-- whether the type is that of whole numbers
+abbrev pub is_int : Shape → Bool
+is_int Shape.int = true
+is_int _ = false
+
+-- the types of the indexes, of the element and of the weights
+pub record Types : Type 0 where
+  pub indexes : List Shape
+  pub element : Shape
+  pub weight : Option Shape
+
+abbrev pub types_of : Held → Types
+types_of types = record { indexes = types.indexes; element = seen types.element; weight = option_map seen types.weight }
+
+abbrev pub judge_types : List Block → TableForm → Judged Types
+judge_types blocks f = do
+  indexes ← judge_elems blocks f.indexes
+  element ← judge_type blocks f.of.of
+  weight ← judge_weight blocks f.weight
+  Ok (record { indexes = indexes; element = element; weight = weight })
+
+-- a table by its parts
+abbrev pub made_of : Ident → TableKind → ℕ → Types → Declaration
+made_of n kind limit types = record {
+  name = n.text;
+  kind = kind;
+  limit = limit;
+  indexes = types.indexes;
+  element = types.element;
+  weight = types.weight;
+}
+
+-- a limit as it is kept, or the refusal of each declaration that would have it
+abbrev pub IsLimit : Ident → Option ℕ → Result ℕ CheckError → Type 0
+IsLimit word limit (Ok kept) = limit ≡ Some kept
+IsLimit word limit (Err e) =
+    (n : Ident) (kind : TableKind) (types : Types) → Stops e (declaration_of n word kind limit types.indexes types.element types.weight)

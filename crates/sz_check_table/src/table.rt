@@ -1,0 +1,251 @@
+//! Declarations of tables.
+ghost use Rattle.std.specs.Prelude.{◌≡◌, IfOk, map as each};
+ghost use Rattle.std.specs.Option.{option_map};
+ghost use Rattle.sz_types.specs.Data.{fields_of};
+ghost use Rattle.sz_types.specs.Seen.{seen, seen_field};
+ghost use Rattle.sz_types.specs.SeenTables.{seen_table};
+ghost use Rattle.sz_tree.specs.View.{elem_of, table_of};
+ghost use Rattle.sz_core.specs.WellFormed.{are_whole_numbers, has_sum, is_weight, has_no_weight, is_between, is_allowed};
+ghost use Rattle.sz_judge.specs.JudgingPrograms.{kind_of, has_limit, limit_of, judge_elems, judge_weight, allowed};
+ghost use Rattle.sz_judge.specs.Refusals.{no_kind};
+ghost use Rattle.sz_check_table.specs.Tables.{judge_table_declaration};
+ghost use Rattle.sz_check_table.specs.Tabling.{is_int, judge_types, types_of, made_of, IsLimit};
+ghost use Rattle.sz_known.specs.Holding.{blocks_of};
+ghost use Rattle.sz_known.specs.Outcome.{Judges, Stops};
+
+use std::alloc::{AllocError, Global};
+use sz_known::{CheckError, Kind, Known, beside, judge_type, type_kind};
+use sz_tree::{Elem, Name, Table};
+use sz_types::{Field, TableDecl, TableKind, Text, Ty, Tys};
+
+// No table is of this kind: it is unknown, or left out.
+fn no_kind(alloc: Global, name: &Name) -> CheckError
+    ensures value { Stops {Y = Unit} result (no_kind name.now) }
+{
+    let word = name.text().as_bytes();
+    let is_left_out = word == b"sample".as_slice()
+        || word == b"weightedsample".as_slice()
+        || word == b"distinctsample".as_slice()
+        || word == b"quantile".as_slice()
+        || word == b"top".as_slice()
+        || word == b"unique".as_slice()
+        || word == b"inversehistogram".as_slice()
+        || word == b"text".as_slice()
+        || word == b"recordio".as_slice()
+        || word == b"mrcounter".as_slice();
+    CheckError::of(alloc, if is_left_out { 16 } else { 6 }, name)
+}
+
+// The kind of table that a word is.
+fn kind_of(alloc: Global, name: &Name) -> Result<TableKind, CheckError>
+    ensures value { Judges (λ x. x) result (kind_of name.now) }
+{
+    let word = name.text().as_bytes();
+    if word == b"sum".as_slice() {
+        return Ok(TableKind::Sum);
+    }
+    if word == b"maximum".as_slice() {
+        return Ok(TableKind::Maximum);
+    }
+    if word == b"minimum".as_slice() {
+        return Ok(TableKind::Minimum);
+    }
+    if word == b"set".as_slice() {
+        return Ok(TableKind::Set);
+    }
+    if word == b"collection".as_slice() {
+        return Ok(TableKind::Collection);
+    }
+    Err(no_kind(alloc, name))
+}
+
+// Whether a kind of table has a limit.
+fn has_limit(kind: TableKind) -> bool
+    ensures value { result ≡ has_limit kind }
+{
+    match kind {
+        TableKind::Sum | TableKind::Collection => false,
+        TableKind::Maximum | TableKind::Minimum | TableKind::Set => true,
+    }
+}
+
+// The limit of a table by the number behind its kind: 0 where the kind has none, and none where the number is missing, is one
+// too many, or can be no limit.
+fn limit_of(kind: TableKind, argument: Option<i64>) -> Option<u64>
+    ensures value { result ≡ limit_of kind argument }
+{
+    match argument {
+        None if has_limit(kind) => None,
+        None => Some(0),
+        Some(limit) if limit >= 0 && has_limit(kind) => Some(limit as u64),
+        Some(_) => None,
+    }
+}
+
+// The types of a table's indexes, in order.
+fn judge_elems(alloc: Global, known: &Known, trees: &[Elem]) -> Result<Vec<Ty>, CheckError>
+    ensures value { Judges (λ made. each seen made.items) result (judge_elems (blocks_of known.now) (each elem_of trees.now)) }
+{
+    let mut types = Vec::new(alloc);
+    for tree in trees {
+        let ty = judge_type(alloc, known, &tree.of)?;
+        types.push(ty)?;
+    }
+    Ok(types)
+}
+
+// The type of a table's weights, where it has them.
+fn judge_weight(alloc: Global, known: &Known, tree: &Option<Elem>) -> Result<Option<Ty>, CheckError>
+    ensures value { Judges (option_map seen) result (judge_weight (blocks_of known.now) (option_map elem_of tree.now)) }
+{
+    match tree {
+        Some(tree) => Ok(Some(judge_type(alloc, known, &tree.of)?)),
+        None => Ok(None),
+    }
+}
+
+// Whether the type is that of whole numbers.
+fn is_whole_number(ty: &Ty) -> bool
+    ensures value { result ≡ is_int (seen ty.now) }
+{
+    matches!(type_kind(ty), Kind::Int)
+}
+
+// Whether each field is a whole number.
+fn are_whole_numbers(fields: &[Field]) -> bool
+    ensures value { result ≡ are_whole_numbers (fields_of (each seen_field fields.now)) }
+{
+    for field in fields {
+        if !is_whole_number(&field.ty) {
+            return false;
+        }
+    }
+    true
+}
+
+// Whether values of the type can be summed.
+fn has_sum(ty: &Ty) -> bool
+    ensures value { result ≡ has_sum (seen ty.now) }
+{
+    match type_kind(ty) {
+        Kind::Int => true,
+        Kind::Tuple(fields) | Kind::Proto(fields) => are_whole_numbers(fields),
+        _ => false,
+    }
+}
+
+// Whether the type can be that of weights, if there is one.
+fn is_weight(weight: &Option<Ty>) -> bool
+    ensures value { result ≡ is_weight (option_map seen weight.now) }
+{
+    match weight {
+        Some(ty) => matches!(type_kind(ty), Kind::Int | Kind::Time),
+        None => false,
+    }
+}
+
+// Whether the limit lies between the two, both counted in.
+fn is_between(least: u32, most: u32, limit: u32) -> bool
+    ensures value { result ≡ is_between least most limit }
+{
+    least <= limit && limit <= most
+}
+
+// Whether a table's kind, limit, element and weight go together.
+fn is_allowed(table: &TableDecl) -> bool
+    ensures value { result ≡ is_allowed (seen_table table.now) }
+{
+    let limit = table.limit;
+    match table.kind {
+        TableKind::Sum => limit == 0 && has_sum(&table.element) && table.weight.is_none(),
+        TableKind::Maximum => is_between(1, 10_000, limit) && is_weight(&table.weight),
+        TableKind::Minimum => is_between(1, 10_000, limit) && is_weight(&table.weight),
+        TableKind::Set => is_between(1, 1_000_000, limit) && table.weight.is_none(),
+        TableKind::Collection => limit == 0 && table.weight.is_none(),
+    }
+}
+
+// The types in a table's declaration.
+#[derive(Drop)]
+struct Types {
+    indexes: Tys,
+    element: Ty,
+    weight: Option<Ty>,
+}
+
+// The types of the indexes, of the element and of the weights, in this order.
+fn judge_types(alloc: Global, known: &Known, tree: &Table) -> Result<Types, CheckError>
+    ensures value { Judges types_of result (judge_types (blocks_of known.now) (table_of tree.now)) }
+{
+    let indexes = judge_elems(alloc, known, tree.indexes.as_slice())?;
+    let (element, indexes) = beside(judge_type(alloc, known, &tree.of.of), indexes)?;
+    let weight = judge_weight(alloc, known, &tree.weight);
+    let (weight, (indexes, element)) = beside(weight, (indexes, element))?;
+    Ok(Types {
+        indexes: Tys::from_vec(indexes),
+        element,
+        weight,
+    })
+}
+
+// The limit as a declaration keeps it, or the refusal where it is wrong, or too large for each kind.
+fn kept_limit(word: &Name, limit: Option<u64>) -> Result<u32, CheckError>
+    ensures value { IsLimit word.now limit result }
+{
+    match limit {
+        Some(limit) => match u32::try_from(limit) {
+            Ok(limit) => Ok(limit),
+            Err(_) => Err(CheckError::at(17, word.place())),
+        },
+        None => Err(CheckError::at(17, word.place())),
+    }
+}
+
+// A table of this kind, with this limit and these types.
+fn made_table(
+    alloc: Global,
+    name: &Name,
+    kind: TableKind,
+    limit: u32,
+    types: Types,
+) -> Result<TableDecl, AllocError>
+    ensures value { IfOk result (λ made. seen_table made ≡ made_of name.now kind limit (types_of types)) }
+{
+    let name = Text::from_str(alloc, name.text().as_str());
+    let (name, types) = beside(name, types)?;
+    Ok(TableDecl {
+        name,
+        kind,
+        limit,
+        indexes: types.indexes,
+        element: types.element,
+        weight: types.weight,
+    })
+}
+
+// The table, if its kind allows it.
+fn allowed(word: &Name, table: TableDecl) -> Result<TableDecl, CheckError>
+    ensures value { Judges seen_table result (allowed word.now (seen_table table)) }
+{
+    if is_allowed(&table) {
+        Ok(table)
+    } else {
+        Err(CheckError::at(17, word.place()))
+    }
+}
+
+/// The declaration of a table, or its first refusal: that of its kind, of its types, or 17 where these don't go together.
+pub fn judge_table_declaration(
+    alloc: Global,
+    known: &Known,
+    name: &Name,
+    tree: &Table,
+) -> Result<TableDecl, CheckError>
+    ensures value { Judges seen_table result (judge_table_declaration (blocks_of known.now) name.now (table_of tree.now)) }
+{
+    let kind = kind_of(alloc, &tree.kind)?;
+    let types = judge_types(alloc, known, tree)?;
+    let limit = kept_limit(&tree.kind, limit_of(kind, tree.argument));
+    let (limit, types) = beside(limit, types)?;
+    allowed(&tree.kind, made_table(alloc, name, kind, limit, types)?)
+}
