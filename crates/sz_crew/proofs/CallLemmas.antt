@@ -1,12 +1,14 @@
 -- What a call of a pass keeps, and what a claim and a number are good for.
 use Rattle.std.proofs.Common.{◌≡◌, ℕ, ◌<◌, List, [], ◌∷◌, ◌++◌, refl, ap, sym, ◌∙◌, subst, inl, inr}
+use Rattle.std.specs.Prelude.{slice_index}
 use Rattle.std.proofs.lemmas.List.{append_assoc, length-replicate}
-use Rattle.sz_book.specs.Plan.{PlanData, IsPlan}
+use Rattle.sz_book.specs.Plan.{PlanData, IsPlan, count_of}
 use Rattle.sz_book.specs.declared.plan.Claim.{Claim}
 use Rattle.sz_book.specs.declared.event.Event.{Event}
 use Rattle.sz_book.specs.declared.event.Reply.{Reply}
 use Rattle.sz_book.specs.declared.event.Entry.{Entry}
 use Rattle.sz_book.specs.Machine.{LedgerState, opening, after, IsDrawn}
+use Rattle.sz_book.specs.Books.{IsClaim}
 use Rattle.sz_book.specs.History.{entry, state_after, IsLegal, IsLegalFrom, calls_by, StartsWith, HasDrawn, HasNumber}
 use Rattle.sz_book.proofs.HistoryLemmas.{starts_self, starts_more}
 use Rattle.sz_book.proofs.StepLemmas.{shard_within}
@@ -71,6 +73,14 @@ pub claim_drawn : (v : PassData) (c : Claim) → IsInPlace v → HasDrawn c v.mi
 claim_drawn v c place drew =
     has_drawn v.ledger.plan (opening v.ledger.plan v.ledger.lanes) v.seen c place.legal.from
     (own_drawn v.number v.seen c (subst (HasDrawn c) (sym place.own) drew))
+
+-- it is a claim of the plan
+pub is_claim : (p : PlanData) (v : PassData) (c : Claim) → v.ledger.plan ≡ p → IsInPlace v → HasDrawn c v.mine → IsClaim p c
+is_claim p v c of place drew =
+    let drawn = claim_drawn v c place drew in record {
+      ticket = subst (λ (q : PlanData). c.ticket < count_of q) of drawn.ticket;
+      shard = subst (λ (q : PlanData). slice_index q.tickets c.ticket ≡ c.shard) of drawn.shard;
+    }
 
 -- and it is of a shard of the plan
 pub claims_shard : (v : PassData) (c : Claim) → IsInPlace v → HasDrawn c v.mine → c.shard < v.ledger.plan.shards

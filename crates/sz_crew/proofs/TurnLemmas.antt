@@ -1,6 +1,6 @@
 -- What the calls on one ticket do, one behind the other, and what a worker has done between two tickets.
 use Rattle.std.proofs.Common.{◌≡◌, ◌⊎◌, ℕ, zero, suc, ◌<◌, ◌==◌, Bool, true, false, List, [], ◌∷◌, ◌++◌, length, replicate, refl, ap, sym, ◌∙◌, subst, inl, inr, ⊎_elim, Some, None, append-nil, length-set}
-use Rattle.std.specs.Prelude.{slice_index, slice_set}
+use Rattle.std.specs.Prelude.{slice_set}
 use Rattle.std.proofs.lemmas.Bool.{eqb-true, eqb-false}
 use Rattle.std.proofs.lemmas.List.{append_assoc, get_or-set_same, get_or-set_other, set-get_or, set-set, length-replicate}
 use Rattle.sz_book.specs.Plan.{PlanData, count_of}
@@ -18,7 +18,7 @@ use Rattle.sz_crew.specs.Makers.{IsTruePart}
 use Rattle.sz_crew.specs.Working.{IsInPlace}
 use Rattle.sz_crew.specs.Turns.{IsTrueTurn, AreTrueTurns, AddsCalls, HasWorked, HasStopped}
 use Rattle.sz_crew.specs.Tickets.{Leads, Stops, IsBetween}
-use Rattle.sz_crew.proofs.CallLemmas.{goes_self, goes_then, goes_call, in_place_call, claim_drawn, drawn_since}
+use Rattle.sz_crew.proofs.CallLemmas.{goes_self, goes_then, goes_call, in_place_call, is_claim, drawn_since}
 use Rattle.sz_crew.proofs.LeftLemmas.{not_drawn, drawn_low}
 
 turns_then : (p : PlanData) (old mid new : List Phase) (es ds : List Entry) → TurnsAll p old es mid → TurnsAll p mid ds new → TurnsAll p old (es ++ ds) new
@@ -101,15 +101,9 @@ module _ (died : ℕ → ℕ → Type 0) (faults : ℕ → Type 0) (p : PlanData
   pub leads_bad : (v w : PassData) (c : Claim) (k : ℕ) → Calls v (Bad c.shard) Noted w → IsInPlace v → v.ledger.plan ≡ p → HasDrawn c v.mine
       → faults c.shard → Leads died faults p v w c.ticket (tries k) ended
   leads_bad v w c k h place of drew truth =
-      let drawn = claim_drawn v c place drew in
+      let claim = is_claim p v c of place drew in
       leads_call v w (Bad c.shard) Noted c.ticket (tries k) ended h place truth
-      (λ old is. record {
-        ticket = c.ticket;
-        number = k;
-        within = subst (λ (q : PlanData). c.ticket < count_of q) of drawn.ticket;
-        shard = subst (λ (q : PlanData). slice_index q.tickets c.ticket ≡ c.shard) of drawn.shard;
-        goes = (is, refl);
-      })
+      (λ old is. record { ticket = c.ticket; number = k; within = claim.ticket; shard = claim.shard; goes = (is, refl) })
 
   module _ (u v w : PassData) (c : Claim) (so_far : Leads died faults p u v c.ticket asks asks) where
     -- the ticket was given a number, and the attempt ended

@@ -1,6 +1,6 @@
 -- The shards that a worker won.
 use Rattle.std.proofs.Common.{◌≡◌, ◌≢◌, ◌⊎◌, ℕ, ◌+◌, ◌-◌, ◌==◌, Bool, cond, List, [], ◌∷◌, ◌++◌, refl, ap, sym, ◌∙◌, subst, inl, inr, ⊎_elim}
-use Rattle.std.proofs.Common.{arith, ne_eqb}
+use Rattle.std.proofs.Common.{arith, ne_eqb, append-nil, append_assoc}
 use Rattle.std.specs.Prelude.{slice_index}
 use Rattle.std.proofs.lemmas.List.{append_cancel_right}
 use mathlib.Core.Logic.{dite}
@@ -21,7 +21,7 @@ use Rattle.sz_book.proofs.CountLemmas.{each_shard_counts_once}
 use Rattle.sz_claims.specs.Known.{PassData, Calls, AreInHand}
 use Rattle.sz_claims.proofs.ForCallers.{in_hand_now, in_hand_still}
 use Rattle.sz_claims.proofs.UnplacedLemmas.{are_unplaced}
-use Rattle.sz_crew.specs.Working.{IsInPlace, AreWon, IsAtWork}
+use Rattle.sz_crew.specs.Working.{IsInPlace, AreWon, Grows, IsAtWork}
 use Rattle.sz_crew.proofs.CallLemmas.{in_place_call, legal_parts}
 
 won_before : (s : ℕ) (es : List Entry) (e : Entry) → HasWon s (es ++ e ∷ []) → HasWon s es ⊎ (Settles s e.event × (e.reply ≡ Won))
@@ -133,6 +133,28 @@ won_now v w c k shards h place won =
 -- an answer that comes late wins nothing
 pub late_not_won : (n : ℕ) → ¬ (Late n ≡ Won)
 late_not_won n e = absurd (cc)
+
+-- a pocket into which nothing was put
+pub grows_not : (old new : LaneData) → new ≡ old → Grows old new
+grows_not old new same = record {
+  plan = ap (λ (l : LaneData). l.plan) same;
+  further = [];
+  behind = ap (λ (l : LaneData). l.shards) same ∙ sym (append-nil old.shards);
+}
+
+pub grows_self : (old : LaneData) → Grows old old
+grows_self old = grows_not old old refl
+
+-- one shard more
+pub grows_by : (old new : LaneData) (s : ℕ) → new ≡ record { plan = old.plan; shards = old.shards ++ s ∷ [] } → Grows old new
+grows_by old new s is = record { plan = ap (λ (l : LaneData). l.plan) is; further = s ∷ []; behind = ap (λ (l : LaneData). l.shards) is }
+
+pub grows_then : (old mid new : LaneData) → Grows old mid → Grows mid new → Grows old new
+grows_then old mid new g h = record {
+  plan = h.plan ∙ g.plan;
+  further = g.further ++ h.further;
+  behind = h.behind ∙ ap (λ (ss : List ℕ). ss ++ h.further) g.behind ∙ append_assoc old.shards g.further h.further;
+}
 
 pub at_work_call : (p : PlanData) (v w : PassData) (pocket : LaneData) (e : Event) (r : Reply) → Calls v e r w
     → ((s : ℕ) → Settles s e → ¬ (r ≡ Won)) → IsAtWork p v pocket → IsAtWork p w pocket

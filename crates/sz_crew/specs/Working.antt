@@ -1,5 +1,5 @@
 -- What a worker knows of its pass and of its pocket.
-use Rattle.std.specs.Prelude.{◌≡◌, ◌⊎◌, ℕ, List}
+use Rattle.std.specs.Prelude.{◌≡◌, ◌⊎◌, ℕ, List, ◌++◌}
 use Rattle.sz_book.specs.Plan.{PlanData, IsPlan}
 use Rattle.sz_book.specs.Lanes.{LaneData}
 use Rattle.sz_book.specs.History.{IsLegal, calls_by, StartsWith, HasWon, HasGiven, IsAmong}
@@ -27,6 +27,12 @@ pub record IsInPlace (v : PassData) : Type 0 where
 pub record AreWon (v : PassData) (shards : List ℕ) : Type 0 where
   pub hand : AreInHand shards v.mine
   pub all : (s : ℕ) → HasWon s v.mine → IsAmong s shards ⊎ HasGiven s v.mine
+
+-- the pocket has the shards that it had, in front of further ones
+pub record Grows (old new : LaneData) : Type 0 where
+  pub plan : new.plan ≡ old.plan
+  pub further : List ℕ
+  pub behind : new.shards ≡ old.shards ++ further
 
 -- a worker's pass is of a ledger of this plan, and its pocket stands for the shards that it won
 pub record IsAtWork (p : PlanData) (v : PassData) (pocket : LaneData) : Type 0 where

@@ -1,6 +1,7 @@
 //! Who makes attempts.
 ghost use Rattle.std.specs.Prelude.{◌≡◌, ◌<◌, [], ◌∷◌, IfOk, OnOk, IfErr};
 ghost use Rattle.sz_book.specs.Plan.{PlanData};
+ghost use Rattle.sz_book.specs.Books.{IsClaim};
 ghost use Rattle.sz_crew.specs.Makers.{IsTrueMiss, IsTruePart};
 
 use sz_book::{Claim, Load};
@@ -23,6 +24,7 @@ pub trait Maker<T: Load> {
 
     /// Makes attempt `number` on the claim's shard, counted from 0.
     fn attempt(&mut self, claim: &Claim, number: u32) -> Result<T, Missed>
+        requires claim { IsClaim (plan self.old) claim.now }
         requires within { claim.now.shard < (plan self.old).shards }
         requires number { number < (plan self.old).attempts }
         ensures part { IfOk result (λ part. (T.plan part ≡ plan self.old) × T.stands part (claim.now.shard ∷ [])) }

@@ -2,8 +2,9 @@
 ghost use Rattle.std.specs.Prelude.{◌≡◌, ◌<◌, [], ◌∷◌, IfOk, OnOk, OnErr};
 ghost use Rattle.sz_book.specs.History.{HasDrawn, HasNumber};
 ghost use Rattle.sz_book.specs.Orderly.{asks, tries, ended};
+ghost use Rattle.sz_claims.specs.Known.{AreInHand};
 ghost use Rattle.sz_crew.specs.Makers.{IsTruePart};
-ghost use Rattle.sz_crew.specs.Working.{Goes, IsInPlace, IsAtWork};
+ghost use Rattle.sz_crew.specs.Working.{Goes, IsInPlace, IsAtWork, Grows};
 ghost use Rattle.sz_crew.specs.Turns.{HasWorked, HasStopped};
 ghost use Rattle.sz_crew.specs.Tickets.{Leads, Stops, phase_behind};
 
@@ -28,6 +29,8 @@ pub fn work<T: Load, M: Maker<T>>(
     ensures worked { OnOk result (HasWorked T.died T.faults plan.now pass.old pass.new) }
     ensures stopped { OnErr result (HasStopped T.died T.faults plan.now pass.old pass.new) }
     ensures won { OnOk result (IsAtWork plan.now pass.new pocket.new) }
+    ensures hand { AreInHand pocket.new.shards pass.new.mine }
+    ensures grows { Grows pocket.old pocket.new }
 {
     while let Some(claim) = ledger.draw(pass) {
         try_shard(maker, plan, ledger, pass, pocket, &claim)?;
@@ -51,6 +54,8 @@ fn try_shard<T: Load, M: Maker<T>>(
     ensures ok { OnOk result (Leads T.died T.faults plan.now pass.old pass.new claim.now.ticket asks ended) }
     ensures err { OnErr result (Stops T.died T.faults plan.now pass.old pass.new claim.now.ticket asks) }
     ensures won { OnOk result (IsAtWork plan.now pass.new pocket.new) }
+    ensures hand { AreInHand pocket.new.shards pass.new.mine }
+    ensures grows { Grows pocket.old pocket.new }
 {
     while let Some(number) = ledger.number(pass, claim) {
         if try_once(maker, plan, ledger, pass, pocket, claim, number)? {
@@ -78,6 +83,8 @@ fn try_once<T: Load, M: Maker<T>>(
     ensures ok { IfOk result (λ done. Leads T.died T.faults plan.now pass.old pass.new claim.now.ticket (tries number) (phase_behind done)) }
     ensures err { OnErr result (Stops T.died T.faults plan.now pass.old pass.new claim.now.ticket (tries number)) }
     ensures won { OnOk result (IsAtWork plan.now pass.new pocket.new) }
+    ensures hand { AreInHand pocket.new.shards pass.new.mine }
+    ensures grows { Grows pocket.old pocket.new }
 {
     match maker.attempt(claim, number) {
         Ok(part) => {
@@ -114,6 +121,8 @@ fn settle<T: Load>(
     requires gave { IsTruePart T.died T.faults claim.now.shard number }
     ensures led { Leads T.died T.faults plan.now pass.old pass.new claim.now.ticket (tries number) ended }
     ensures won { OnOk result (IsAtWork plan.now pass.new pocket.new) }
+    ensures hand { AreInHand pocket.new.shards pass.new.mine }
+    ensures grows { Grows pocket.old pocket.new }
 {
     match ledger.settle(pass, claim, number) {
         Settled::Won(receipt) => match pocket.put(receipt, part) {

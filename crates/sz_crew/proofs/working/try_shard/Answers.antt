@@ -3,12 +3,12 @@ use Rattle.std.proofs.lemmas.Result.{err_from_is_err_and}
 use Rattle.sz_book.specs.declared.event.Event.TheVariants.{Number}
 use Rattle.sz_book.specs.declared.event.Reply.TheVariants.{Number as Numbered}
 use Rattle.sz_book.specs.Orderly.{asks, tries, ended}
-use Rattle.sz_claims.proofs.ForCallers.{has_drawn_still, has_number_now}
+use Rattle.sz_claims.proofs.ForCallers.{has_drawn_still, has_number_now, in_hand_still}
 use Rattle.sz_crew.specs.Tickets.{Leads, phase_behind}
 use Rattle.sz_crew.proofs.CallLemmas.{drawn_since}
 use Rattle.sz_crew.proofs.LeftLemmas.{fewer_numbers}
 use Rattle.sz_crew.proofs.TurnLemmas.{leads_try, stops_try, leads_dry}
-use Rattle.sz_crew.proofs.WonLemmas.{at_work_call}
+use Rattle.sz_crew.proofs.WonLemmas.{at_work_call, grows_then}
 use Rattle.sz_crew.proofs.working.try_shard.Goals as goal
 
 -- a number was given
@@ -33,6 +33,10 @@ returns-in_err-try_once-clause-err g c =
     rw p.1 (stops_try g.T.Load.died g.T.Load.faults c.args.plan.now c.args.pass.now c.loop-number.pass c.number.new.pass c.args.claim.now
     c.loop-number.invariant.0 c.try_once.new.pass c.in-Some.number c.in-Some.ensures.call c.in_err-try_once.ensures.err)
 
+pub returns-in_err-try_once-clause-grows : goal.returns-in_err-try_once-clause-grows
+returns-in_err-try_once-clause-grows g c =
+    grows_then c.args.pocket.now c.loop-number.pocket c.try_once.new.pocket c.loop-number.invariant.4 c.try_once.ensures.grows
+
 -- the ticket has ended
 pub returns-then-branch-clause-ok : goal.returns-then-branch-clause-ok
 returns-then-branch-clause-ok g c =
@@ -40,6 +44,10 @@ returns-then-branch-clause-ok g c =
     c.loop-number.invariant.0 c.try_once.new.pass c.in-Some.number ended c.in-Some.ensures.call
     (subst (λ (b : Bool). Leads g.T.Load.died g.T.Load.faults c.args.plan.now c.number.new.pass c.try_once.new.pass c.args.claim.now.ticket
     (tries c.in-Some.number) (phase_behind b)) c.if-branch.true c.in_ok-try_once.ensures.ok)
+
+pub returns-then-branch-clause-grows : goal.returns-then-branch-clause-grows
+returns-then-branch-clause-grows g c =
+    grows_then c.args.pocket.now c.loop-number.pocket c.try_once.new.pocket c.loop-number.invariant.4 c.try_once.ensures.grows
 
 -- the attempt died
 pub loop-number-smaller : goal.loop-number-smaller
@@ -58,6 +66,7 @@ loop-number-preserved g c =
       c.in_ok-try_once.ensures.won,
       drawn_since c.number.new.pass c.try_once.new.pass c.args.claim.now c.in_ok-try_once.ensures.ok.goes drew,
       c.try_once.ensures.plan ∙ c.loop-number.invariant.3,
+      grows_then c.args.pocket.now c.loop-number.pocket c.try_once.new.pocket c.loop-number.invariant.4 c.try_once.ensures.grows,
     )
 
 -- no number was left
@@ -70,3 +79,8 @@ pub returns-clause-won : goal.returns-clause-won
 returns-clause-won g c =
     at_work_call c.args.plan.now c.loop-number.pass c.number.new.pass c.loop-number.pocket (Number c.args.claim.now) (Numbered None)
     c.in_default.ensures.call (λ s is e. is) c.loop-number.invariant.1
+
+pub returns-clause-hand : goal.returns-clause-hand
+returns-clause-hand g c =
+    in_hand_still c.loop-number.pass c.number.new.pass c.loop-number.pocket.shards (Number c.args.claim.now) (Numbered None) c.loop-number.pass.lane
+    c.loop-number.pass.lent c.in_default.ensures.call c.loop-number.invariant.1.won.hand
