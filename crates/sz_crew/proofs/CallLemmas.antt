@@ -29,7 +29,6 @@ goes_self v = record {
   lane = refl;
   lent = refl;
   seen = starts_self v.seen;
-  mine = starts_self v.mine;
 }
 
 pub goes_then : (u v w : PassData) → Goes u v → Goes v w → Goes u w
@@ -42,7 +41,6 @@ goes_then u v w g h = record {
   lane = h.lane ∙ g.lane;
   lent = h.lent ∙ g.lent;
   seen = starts_then w.seen v.seen u.seen h.seen g.seen;
-  mine = starts_then w.mine v.mine u.mine h.mine g.mine;
 }
 
 pub goes_call : (v w : PassData) (e : Event) (r : Reply) → Calls v e r w → Goes v w
@@ -56,7 +54,6 @@ goes_call v w e r h =
       lane = ap (λ (u : PassData). u.lane) h.1;
       lent = ap (λ (u : PassData). u.lent) h.1;
       seen = subst (λ (u : PassData). StartsWith u.seen v.seen) (sym h.1) (starts_more h.0 v.seen (last ∷ []) h.2);
-      mine = subst (λ (u : PassData). StartsWith u.mine v.mine) (sym h.1) (last ∷ [], refl);
     }
 
 pub in_place_call : (v w : PassData) (e : Event) (r : Reply) → Calls v e r w → IsInPlace v → IsInPlace w
@@ -99,8 +96,8 @@ drawn_front c (e ∷ es) more (inl h) = inl h
 drawn_front c (e ∷ es) more (inr h) = inr (drawn_front c es more h)
 
 -- what was drawn stays drawn
-pub drawn_since : (v w : PassData) (c : Claim) → Goes v w → HasDrawn c v.mine → HasDrawn c w.mine
-drawn_since v w c g drew = subst (HasDrawn c) (sym g.mine.1) (drawn_front c v.mine g.mine.0 drew)
+pub drawn_since : (v w : PassData) (c : Claim) (further : List Entry) → w.mine ≡ v.mine ++ further → HasDrawn c v.mine → HasDrawn c w.mine
+drawn_since v w c further behind drew = subst (HasDrawn c) (sym behind) (drawn_front c v.mine further drew)
 
 -- a legal history's front is one, and what comes behind it goes on
 pub legal_parts : (p : PlanData) (x : LedgerState) (es ds : List Entry) → IsLegalFrom p x (es ++ ds)

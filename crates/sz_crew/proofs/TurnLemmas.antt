@@ -16,7 +16,7 @@ use Rattle.sz_claims.specs.Known.{PassData, Calls}
 use Rattle.sz_claims.proofs.ForCallers.{has_drawn_now}
 use Rattle.sz_crew.specs.Makers.{IsTruePart}
 use Rattle.sz_crew.specs.Working.{IsInPlace}
-use Rattle.sz_crew.specs.Turns.{IsTrueTurn, AreTrueTurns, AddsCalls, HasWorked, HasStopped}
+use Rattle.sz_crew.specs.Turns.{IsTrueTurn, AreTrueTurns, HasBegun, HasWorked}
 use Rattle.sz_crew.specs.Tickets.{Leads, Stops, IsBetween}
 use Rattle.sz_crew.proofs.CallLemmas.{goes_self, goes_then, goes_call, in_place_call, is_claim, drawn_since}
 use Rattle.sz_crew.proofs.LeftLemmas.{not_drawn, drawn_low}
@@ -124,34 +124,40 @@ module _ (died : ℕ → ℕ → Type 0) (faults : ℕ → Type 0) (p : PlanData
   pub between_self : (v : PassData) → IsBetween died faults p v v
   between_self v = record {
     goes = goes_self v;
-    further = [];
-    phases = replicate (count_of p) undrawn;
-    adds = record { behind = sym (append-nil v.mine); truth = tt; order = record { turns = refl } };
+    begun = record {
+      further = [];
+      phases = replicate (count_of p) undrawn;
+      behind = sym (append-nil v.mine);
+      truth = tt;
+      order = record { turns = refl };
+    };
     rows = length-replicate (count_of p) undrawn;
     each = λ t. inl (none_drawn (count_of p) t);
   }
 
   -- what a ticket adds to what was done before
-  adds_then : (u v w : PassData) (further : List Entry) (phases : List Phase) (t : ℕ) (from to : Phase) → AddsCalls died faults p u v further phases
-      → t < length phases → phase_of phases t ≡ from → (h : Leads died faults p v w t from to)
-      → AddsCalls died faults p u w (further ++ h.further) (slice_set phases t to)
-  adds_then u v w further phases t from to a low is h = record {
-    behind = h.behind ∙ ap (λ (l : List Entry). l ++ h.further) a.behind ∙ append_assoc u.mine further h.further;
-    truth = truth_then died faults further h.further a.truth h.truth;
+  begun_then : (u v w : PassData) (t : ℕ) (from to : Phase) (b : HasBegun died faults p u v) → t < length b.phases → phase_of b.phases t ≡ from
+      → Leads died faults p v w t from to → HasBegun died faults p u w
+  begun_then u v w t from to b low is h = record {
+    further = b.further ++ h.further;
+    phases = slice_set b.phases t to;
+    behind = h.behind ∙ ap (λ (l : List Entry). l ++ h.further) b.behind ∙ append_assoc u.mine b.further h.further;
+    truth = truth_then died faults b.further h.further b.truth h.truth;
     order = record {
-      turns = turns_then p (replicate (count_of p) undrawn) phases (slice_set phases t to) further h.further a.order.turns (h.turns phases low is);
+      turns = turns_then p (replicate (count_of p) undrawn) b.phases (slice_set b.phases t to) b.further h.further b.order.turns
+          (h.turns b.phases low is);
     };
   }
 
   module _ (u v w : PassData) (c : Claim) (b : IsBetween died faults p u v) (of : v.ledger.plan ≡ p) (place : IsInPlace v)
       (draw : Calls v Draw (Ticket (Some c)) w) where
     -- a ticket that was just drawn was not drawn before
-    is_undrawn : phase_of b.phases c.ticket ≡ undrawn
-    is_undrawn = ⊎_elim (λ (is : phase_of b.phases c.ticket ≡ undrawn). is)
-        (λ (done : (phase_of b.phases c.ticket ≡ ended) × ((d : Claim) × (d.ticket ≡ c.ticket) × HasDrawn d v.mine)).
+    is_undrawn : phase_of b.begun.phases c.ticket ≡ undrawn
+    is_undrawn = ⊎_elim (λ (is : phase_of b.begun.phases c.ticket ≡ undrawn). is)
+        (λ (done : (phase_of b.begun.phases c.ticket ≡ ended) × ((d : Claim) × (d.ticket ≡ c.ticket) × HasDrawn d v.mine)).
         absurd (not_drawn v w c draw place done.1.0 done.1.2 done.1.1)) (b.each c.ticket)
 
-    within : c.ticket < length b.phases
+    within : c.ticket < length b.begun.phases
     within = subst (λ (n : ℕ). c.ticket < n) (ap count_of of ∙ sym b.rows) (drawn_low v w c draw)
 
     taken : (x : PassData) (to : Phase) → Leads died faults p w x c.ticket asks to → Leads died faults p v x c.ticket undrawn to
@@ -159,55 +165,51 @@ module _ (died : ℕ → ℕ → Type 0) (faults : ℕ → Type 0) (p : PlanData
 
     -- the ticket came to its end
     pub between_then : (x : PassData) → Leads died faults p w x c.ticket asks ended → IsBetween died faults p u x
+    unfolding begun_then
     between_then x tried =
         let h = taken x ended tried in
         record {
           goes = goes_then u v x b.goes h.goes;
-          further = b.further ++ h.further;
-          phases = slice_set b.phases c.ticket ended;
-          adds = adds_then u v x b.further b.phases c.ticket undrawn ended b.adds within is_undrawn h;
-          rows = length-set b.phases c.ticket ended ∙ b.rows;
+          begun = begun_then u v x c.ticket undrawn ended b.begun within is_undrawn h;
+          rows = length-set b.begun.phases c.ticket ended ∙ b.rows;
           each = λ t. by t (t == c.ticket) refl;
         }
       where
-        by : (t : ℕ) (test : Bool) → (t == c.ticket) ≡ test → (phase_of (slice_set b.phases c.ticket ended) t ≡ undrawn)
-            ⊎ ((phase_of (slice_set b.phases c.ticket ended) t ≡ ended) × ((d : Claim) × (d.ticket ≡ t) × HasDrawn d x.mine))
+        by : (t : ℕ) (test : Bool) → (t == c.ticket) ≡ test → (phase_of (slice_set b.begun.phases c.ticket ended) t ≡ undrawn)
+            ⊎ ((phase_of (slice_set b.begun.phases c.ticket ended) t ≡ ended) × ((d : Claim) × (d.ticket ≡ t) × HasDrawn d x.mine))
         by t true is =
             let same : t ≡ c.ticket = eqb-true t c.ticket is in
             inr (
-              ap (phase_of (slice_set b.phases c.ticket ended)) same ∙ get_or-set_same b.phases c.ticket ended undrawn within,
-              (c, sym same, drawn_since w x c tried.goes (has_drawn_now v w c draw)),
+              ap (phase_of (slice_set b.begun.phases c.ticket ended)) same ∙ get_or-set_same b.begun.phases c.ticket ended undrawn within,
+              (c, sym same, drawn_since w x c tried.further tried.behind (has_drawn_now v w c draw)),
             )
         by t false is =
-            let still = get_or-set_other b.phases c.ticket t ended undrawn (eqb-false t c.ticket is) in
-            ⊎_elim (λ (e : phase_of b.phases t ≡ undrawn). inl (still ∙ e))
-            (λ (done : (phase_of b.phases t ≡ ended) × ((d : Claim) × (d.ticket ≡ t) × HasDrawn d v.mine)).
-            inr (still ∙ done.0, (done.1.0, done.1.1, drawn_since v x done.1.0 (taken x ended tried).goes done.1.2))) (b.each t)
+            let h = taken x ended tried in
+            let still = get_or-set_other b.begun.phases c.ticket t ended undrawn (eqb-false t c.ticket is) in
+            ⊎_elim (λ (e : phase_of b.begun.phases t ≡ undrawn). inl (still ∙ e))
+            (λ (done : (phase_of b.begun.phases t ≡ ended) × ((d : Claim) × (d.ticket ≡ t) × HasDrawn d v.mine)).
+            inr (still ∙ done.0, (done.1.0, done.1.1, drawn_since v x done.1.0 h.further h.behind done.1.2))) (b.each t)
 
     -- the worker stopped on the ticket's way
-    pub stopped_then : (x : PassData) → Stops died faults p w x c.ticket asks → HasStopped died faults p u x
-    stopped_then x tried =
-        let h = taken x tried.0 tried.1 in record {
-          further = b.further ++ h.further;
-          phases = slice_set b.phases c.ticket tried.0;
-          adds = adds_then u v x b.further b.phases c.ticket undrawn tried.0 b.adds within is_undrawn h;
-        }
+    pub stopped_then : (x : PassData) → Stops died faults p w x c.ticket asks → HasBegun died faults p u x
+    stopped_then x tried = begun_then u v x c.ticket undrawn tried.0 b.begun within is_undrawn (taken x tried.0 tried.1)
 
   -- a draw found no ticket
   pub worked_now : (u v w : PassData) → IsBetween died faults p u v → Calls v Draw (Ticket None) w → HasWorked died faults p u w
   worked_now u v w b h =
       let e : Entry = entry v.number Draw [] (Ticket None) in
+      let d = b.begun in
       let mine : w.mine ≡ v.mine ++ e ∷ [] = ap (λ (x : PassData). x.mine) h.1 in record {
-        further = b.further ++ e ∷ [];
-        phases = b.phases;
-        adds = record {
-          behind = mine ∙ ap (λ (l : List Entry). l ++ e ∷ []) b.adds.behind ∙ append_assoc u.mine b.further (e ∷ []);
-          truth = truth_then died faults b.further (e ∷ []) b.adds.truth (tt, tt);
+        begun = record {
+          further = d.further ++ e ∷ [];
+          phases = d.phases;
+          behind = mine ∙ ap (λ (l : List Entry). l ++ e ∷ []) d.behind ∙ append_assoc u.mine d.further (e ∷ []);
+          truth = truth_then died faults d.further (e ∷ []) d.truth (tt, tt);
           order = record {
-            turns = turns_then p (replicate (count_of p) undrawn) b.phases b.phases b.further (e ∷ []) b.adds.order.turns (b.phases, refl, refl);
+            turns = turns_then p (replicate (count_of p) undrawn) d.phases d.phases d.further (e ∷ []) d.order.turns (d.phases, refl, refl);
           };
         };
-        done = λ t. ⊎_elim (λ (is : phase_of b.phases t ≡ undrawn). inl is)
-            (λ (done : (phase_of b.phases t ≡ ended) × ((d : Claim) × (d.ticket ≡ t) × HasDrawn d v.mine)). inr done.0) (b.each t);
-        last = (b.further, ap (λ (n : ℕ). b.further ++ entry n Draw [] (Ticket None) ∷ []) b.goes.number);
+        done = λ t. ⊎_elim (λ (is : phase_of d.phases t ≡ undrawn). inl is)
+            (λ (done : (phase_of d.phases t ≡ ended) × ((c : Claim) × (c.ticket ≡ t) × HasDrawn c v.mine)). inr done.0) (b.each t);
+        last = (d.further, ap (λ (n : ℕ). d.further ++ entry n Draw [] (Ticket None) ∷ []) b.goes.number);
       }

@@ -2,47 +2,37 @@
 use Rattle.std.specs.Prelude.{◌≡◌, ◌⊎◌, ℕ, List, [], ◌∷◌, ◌++◌, None}
 use Rattle.sz_book.specs.Plan.{PlanData}
 use Rattle.sz_book.specs.declared.event.Event.{Event}
-use Rattle.sz_book.specs.declared.event.Event.TheVariants.{Draw, Number, Died, Settle, LaneOut, LaneBack, Bad}
+use Rattle.sz_book.specs.declared.event.Event.TheVariants.{Draw, Settle}
 use Rattle.sz_book.specs.declared.event.Reply.TheVariants.{Ticket}
 use Rattle.sz_book.specs.declared.event.Entry.{Entry}
-use Rattle.sz_book.specs.History.{entry}
+use Rattle.sz_book.specs.History.{entry, IsTrueReport}
 use Rattle.sz_book.specs.Orderly.{Phase, undrawn, ended, phase_of, IsOrderly}
 use Rattle.sz_claims.specs.Known.{PassData}
 use Rattle.sz_crew.specs.Makers.{IsTruePart}
 
--- The event tells the truth of its attempt or shard: a death is of an attempt that died, a settlement of one that did not, on a shard
--- that doesn't fault, and a shard marked bad faults
+-- The event tells the truth of its attempt or shard: a report is true, and a settlement is of an attempt that did not die, on a shard
+-- that doesn't fault
 abbrev pub IsTrueTurn : (ℕ → ℕ → Type 0) → (ℕ → Type 0) → Event → Type 0
-IsTrueTurn died faults (Died c k) = died c.shard k
 IsTrueTurn died faults (Settle c k) = IsTruePart died faults c.shard k
-IsTrueTurn died faults (Bad s) = faults s
-IsTrueTurn died faults Draw = Unit {0}
-IsTrueTurn died faults (Number c) = Unit {0}
-IsTrueTurn died faults (LaneOut i) = Unit {0}
-IsTrueTurn died faults (LaneBack i) = Unit {0}
+IsTrueTurn died faults event = IsTrueReport died faults event
 
 -- each of these calls tells the truth
 abbrev pub AreTrueTurns : (ℕ → ℕ → Type 0) → (ℕ → Type 0) → List Entry → Type 0
 AreTrueTurns died faults [] = Unit {0}
 AreTrueTurns died faults (e ∷ es) = IsTrueTurn died faults e.event × AreTrueTurns died faults es
 
--- Behind the calls that the pass had made came these. They tell the truth, the events of each ticket come in order, as if none had
--- been drawn before, and they leave the tickets at these phases
-pub record AddsCalls (died : ℕ → ℕ → Type 0) (faults : ℕ → Type 0) (p : PlanData) (v w : PassData) (further : List Entry) (phases : List Phase) : Type 0 where
-  pub behind : w.mine ≡ v.mine ++ further
-  pub truth : AreTrueTurns died faults further
-  pub order : IsOrderly p further phases
+module _ (died : ℕ → ℕ → Type 0) (faults : ℕ → Type 0) (p : PlanData) where
+  -- Behind the calls that the pass had made came further ones. They tell the truth, the events of each ticket come in order, as if
+  -- none had been drawn before, and they leave the tickets at these phases
+  pub record HasBegun (v w : PassData) : Type 0 where
+    pub further : List Entry
+    pub phases : List Phase
+    pub behind : w.mine ≡ v.mine ++ further
+    pub truth : AreTrueTurns died faults further
+    pub order : IsOrderly p further phases
 
--- the pass worked until no ticket was left: each ticket that it drew has ended, and its last call was a draw that found none
-pub record HasWorked (died : ℕ → ℕ → Type 0) (faults : ℕ → Type 0) (p : PlanData) (v w : PassData) : Type 0 where
-  pub further : List Entry
-  pub phases : List Phase
-  pub adds : AddsCalls died faults p v w further phases
-  pub done : (t : ℕ) → (phase_of phases t ≡ undrawn) ⊎ (phase_of phases t ≡ ended)
-  pub last : (front : List Entry) × (further ≡ front ++ entry v.number Draw [] (Ticket None) ∷ [])
-
--- the pass stopped on its way
-pub record HasStopped (died : ℕ → ℕ → Type 0) (faults : ℕ → Type 0) (p : PlanData) (v w : PassData) : Type 0 where
-  pub further : List Entry
-  pub phases : List Phase
-  pub adds : AddsCalls died faults p v w further phases
+  -- the pass worked until no ticket was left: each ticket that it drew has ended, and its last call was a draw that found none
+  pub record HasWorked (v w : PassData) : Type 0 where
+    pub begun : HasBegun v w
+    pub done : (t : ℕ) → (phase_of begun.phases t ≡ undrawn) ⊎ (phase_of begun.phases t ≡ ended)
+    pub last : (front : List Entry) × (begun.further ≡ front ++ entry v.number Draw [] (Ticket None) ∷ [])

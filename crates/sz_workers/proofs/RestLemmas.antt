@@ -23,10 +23,10 @@ use Rattle.sz_workers.specs.Ends.{IsEndOf}
 use Rattle.sz_rounds.specs.declared.round.RoundEnd.TheVariants as ends
 use Rattle.sz_rounds.proofs.OutcomeLemmas.{lost_at, faulted_at, more_at, gives_means, faults_means, not_all, one_more_died, fewer_died}
 use Rattle.sz_rounds.proofs.RoundLemmas.{length-numbered, same_there, shard_there}
-use Rattle.sz_workers.specs.Parts.{given_by, given_in, emits_at, Counts, Dies, Faults, gathered, in_order, HoldsShards, are_apart}
+use Rattle.sz_workers.specs.Parts.{given_by, given_in, emits_at, Counts, Dies, Faults, gathered, HoldsShards, are_apart}
 use Rattle.sz_book.specs.Plan.{PlanData}
 use Rattle.sz_workers.specs.Running.{HasFront, NoneInFront, IsSet}
-use Rattle.sz_workers.proofs.GatherLemmas.{gives_all, among_front, among_back}
+use Rattle.sz_workers.proofs.GatherLemmas.{in_order, gives_all, among_front, among_back}
 use Rattle.sz_workers.proofs.PartLemmas.{counts_low, holds_one, stands_in_any_order}
 
 module _ (job : Job) (shards : List ShardData) where
