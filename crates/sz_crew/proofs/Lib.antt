@@ -1,4 +1,4 @@
 pub mod CallLemmas
 pub mod LeftLemmas
-pub mod TurnLemmas
+pub mod AdvanceLemmas
 pub mod WonLemmas

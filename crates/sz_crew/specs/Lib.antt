@@ -1,6 +1,6 @@
 -- what the public contracts rest on
 pub mod Makers
 pub mod Working
-pub mod Turns
+pub mod Advances
 -- what the functions inside the crate promise each other
 pub mod Tickets

@@ -10,5 +10,5 @@ IsTrueMiss died faults s k Bad = ¬ died s k × faults s
 IsTrueMiss died faults s k NoMemory = Unit {0}
 
 -- attempt k of shard s did not die, and shard s doesn't fault
-abbrev pub IsTruePart : (ℕ → ℕ → Type 0) → (ℕ → Type 0) → ℕ → ℕ → Type 0
-IsTruePart died faults s k = ¬ died s k × ¬ faults s
+abbrev pub GivesEmits : (ℕ → ℕ → Type 0) → (ℕ → Type 0) → ℕ → ℕ → Type 0
+GivesEmits died faults s k = ¬ died s k × ¬ faults s

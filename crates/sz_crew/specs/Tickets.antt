@@ -7,7 +7,7 @@ use Rattle.sz_book.specs.History.{HasDrawn}
 use Rattle.sz_book.specs.Orderly.{Phase, undrawn, asks, ended, phase_of, TurnsAll}
 use Rattle.sz_claims.specs.Known.{PassData}
 use Rattle.sz_crew.specs.Working.{Goes, IsInPlace}
-use Rattle.sz_crew.specs.Turns.{AreTrueTurns, HasBegun}
+use Rattle.sz_crew.specs.Advances.{AllTellTruth, HasBegun}
 
 module _ (died : ℕ → ℕ → Type 0) (faults : ℕ → Type 0) (p : PlanData) where
   -- The further calls tell the truth. Wherever ticket t is at the one phase, they take it to the other, and leave all other tickets
@@ -17,8 +17,8 @@ module _ (died : ℕ → ℕ → Type 0) (faults : ℕ → Type 0) (p : PlanData
     pub place : IsInPlace w
     pub further : List Entry
     pub behind : w.mine ≡ v.mine ++ further
-    pub truth : AreTrueTurns died faults further
-    pub turns : (old : List Phase) → t < length old → phase_of old t ≡ from → TurnsAll p old further (slice_set old t to)
+    pub truth : AllTellTruth died faults further
+    pub advances : (old : List Phase) → t < length old → phase_of old t ≡ from → TurnsAll p old further (slice_set old t to)
 
   -- they take it to some phase
   abbrev pub Stops : PassData → PassData → ℕ → Phase → Type 0

@@ -32,7 +32,8 @@ pub record Grows (old new : LaneData) : Type 0 where
 abbrev pub HasAllWon : PassData → LaneData → Type 0
 HasAllWon v pocket = (s : ℕ) → HasWon s v.mine → IsAmong s pocket.shards ⊎ HasGiven s v.mine
 
--- a worker's pocket has the plan of the pass's ledger, and stands for just the shards that the pass won and brought with no lane, each once
+-- a worker's pocket has the plan of its pass's ledger, and stands for just the shards that the pass won and brought with no lane, each
+-- once
 pub record IsAtWork (v : PassData) (pocket : LaneData) : Type 0 where
   pub place : IsInPlace v
   pub plan : pocket.plan ≡ v.ledger.plan

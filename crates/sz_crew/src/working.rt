@@ -3,9 +3,9 @@ ghost use Rattle.std.specs.Prelude.{◌≡◌, ◌<◌, [], ◌∷◌, IfOk, OnO
 ghost use Rattle.sz_book.specs.History.{HasDrawn, HasNumber};
 ghost use Rattle.sz_book.specs.Orderly.{asks, tries, ended};
 ghost use Rattle.sz_claims.specs.Known.{AreInHand};
-ghost use Rattle.sz_crew.specs.Makers.{IsTruePart};
+ghost use Rattle.sz_crew.specs.Makers.{GivesEmits};
 ghost use Rattle.sz_crew.specs.Working.{Goes, IsInPlace, Grows, HasAllWon, IsAtWork};
-ghost use Rattle.sz_crew.specs.Turns.{HasWorked, HasBegun};
+ghost use Rattle.sz_crew.specs.Advances.{HasWorked, HasBegun};
 ghost use Rattle.sz_crew.specs.Tickets.{Leads, Stops, phase_behind};
 
 use crate::maker::{Maker, Missed};
@@ -77,7 +77,8 @@ fn try_once<T: Load, M: Maker<T>>(
     requires drew { HasDrawn claim.now pass.old.mine }
     requires given { HasNumber claim.now number pass.old.mine }
     ensures plan { M.plan maker.new ≡ M.plan maker.old }
-    ensures ok { IfOk result (λ done. Leads T.died T.faults ledger.now.plan pass.old pass.new claim.now.ticket (tries number) (phase_behind done)) }
+    ensures ok { IfOk result (λ done.
+        Leads T.died T.faults ledger.now.plan pass.old pass.new claim.now.ticket (tries number) (phase_behind done)) }
     ensures err { OnErr result (Stops T.died T.faults ledger.now.plan pass.old pass.new claim.now.ticket (tries number)) }
     ensures grows { Grows pocket.old pocket.new }
     ensures hand { AreInHand pocket.new.shards pass.new.mine }
@@ -114,7 +115,7 @@ fn settle<T: Load>(
     requires drew { HasDrawn claim.now pass.old.mine }
     requires given { HasNumber claim.now number pass.old.mine }
     requires part { (T.plan part ≡ ledger.now.plan) × T.stands part (claim.now.shard ∷ []) }
-    requires gave { IsTruePart T.died T.faults claim.now.shard number }
+    requires gave { GivesEmits T.died T.faults claim.now.shard number }
     ensures led { Leads T.died T.faults ledger.now.plan pass.old pass.new claim.now.ticket (tries number) ended }
     ensures grows { Grows pocket.old pocket.new }
     ensures hand { AreInHand pocket.new.shards pass.new.mine }

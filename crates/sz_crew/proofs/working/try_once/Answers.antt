@@ -6,7 +6,7 @@ use Rattle.sz_book.specs.Orderly.{tries}
 use Rattle.sz_claims.specs.Known.{LedgerData}
 use Rattle.sz_crew.specs.Makers.{IsTrueMiss}
 use Rattle.sz_crew.proofs.CallLemmas.{is_claim, claims_shard, numbers_low}
-use Rattle.sz_crew.proofs.TurnLemmas.{leads_self, leads_bad}
+use Rattle.sz_crew.proofs.AdvanceLemmas.{leads_self, leads_bad}
 use Rattle.sz_crew.proofs.WonLemmas.{hand_still, all_still}
 use Rattle.sz_crew.proofs.working.try_once.Goals as goal
 

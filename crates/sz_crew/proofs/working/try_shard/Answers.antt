@@ -7,7 +7,7 @@ use Rattle.sz_claims.proofs.ForCallers.{has_drawn_still, has_number_now}
 use Rattle.sz_crew.specs.Tickets.{Leads, phase_behind}
 use Rattle.sz_crew.proofs.CallLemmas.{drawn_since}
 use Rattle.sz_crew.proofs.LeftLemmas.{fewer_numbers}
-use Rattle.sz_crew.proofs.TurnLemmas.{leads_try, stops_try, leads_dry}
+use Rattle.sz_crew.proofs.AdvanceLemmas.{leads_try, stops_try, leads_dry}
 use Rattle.sz_crew.proofs.WonLemmas.{at_work_call, at_work_then, grows_then, hand_still, all_still}
 use Rattle.sz_crew.proofs.working.try_shard.Goals as goal
 

@@ -5,7 +5,7 @@ use Rattle.sz_book.specs.declared.event.Reply.TheVariants.{Ticket}
 use Rattle.sz_claims.specs.Known.{LedgerData}
 use Rattle.sz_claims.proofs.ForCallers.{has_drawn_now}
 use Rattle.sz_crew.proofs.LeftLemmas.{fewer_tickets}
-use Rattle.sz_crew.proofs.TurnLemmas.{between_self, between_then, stopped_then, worked_now}
+use Rattle.sz_crew.proofs.AdvanceLemmas.{between_self, between_then, stopped_then, worked_now}
 use Rattle.sz_crew.proofs.WonLemmas.{at_work_call, at_work_then, grows_self, grows_then, hand_still, all_still}
 use Rattle.sz_crew.proofs.working.work.Goals as goal
 

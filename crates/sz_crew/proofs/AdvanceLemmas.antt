@@ -14,16 +14,17 @@ use Rattle.sz_book.specs.History.{entry, HasDrawn}
 use Rattle.sz_book.specs.Orderly.{Phase, undrawn, asks, tries, ended, phase_of, Turns, TurnsAll}
 use Rattle.sz_claims.specs.Known.{PassData, Calls}
 use Rattle.sz_claims.proofs.ForCallers.{has_drawn_now}
-use Rattle.sz_crew.specs.Makers.{IsTruePart}
+use Rattle.sz_crew.specs.Makers.{GivesEmits}
 use Rattle.sz_crew.specs.Working.{IsInPlace}
-use Rattle.sz_crew.specs.Turns.{IsTrueTurn, AreTrueTurns, HasBegun, HasWorked}
+use Rattle.sz_crew.specs.Advances.{TellsTruth, AllTellTruth, HasBegun, HasWorked}
 use Rattle.sz_crew.specs.Tickets.{Leads, Stops, IsBetween}
 use Rattle.sz_crew.proofs.CallLemmas.{goes_self, goes_then, goes_call, in_place_call, is_claim, drawn_since}
 use Rattle.sz_crew.proofs.LeftLemmas.{not_drawn, drawn_low}
 
-turns_then : (p : PlanData) (old mid new : List Phase) (es ds : List Entry) → TurnsAll p old es mid → TurnsAll p mid ds new → TurnsAll p old (es ++ ds) new
-turns_then p old mid new [] ds a b = subst (λ (l : List Phase). TurnsAll p l ds new) a b
-turns_then p old mid new (e ∷ es) ds a b = (a.0, a.1, turns_then p a.0 mid new es ds a.2 b)
+advances_then : (p : PlanData) (old mid new : List Phase) (es ds : List Entry) → TurnsAll p old es mid → TurnsAll p mid ds new
+    → TurnsAll p old (es ++ ds) new
+advances_then p old mid new [] ds a b = subst (λ (l : List Phase). TurnsAll p l ds new) a b
+advances_then p old mid new (e ∷ es) ds a b = (a.0, a.1, advances_then p a.0 mid new es ds a.2 b)
 
 none_drawn : (n t : ℕ) → phase_of (replicate n undrawn) t ≡ undrawn
 none_drawn zero t = refl
@@ -31,7 +32,7 @@ none_drawn (suc n) zero = refl
 none_drawn (suc n) (suc t) = none_drawn n t
 
 module _ (died : ℕ → ℕ → Type 0) (faults : ℕ → Type 0) where
-  truth_then : (es ds : List Entry) → AreTrueTurns died faults es → AreTrueTurns died faults ds → AreTrueTurns died faults (es ++ ds)
+  truth_then : (es ds : List Entry) → AllTellTruth died faults es → AllTellTruth died faults ds → AllTellTruth died faults (es ++ ds)
   truth_then [] ds a b = b
   truth_then (e ∷ es) ds a b = (a.0, truth_then es ds a.1 b)
 
@@ -44,7 +45,7 @@ module _ (died : ℕ → ℕ → Type 0) (faults : ℕ → Type 0) (p : PlanData
     further = [];
     behind = sym (append-nil v.mine);
     truth = tt;
-    turns = λ old low is. ap (λ (r : Phase). slice_set old t r) (sym is) ∙ set-get_or old t undrawn;
+    advances = λ old low is. ap (λ (r : Phase). slice_set old t r) (sym is) ∙ set-get_or old t undrawn;
   }
 
   -- further calls on the same ticket
@@ -56,23 +57,23 @@ module _ (died : ℕ → ℕ → Type 0) (faults : ℕ → Type 0) (p : PlanData
     further = g.further ++ h.further;
     behind = h.behind ∙ ap (λ (l : List Entry). l ++ h.further) g.behind ∙ append_assoc u.mine g.further h.further;
     truth = truth_then died faults g.further h.further g.truth h.truth;
-    turns = λ old low is.
+    advances = λ old low is.
         let mid : List Phase = slice_set old t b in
-        let rest = h.turns mid (subst (λ (n : ℕ). t < n) (sym (length-set old t b)) low) (get_or-set_same old t b undrawn low) in
-        turns_then p old mid (slice_set old t c) g.further h.further (g.turns old low is)
+        let rest = h.advances mid (subst (λ (n : ℕ). t < n) (sym (length-set old t b)) low) (get_or-set_same old t b undrawn low) in
+        advances_then p old mid (slice_set old t c) g.further h.further (g.advances old low is)
         (subst (λ (l : List Phase). TurnsAll p mid h.further l) (set-set old t b c) rest);
   }
 
   -- one call on a ticket
-  leads_call : (v w : PassData) (e : Event) (r : Reply) (t : ℕ) (from to : Phase) → Calls v e r w → IsInPlace v → IsTrueTurn died faults e
+  leads_call : (v w : PassData) (e : Event) (r : Reply) (t : ℕ) (from to : Phase) → Calls v e r w → IsInPlace v → TellsTruth died faults e
       → ((old : List Phase) → phase_of old t ≡ from → Turns p old e r (slice_set old t to)) → Leads died faults p v w t from to
-  leads_call v w e r t from to h place truth turn = record {
+  leads_call v w e r t from to h place truth advance = record {
     goes = goes_call v w e r h;
     place = in_place_call v w e r h place;
     further = entry v.number e [] r ∷ [];
     behind = ap (λ (u : PassData). u.mine) h.1;
     truth = (truth, tt);
-    turns = λ old low is. (slice_set old t to, turn old is, refl);
+    advances = λ old low is. (slice_set old t to, advance old is, refl);
   }
 
   leads_drawn : (v w : PassData) (c : Claim) → Calls v Draw (Ticket (Some c)) w → IsInPlace v → Leads died faults p v w c.ticket undrawn asks
@@ -90,11 +91,11 @@ module _ (died : ℕ → ℕ → Type 0) (faults : ℕ → Type 0) (p : PlanData
       → Leads died faults p v w c.ticket (tries k) asks
   leads_died v w c k h place truth = leads_call v w (Died c k) Noted c.ticket (tries k) asks h place truth (λ old is. (is, refl))
 
-  pub leads_won : (v w : PassData) (c : Claim) (k : ℕ) → Calls v (Settle c k) Won w → IsInPlace v → IsTruePart died faults c.shard k
+  pub leads_won : (v w : PassData) (c : Claim) (k : ℕ) → Calls v (Settle c k) Won w → IsInPlace v → GivesEmits died faults c.shard k
       → Leads died faults p v w c.ticket (tries k) ended
   leads_won v w c k h place truth = leads_call v w (Settle c k) Won c.ticket (tries k) ended h place truth (λ old is. (is, refl))
 
-  pub leads_late : (v w : PassData) (c : Claim) (k n : ℕ) → Calls v (Settle c k) (Late n) w → IsInPlace v → IsTruePart died faults c.shard k
+  pub leads_late : (v w : PassData) (c : Claim) (k n : ℕ) → Calls v (Settle c k) (Late n) w → IsInPlace v → GivesEmits died faults c.shard k
       → Leads died faults p v w c.ticket (tries k) ended
   leads_late v w c k n h place truth = leads_call v w (Settle c k) (Late n) c.ticket (tries k) ended h place truth (λ old is. (is, refl))
 
@@ -144,8 +145,8 @@ module _ (died : ℕ → ℕ → Type 0) (faults : ℕ → Type 0) (p : PlanData
     behind = h.behind ∙ ap (λ (l : List Entry). l ++ h.further) b.behind ∙ append_assoc u.mine b.further h.further;
     truth = truth_then died faults b.further h.further b.truth h.truth;
     order = record {
-      turns = turns_then p (replicate (count_of p) undrawn) b.phases (slice_set b.phases t to) b.further h.further b.order.turns
-          (h.turns b.phases low is);
+      turns = advances_then p (replicate (count_of p) undrawn) b.phases (slice_set b.phases t to) b.further h.further b.order.turns
+          (h.advances b.phases low is);
     };
   }
 
@@ -206,7 +207,7 @@ module _ (died : ℕ → ℕ → Type 0) (faults : ℕ → Type 0) (p : PlanData
           behind = mine ∙ ap (λ (l : List Entry). l ++ e ∷ []) d.behind ∙ append_assoc u.mine d.further (e ∷ []);
           truth = truth_then died faults d.further (e ∷ []) d.truth (tt, tt);
           order = record {
-            turns = turns_then p (replicate (count_of p) undrawn) d.phases d.phases d.further (e ∷ []) d.order.turns (d.phases, refl, refl);
+            turns = advances_then p (replicate (count_of p) undrawn) d.phases d.phases d.further (e ∷ []) d.order.turns (d.phases, refl, refl);
           };
         };
         done = λ t. ⊎_elim (λ (is : phase_of d.phases t ≡ undrawn). inl is)

@@ -8,18 +8,18 @@ use Rattle.sz_book.specs.declared.event.Entry.{Entry}
 use Rattle.sz_book.specs.History.{entry, IsTrueReport}
 use Rattle.sz_book.specs.Orderly.{Phase, undrawn, ended, phase_of, IsOrderly}
 use Rattle.sz_claims.specs.Known.{PassData}
-use Rattle.sz_crew.specs.Makers.{IsTruePart}
+use Rattle.sz_crew.specs.Makers.{GivesEmits}
 
 -- The event tells the truth of its attempt or shard: a report is true, and a settlement is of an attempt that did not die, on a shard
 -- that doesn't fault
-abbrev pub IsTrueTurn : (ℕ → ℕ → Type 0) → (ℕ → Type 0) → Event → Type 0
-IsTrueTurn died faults (Settle c k) = IsTruePart died faults c.shard k
-IsTrueTurn died faults event = IsTrueReport died faults event
+abbrev pub TellsTruth : (ℕ → ℕ → Type 0) → (ℕ → Type 0) → Event → Type 0
+TellsTruth died faults (Settle c k) = GivesEmits died faults c.shard k
+TellsTruth died faults event = IsTrueReport died faults event
 
 -- each of these calls tells the truth
-abbrev pub AreTrueTurns : (ℕ → ℕ → Type 0) → (ℕ → Type 0) → List Entry → Type 0
-AreTrueTurns died faults [] = Unit {0}
-AreTrueTurns died faults (e ∷ es) = IsTrueTurn died faults e.event × AreTrueTurns died faults es
+abbrev pub AllTellTruth : (ℕ → ℕ → Type 0) → (ℕ → Type 0) → List Entry → Type 0
+AllTellTruth died faults [] = Unit {0}
+AllTellTruth died faults (e ∷ es) = TellsTruth died faults e.event × AllTellTruth died faults es
 
 module _ (died : ℕ → ℕ → Type 0) (faults : ℕ → Type 0) (p : PlanData) where
   -- Behind the calls that the pass had made came further ones. They tell the truth, the events of each ticket come in order, as if
@@ -28,7 +28,7 @@ module _ (died : ℕ → ℕ → Type 0) (faults : ℕ → Type 0) (p : PlanData
     pub further : List Entry
     pub phases : List Phase
     pub behind : w.mine ≡ v.mine ++ further
-    pub truth : AreTrueTurns died faults further
+    pub truth : AllTellTruth died faults further
     pub order : IsOrderly p further phases
 
   -- the pass worked until no ticket was left: each ticket that it drew has ended, and its last call was a draw that found none
