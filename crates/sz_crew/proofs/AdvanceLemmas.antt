@@ -26,7 +26,7 @@ advances_then : (p : PlanData) (old mid new : List Phase) (es ds : List Entry) �
 advances_then p old mid new [] ds a b = subst (λ (l : List Phase). TurnsAll p l ds new) a b
 advances_then p old mid new (e ∷ es) ds a b = (a.0, a.1, advances_then p a.0 mid new es ds a.2 b)
 
-none_drawn : (n t : ℕ) → phase_of (replicate n undrawn) t ≡ undrawn
+pub none_drawn : (n t : ℕ) → phase_of (replicate n undrawn) t ≡ undrawn
 none_drawn zero t = refl
 none_drawn (suc n) zero = refl
 none_drawn (suc n) (suc t) = none_drawn n t

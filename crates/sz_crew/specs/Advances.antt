@@ -21,6 +21,10 @@ abbrev pub AllTellTruth : (ℕ → ℕ → Type 0) → (ℕ → Type 0) → List
 AllTellTruth died faults [] = Unit {0}
 AllTellTruth died faults (e ∷ es) = TellsTruth died faults e.event × AllTellTruth died faults es
 
+-- no ticket is on its way: each is undrawn or has ended
+abbrev pub NoneOnItsWay : List Phase → Type 0
+NoneOnItsWay phases = (t : ℕ) → (phase_of phases t ≡ undrawn) ⊎ (phase_of phases t ≡ ended)
+
 module _ (died : ℕ → ℕ → Type 0) (faults : ℕ → Type 0) (p : PlanData) where
   -- Behind the calls that the pass had made came further ones. They tell the truth, the events of each ticket come in order, as if
   -- none had been drawn before, and they leave the tickets at these phases
@@ -34,5 +38,5 @@ module _ (died : ℕ → ℕ → Type 0) (faults : ℕ → Type 0) (p : PlanData
   -- the pass worked until no ticket was left: each ticket that it drew has ended, and its last call was a draw that found none
   pub record HasWorked (v w : PassData) : Type 0 where
     pub begun : HasBegun v w
-    pub done : (t : ℕ) → (phase_of begun.phases t ≡ undrawn) ⊎ (phase_of begun.phases t ≡ ended)
+    pub done : NoneOnItsWay begun.phases
     pub last : (front : List Entry) × (begun.further ≡ front ++ entry v.number Draw [] (Ticket None) ∷ [])

@@ -2,5 +2,6 @@
 pub mod Makers
 pub mod Working
 pub mod Advances
+pub mod Laws
 -- what the functions inside the crate promise each other
 pub mod Tickets
