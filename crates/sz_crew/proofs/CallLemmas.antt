@@ -1,12 +1,14 @@
 -- What a call of a pass keeps, and what a claim and a number are good for.
 use Rattle.std.proofs.Common.{◌≡◌, ℕ, ◌<◌, List, [], ◌∷◌, ◌++◌, refl, ap, sym, ◌∙◌, subst, inl, inr}
+use Rattle.std.specs.Prelude.{slice_index}
 use Rattle.std.proofs.lemmas.List.{append_assoc, length-replicate}
-use Rattle.sz_book.specs.Plan.{PlanData, IsPlan}
+use Rattle.sz_book.specs.Plan.{PlanData, IsPlan, count_of}
 use Rattle.sz_book.specs.declared.plan.Claim.{Claim}
 use Rattle.sz_book.specs.declared.event.Event.{Event}
 use Rattle.sz_book.specs.declared.event.Reply.{Reply}
 use Rattle.sz_book.specs.declared.event.Entry.{Entry}
 use Rattle.sz_book.specs.Machine.{LedgerState, opening, after, IsDrawn}
+use Rattle.sz_book.specs.Books.{IsClaim}
 use Rattle.sz_book.specs.History.{entry, state_after, IsLegal, IsLegalFrom, calls_by, StartsWith, HasDrawn, HasNumber}
 use Rattle.sz_book.proofs.HistoryLemmas.{starts_self, starts_more}
 use Rattle.sz_book.proofs.StepLemmas.{shard_within}
@@ -27,7 +29,6 @@ goes_self v = record {
   lane = refl;
   lent = refl;
   seen = starts_self v.seen;
-  mine = starts_self v.mine;
 }
 
 pub goes_then : (u v w : PassData) → Goes u v → Goes v w → Goes u w
@@ -40,7 +41,6 @@ goes_then u v w g h = record {
   lane = h.lane ∙ g.lane;
   lent = h.lent ∙ g.lent;
   seen = starts_then w.seen v.seen u.seen h.seen g.seen;
-  mine = starts_then w.mine v.mine u.mine h.mine g.mine;
 }
 
 pub goes_call : (v w : PassData) (e : Event) (r : Reply) → Calls v e r w → Goes v w
@@ -54,7 +54,6 @@ goes_call v w e r h =
       lane = ap (λ (u : PassData). u.lane) h.1;
       lent = ap (λ (u : PassData). u.lent) h.1;
       seen = subst (λ (u : PassData). StartsWith u.seen v.seen) (sym h.1) (starts_more h.0 v.seen (last ∷ []) h.2);
-      mine = subst (λ (u : PassData). StartsWith u.mine v.mine) (sym h.1) (last ∷ [], refl);
     }
 
 pub in_place_call : (v w : PassData) (e : Event) (r : Reply) → Calls v e r w → IsInPlace v → IsInPlace w
@@ -71,6 +70,14 @@ pub claim_drawn : (v : PassData) (c : Claim) → IsInPlace v → HasDrawn c v.mi
 claim_drawn v c place drew =
     has_drawn v.ledger.plan (opening v.ledger.plan v.ledger.lanes) v.seen c place.legal.from
     (own_drawn v.number v.seen c (subst (HasDrawn c) (sym place.own) drew))
+
+-- it is a claim of the plan
+pub is_claim : (p : PlanData) (v : PassData) (c : Claim) → v.ledger.plan ≡ p → IsInPlace v → HasDrawn c v.mine → IsClaim p c
+is_claim p v c of place drew =
+    let drawn = claim_drawn v c place drew in record {
+      ticket = subst (λ (q : PlanData). c.ticket < count_of q) of drawn.ticket;
+      shard = subst (λ (q : PlanData). slice_index q.tickets c.ticket ≡ c.shard) of drawn.shard;
+    }
 
 -- and it is of a shard of the plan
 pub claims_shard : (v : PassData) (c : Claim) → IsInPlace v → HasDrawn c v.mine → c.shard < v.ledger.plan.shards
@@ -89,8 +96,8 @@ drawn_front c (e ∷ es) more (inl h) = inl h
 drawn_front c (e ∷ es) more (inr h) = inr (drawn_front c es more h)
 
 -- what was drawn stays drawn
-pub drawn_since : (v w : PassData) (c : Claim) → Goes v w → HasDrawn c v.mine → HasDrawn c w.mine
-drawn_since v w c g drew = subst (HasDrawn c) (sym g.mine.1) (drawn_front c v.mine g.mine.0 drew)
+pub drawn_since : (v w : PassData) (c : Claim) (further : List Entry) → w.mine ≡ v.mine ++ further → HasDrawn c v.mine → HasDrawn c w.mine
+drawn_since v w c further behind drew = subst (HasDrawn c) (sym behind) (drawn_front c v.mine further drew)
 
 -- a legal history's front is one, and what comes behind it goes on
 pub legal_parts : (p : PlanData) (x : LedgerState) (es ds : List Entry) → IsLegalFrom p x (es ++ ds)

@@ -1,4 +1,5 @@
 pub mod CallLemmas
 pub mod LeftLemmas
-pub mod TurnLemmas
+pub mod AdvanceLemmas
+pub mod OrderLemmas
 pub mod WonLemmas

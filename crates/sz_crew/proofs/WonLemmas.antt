@@ -1,6 +1,6 @@
 -- The shards that a worker won.
 use Rattle.std.proofs.Common.{◌≡◌, ◌≢◌, ◌⊎◌, ℕ, ◌+◌, ◌-◌, ◌==◌, Bool, cond, List, [], ◌∷◌, ◌++◌, refl, ap, sym, ◌∙◌, subst, inl, inr, ⊎_elim}
-use Rattle.std.proofs.Common.{arith, ne_eqb}
+use Rattle.std.proofs.Common.{arith, ne_eqb, append-nil, append_assoc}
 use Rattle.std.specs.Prelude.{slice_index}
 use Rattle.std.proofs.lemmas.List.{append_cancel_right}
 use mathlib.Core.Logic.{dite}
@@ -18,10 +18,10 @@ use Rattle.sz_book.specs.Machine.{LedgerState, opening}
 use Rattle.sz_book.specs.History.{entry, state_after, IsLegal, IsLegalFrom, calls_by, Settles, HasWon, HasGiven, IsAmong, AreDistinct, AreApart}
 use Rattle.sz_book.proofs.HistoryLemmas.{calls_own}
 use Rattle.sz_book.proofs.CountLemmas.{each_shard_counts_once}
-use Rattle.sz_claims.specs.Known.{PassData, Calls, AreInHand}
+use Rattle.sz_claims.specs.Known.{LedgerData, PassData, Calls, AreInHand}
 use Rattle.sz_claims.proofs.ForCallers.{in_hand_now, in_hand_still}
 use Rattle.sz_claims.proofs.UnplacedLemmas.{are_unplaced}
-use Rattle.sz_crew.specs.Working.{IsInPlace, AreWon, IsAtWork}
+use Rattle.sz_crew.specs.Working.{IsInPlace, Grows, HasAllWon, IsAtWork}
 use Rattle.sz_crew.proofs.CallLemmas.{in_place_call, legal_parts}
 
 won_before : (s : ℕ) (es : List Entry) (e : Entry) → HasWon s (es ++ e ∷ []) → HasWon s es ⊎ (Settles s e.event × (e.reply ≡ Won))
@@ -74,9 +74,9 @@ once_some : (n m : ℕ) → n ≡ m + 1 → once n ≡ 1
 once_some n m e = ap (λ (b : Bool). cond b 0 1) (ne_eqb n 0 (omega arith))
 
 -- a shard that a pass just won is none of those that it won before
-pub apart_now : (v w : PassData) (c : Claim) (k : ℕ) (shards : List ℕ) → Calls v (Settle c k) Won w → IsInPlace v → AreWon v shards
+pub apart_now : (v w : PassData) (c : Claim) (k : ℕ) (shards : List ℕ) → Calls v (Settle c k) Won w → IsInPlace v → AreInHand shards v.mine
     → ¬ IsAmong c.shard shards
-apart_now v w c k shards h place won in' =
+apart_now v w c k shards h place hand in' =
     let p : PlanData = v.ledger.plan in
     let start : LedgerState = opening p v.ledger.lanes in
     let e : Entry = entry v.number (Settle c k) [] Won in
@@ -91,63 +91,101 @@ apart_now v w c k shards h place won in' =
     (sym (calls_own v.number log e refl) ∙ ap (calls_by v.number) (sym seen) ∙ h.4 ∙ mine) in
     let mark = are_unplaced p v.ledger.lanes v.number log v.mine (c.shard ∷ []) place.plan legal own
     ((λ no. no), tt)
-    (λ s one. ⊎_elim (λ (is : c.shard ≡ s). subst (λ (t : ℕ). HasWon t v.mine) is (won.hand.won c.shard in')) (λ (no : ⊥). absurd no) one)
-    (λ s one. ⊎_elim (λ (is : c.shard ≡ s). subst (λ (t : ℕ). ¬ HasGiven t v.mine) is (won.hand.fresh c.shard in')) (λ (no : ⊥). absurd no) one) in
+    (λ s one. ⊎_elim (λ (is : c.shard ≡ s). subst (λ (t : ℕ). HasWon t v.mine) is (hand.won c.shard in')) (λ (no : ⊥). absurd no) one)
+    (λ s one. ⊎_elim (λ (is : c.shard ≡ s). subst (λ (t : ℕ). ¬ HasGiven t v.mine) is (hand.fresh c.shard in')) (λ (no : ⊥). absurd no) one) in
     let counts = (each_shard_counts_once p v.ledger.lanes log place.plan legal).held c.shard in
     let some = once_some (slice_index (state_after p start log).unplaced c.shard) v.number mark.0 in
     let none : once (slice_index (state_after p start log).winners c.shard) ≡ 0 = ap once open' in
     absurd (omega arith)
 
 -- a call that wins nothing leaves what was won
-pub won_still : (v w : PassData) (e : Event) (r : Reply) (shards : List ℕ) → Calls v e r w → ((s : ℕ) → Settles s e → ¬ (r ≡ Won)) → AreWon v shards
-    → AreWon w shards
-won_still v w e r shards h none won =
+pub all_still : (v w : PassData) (pocket : LaneData) (e : Event) (r : Reply) → Calls v e r w → ((s : ℕ) → Settles s e → ¬ (r ≡ Won))
+    → HasAllWon v pocket → HasAllWon w pocket
+all_still v w pocket e r h none all s has =
     let d : Entry = entry v.number e [] r in
-    let mine : w.mine ≡ v.mine ++ d ∷ [] = ap (λ (u : PassData). u.mine) h.1 in record {
-      hand = in_hand_still v w shards e r v.lane v.lent h won.hand;
-      all = λ s has. ⊎_elim
-          (λ (before : HasWon s v.mine). ⊎_elim (λ (a : IsAmong s shards). inl a)
-          (λ (g : HasGiven s v.mine). inr (subst (HasGiven s) (sym mine) (given_more s v.mine d g))) (won.all s before))
-          (λ (now : Settles s e × (r ≡ Won)). absurd (none s now.0 now.1))
-          (won_before s v.mine d (subst (HasWon s) mine has));
-    }
+    let mine : w.mine ≡ v.mine ++ d ∷ [] = ap (λ (u : PassData). u.mine) h.1 in
+    ⊎_elim
+    (λ (before : HasWon s v.mine). ⊎_elim (λ (a : IsAmong s pocket.shards). inl a)
+    (λ (g : HasGiven s v.mine). inr (subst (HasGiven s) (sym mine) (given_more s v.mine d g))) (all s before))
+    (λ (now : Settles s e × (r ≡ Won)). absurd (none s now.0 now.1)) (won_before s v.mine d (subst (HasWon s) mine has))
+
+-- and what is in the pocket
+pub hand_still : (v w : PassData) (pocket : LaneData) (e : Event) (r : Reply) → Calls v e r w → AreInHand pocket.shards v.mine
+    → AreInHand pocket.shards w.mine
+hand_still v w pocket e r h hand = in_hand_still v w pocket.shards e r v.lane v.lent h hand
 
 -- a shard that was just won stands behind those that were won before
-pub won_now : (v w : PassData) (c : Claim) (k : ℕ) (shards : List ℕ) → Calls v (Settle c k) Won w → IsInPlace v → AreWon v shards
-    → AreWon w (shards ++ c.shard ∷ [])
-won_now v w c k shards h place won =
+hand_now : (v w : PassData) (c : Claim) (k : ℕ) (pocket : LaneData) → Calls v (Settle c k) Won w → IsAtWork v pocket
+    → AreInHand (pocket.shards ++ c.shard ∷ []) w.mine
+hand_now v w c k pocket h at =
+    let away = apart_now v w c k pocket.shards h at.place at.hand in
+    let apart : AreApart pocket.shards (c.shard ∷ []) = λ s in' one.
+    ⊎_elim (λ (is : c.shard ≡ s). away (subst (λ (t : ℕ). IsAmong t pocket.shards) (sym is) in')) (λ (no : ⊥). no) one in
+    in_hand_joined pocket.shards (c.shard ∷ []) w.mine (hand_still v w pocket (Settle c k) Won h at.hand) (in_hand_now v w c k h) apart
+
+all_now : (v w : PassData) (c : Claim) (k : ℕ) (pocket : LaneData) → Calls v (Settle c k) Won w → HasAllWon v pocket → (s : ℕ) → HasWon s w.mine
+    → IsAmong s (pocket.shards ++ c.shard ∷ []) ⊎ HasGiven s w.mine
+all_now v w c k pocket h all s has =
     let d : Entry = entry v.number (Settle c k) [] Won in
     let mine : w.mine ≡ v.mine ++ d ∷ [] = ap (λ (u : PassData). u.mine) h.1 in
-    let away = apart_now v w c k shards h place won in
-    let before = in_hand_still v w shards (Settle c k) Won v.lane v.lent h won.hand in
-    let apart : AreApart shards (c.shard ∷ []) = λ s in' one.
-    ⊎_elim (λ (is : c.shard ≡ s). away (subst (λ (t : ℕ). IsAmong t shards) (sym is) in')) (λ (no : ⊥). no) one in record {
-      hand = in_hand_joined shards (c.shard ∷ []) w.mine before (in_hand_now v w c k h) apart;
-      all = λ s has. ⊎_elim
-          (λ (old : HasWon s v.mine). ⊎_elim (λ (a : IsAmong s shards). inl (among_front s shards (c.shard ∷ []) a))
-          (λ (g : HasGiven s v.mine). inr (subst (HasGiven s) (sym mine) (given_more s v.mine d g))) (won.all s old))
-          (λ (now : Settles s (Settle c k) × (Won ≡ Won)). inl (among_back s shards (c.shard ∷ []) (inl now.0)))
-          (won_before s v.mine d (subst (HasWon s) mine has));
-    }
+    ⊎_elim
+    (λ (old : HasWon s v.mine). ⊎_elim (λ (a : IsAmong s pocket.shards). inl (among_front s pocket.shards (c.shard ∷ []) a))
+    (λ (g : HasGiven s v.mine). inr (subst (HasGiven s) (sym mine) (given_more s v.mine d g))) (all s old))
+    (λ (now : Settles s (Settle c k) × (Won ≡ Won)). inl (among_back s pocket.shards (c.shard ∷ []) (inl now.0)))
+    (won_before s v.mine d (subst (HasWon s) mine has))
 
 -- an answer that comes late wins nothing
 pub late_not_won : (n : ℕ) → ¬ (Late n ≡ Won)
 late_not_won n e = absurd (cc)
 
-pub at_work_call : (p : PlanData) (v w : PassData) (pocket : LaneData) (e : Event) (r : Reply) → Calls v e r w
-    → ((s : ℕ) → Settles s e → ¬ (r ≡ Won)) → IsAtWork p v pocket → IsAtWork p w pocket
-at_work_call p v w pocket e r h none at = record {
-  of = ap (λ (u : PassData). u.ledger.plan) h.1 ∙ at.of;
-  place = in_place_call v w e r h at.place;
-  plan = at.plan;
-  won = won_still v w e r pocket.shards h none at.won;
+-- a pocket into which nothing was put
+pub grows_not : (old new : LaneData) → new ≡ old → Grows old new
+grows_not old new same = record {
+  plan = ap (λ (l : LaneData). l.plan) same;
+  further = [];
+  behind = ap (λ (l : LaneData). l.shards) same ∙ sym (append-nil old.shards);
 }
 
-pub at_work_won : (p : PlanData) (v w : PassData) (pocket longer : LaneData) (c : Claim) (k : ℕ) → Calls v (Settle c k) Won w
-    → longer.plan ≡ pocket.plan → longer.shards ≡ pocket.shards ++ c.shard ∷ [] → IsAtWork p v pocket → IsAtWork p w longer
-at_work_won p v w pocket longer c k h plan more at = record {
-  of = ap (λ (u : PassData). u.ledger.plan) h.1 ∙ at.of;
+pub grows_self : (old : LaneData) → Grows old old
+grows_self old = grows_not old old refl
+
+-- one shard more
+pub grows_by : (old new : LaneData) (s : ℕ) → new ≡ record { plan = old.plan; shards = old.shards ++ s ∷ [] } → Grows old new
+grows_by old new s is = record { plan = ap (λ (l : LaneData). l.plan) is; further = s ∷ []; behind = ap (λ (l : LaneData). l.shards) is }
+
+pub grows_then : (old mid new : LaneData) → Grows old mid → Grows mid new → Grows old new
+grows_then old mid new g h = record {
+  plan = h.plan ∙ g.plan;
+  further = g.further ++ h.further;
+  behind = h.behind ∙ ap (λ (ss : List ℕ). ss ++ h.further) g.behind ∙ append_assoc old.shards g.further h.further;
+}
+
+-- a call that wins nothing
+pub at_work_call : (v w : PassData) (pocket : LaneData) (e : Event) (r : Reply) → Calls v e r w → ((s : ℕ) → Settles s e → ¬ (r ≡ Won))
+    → IsAtWork v pocket → IsAtWork w pocket
+at_work_call v w pocket e r h none at = record {
+  place = in_place_call v w e r h at.place;
+  plan = at.plan ∙ sym (ap (λ (u : PassData). u.ledger.plan) h.1);
+  hand = hand_still v w pocket e r h at.hand;
+  all = all_still v w pocket e r h none at.all;
+}
+
+-- a shard was won, and its part is in the pocket
+pub at_work_won : (v w : PassData) (pocket longer : LaneData) (c : Claim) (k : ℕ) → Calls v (Settle c k) Won w → longer.plan ≡ pocket.plan
+    → longer.shards ≡ pocket.shards ++ c.shard ∷ [] → IsAtWork v pocket → IsAtWork w longer
+at_work_won v w pocket longer c k h plan more at = record {
   place = in_place_call v w (Settle c k) Won h at.place;
-  plan = plan ∙ at.plan;
-  won = subst (AreWon w) (sym more) (won_now v w c k pocket.shards h at.place at.won);
+  plan = plan ∙ at.plan ∙ sym (ap (λ (u : PassData). u.ledger.plan) h.1);
+  hand = subst (λ (ss : List ℕ). AreInHand ss w.mine) (sym more) (hand_now v w c k pocket h at);
+  all = λ s has. subst (λ (ss : List ℕ). IsAmong s ss ⊎ HasGiven s w.mine) (sym more) (all_now v w c k pocket h at.all s has);
+}
+
+-- what a worker knows again after several calls
+pub at_work_then : (v w : PassData) (old new : LaneData) → IsAtWork v old → w.ledger ≡ v.ledger → IsInPlace w → Grows old new
+    → AreInHand new.shards w.mine → HasAllWon w new → IsAtWork w new
+at_work_then v w old new at ledger place grows hand all = record {
+  place = place;
+  plan = grows.plan ∙ at.plan ∙ sym (ap (λ (l : LedgerData). l.plan) ledger);
+  hand = hand;
+  all = all;
 }

@@ -1,6 +1,7 @@
 -- what the public contracts rest on
 pub mod Makers
 pub mod Working
-pub mod Turns
+pub mod Advances
+pub mod Laws
 -- what the functions inside the crate promise each other
 pub mod Tickets

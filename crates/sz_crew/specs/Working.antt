@@ -1,11 +1,11 @@
 -- What a worker knows of its pass and of its pocket.
-use Rattle.std.specs.Prelude.{◌≡◌, ◌⊎◌, ℕ, List}
-use Rattle.sz_book.specs.Plan.{PlanData, IsPlan}
+use Rattle.std.specs.Prelude.{◌≡◌, ◌⊎◌, ℕ, List, ◌++◌}
+use Rattle.sz_book.specs.Plan.{IsPlan}
 use Rattle.sz_book.specs.Lanes.{LaneData}
 use Rattle.sz_book.specs.History.{IsLegal, calls_by, StartsWith, HasWon, HasGiven, IsAmong}
 use Rattle.sz_claims.specs.Known.{PassData, AreInHand}
 
--- further calls of a pass came behind those that it made and saw, and it is of the same ledger and holds the lane that it held
+-- what a pass saw is a beginning of what it then has seen, and it is of the same ledger and holds the lane that it held
 pub record Goes (v w : PassData) : Type 0 where
   pub ledger : w.ledger ≡ v.ledger
   pub number : w.number ≡ v.number
@@ -15,7 +15,6 @@ pub record Goes (v w : PassData) : Type 0 where
   pub lane : w.lane ≡ v.lane
   pub lent : w.lent ≡ v.lent
   pub seen : StartsWith w.seen v.seen
-  pub mine : StartsWith w.mine v.mine
 
 -- what the pass has seen is a legal history, in which its own calls are just those that it made
 pub record IsInPlace (v : PassData) : Type 0 where
@@ -23,14 +22,20 @@ pub record IsInPlace (v : PassData) : Type 0 where
   pub legal : IsLegal v.ledger.plan v.ledger.lanes v.seen
   pub own : calls_by v.number v.seen ≡ v.mine
 
--- the shards that the pass won, each once, but for those that it put into a lane of the ledger
-pub record AreWon (v : PassData) (shards : List ℕ) : Type 0 where
-  pub hand : AreInHand shards v.mine
-  pub all : (s : ℕ) → HasWon s v.mine → IsAmong s shards ⊎ HasGiven s v.mine
+-- the pocket has the shards that it had, in front of further ones
+pub record Grows (old new : LaneData) : Type 0 where
+  pub plan : new.plan ≡ old.plan
+  pub further : List ℕ
+  pub behind : new.shards ≡ old.shards ++ further
 
--- a worker's pass is of a ledger of this plan, and its pocket stands for the shards that it won
-pub record IsAtWork (p : PlanData) (v : PassData) (pocket : LaneData) : Type 0 where
-  pub of : v.ledger.plan ≡ p
+-- each shard that the pass won is in the pocket, but for those that it brought with a lane of the ledger
+abbrev pub HasAllWon : PassData → LaneData → Type 0
+HasAllWon v pocket = (s : ℕ) → HasWon s v.mine → IsAmong s pocket.shards ⊎ HasGiven s v.mine
+
+-- a worker's pocket has the plan of its pass's ledger, and stands for just the shards that the pass won and brought with no lane, each
+-- once
+pub record IsAtWork (v : PassData) (pocket : LaneData) : Type 0 where
   pub place : IsInPlace v
-  pub plan : pocket.plan ≡ p
-  pub won : AreWon v pocket.shards
+  pub plan : pocket.plan ≡ v.ledger.plan
+  pub hand : AreInHand pocket.shards v.mine
+  pub all : HasAllWon v pocket

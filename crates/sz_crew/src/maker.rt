@@ -1,7 +1,8 @@
 //! Who makes attempts.
 ghost use Rattle.std.specs.Prelude.{◌≡◌, ◌<◌, [], ◌∷◌, IfOk, OnOk, IfErr};
 ghost use Rattle.sz_book.specs.Plan.{PlanData};
-ghost use Rattle.sz_crew.specs.Makers.{IsTrueMiss, IsTruePart};
+ghost use Rattle.sz_book.specs.Books.{IsClaim};
+ghost use Rattle.sz_crew.specs.Makers.{IsTrueMiss, GivesEmits};
 
 use sz_book::{Claim, Load};
 
@@ -23,10 +24,11 @@ pub trait Maker<T: Load> {
 
     /// Makes attempt `number` on the claim's shard, counted from 0.
     fn attempt(&mut self, claim: &Claim, number: u32) -> Result<T, Missed>
+        requires claim { IsClaim (plan self.old) claim.now }
         requires within { claim.now.shard < (plan self.old).shards }
         requires number { number < (plan self.old).attempts }
         ensures part { IfOk result (λ part. (T.plan part ≡ plan self.old) × T.stands part (claim.now.shard ∷ [])) }
-        ensures gave { OnOk result (IsTruePart T.died T.faults claim.now.shard number) }
+        ensures gave { OnOk result (GivesEmits T.died T.faults claim.now.shard number) }
         ensures missed { IfErr result (λ why. IsTrueMiss T.died T.faults claim.now.shard number why) }
         ensures plan { plan self.new ≡ plan self.old };
 }

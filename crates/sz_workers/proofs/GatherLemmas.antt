@@ -6,7 +6,12 @@ use Rattle.std.proofs.lemmas.List.Sorted.{IsPermutation-refl, IsPermutation-appe
 use mathlib.Core.Logic.{dite}
 use native.Mathlib.Decide.{ℕ_discrete}
 use Rattle.sz_book.specs.History.{IsAmong, AreDistinct, AreApart}
-use Rattle.sz_workers.specs.Parts.{gathered, in_order}
+use Rattle.sz_workers.specs.Parts.{gathered}
+
+-- what a function gives for 0 and so on, below a number
+abbrev pub in_order : {A : Type 0} → (ℕ → List A) → ℕ → List A
+in_order f zero = []
+in_order f (suc n) = in_order f n ++ f n
 
 pub among_front : (s : ℕ) (ss ts : List ℕ) → IsAmong s ss → IsAmong s (ss ++ ts)
 among_front s [] ts h = absurd h

@@ -23,10 +23,10 @@ use Rattle.sz_workers.specs.Ends.{IsEndOf}
 use Rattle.sz_rounds.specs.declared.round.RoundEnd.TheVariants as ends
 use Rattle.sz_rounds.proofs.OutcomeLemmas.{lost_at, faulted_at, more_at, gives_means, faults_means, not_all, one_more_died, fewer_died}
 use Rattle.sz_rounds.proofs.RoundLemmas.{length-numbered, same_there, shard_there}
-use Rattle.sz_workers.specs.Parts.{given_by, given_in, emits_at, Counts, Dies, Faults, gathered, in_order, HoldsShards, are_apart}
+use Rattle.sz_workers.specs.Parts.{given_by, given_in, emits_at, Counts, Dies, Faults, gathered, HoldsShards, are_apart}
 use Rattle.sz_book.specs.Plan.{PlanData}
 use Rattle.sz_workers.specs.Running.{HasFront, NoneInFront, IsSet}
-use Rattle.sz_workers.proofs.GatherLemmas.{gives_all, among_front, among_back}
+use Rattle.sz_workers.proofs.GatherLemmas.{in_order, gives_all, among_front, among_back}
 use Rattle.sz_workers.proofs.PartLemmas.{counts_low, holds_one, stands_in_any_order}
 
 module _ (job : Job) (shards : List ShardData) where
@@ -172,15 +172,24 @@ fault_faults job round place k number fault less end = record {
   faults = ap is_clean (faults_means job end.0 k number (seen_fault fault) end.2);
 }
 
+-- an attempt with another end did not die
+lives_by : (job : Job) (round : Round) (place k : ℕ) (shard : ShardData) → slice_get (shards_of round) place ≡ Some shard
+    → dies_at (end_of job shard k) ≡ false → ¬ Dies job (shards_of round) place k
+lives_by job round place k shard there lives d =
+    let same : shard ≡ d.shard = same_there (shards_of round) place shard d.shard there d.there in
+    let still : dies_at (end_of job d.shard k) ≡ false = subst (λ (q : ShardData). dies_at (end_of job q k) ≡ false) same lives in
+    let wrong : true ≡ false = sym d.dies ∙ still in absurd (cc wrong)
+
+pub fault_lives : (job : Job) (round : Round) (place k number : ℕ) (fault : SeenFault) → IsEndOf job round place k (answers.Fault number fault)
+    → ¬ Dies job (shards_of round) place k
+fault_lives job round place k number fault end = lives_by job round place k end.0 end.1 (ap dies_at end.2)
+
 -- an attempt that gave its emits did not die, and its shard doesn't fault
 pub part_lives : (job : Job) (round : Round) (place k : ℕ) (total : TotalState) → IsEndOf job round place k (answers.Part total)
     → ¬ Dies job (shards_of round) place k × ¬ Faults job (shards_of round) place
 part_lives job round place k total end =
     let shards : List ShardData = shards_of round in (
-      (λ (d : Dies job shards place k).
-          let same : end.0 ≡ d.shard = same_there shards place end.0 d.shard end.1 d.there in
-          let lives : dies_at (end_of job d.shard k) ≡ false = subst (λ (q : ShardData). dies_at (end_of job q k) ≡ false) same (ap dies_at end.2.1) in
-          let wrong : true ≡ false = sym d.dies ∙ lives in absurd (cc wrong)),
+      lives_by job round place k end.0 end.1 (ap dies_at end.2.1),
       (λ (f : Faults job shards place).
           let same : end.0 ≡ f.shard = same_there shards place end.0 f.shard end.1 f.there in
           let clean : is_clean (shard_means job f.shard) ≡ true =

@@ -17,19 +17,16 @@ use Rattle.sz_workers.specs.Starting.{IsFresh}
 
 -- a worker whose pass made no call, and whose pocket is empty, is at work
 pub begins_work : (p : PlanData) (ledger : LedgerData) (v : PassData) (pocket : LaneData) → IsPlan p → ledger.plan ≡ p → IsFresh ledger v → pocket.plan ≡ p
-    → pocket.shards ≡ [] → IsAtWork p v pocket
+    → pocket.shards ≡ [] → IsAtWork v pocket
 begins_work p ledger v pocket plan of fresh same none = record {
-  of = ap (λ (l : LedgerData). l.plan) fresh.of ∙ of;
   place = record {
     plan = subst IsPlan (sym (ap (λ (l : LedgerData). l.plan) fresh.of ∙ of)) plan;
     legal = subst (IsLegal v.ledger.plan v.ledger.lanes) (sym fresh.seen) (record { from = tt });
     own = ap (calls_by v.number) fresh.seen ∙ sym fresh.mine;
   };
-  plan = same;
-  won = record {
-    hand = subst (λ (ss : List ℕ). AreInHand ss v.mine) (sym none) (none_in_hand v.mine);
-    all = λ s has. absurd (subst (HasWon s) fresh.mine has);
-  };
+  plan = same ∙ sym (ap (λ (l : LedgerData). l.plan) fresh.of ∙ of);
+  hand = subst (λ (ss : List ℕ). AreInHand ss v.mine) (sym none) (none_in_hand v.mine);
+  all = λ s has. absurd (subst (HasWon s) fresh.mine has);
 }
 
 -- a plan of a round is the plan of the round

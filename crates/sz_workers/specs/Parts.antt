@@ -1,5 +1,5 @@
 -- What tables stand for that hold the emits of some shards of a round.
-use Rattle.std.specs.Prelude.{◌≡◌, ◌⊎◌, ℕ, zero, suc, false, true, List, [], ◌∷◌, ◌++◌, length, Option, Some, None, slice_get, Bool, if◌then◌else◌}
+use Rattle.std.specs.Prelude.{◌≡◌, ◌⊎◌, ℕ, false, true, List, [], ◌∷◌, ◌++◌, length, Option, Some, None, slice_get, Bool, if◌then◌else◌}
 use Rattle.sz_words.specs.Lists.{is_among}
 use Rattle.sz_tabs.specs.Data.{EmitDatum}
 use Rattle.sz_mean.specs.Records.{Records, Emitted, FaultedAt}
@@ -63,11 +63,6 @@ module _ (job : Job) (shards : List ShardData) where
 abbrev pub gathered : {A : Type 0} → (ℕ → List A) → List ℕ → List A
 gathered f [] = []
 gathered f (s ∷ ss) = f s ++ gathered f ss
-
--- what it gives for 0 and so on, below a number
-abbrev pub in_order : {A : Type 0} → (ℕ → List A) → ℕ → List A
-in_order f zero = []
-in_order f (suc n) = in_order f n ++ f n
 
 -- the tables stand for the emits of these shards of the round, each once, and none of them faults or is lost
 pub record HoldsShards (job : Job) (round : Round) (total : TotalState) (ss : List ℕ) : Type 0 where

@@ -3,7 +3,7 @@ ghost use Rattle.std.specs.Prelude.{◌≡◌, ◌<◌, [], ◌∷◌, IfOk, OnO
 ghost use Rattle.sz_attempt.specs.Shards.{IsJob};
 ghost use Rattle.sz_rounds.specs.Rounds.{IsRound, shards_of};
 ghost use Rattle.sz_workers.specs.Ends.{IsEndOf};
-ghost use Rattle.sz_crew.specs.Makers.{IsTrueMiss, IsTruePart};
+ghost use Rattle.sz_crew.specs.Makers.{IsTrueMiss, GivesEmits};
 ghost use Rattle.sz_workers.specs.Parts.{Dies, Faults, HoldsShards};
 
 use crate::attempts::run_attempt;
@@ -53,8 +53,10 @@ fn part_of<'a, N: RoundName>(
     requires number { number < N.job.attempts }
     requires end { IsEndOf N.job N.round place number end }
     ensures part { IfOk result (λ part. HoldsShards N.job N.round part.total (place ∷ [])) }
-    ensures gave { OnOk result (IsTruePart (λ s k. Dies N.job (shards_of N.round) s k) (λ s. Faults N.job (shards_of N.round) s) place number) }
-    ensures missed { IfErr result (λ why. IsTrueMiss (λ s k. Dies N.job (shards_of N.round) s k) (λ s. Faults N.job (shards_of N.round) s) place number why) }
+    ensures gave { OnOk result (GivesEmits
+        (λ s k. Dies N.job (shards_of N.round) s k) (λ s. Faults N.job (shards_of N.round) s) place number) }
+    ensures missed { IfErr result (λ why. IsTrueMiss
+        (λ s k. Dies N.job (shards_of N.round) s k) (λ s. Faults N.job (shards_of N.round) s) place number why) }
 {
     match end {
         AttemptEnd::Part(total) => Ok(RoundPart {

@@ -23,7 +23,14 @@ pub trait RoundName {
 }
 
 impl RoundName for Brand {
-    ghost job = { record { compiled = record { items = []; locals = [] }; statics = []; budget = 0; attempts = 0; kills = []; twice = [] } };
+    ghost job = { record {
+      compiled = record { items = []; locals = [] };
+      statics = [];
+      budget = 0;
+      attempts = 0;
+      kills = [];
+      twice = [];
+    } };
 
     ghost round = { record { records = []; shards = []; first_shard = 0 } };
 }

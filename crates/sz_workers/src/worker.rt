@@ -79,7 +79,7 @@ impl<'a, 'r, G: Gate, N: RoundName> Worker<'a, 'r, G, N> {
             gate,
             of: PhantomData,
         };
-        work(&mut maker, plan, ledger, &mut pass, &mut pocket)?;
+        work(&mut maker, ledger, &mut pass, &mut pocket)?;
         Ok(pocket)
     }
 }

@@ -1,9 +1,12 @@
 //! Which attempts are made of shards, as gates count and hold them.
 use crate::command::{PLAIN, Setting, left_by, text_of};
+use std::alloc::Global;
+use std::sync::Wait;
 use std::sync::atomic::AtomicU64;
 use std::sync::atomic::Ordering::SeqCst;
 use std::test::Fail;
-use sz_io::Gate;
+use std::thread::Threads;
+use sz_io::{Gate, NoMemory};
 
 /// A program over two lines, and what it leaves where no shard is lost.
 const PROGRAM: &str =
@@ -74,6 +77,88 @@ fn killed_and_doubled_attempts_are_made(rt: HostRuntime) -> Result<(), Fail> {
         assert_eq!(&rt; found.as_str(), TABLES, "{words}");
         assert_eq!(&rt; gate.tickets.load(SeqCst), tickets, "{words}");
         assert_eq!(&rt; gate.attempts.load(SeqCst), attempts, "{words}");
+    }
+    Ok(())
+}
+
+/// A program that faults on an empty line.
+const FAULTS: &str = "c: table sum of int;¶x: int = input;¶if (x > 0) emit c <- 1;¶";
+
+// The second ticket of a shard that faults has its attempt, too. The caller makes one more of it, since none was won.
+#[test]
+fn each_ticket_of_a_shard_that_faults_has_an_attempt(rt: HostRuntime) -> Result<(), Fail> {
+    let program = text_of(rt.alloc(), FAULTS)?;
+    for (words, tickets, attempts) in [
+        ("run p f --shard 1 --workers 1", 0x111, 0x102),
+        (
+            "run p f --shard 1 --attempts 2 --twice 0 --workers 1",
+            0x1111,
+            0x112,
+        ),
+    ] {
+        let given = Setting {
+            words,
+            input: "¶1¶",
+            ..PLAIN
+        };
+        let gate = Counts {
+            tickets: AtomicU64::new(0),
+            attempts: AtomicU64::new(0),
+        };
+        let found = left_by(&rt, rt.alloc(), &given, program.as_bytes(), &gate)?;
+        assert_eq!(&rt;
+            found.as_str(),
+            "3 ! record 1: undefined value used at 3:1",
+            "{words}"
+        );
+        assert_eq!(&rt; gate.tickets.load(SeqCst), tickets, "{words}");
+        assert_eq!(&rt; gate.attempts.load(SeqCst), attempts, "{words}");
+    }
+    Ok(())
+}
+
+/// A gate that keeps the greatest number of a shard.
+#[derive(Drop)]
+struct Greatest {
+    shard: AtomicU64,
+}
+
+impl Gate for Greatest {
+    fn at(&self, _ticket: u32, shard: u64, _number: u32) {
+        self.shard.fetch_max(shard, SeqCst);
+    }
+}
+
+/// So many lines.
+fn lines_of(alloc: Global, count: usize) -> Result<String, NoMemory> {
+    let mut lines = String::with_capacity(alloc, 2 * count)?;
+    for _ in 0..count {
+        lines.push_str("1\n")?;
+    }
+    Ok(lines)
+}
+
+/// The greatest number of a shard that a gate is told in a run over so many lines, each a shard of its own.
+fn greatest_of<R: Threads + Wait + Sync>(rt: &R, alloc: Global, count: usize) -> Result<u64, Fail> {
+    let lines = lines_of(alloc, count)?;
+    let given = Setting {
+        words: "run p f --shard 1 --workers 2",
+        input: lines.as_str(),
+        ..PLAIN
+    };
+    let gate = Greatest {
+        shard: AtomicU64::new(0),
+    };
+    left_by(rt, alloc, &given, b"c: table sum of int;", &gate)?;
+    Ok(gate.shard.load(SeqCst))
+}
+
+// A round has 4,096 shards, and the gate is told the number of a shard in the whole input.
+#[test]
+fn the_shards_of_all_rounds_are_counted_on(rt: HostRuntime) -> Result<(), Fail> {
+    for (count, greatest) in [(4_096, 4_095), (4_097, 4_096)] {
+        let found = greatest_of(&rt, rt.alloc(), count)?;
+        assert_eq!(&rt; found, greatest, "{count}");
     }
     Ok(())
 }

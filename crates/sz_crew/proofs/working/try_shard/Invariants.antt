@@ -1,7 +1,7 @@
 use Rattle.std.specs.Prelude.{◌≡◌}
 use Rattle.sz_book.specs.History.{HasDrawn}
 use Rattle.sz_book.specs.Orderly.{asks}
-use Rattle.sz_crew.specs.Working.{IsAtWork}
+use Rattle.sz_crew.specs.Working.{Grows, IsAtWork}
 use Rattle.sz_crew.specs.Tickets.{Leads}
 use Rattle.sz_crew.proofs.LeftLemmas.{numbers_left}
 use Rattle.sz_crew.proofs.working.try_shard.Given as goal
@@ -9,8 +9,8 @@ use Rattle.sz_crew.proofs.working.try_shard.Given as goal
 -- the ticket is to ask for a number
 abbrev pub invariant-loop-number : goal.invariant-loop-number
 invariant-loop-number g l =
-    Leads g.T.Load.died g.T.Load.faults l.plan l.initial.pass l.pass l.claim.ticket asks asks × IsAtWork l.plan l.pass l.pocket
-    × HasDrawn l.claim l.pass.mine × (g.M.Maker.plan l.maker ≡ g.M.Maker.plan l.initial.maker)
+    Leads g.T.Load.died g.T.Load.faults l.ledger.plan l.initial.pass l.pass l.claim.ticket asks asks × IsAtWork l.pass l.pocket
+    × HasDrawn l.claim l.pass.mine × (g.M.Maker.plan l.maker ≡ g.M.Maker.plan l.initial.maker) × Grows l.initial.pocket l.pocket
 
 abbrev pub decreases-loop-number : goal.decreases-loop-number
 decreases-loop-number g l = numbers_left l.pass l.claim.shard

@@ -1,5 +1,5 @@
 use Rattle.std.specs.Prelude.{◌≡◌}
-use Rattle.sz_crew.specs.Working.{IsAtWork}
+use Rattle.sz_crew.specs.Working.{Grows, IsAtWork}
 use Rattle.sz_crew.specs.Tickets.{IsBetween}
 use Rattle.sz_crew.proofs.LeftLemmas.{tickets_left}
 use Rattle.sz_crew.proofs.working.work.Given as goal
@@ -7,8 +7,8 @@ use Rattle.sz_crew.proofs.working.work.Given as goal
 -- each ticket that was drawn has ended
 abbrev pub invariant-loop-claim : goal.invariant-loop-claim
 invariant-loop-claim g l =
-    IsBetween g.T.Load.died g.T.Load.faults l.plan l.initial.pass l.pass × IsAtWork l.plan l.pass l.pocket
-    × (g.M.Maker.plan l.maker ≡ g.M.Maker.plan l.initial.maker)
+    IsBetween g.T.Load.died g.T.Load.faults l.ledger.plan l.initial.pass l.pass × IsAtWork l.pass l.pocket
+    × (g.M.Maker.plan l.maker ≡ g.M.Maker.plan l.initial.maker) × Grows l.initial.pocket l.pocket
 
 abbrev pub decreases-loop-claim : goal.decreases-loop-claim
 decreases-loop-claim g l = tickets_left l.pass

@@ -1,6 +1,6 @@
 use Rattle.std.proofs.Common.{subst}
 use Rattle.sz_workers.specs.Ends.{IsEndOf}
-use Rattle.sz_workers.proofs.RestLemmas.{part_holds, part_lives, fault_faults, died_dies}
+use Rattle.sz_workers.proofs.RestLemmas.{part_holds, part_lives, fault_lives, fault_faults, died_dies}
 use Rattle.sz_workers.proofs.making.part_of.Goals as goal
 
 pub returns-in-Part-clause-part : goal.returns-in-Part-clause-part
@@ -21,8 +21,8 @@ pub returns-in-Fault-clause-missed : goal.returns-in-Fault-clause-missed
 returns-in-Fault-clause-missed g c =
     let job = g.N.RoundName.job in
     let round = g.N.RoundName.round in
-    fault_faults job round c.args.place c.args.number _ _ c.requires.number
-    (subst (IsEndOf job round c.args.place c.args.number) c.in-Fault.is c.requires.end)
+    let end = subst (IsEndOf job round c.args.place c.args.number) c.in-Fault.is c.requires.end in
+    (fault_lives job round c.args.place c.args.number _ _ end, fault_faults job round c.args.place c.args.number _ _ c.requires.number end)
 
 pub returns-in-Died-clause-missed : goal.returns-in-Died-clause-missed
 returns-in-Died-clause-missed g c =
