@@ -44,11 +44,7 @@ impl Drop for Written {
     #[cycle(drop)]
     fn drop(self) {
         match self {
-            Written::Bool
-            | Written::Int
-            | Written::Time
-            | Written::Str
-            | Written::Bytes
+            Written::Basic(_)
             | Written::Array(_)
             | Written::Map(_, _)
             | Written::Tuple(_)

@@ -228,7 +228,7 @@ fn types_are_given_back(alloc: Global) -> Result<bool, NoMemory> {
     types.push(Ty::Str)?;
     types.push(Ty::Int)?;
     let types = Tys::from_vec(copy_tys(alloc, &types)?.into_vec());
-    Ok(matches!(types.as_slice(), [Ty::Str, Ty::Int]))
+    Ok(matches!(types.as_slice(), [Ty::Str { .. }, Ty::Int { .. }]))
 }
 
 // A declaration of a table of this name.
