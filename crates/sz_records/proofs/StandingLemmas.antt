@@ -13,7 +13,7 @@ use Rattle.sz_records.specs.declared.limits.FrameLimits.{FrameLimits}
 use Rattle.sz_records.specs.declared.front.Front.{Front}
 use Rattle.sz_records.specs.declared.front.Front.TheVariants as fronts
 use Rattle.sz_records.specs.Fronts.{IsCounted}
-use Rattle.sz_records.specs.Cutting.{Standing, record_of, stopped, unfinished, by_limits, line_len, line_standing}
+use Rattle.sz_records.specs.Cutting.{record_of, stopped, unfinished, by_limits, line_len, line_standing}
 use Rattle.sz_records.specs.Cutting.{sized_standing, length_standing, frame_standing, standing}
 
 pub nothing_stands : (frame : Frame) (limits : FrameLimits) (p n : ℕ) (bytes : List ℕ) → length bytes ≡ 0 → standing frame limits p n bytes ≡ unfinished
