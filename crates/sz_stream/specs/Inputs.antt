@@ -1,5 +1,5 @@
 -- What running a job over an input gives.
-use Rattle.std.specs.Prelude.{◌≡◌, ℕ, ◌^◌, ⊤, Bool, true, List, ◌++◌, Option, Result, Ok, Err}
+use Rattle.std.specs.Prelude.{◌≡◌, ℕ, ◌^◌, ⊤, Bool, true, List, [], ◌++◌, Option, Result, Ok, Err}
 use Rattle.std.specs.Io.KnownBytes.{Consumes, IsAtEnd}
 use Rattle.sz_types.specs.declared.frame.Frame.{Frame}
 use Rattle.sz_core.specs.Programs.{Core}

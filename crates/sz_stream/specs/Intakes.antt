@@ -1,11 +1,11 @@
 -- What is known of an input that comes in pieces, and what taking a piece in, closing shards and moving on change.
-use Rattle.std.specs.Prelude.{◌≡◌, ℕ, ◌+◌, ◌<◌, ◌≤◌, ◌==◌, Bool, true, false, List, [], ◌∷◌, ◌++◌, length, drop, Option, Some, None, is_some, if◌then◌else◌}
+use Rattle.std.specs.Prelude.{◌≡◌, ◌⊎◌, ℕ, ◌+◌, ◌<◌, ◌≤◌, ◌==◌, Bool, true, false, List, [], ◌∷◌, ◌++◌, length, drop, Option, Some, None, is_some, if◌then◌else◌}
 use Rattle.sz_types.specs.declared.frame.Frame.{Frame}
 use Rattle.sz_records.specs.declared.ending.Ending.{Ending}
 use Rattle.sz_records.specs.declared.ending.Ending.TheVariants.{Whole}
 use Rattle.sz_records.specs.Cutting.{IsCut}
 use Rattle.sz_records.specs.Fed.{FramerData, HasRead}
-use Rattle.sz_records.specs.Shards.{IsShard, IsOpenAt}
+use Rattle.sz_records.specs.Shards.{IsShard}
 use Rattle.sz_rounds.specs.Cuts.{ranges_of}
 use Rattle.sz_stream.specs.declared.intake.Intake.{Intake}
 use Rattle.sz_stream.specs.Inputs.{full, GoesOn}
@@ -36,6 +36,7 @@ IsFed frame framer (Some e) read over given =
 -- nothing was read, and no record is at hand
 pub record IsEmpty (frame : Frame) (most : ℕ) (intake : Intake) : Type 0 where
   pub fed : IsFed frame intake.framer intake.ending [] false []
+  pub more : intake.ending ≡ None
   pub round : intake.round ≡ record { records = []; shards = []; first_shard = 0 }
   pub first : intake.first ≡ 1
   pub closed : intake.closed ≡ 0
@@ -50,23 +51,26 @@ pub record KeepsRound (old new : Intake) : Type 0 where
   pub limit : new.most ≡ old.most
 
 -- a piece was read, and records came behind those at hand
-pub record HasTaken (frame : Frame) (old new : Intake) (piece read : List ℕ) (given : List (List ℕ)) : Type 0 where
+pub record HasTaken (frame : Frame) (framer : FramerData) (ending : Option Ending) (before after : List (List ℕ)) (read : List ℕ) (over : Bool)
+    (given : List (List ℕ)) : Type 0 where
   pub added : List (List ℕ)
-  pub gained : new.round.records ≡ old.round.records ++ added
-  pub fed : IsFed frame new.framer new.ending (read ++ piece) (length piece == 0) (given ++ added)
+  pub gained : after ≡ before ++ added
+  pub fed : IsFed frame framer ending read over (given ++ added)
 
 -- the piece is taken in, whatever was read before it; an empty one is the end
 abbrev pub TakesIn : Intake → Intake → List ℕ → Type 0
 TakesIn old new piece = (frame : Frame) (read : List ℕ) (given : List (List ℕ)) → HasRead frame full old.framer read given → old.framer.ended ≡ None
-    → HasTaken frame old new piece read given
+    → HasTaken frame new.framer new.ending old.round.records new.round.records (read ++ piece) (length piece == 0) given
 
--- where the round isn't full, no more shards are closed; where it is, it has some
+-- Where the answer is that the round may grow, the ending isn't known. Where it isn't, the round has a shard, or the ending is known and
+-- all records are in closed shards
 abbrev pub IsAnswered : Intake → Bool → Type 0
-IsAnswered intake true = 0 < length intake.round.shards
-IsAnswered intake false = IsOpenAt intake.round.records intake.closed intake.most (is_some intake.ending)
+IsAnswered intake true = intake.ending ≡ None
+IsAnswered intake false =
+    (0 < length intake.round.shards) ⊎ ((is_some intake.ending ≡ true) × (length intake.round.records ≤ intake.closed))
 
 -- shards behind those of the round were closed, and all else is as before
-pub record Closes (old new : Intake) (full : Bool) : Type 0 where
+pub record Closes (old new : Intake) : Type 0 where
   pub sizes : List ℕ
   pub are : AreClosed old.most (is_some old.ending) (drop old.closed old.round.records) sizes
   pub shards : new.round.shards ≡ old.round.shards ++ ranges_of old.closed (old.first + old.closed) sizes
@@ -78,7 +82,6 @@ pub record Closes (old new : Intake) (full : Bool) : Type 0 where
   pub framer : new.framer ≡ old.framer
   pub ending : new.ending ≡ old.ending
   pub limit : new.most ≡ old.most
-  pub answered : IsAnswered new full
 
 -- behind the shards that are closed
 abbrev pub moved_on : Intake → Intake

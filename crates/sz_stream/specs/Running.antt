@@ -1,5 +1,6 @@
 -- What is known between two rounds, and what each step of the loop over them changes.
-use Rattle.std.specs.Prelude.{◌≡◌, ℕ, suc, ◌+◌, ◌*◌, ◌<◌, ◌≤◌, Bool, true, List, [], ◌++◌, length, Option, is_some, Result, Ok, Err}
+use Rattle.std.specs.Prelude.{◌≡◌, ℕ, suc, ◌+◌, ◌-◌, ◌*◌, ◌^◌, ◌<◌, ◌≤◌, Bool, true, false, List, [], ◌++◌, length, Option, Some, None, is_some}
+use Rattle.std.specs.Prelude.{Result, Ok, Err}
 use Rattle.std.specs.Io.KnownBytes.{Consumes, IsAtEnd}
 use Rattle.sz_types.specs.declared.frame.Frame.{Frame}
 use Rattle.sz_tabs.specs.Data.{EmitDatum}
@@ -8,6 +9,7 @@ use Rattle.sz_io.specs.declared.error.OutsideError.{OutsideError}
 use Rattle.sz_io.specs.declared.error.OutsideError.TheVariants as outside
 use Rattle.sz_records.specs.declared.ending.Ending.{Ending}
 use Rattle.sz_records.specs.declared.ending.Ending.TheVariants as endings
+use Rattle.sz_records.specs.Fed.{FramerData}
 use Rattle.sz_records.specs.Shards.{AreShards}
 use Rattle.sz_attempt.specs.declared.job.Job.{Job}
 use Rattle.sz_attempt.specs.Ends.{StandForEmits}
@@ -83,6 +85,26 @@ pub record CanRun (job : Job) (intake : Intake) (total : TotalState) : Type 0 wh
 abbrev pub Fills : Intake → Intake → Option (List ℕ) → Option (List ℕ) → Type 0
 Fills old new before after = (job : Job) (frame : Frame) (most : ℕ) (total : TotalState) (start : Option (List ℕ))
     → Reaches job frame most old total start before → Reaches job frame most new total start after
+
+-- how many bytes may still be read: no more than an input may have, and those of a length that is begun
+abbrev pub left_to_read : Option Ending → FramerData → ℕ
+left_to_read None framer = 2 ^ 40 + 10 - (framer.cutter.place + length framer.held)
+left_to_read (Some e) framer = 0
+
+-- a piece was read and taken in
+pub record ReadsPiece (old new : Intake) (before after : Option (List ℕ)) : Type 0 where
+  pub fills : Fills old new before after
+  pub can_read : CanRead new
+  pub less : left_to_read new.ending new.framer < left_to_read old.ending old.framer
+
+-- all these bytes were taken in, and then the end
+pub record HasTakenAll (job : Job) (frame : Frame) (most : ℕ) (intake : Intake) (total : TotalState) (bytes : List ℕ) : Type 0 where
+  pub reached : Reaches job frame most intake total (Some bytes) (Some [])
+  pub known : is_some intake.ending ≡ true
+
+abbrev pub TakesAll : Intake → Intake → List ℕ → Type 0
+TakesAll old new bytes = (job : Job) (frame : Frame) (most : ℕ) (total : TotalState) → IsRunning job frame most old total [] false
+    → HasTakenAll job frame most new total bytes
 
 -- the round has a shard, or the ending is known and no record is left
 abbrev pub IsReady : Intake → Type 0

@@ -1,6 +1,6 @@
 //! The records at hand of an input, and the round that is made of them.
 ghost use Rattle.std.specs.Prelude.{◌≡◌, ◌+◌, ◌<◌, ◌≤◌, ◌^◌, None, length, IfOk, OnOk};
-ghost use Rattle.sz_stream.specs.Intakes.{IsEmpty, TakesIn, KeepsRound, Closes, moved_on, end_of};
+ghost use Rattle.sz_stream.specs.Intakes.{IsEmpty, TakesIn, KeepsRound, Closes, IsAnswered, moved_on, end_of};
 
 use std::alloc::Global;
 use sz_attempt::Shard;
@@ -64,34 +64,35 @@ impl Intake {
         ensures taken { OnOk result (TakesIn self.old self.new piece.now) }
         ensures kept { KeepsRound self.old self.new }
     {
-        self.ending = if piece.is_empty() {
-            Some(self.framer.finish(&mut self.round.records)?)
-        } else {
-            self.framer.feed(piece, &mut self.round.records)?
-        };
+        if piece.is_empty() {
+            let ending = self.framer.finish(&mut self.round.records)?;
+            self.ending = Some(ending);
+            return Ok(());
+        }
+        self.ending = self.framer.feed(piece, &mut self.round.records)?;
         Ok(())
     }
 
-    /// Closes the next shards for as long as the round has room for them. The answer is whether it is full.
-    pub(crate) fn close_shards(&mut self) -> Result<bool, NoMemory>
+    /// Closes the next shards for as long as the round has room for them. The answer is whether the round may still grow: it isn't full, and
+    /// the ending isn't known.
+    pub(crate) fn wants_piece(&mut self) -> Result<bool, NoMemory>
         requires most { 1 ≤ self.old.most }
         requires within { self.old.closed ≤ length self.old.round.records }
         requires few { self.old.first + length self.old.round.records ≤ 2 ^ 31 + 1 }
-        ensures value { IfOk result (λ full. Closes self.old self.new full) }
+        ensures closed { OnOk result (Closes self.old self.new) }
+        ensures answer { IfOk result (λ wants. IsAnswered self.new wants) }
     {
         while self.round.shards.len() < MOST_SHARDS {
             let start = self.closed;
-            let Some(end) = shard_end(
-                &self.round.records,
-                start,
-                self.most,
-                self.ending.is_some(),
-            ) else {
-                return Ok(false);
+            let at_end = self.ending.is_some();
+            let Some(end) = shard_end(&self.round.records, start, self.most, at_end) else {
+                return Ok(!at_end);
             };
-            let bytes = self.bytes.saturating_add(bytes_of(&self.round.records, start, end));
+            let bytes = self
+                .bytes
+                .saturating_add(bytes_of(&self.round.records, start, end));
             if !self.round.shards.is_empty() && is_large(end, bytes) {
-                return Ok(true);
+                return Ok(false);
             }
             self.round.shards.push(Shard {
                 first: self.first + start as u64,
@@ -101,7 +102,7 @@ impl Intake {
             self.closed = end;
             self.bytes = bytes;
         }
-        Ok(true)
+        Ok(false)
     }
 
     /// The ending, where it is known and no shard is left to be run.

@@ -1,15 +1,13 @@
 //! An input, run.
-ghost use Rattle.std.specs.Prelude.{◌≡◌, ◌+◌, ◌<◌, ◌≤◌, ◌^◌, ℕ, List, Option, Some, length, IsTrue, IfErr, OnOk, IsErrOf};
+ghost use Rattle.std.specs.Prelude.{◌≡◌, ◌+◌, ◌<◌, ◌≤◌, ◌^◌, None, length, IsTrue, IfErr, OnOk, IsErrOf};
 ghost use Rattle.std.specs.Io.KnownBytes.{IsAtEnd};
-ghost use Rattle.sz_types.specs.declared.frame.Frame.{Frame};
 ghost use Rattle.sz_io.specs.Rose.{Rose};
 ghost use Rattle.sz_io.specs.Opened.{KeepsOtherFiles};
-ghost use Rattle.sz_total.specs.States.{TotalState, declarations, emit_count, shown};
+ghost use Rattle.sz_total.specs.States.{declarations, emit_count, shown};
 ghost use Rattle.sz_total.specs.Totals.{Joins};
-ghost use Rattle.sz_attempt.specs.declared.job.Job.{Job};
 ghost use Rattle.sz_attempt.specs.Shards.{IsJob};
 ghost use Rattle.sz_stream.specs.Inputs.{RunsInput, RunsFile};
-ghost use Rattle.sz_stream.specs.Running.{CanRead, CanRun, Fills, IsReady, RunsRound, StopsRound, ended_so};
+ghost use Rattle.sz_stream.specs.Running.{CanRead, CanRun, Fills, ReadsPiece, TakesAll, IsReady, RunsRound, StopsRound, ended_so};
 
 use crate::intake::Intake;
 use crate::stop::Stop;
@@ -63,7 +61,15 @@ pub fn run_file<'a, R: Threads + Wait + Sync, F: Files, G: Gate + Sync>(
         if let Some(ending) = intake.end() {
             return ended(total, ending);
         }
-        run_next(rt, alloc, job, settings.workers, &mut intake, &mut total, gate)?;
+        run_next(
+            rt,
+            alloc,
+            job,
+            settings.workers,
+            &mut intake,
+            &mut total,
+            gate,
+        )?;
     }
 }
 
@@ -85,17 +91,34 @@ pub fn run_bytes<'a, R: Threads + Wait + Sync, G: Gate + Sync>(
 {
     let mut intake = Intake::new(alloc, settings.frame, settings.shard);
     let mut total = Total::new(alloc, job.compiled.tables())?;
-    intake.take(bytes)?;
-    if intake.ending.is_none() {
-        intake.take(&[])?;
-    }
+    take_all(&mut intake, bytes)?;
     loop {
-        intake.close_shards()?;
+        let _ = intake.wants_piece()?;
         if let Some(ending) = intake.end() {
             return ended(total, ending);
         }
-        run_next(rt, alloc, job, settings.workers, &mut intake, &mut total, gate)?;
+        run_next(
+            rt,
+            alloc,
+            job,
+            settings.workers,
+            &mut intake,
+            &mut total,
+            gate,
+        )?;
     }
+}
+
+/// Takes in an input as one piece, and then its end.
+fn take_all(intake: &mut Intake, bytes: &[u8]) -> Result<(), NoMemory>
+    requires more { intake.old.ending ≡ None }
+    ensures ok { OnOk result (TakesAll intake.old intake.new bytes.now) }
+{
+    intake.take(bytes)?;
+    if intake.ending.is_some() {
+        return Ok(());
+    }
+    intake.take(&[])
 }
 
 /// Reads pieces of a file until its next round is full, or its ending is known.
@@ -110,16 +133,36 @@ fn fill<F: Files>(
     requires can_read { CanRead intake.old }
     ensures ok { OnOk result (Fills intake.old intake.new (F.left files.old file) (F.left files.new file)) }
     ensures ready { OnOk result (IsReady intake.new) }
+    ensures first { OnOk result (intake.new.first ≡ intake.old.first) }
     ensures failed { IsErrOf result OutsideError.Failed → Rose (F.faults files.old) (F.faults files.new) }
     ensures kept { KeepsOtherFiles F.held F.left F.given F.names F.faults file files.old files.new }
 {
-    while !intake.close_shards()? && intake.ending.is_none() {
-        match files.read(file, buffer) {
-            Ok(count) => intake.take(&buffer[..count])?,
-            Err(Failed) => return Err(OutsideError::Failed),
-        }
+    while intake.wants_piece()? {
+        read_piece(intake, files, file, buffer)?;
     }
     Ok(())
+}
+
+/// Reads the next piece of a file.
+fn read_piece<F: Files>(
+    intake: &mut Intake,
+    files: &mut F,
+    file: u32,
+    buffer: &mut [u8],
+) -> Result<(), OutsideError>
+    requires given { IsTrue (F.given files.old file) }
+    requires room { 0 < length buffer.old }
+    requires can_read { CanRead intake.old }
+    requires more { intake.old.ending ≡ None }
+    ensures ok { OnOk result (ReadsPiece intake.old intake.new (F.left files.old file) (F.left files.new file)) }
+    ensures first { intake.new.first ≡ intake.old.first }
+    ensures failed { IsErrOf result OutsideError.Failed → Rose (F.faults files.old) (F.faults files.new) }
+    ensures kept { KeepsOtherFiles F.held F.left F.given F.names F.faults file files.old files.new }
+{
+    match files.read(file, buffer) {
+        Ok(count) => Ok(intake.take(&buffer[..count])?),
+        Err(Failed) => Err(OutsideError::Failed),
+    }
 }
 
 /// Runs the next round by so many workers, merges its tables into the total, and moves on behind it.

@@ -5,7 +5,6 @@ mod JudgeLemmas
 mod JudgementLemmas
 mod MainLemmas
 mod OpeningLemmas
-mod RoundsLemmas
 mod RunningLemmas
 mod SelftestLemmas
 mod SettingsLemmas
