@@ -5,7 +5,6 @@ use sz_value::Slots;
 use sz_words::{Kills, Twice};
 
 /// What the attempts of a run have in common.
-#[derive(Drop)]
 pub struct Job {
     /// The program.
     pub compiled: Compiled,
@@ -19,6 +18,19 @@ pub struct Job {
     pub kills: Kills,
     /// The shards with a second ticket.
     pub twice: Twice,
+}
+
+impl Drop for Job {
+    fn drop(self) {
+        let Job {
+            compiled: _,
+            statics: _,
+            budget: _,
+            attempts: _,
+            kills: _,
+            twice: _,
+        } = self;
+    }
 }
 
 /// Where a shard lies among records that are at hand.

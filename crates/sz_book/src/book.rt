@@ -19,13 +19,23 @@ use std::sync::{Mutex, Wait};
 /// and answered; if it doesn't, nothing changes.
 ///
 /// Contracts see its plan. What the lock keeps is told by no call but the last one; what a call answers is held against the plan.
-#[derive(Drop)]
 pub struct Book<T: Load> {
     plan: Plan,
     shelf: Mutex<Shelf<T>>,
     // What `close` fills.
     settled: Vec<u64>,
     deaths: Vec<u64>,
+}
+
+impl<T: Load> Drop for Book<T> {
+    fn drop(self) {
+        let Book {
+            plan: _,
+            shelf: _,
+            settled: _,
+            deaths: _,
+        } = self;
+    }
 }
 
 impl<T: Load> Model for Book<T> {
@@ -42,9 +52,14 @@ impl<T: Load> Model for Book<T> {
 /// What a caller of a book holds. The first one can be split as often as there are passes to be made.
 ///
 /// Contracts see how many passes may still be split off.
-#[derive(Drop)]
 pub struct BookPass {
     left: u32,
+}
+
+impl Drop for BookPass {
+    fn drop(self) {
+        let BookPass { left: _ } = self;
+    }
 }
 
 impl Model for BookPass {

@@ -9,7 +9,6 @@ use sz_list::Items;
 pub type Words = Items<u64>;
 
 /// A closed ledger.
-#[derive(Drop)]
 pub struct Closed<T: Load> {
     /// The lanes, in order.
     pub lanes: Vec<Lane<T>>,
@@ -19,4 +18,15 @@ pub struct Closed<T: Load> {
     pub deaths: Words,
     /// The least shard that was marked bad.
     pub least_bad: Option<u32>,
+}
+
+impl<T: Load> Drop for Closed<T> {
+    fn drop(self) {
+        let Closed {
+            lanes: _,
+            settled: _,
+            deaths: _,
+            least_bad: _,
+        } = self;
+    }
 }

@@ -17,13 +17,23 @@ use std::marker::{Model, PhantomData};
 ///
 /// Contracts see its plan, the number of its lanes, the state of the machine and the history. The type keeps that the history replays
 /// to the state, that each noted death is of an attempt that died, and that the least bad shard faults, by the meanings of `T`.
-#[derive(Drop)]
 pub struct Held<T: Load> {
     core: Core,
     changes: Vec<Change>,
     /// The shards that came with the changes, behind one another.
     brought: Reserved,
     meanings: PhantomData<T>,
+}
+
+impl<T: Load> Drop for Held<T> {
+    fn drop(self) {
+        let Held {
+            core: _,
+            changes: _,
+            brought: _,
+            meanings: _,
+        } = self;
+    }
 }
 
 impl<T: Load> Model for Held<T> {

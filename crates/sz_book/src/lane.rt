@@ -17,11 +17,20 @@ pub type Shards = Items<u32>;
 /// A load with the list of the shards that it stands for.
 ///
 /// Contracts see the plan of the load, and the list.
-#[derive(Drop)]
 pub struct Lane<T: Load> {
     load: T,
     shards: Shards,
     alloc: Global,
+}
+
+impl<T: Load> Drop for Lane<T> {
+    fn drop(self) {
+        let Lane {
+            load: _,
+            shards: _,
+            alloc: _,
+        } = self;
+    }
 }
 
 impl<T: Load> Model for Lane<T> {

@@ -23,7 +23,6 @@ type Row = Items<u32>;
 /// The ledger of a round as a value, for one caller. A lane that comes back takes all shards that are in none.
 ///
 /// Contracts see its plan, the number of its lanes and the state of the machine.
-#[derive(Drop)]
 pub struct Core {
     plan: Plan,
     drawn: u32,
@@ -41,6 +40,23 @@ pub struct Core {
     /// For each lane, its shards, with room for all.
     lists: Vec<Reserved>,
     alloc: Global,
+}
+
+impl Drop for Core {
+    fn drop(self) {
+        let Core {
+            plan: _,
+            drawn: _,
+            given: _,
+            deaths: _,
+            winners: _,
+            unplaced: _,
+            least_bad: _,
+            outs: _,
+            lists: _,
+            alloc: _,
+        } = self;
+    }
 }
 
 impl Model for Core {

@@ -16,11 +16,20 @@ pub type Tickets = Items<u32>;
 ///
 /// The type keeps that there are 1 to 8 attempts and fewer than 2^32 tickets, that each ticket is of one of the shards, and that
 /// each shard has one ticket or two.
-#[derive(Drop)]
 pub struct Plan {
     shards: u32,
     attempts: u32,
     tickets: Tickets,
+}
+
+impl Drop for Plan {
+    fn drop(self) {
+        let Plan {
+            shards: _,
+            attempts: _,
+            tickets: _,
+        } = self;
+    }
 }
 
 impl Model for Plan {

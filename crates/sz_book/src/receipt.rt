@@ -6,10 +6,15 @@ use std::marker::Model;
 use std::snapshot::Snapshot;
 
 /// Shows that a settlement was won. It can't be copied. At run time it keeps the shard alone; contracts know the plan too.
-#[derive(Drop)]
 pub struct Receipt {
     shard: u32,
     plan: Snapshot<Plan>,
+}
+
+impl Drop for Receipt {
+    fn drop(self) {
+        let Receipt { shard: _, plan: _ } = self;
+    }
 }
 
 impl Model for Receipt {

@@ -8,10 +8,15 @@ use std::marker::Model;
 /// Shards, in order, with room for so many. Memory is taken where it is made, and by no later call.
 ///
 /// Contracts see the room and the shards.
-#[derive(Drop)]
 pub struct Reserved {
     held: Vec<u32>,
     room: usize,
+}
+
+impl Drop for Reserved {
+    fn drop(self) {
+        let Reserved { held: _, room: _ } = self;
+    }
 }
 
 impl Model for Reserved {

@@ -16,12 +16,21 @@ use std::alloc::Global;
 use std::marker::Model;
 
 /// A held ledger, with the lanes that are home.
-#[derive(Drop)]
 pub struct Shelf<T: Load> {
     held: Held<T>,
     homes: Vec<Option<Lane<T>>>,
     // What the end of the ledger fills.
     spare: Vec<Lane<T>>,
+}
+
+impl<T: Load> Drop for Shelf<T> {
+    fn drop(self) {
+        let Shelf {
+            held: _,
+            homes: _,
+            spare: _,
+        } = self;
+    }
 }
 
 impl<T: Load> Model for Shelf<T> {

@@ -1,17 +1,22 @@
-//! Calls of a book by two passes on one thread, with answers worked by hand. A call is told as its event, an answer as its reply.
-use crate::plans::{FIRST, SECOND, four_shards, one_shard, one_ticket};
+//! Calls of a book by two passes on one thread, which the ledger of one thread takes in too, with answers worked by hand. A call is
+//! told as its event, an answer as its reply.
+use crate::held_rows::first_difference;
+use crate::plans::Small::{FourShards, OneShard, OneTicket};
+use crate::plans::{FIRST, SECOND, Small, plan_of};
 use crate::tally::{Tally, one_lane};
 use std::alloc::Global;
 use std::process::Abort;
 use std::sync::Wait;
-use std::test::Fail;
-use sz_book::{Book, BookPass, Closed, Event, Lane, NoMemory, Plan, Reply, Settled};
+use sz_book::{Book, BookPass, Closed, Core, Event, Lane, NoMemory, Reply, Settled};
 
 // Whether the first pass calls, the event and the reply.
 type Call = (bool, Event, Reply);
 
 // What is left: the word of shard 0, its deaths, the least bad shard, and how many lanes are home.
 type End = (u64, u64, Option<u32>, usize);
+
+// The calls, whether their events fit, of which each is taken in by the ledger of one thread then, and what is left of the book.
+type Run = (Small, &'static [Call], bool, End);
 
 const OF_TWO_ONE_WINS: &[Call] = &[
     (true, Event::Draw, Reply::Ticket(Some(FIRST))),
@@ -24,40 +29,70 @@ const OF_TWO_ONE_WINS: &[Call] = &[
     (false, Event::Number(SECOND), Reply::Number(None)),
 ];
 
-const TWO_DEATHS_LOSE_A_SHARD: &[Call] = &[
+// A shard is lost by two deaths.
+const TWO_DEATHS_LOSE: &[Call] = &[
     (true, Event::Draw, Reply::Ticket(Some(FIRST))),
     (true, Event::Number(FIRST), Reply::Number(Some(0))),
     (true, Event::Died(FIRST, 0), Reply::Noted),
     (true, Event::Number(FIRST), Reply::Number(Some(1))),
     (true, Event::Died(FIRST, 1), Reply::Noted),
     (true, Event::Number(FIRST), Reply::Number(None)),
+    (true, Event::Bad(0), Reply::Noted),
 ];
 
-const THE_LEAST_BAD_SHARD_STAYS: &[Call] = &[
+// Of bad shards the least one stays.
+const THE_LEAST_STAYS: &[Call] = &[
     (true, Event::Bad(3), Reply::Noted),
     (true, Event::Bad(1), Reply::Noted),
     (true, Event::Bad(2), Reply::Noted),
 ];
 
-const A_LANE_IS_LENT_AGAIN: &[Call] = &[
+const A_LANE_TWICE: &[Call] = &[
     (true, Event::LaneOut(0), Reply::Lane(true)),
     (true, Event::LaneBack(0), Reply::Noted),
     (true, Event::LaneOut(0), Reply::Lane(true)),
 ];
 
-const A_LANE_IS_LENT_TO_ONE: &[Call] = &[
+const A_LANE_TO_ONE: &[Call] = &[
     (true, Event::LaneOut(0), Reply::Lane(true)),
     (false, Event::LaneOut(0), Reply::Lane(false)),
     (true, Event::LaneBack(0), Reply::Noted),
 ];
 
+const A_LANE_TO_EACH: &[Call] = &[
+    (true, Event::LaneOut(0), Reply::Lane(true)),
+    (false, Event::LaneOut(0), Reply::Lane(false)),
+    (true, Event::LaneBack(0), Reply::Noted),
+    (false, Event::LaneOut(0), Reply::Lane(true)),
+];
+
+// What nobody drew or was lent.
 const WHAT_DOES_NOT_FIT: &[Call] = &[
     (true, Event::Number(FIRST), Reply::Number(None)),
+    (true, Event::Settle(FIRST, 0), Reply::Late(0)),
     (true, Event::Settle(FIRST, 1), Reply::Late(1)),
     (true, Event::Died(FIRST, 0), Reply::Noted),
     (true, Event::Bad(1), Reply::Noted),
     (true, Event::LaneOut(1), Reply::Lane(false)),
+    (true, Event::LaneBack(0), Reply::Noted),
 ];
+
+const RUNS: &[Run] = &[
+    (OneShard, OF_TWO_ONE_WINS, true, (2, 0, None, 1)),
+    (OneTicket, TWO_DEATHS_LOSE, true, (0, 3, Some(0), 1)),
+    (OneShard, TWO_DEATHS_LOSE, true, (0, 3, Some(0), 1)),
+    (FourShards, THE_LEAST_STAYS, true, (0, 0, Some(1), 1)),
+    (OneTicket, A_LANE_TWICE, true, (0, 0, None, 0)),
+    (OneTicket, A_LANE_TO_ONE, true, (0, 0, None, 1)),
+    (OneShard, A_LANE_TO_EACH, true, (0, 0, None, 0)),
+    (OneTicket, WHAT_DOES_NOT_FIT, false, (0, 0, None, 1)),
+    (OneShard, WHAT_DOES_NOT_FIT, false, (0, 0, None, 1)),
+];
+
+// The runs behind a call, so that no proof sees them.
+fn runs() -> &'static [Run] {
+    RUNS
+}
 
 fn told(settled: Settled) -> Reply {
     match settled {
@@ -121,11 +156,10 @@ fn right_calls<W: Wait>(
     calls: &[Call],
 ) -> usize {
     let mut out = None;
-    for i in 0..calls.len() {
-        let (is_first, event, reply) = calls[i];
-        let pass = if is_first { &mut *a } else { &mut *b };
-        if answer(rt, book, pass, &mut out, &event) != reply {
-            return i;
+    for (number, (is_first, event, reply)) in calls.iter().enumerate() {
+        let pass = if *is_first { &mut *a } else { &mut *b };
+        if answer(rt, book, pass, &mut out, event) != *reply {
+            return number;
         }
     }
     calls.len()
@@ -137,57 +171,76 @@ fn end_of(closed: &Closed<Tally>) -> End {
     (settled, deaths, closed.least_bad, closed.lanes.len())
 }
 
-// How many calls were right, and what is left.
-fn run<W: Wait>(
+// A book of one lane, with its first pass.
+fn made(alloc: Global, small: Small) -> Result<(Book<Tally>, BookPass), NoMemory> {
+    let plan = plan_of(alloc, small)?;
+    let lanes = one_lane(alloc, &plan)?;
+    Book::make(alloc, plan, lanes, 2)
+}
+
+// How many calls of a book were right, and what is left of it.
+fn of_book<W: Wait>(
     rt: &W,
     alloc: Global,
-    plan: Plan,
+    small: Small,
     calls: &[Call],
-) -> Result<Option<(usize, End)>, NoMemory> {
-    let lanes = one_lane(alloc, &plan)?;
-    let (book, mut a) = Book::make(alloc, plan, lanes, 2)?;
-    let Some(mut b) = book.split(rt, &mut a) else {
-        return Ok(None);
-    };
-    let right = right_calls(rt, &book, &mut a, &mut b, calls);
-    book.join(rt, &mut a, b);
+) -> Result<(usize, End), NoMemory> {
+    let (book, mut a) = made(alloc, small)?;
+    let mut right = 0;
+    if let Some(mut b) = book.split(rt, &mut a) {
+        right = right_calls(rt, &book, &mut a, &mut b, calls);
+        book.join(rt, &mut a, b);
+    }
     let closed = book.close(rt, a);
-    Ok(Some((right, end_of(&closed))))
+    let end = end_of(&closed);
+    drop(closed);
+    Ok((right, end))
 }
 
-#[test]
-fn a_book_answers_as_the_machine_does(rt: HostRuntime) -> Result<(), Fail> {
-    let alloc = rt.alloc();
-    let found = run(&rt, alloc, one_shard(alloc)?, OF_TWO_ONE_WINS)?;
-    assert_eq!(rt; found, Some((8, (2, 0, None, 1))));
-    let found = run(&rt, alloc, one_ticket(alloc)?, TWO_DEATHS_LOSE_A_SHARD)?;
-    assert_eq!(rt; found, Some((6, (0, 3, None, 1))));
-    let found = run(&rt, alloc, four_shards(alloc)?, THE_LEAST_BAD_SHARD_STAYS)?;
-    assert_eq!(rt; found, Some((3, (0, 0, Some(1), 1))));
-    Ok(())
+// Whether the ledger of one thread takes an event in, and answers so.
+fn takes(core: &mut Core, event: &Event, reply: &Reply) -> Result<bool, NoMemory> {
+    if !core.fits(event) {
+        return Ok(false);
+    }
+    let found = core.step(event)?;
+    Ok(found == *reply)
 }
 
-#[test]
-fn a_lane_is_lent_once_at_a_time(rt: HostRuntime) -> Result<(), Fail> {
-    let alloc = rt.alloc();
-    let found = run(&rt, alloc, one_ticket(alloc)?, A_LANE_IS_LENT_AGAIN)?;
-    assert_eq!(rt; found, Some((3, (0, 0, None, 0))));
-    let found = run(&rt, alloc, one_ticket(alloc)?, A_LANE_IS_LENT_TO_ONE)?;
-    assert_eq!(rt; found, Some((3, (0, 0, None, 1))));
-    let found = run(&rt, alloc, one_ticket(alloc)?, WHAT_DOES_NOT_FIT)?;
-    assert_eq!(rt; found, Some((5, (0, 0, None, 1))));
-    Ok(())
+// How many of the events the ledger of one thread takes in, and answers as it should.
+fn taken(core: &mut Core, calls: &[Call]) -> Result<usize, NoMemory> {
+    let mut count = 0usize;
+    for (_, event, reply) in calls {
+        if takes(core, event, reply)? {
+            count = count.wrapping_add(1);
+        }
+    }
+    Ok(count)
 }
 
+// The same of a ledger with one lane.
+fn of_core(alloc: Global, small: Small, calls: &[Call]) -> Result<usize, NoMemory> {
+    let plan = plan_of(alloc, small)?;
+    let mut core = Core::new(alloc, &plan, 1)?;
+    taken(&mut core, calls)
+}
+
+// Whether as many passes are made as there may be.
 fn splits<W: Wait>(rt: &W, alloc: Global, passes: u32) -> Result<bool, NoMemory> {
-    let plan = one_ticket(alloc)?;
+    let plan = plan_of(alloc, OneTicket)?;
     let (book, mut a) = Book::<Tally>::make(alloc, plan, Vec::new(alloc), passes.max(1))?;
     Ok(book.split(rt, &mut a).is_some())
 }
 
 #[test]
-fn as_many_passes_are_made_as_there_may_be(rt: HostRuntime) -> Result<(), Fail> {
-    assert!(rt; !splits(&rt, rt.alloc(), 1)?);
-    assert!(rt; splits(&rt, rt.alloc(), 2)?);
-    Ok(())
+fn ledgers_answer_as_the_machine_does(rt: HostRuntime) {
+    let alloc = rt.alloc();
+    for (run, (small, calls, fit, end)) in runs().iter().enumerate() {
+        let found = of_book(&rt, alloc, *small, calls);
+        assert_eq!(rt; found, Ok((calls.len(), *end)), "in run {run}");
+        let wanted = if *fit { calls.len() } else { 0 };
+        assert_eq!(rt; of_core(alloc, *small, calls), Ok(wanted), "in run {run}");
+    }
+    assert_eq!(rt; first_difference(alloc), Ok(None), "of a held ledger");
+    let found = [splits(&rt, alloc, 1), splits(&rt, alloc, 2)];
+    assert_eq!(rt; found, [Ok(false), Ok(true)], "of passes");
 }

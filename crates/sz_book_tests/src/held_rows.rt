@@ -2,8 +2,6 @@
 use crate::plans::{FIRST, SECOND, one_shard};
 use crate::tally::Tally;
 use std::alloc::Global;
-use std::process::Abort;
-use std::test::Fail;
 use sz_book::{Claim, Event, Held, NoMemory, Reply};
 
 // An event, the shards that come with it, and its reply, or none where it doesn't fit.
@@ -63,20 +61,18 @@ fn reply_to(held: &mut Held<Tally>, event: &Event, shards: &[u32]) -> Option<Rep
     }
 }
 
-// The place of the first event that is answered otherwise.
-fn first_difference(alloc: Global, rows: &[Row]) -> Result<Option<usize>, NoMemory> {
-    let mut held = Held::new(alloc, &one_shard(alloc)?, 1)?;
-    for i in 0..rows.len() {
-        let (event, shards, reply) = rows[i];
-        if reply_to(&mut held, &event, shards) != reply {
-            return Ok(Some(i));
+fn differs(held: &mut Held<Tally>, rows: &[Row]) -> Option<usize> {
+    for (number, (event, shards, reply)) in rows.iter().enumerate() {
+        if reply_to(held, event, shards) != *reply {
+            return Some(number);
         }
     }
-    Ok(None)
+    None
 }
 
-#[test]
-fn a_held_ledger_answers_as_the_machine_does(rt: HostRuntime) -> Result<(), Fail> {
-    assert_eq!(rt; first_difference(rt.alloc(), rows())?, None);
-    Ok(())
+/// The place of the first event that is answered otherwise.
+pub fn first_difference(alloc: Global) -> Result<Option<usize>, NoMemory> {
+    let plan = one_shard(alloc)?;
+    let mut held = Held::new(alloc, &plan, 1)?;
+    Ok(differs(&mut held, rows()))
 }

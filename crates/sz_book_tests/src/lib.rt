@@ -4,8 +4,6 @@
 #[cfg(test)]
 mod book_rows;
 #[cfg(test)]
-mod core_rows;
-#[cfg(test)]
 mod held_rows;
 #[cfg(test)]
 mod lanes;

@@ -29,6 +29,22 @@ pub fn four_shards(alloc: Global) -> Result<Plan, NoMemory>
     Ok(Plan::new(4, 1, tickets))
 }
 
+/// Which of these plans.
+#[derive(Clone, Copy)]
+pub enum Small {
+    OneShard,
+    OneTicket,
+    FourShards,
+}
+
+pub fn plan_of(alloc: Global, small: Small) -> Result<Plan, NoMemory> {
+    match small {
+        Small::OneShard => one_shard(alloc),
+        Small::OneTicket => one_ticket(alloc),
+        Small::FourShards => four_shards(alloc),
+    }
+}
+
 /// The claim of the first ticket of shard 0.
 pub const FIRST: Claim = Claim {
     ticket: 0,

@@ -42,7 +42,9 @@ fn two_threads_settle_each_shard(rt: HostRuntime) -> Result<(), Fail> {
     let (mut first, second) = work_both(&rt, &book, first, second);
     book.join(&rt, &mut first, second);
     let closed = book.close(&rt, first);
-    assert_eq!(rt; closed.settled.as_slice(), [1u64, 1, 1, 1].as_slice());
-    assert!(rt; closed.least_bad.is_none());
+    let is_settled = closed.settled.as_slice() == [1u64, 1, 1, 1].as_slice();
+    let is_good = closed.least_bad.is_none();
+    drop(closed);
+    assert_eq!(rt; (is_settled, is_good), (true, true));
     Ok(())
 }

@@ -31,10 +31,17 @@ pub enum Kind<'a> {
 }
 
 /// A value that a view is of: one made for the look, or the one that it is lent.
-#[derive(Drop)]
 pub enum Lent<'a> {
     Made(Value),
     Shared(&'a Value),
+}
+
+impl<'a> Drop for Lent<'a> {
+    fn drop(self) {
+        match self {
+            Lent::Made(_) | Lent::Shared(_) => {}
+        }
+    }
 }
 
 impl View<'_> {

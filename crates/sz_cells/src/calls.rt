@@ -24,13 +24,24 @@ pub struct Waiting {
 /// The locals and the candidate lists of all open calls, each in one list, those of the innermost call last.
 ///
 /// Contracts see those of the routine that runs, the innermost candidate list first, and the routines that wait.
-#[derive(Drop)]
 pub struct Calls {
     cells: Vec<Cell>,
     lists: Vec<Candidates>,
     waiting: Vec<Waiting>,
     locals_from: usize,
     lists_from: usize,
+}
+
+impl Drop for Calls {
+    fn drop(self) {
+        let Calls {
+            cells: _,
+            lists: _,
+            waiting: _,
+            locals_from: _,
+            lists_from: _,
+        } = self;
+    }
 }
 
 impl Model for Calls {

@@ -15,9 +15,14 @@ use sz_value::{List, NoMemory, Pair, Value, copy};
 /// The candidates that are left: whole numbers up to a bound, or keys, the next one last.
 ///
 /// Contracts see the list of them, the next one first.
-#[derive(Drop)]
 pub struct Candidates {
     left: Left,
+}
+
+impl Drop for Candidates {
+    fn drop(self) {
+        let Candidates { left: _ } = self;
+    }
 }
 
 /// What is left of the candidates, by what they are.

@@ -102,13 +102,13 @@ impl Cell {
     pub fn of_value(alloc: Global, value: Value) -> Result<Cell, NoMemory>
         ensures value { IfOk result (λ made. made ≡ Some (seen value)) }
     {
-        match value {
-            Value::Bool(truth) => Ok(Cell::of_bool(truth)),
-            Value::Int(number) => Ok(Cell::of_int(number)),
+        match &value {
+            Value::Bool(truth) => Ok(Cell::of_bool(*truth)),
+            Value::Int(number) => Ok(Cell::of_int(*number)),
             Value::Time(number) => Ok(Cell {
-                held: Form::Time(number),
+                held: Form::Time(*number),
             }),
-            owner => Cell::shared(alloc, owner),
+            _ => Cell::shared(alloc, value),
         }
     }
 

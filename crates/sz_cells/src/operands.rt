@@ -14,9 +14,14 @@ use sz_value::{List, NoMemory};
 /// The operands of a run, in room that is kept.
 ///
 /// Contracts see the list of their slots, the topmost first.
-#[derive(Drop)]
 pub struct Operands {
     held: Vec<Cell>,
+}
+
+impl Drop for Operands {
+    fn drop(self) {
+        let Operands { held: _ } = self;
+    }
 }
 
 impl Model for Operands {

@@ -59,7 +59,7 @@ fn replaced(
 #[tactic(auto, using(sz_builtin::proofs::Parts::parts_back))]
 fn in_tuple(
     alloc: Global,
-    old: Value,
+    mut old: Value,
     n: usize,
     steps: &[Step],
     indexes: &[Value],
@@ -68,9 +68,10 @@ fn in_tuple(
     ensures value { IfOk result (λ made. option_map seen made
         ≡ with_change (to_part n) (seen old) (replaced_by steps.now (map seen indexes.now) (seen new))) }
 {
-    let Value::Tuple(parts) = old else {
+    let Value::Tuple(parts) = &mut old else {
         return Ok(None);
     };
+    let parts = mem::replace(parts, List::new(alloc));
     match part_replaced(alloc, parts, n, steps, indexes, new)? {
         Some(parts) => Ok(Some(Value::Tuple(parts))),
         None => Ok(None),
@@ -81,7 +82,7 @@ fn in_tuple(
 #[cycle(replaced)]
 fn at_key(
     alloc: Global,
-    old: Value,
+    mut old: Value,
     key: &Value,
     steps: &[Step],
     indexes: &[Value],
@@ -90,9 +91,15 @@ fn at_key(
     ensures value { IfOk result (λ made. option_map seen made
         ≡ with_change (to_element (seen key.now)) (seen old) (replaced_by steps.now (map seen indexes.now) (seen new))) }
 {
-    match old {
-        Value::Array(parts) => in_array(alloc, parts, key, steps, indexes, new),
-        Value::Map(pairs) => in_map(alloc, pairs, key, steps, indexes, new),
+    match &mut old {
+        Value::Array(parts) => {
+            let parts = mem::replace(parts, List::new(alloc));
+            in_array(alloc, parts, key, steps, indexes, new)
+        }
+        Value::Map(pairs) => {
+            let pairs = mem::replace(pairs, Pairs::new(alloc));
+            in_map(alloc, pairs, key, steps, indexes, new)
+        }
         _ => Ok(None),
     }
 }

@@ -17,7 +17,6 @@ use std::marker::Model;
 use sz_book::{Claim, Closed, Event, Lane, Load, NoMemory, Plan, Receipt, Reply, Settled, Words};
 
 /// The ledger that threads share. Each call is a few single steps on one word, and none waits.
-#[derive(Drop)]
 pub struct Ledger<T: Load> {
     table: Table<Option<Lane<T>>, View, Setup, Law<T>, Global>,
     setup: Setup,
@@ -26,6 +25,19 @@ pub struct Ledger<T: Load> {
     settled: Vec<u64>,
     deaths: Vec<u64>,
     alloc: Global,
+}
+
+impl<T: Load> Drop for Ledger<T> {
+    fn drop(self) {
+        let Ledger {
+            table: _,
+            setup: _,
+            lanes: _,
+            settled: _,
+            deaths: _,
+            alloc: _,
+        } = self;
+    }
 }
 
 impl<T: Load> Model for Ledger<T> {

@@ -10,10 +10,15 @@ use std::marker::{Brand, PhantomData};
 use sz_book::{Lane, Load, Plan};
 
 /// What the ledger of a table has: its plan, and how many lanes.
-#[derive(Drop)]
 pub struct Setup {
     pub plan: Plan,
     pub lanes: u32,
+}
+
+impl Drop for Setup {
+    fn drop(self) {
+        let Setup { plan: _, lanes: _ } = self;
+    }
 }
 
 /// There is one legal history, and the table shows the state that it leads to.

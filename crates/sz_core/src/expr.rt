@@ -10,16 +10,25 @@ use sz_value::Value;
 ///
 /// Contracts see it by `node_of` of `specs/View.antt`.
 #[cycle(expr)]
-#[derive(Drop)]
 pub struct CoreExpr {
     pub place: Place,
     pub ty: Ty,
     pub form: Form,
 }
 
+impl Drop for CoreExpr {
+    #[cycle(drop_expr)]
+    fn drop(self) {
+        let CoreExpr {
+            place: _,
+            ty: _,
+            form: _,
+        } = self;
+    }
+}
+
 /// What an expression is. Variables, statics and functions go by their numbers, each kind from 0.
 #[cycle(expr)]
-#[derive(Drop)]
 pub enum Form {
     /// The value of a literal.
     Constant(Value),
@@ -59,12 +68,44 @@ pub enum Form {
     Or(Box<CoreExpr>, Box<CoreExpr>),
 }
 
+impl Drop for Form {
+    #[cycle(drop_expr)]
+    fn drop(self) {
+        match self {
+            Form::Constant(_)
+            | Form::Local(_)
+            | Form::Static(_)
+            | Form::Input
+            | Form::Call(_, _)
+            | Form::Builtin(_, _)
+            | Form::Def(_)
+            | Form::Convert(_)
+            | Form::Array(_)
+            | Form::Tuple(_)
+            | Form::Map(_)
+            | Form::Index(_, _)
+            | Form::Slice(_, _, _)
+            | Form::Field(_, _)
+            | Form::Unary(_, _)
+            | Form::Binary(_, _, _)
+            | Form::And(_, _)
+            | Form::Or(_, _) => {}
+        }
+    }
+}
+
 /// A key and its value.
 #[cycle(expr)]
-#[derive(Drop)]
 pub struct CorePair {
     pub key: CoreExpr,
     pub value: CoreExpr,
+}
+
+impl Drop for CorePair {
+    #[cycle(drop_expr)]
+    fn drop(self) {
+        let CorePair { key: _, value: _ } = self;
+    }
 }
 
 impl Form {

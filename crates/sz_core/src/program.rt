@@ -10,7 +10,6 @@ use std::marker::Model;
 use sz_types::{Place, TableDecl, Ty, Tys};
 
 /// What a call needs to know of a function.
-#[derive(Drop)]
 pub struct Signature {
     pub parameters: Tys,
     pub result: Ty,
@@ -18,8 +17,17 @@ pub struct Signature {
     pub emits: bool,
 }
 
+impl Drop for Signature {
+    fn drop(self) {
+        let Signature {
+            parameters: _,
+            result: _,
+            emits: _,
+        } = self;
+    }
+}
+
 /// A function.
-#[derive(Drop)]
 pub struct Function {
     pub signature: Signature,
     /// The types of its variables by number, its parameters first.
@@ -27,17 +35,35 @@ pub struct Function {
     pub body: Vec<CoreStmt>,
 }
 
+impl Drop for Function {
+    fn drop(self) {
+        let Function {
+            signature: _,
+            locals: _,
+            body: _,
+        } = self;
+    }
+}
+
 /// A static: the place of its first token, its type and its value.
-#[derive(Drop)]
 pub struct Static {
     pub place: Place,
     pub ty: Ty,
     pub value: CoreExpr,
 }
 
+impl Drop for Static {
+    fn drop(self) {
+        let Static {
+            place: _,
+            ty: _,
+            value: _,
+        } = self;
+    }
+}
+
 /// What stands at the top level. Tables, functions and statics have numbers from 0 in the order of the items, each kind
 /// its own.
-#[derive(Drop)]
 pub enum Item {
     Table(TableDecl),
     Function(Function),
@@ -46,12 +72,28 @@ pub enum Item {
     Statement(CoreStmt),
 }
 
+impl Drop for Item {
+    fn drop(self) {
+        match self {
+            Item::Table(_) | Item::Function(_) | Item::Static(_) | Item::Statement(_) => {}
+        }
+    }
+}
+
 /// A checked program: its items in order, and the types of the record's variables by number. It is sound, as `IsSound`
 /// of `specs/Sound.antt` says.
-#[derive(Drop)]
 pub struct Program {
     items: Vec<Item>,
     locals: Tys,
+}
+
+impl Drop for Program {
+    fn drop(self) {
+        let Program {
+            items: _,
+            locals: _,
+        } = self;
+    }
 }
 
 impl Model for Program {

@@ -7,12 +7,19 @@ use crate::expr::CoreExpr;
 use sz_types::Place;
 
 /// A step from a value into it.
-#[derive(Drop)]
 pub enum CoreStep {
     /// To the element under an index or a key.
     Index(CoreExpr),
     /// To the part at a place, counted from 0.
     Field(u32),
+}
+
+impl Drop for CoreStep {
+    fn drop(self) {
+        match self {
+            CoreStep::Index(_) | CoreStep::Field(_) => {}
+        }
+    }
 }
 
 /// How many of its candidates a variable of a `when` speaks of.
@@ -24,7 +31,6 @@ pub enum CoreQuantity {
 }
 
 /// A variable of a `when`. Contracts see it by `quantified_of` of `specs/View.antt`.
-#[derive(Drop)]
 pub struct Quantified {
     pub quantity: CoreQuantity,
     /// Its number among the variables, counted from 0.
@@ -35,9 +41,19 @@ pub struct Quantified {
     pub slice: bool,
 }
 
+impl Drop for Quantified {
+    fn drop(self) {
+        let Quantified {
+            quantity: _,
+            local: _,
+            base: _,
+            slice: _,
+        } = self;
+    }
+}
+
 /// A statement. Variables and tables go by their numbers, each kind from 0. A `Place` is where the statement begins: its first
 /// token, which for a declaration or an assignment is the name. Contracts see it by `stm_of` of `specs/View.antt`.
-#[derive(Drop)]
 pub enum CoreStmt {
     /// These statements in order. An empty statement is a block of none.
     Block(Vec<CoreStmt>),
@@ -69,6 +85,28 @@ pub enum CoreStmt {
     Emit(Place, u32, Vec<CoreExpr>, CoreExpr, Option<CoreExpr>),
     /// The variables in order, the condition, and what is done where it holds.
     When(Place, Vec<Quantified>, CoreExpr, Box<CoreStmt>),
+}
+
+impl Drop for CoreStmt {
+    fn drop(self) {
+        match self {
+            CoreStmt::Block(_)
+            | CoreStmt::Clear(_)
+            | CoreStmt::Keep(_, _, _)
+            | CoreStmt::Store(_, _, _, _)
+            | CoreStmt::Evaluate(_, _)
+            | CoreStmt::Branch(_, _, _, _)
+            | CoreStmt::While(_, _, _)
+            | CoreStmt::DoWhile(_, _, _)
+            | CoreStmt::For(_, _, _, _)
+            | CoreStmt::Break
+            | CoreStmt::Continue
+            | CoreStmt::Return(_, _)
+            | CoreStmt::EndRecord(_)
+            | CoreStmt::Emit(_, _, _, _, _)
+            | CoreStmt::When(_, _, _, _) => {}
+        }
+    }
 }
 
 impl CoreStmt {

@@ -3,11 +3,16 @@ ghost use Rattle.std.specs.Prelude.{◌≡◌, ◌%◌, ◌<◌};
 ghost use Rattle.sz_feed.specs.Feed.{next};
 
 /// What was drawn last; before the first draw it is the seed modulo 65,536.
-#[derive(Drop)]
 pub struct Draws {
     last: u32,
 
     ghost within: { last < 65537 },
+}
+
+impl Drop for Draws {
+    fn drop(self) {
+        let Draws { last: _ } = self;
+    }
 }
 
 impl Draws {

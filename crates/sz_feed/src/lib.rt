@@ -5,8 +5,6 @@ mod draws;
 mod feeding;
 mod program;
 mod record;
-#[cfg(test)]
-mod tests;
 
 pub use feeding::{MOST_RECORDS, feed};
 pub use program::{PROGRAM, program_bytes};

@@ -18,10 +18,15 @@ use sz_value::List;
 /// is compared and hashed by its bytes.
 ///
 /// Contracts see the list of the values as plain data.
-#[derive(Drop)]
 pub struct FlatList {
     bytes: Vec<u8>,
     ghost spelled: { Spelled bytes.items } by { spelled_prop bytes.items },
+}
+
+impl Drop for FlatList {
+    fn drop(self) {
+        let FlatList { bytes: _ } = self;
+    }
 }
 
 impl Model for FlatList {

@@ -1,5 +1,5 @@
 -- How pieces of code in the making are put together.
-use Rattle.std.proofs.Common.{◌≡◌, ◌∙◌, ℕ, suc, ◌+◌, ◌<◌, ◌≤◌, List, [], ◌∷◌, ◌++◌, length, Bool, true, false, Some, refl, sym, ap, subst, append_assoc, append-nil, length-append, if◌then◌else◌, arith, map}
+use Rattle.std.proofs.Common.{◌≡◌, ◌∙◌, ℕ, suc, ◌+◌, ◌<◌, ◌≤◌, List, [], ◌∷◌, ◌++◌, length, Bool, true, false, refl, sym, ap, subst, append_assoc, append-nil, length-append, if◌then◌else◌, arith, map}
 use Rattle.std.specs.Ordering.{is_eq}
 use Rattle.sz_types.specs.Data.{Shape}
 use Rattle.sz_types.specs.Same.{alike}
@@ -14,14 +14,14 @@ use Rattle.sz_gen_expr.proofs.Numbers.{named_by, begins_with_one, only_itself, i
 use Rattle.sz_instr.specs.declared.line.Line.{Line}
 use Rattle.sz_gen_expr.specs.declared.builder.Builder.{Builder}
 use Rattle.sz_code.specs.Tables.{Tables, constant_number, number_in, type_number, type_number_in, HasConstant, HasType, line}
-use Rattle.sz_code.specs.ExpressionCode.{followed, closed, decided, changing, conversion, form_code, count_of, pair_count_of}
+use Rattle.sz_code.specs.ExpressionCode.{followed, closed, decided, changing, conversion, expression_code, form_code, count_of, pair_count_of}
 use Rattle.sz_gen_expr.proofs.Patches.{decided_lines}
-use Rattle.sz_code.specs.Named.{HasTarget, FormHasNames}
+use Rattle.sz_code.specs.Named.{HasNames, HasTarget, FormHasNames}
 use Rattle.sz_types.specs.Seen.{seen as shape_of}
-use Rattle.sz_core.specs.Nodes.{Node, Form, Nodes, nodes_of, pairings_of}
+use Rattle.sz_core.specs.Nodes.{Node, Form, nodes_of, pairings_of}
 use Rattle.sz_core.specs.declared.expr.CoreExpr.{CoreExpr}
 use Rattle.sz_core.specs.View.{node_of, form_of}
-use Rattle.sz_gen_expr.specs.Building.{with_constant, with_type, with_target, patched, tables_made, Grows, Appends, AppendsLine, AppendsNode, Nothing}
+use Rattle.sz_gen_expr.specs.Building.{with_constant, with_type, aimed, tables_made, Grows, Appends, AppendsLine, AppendsNode, AppendsClosed, AppendsList, Lands, Nothing}
 
 begins_itself : {A : Type 0} (xs : List A) → BeginsWith xs xs
 begins_itself xs = ([], sym (append-nil xs))
@@ -41,6 +41,10 @@ grows_on {a} {b} {c} h k = record {
 -- tables that are the same
 pub grows_same : (a b : Tables) → b.constants ≡ a.constants → b.types ≡ a.types → Grows a b
 grows_same a b c t = record { constants = ([], c ∙ sym (append-nil a.constants)); types = ([], t ∙ sym (append-nil a.types)) }
+
+-- a line that was given its target
+pub landed_grows : {old new : Builder} {at : ℕ} → Lands old new at → Grows (tables_made old) (tables_made new)
+landed_grows {old} {new} h = grows_same (tables_made old) (tables_made new) h.constants h.types
 
 -- one line
 pub pushed : (old new : Builder) (i : Instr) (charge : ℕ) (place : Place) → new.lines ≡ old.lines ++ line i charge place ∷ []
@@ -71,46 +75,50 @@ behind {old} {between} {new} {first} {second} {names} {names2} h k = record {
   statics = k.statics ∙ h.statics;
 }
 
--- a line that pushes a constant
-pub constant_pushed : (old new : Builder) (d : Datum) (m charge : ℕ) (place : Place) → new.lines ≡ old.lines ++ line (Push m) charge place ∷ []
-    → m ≡ number_in old.constants d → new.constants ≡ with_constant old.constants d
-    → new.functions ≡ old.functions → new.statics ≡ old.statics → new.types ≡ old.types
+-- a line that pushes a constant, which has its number by then
+pub constant_pushed : {old between new : Builder} (d : Datum) (m charge : ℕ) (place : Place) → m ≡ number_in old.constants d
+    → between.constants ≡ with_constant old.constants d → between.types ≡ old.types
+    → between.lines ≡ old.lines → between.functions ≡ old.functions → between.statics ≡ old.statics
+    → AppendsLine between new (λ tables. Push m) charge place Nothing
     → AppendsLine old new (λ tables. Push (constant_number tables d)) charge place (λ tables. HasConstant tables d)
-constant_pushed old new d m charge place lines number constants functions statics types =
+constant_pushed {old} {between} {new} d m charge place number constants types lines functions statics h =
     let test : Datum → Bool = λ c. is_eq (compare d c) in
     let named : (tables : Tables) → Grows (tables_made new) tables → (constant_number tables d ≡ number_in old.constants d) × HasConstant tables d =
-    λ tables grows. named_by test d (is_itself d) (only_itself d) old.constants new.constants tables.constants constants grows.constants in
+    λ tables grows. named_by test d (is_itself d) (only_itself d) old.constants between.constants tables.constants constants
+    (grows_on h.grows grows).constants in
     record {
-      grows = record {
-        constants = begins_with_one test old.constants new.constants d constants;
+      grows = grows_on (record {
+        constants = begins_with_one test old.constants between.constants d constants;
         types = ([], types ∙ sym (append-nil old.types));
-      };
-      lines = λ tables grows. lines ∙ ap (λ n. old.lines ++ line (Push n) charge place ∷ []) (number ∙ sym (named tables grows).0);
+      }) h.grows;
+      lines = λ tables grows. h.lines tables grows
+          ∙ (λ j. lines j ++ line (Push ((number ∙ sym (named tables grows).0) j)) charge place ∷ []);
       names = λ tables grows. (named tables grows).1;
-      functions = functions;
-      statics = statics;
+      functions = h.functions ∙ functions;
+      statics = h.statics ∙ statics;
     }
 
--- a line that converts to a type
-pub type_pushed : (old new : Builder) (from to : Shape) (m : ℕ) (place : Place) → alike from to ≡ false
-    → new.lines ≡ old.lines ++ line (changing to m) 1 place ∷ []
-    → m ≡ type_number_in old.types to → new.types ≡ with_type old.types to
-    → new.functions ≡ old.functions → new.statics ≡ old.statics → new.constants ≡ old.constants
+-- a line that converts to a type, which has its number by then
+pub type_pushed : {old between new : Builder} (from to : Shape) (m : ℕ) (place : Place) → alike from to ≡ false
+    → m ≡ type_number_in old.types to → between.types ≡ with_type old.types to → between.constants ≡ old.constants
+    → between.lines ≡ old.lines → between.functions ≡ old.functions → between.statics ≡ old.statics
+    → AppendsLine between new (λ tables. changing to m) 1 place Nothing
     → AppendsLine old new (λ tables. conversion tables from to) 1 place (λ tables. HasTarget tables (alike from to) to)
-type_pushed old new from to m place other lines number types functions statics constants =
+type_pushed {old} {between} {new} from to m place other number types constants lines functions statics h =
     let test : Shape → Bool = λ s. alike s to in
     let named : (tables : Tables) → Grows (tables_made new) tables → (type_number tables to ≡ type_number_in old.types to) × HasType tables to =
-    λ tables grows. named_by test to (alike_itself to) (λ s h. alike_equal s to h) old.types new.types tables.types types grows.types in
+    λ tables grows. named_by test to (alike_itself to) (λ s h. alike_equal s to h) old.types between.types tables.types types (grows_on h.grows grows).types in
     record {
-      grows = record {
+      grows = grows_on (record {
         constants = ([], constants ∙ sym (append-nil old.constants));
-        types = begins_with_one test old.types new.types to types;
-      };
-      lines = λ tables grows. lines ∙ ap (λ n. old.lines ++ line (changing to n) 1 place ∷ []) (number ∙ sym (named tables grows).0)
+        types = begins_with_one test old.types between.types to types;
+      }) h.grows;
+      lines = λ tables grows. h.lines tables grows
+          ∙ (λ j. lines j ++ line (changing to ((number ∙ sym (named tables grows).0) j)) 1 place ∷ [])
           ∙ ap (λ (b : Bool). old.lines ++ line (if b then Tick else changing to (type_number tables to)) 1 place ∷ []) (sym other);
       names = λ tables grows. subst (λ b. HasTarget tables b to) (sym other) (named tables grows).1;
-      functions = functions;
-      statics = statics;
+      functions = h.functions ∙ functions;
+      statics = h.statics ∙ statics;
     }
 
 -- a line that keeps the type
@@ -146,35 +154,21 @@ none b = record {
   statics = refl;
 }
 
--- ---- `&&` and `||`
-
 -- the test passes over the right operand to the tick of the whole
-pub decides : {old m1 m2 m3 m4 new : Builder} {left right : Tables → ℕ → List Line} {named named2 : Tables → Type 0}
-    (test : ℕ → Instr) (place : Place) (at to : ℕ)
-    → ((p q : ℕ) → with_target (test p) q ≡ Some (test q))
-    → Appends old m1 left named → AppendsLine m1 m2 (λ tables. test 0) 0 place Nothing → Appends m2 m3 right named2
-    → AppendsLine m3 m4 (λ tables. Tick) 1 place Nothing
-    → at ≡ length m1.lines → to ≡ length m3.lines → new.lines ≡ patched m4.lines at to → new.functions ≡ m4.functions → new.statics ≡ m4.statics
-    → new.constants ≡ m4.constants → new.types ≡ m4.types
-    → Appends old new (λ tables at. followed at (left tables at) (decided test place (right tables))) (λ tables. named tables × named2 tables)
-decides {old} {m1} {m2} {m3} {m4} {new} {left} {right} {named} {named2} test place at to moves one two three four is_at is_to
-    lines functions statics constants types =
-    let last = grows_same (tables_made m4) (tables_made new) constants types in
-    let grown : (tables : Tables) → Grows (tables_made new) tables → Grows (tables_made m4) tables = λ tables grows. grows_on last grows in
+pub decided_made : {old m1 m2 m3 new : Builder} {right : Tables → ℕ → List Line} {named : Tables → Type 0} (test : Instr) (place : Place) (at : ℕ)
+    → at ≡ length old.lines → AppendsLine old m1 (λ tables. test) 0 place Nothing → Appends m1 m2 right named → Lands m2 m3 at
+    → AppendsLine m3 new (λ tables. Tick) 1 place Nothing
+    → Appends old new (λ tables at. decided (aimed test) place (right tables) at) named
+decided_made {old} {m1} {m2} {m3} {new} {right} test place at is_at h1 h2 l1 h3 =
+    let g2 = grows_on (landed_grows l1) h3.grows in
+    let g1 = grows_on h2.grows g2 in
     record {
-      grows = grows_on one.grows (grows_on two.grows (grows_on three.grows (grows_on four.grows last)));
-      lines = λ tables grows.
-          let g4 = grown tables grows in
-          let g3 = grows_on four.grows g4 in
-          let g2 = grows_on three.grows g3 in
-          let g1 = grows_on two.grows g2 in
-          decided_lines old.lines m1.lines m2.lines m3.lines m4.lines new.lines (left tables (length old.lines)) (right tables) test place at to moves
-          (one.lines tables g1) (two.lines tables g2) (three.lines tables g3) (four.lines tables g4) is_at is_to lines;
-      names = λ tables grows.
-          let g3 = grows_on four.grows (grown tables grows) in
-          (one.names tables (grows_on two.grows (grows_on three.grows g3)), three.names tables g3);
-      functions = functions ∙ four.functions ∙ three.functions ∙ two.functions ∙ one.functions;
-      statics = statics ∙ four.statics ∙ three.statics ∙ two.statics ∙ one.statics;
+      grows = grows_on h1.grows g1;
+      lines = λ tables grows. decided_lines old.lines m1.lines m2.lines m3.lines new.lines (right tables) test place at is_at
+          (h1.lines tables (grows_on g1 grows)) (h2.lines tables (grows_on g2 grows)) l1.lines (h3.lines tables grows);
+      names = λ tables grows. h2.names tables (grows_on g2 grows);
+      functions = h3.functions ∙ l1.functions ∙ h2.functions ∙ h1.functions;
+      statics = h3.statics ∙ l1.statics ∙ h2.statics ∙ h1.statics;
     }
 
 -- other names
@@ -193,6 +187,23 @@ pub closed_by : {old between new : Builder} {code : Tables → ℕ → List Line
     → Appends old between code named → AppendsLine between new i 1 place Nothing
     → Appends old new (λ tables at. closed (code tables at) (i tables) place) named
 closed_by h k = no_more (closes h k)
+
+-- code, and an expression behind it with the line that closes both
+pub closed_behind : {old between new : Builder} {first : Tables → ℕ → List Line} {named : Tables → Type 0} (e : Node) (i : Instr) (place : Place)
+    → Appends old between first named → AppendsClosed between new e i place
+    → Appends old new (λ tables at. closed (followed at (first tables at) (expression_code tables e)) i place) (λ tables. named tables × HasNames tables e)
+closed_behind {old} {between} {new} {first} e i place h k =
+    let whole = behind h k in
+    record {
+      grows = whole.grows;
+      lines = λ tables grows.
+          let code = first tables (length old.lines) in
+          whole.lines tables grows
+          ∙ ap (λ l. old.lines ++ l) (sym (append_assoc code (expression_code tables e (length old.lines + length code)) (line i 1 place ∷ [])));
+      names = whole.names;
+      functions = whole.functions;
+      statics = whole.statics;
+    }
 
 -- three pieces, one behind the other
 pub three_behind : {old m1 m2 new : Builder} {first second third : Tables → ℕ → List Line} {named1 named2 named3 : Tables → Type 0}
@@ -224,16 +235,27 @@ one_longer {old} {new} {i} {charge} {place} h =
     let now = tables_made new in
     omega (arith, ap length (h.lines now (grows_itself now)), length-append old.lines (line (i now) charge place ∷ []))
 
--- the test of `&&` and `||` is among the lines
-pub test_within : {m1 m2 m3 m4 : Builder} {right : Tables → ℕ → List Line} {i j : Tables → Instr} {charge charge2 : ℕ} {place place2 : Place}
-    {named named2 named3 : Tables → Type 0} (at : ℕ) → at ≡ length m1.lines → AppendsLine m1 m2 i charge place named → Appends m2 m3 right named2
-    → AppendsLine m3 m4 j charge2 place2 named3 → at < length m4.lines
-test_within at is one two three = omega (arith, is, one_longer one, no_shorter two, one_longer three)
+-- a line just appended is there, and stays
+pub starts : {old new : Builder} {i : Tables → Instr} {charge : ℕ} {place : Place} {named : Tables → Type 0} {at : ℕ}
+    → at ≡ length old.lines → AppendsLine old new i charge place named → at < length new.lines
+starts is h = omega (arith, is, one_longer h)
+
+pub stays : {old new : Builder} {code : Tables → ℕ → List Line} {named : Tables → Type 0} {at : ℕ}
+    → at < length old.lines → Appends old new code named → at < length new.lines
+stays within h = omega (arith, within, no_shorter h)
 
 -- as many as the list is long
 pub count_is : {A : Type 0} (f : A → Node) (xs : List A) → count_of (nodes_of (map f xs)) ≡ length xs
 count_is f [] = refl
 count_is f (x ∷ xs) = ap suc (count_is f xs)
+
+-- the number of all that a list has closes their code
+pub counted : (old new : Builder) (make : ℕ → Instr) (place : Place) {asked given es : List CoreExpr} {count : ℕ} → asked ≡ es → given ≡ es
+    → count ≡ count_of (nodes_of (map node_of asked)) → AppendsList old new (nodes_of (map node_of given)) (make count) place
+    → AppendsList old new (nodes_of (map node_of es)) (make (count_of (nodes_of (map node_of es)))) place
+counted old new make place {asked} {given} {es} {count} p q r h =
+    subst (λ n. AppendsList old new (nodes_of (map node_of es)) (make n) place) (r ∙ ap (λ (l : List CoreExpr). count_of (nodes_of (map node_of l))) p)
+    (subst (λ (l : List CoreExpr). AppendsList old new (nodes_of (map node_of l)) (make count) place) q h)
 
 pub pair_count_is : {A : Type 0} (f : A → Node × Node) (xs : List A) → pair_count_of (pairings_of (map f xs)) ≡ length xs
 pair_count_is f [] = refl

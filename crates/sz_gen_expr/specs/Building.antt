@@ -1,5 +1,5 @@
 -- Code in the making: what it has so far stays, and more comes behind it.
-use Rattle.std.specs.Prelude.{◌≡◌, ℕ, zero, suc, List, [], ◌∷◌, ◌++◌, length, Option, Some, None, if◌then◌else◌}
+use Rattle.std.specs.Prelude.{◌≡◌, ℕ, zero, suc, List, [], ◌∷◌, ◌++◌, length, Option, Some, None, unwrap_or, if◌then◌else◌}
 use Rattle.std.specs.List.{list_any}
 use Rattle.std.specs.Ordering.{is_eq}
 use Rattle.sz_types.specs.Data.{Shape}
@@ -10,11 +10,11 @@ use Rattle.sz_value.specs.Order.{compare}
 use Rattle.sz_core.specs.Nodes.{Node, Nodes, Pairings}
 use Rattle.sz_core.specs.Sound.{BeginsWith}
 use Rattle.sz_instr.specs.declared.instr.Instr.{Instr}
-use Rattle.sz_instr.specs.declared.instr.Instr.TheVariants.{Jump, Test, AndTest, OrTest, Next, Meets, Fails}
+use Rattle.sz_instr.specs.declared.instr.Instr.TheVariants.{Jump, Test, AndTest, OrTest, Next, Meets, Fails, MakeMap}
 use Rattle.sz_instr.specs.declared.line.Line.{Line}
 use Rattle.sz_gen_expr.specs.declared.builder.Builder.{Builder}
 use Rattle.sz_code.specs.Tables.{Tables, line}
-use Rattle.sz_code.specs.ExpressionCode.{expression_code, expressions_code, pairings_code}
+use Rattle.sz_code.specs.ExpressionCode.{closed, decided, pair_count_of, expression_code, expressions_code, pairings_code}
 use Rattle.sz_code.specs.Named.{HasNames, HaveNames, PairingsHaveNames}
 
 -- constants with one more, unless it is there
@@ -35,6 +35,10 @@ with_target (Next n p) to = Some (Next n to)
 with_target (Meets p) to = Some (Meets to)
 with_target (Fails p) to = Some (Fails to)
 with_target i to = None
+
+-- the instruction with this target, if it has one
+abbrev pub aimed : Instr → ℕ → Instr
+aimed i to = unwrap_or (with_target i to) i
 
 -- the line with another instruction, if there is one
 abbrev pub with_instr : Option Instr → Line → Line
@@ -88,6 +92,23 @@ AppendsNodes old new es = Appends old new (λ tables at. expressions_code tables
 -- the same of keys and values
 abbrev pub AppendsPairings : Builder → Builder → Pairings → Type 0
 AppendsPairings old new ps = Appends old new (λ tables at. pairings_code tables ps at) (λ tables. PairingsHaveNames tables ps)
+
+-- the code of an expression more, and the line that closes it
+abbrev pub AppendsClosed : Builder → Builder → Node → Instr → Place → Type 0
+AppendsClosed old new e instr place = Appends old new (λ tables at. closed (expression_code tables e at) instr place) (λ tables. HasNames tables e)
+
+-- the same of expressions
+abbrev pub AppendsList : Builder → Builder → Nodes → Instr → Place → Type 0
+AppendsList old new es instr place = Appends old new (λ tables at. closed (expressions_code tables es at) instr place) (λ tables. HaveNames tables es)
+
+-- the same of keys and values, of which the line makes a map
+abbrev pub AppendsMap : Builder → Builder → Pairings → Place → Type 0
+AppendsMap old new ps place = Appends old new (λ tables at. closed (pairings_code tables ps at) (MakeMap (pair_count_of ps)) place)
+    (λ tables. PairingsHaveNames tables ps)
+
+-- the code of the right operand of `&&` or `||` more, with the test that passes over it
+abbrev pub AppendsDecided : Builder → Builder → Instr → Place → Node → Type 0
+AppendsDecided old new test place e = Appends old new (λ tables at. decided (aimed test) place (expression_code tables e) at) (λ tables. HasNames tables e)
 
 -- names nothing
 abbrev pub Nothing : Tables → Type 0

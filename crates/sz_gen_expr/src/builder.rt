@@ -55,9 +55,11 @@ impl Builder {
     }
 
     /// Appends a line, and gives its place.
+    #[tactic(auto, using(crate::proofs::Builds::pushed))]
     pub fn push(&mut self, instr: Instr, charge: u32, place: Place) -> Result<usize, NoMemory>
         ensures lines { OnOk result (self.new.lines ≡ self.old.lines ++ line instr charge place ∷ []) }
         ensures at { IfOk result (λ at. at ≡ length self.old.lines) }
+        ensures made { OnOk result (AppendsLine self.old self.new (λ tables. instr) charge place Nothing) }
         ensures functions { self.new.functions ≡ self.old.functions }
         ensures statics { self.new.statics ≡ self.old.statics }
         ensures constants { self.new.constants ≡ self.old.constants }
@@ -73,7 +75,6 @@ impl Builder {
     }
 
     /// Appends a line.
-    #[tactic(auto, using(crate::proofs::Builds::pushed))]
     pub fn append(&mut self, instr: Instr, charge: u32, place: Place) -> Result<(), NoMemory>
         ensures made { OnOk result (AppendsLine self.old self.new (λ tables. instr) charge place Nothing) }
     {
@@ -135,8 +136,7 @@ impl Builder {
         ensures made { OnOk result (AppendsLine self.old self.new (λ tables. Push (constant_number tables (seen value.now))) charge place (λ tables. HasConstant tables (seen value.now))) }
     {
         let number = small(self.constants.number(value)?)?;
-        self.push(Instr::Push(number), charge, place)?;
-        Ok(())
+        self.append(Instr::Push(number), charge, place)
     }
 
     /// The next line begins a function with so many parameters and locals.
@@ -152,8 +152,7 @@ impl Builder {
             entry,
             params,
             locals,
-        })?;
-        Ok(())
+        })
     }
 
     /// The next line begins the code of a static, whose number is given.
@@ -196,12 +195,10 @@ impl Builder {
         ensures made { OnOk result (AppendsLine self.old self.new (λ tables. conversion tables (shape_of from.now) (shape_of to.now)) 1 place (λ tables. HasTarget tables (alike (shape_of from.now) (shape_of to.now)) (shape_of to.now))) }
     {
         if same(from, to) {
-            self.push(Instr::Tick, 1, place)?;
-        } else {
-            let number = small(self.type_number(to)?)?;
-            self.push(changing(to, number), 1, place)?;
+            return self.close(Instr::Tick, place);
         }
-        Ok(())
+        let number = small(self.type_number(to)?)?;
+        self.close(changing(to, number), place)
     }
 }
 

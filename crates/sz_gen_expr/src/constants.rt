@@ -1,5 +1,5 @@
 //! The constants of code in the making.
-ghost use Rattle.std.specs.Prelude.{◌≡◌, [], length, map, IfOk, OnOk, OnErr};
+ghost use Rattle.std.specs.Prelude.{◌≡◌, [], map, IfOk, OnOk, OnErr};
 ghost use Rattle.sz_value.specs.Seen.{seen};
 ghost use Rattle.sz_code.specs.Tables.{number_in};
 ghost use Rattle.sz_gen_expr.specs.Building.{with_constant};
@@ -13,9 +13,14 @@ use sz_value::{List, Value, copy};
 /// Constants, each once, in the order in which they came, found by hashing.
 ///
 /// Contracts see the list of their plain data.
-#[derive(Drop)]
 pub struct Constants {
     held: IndexSet<Value>,
+}
+
+impl Drop for Constants {
+    fn drop(self) {
+        let Constants { held: _ } = self;
+    }
 }
 
 impl Model for Constants {
@@ -44,13 +49,6 @@ impl Constants {
     // The allocator of the set.
     pub(crate) fn allocator(&self) -> Global {
         *self.held.allocator()
-    }
-
-    /// The number of constants.
-    pub fn len(&self) -> usize
-        ensures value { result ≡ length self.now }
-    {
-        self.held.len()
     }
 
     /// The constants, each copied, in order.

@@ -3,13 +3,14 @@ ghost use Rattle.std.specs.Prelude.{◌≡◌, map, IfOk, OnOk};
 ghost use Rattle.sz_core.specs.Nodes.{nodes_of, pairings_of};
 ghost use Rattle.sz_core.specs.View.{node_of, pairing_of};
 ghost use Rattle.sz_code.specs.ExpressionCode.{count_of, pair_count_of};
-ghost use Rattle.sz_gen_expr.specs.Building.{AppendsNode, AppendsNodes, AppendsPairings};
+ghost use Rattle.sz_gen_expr.specs.Building.{AppendsNode, AppendsClosed, AppendsDecided, AppendsNodes, AppendsList, AppendsPairings, AppendsMap};
 
 use crate::NoMemory;
 use crate::builder::Builder;
 use crate::width::small;
 use sz_core::{CoreExpr, CorePair, Form};
 use sz_instr::Instr;
+use sz_types::Place;
 
 /// Appends the code of an expression.
 #[cycle(expr)]
@@ -21,82 +22,76 @@ pub fn gen_expr(e: &CoreExpr, into: &mut Builder) -> Result<(), NoMemory>
         Form::Local(n) => into.close(Instr::Local(*n), e.place),
         Form::Static(n) => into.close(Instr::Static(*n), e.place),
         Form::Input => into.close(Instr::Input, e.place),
-        Form::Call(f, arguments) => {
-            gen_all(arguments.as_slice(), into)?;
-            into.close(Instr::Call(*f), e.place)
-        }
-        Form::Builtin(f, arguments) => {
-            gen_all(arguments.as_slice(), into)?;
-            into.close(Instr::Apply(*f), e.place)
-        }
-        Form::Def(part) => {
-            gen_expr(part, into)?;
-            into.close(Instr::Def, e.place)
-        }
+        Form::Call(f, parts) => gen_list(parts.as_slice(), Instr::Call(*f), e.place, into),
+        Form::Builtin(f, parts) => gen_list(parts.as_slice(), Instr::Apply(*f), e.place, into),
+        Form::Def(part) => gen_closed(part, Instr::Def, e.place, into),
         Form::Convert(part) => {
             gen_expr(part, into)?;
             into.convert(&part.ty, &e.ty, e.place)
         }
-        Form::Array(elements) => {
-            let count = count(elements.as_slice())?;
-            gen_all(elements.as_slice(), into)?;
-            into.close(Instr::MakeArray(count), e.place)
+        Form::Array(parts) => {
+            let count = count(parts.as_slice())?;
+            gen_list(parts.as_slice(), Instr::MakeArray(count), e.place, into)
         }
         Form::Tuple(parts) => {
             let count = count(parts.as_slice())?;
-            gen_all(parts.as_slice(), into)?;
-            into.close(Instr::MakeTuple(count), e.place)
+            gen_list(parts.as_slice(), Instr::MakeTuple(count), e.place, into)
         }
-        Form::Map(pairs) => {
-            let count = count_pairs(pairs.as_slice())?;
-            gen_pairs(pairs.as_slice(), into)?;
-            into.close(Instr::MakeMap(count), e.place)
-        }
+        Form::Map(pairs) => gen_map(pairs.as_slice(), e.place, into),
         Form::Index(whole, index) => {
             gen_expr(whole, into)?;
-            gen_expr(index, into)?;
-            into.close(Instr::Index, e.place)
+            gen_closed(index, Instr::Index, e.place, into)
         }
         Form::Slice(whole, from, to) => {
             gen_expr(whole, into)?;
             gen_expr(from, into)?;
-            gen_expr(to, into)?;
-            into.close(Instr::Slice, e.place)
+            gen_closed(to, Instr::Slice, e.place, into)
         }
-        Form::Field(whole, n) => {
-            gen_expr(whole, into)?;
-            into.close(Instr::Field(*n), e.place)
-        }
-        Form::Unary(operator, part) => {
-            gen_expr(part, into)?;
-            into.close(Instr::Unary(*operator), e.place)
-        }
+        Form::Field(whole, n) => gen_closed(whole, Instr::Field(*n), e.place, into),
+        Form::Unary(operator, part) => gen_closed(part, Instr::Unary(*operator), e.place, into),
         Form::Binary(operator, left, right) => {
             gen_expr(left, into)?;
-            gen_expr(right, into)?;
-            into.close(Instr::Binary(*operator), e.place)
+            gen_closed(right, Instr::Binary(*operator), e.place, into)
         }
         Form::And(left, right) => {
             gen_expr(left, into)?;
-            let test = into.here();
-            into.append(Instr::AndTest(0), 0, e.place)?;
-            gen_expr(right, into)?;
-            let end = into.here();
-            into.close(Instr::Tick, e.place)?;
-            into.patch(test, end);
-            Ok(())
+            gen_decided(right, Instr::AndTest(0), e.place, into)
         }
         Form::Or(left, right) => {
             gen_expr(left, into)?;
-            let test = into.here();
-            into.append(Instr::OrTest(0), 0, e.place)?;
-            gen_expr(right, into)?;
-            let end = into.here();
-            into.close(Instr::Tick, e.place)?;
-            into.patch(test, end);
-            Ok(())
+            gen_decided(right, Instr::OrTest(0), e.place, into)
         }
     }
+}
+
+/// Appends the code of an expression, and the line that closes it.
+#[cycle(expr)]
+pub fn gen_closed(
+    e: &CoreExpr,
+    instr: Instr,
+    place: Place,
+    into: &mut Builder,
+) -> Result<(), NoMemory>
+    ensures made { OnOk result (AppendsClosed into.old into.new (node_of e.now) instr place) }
+{
+    gen_expr(e, into)?;
+    into.close(instr, place)
+}
+
+// Appends the code of the right operand of `&&` or `||`, which the test in front of it passes over to the tick of the whole.
+#[cycle(expr)]
+fn gen_decided(
+    right: &CoreExpr,
+    test: Instr,
+    place: Place,
+    into: &mut Builder,
+) -> Result<(), NoMemory>
+    ensures made { OnOk result (AppendsDecided into.old into.new test place (node_of right.now)) }
+{
+    let at = into.push(test, 0, place)?;
+    gen_expr(right, into)?;
+    into.land(at);
+    into.close(Instr::Tick, place)
 }
 
 /// How many expressions there are.
@@ -115,6 +110,15 @@ fn count_pairs(pairs: &[CorePair]) -> Result<u32, NoMemory>
     small(pairs.len())
 }
 
+// Appends the code of expressions, one after the other, and the line that closes it.
+#[cycle(expr)]
+fn gen_list(es: &[CoreExpr], instr: Instr, place: Place, into: &mut Builder) -> Result<(), NoMemory>
+    ensures made { OnOk result (AppendsList into.old into.new (nodes_of (map node_of es.now)) instr place) }
+{
+    gen_all(es, into)?;
+    into.close(instr, place)
+}
+
 /// Appends the code of expressions, one after the other.
 #[cycle(expr)]
 pub fn gen_all(es: &[CoreExpr], into: &mut Builder) -> Result<(), NoMemory>
@@ -124,6 +128,16 @@ pub fn gen_all(es: &[CoreExpr], into: &mut Builder) -> Result<(), NoMemory>
         gen_expr(e, into)?;
     }
     Ok(())
+}
+
+// Appends the code of the map of these keys and values.
+#[cycle(expr)]
+fn gen_map(pairs: &[CorePair], place: Place, into: &mut Builder) -> Result<(), NoMemory>
+    ensures made { OnOk result (AppendsMap into.old into.new (pairings_of (map pairing_of pairs.now)) place) }
+{
+    let count = count_pairs(pairs)?;
+    gen_pairs(pairs, into)?;
+    into.close(Instr::MakeMap(count), place)
 }
 
 // Appends the code of keys and values, by turns.

@@ -16,10 +16,18 @@ use sz_value::NoMemory;
 /// The code of a program, which does what the program means, as `IsCompiled` of `sz_code` says.
 ///
 /// At run time there is the code alone, with the declarations of the tables. Contracts see the program.
-#[derive(Drop)]
 pub struct Compiled {
     code: Code,
     program: Snapshot<Program>,
+}
+
+impl Drop for Compiled {
+    fn drop(self) {
+        let Compiled {
+            code: _,
+            program: _,
+        } = self;
+    }
 }
 
 impl Model for Compiled {

@@ -9,7 +9,6 @@ use sz_value::List;
 ///
 /// Contracts see the record of these lists, each as they see the list alone. Nothing is kept of how they belong together:
 /// that is what `well_formed` answers.
-#[derive(Drop)]
 pub struct Code {
     pub lines: Lines,
     /// The functions that the program declares, in the order of their declarations.
@@ -24,4 +23,18 @@ pub struct Code {
     pub types: Tys,
     /// The tables that `Emit` emits to, in the order of their declarations.
     pub tables: TableDecls,
+}
+
+impl Drop for Code {
+    fn drop(self) {
+        let Code {
+            lines: _,
+            functions: _,
+            statics: _,
+            main: _,
+            constants: _,
+            types: _,
+            tables: _,
+        } = self;
+    }
 }

@@ -8,7 +8,6 @@ use sz_types::{BinOp, Builtin, UnOp};
 /// All numbers count from 0. A place is that of a line in its code. A local is one of the routine that runs, and constants,
 /// statics, types, functions and tables are those of the code. What is pushed is undefined where an operand or a part was
 /// undefined, or where the operation has no result. Candidate lists belong to the routine that runs, the innermost first.
-#[derive(Drop)]
 pub enum Instr {
     /// Pushes the constant.
     Push(u32),
@@ -84,4 +83,46 @@ pub enum Instr {
     Meets(usize),
     /// Pops a slot, and goes to the place where it is false.
     Fails(usize),
+}
+
+impl Drop for Instr {
+    fn drop(self) {
+        match self {
+            Instr::Push(_)
+            | Instr::Local(_)
+            | Instr::Static(_)
+            | Instr::Input
+            | Instr::Keep(_)
+            | Instr::KeepStatic(_)
+            | Instr::Clear(_)
+            | Instr::Store(_, _)
+            | Instr::Unary(_)
+            | Instr::Binary(_)
+            | Instr::Apply(_)
+            | Instr::Convert(_)
+            | Instr::Decode(_)
+            | Instr::MakeArray(_)
+            | Instr::MakeTuple(_)
+            | Instr::MakeMap(_)
+            | Instr::Index
+            | Instr::Slice
+            | Instr::Field(_)
+            | Instr::Def
+            | Instr::Tick
+            | Instr::Jump(_)
+            | Instr::Test(_)
+            | Instr::AndTest(_)
+            | Instr::OrTest(_)
+            | Instr::Call(_)
+            | Instr::Return
+            | Instr::EndRecord
+            | Instr::Discard
+            | Instr::Emit(_, _, _)
+            | Instr::Enter(_)
+            | Instr::Next(_, _)
+            | Instr::Leave
+            | Instr::Meets(_)
+            | Instr::Fails(_) => {}
+        }
+    }
 }

@@ -8,12 +8,22 @@ use crate::Failed;
 use crate::listed::is_listed;
 
 /// A file under a name, with the numbers of the calls on it that fail.
-#[derive(Drop)]
 pub struct HeldFile {
     pub name: String,
     pub bytes: Vec<u8>,
     pub fails: Vec<u64>,
     pub calls: u64,
+}
+
+impl Drop for HeldFile {
+    fn drop(self) {
+        let HeldFile {
+            name: _,
+            bytes: _,
+            fails: _,
+            calls: _,
+        } = self;
+    }
 }
 
 /// Which file was opened, and how many of its bytes were read.

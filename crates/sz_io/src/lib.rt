@@ -24,6 +24,3 @@ pub use os_sink::OsSink;
 pub use reading::read_whole;
 pub use sink::Sink;
 pub use writing::write_whole;
-
-#[cfg(test)]
-mod tests;

@@ -13,7 +13,6 @@ use std::alloc::Global;
 const FIRST_ROOM: usize = 2;
 
 /// Files under names, each with a list of the calls on it that fail.
-#[derive(Drop)]
 pub struct MemFiles {
     alloc: Global,
     files: Vec<HeldFile>,
@@ -22,6 +21,18 @@ pub struct MemFiles {
     misses: u64,
     ghost placed: { ArePlaced files.items opened.items },
     ghost named: { vec_len opened ≤ vec_len names },
+}
+
+impl Drop for MemFiles {
+    fn drop(self) {
+        let MemFiles {
+            alloc: _,
+            files: _,
+            opened: _,
+            names: _,
+            misses: _,
+        } = self;
+    }
 }
 
 impl MemFiles {

@@ -7,7 +7,6 @@ use crate::{NoMemory, OutsideError, Sink, listed};
 use std::alloc::Global;
 
 /// Takes at most `step` bytes a call, and keeps them.
-#[derive(Drop)]
 pub struct MemSink {
     taken: Vec<u8>,
     step: usize,
@@ -15,6 +14,18 @@ pub struct MemSink {
     calls: u64,
     refusals: u64,
     ghost takes_some: { 1 ≤ step },
+}
+
+impl Drop for MemSink {
+    fn drop(self) {
+        let MemSink {
+            taken: _,
+            step: _,
+            fails: _,
+            calls: _,
+            refusals: _,
+        } = self;
+    }
 }
 
 impl MemSink {

@@ -261,9 +261,9 @@ impl Known {
             (declare name.now (type_name (shape_in self.old.outside.types written)) (blocks_of self.old)) }
         ensures locals { self.new.locals ≡ self.old.locals }
     {
-        let number = match written {
-            Written::Named(number) if (number as usize) < self.types.len() => number,
-            written => self.add_type(written)?,
+        let number = match &written {
+            Written::Named(number) if (*number as usize) < self.types.len() => *number,
+            _ => self.add_type(written)?,
         };
         self.declare(alloc, name, Meaning::Type(number))
     }

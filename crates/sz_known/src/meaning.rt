@@ -7,7 +7,6 @@ use sz_core::Signature;
 use sz_types::{Builtin, TableDecl, Ty};
 
 /// What a name stands for, with its number among those of its kind, counted from 0.
-#[derive(Drop)]
 pub enum Meaning {
     Variable(u32, Ty),
     /// A variable that a `when` quantifies, which can't be assigned.
@@ -18,6 +17,21 @@ pub enum Meaning {
     Function(u32, Signature),
     Predeclared(Builtin),
     Input,
+}
+
+impl Drop for Meaning {
+    fn drop(self) {
+        match self {
+            Meaning::Variable(_, _)
+            | Meaning::Quantified(_, _)
+            | Meaning::Static(_, _)
+            | Meaning::Type(_)
+            | Meaning::Table(_, _)
+            | Meaning::Function(_, _)
+            | Meaning::Predeclared(_)
+            | Meaning::Input => {}
+        }
+    }
 }
 
 /// The same, lent.

@@ -10,9 +10,14 @@ use std::marker::Model;
 use sz_scope::{Meaning, ScopeError, Scopes};
 
 // Names that are taken, the newest first. They are the declarations of a block.
-#[derive(Drop)]
 pub struct TakenNames {
     held: Scopes,
+}
+
+impl Drop for TakenNames {
+    fn drop(self) {
+        let TakenNames { held: _ } = self;
+    }
 }
 
 impl Model for TakenNames {
@@ -57,9 +62,14 @@ impl TakenNames {
 }
 
 // Numbers that are taken, the newest first.
-#[derive(Drop)]
 pub struct TakenNumbers {
     held: IndexSet<u32>,
+}
+
+impl Drop for TakenNumbers {
+    fn drop(self) {
+        let TakenNumbers { held: _ } = self;
+    }
 }
 
 impl Model for TakenNumbers {

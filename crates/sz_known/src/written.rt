@@ -14,7 +14,6 @@ use sz_types::{Encoding, Field, Fields, Text, Ty};
 
 /// A type as it is written.
 #[cycle(written)]
-#[derive(Drop)]
 pub enum Written {
     Bool,
     Int,
@@ -29,9 +28,26 @@ pub enum Written {
     Named(u32),
 }
 
+impl Drop for Written {
+    #[cycle(drop)]
+    fn drop(self) {
+        match self {
+            Written::Bool
+            | Written::Int
+            | Written::Time
+            | Written::Str
+            | Written::Bytes
+            | Written::Array(_)
+            | Written::Map(_, _)
+            | Written::Tuple(_)
+            | Written::Proto(_)
+            | Written::Named(_) => {}
+        }
+    }
+}
+
 /// A part of a tuple, or a field of a message.
 #[cycle(written)]
-#[derive(Drop)]
 pub struct WrittenField {
     pub name: Text,
     pub ty: Written,
@@ -39,10 +55,27 @@ pub struct WrittenField {
     pub code: Encoding,
 }
 
+impl Drop for WrittenField {
+    #[cycle(drop)]
+    fn drop(self) {
+        let WrittenField {
+            name: _,
+            ty: _,
+            number: _,
+            code: _,
+        } = self;
+    }
+}
+
 /// The named types of a program by number. Contracts see them with all names written out.
-#[derive(Drop)]
 pub struct NamedTypes {
     held: Vec<Written>,
+}
+
+impl Drop for NamedTypes {
+    fn drop(self) {
+        let NamedTypes { held: _ } = self;
+    }
 }
 
 impl Model for NamedTypes {

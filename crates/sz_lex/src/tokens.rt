@@ -9,10 +9,16 @@ use std::alloc::Global;
 use std::marker::Model;
 
 /// A text that has tokens, and its tokens in order.
-#[derive(Debug, Drop)]
+#[derive(Debug)]
 pub struct Tokens {
     text: Vec<u8>,
     tokens: Vec<Token>,
+}
+
+impl Drop for Tokens {
+    fn drop(self) {
+        let Tokens { text: _, tokens: _ } = self;
+    }
 }
 
 impl Model for Tokens {

@@ -10,9 +10,15 @@ use std::mem;
 ///
 /// Contracts see the list of the items, each as they see the item alone: where an item has a model it is plain data there, and so
 /// is the list. What a list has room for doesn't show.
-#[derive(Debug, Drop)]
+#[derive(Debug)]
 pub struct Items<T> {
     held: Vec<T>,
+}
+
+impl<T: Drop> Drop for Items<T> {
+    fn drop(self) {
+        let Items { held: _ } = self;
+    }
 }
 
 impl<T> Model for Items<T> {

@@ -7,12 +7,17 @@ use sz_types::Text;
 pub type Names = Items<Text>;
 
 /// What the candidates of a variable are made of.
-#[derive(Drop)]
 pub struct Bound {
     /// A copy of the expression in front of the brackets in which the variable stands.
     pub base: Expr,
     /// Whether these are the brackets of a slice, and not those of an index.
     pub slice: bool,
+}
+
+impl Drop for Bound {
+    fn drop(self) {
+        let Bound { base: _, slice: _ } = self;
+    }
 }
 
 /// The bounds of variables, in their order.

@@ -15,13 +15,24 @@ use sz_types::Frame;
 /// Cuts a file that comes in pieces into records.
 ///
 /// It holds back the beginning of a record that isn't all there, and no other bytes.
-#[derive(Debug, Drop)]
+#[derive(Debug)]
 pub struct Framer {
     cutter: Cutter,
     held: Vec<u8>,
     /// Where records are lines, so many of the bytes that are held back are known to be no newlines.
     scanned: usize,
     ended: Option<Ending>,
+}
+
+impl Drop for Framer {
+    fn drop(self) {
+        let Framer {
+            cutter: _,
+            held: _,
+            scanned: _,
+            ended: _,
+        } = self;
+    }
 }
 
 impl Model for Framer {

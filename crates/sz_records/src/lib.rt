@@ -10,8 +10,6 @@ mod limits;
 mod places;
 mod records;
 mod shard;
-#[cfg(test)]
-mod tests;
 
 pub use ending::Ending;
 pub use framer::Framer;

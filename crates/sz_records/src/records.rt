@@ -9,11 +9,17 @@ use std::marker::Model;
 /// Records, in the order of the file. Places are counted from 0.
 ///
 /// Contracts see the list of their bytes. All bytes lie in one buffer.
-#[derive(Debug, Drop)]
+#[derive(Debug)]
 pub struct Records {
     bytes: Vec<u8>,
     /// Where each record ends in the buffer. The next one begins there.
     ends: Vec<usize>,
+}
+
+impl Drop for Records {
+    fn drop(self) {
+        let Records { bytes: _, ends: _ } = self;
+    }
 }
 
 impl Model for Records {

@@ -5,7 +5,6 @@ use sz_run::Fault;
 use sz_total::Total;
 
 /// Shards that are run together.
-#[derive(Drop)]
 pub struct Round {
     /// The records at hand. Those of the round are the records of its shards.
     pub records: Records,
@@ -13,6 +12,16 @@ pub struct Round {
     pub shards: ShardRanges,
     /// The number of the first of them in the input, counted from 0.
     pub first_shard: u64,
+}
+
+impl Drop for Round {
+    fn drop(self) {
+        let Round {
+            records: _,
+            shards: _,
+            first_shard: _,
+        } = self;
+    }
 }
 
 /// How a round ends.

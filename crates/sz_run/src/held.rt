@@ -9,12 +9,22 @@ use sz_tabs::Emits;
 use sz_value::NoMemory;
 
 /// A run in place: its operands and open calls, the emits so far, and the ticks that are left.
-#[derive(Drop)]
 pub struct Held {
     pub operands: Operands,
     pub calls: Calls,
     pub emits: Emits,
     pub left: u64,
+}
+
+impl Drop for Held {
+    fn drop(self) {
+        let Held {
+            operands: _,
+            calls: _,
+            emits: _,
+            left: _,
+        } = self;
+    }
 }
 
 /// Where a run goes: on behind the line, to a place, to its end, or to a fault of this kind.

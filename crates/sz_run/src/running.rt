@@ -20,11 +20,20 @@ use sz_tabs::Emits;
 use sz_value::{NoMemory, Slot, Slots};
 
 /// Room for runs: what a run has at hand lies in it, and the memory that one run took is kept for the next.
-#[derive(Drop)]
 pub struct Room {
     alloc: Global,
     held: Held,
     input: Cell,
+}
+
+impl Drop for Room {
+    fn drop(self) {
+        let Room {
+            alloc: _,
+            held: _,
+            input: _,
+        } = self;
+    }
 }
 
 impl Room {

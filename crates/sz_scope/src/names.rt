@@ -8,9 +8,14 @@ use std::alloc::Global;
 use std::marker::Model;
 
 // The names, in the order in which they were first declared, with their places by hashing.
-#[derive(Drop)]
 pub(crate) struct Names {
     held: IndexSet<String>,
+}
+
+impl Drop for Names {
+    fn drop(self) {
+        let Names { held: _ } = self;
+    }
 }
 
 impl Model for Names {

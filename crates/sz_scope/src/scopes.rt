@@ -20,7 +20,6 @@ const FIRST_ROOM: usize = 4;
 /// The blocks that are open, each with its declarations.
 ///
 /// Contracts see the list of the blocks, the innermost first, and each as the list of its declarations, the newest first.
-#[derive(Drop)]
 pub struct Scopes {
     names: Names,
     // For each name the place of its newest declaration in an open block.
@@ -29,6 +28,17 @@ pub struct Scopes {
     entries: Vec<Entry>,
     // How many blocks are open.
     depth: usize,
+}
+
+impl Drop for Scopes {
+    fn drop(self) {
+        let Scopes {
+            names: _,
+            newest: _,
+            entries: _,
+            depth: _,
+        } = self;
+    }
 }
 
 impl Model for Scopes {

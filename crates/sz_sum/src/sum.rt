@@ -16,12 +16,23 @@ use sz_value::Value;
 /// `int`, and one for each part for a table of tuples. It borrows the declaration, so many sums of one table share it.
 ///
 /// Contracts see the declaration, the number of emits and the sums. Only a new sum takes memory: no emit does, nor a merge.
-#[derive(Debug, Drop)]
+#[derive(Debug)]
 pub struct Sum<'a> {
     alloc: Global,
     table: &'a TableDecl,
     count: u64,
     sums: Vec<i128>,
+}
+
+impl<'a> Drop for Sum<'a> {
+    fn drop(self) {
+        let Sum {
+            alloc: _,
+            table: _,
+            count: _,
+            sums: _,
+        } = self;
+    }
 }
 
 impl<'a> Model for Sum<'a> {

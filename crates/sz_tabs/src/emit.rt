@@ -5,7 +5,7 @@ use sz_list::Items;
 use sz_value::{List, Value};
 
 /// One emit. Contracts see it as plain data.
-#[derive(Debug, Drop)]
+#[derive(Debug)]
 pub struct Emit {
     /// The number of its table, counted from 0.
     pub table: u32,
@@ -14,6 +14,17 @@ pub struct Emit {
     pub value: Value,
     /// Its weight, where the table has weights: a number, or a time in microseconds.
     pub weight: Option<i64>,
+}
+
+impl Drop for Emit {
+    fn drop(self) {
+        let Emit {
+            table: _,
+            indexes: _,
+            value: _,
+            weight: _,
+        } = self;
+    }
 }
 
 impl Model for Emit {

@@ -13,21 +13,40 @@ use sz_types::{TableDecl, copy_table};
 use sz_value::{Value, copy};
 
 // A value and its weight.
-#[derive(Debug, Drop)]
+#[derive(Debug)]
 pub(crate) struct Kept {
     pub(crate) value: Value,
     pub(crate) weight: Option<i64>,
+}
+
+impl Drop for Kept {
+    fn drop(self) {
+        let Kept {
+            value: _,
+            weight: _,
+        } = self;
+    }
 }
 
 /// An aggregator of any kind of table, which keeps every emit and makes its rows when it is asked. It is as slow and as
 /// large as that sounds: it shows that the trait's contract can be met, and tests hold other aggregators against it.
 ///
 /// Contracts see the declaration and the list of the emits.
-#[derive(Debug, Drop)]
+#[derive(Debug)]
 pub struct PlainAggregator {
     alloc: Global,
     table: TableDecl,
     held: Vec<Kept>,
+}
+
+impl Drop for PlainAggregator {
+    fn drop(self) {
+        let PlainAggregator {
+            alloc: _,
+            table: _,
+            held: _,
+        } = self;
+    }
 }
 
 impl Model for PlainAggregator {

@@ -6,7 +6,7 @@ use sz_list::Items;
 use sz_value::Value;
 
 /// What a row shows.
-#[derive(Debug, Drop)]
+#[derive(Debug)]
 pub enum RowValue {
     One(Value),
     /// The sums of a table of sums, by component.
@@ -15,12 +15,29 @@ pub enum RowValue {
     Overflow,
 }
 
+impl Drop for RowValue {
+    fn drop(self) {
+        match self {
+            RowValue::One(_) | RowValue::Sums(_) | RowValue::Overflow => {}
+        }
+    }
+}
+
 /// One row. Contracts see it as plain data.
-#[derive(Debug, Drop)]
+#[derive(Debug)]
 pub struct Row {
     pub value: RowValue,
     /// The weight, where the table has weights.
     pub weight: Option<i64>,
+}
+
+impl Drop for Row {
+    fn drop(self) {
+        let Row {
+            value: _,
+            weight: _,
+        } = self;
+    }
 }
 
 impl Model for Row {

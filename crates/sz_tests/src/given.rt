@@ -68,7 +68,8 @@ fn texts(alloc: Global, held: &[&str]) -> Result<List, NoMemory> {
     Ok(list)
 }
 
-fn map(alloc: Global, held: &[(i64, i64)]) -> Result<Pairs, NoMemory> {
+// The map that is made from these pairs.
+pub(crate) fn map(alloc: Global, held: &[(i64, i64)]) -> Result<Pairs, NoMemory> {
     let mut pairs = Pairs::new(alloc);
     for (key, value) in held {
         pairs.insert(Value::Int(*key), Value::Int(*value))?;

@@ -2,11 +2,11 @@
 #![tactic(auto)]
 
 #[cfg(test)]
+mod deep;
+#[cfg(test)]
 mod given;
 #[cfg(test)]
 mod operations;
-#[cfg(test)]
-mod pairs;
 #[cfg(test)]
 mod scopes;
 #[cfg(test)]

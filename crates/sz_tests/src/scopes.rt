@@ -1,8 +1,10 @@
 //! What names mean while blocks are opened and closed, step by step.
-use crate::scopes::Step::{Close, Declare, Depth, Means, Nothing, Open, Seen, Twice, Unseen};
+use crate::scopes::Step::{
+    Close, Closed, Declare, Depth, Many, Means, Nothing, Open, Opened, Seen, Twice, Unseen,
+};
 use std::alloc::Global;
-use std::test::Fail;
-use sz_scope::{Meaning, ScopeError, Scopes, Sight};
+use std::fmt::Write;
+use sz_scope::{Meaning, NoMemory, ScopeError, Scopes, Sight};
 
 #[derive(Clone, Copy)]
 enum Step {
@@ -20,19 +22,21 @@ enum Step {
     // What a name means from a place.
     Seen(&'static str, Sight, Meaning),
     Unseen(&'static str, Sight),
+    // Declares `name0`, `name1` and so on, so many names with their numbers as what they mean.
+    Many(u32),
+    // Opens blocks up to this depth, each with a `name7` that means its depth.
+    Opened(u32),
+    // Closes so many blocks.
+    Closed(u32),
 }
 
-// Each run begins with two blocks, of which the inner one hides `x` and has `y`.
-const BLOCKS: &[Step] = &[
+const AN_INNER_BLOCK_HIDES_A_NAME_UNTIL_IT_IS_CLOSED: &[Step] = &[
     Open,
     Declare("x", Meaning::Var(1)),
     Declare("len", Meaning::Builtin(2)),
     Open,
     Declare("x", Meaning::Table(3)),
     Declare("y", Meaning::Static(4)),
-];
-
-const AN_INNER_BLOCK_HIDES_A_NAME_UNTIL_IT_IS_CLOSED: &[Step] = &[
     Means("x", Meaning::Table(3)),
     Means("y", Meaning::Static(4)),
     Means("len", Meaning::Builtin(2)),
@@ -47,6 +51,12 @@ const AN_INNER_BLOCK_HIDES_A_NAME_UNTIL_IT_IS_CLOSED: &[Step] = &[
 ];
 
 const A_NAME_IS_DECLARED_ONCE_IN_A_BLOCK: &[Step] = &[
+    Open,
+    Declare("x", Meaning::Var(1)),
+    Declare("len", Meaning::Builtin(2)),
+    Open,
+    Declare("x", Meaning::Table(3)),
+    Declare("y", Meaning::Static(4)),
     Twice("y"),
     Means("y", Meaning::Static(4)),
     Declare("len", Meaning::Var(5)),
@@ -61,6 +71,12 @@ const A_NAME_IS_DECLARED_ONCE_IN_A_BLOCK: &[Step] = &[
 
 const A_NAME_THAT_IS_NOT_SEEN_IS_LOOKED_FOR_OUTSIDE: &[Step] = &[
     Open,
+    Declare("x", Meaning::Var(1)),
+    Declare("len", Meaning::Builtin(2)),
+    Open,
+    Declare("x", Meaning::Table(3)),
+    Declare("y", Meaning::Static(4)),
+    Open,
     Declare("x", Meaning::Quantified(8)),
     Declare("len", Meaning::Var(9)),
     Seen("x", Sight::Record, Meaning::Quantified(8)),
@@ -74,17 +90,26 @@ const A_NAME_THAT_IS_NOT_SEEN_IS_LOOKED_FOR_OUTSIDE: &[Step] = &[
     Seen("y", Sight::Static, Meaning::Static(4)),
 ];
 
-// The steps behind a call, so that no proof sees them: those of each run, behind the first two blocks.
-fn runs() -> [&'static [Step]; 3] {
+const MANY_NAMES_AND_DEEP_BLOCKS: &[Step] = &[
+    Open,
+    Many(20_000),
+    Opened(256),
+    Depth(256),
+    Means("name19999", Meaning::Var(19_999)),
+    Means("name7", Meaning::Table(255)),
+    Unseen("name7", Sight::Static),
+    Closed(255),
+    Means("name7", Meaning::Var(7)),
+];
+
+// The steps of each run behind a call, so that no proof sees them.
+fn runs() -> [&'static [Step]; 4] {
     [
         AN_INNER_BLOCK_HIDES_A_NAME_UNTIL_IT_IS_CLOSED,
         A_NAME_IS_DECLARED_ONCE_IN_A_BLOCK,
         A_NAME_THAT_IS_NOT_SEEN_IS_LOOKED_FOR_OUTSIDE,
+        MANY_NAMES_AND_DEEP_BLOCKS,
     ]
-}
-
-fn blocks() -> &'static [Step] {
-    BLOCKS
 }
 
 // What comes of a declaration in the innermost block. Where no block is open it is want of memory.
@@ -95,8 +120,38 @@ fn declared(scopes: &mut Scopes, name: &str, what: Meaning) -> Result<(), ScopeE
     scopes.declare(name, what)
 }
 
+// Declares a name for each number below `count`, with the number as what it means, and says whether each could be.
+fn declare_many(scopes: &mut Scopes, alloc: Global, count: u32) -> bool {
+    let mut all = true;
+    for number in 0..count {
+        let mut name = String::new(alloc);
+        let is_written = write!(name, "name{number}").is_ok();
+        all = all && is_written && declared(scopes, name.as_str(), Meaning::Var(number)).is_ok();
+    }
+    all
+}
+
+// Opens blocks up to this depth, each of which has a name, and says whether each could be.
+fn open_many(scopes: &mut Scopes, depth: u32) -> bool {
+    let mut all = true;
+    for number in 1..depth {
+        all = all && scopes.push().is_ok();
+        all = all && declared(scopes, "name7", Meaning::Table(number)).is_ok();
+    }
+    all
+}
+
+// Closes so many blocks, and says whether each was open.
+fn close_many(scopes: &mut Scopes, count: u32) -> bool {
+    let mut all = true;
+    for _ in 0..count {
+        all = all && scopes.pop();
+    }
+    all
+}
+
 // Takes a step, and says whether it went as it says.
-fn goes(scopes: &mut Scopes, step: &Step) -> bool {
+fn goes(alloc: Global, scopes: &mut Scopes, step: &Step) -> bool {
     match step {
         Step::Open => scopes.push().is_ok(),
         Step::Close(was_open) => scopes.pop() == *was_open,
@@ -107,92 +162,35 @@ fn goes(scopes: &mut Scopes, step: &Step) -> bool {
         Step::Nothing(name) => scopes.find(name).is_none(),
         Step::Seen(name, sight, what) => scopes.find_seen(name, *sight).copied() == Some(*what),
         Step::Unseen(name, sight) => scopes.find_seen(name, *sight).is_none(),
+        Step::Many(count) => declare_many(scopes, alloc, *count),
+        Step::Opened(depth) => open_many(scopes, *depth),
+        Step::Closed(count) => close_many(scopes, *count),
     }
 }
 
-// The first of the steps, behind the first two blocks, that doesn't go as it says.
-fn first_wrong(alloc: Global, steps: &[Step]) -> Result<Option<usize>, Fail> {
-    let mut scopes = Scopes::new(alloc)?;
-    for (number, step) in blocks().iter().chain(steps).enumerate() {
-        if !goes(&mut scopes, step) {
-            return Ok(Some(number));
+// The first of the steps that doesn't go as it says.
+fn first_wrong(alloc: Global, scopes: &mut Scopes, steps: &[Step]) -> Option<usize> {
+    for (number, step) in steps.iter().enumerate() {
+        if !goes(alloc, scopes, step) {
+            return Some(number);
         }
     }
-    Ok(None)
+    None
+}
+
+// The same of steps that begin with no block.
+fn first_wrong_alone(alloc: Global, steps: &[Step]) -> Result<Option<usize>, NoMemory> {
+    let mut scopes = Scopes::new(alloc)?;
+    Ok(first_wrong(alloc, &mut scopes, steps))
 }
 
 #[test]
-fn blocks_and_names_go_as_the_steps_say(rt: HostRuntime) -> Result<(), Fail> {
+fn blocks_and_names_go_as_the_steps_say(rt: HostRuntime) {
     for (run, steps) in runs().iter().enumerate() {
-        assert_eq!(rt; first_wrong(rt.alloc(), steps)?, None, "in run {run}");
+        assert_eq!(rt;
+            first_wrong_alone(rt.alloc(), steps),
+            Ok(None),
+            "in run {run}"
+        );
     }
-    Ok(())
-}
-
-// Declares a name for each number below `count`, with the number as what it means, and says whether each could be.
-fn declare_many(scopes: &mut Scopes, alloc: Global, count: u32) -> Result<bool, Fail> {
-    let mut all = true;
-    for number in 0..count {
-        let name = format!(in alloc; "name{number}")?;
-        all = all && declared(scopes, name.as_str(), Meaning::Var(number)).is_ok();
-    }
-    Ok(all)
-}
-
-// Whether all steps go as they say.
-fn all_go(scopes: &mut Scopes, steps: &[Step]) -> bool {
-    let mut all = true;
-    for step in steps {
-        all = all && goes(scopes, step);
-    }
-    all
-}
-
-// Opens this many blocks, each of which has a name, and says whether each could be.
-fn open_many(scopes: &mut Scopes, count: u32) -> bool {
-    let mut all = true;
-    for depth in 1..count {
-        all = all && all_go(scopes, &[Open, Declare("name7", Meaning::Table(depth))]);
-    }
-    all
-}
-
-// Closes as many, and says whether each was open.
-fn close_many(scopes: &mut Scopes, count: u32) -> bool {
-    let mut all = true;
-    for _ in 1..count {
-        all = all && goes(scopes, &Close(true));
-    }
-    all
-}
-
-// What the names mean in the innermost of 256 blocks.
-const IN_DEEP_BLOCKS: &[Step] = &[
-    Depth(256),
-    Means("name19999", Meaning::Var(19_999)),
-    Means("name7", Meaning::Table(255)),
-    Unseen("name7", Sight::Static),
-];
-
-fn in_deep_blocks() -> &'static [Step] {
-    IN_DEEP_BLOCKS
-}
-
-// Whether a block with many names, and as many blocks in it as there may be, go as they should.
-fn many_go(scopes: &mut Scopes, alloc: Global) -> Result<bool, Fail> {
-    Ok(
-        goes(scopes, &Open)
-            && declare_many(scopes, alloc, 20_000)?
-            && open_many(scopes, 256)
-            && all_go(scopes, in_deep_blocks())
-            && close_many(scopes, 256)
-            && goes(scopes, &Means("name7", Meaning::Var(7))),
-    )
-}
-
-#[test]
-fn many_names_and_deep_blocks(rt: HostRuntime) -> Result<(), Fail> {
-    let mut scopes = Scopes::new(rt.alloc())?;
-    assert!(rt; many_go(&mut scopes, rt.alloc())?);
-    Ok(())
 }

@@ -2,14 +2,12 @@
 use crate::types::Basic::{Bool, Bytes, Int, Str, Time};
 use crate::types::Given::{Array, Arrays, Map, Message, Plain, Proto, Tuple};
 use std::alloc::Global;
-use std::test::Fail;
-use std::thread::Builder;
 use sz_types::{
     Encoding, Field, Fields, NoMemory, TableDecl, TableDecls, TableKind, Text, Ty, Tys, converts,
     copy_fields, copy_table, copy_ty, copy_tys, same,
 };
 
-#[derive(Clone, Copy, PartialEq)]
+#[derive(Clone, Copy)]
 enum Basic {
     Bool,
     Int,
@@ -69,22 +67,9 @@ const TYPES: &[Given] = &[
     Message("Id", Int, 1, Encoding::Plain),
 ];
 
-// The other types without parts to which each such type converts. Bytes convert to each proto type too.
-const CONVERSIONS: &[(Basic, &[Basic])] = &[
-    (Bool, &[Int, Str]),
-    (Int, &[Time, Str]),
-    (Time, &[Int]),
-    (Str, &[Int, Bytes]),
-    (Bytes, &[Int, Str]),
-];
-
-// The tables behind calls, so that no proof sees what stands in them.
+// The table behind a call, so that no proof sees what stands in it.
 fn types() -> &'static [Given] {
     TYPES
-}
-
-fn conversions() -> &'static [(Basic, &'static [Basic])] {
-    CONVERSIONS
 }
 
 fn plain(basic: Basic) -> Ty {
@@ -149,40 +134,49 @@ fn type_of(alloc: Global, given: Given) -> Result<Ty, NoMemory> {
     }
 }
 
+// All types of the table.
+fn all(alloc: Global) -> Result<Tys, NoMemory> {
+    let mut all = Tys::new(alloc);
+    for given in types() {
+        all.push(type_of(alloc, *given)?)?;
+    }
+    Ok(all)
+}
+
 // Whether a type converts to another one.
-fn is_listed(from: Given, to: Given) -> bool {
-    match (from, to) {
-        (Given::Plain(from), Given::Plain(to)) => conversions()
-            .iter()
-            .any(|row| row.0 == from && row.1.contains(&to)),
-        (Given::Plain(Basic::Bytes), Given::Proto(_) | Given::Message(_, _, _, _)) => true,
-        _ => false,
+fn is_listed(from: &Ty, to: &Ty) -> bool {
+    matches!(
+        (from, to),
+        (Ty::Bool | Ty::Bytes, Ty::Int | Ty::Str)
+            | (Ty::Int, Ty::Time | Ty::Str)
+            | (Ty::Time, Ty::Int)
+            | (Ty::Str, Ty::Int | Ty::Bytes)
+            | (Ty::Bytes, Ty::Proto(_))
+    )
+}
+
+// Whether the copy of the type at a place of the table is the same as the one there alone, and converts as it should.
+fn stands_at(alloc: Global, place: usize) -> Result<bool, NoMemory> {
+    let types = all(alloc)?;
+    let copies = copy_tys(alloc, &types)?;
+    match copies.as_slice().get(place) {
+        Some(made) => Ok(is_alone(types.as_slice(), place, made)),
+        None => Ok(false),
     }
 }
 
-// The copy of a type that is dropped.
-fn copied(alloc: Global, given: Given) -> Result<Ty, NoMemory> {
-    let ty = type_of(alloc, given)?;
-    copy_ty(alloc, &ty)
-}
-
-// Whether the copy of a type and another one, at these places of the table, are the same where the places are, and
-// convert as the tables say.
-fn is_right(alloc: Global, i: usize, k: usize, from: Given, to: Given) -> Result<bool, NoMemory> {
-    let made = copied(alloc, from)?;
-    is_told_of(alloc, &made, to, i == k, i == k || is_listed(from, to))
-}
-
-// Whether a type is the same as this one, and converts to it, if that is told.
-fn is_told_of(
-    alloc: Global,
-    made: &Ty,
-    to: Given,
-    is_same: bool,
-    goes_over: bool,
-) -> Result<bool, NoMemory> {
-    let other = type_of(alloc, to)?;
-    Ok(stand_so(made, &other, is_same, goes_over))
+fn is_alone(types: &[Ty], place: usize, made: &Ty) -> bool {
+    let mut all = true;
+    for (k, other) in types.iter().enumerate() {
+        all = all
+            && stand_so(
+                made,
+                other,
+                place == k,
+                place == k || is_listed(made, other),
+            );
+    }
+    all
 }
 
 fn stand_so(from: &Ty, to: &Ty, is_same: bool, goes_over: bool) -> bool {
@@ -190,19 +184,14 @@ fn stand_so(from: &Ty, to: &Ty, is_same: bool, goes_over: bool) -> bool {
 }
 
 #[test]
-fn types_that_differ_in_one_place_are_not_the_same_and_convert_as_the_rows_say(
-    rt: HostRuntime,
-) -> Result<(), Fail> {
+fn types_that_differ_in_one_place_are_not_the_same_and_convert_as_listed(rt: HostRuntime) {
     assert_eq!(rt; types().len(), 32);
-    for (i, from) in types().iter().enumerate() {
-        for (k, to) in types().iter().enumerate() {
-            assert!(rt;
-                is_right(rt.alloc(), i, k, *from, *to)?,
-                "types {i} and {k}"
-            );
-        }
+    for place in 0..32 {
+        assert!(rt;
+            matches!(stands_at(rt.alloc(), place), Ok(true)),
+            "type {place}"
+        );
     }
-    Ok(())
 }
 
 // The text, as a string and as bytes in between.
@@ -211,19 +200,19 @@ fn given_back(text: Text) -> Text {
     Text::from_utf8(text.into_bytes())
 }
 
-#[test]
-fn a_text_is_made_and_given_back(rt: HostRuntime) -> Result<(), Fail> {
-    let text = Text::from_str(rt.alloc(), "größe")?;
-    assert_eq!(rt; text.as_bytes(), b"gr\xc3\xb6\xc3\x9fe".as_slice());
+// Whether a text is made and given back.
+fn text_is_given_back(alloc: Global) -> Result<bool, NoMemory> {
+    let text = Text::from_str(alloc, "größe")?;
+    let is_made = text.as_bytes() == b"gr\xc3\xb6\xc3\x9fe".as_slice();
     let text = given_back(text);
-    assert_eq!(rt; text.as_str(), "größe");
-    Ok(())
+    Ok(is_made && text.as_str() == "größe")
 }
 
-// The fields `x` and `y`, copied.
-fn copied_fields(alloc: Global) -> Result<Fields, NoMemory> {
+// Whether fields are pushed, copied and given back.
+fn fields_are_given_back(alloc: Global) -> Result<bool, NoMemory> {
     let fields = numbers(alloc, &["x", "y"])?;
-    Ok(Fields::from_vec(copy_fields(alloc, &fields)?.into_vec()))
+    let fields = Fields::from_vec(copy_fields(alloc, &fields)?.into_vec());
+    Ok(are_x_and_y(fields.as_slice()))
 }
 
 fn are_x_and_y(fields: &[Field]) -> bool {
@@ -233,33 +222,13 @@ fn are_x_and_y(fields: &[Field]) -> bool {
     }
 }
 
-#[test]
-fn fields_are_pushed_and_given_back(rt: HostRuntime) -> Result<(), Fail> {
-    let fields = copied_fields(rt.alloc())?;
-    assert_eq!(rt; fields.len(), 2);
-    assert!(rt; are_x_and_y(fields.as_slice()));
-    Ok(())
-}
-
-// The types of strings and of whole numbers, pushed and copied.
-fn copied_types(alloc: Global) -> Result<Tys, NoMemory> {
+// Whether types are pushed, copied and given back.
+fn types_are_given_back(alloc: Global) -> Result<bool, NoMemory> {
     let mut types = Tys::new(alloc);
     types.push(Ty::Str)?;
     types.push(Ty::Int)?;
-    Ok(Tys::from_vec(copy_tys(alloc, &types)?.into_vec()))
-}
-
-// Whether the types are those of strings and of whole numbers.
-fn are_str_and_int(types: &[Ty]) -> bool {
-    matches!(types, [Ty::Str, Ty::Int])
-}
-
-#[test]
-fn types_are_pushed_and_given_back(rt: HostRuntime) -> Result<(), Fail> {
-    let types = copied_types(rt.alloc())?;
-    assert_eq!(rt; types.len(), 2);
-    assert!(rt; are_str_and_int(types.as_slice()));
-    Ok(())
+    let types = Tys::from_vec(copy_tys(alloc, &types)?.into_vec());
+    Ok(matches!(types.as_slice(), [Ty::Str, Ty::Int]))
 }
 
 // A declaration of a table of this name.
@@ -290,15 +259,9 @@ fn is_table(table: &TableDecl, name: &str) -> bool {
 // The copy of a declaration that is dropped.
 fn copied_table(alloc: Global, name: &str) -> Result<TableDecl, NoMemory> {
     let made = table(alloc, name)?;
-    copy_table(alloc, &made)
-}
-
-// Two declarations, the second copied, given back as a list.
-fn declared(alloc: Global) -> Result<TableDecls, NoMemory> {
-    let mut tables = TableDecls::new(alloc);
-    tables.push(table(alloc, "best")?)?;
-    tables.push(copied_table(alloc, "worst")?)?;
-    Ok(TableDecls::from_vec(tables.into_vec()))
+    let copied = copy_table(alloc, &made);
+    drop(made);
+    copied
 }
 
 fn are_best_and_worst(tables: &[TableDecl]) -> bool {
@@ -308,12 +271,26 @@ fn are_best_and_worst(tables: &[TableDecl]) -> bool {
     }
 }
 
+// Whether two declarations, the second copied, are pushed and given back.
+fn tables_are_given_back(alloc: Global) -> Result<bool, NoMemory> {
+    let mut tables = TableDecls::new(alloc);
+    tables.push(table(alloc, "best")?)?;
+    tables.push(copied_table(alloc, "worst")?)?;
+    let tables = TableDecls::from_vec(tables.into_vec());
+    Ok(are_best_and_worst(tables.as_slice()))
+}
+
 #[test]
-fn declarations_are_pushed_and_given_back(rt: HostRuntime) -> Result<(), Fail> {
-    let tables = declared(rt.alloc())?;
-    assert_eq!(rt; tables.len(), 2);
-    assert!(rt; are_best_and_worst(tables.as_slice()));
-    Ok(())
+fn texts_fields_types_and_declarations_are_made_and_given_back(rt: HostRuntime) {
+    let found = [
+        text_is_given_back(rt.alloc()),
+        fields_are_given_back(rt.alloc()),
+        types_are_given_back(rt.alloc()),
+        tables_are_given_back(rt.alloc()),
+    ];
+    for (number, found) in found.iter().enumerate() {
+        assert!(rt; matches!(found, Ok(true)), "list {number}");
+    }
 }
 
 // A type of this many levels, one in the other: in turn arrays, maps, tuples and proto types.
@@ -330,25 +307,17 @@ fn chain(alloc: Global, height: u32) -> Result<Ty, NoMemory> {
     Ok(ty)
 }
 
-// Whether a type of this height is the same as its copy, and converts to it. Both are dropped.
-fn handle_chain(alloc: Global, height: u32) -> Result<bool, NoMemory> {
+/// Whether a type of this height is the same as its copy, and converts to it. Both are dropped.
+pub(crate) fn handles_chain(alloc: Global, height: u32) -> Result<bool, NoMemory> {
     let ty = chain(alloc, height)?;
-    is_its_copy(alloc, &ty)
+    let holds = is_its_copy(alloc, &ty);
+    drop(ty);
+    holds
 }
 
 fn is_its_copy(alloc: Global, ty: &Ty) -> Result<bool, NoMemory> {
     let made = copy_ty(alloc, ty)?;
-    Ok(stand_so(ty, &made, true, true))
-}
-
-#[test]
-fn a_type_of_thirty_thousand_levels_fits_a_stack_of_256_mebibytes(
-    rt: HostRuntime,
-) -> Result<(), Fail> {
-    let alloc = rt.alloc();
-    let thread = Builder::new()
-        .stack_size(256 << 20)
-        .spawn(&rt, move || handle_chain(alloc, 30_000))?;
-    assert_eq!(rt; thread.join(&rt), Ok(true));
-    Ok(())
+    let holds = stand_so(ty, &made, true, true);
+    drop(made);
+    Ok(holds)
 }

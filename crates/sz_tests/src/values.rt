@@ -1,12 +1,10 @@
 //! The order of values, their weights, copies and hashes, and what lists, maps, slots and texts give back.
-use crate::given::Given::{Array, Bool, Bytes, Int, Map, Names, Nothing, Str, Texts, Time, Tuple};
-use crate::given::{Given, list_of, slot_of};
+use crate::given::Given::{Array, Bool, Bytes, Int, Map, Names, Str, Texts, Time, Tuple};
+use crate::given::{Given, list_of, map};
 use std::alloc::Global;
 use std::cmp::Ordering;
 use std::hash::{DefaultHasher, Hash, Hasher};
-use std::test::Fail;
-use std::thread::Builder;
-use sz_value::{List, NoMemory, Pairs, Slot, Slots, Text, Value, copy, equal, order, weight};
+use sz_value::{List, NoMemory, Pair, Pairs, Slot, Slots, Text, Value, copy, equal, order, weight};
 
 // Each value is less than all behind it.
 const ASCENDING: &[Given] = &[
@@ -15,8 +13,10 @@ const ASCENDING: &[Given] = &[
     Int(i64::MIN),
     Int(-1),
     Int(0),
+    Int(1),
     Int(i64::MAX),
     Time(-5),
+    Time(1),
     Time(4),
     Str(""),
     Str("a"),
@@ -46,22 +46,49 @@ const ASCENDING: &[Given] = &[
     Names(&[("a", "b")]),
 ];
 
-const WEIGHTS: &[(Given, u64)] = &[
-    (Int(i64::MIN), 1),
-    (Str("\u{20ac}uro"), 7),
-    (Bytes(b"\x07\x00\x07"), 4),
-    (Tuple(&[]), 1),
-    (Tuple(&[5, 6]), 3),
-    (Map(&[(1, 5), (2, 6)]), 5),
-];
+enum Row {
+    // What a value weighs.
+    Weighs(Given, u64),
+    // Two texts, and whether each, and both as one, are ASCII.
+    Ascii(&'static str, &'static str, [bool; 3]),
+    // The part of an ASCII text between two places.
+    Cut(&'static str, usize, usize, &'static str),
+    // The pairs that are given, and those of the map that is made of them.
+    Pairs(&'static [(i64, i64)], &'static [(i64, i64)]),
+    // A map of many numbers, from pairs with falling keys.
+    Falling,
+    // Pairs are put into a map and replaced.
+    Replaced,
+    // What a list gives back.
+    List,
+    // What slots give back.
+    Slots,
+}
 
-// Two texts, and whether each, and both as one, are ASCII.
-const ASCII: &[(&str, &str, [bool; 3])] = &[
-    ("", "a z\u{7f}", [true, true, true]),
-    ("ab", "c", [true, true, true]),
-    ("ab", "\u{e9}", [true, false, false]),
-    ("\u{80}", "", [false, true, false]),
-    ("aaaaaaaaa\u{e9}", "a", [false, true, false]),
+const ROWS: &[Row] = &[
+    Row::Weighs(Int(i64::MIN), 1),
+    Row::Weighs(Str("\u{20ac}uro"), 7),
+    Row::Weighs(Bytes(b"\x07\x00\x07"), 4),
+    Row::Weighs(Tuple(&[]), 1),
+    Row::Weighs(Tuple(&[5, 6]), 3),
+    Row::Weighs(Map(&[(1, 5), (2, 6)]), 5),
+    Row::Ascii("", "a z\u{7f}", [true, true, true]),
+    Row::Ascii("ab", "c", [true, true, true]),
+    Row::Ascii("ab", "\u{e9}", [true, false, false]),
+    Row::Ascii("\u{80}", "", [false, true, false]),
+    Row::Ascii("aaaaaaaaa\u{e9}", "a", [false, true, false]),
+    Row::Cut("abcd", 1, 3, "bc"),
+    Row::Cut("abcd", 4, 4, ""),
+    Row::Pairs(&[], &[]),
+    Row::Pairs(&[(4, 1)], &[(4, 1)]),
+    Row::Pairs(&[(1, 5), (2, 6), (3, 7)], &[(1, 5), (2, 6), (3, 7)]),
+    Row::Pairs(&[(3, 7), (2, 6), (1, 5)], &[(1, 5), (2, 6), (3, 7)]),
+    Row::Pairs(&[(2, 1), (1, 5), (2, 2), (2, 3)], &[(1, 5), (2, 3)]),
+    Row::Pairs(&[(0, 9), (-1, 8), (0, 7), (-1, 6)], &[(-1, 6), (0, 7)]),
+    Row::Falling,
+    Row::Replaced,
+    Row::List,
+    Row::Slots,
 ];
 
 // The tables behind calls, so that no proof sees what stands in them.
@@ -69,12 +96,8 @@ fn ascending() -> &'static [Given] {
     ASCENDING
 }
 
-fn weights() -> &'static [(Given, u64)] {
-    WEIGHTS
-}
-
-fn ascii() -> &'static [(&'static str, &'static str, [bool; 3])] {
-    ASCII
+fn rows() -> &'static [Row] {
+    ROWS
 }
 
 fn hash_of(value: &Value) -> u64 {
@@ -83,11 +106,21 @@ fn hash_of(value: &Value) -> u64 {
     hasher.finish()
 }
 
-// Whether a value is less than all behind it, more than all before it, and equal to its copy alone, as which it hashes.
-fn stands_at(alloc: Global, values: &[Value], place: usize) -> Result<bool, NoMemory> {
-    match values.get(place) {
-        Some(value) => copy_stands_at(alloc, values, place, value),
-        None => Ok(true),
+// The values of the table, turned round and sorted.
+fn sorted(alloc: Global) -> Result<List, NoMemory> {
+    let mut values = list_of(alloc, ascending())?.into_vec();
+    values.reverse();
+    values.sort()?;
+    Ok(List::from_vec(values))
+}
+
+// Whether the copy of the value at a place of the sorted ones stands at that place of the table.
+fn stands_at(alloc: Global, place: usize) -> Result<bool, NoMemory> {
+    let values = list_of(alloc, ascending())?;
+    let sorted = sorted(alloc)?;
+    match sorted.as_slice().get(place) {
+        Some(value) => copy_stands_at(alloc, values.as_slice(), place, value),
+        None => Ok(false),
     }
 }
 
@@ -98,53 +131,22 @@ fn copy_stands_at(
     value: &Value,
 ) -> Result<bool, NoMemory> {
     let made = copy(alloc, value)?;
-    Ok(hash_of(&made) == hash_of(value) && is_between(values, place, &made))
+    let stands = is_between(values, place, &made);
+    drop(made);
+    Ok(stands)
 }
 
-// Whether this is less than all values behind the place, more than all before it, and equal to the one there alone.
+// Whether this is less than all values behind the place, more than all before it, and equal to the one there alone, as which
+// it hashes.
 fn is_between(values: &[Value], place: usize, made: &Value) -> bool {
     let mut all = true;
     for (k, other) in values.iter().enumerate() {
-        all = all && order(made, other) == place.cmp(&k) && equal(made, other) == (place == k);
+        all = all
+            && order(made, other) == place.cmp(&k)
+            && equal(made, other) == (place == k)
+            && (hash_of(made) == hash_of(other)) == (place == k);
     }
     all
-}
-
-#[test]
-fn the_order_goes_by_kind_then_by_number_bytes_or_parts(rt: HostRuntime) -> Result<(), Fail> {
-    let values = list_of(rt.alloc(), ascending())?;
-    assert_eq!(rt; values.len(), 34);
-    for place in 0..values.len() {
-        assert!(rt;
-            stands_at(rt.alloc(), values.as_slice(), place)?,
-            "value {place}"
-        );
-    }
-    Ok(())
-}
-
-#[test]
-fn values_are_sorted_by_their_order(rt: HostRuntime) -> Result<(), Fail> {
-    let mut values = list_of(rt.alloc(), ascending())?.into_vec();
-    values.reverse();
-    values.sort()?;
-    let wanted = list_of(rt.alloc(), ascending())?;
-    assert!(rt; values.as_slice() == wanted.as_slice());
-    Ok(())
-}
-
-fn hash_of_int(number: i64) -> u64 {
-    hash_of(&Value::Int(number))
-}
-
-fn hash_of_time(number: i64) -> u64 {
-    hash_of(&Value::Time(number))
-}
-
-#[test]
-fn values_of_two_kinds_have_two_hashes(rt: HostRuntime) -> Result<(), Fail> {
-    assert!(rt; hash_of_int(1) != hash_of_time(1));
-    Ok(())
 }
 
 // Whether a value weighs this.
@@ -156,74 +158,41 @@ fn weighs(alloc: Global, given: Given, wanted: u64) -> Result<bool, NoMemory> {
     }
 }
 
-#[test]
-fn weights_count_bytes_and_parts(rt: HostRuntime) -> Result<(), Fail> {
-    for (row, (given, wanted)) in weights().iter().enumerate() {
-        assert!(rt; weighs(rt.alloc(), *given, *wanted)?, "row {row}");
-    }
-    Ok(())
-}
-
-// Whether a text and its copy are ASCII.
-fn is_ascii_with_its_copy(alloc: Global, text: &Text) -> Result<bool, NoMemory> {
-    let made = text.copy(alloc)?;
-    Ok(text.is_ascii() && made.is_ascii())
-}
-
-// Whether two texts as one, with its copy, are ASCII.
-fn is_ascii_as_one(alloc: Global, first: &Text, second: &Text) -> Result<bool, NoMemory> {
-    let joined = Text::joined(alloc, first, second)?;
-    is_ascii_with_its_copy(alloc, &joined)
-}
-
-// Whether two texts, with their copies, and both as one, are ASCII.
-fn all_ascii(alloc: Global, first: &Text, second: &Text) -> Result<[bool; 3], NoMemory> {
-    Ok([
-        is_ascii_with_its_copy(alloc, first)?,
-        is_ascii_with_its_copy(alloc, second)?,
-        is_ascii_as_one(alloc, first, second)?,
-    ])
-}
-
-fn are_ascii(alloc: Global, first: &str, second: &str) -> Result<[bool; 3], NoMemory> {
+// Whether two texts, both as one, and the copy of that, are ASCII.
+fn are_ascii(
+    alloc: Global,
+    first: &str,
+    second: &str,
+    [one, other, both]: [bool; 3],
+) -> Result<bool, NoMemory> {
     let first = Text::new(alloc, first)?;
     let second = Text::from_string(String::from_str(alloc, second)?);
-    all_ascii(alloc, &first, &second)
-}
-
-#[test]
-fn a_text_remembers_whether_it_is_ascii(rt: HostRuntime) -> Result<(), Fail> {
-    for (row, (first, second, wanted)) in ascii().iter().enumerate() {
-        assert!(rt;
-            are_ascii(rt.alloc(), first, second)? == *wanted,
-            "row {row}"
-        );
-    }
-    Ok(())
+    let joined = Text::joined(alloc, &first, &second)?;
+    let made = joined.copy(alloc)?;
+    let found = [
+        first.is_ascii(),
+        second.is_ascii(),
+        joined.is_ascii(),
+        made.is_ascii(),
+    ];
+    Ok(found == [one, other, both, both])
 }
 
 // Whether this is the part of an ASCII text between two places, if they are in it.
 fn is_cut(
     alloc: Global,
-    text: &Text,
+    text: &str,
     from: usize,
     to: usize,
     wanted: &str,
 ) -> Result<bool, NoMemory> {
+    let text = Text::new(alloc, text)?;
     if text.is_ascii() && from <= to && to <= text.len() {
         let part = text.ascii_part(alloc, from, to)?;
         Ok(part.as_str() == wanted && part.is_ascii())
     } else {
         Ok(false)
     }
-}
-
-#[test]
-fn a_part_of_an_ascii_text_is_cut_by_bytes(rt: HostRuntime) -> Result<(), Fail> {
-    let text = Text::new(rt.alloc(), "abcd")?;
-    assert!(rt; is_cut(rt.alloc(), &text, 1, 3, "bc")?);
-    assert!(rt; is_cut(rt.alloc(), &text, 4, 4, "")?);
-    Ok(())
 }
 
 // The number in a value, or 1000 where it is none.
@@ -241,6 +210,52 @@ fn number_of(value: Value) -> i64 {
     number
 }
 
+// The number at a key, or 1000 where there is none.
+fn number_at(pairs: &Pairs, key: i64) -> i64 {
+    let key = Value::Int(key);
+    let number = match pairs.get(&key) {
+        Some(value) => number_in(value),
+        None => 1000,
+    };
+    drop(key);
+    number
+}
+
+// Whether the pairs are these.
+fn are_pairs(pairs: &Pairs, wanted: &[(i64, i64)]) -> bool {
+    let mut all = pairs.len() == wanted.len();
+    for (pair, (key, value)) in pairs.as_slice().iter().zip(wanted) {
+        all = all && number_in(&pair.key) == *key && number_in(&pair.value) == *value;
+    }
+    all
+}
+
+// Whether a map that is made from the pairs has these.
+fn gives(alloc: Global, given: &[(i64, i64)], wanted: &[(i64, i64)]) -> Result<bool, NoMemory> {
+    let mut pairs = Vec::new(alloc);
+    for (key, value) in given {
+        pairs.push(Pair {
+            key: Value::Int(*key),
+            value: Value::Int(*value),
+        })?;
+    }
+    let pairs = Pairs::from_pairs(alloc, pairs)?;
+    Ok(are_pairs(&pairs, wanted))
+}
+
+// Whether a map of many numbers is made from pairs with falling keys.
+fn gives_falling(alloc: Global) -> Result<bool, NoMemory> {
+    let mut pairs = Vec::new(alloc);
+    for number in 0..2000 {
+        pairs.push(Pair {
+            key: Value::Int(i64::wrapping_neg(number)),
+            value: Value::Int(number),
+        })?;
+    }
+    let pairs = Pairs::from_pairs(alloc, pairs)?;
+    Ok(pairs.len() == 2000 && number_at(&pairs, -1999) == 1999)
+}
+
 // The number that another replaces at a key, or minus that other where the key isn't there.
 fn replaced(pairs: &mut Pairs, key: i64, number: i64) -> i64 {
     let key = Value::Int(key);
@@ -252,23 +267,17 @@ fn replaced(pairs: &mut Pairs, key: i64, number: i64) -> i64 {
     found
 }
 
-// Pairs are put in and replaced: the numbers that were replaced, and at the end those at the keys 0 to 5.
-fn numbers_at(alloc: Global) -> Result<([i64; 2], [Option<i64>; 5]), NoMemory> {
-    let mut pairs = Pairs::new(alloc);
-    for (key, value) in [(3, 0), (1, 5), (2, 4), (1, 6)] {
-        pairs.insert(Value::Int(key), Value::Int(value))?;
-    }
+// Whether of equal keys the last pair stands, and a pair is replaced where its key is there.
+fn replaces(alloc: Global) -> Result<bool, NoMemory> {
+    let mut pairs = map(alloc, &[(3, 0), (1, 5), (2, 4), (1, 6)])?;
     let old = [replaced(&mut pairs, 2, 9), replaced(&mut pairs, 4, 8)];
-    let at = |key: i64| pairs.get(&Value::Int(key)).map(number_in);
-    Ok((old, [at(0), at(1), at(2), at(3), at(4)]))
-}
-
-#[test]
-fn of_equal_keys_the_last_pair_stands(rt: HostRuntime) -> Result<(), Fail> {
-    let (old, at) = numbers_at(rt.alloc())?;
-    assert_eq!(rt; old, [4, -8]);
-    assert_eq!(rt; at, [None, Some(6), Some(9), Some(0), None]);
-    Ok(())
+    let ends = [number_at(&pairs, 0), number_at(&pairs, 4)];
+    let found = [
+        number_at(&pairs, 1),
+        number_at(&pairs, 2),
+        number_at(&pairs, 3),
+    ];
+    Ok(old == [4, -8] && ends == [1000, 1000] && found == [6, 9, 0])
 }
 
 // The number that stood in front, where there are two, and another one stands now.
@@ -288,44 +297,68 @@ fn last_number(list: &mut List) -> i64 {
     }
 }
 
-#[test]
-fn a_list_gives_back_what_it_was_given(rt: HostRuntime) -> Result<(), Fail> {
-    let mut list = list_of(rt.alloc(), &[Int(4), Int(5)])?;
-    assert_eq!(rt; put_in_front(&mut list, 6), 4);
-    assert_eq!(rt; last_number(&mut list), 5);
-    for value in list.as_slice() {
-        assert_eq!(rt; number_in(value), 6);
-    }
-    Ok(())
+// Whether a list gives back what it was given.
+fn list_gives_back(alloc: Global) -> Result<bool, NoMemory> {
+    let mut list = list_of(alloc, &[Int(4), Int(5)])?;
+    let found = [
+        put_in_front(&mut list, 6),
+        last_number(&mut list),
+        last_number(&mut list),
+        last_number(&mut list),
+    ];
+    Ok(found == [4, 5, 6, 1000])
 }
 
-// What is taken off the slots: whether there was a slot, and the number in it.
-fn popped(slots: &mut Slots) -> (bool, Option<i64>) {
+// The number in the slot that is taken off, -1 where there is none in it, or -2 where there is no slot.
+fn popped(slots: &mut Slots) -> i64 {
     match slots.pop() {
-        Some(Slot::Defined(value)) => (true, Some(number_of(value))),
-        Some(Slot::Undefined) => (true, None),
-        None => (false, None),
+        Some(Slot::Defined(value)) => number_of(value),
+        Some(Slot::Undefined) => -1,
+        None => -2,
     }
 }
 
-// Whether a slot with 3 and one with nothing are taken off, and none is left.
-fn give_both_back(slots: &mut Slots) -> bool {
-    popped(slots) == (true, Some(3)) && popped(slots) == (true, None) && slots.is_empty()
+// Whether slots give back a value and none.
+fn slots_give_back(alloc: Global) -> Result<bool, NoMemory> {
+    let mut slots = Slots::with_capacity(alloc, 1)?;
+    slots.push(Slot::Undefined)?;
+    slots.push(Slot::Defined(Value::Int(3)))?;
+    let found = [popped(&mut slots), popped(&mut slots), popped(&mut slots)];
+    Ok(found == [3, -1, -2] && slots.is_empty())
+}
+
+fn holds(alloc: Global, row: &Row) -> Result<bool, NoMemory> {
+    match row {
+        Row::Weighs(given, wanted) => weighs(alloc, *given, *wanted),
+        Row::Ascii(first, second, wanted) => are_ascii(alloc, first, second, *wanted),
+        Row::Cut(text, from, to, wanted) => is_cut(alloc, text, *from, *to, wanted),
+        Row::Pairs(given, wanted) => gives(alloc, given, wanted),
+        Row::Falling => gives_falling(alloc),
+        Row::Replaced => replaces(alloc),
+        Row::List => list_gives_back(alloc),
+        Row::Slots => slots_give_back(alloc),
+    }
 }
 
 #[test]
-fn slots_hold_values_and_none(rt: HostRuntime) -> Result<(), Fail> {
-    let alloc = rt.alloc();
-    let mut slots = Slots::with_capacity(alloc, 1)?;
-    for given in [Nothing, Int(3)] {
-        slots.push(slot_of(alloc, given)?)?;
+fn values_are_ordered_by_kind_then_by_number_bytes_or_parts(rt: HostRuntime) {
+    for place in 0..ascending().len() {
+        assert!(rt;
+            matches!(stands_at(rt.alloc(), place), Ok(true)),
+            "value {place}"
+        );
     }
-    assert!(rt; give_both_back(&mut slots));
-    Ok(())
+}
+
+#[test]
+fn values_weigh_and_give_back_what_the_rows_say(rt: HostRuntime) {
+    for (number, row) in rows().iter().enumerate() {
+        assert!(rt; matches!(holds(rt.alloc(), row), Ok(true)), "row {number}");
+    }
 }
 
 // An array in an array in an array, and so on, with a number in the last.
-fn chain(alloc: Global, height: u64, number: i64) -> Result<Value, NoMemory> {
+fn chain(alloc: Global, height: u32, number: i64) -> Result<Value, NoMemory> {
     let mut value = Value::Int(number);
     for _ in 0..height {
         value = Value::Array(List::from_vec(vec![in alloc; value]?));
@@ -333,27 +366,27 @@ fn chain(alloc: Global, height: u64, number: i64) -> Result<Value, NoMemory> {
     Ok(value)
 }
 
-// Whether a chain weighs what its levels do, is equal to its copy and less than a chain with a greater number, and hashes
-// as its copy does. All are dropped at the end.
-fn handle_chain(alloc: Global, height: u32) -> Result<bool, NoMemory> {
-    let value = chain(alloc, u64::from(height), 0)?;
-    with_its_copy(alloc, height, &value)
+/// Whether a chain weighs what its levels do, is equal to its copy and less than a chain with a greater number, and hashes
+/// as its copy does. All are dropped at the end.
+pub(crate) fn handles_chain(alloc: Global, height: u32) -> Result<bool, NoMemory> {
+    let value = chain(alloc, height, 0)?;
+    let holds = is_its_copy(alloc, height, &value);
+    drop(value);
+    holds
 }
 
-fn with_its_copy(alloc: Global, height: u32, value: &Value) -> Result<bool, NoMemory> {
+fn is_its_copy(alloc: Global, height: u32, value: &Value) -> Result<bool, NoMemory> {
     let made = copy(alloc, value)?;
-    with_a_greater(alloc, height, value, &made)
+    let holds = is_less(alloc, height, value, &made);
+    drop(made);
+    holds
 }
 
-fn with_a_greater(
-    alloc: Global,
-    height: u32,
-    value: &Value,
-    made: &Value,
-) -> Result<bool, NoMemory> {
-    let height = u64::from(height);
+fn is_less(alloc: Global, height: u32, value: &Value, made: &Value) -> Result<bool, NoMemory> {
     let greater = chain(alloc, height, 1)?;
-    Ok(weight(value) == height + 1 && stand_so(value, made, &greater))
+    let holds = weight(value) == u64::from(height) + 1 && stand_so(value, made, &greater);
+    drop(greater);
+    Ok(holds)
 }
 
 fn stand_so(value: &Value, made: &Value, greater: &Value) -> bool {
@@ -362,16 +395,4 @@ fn stand_so(value: &Value, made: &Value, greater: &Value) -> bool {
         && equal(made, value)
         && !equal(value, greater)
         && hash_of(made) == hash_of(value)
-}
-
-#[test]
-fn a_value_of_thirty_thousand_levels_fits_a_stack_of_64_mebibytes(
-    rt: HostRuntime,
-) -> Result<(), Fail> {
-    let alloc = rt.alloc();
-    let thread = Builder::new()
-        .stack_size(64 << 20)
-        .spawn(&rt, move || handle_chain(alloc, 30_000))?;
-    assert_eq!(rt; thread.join(&rt), Ok(true));
-    Ok(())
 }

@@ -6,10 +6,19 @@ use sz_tabs::Rows;
 use sz_value::List;
 
 /// An index list with the rows under it. Contracts see it as plain data.
-#[derive(Debug, Drop)]
+#[derive(Debug)]
 pub struct IndexedRows {
     pub indexes: List,
     pub rows: Rows,
+}
+
+impl Drop for IndexedRows {
+    fn drop(self) {
+        let IndexedRows {
+            indexes: _,
+            rows: _,
+        } = self;
+    }
 }
 
 impl Model for IndexedRows {

@@ -11,7 +11,6 @@ use sz_types::Place;
 
 /// An expression. The place is that of its first token.
 #[cycle(expr)]
-#[derive(Drop)]
 pub enum Expr {
     Literal(Place, Literal),
     Named(Name),
@@ -37,12 +36,39 @@ pub enum Expr {
     Binary(Place, BinaryOp, Box<Expr>, Box<Expr>),
 }
 
+impl Drop for Expr {
+    #[cycle(drop_expr)]
+    fn drop(self) {
+        match self {
+            Expr::Literal(_, _)
+            | Expr::Named(_)
+            | Expr::Call(_, _)
+            | Expr::Def(_, _)
+            | Expr::Paren(_, _)
+            | Expr::Convert(_, _, _)
+            | Expr::List(_, _)
+            | Expr::Map(_, _)
+            | Expr::Index(_, _, _)
+            | Expr::Slice(_, _, _, _)
+            | Expr::Field(_, _, _)
+            | Expr::Unary(_, _, _)
+            | Expr::Binary(_, _, _, _) => {}
+        }
+    }
+}
+
 /// A key and its value.
 #[cycle(expr)]
-#[derive(Drop)]
 pub struct Pair {
     pub key: Expr,
     pub value: Expr,
+}
+
+impl Drop for Pair {
+    #[cycle(drop_expr)]
+    fn drop(self) {
+        let Pair { key: _, value: _ } = self;
+    }
 }
 
 impl Expr {

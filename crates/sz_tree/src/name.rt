@@ -5,10 +5,16 @@ use std::marker::Model;
 use sz_types::{Place, Text};
 
 /// A name where it stands in a program: its place and its letters, digits and `_`.
-#[derive(Debug, Drop)]
+#[derive(Debug)]
 pub struct Name {
     place: Place,
     text: Text,
+}
+
+impl Drop for Name {
+    fn drop(self) {
+        let Name { place: _, text: _ } = self;
+    }
 }
 
 impl Model for Name {

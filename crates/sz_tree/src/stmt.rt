@@ -10,21 +10,32 @@ use crate::types::{Param, TypeTree};
 use sz_types::Place;
 
 /// A step of a path: `[e]` or `.name`.
-#[derive(Drop)]
 pub enum Step {
     Index(Expr),
     Field(Name),
 }
 
+impl Drop for Step {
+    fn drop(self) {
+        match self {
+            Step::Index(_) | Step::Field(_) => {}
+        }
+    }
+}
+
 /// What is assigned to: a variable, or a part of it.
-#[derive(Drop)]
 pub struct Path {
     pub name: Name,
     pub steps: Vec<Step>,
 }
 
+impl Drop for Path {
+    fn drop(self) {
+        let Path { name: _, steps: _ } = self;
+    }
+}
+
 /// A statement that may stand as a step of a `for`.
-#[derive(Drop)]
 pub enum Simple {
     Assign(Path, Expr),
     /// `name++`, which means `name = name + 1`.
@@ -35,14 +46,32 @@ pub enum Simple {
     Call(Name, Vec<Expr>),
 }
 
+impl Drop for Simple {
+    fn drop(self) {
+        match self {
+            Simple::Assign(_, _)
+            | Simple::Increment(_)
+            | Simple::Decrement(_)
+            | Simple::Call(_, _) => {}
+        }
+    }
+}
+
 /// The first part of a `for`.
-#[derive(Drop)]
 pub enum First {
     /// `name: type = e`.
     Declare(Name, TypeTree, Expr),
     /// `name := e`.
     Define(Name, Expr),
     Simple(Simple),
+}
+
+impl Drop for First {
+    fn drop(self) {
+        match self {
+            First::Declare(_, _, _) | First::Define(_, _) | First::Simple(_) => {}
+        }
+    }
 }
 
 /// An index or a part of a table: its type, and its name if it has one.
@@ -53,13 +82,24 @@ pub struct Elem {
 }
 
 /// What stands behind `table` in a declaration: `kind (argument) [index].. of elem weight elem`.
-#[derive(Drop)]
 pub struct Table {
     pub kind: Name,
     pub argument: Option<i64>,
     pub indexes: Vec<Elem>,
     pub of: Elem,
     pub weight: Option<Elem>,
+}
+
+impl Drop for Table {
+    fn drop(self) {
+        let Table {
+            kind: _,
+            argument: _,
+            indexes: _,
+            of: _,
+            weight: _,
+        } = self;
+    }
 }
 
 /// How many values a quantifier speaks of.
@@ -71,15 +111,23 @@ pub enum Quantity {
 }
 
 /// `name, ..: quantity type;` in a `when`; there is at least one name.
-#[derive(Drop)]
 pub struct Quantifier {
     pub names: Vec<Name>,
     pub quantity: Quantity,
     pub of: TypeTree,
 }
 
+impl Drop for Quantifier {
+    fn drop(self) {
+        let Quantifier {
+            names: _,
+            quantity: _,
+            of: _,
+        } = self;
+    }
+}
+
 /// A statement. The place is that of its first token.
-#[derive(Drop)]
 pub enum Stmt {
     /// `;`.
     Empty(Place),
@@ -104,6 +152,31 @@ pub enum Stmt {
     /// `emit table[index].. <- e weight e;`.
     Emit(Place, Name, Vec<Expr>, Expr, Option<Expr>),
     When(Place, Vec<Quantifier>, Expr, Box<Stmt>),
+}
+
+impl Drop for Stmt {
+    fn drop(self) {
+        match self {
+            Stmt::Empty(_)
+            | Stmt::Block(_, _)
+            | Stmt::Declare(_, _, _)
+            | Stmt::Define(_, _)
+            | Stmt::Static(_, _, _, _)
+            | Stmt::Type(_, _, _)
+            | Stmt::Table(_, _)
+            | Stmt::Function(_, _, _, _)
+            | Stmt::Simple(_)
+            | Stmt::If(_, _, _, _)
+            | Stmt::While(_, _, _)
+            | Stmt::DoWhile(_, _, _)
+            | Stmt::For(_, _, _, _, _)
+            | Stmt::Break(_)
+            | Stmt::Continue(_)
+            | Stmt::Return(_, _)
+            | Stmt::Emit(_, _, _, _, _)
+            | Stmt::When(_, _, _, _) => {}
+        }
+    }
 }
 
 impl Simple {

@@ -2,7 +2,12 @@
 use crate::stmt::Stmt;
 
 /// A program: its statements, in order.
-#[derive(Drop)]
 pub struct Tree {
     pub statements: Vec<Stmt>,
+}
+
+impl Drop for Tree {
+    fn drop(self) {
+        let Tree { statements: _ } = self;
+    }
 }

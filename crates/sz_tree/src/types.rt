@@ -18,7 +18,6 @@ pub enum BasicType {
 
 /// A type. The place is that of its first token.
 #[cycle(types)]
-#[derive(Drop)]
 pub enum TypeTree {
     Basic(Place, BasicType),
     Named(Name),
@@ -32,6 +31,20 @@ pub enum TypeTree {
     Proto(Place, Vec<ProtoField>),
 }
 
+impl Drop for TypeTree {
+    #[cycle(drop_type)]
+    fn drop(self) {
+        match self {
+            TypeTree::Basic(_, _)
+            | TypeTree::Named(_)
+            | TypeTree::Array(_, _)
+            | TypeTree::Map(_, _, _, _)
+            | TypeTree::Tuple(_, _)
+            | TypeTree::Proto(_, _) => {}
+        }
+    }
+}
+
 /// A name and its type: a part of a tuple, or a parameter.
 #[cycle(types)]
 #[derive(Drop)]
@@ -42,12 +55,23 @@ pub struct Param {
 
 /// A field of a message: its name, type, number, and the word behind the number.
 #[cycle(types)]
-#[derive(Drop)]
 pub struct ProtoField {
     pub name: Name,
     pub of: TypeTree,
     pub number: i64,
     pub label: Option<Name>,
+}
+
+impl Drop for ProtoField {
+    #[cycle(drop_type)]
+    fn drop(self) {
+        let ProtoField {
+            name: _,
+            of: _,
+            number: _,
+            label: _,
+        } = self;
+    }
 }
 
 impl TypeTree {

@@ -23,13 +23,6 @@ impl Fields {
         Fields { held: fields }
     }
 
-    /// Gives the fields back, and takes no memory.
-    pub fn into_vec(self) -> Vec<Field>
-        ensures value { map seen_field result.items ≡ seen_fields self }
-    {
-        self.held
-    }
-
     /// The fields, in order.
     pub fn as_slice(&self) -> &[Field]
         ensures value { map seen_field result.now ≡ seen_fields self.now }

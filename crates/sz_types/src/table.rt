@@ -22,7 +22,7 @@ pub enum TableKind {
 /// A table of a program.
 ///
 /// Contracts see it by `seen_table` of `specs/SeenTables.antt`.
-#[derive(Debug, Drop)]
+#[derive(Debug)]
 pub struct TableDecl {
     pub name: Text,
     pub kind: TableKind,
@@ -34,4 +34,17 @@ pub struct TableDecl {
     pub element: Ty,
     /// The type of the weights, where the table has them.
     pub weight: Option<Ty>,
+}
+
+impl Drop for TableDecl {
+    fn drop(self) {
+        let TableDecl {
+            name: _,
+            kind: _,
+            limit: _,
+            indexes: _,
+            element: _,
+            weight: _,
+        } = self;
+    }
 }

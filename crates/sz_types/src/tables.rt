@@ -10,9 +10,15 @@ use std::marker::Model;
 /// The tables of a program, in the order of their declarations. Places are counted from 0.
 ///
 /// Contracts see the list of their plain data.
-#[derive(Debug, Drop)]
+#[derive(Debug)]
 pub struct TableDecls {
     pub(crate) held: Vec<TableDecl>,
+}
+
+impl Drop for TableDecls {
+    fn drop(self) {
+        let TableDecls { held: _ } = self;
+    }
 }
 
 impl Model for TableDecls {
@@ -50,7 +56,8 @@ impl TableDecls {
     pub fn into_vec(self) -> Vec<TableDecl>
         ensures value { map seen_table result.items ≡ self }
     {
-        self.held
+        let Self { held } = self;
+        held
     }
 
     /// The declarations, in order.

@@ -6,9 +6,15 @@ use std::alloc::{AllocError, Global};
 use std::marker::Model;
 
 /// UTF-8 text. A `String` becomes one, and is given back, without taking memory.
-#[derive(Debug, Drop)]
+#[derive(Debug)]
 pub struct Text {
     string: String,
+}
+
+impl Drop for Text {
+    fn drop(self) {
+        let Text { string: _ } = self;
+    }
 }
 
 impl Model for Text {
@@ -69,7 +75,8 @@ impl Text {
     pub fn into_string(self) -> String
         ensures value { string_bytes result ≡ self }
     {
-        self.string
+        let Self { string } = self;
+        string
     }
 
     /// Gives the bytes of the text, which are UTF-8, and takes no memory.
@@ -77,6 +84,7 @@ impl Text {
         ensures value { result.items ≡ self }
         ensures utf8 { IsUtf8 result.items }
     {
-        self.string.into_bytes()
+        let Self { string } = self;
+        string.into_bytes()
     }
 }

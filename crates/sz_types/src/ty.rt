@@ -1,4 +1,6 @@
 //! Types, and the fields inside them.
+ghost use Rattle.std.specs.Prelude.{◌≡◌, map};
+ghost use Rattle.sz_types.specs.Seen.{seen_field, seen_fields};
 
 use crate::encoding::Encoding;
 use crate::text::Text;
@@ -7,7 +9,7 @@ use crate::text::Text;
 ///
 /// Contracts see it as plain data, by `seen` of `specs/Seen.antt`.
 #[cycle(ty)]
-#[derive(Debug, Drop)]
+#[derive(Debug)]
 pub enum Ty {
     Bool,
     Int,
@@ -22,9 +24,26 @@ pub enum Ty {
     Proto(Fields),
 }
 
+impl Drop for Ty {
+    #[cycle(drop)]
+    fn drop(self) {
+        match self {
+            Ty::Bool
+            | Ty::Int
+            | Ty::Time
+            | Ty::Str
+            | Ty::Bytes
+            | Ty::Array(_)
+            | Ty::Map(_, _)
+            | Ty::Tuple(_)
+            | Ty::Proto(_) => {}
+        }
+    }
+}
+
 /// A field of a tuple or a proto type.
 #[cycle(ty)]
-#[derive(Debug, Drop)]
+#[derive(Debug)]
 pub struct Field {
     pub name: Text,
     pub ty: Ty,
@@ -34,11 +53,40 @@ pub struct Field {
     pub code: Encoding,
 }
 
+impl Drop for Field {
+    #[cycle(drop)]
+    fn drop(self) {
+        let Field {
+            name: _,
+            ty: _,
+            number: _,
+            code: _,
+        } = self;
+    }
+}
+
 /// The fields of a tuple or a proto type, in order. Places are counted from 0.
 ///
 /// Contracts see the list of their plain data.
 #[cycle(ty)]
-#[derive(Debug, Drop)]
+#[derive(Debug)]
 pub struct Fields {
     pub(crate) held: Vec<Field>,
+}
+
+impl Drop for Fields {
+    #[cycle(drop)]
+    fn drop(self) {
+        let Fields { held: _ } = self;
+    }
+}
+
+impl Fields {
+    /// Gives the fields back, and takes no memory.
+    pub fn into_vec(self) -> Vec<Field>
+        ensures value { map seen_field result.items ≡ seen_fields self }
+    {
+        let Self { held } = self;
+        held
+    }
 }

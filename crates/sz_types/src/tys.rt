@@ -10,9 +10,15 @@ use std::marker::Model;
 /// A list of types. Places are counted from 0.
 ///
 /// Contracts see the list of their plain data.
-#[derive(Debug, Drop)]
+#[derive(Debug)]
 pub struct Tys {
     pub(crate) held: Vec<Ty>,
+}
+
+impl Drop for Tys {
+    fn drop(self) {
+        let Tys { held: _ } = self;
+    }
 }
 
 impl Model for Tys {
@@ -50,7 +56,8 @@ impl Tys {
     pub fn into_vec(self) -> Vec<Ty>
         ensures value { map seen result.items ≡ self }
     {
-        self.held
+        let Self { held } = self;
+        held
     }
 
     /// The types, in order.

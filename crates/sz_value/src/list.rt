@@ -32,13 +32,6 @@ impl List {
         List { held: values }
     }
 
-    /// Gives the values back, and takes no memory.
-    pub fn into_vec(self) -> Vec<Value>
-        ensures value { map seen result.items ≡ self }
-    {
-        self.held
-    }
-
     /// The values, in order.
     pub fn as_slice(&self) -> &[Value]
         ensures value { map seen result.now ≡ self.now }

@@ -8,9 +8,15 @@ use std::marker::Model;
 /// The bytes of a byte string, which don't change once it is made.
 ///
 /// Contracts see the list of its bytes.
-#[derive(Debug, Drop)]
+#[derive(Debug)]
 pub struct Octets {
     held: Vec<u8>,
+}
+
+impl Drop for Octets {
+    fn drop(self) {
+        let Octets { held: _ } = self;
+    }
 }
 
 impl Model for Octets {

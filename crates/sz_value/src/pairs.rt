@@ -87,14 +87,6 @@ impl Pairs {
     {
         replace_in(&mut self.held, key, value)
     }
-
-    /// Gives the pairs back, in ascending order of their keys, and takes no memory.
-    pub fn into_vec(self) -> Vec<Pair>
-        ensures value { seen_pairs result.items ≡ self }
-        ensures rising { KeysRise self }
-    {
-        self.held
-    }
 }
 
 // Where the key is, or where it would go, by halving.

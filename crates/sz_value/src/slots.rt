@@ -19,9 +19,15 @@ pub enum Slot {
 /// A list of slots. Places are counted from 0.
 ///
 /// Contracts see a list with an `Option` of plain data for each slot, `None` where the slot is undefined.
-#[derive(Debug, Drop)]
+#[derive(Debug)]
 pub struct Slots {
     held: Vec<Slot>,
+}
+
+impl Drop for Slots {
+    fn drop(self) {
+        let Slots { held: _ } = self;
+    }
 }
 
 impl Model for Slots {

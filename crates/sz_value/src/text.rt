@@ -10,10 +10,16 @@ use std::marker::Model;
 /// ASCII, so that places in such a text are found without a walk over its characters.
 ///
 /// Contracts see the list of its bytes.
-#[derive(Debug, Drop)]
+#[derive(Debug)]
 pub struct Text {
     held: String,
     ascii: bool,
+}
+
+impl Drop for Text {
+    fn drop(self) {
+        let Text { held: _, ascii: _ } = self;
+    }
 }
 
 impl Model for Text {

@@ -1,4 +1,7 @@
 //! Values, and the lists and maps inside them.
+ghost use Rattle.std.specs.Prelude.{◌≡◌, map};
+ghost use Rattle.sz_value.specs.Seen.{seen, seen_pairs};
+ghost use Rattle.sz_value.specs.Order.{KeysRise};
 
 use crate::octets::Octets;
 use crate::text::Text;
@@ -8,7 +11,7 @@ use std::marker::Model;
 ///
 /// Contracts see it as plain data, by `seen` of `specs/Seen.antt`.
 #[cycle(value)]
-#[derive(Debug, Drop)]
+#[derive(Debug)]
 pub enum Value {
     Bool(bool),
     Int(i64),
@@ -21,13 +24,46 @@ pub enum Value {
     Map(Pairs),
 }
 
+impl Drop for Value {
+    #[cycle(drop)]
+    fn drop(self) {
+        match self {
+            Value::Bool(_)
+            | Value::Int(_)
+            | Value::Time(_)
+            | Value::Str(_)
+            | Value::Bytes(_)
+            | Value::Array(_)
+            | Value::Tuple(_)
+            | Value::Map(_) => {}
+        }
+    }
+}
+
 /// The elements of an array, or the fields of a tuple, in order. Places are counted from 0.
 ///
 /// Contracts see the list of their plain data.
 #[cycle(value)]
-#[derive(Debug, Drop)]
+#[derive(Debug)]
 pub struct List {
     pub(crate) held: Vec<Value>,
+}
+
+impl Drop for List {
+    #[cycle(drop)]
+    fn drop(self) {
+        let List { held: _ } = self;
+    }
+}
+
+impl List {
+    /// Gives the values back, and takes no memory.
+    pub fn into_vec(self) -> Vec<Value>
+        ensures value { map seen result.items ≡ self }
+    {
+        let Self { held } = self;
+        held
+    }
 }
 
 /// A key of a map and its value.
@@ -42,9 +78,27 @@ pub struct Pair {
 ///
 /// Contracts see the list of the keys and values as plain data.
 #[cycle(value)]
-#[derive(Debug, Drop)]
+#[derive(Debug)]
 pub struct Pairs {
     pub(crate) held: Vec<Pair>,
+}
+
+impl Drop for Pairs {
+    #[cycle(drop)]
+    fn drop(self) {
+        let Pairs { held: _ } = self;
+    }
+}
+
+impl Pairs {
+    /// Gives the pairs back, in ascending order of their keys, and takes no memory.
+    pub fn into_vec(self) -> Vec<Pair>
+        ensures value { seen_pairs result.items ≡ self }
+        ensures rising { KeysRise self }
+    {
+        let Self { held } = self;
+        held
+    }
 }
 
 impl Model for List {

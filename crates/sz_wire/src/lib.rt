@@ -6,8 +6,6 @@ mod field;
 mod group;
 mod key;
 mod plain;
-#[cfg(test)]
-mod tests;
 mod varint;
 
 pub use bad::Bad;

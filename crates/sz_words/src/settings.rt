@@ -24,7 +24,6 @@ pub type Kills = Items<Kill>;
 pub type Twice = Items<u32>;
 
 /// What a run is asked for.
-#[derive(Drop)]
 pub struct RunSettings {
     /// The name of the program's file, or `-` for standard input.
     pub program: Text,
@@ -46,8 +45,23 @@ pub struct RunSettings {
     pub twice: Twice,
 }
 
+impl Drop for RunSettings {
+    fn drop(self) {
+        let RunSettings {
+            program: _,
+            input: _,
+            frame: _,
+            workers: _,
+            shard: _,
+            attempts: _,
+            budget: _,
+            kills: _,
+            twice: _,
+        } = self;
+    }
+}
+
 /// What a command line asks for.
-#[derive(Drop)]
 pub enum Settings {
     /// To run a program over an input.
     Run(RunSettings),
@@ -62,4 +76,18 @@ pub enum Settings {
         /// The number of threads that work: 1 to 64.
         workers: u32,
     },
+}
+
+impl Drop for Settings {
+    fn drop(self) {
+        match self {
+            Settings::Run(_)
+            | Settings::Check(_)
+            | Settings::Selftest {
+                seed: _,
+                records: _,
+                workers: _,
+            } => {}
+        }
+    }
 }

@@ -17,7 +17,7 @@ use sz_types::Place;
 use sz_words::WordsError;
 
 /// The causes, each with a status and a line of its own.
-#[derive(Debug, Drop)]
+#[derive(Debug)]
 pub enum Failure {
     /// The words are no command line.
     Usage,
@@ -37,6 +37,22 @@ pub enum Failure {
     WriteFailed,
     /// There was not enough memory.
     NoMemory,
+}
+
+impl Drop for Failure {
+    fn drop(self) {
+        match self {
+            Failure::Usage
+            | Failure::Refused(_)
+            | Failure::Faulted(_, _)
+            | Failure::Lost(_)
+            | Failure::Damaged(_)
+            | Failure::Limit(_)
+            | Failure::ReadFailed
+            | Failure::WriteFailed
+            | Failure::NoMemory => {}
+        }
+    }
 }
 
 impl Failure {

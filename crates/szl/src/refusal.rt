@@ -127,11 +127,21 @@ impl Cause {
 }
 
 /// A refusal: its cause, the place that it names, and the name that its line has, if it has one.
-#[derive(Debug, Drop)]
+#[derive(Debug)]
 pub struct Refusal {
     pub cause: Cause,
     pub place: Place,
     pub name: Option<Text>,
+}
+
+impl Drop for Refusal {
+    fn drop(self) {
+        let Refusal {
+            cause: _,
+            place: _,
+            name: _,
+        } = self;
+    }
 }
 
 impl Refusal {

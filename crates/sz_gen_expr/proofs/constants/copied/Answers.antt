@@ -1,4 +1,4 @@
-use Rattle.std.proofs.Common.{◌≡◌, ◌∙◌, ◌++◌, ◌∷◌, [], ◌+◌, map, drop, refl, sym, ap, append_assoc, append-nil, arith}
+use Rattle.std.proofs.Common.{◌∙◌, ◌++◌, ◌∷◌, [], ◌+◌, map, drop, sym, ap, append_assoc, append-nil}
 use Rattle.sz_value.specs.Seen.{seen}
 use Rattle.sz_types.proofs.ForCallers.{rest_more, rest_none}
 use Rattle.sz_gen_expr.proofs.constants.copied.Goals as goal

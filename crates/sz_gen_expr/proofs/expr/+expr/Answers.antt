@@ -1,19 +1,19 @@
 -- The code of each form, from that of its parts.
-use Rattle.std.proofs.Common.{◌≡◌, ◌∙◌, ◌∷◌, [], ℕ, refl, sym, ap, subst, arith, map, List}
+use Rattle.std.proofs.Common.{◌∙◌, ◌∷◌, [], sym, ap, subst, map, List}
 use Rattle.std.proofs.lemmas.Result.{on_ok_weaker}
 use Rattle.sz_types.specs.Seen.{seen as shape_of}
 use Rattle.sz_types.specs.Same.{alike}
 use Rattle.sz_core.specs.declared.expr.CoreExpr.{CoreExpr}
 use Rattle.sz_core.specs.declared.expr.CorePair.{CorePair}
-use Rattle.sz_core.specs.Nodes.{Node, nodes_of, pairings_of}
+use Rattle.sz_core.specs.Nodes.{nodes_of, pairings_of}
 use Rattle.sz_core.specs.View.{node_of, form_of, pairing_of}
 use Rattle.sz_core.proofs.ForCallers.{form_of_call, form_of_builtin, form_of_array, form_of_tuple, form_of_map}
-use Rattle.sz_instr.specs.declared.instr.Instr.TheVariants.{AndTest, OrTest, MakeArray, MakeTuple, MakeMap}
+use Rattle.sz_instr.specs.declared.instr.Instr.TheVariants.{AndTest, OrTest, Call, Apply, Binary, Index, Slice, MakeArray, MakeTuple, MakeMap}
 use Rattle.sz_code.specs.Tables.{line}
-use Rattle.sz_code.specs.ExpressionCode.{conversion, count_of, pair_count_of}
+use Rattle.sz_code.specs.ExpressionCode.{conversion}
 use Rattle.sz_code.specs.Named.{HasTarget}
-use Rattle.sz_gen_expr.specs.Building.{Appends, AppendsLine, AppendsNode, AppendsNodes, AppendsPairings, Nothing}
-use Rattle.sz_gen_expr.proofs.Builds.{none, behind, closes, closed_by, three_behind, of_form, decides, test_within}
+use Rattle.sz_gen_expr.specs.Building.{Appends, AppendsLine, AppendsNode, AppendsClosed, AppendsDecided, AppendsNodes, AppendsList, AppendsPairings, AppendsMap, Nothing}
+use Rattle.sz_gen_expr.proofs.Builds.{none, behind, closes, closed_by, closed_behind, renamed, counted, three_behind, of_form, decided_made, starts, stays}
 use Rattle.sz_types.proofs.ForCallers.{rest_more, rest_none}
 use Rattle.sz_gen_expr.proofs.expr.+expr.Goals as goal
 
@@ -48,6 +48,29 @@ gen_pairs-returns t c = record {
       (sym (rest_none pairing_of c.args.pairs.now c.loop-pair.pair-index c.loop-pair-test.false)) (none c.loop-pair.into));
 }
 
+-- ---- what closes parts
+
+pub gen_closed-returns : goal.gen_closed-returns
+gen_closed-returns t c = record { made = on_ok_weaker c.close.result (λ h. closed_by c.in_ok-gen_expr.ensures.made h) c.close.ensures.made }
+
+pub gen_list-returns : goal.gen_list-returns
+gen_list-returns t c = record { made = on_ok_weaker c.close.result (λ h. closed_by c.in_ok-gen_all.ensures.made h) c.close.ensures.made }
+
+pub gen_map-returns : goal.gen_map-returns
+gen_map-returns t c = record {
+  made = on_ok_weaker c.close.result (λ h. closed_by c.in_ok-gen_pairs.ensures.made
+      (subst (λ n. AppendsLine c.gen_pairs.new.into c.close.new.self (λ tables. MakeMap n) 1 c.args.place Nothing) c.in_ok-count.ensures.value h)) c.close.ensures.made;
+}
+
+pub gen_decided-land-requires : goal.gen_decided-land-requires
+gen_decided-land-requires t c = record { within = stays (starts c.in_ok-at.ensures.at c.in_ok-at.ensures.made) c.in_ok-gen_expr.ensures.made }
+
+pub gen_decided-returns : goal.gen_decided-returns
+gen_decided-returns t c = record {
+  made = on_ok_weaker c.close.result (λ h. decided_made c.args.test c.args.place c.in_ok-at.at c.in_ok-at.ensures.at c.in_ok-at.ensures.made
+      c.in_ok-gen_expr.ensures.made c.land.ensures.made h) c.close.ensures.made;
+}
+
 -- ---- lines by themselves
 
 pub gen_expr-returns-in-Local : goal.gen_expr-returns-in-Local
@@ -67,123 +90,84 @@ gen_expr-returns-in-Input t c = record {
 
 -- ---- parts and a line
 
-pub gen_expr-returns-in_ok-gen_expr-in-Def : goal.gen_expr-returns-in_ok-gen_expr-in-Def
-gen_expr-returns-in_ok-gen_expr-in-Def t c = record {
-  made = on_ok_weaker c.close-in-Def.result (λ h. of_form c.args.e.now _ (ap form_of c.in-Def.is)
-      (closed_by (subst (λ d. AppendsNode c.args.into.now c.gen_expr.new.into (node_of d)) c.deref.ensures c.in_ok-gen_expr-in-Def.ensures.made) h)) c.close-in-Def.ensures.made;
-}
-
-pub gen_expr-returns-in_ok-gen_expr-in-Field : goal.gen_expr-returns-in_ok-gen_expr-in-Field
-gen_expr-returns-in_ok-gen_expr-in-Field t c = record {
-  made = on_ok_weaker c.close-in-Field.result (λ h. of_form c.args.e.now _ (ap form_of c.in-Field.is)
-      (closed_by (subst (λ d. AppendsNode c.args.into.now c.gen_expr-in-Field.new.into (node_of d)) c.deref-in-Field.ensures c.in_ok-gen_expr-in-Field.ensures.made) h)) c.close-in-Field.ensures.made;
-}
-
-pub gen_expr-returns-in_ok-gen_expr-in-Unary : goal.gen_expr-returns-in_ok-gen_expr-in-Unary
-gen_expr-returns-in_ok-gen_expr-in-Unary t c = record {
-  made = on_ok_weaker c.close-in-Unary.result (λ h. of_form c.args.e.now _ (ap form_of c.in-Unary.is)
-      (closed_by (subst (λ d. AppendsNode c.args.into.now c.gen_expr-in-Unary.new.into (node_of d)) c.deref-in-Unary.ensures c.in_ok-gen_expr-in-Unary.ensures.made) h)) c.close-in-Unary.ensures.made;
-}
-
-pub gen_expr-returns-in_ok-gen_expr-in-Index-2 : goal.gen_expr-returns-in_ok-gen_expr-in-Index-2
-gen_expr-returns-in_ok-gen_expr-in-Index-2 t c = record {
-  made = on_ok_weaker c.close-in-Index.result (λ h. of_form c.args.e.now _ (ap form_of c.in-Index.is)
-      (closed_by (behind (subst (λ d. AppendsNode c.args.into.now c.gen_expr-in-Index.new.into (node_of d)) c.deref-in-Index.ensures c.in_ok-gen_expr-in-Index.ensures.made)
-      (subst (λ d. AppendsNode c.gen_expr-in-Index.new.into c.gen_expr-in-Index-2.new.into (node_of d)) c.deref-in-Index-2.ensures c.in_ok-gen_expr-in-Index-2.ensures.made)) h)) c.close-in-Index.ensures.made;
-}
-
-pub gen_expr-returns-in_ok-gen_expr-in-Binary-2 : goal.gen_expr-returns-in_ok-gen_expr-in-Binary-2
-gen_expr-returns-in_ok-gen_expr-in-Binary-2 t c = record {
-  made = on_ok_weaker c.close-in-Binary.result (λ h. of_form c.args.e.now _ (ap form_of c.in-Binary.is)
-      (closed_by (behind (subst (λ d. AppendsNode c.args.into.now c.gen_expr-in-Binary.new.into (node_of d)) c.deref-in-Binary.ensures c.in_ok-gen_expr-in-Binary.ensures.made)
-      (subst (λ d. AppendsNode c.gen_expr-in-Binary.new.into c.gen_expr-in-Binary-2.new.into (node_of d)) c.deref-in-Binary-2.ensures c.in_ok-gen_expr-in-Binary-2.ensures.made)) h)) c.close-in-Binary.ensures.made;
-}
-
-pub gen_expr-returns-in_ok-gen_expr-in-Slice-3 : goal.gen_expr-returns-in_ok-gen_expr-in-Slice-3
-gen_expr-returns-in_ok-gen_expr-in-Slice-3 t c = record {
-  made = on_ok_weaker c.close-in-Slice.result (λ h. of_form c.args.e.now _ (ap form_of c.in-Slice.is)
-      (closed_by (three_behind (subst (λ d. AppendsNode c.args.into.now c.gen_expr-in-Slice.new.into (node_of d)) c.deref-in-Slice.ensures c.in_ok-gen_expr-in-Slice.ensures.made)
-      (subst (λ d. AppendsNode c.gen_expr-in-Slice.new.into c.gen_expr-in-Slice-2.new.into (node_of d)) c.deref-in-Slice-2.ensures c.in_ok-gen_expr-in-Slice-2.ensures.made)
-      (subst (λ d. AppendsNode c.gen_expr-in-Slice-2.new.into c.gen_expr-in-Slice-3.new.into (node_of d)) c.deref-in-Slice-3.ensures c.in_ok-gen_expr-in-Slice-3.ensures.made)) h)) c.close-in-Slice.ensures.made;
-}
-
 pub gen_expr-returns-in_ok-gen_expr-in-Convert : goal.gen_expr-returns-in_ok-gen_expr-in-Convert
 gen_expr-returns-in_ok-gen_expr-in-Convert t c = record {
   made = on_ok_weaker c.convert.result (λ h. of_form c.args.e.now _ (ap form_of c.in-Convert.is)
-      (closes (subst (λ d. AppendsNode c.args.into.now c.gen_expr-in-Convert.new.into (node_of d)) c.deref-in-Convert.ensures c.in_ok-gen_expr-in-Convert.ensures.made)
-      (subst (λ (d : CoreExpr). Appends c.gen_expr-in-Convert.new.into c.convert.new.self
+      (closes (subst (λ d. AppendsNode c.args.into.now c.gen_expr.new.into (node_of d)) c.deref-in-Convert.ensures c.in_ok-gen_expr-in-Convert.ensures.made)
+      (subst (λ (d : CoreExpr). Appends c.gen_expr.new.into c.convert.new.self
       (λ tables at. line (conversion tables (shape_of d.ty) (shape_of c.args.e.now.ty)) 1 c.args.e.now.place ∷ [])
       (λ tables. HasTarget tables (alike (shape_of d.ty) (shape_of c.args.e.now.ty)) (shape_of c.args.e.now.ty))) c.deref-in-Convert-2.ensures h))) c.convert.ensures.made;
 }
 
+pub gen_expr-returns-in_ok-gen_expr-in-Index : goal.gen_expr-returns-in_ok-gen_expr-in-Index
+gen_expr-returns-in_ok-gen_expr-in-Index t c = record {
+  made = on_ok_weaker c.gen_closed-in-Index.result (λ h. of_form c.args.e.now _ (ap form_of c.in-Index.is)
+      (closed_behind (node_of c.in-Index.index.value) Index c.args.e.now.place (subst (λ d. AppendsNode c.args.into.now c.gen_expr-in-Index.new.into (node_of d)) c.deref-in-Index.ensures c.in_ok-gen_expr-in-Index.ensures.made)
+      (subst (λ d. AppendsClosed c.gen_expr-in-Index.new.into c.gen_closed-in-Index.new.into (node_of d) Index c.args.e.now.place) c.deref-in-Index-2.ensures h))) c.gen_closed-in-Index.ensures.made;
+}
+
+pub gen_expr-returns-in_ok-gen_expr-in-Binary : goal.gen_expr-returns-in_ok-gen_expr-in-Binary
+gen_expr-returns-in_ok-gen_expr-in-Binary t c = record {
+  made = on_ok_weaker c.gen_closed-in-Binary.result (λ h. of_form c.args.e.now _ (ap form_of c.in-Binary.is)
+      (closed_behind (node_of c.in-Binary.right.value) (Binary c.in-Binary.operator) c.args.e.now.place (subst (λ d. AppendsNode c.args.into.now c.gen_expr-in-Binary.new.into (node_of d)) c.deref-in-Binary.ensures c.in_ok-gen_expr-in-Binary.ensures.made)
+      (subst (λ d. AppendsClosed c.gen_expr-in-Binary.new.into c.gen_closed-in-Binary.new.into (node_of d) (Binary c.in-Binary.operator) c.args.e.now.place) c.deref-in-Binary-2.ensures h))) c.gen_closed-in-Binary.ensures.made;
+}
+
+pub gen_expr-returns-in_ok-gen_expr-in-Slice-2 : goal.gen_expr-returns-in_ok-gen_expr-in-Slice-2
+gen_expr-returns-in_ok-gen_expr-in-Slice-2 t c = record {
+  made = on_ok_weaker c.gen_closed-in-Slice.result (λ h. of_form c.args.e.now _ (ap form_of c.in-Slice.is)
+      (renamed (λ tables n. (n.0.0, n.0.1, n.1)) (closed_behind (node_of c.in-Slice.to.value) Slice c.args.e.now.place (behind (subst (λ d. AppendsNode c.args.into.now c.gen_expr-in-Slice.new.into (node_of d)) c.deref-in-Slice.ensures c.in_ok-gen_expr-in-Slice.ensures.made)
+      (subst (λ d. AppendsNode c.gen_expr-in-Slice.new.into c.gen_expr-in-Slice-2.new.into (node_of d)) c.deref-in-Slice-2.ensures c.in_ok-gen_expr-in-Slice-2.ensures.made))
+      (subst (λ d. AppendsClosed c.gen_expr-in-Slice-2.new.into c.gen_closed-in-Slice.new.into (node_of d) Slice c.args.e.now.place) c.deref-in-Slice-3.ensures h)))) c.gen_closed-in-Slice.ensures.made;
+}
+
+pub gen_expr-returns-in_ok-gen_expr-in-And : goal.gen_expr-returns-in_ok-gen_expr-in-And
+gen_expr-returns-in_ok-gen_expr-in-And t c = record {
+  made = on_ok_weaker c.gen_decided.result (λ h. of_form c.args.e.now _ (ap form_of c.in-And.is)
+      (behind (subst (λ d. AppendsNode c.args.into.now c.gen_expr-in-And.new.into (node_of d)) c.deref-in-And.ensures c.in_ok-gen_expr-in-And.ensures.made)
+      (subst (λ d. AppendsDecided c.gen_expr-in-And.new.into c.gen_decided.new.into (AndTest 0) c.args.e.now.place (node_of d)) c.deref-in-And-2.ensures h))) c.gen_decided.ensures.made;
+}
+
+pub gen_expr-returns-in_ok-gen_expr-in-Or : goal.gen_expr-returns-in_ok-gen_expr-in-Or
+gen_expr-returns-in_ok-gen_expr-in-Or t c = record {
+  made = on_ok_weaker c.gen_decided-in-Or.result (λ h. of_form c.args.e.now _ (ap form_of c.in-Or.is)
+      (behind (subst (λ d. AppendsNode c.args.into.now c.gen_expr-in-Or.new.into (node_of d)) c.deref-in-Or.ensures c.in_ok-gen_expr-in-Or.ensures.made)
+      (subst (λ d. AppendsDecided c.gen_expr-in-Or.new.into c.gen_decided-in-Or.new.into (OrTest 0) c.args.e.now.place (node_of d)) c.deref-in-Or-2.ensures h))) c.gen_decided-in-Or.ensures.made;
+}
+
 -- ---- lists and a line
 
-pub gen_expr-returns-in_ok-gen_all-in-Call : goal.gen_expr-returns-in_ok-gen_all-in-Call
-gen_expr-returns-in_ok-gen_all-in-Call t c = record {
-  made = on_ok_weaker c.close-in-Call.result (λ h. of_form c.args.e.now _ (ap form_of c.in-Call.is ∙ form_of_call _ _)
-      (closed_by (subst (λ es. AppendsNodes c.args.into.now c.gen_all.new.into (nodes_of (map node_of es))) c.as_slice.ensures.value c.in_ok-gen_all-in-Call.ensures.made) h)) c.close-in-Call.ensures.made;
+pub gen_expr-returns-in-Call : goal.gen_expr-returns-in-Call
+gen_expr-returns-in-Call t c = record {
+  made = on_ok_weaker c.gen_list.result (λ h. of_form c.args.e.now _ (ap form_of c.in-Call.is ∙ form_of_call _ _)
+      (subst (λ es. AppendsList c.args.into.now c.gen_list.new.into (nodes_of (map node_of es)) (Call c.in-Call.f) c.args.e.now.place)
+      c.as_slice.ensures.value h)) c.gen_list.ensures.made;
 }
 
-pub gen_expr-returns-in_ok-gen_all-in-Builtin : goal.gen_expr-returns-in_ok-gen_all-in-Builtin
-gen_expr-returns-in_ok-gen_all-in-Builtin t c = record {
-  made = on_ok_weaker c.close-in-Builtin.result (λ h. of_form c.args.e.now _ (ap form_of c.in-Builtin.is ∙ form_of_builtin _ _)
-      (closed_by (subst (λ es. AppendsNodes c.args.into.now c.gen_all-in-Builtin.new.into (nodes_of (map node_of es))) c.as_slice-in-Builtin.ensures.value c.in_ok-gen_all-in-Builtin.ensures.made) h)) c.close-in-Builtin.ensures.made;
+pub gen_expr-returns-in-Builtin : goal.gen_expr-returns-in-Builtin
+gen_expr-returns-in-Builtin t c = record {
+  made = on_ok_weaker c.gen_list-in-Builtin.result (λ h. of_form c.args.e.now _ (ap form_of c.in-Builtin.is ∙ form_of_builtin _ _)
+      (subst (λ es. AppendsList c.args.into.now c.gen_list-in-Builtin.new.into (nodes_of (map node_of es)) (Apply c.in-Builtin.f) c.args.e.now.place)
+      c.as_slice-in-Builtin.ensures.value h)) c.gen_list-in-Builtin.ensures.made;
 }
 
-pub gen_expr-returns-in_ok-gen_all-in-Array : goal.gen_expr-returns-in_ok-gen_all-in-Array
-gen_expr-returns-in_ok-gen_all-in-Array t c = record {
-  made = on_ok_weaker c.close-in-Array.result (λ h. of_form c.args.e.now _ (ap form_of c.in-Array.is ∙ form_of_array _)
-      (closed_by (subst (λ es. AppendsNodes c.args.into.now c.gen_all-in-Array.new.into (nodes_of (map node_of es))) c.as_slice-in-Array-2.ensures.value c.in_ok-gen_all-in-Array.ensures.made)
-      (subst (λ n. AppendsLine c.gen_all-in-Array.new.into c.close-in-Array.new.self (λ tables. MakeArray n) 1 c.args.e.now.place Nothing)
-      (c.in_ok-count-in-Array.ensures.value ∙ ap (λ (es : List CoreExpr). count_of (nodes_of (map node_of es))) c.as_slice-in-Array.ensures.value) h))) c.close-in-Array.ensures.made;
+pub gen_expr-returns-in_ok-count-in-Array : goal.gen_expr-returns-in_ok-count-in-Array
+gen_expr-returns-in_ok-count-in-Array t c = record {
+  made = on_ok_weaker c.gen_list-in-Array.result (λ h. of_form c.args.e.now _ (ap form_of c.in-Array.is ∙ form_of_array _)
+      (counted c.args.into.now c.gen_list-in-Array.new.into MakeArray c.args.e.now.place c.as_slice-in-Array.ensures.value c.as_slice-in-Array-2.ensures.value
+      c.in_ok-count-in-Array.ensures.value h)) c.gen_list-in-Array.ensures.made;
 }
 
-pub gen_expr-returns-in_ok-gen_all-in-Tuple : goal.gen_expr-returns-in_ok-gen_all-in-Tuple
-gen_expr-returns-in_ok-gen_all-in-Tuple t c = record {
-  made = on_ok_weaker c.close-in-Tuple.result (λ h. of_form c.args.e.now _ (ap form_of c.in-Tuple.is ∙ form_of_tuple _)
-      (closed_by (subst (λ es. AppendsNodes c.args.into.now c.gen_all-in-Tuple.new.into (nodes_of (map node_of es))) c.as_slice-in-Tuple-2.ensures.value c.in_ok-gen_all-in-Tuple.ensures.made)
-      (subst (λ n. AppendsLine c.gen_all-in-Tuple.new.into c.close-in-Tuple.new.self (λ tables. MakeTuple n) 1 c.args.e.now.place Nothing)
-      (c.in_ok-count-in-Tuple.ensures.value ∙ ap (λ (es : List CoreExpr). count_of (nodes_of (map node_of es))) c.as_slice-in-Tuple.ensures.value) h))) c.close-in-Tuple.ensures.made;
+pub gen_expr-returns-in_ok-count-in-Tuple : goal.gen_expr-returns-in_ok-count-in-Tuple
+gen_expr-returns-in_ok-count-in-Tuple t c = record {
+  made = on_ok_weaker c.gen_list-in-Tuple.result (λ h. of_form c.args.e.now _ (ap form_of c.in-Tuple.is ∙ form_of_tuple _)
+      (counted c.args.into.now c.gen_list-in-Tuple.new.into MakeTuple c.args.e.now.place c.as_slice-in-Tuple.ensures.value c.as_slice-in-Tuple-2.ensures.value
+      c.in_ok-count-in-Tuple.ensures.value h)) c.gen_list-in-Tuple.ensures.made;
 }
 
-pub gen_expr-returns-in_ok-gen_pairs-in-Map : goal.gen_expr-returns-in_ok-gen_pairs-in-Map
-gen_expr-returns-in_ok-gen_pairs-in-Map t c = record {
-  made = on_ok_weaker c.close-in-Map.result (λ h. of_form c.args.e.now _ (ap form_of c.in-Map.is ∙ form_of_map _)
-      (closed_by (subst (λ es. AppendsPairings c.args.into.now c.gen_pairs.new.into (pairings_of (map pairing_of es))) c.as_slice-in-Map-2.ensures.value c.in_ok-gen_pairs-in-Map.ensures.made)
-      (subst (λ n. AppendsLine c.gen_pairs.new.into c.close-in-Map.new.self (λ tables. MakeMap n) 1 c.args.e.now.place Nothing)
-      (c.in_ok-count-in-Map.ensures.value ∙ ap (λ (es : List CorePair). pair_count_of (pairings_of (map pairing_of es))) c.as_slice-in-Map.ensures.value) h))) c.close-in-Map.ensures.made;
-}
-
--- ---- `&&` and `||`
-
-pub gen_expr-patch-requires : goal.gen_expr-patch-requires
-gen_expr-patch-requires t c = record {
-  within = test_within _ c.here-test.ensures.value c.in_ok-append-in-And.ensures.made c.in_ok-gen_expr-in-And-2.ensures.made c.in_ok-close-in-And.ensures.made;
-}
-
-pub gen_expr-returns-in_ok-close-in-And : goal.gen_expr-returns-in_ok-close-in-And
-gen_expr-returns-in_ok-close-in-And t c = record {
-  made = of_form c.args.e.now _ (ap form_of c.in-And.is)
-      (decides AndTest c.args.e.now.place c.here-test.result c.here-end.result (λ p q. refl)
-      (subst (λ d. AppendsNode c.args.into.now c.gen_expr-in-And.new.into (node_of d)) c.deref-in-And.ensures c.in_ok-gen_expr-in-And.ensures.made)
-      c.in_ok-append-in-And.ensures.made
-      (subst (λ d. AppendsNode c.append.new.self c.gen_expr-in-And-2.new.into (node_of d)) c.deref-in-And-2.ensures c.in_ok-gen_expr-in-And-2.ensures.made)
-      c.in_ok-close-in-And.ensures.made c.here-test.ensures.value c.here-end.ensures.value c.patch.ensures.lines c.patch.ensures.functions
-      c.patch.ensures.statics c.patch.ensures.constants c.patch.ensures.types);
-}
-
-pub gen_expr-patch-requires-in-Or : goal.gen_expr-patch-requires-in-Or
-gen_expr-patch-requires-in-Or t c = record {
-  within = test_within _ c.here-test-in-Or.ensures.value c.in_ok-append-in-Or.ensures.made c.in_ok-gen_expr-in-Or-2.ensures.made c.in_ok-close-in-Or.ensures.made;
-}
-
-pub gen_expr-returns-in_ok-close-in-Or : goal.gen_expr-returns-in_ok-close-in-Or
-gen_expr-returns-in_ok-close-in-Or t c = record {
-  made = of_form c.args.e.now _ (ap form_of c.in-Or.is)
-      (decides OrTest c.args.e.now.place c.here-test-in-Or.result c.here-end-in-Or.result (λ p q. refl)
-      (subst (λ d. AppendsNode c.args.into.now c.gen_expr-in-Or.new.into (node_of d)) c.deref-in-Or.ensures c.in_ok-gen_expr-in-Or.ensures.made)
-      c.in_ok-append-in-Or.ensures.made
-      (subst (λ d. AppendsNode c.append-in-Or.new.self c.gen_expr-in-Or-2.new.into (node_of d)) c.deref-in-Or-2.ensures c.in_ok-gen_expr-in-Or-2.ensures.made)
-      c.in_ok-close-in-Or.ensures.made c.here-test-in-Or.ensures.value c.here-end-in-Or.ensures.value c.patch-in-Or.ensures.lines c.patch-in-Or.ensures.functions
-      c.patch-in-Or.ensures.statics c.patch-in-Or.ensures.constants c.patch-in-Or.ensures.types);
+pub gen_expr-returns-in-Map : goal.gen_expr-returns-in-Map
+gen_expr-returns-in-Map t c = record {
+  made = on_ok_weaker c.gen_map.result (λ h. of_form c.args.e.now _ (ap form_of c.in-Map.is ∙ form_of_map _)
+      (subst (λ (ps : List CorePair). AppendsMap c.args.into.now c.gen_map.new.into (pairings_of (map pairing_of ps)) c.args.e.now.place)
+      c.as_slice-in-Map.ensures.value h)) c.gen_map.ensures.made;
 }

@@ -1,0 +1,220 @@
+//! Worked transfers over the devices in memory and over real ones.
+ghost use Rattle.std.specs.Prelude.{◌≡◌, []};
+ghost use Rattle.sz_io.specs.MemFiles.{names_opened};
+
+use std::alloc::Global;
+use std::fs;
+use std::io::{self, BufWriter, Read, Write};
+use sz_io::{
+    Files, Gate, MemFiles, MemSink, NoGate, OsFiles, OsSink, ReadError, WriteError, read_whole,
+    write_whole,
+};
+
+// A file under the name `p`, the call on it that fails, the name that is read, the most bytes that it may have, and why they aren't
+// read, if they aren't.
+type Reading<'a> = (&'a [u8], u64, &'a str, usize, Option<ReadError>);
+
+const READINGS: &[Reading<'static>] = &[
+    // The call that is to fail is never made.
+    (b"three", 3, "p", 5, None),
+    (b"three", 9, "p", 6, None),
+    (b"three", 9, "p", usize::MAX, None),
+    (b"", 2, "p", 0, None),
+    (b"three", 9, "p", 4, Some(ReadError::TooLong)),
+    (b"three", 9, "p", 0, Some(ReadError::TooLong)),
+    (b"three", 0, "p", 5, Some(ReadError::Failed)),
+    (b"three", 1, "p", 5, Some(ReadError::Failed)),
+    (b"three", 2, "p", 5, Some(ReadError::Failed)),
+    (b"three", 9, "q", 5, Some(ReadError::Failed)),
+];
+
+fn readings() -> &'static [Reading<'static>] {
+    READINGS
+}
+
+// Whether a name is read as it should be: just these bytes, or this error.
+fn reads<F: Files>(
+    alloc: Global,
+    files: &mut F,
+    name: &str,
+    limit: usize,
+    wanted: Result<&[u8], ReadError>,
+) -> bool
+    requires { F.names files.old ≡ [] }
+{
+    match read_whole(alloc, files, name, limit) {
+        Ok(read) => wanted == Ok(read.as_slice()),
+        Err(error) => wanted == Err(error),
+    }
+}
+
+// Whether the file of a row is put among no others, and read as the row says.
+fn puts_and_reads(alloc: Global, files: &mut MemFiles, row: &Reading<'_>) -> bool
+    requires { names_opened files.old ≡ [] }
+{
+    let (bytes, fails, name, limit, cause) = *row;
+    let wanted = match cause {
+        Some(error) => Err(error),
+        None => Ok(bytes),
+    };
+    files.put("p", bytes, &[fails]).is_ok() && reads(alloc, files, name, limit, wanted)
+}
+
+// Whether a file is read as its row says.
+fn is_read(alloc: Global, row: &Reading<'_>) -> bool {
+    match MemFiles::new(alloc) {
+        Ok(mut files) => puts_and_reads(alloc, &mut files, row),
+        Err(_) => false,
+    }
+}
+
+// Whether a file of 20,000 bytes is read, which is more than one reading gives.
+fn long_is_read(alloc: Global) -> bool {
+    match vec![in alloc; 7u8; 20000] {
+        Ok(long) => is_read(alloc, &(&long, 9, "p", 20000, None)),
+        Err(_) => false,
+    }
+}
+
+#[test]
+fn a_file_is_read_or_refused_with_its_cause(rt: HostRuntime) {
+    for row in readings() {
+        let same = is_read(rt.alloc(), row);
+        assert!(rt; same, "at {}, call {}, limit {}", row.2, row.1, row.3);
+    }
+    assert!(rt; long_is_read(rt.alloc()));
+}
+
+// Whether a file that was opened goes on with its bytes once another one has its name, which stands for that one's.
+fn goes_on(alloc: Global, files: &mut MemFiles) -> bool
+    requires { names_opened files.old ≡ [] }
+{
+    if files.put("p", b"old", &[]).is_err() {
+        return false;
+    }
+    let Ok(opened) = files.open_file("p") else {
+        return false;
+    };
+    if files.put("q", b"other", &[]).is_err() || files.put("p", b"new text", &[]).is_err() {
+        return false;
+    }
+    let mut room = [0u8; 8];
+    if files.read(opened, &mut room) != Ok(3) || &room[..3] != b"old".as_slice() {
+        return false;
+    }
+    match read_whole(alloc, files, "p", 99) {
+        Ok(read) => read.as_slice() == b"new text".as_slice(),
+        Err(_) => false,
+    }
+}
+
+fn a_name_is_put_again(alloc: Global) -> bool {
+    match MemFiles::new(alloc) {
+        Ok(mut files) => goes_on(alloc, &mut files),
+        Err(_) => false,
+    }
+}
+
+#[test]
+fn a_name_holds_what_was_put_last(rt: HostRuntime) {
+    assert!(rt; a_name_is_put_again(rt.alloc()));
+}
+
+// The most bytes that a sink takes in a call, the call that fails, what writing the text answers, and what the sink took of it.
+type Writing = (usize, u64, Result<(), WriteError>, &'static [u8]);
+
+const TEXT: &[u8] = b"count 3\n";
+
+const WRITINGS: &[Writing] = &[
+    (5, 9, Ok(()), b"count 3\n"),
+    (1, 8, Ok(()), b"count 3\n"),
+    (99, 1, Ok(()), b"count 3\n"),
+    (5, 1, Err(WriteError::Failed(5)), b"count"),
+    (5, 0, Err(WriteError::Failed(0)), b""),
+];
+
+fn writings() -> &'static [Writing] {
+    WRITINGS
+}
+
+fn text() -> &'static [u8] {
+    TEXT
+}
+
+// Whether the text is written as a row says.
+fn is_written(alloc: Global, row: &Writing) -> bool {
+    let (step, fails, answer, taken) = *row;
+    if step == 0 {
+        return false;
+    }
+    match MemSink::new(alloc, step, &[fails]) {
+        Ok(mut sink) => write_whole(&mut sink, text()) == answer && sink.bytes() == taken,
+        Err(_) => false,
+    }
+}
+
+#[test]
+fn a_text_goes_out_in_pieces(rt: HostRuntime) {
+    for row in writings() {
+        let same = is_written(rt.alloc(), row);
+        assert!(rt; same, "at step {}, call {}", row.0, row.1);
+    }
+}
+
+// Whether a real file is read as it should be.
+fn is_real(rt: &HostRuntime, name: &str, wanted: Result<&[u8], ReadError>) -> bool {
+    let mut files = OsFiles::new(rt, rt.alloc());
+    reads(rt.alloc(), &mut files, name, 99, wanted)
+}
+
+#[test]
+fn a_real_file_is_read_and_a_missing_one_is_a_fault(rt: HostRuntime) {
+    assert!(&rt; fs::write(&rt, "three_lines", b"one\ntwo\nthree").is_ok());
+    assert!(&rt; is_real(&rt, "three_lines", Ok(b"one\ntwo\nthree")));
+    assert!(&rt; is_real(&rt, "no such file", Err(ReadError::Failed)));
+}
+
+#[test]
+fn a_real_stream_takes_a_text(rt: HostRuntime) {
+    let mut sink = OsSink::new(rt.stdout());
+    assert!(rt; write_whole(&mut sink, b"a text\n") == Ok(()));
+    NoGate.at(0, 0, 0);
+}
+
+// Whether a sink over the stream takes a text, behind which a mark is then written by another way while the sink is still there.
+fn writes_and_marks<W: Write + Drop>(stream: W, mark: &mut impl Write) -> bool {
+    let mut sink = OsSink::new(stream);
+    let written = write_whole(&mut sink, b"a text") == Ok(());
+    match mark.write(b"|") {
+        Ok(count) => written && count == 1,
+        Err(_) => false,
+    }
+}
+
+// Whether these bytes come first.
+fn gives<R: Read + Drop>(mut reader: R, wanted: &[u8]) -> bool {
+    let mut room = [0u8; 8];
+    match reader.read(&mut room) {
+        Ok(count) => &room[..count] == wanted,
+        Err(_) => false,
+    }
+}
+
+// Whether a text that goes to a pipe through a stream that holds bytes back is there before a mark that comes later.
+fn is_passed_on(rt: &HostRuntime) -> bool {
+    let Ok((reader, writer)) = io::pipe(rt) else {
+        return false;
+    };
+    let Ok(mut mark) = writer.try_clone() else {
+        return false;
+    };
+    let Ok(stream) = BufWriter::new(rt.alloc(), writer) else {
+        return false;
+    };
+    writes_and_marks(stream, &mut mark) && gives(reader, b"a text|")
+}
+
+#[test]
+fn a_stream_that_holds_bytes_back_passes_them_on_at_once(rt: HostRuntime) {
+    assert!(&rt; is_passed_on(&rt));
+}

@@ -1,0 +1,11 @@
+//! Tests of where an input comes from and how it is read: devices, the generated input, the wire format, and records.
+#![tactic(auto)]
+
+#[cfg(test)]
+mod devices;
+#[cfg(test)]
+mod feed;
+#[cfg(test)]
+mod records;
+#[cfg(test)]
+mod wire;
