@@ -1,6 +1,7 @@
 mod AnswerLemmas
 mod BoundsLemmas
 mod EndingLemmas
+mod FileLemmas
 mod JudgeLemmas
 mod JudgementLemmas
 mod MainLemmas
