@@ -113,7 +113,7 @@ picks (Some bytes) (Some rest) read over consumed at_end =
 pub still_told : (before after : Option (List ℕ)) (read : List ℕ) → Consumes before after read → IfSome before (λ _. IsSome after)
 still_told None after read consumed = tt
 still_told (Some bytes) None read consumed = absurd consumed
-still_told (Some bytes) (Some rest) read consumed = tt
+still_told (Some bytes) (Some rest) read consumed = refl
 
 -- the same of a file
 pub record GivesRead (job : Job) (most : ℕ) (frame : Frame) (before : Option (List ℕ)) (rose : Type 0) (answer : Result (List ℕ) Failure) : Type 0 where
