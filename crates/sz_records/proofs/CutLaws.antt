@@ -46,7 +46,8 @@ cut_by frame limits p n bytes behind unfinished stood =
     let end = at_end frame p bytes in
     record { records = end.0; ending = end.1; cut = cut_end frame limits p n bytes end.0 end.1 stood refl }
 
-some_cut : (left : ℕ) (frame : Frame) (limits : FrameLimits) (p n : ℕ) (bytes : List ℕ) → limits.records ≤ n + left → HasCut frame limits p n bytes
+-- behind some records, the rest of a file is cut in some way
+pub some_cut : (left : ℕ) (frame : Frame) (limits : FrameLimits) (p n : ℕ) (bytes : List ℕ) → limits.records ≤ n + left → HasCut frame limits p n bytes
 some_cut zero frame limits p n bytes few =
     cut_by frame limits p n bytes (λ size counted. absurd (omega (arith, few, counted))) (standing frame limits p n bytes) refl
 some_cut (suc left) frame limits p n bytes few =

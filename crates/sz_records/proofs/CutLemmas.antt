@@ -1,5 +1,5 @@
 -- How the cut of a file goes on, step by step.
-use Rattle.std.proofs.Common.{◌≡◌, ℕ, ◌+◌, List, [], ◌∷◌, ◌++◌, drop, refl, sym, ap, ◌∙◌, append_assoc}
+use Rattle.std.proofs.Common.{◌≡◌, ℕ, ◌+◌, List, [], ◌∷◌, ◌++◌, drop, refl, sym, ap, ◌∙◌, arith, append_assoc, length-drop}
 use Rattle.std.proofs.lemmas.List.{drop-append-le, drop-drop}
 use Rattle.sz_types.specs.declared.frame.Frame.{Frame}
 use Rattle.sz_records.specs.declared.ending.Ending.{Ending}
@@ -36,6 +36,7 @@ passes_on {old} {now} {new} {bytes} at size {before} {mid} {after} s p = record 
   of = record { frame = p.of.frame ∙ s.of.frame; limits = p.of.limits ∙ s.of.limits };
   given = s.given ++ p.kept ∷ [];
   gained = p.gained ∙ ap (λ (x : List (List ℕ)). x ++ p.kept ∷ []) s.gained ∙ append_assoc before s.given (p.kept ∷ []);
+  passed = omega (arith, s.passed, p.place, p.within, length-drop at bytes, length-drop (at + size) bytes);
   goes_on = λ more rs e h. (
       let left = drop at bytes in
       let stood : standing now.frame now.limits now.place now.count (left ++ more) ≡ record_of p.kept size =

@@ -1,6 +1,6 @@
 -- A file in pieces is read as the file.
-use Rattle.std.proofs.Common.{◌≡◌, ℕ, ◌+◌, ◌<◌, List, [], ◌∷◌, ◌++◌, length, Option, Some, None, refl}
-use Rattle.std.proofs.Common.{subst, sym, ap, ◌∙◌, append_assoc, arith}
+use Rattle.std.proofs.Common.{◌≡◌, ◌≢◌, ℕ, ◌+◌, ◌<◌, ◌≤◌, List, [], ◌∷◌, ◌++◌, length, Option, Some, None, refl}
+use Rattle.std.proofs.Common.{subst, sym, ap, ◌∙◌, append_assoc, length-append, arith}
 use Rattle.std.proofs.lemmas.List.{append-nil}
 use Rattle.sz_types.specs.declared.frame.Frame.{Frame}
 use Rattle.std.specs.Prelude.{IsSome}
@@ -9,11 +9,12 @@ use Rattle.sz_records.specs.declared.ending.Ending.TheVariants.{Whole, Damaged}
 use Rattle.sz_records.specs.declared.cutter.Cutter.{Cutter}
 use Rattle.sz_records.specs.declared.ending.Ending.{Ending}
 use Rattle.sz_records.specs.declared.limits.FrameLimits.{FrameLimits}
-use Rattle.sz_records.specs.Cutting.{unfinished, at_end, standing, IsCut}
+use Rattle.sz_records.specs.Cutting.{stopped, unfinished, at_end, standing, IsCut}
 use Rattle.sz_records.specs.Steps.{stands, IsCutOn, IsLeft, CutsOff}
 use Rattle.sz_records.specs.Fed.{FramerData, IsCutBehind, IsCutBy, IsOpen, HasRead, Feeds, Finishes, CutsHeld}
 use Rattle.sz_records.proofs.CutLemmas.{cut_stopped, cut_end}
 use Rattle.sz_records.proofs.StayLemmas.{ending_stays}
+use Rattle.sz_records.proofs.StandingLemmas.{never_whole, begun_within}
 
 -- what was cut off, with the ending that is known or the bytes that are held back, goes on what was there
 cut_goes_on : (old new : Cutter) (held taken left kept : List ℕ) (before after : List (List ℕ)) (ending : Option Ending)
@@ -35,6 +36,9 @@ record TakesIn (old new : FramerData) (taken : List ℕ) (before after : List (L
   gained : after ≡ before ++ added
   goes_on : (more : List ℕ) (rs : List (List ℕ)) (e : Ending) → IsCutBy new more rs e → IsCutBy old (taken ++ more) (added ++ rs) e
   nothing_whole : IsOpen old → IsOpen new
+  same_limits : new.cutter.limits ≡ old.cutter.limits
+  reached : new.ended ≡ None → (old.ended ≡ None) × (new.cutter.place + length new.held ≡ old.cutter.place + length old.held + length taken)
+  early : old.ended ≢ Some Whole → new.ended ≢ Some Whole
 
 -- a piece is taken in
 takes_in : (old new : FramerData) (taken left : List ℕ) (before after : List (List ℕ))
@@ -47,8 +51,18 @@ takes_in old new taken left before after s none is = record {
       let goes = cut_goes_on old.cutter new.cutter old.held taken left new.held before after new.ended s is more rs e h in
       rw none goes);
   nothing_whole = λ sound e. rw (is e) (left_open new.ended s.over e);
+  same_limits = s.front.of.limits;
+  reached = λ e. (none, omega (arith, s.front.passed, ap length (is e), length-append old.held taken));
+  early = λ before. left_early new.ended s.over;
 }
   where
+    left_early : (ending : Option Ending) → IsLeft new.cutter left ending → ending ≢ Some Whole
+    left_early None h e = cc
+    left_early (Some why) h e = never_whole new.cutter.frame new.cutter.limits new.cutter.place new.cutter.count left (h ∙ ap stopped (same_why why e))
+      where
+        same_why : (why : Ending) → Some why ≡ Some Whole → why ≡ Whole
+        same_why why e = cc
+
     left_open : (ending : Option Ending) → IsLeft new.cutter left ending → ending ≡ None → stands new.cutter left ≡ unfinished
     left_open None h e = h
     left_open (Some why) h e = absurd cc
@@ -70,6 +84,9 @@ takes_ignored framer taken given is = by_ended framer.ended refl is
       gained = sym (append-nil given);
       goes_on = λ more rs end k. (let k' = rw e at k in rw e k');
       nothing_whole = λ sound. sound;
+      same_limits = refl;
+      reached = λ none. absurd (let no = sym e ∙ none in cc);
+      early = λ before. before;
     }
 
 -- what was read goes on in what is taken in
@@ -82,7 +99,13 @@ feeds {old} {new} {piece} {before} {after} t = λ frame limits fed given h. (
     record {
       added = t.added;
       gained = t.gained;
-      read = record { goes_on = goes; nothing_whole = t.nothing_whole h.nothing_whole };
+      read = record {
+        goes_on = goes;
+        nothing_whole = t.nothing_whole h.nothing_whole;
+        same_limits = t.same_limits ∙ h.same_limits;
+        reached = λ none. (let r = t.reached none in omega (arith, r.1, h.reached r.0, length-append fed piece));
+        early = t.early h.early;
+      };
       fixed = λ e is more. (let cut = goes more [] e (whatever_comes new.cutter new.held new.ended e is more) in
           rw (append-nil (given ++ t.added)) at cut);
     })
@@ -146,7 +169,18 @@ unfolding standing
 starts_reading frame limits framer f l p n held none = record {
   goes_on = λ more rs e k. (let k' = rw (none, f, l, p, n, held) at k in k');
   nothing_whole = λ e. rw held refl;
+  same_limits = l;
+  reached = λ e. omega (arith, p, ap length held);
+  early = λ whole. (let no = sym none ∙ whole in cc);
 }
+
+-- no more bytes are read than an input may have, and those of a length that is begun, before the ending is known
+pub read_within : (frame : Frame) (limits : FrameLimits) (framer : FramerData) (fed : List ℕ) (given : List (List ℕ)) → HasRead frame limits framer fed given
+    → framer.ended ≡ None → framer.cutter.place + length framer.held ≤ limits.input_bytes + 9
+read_within frame limits framer fed given h none =
+    let c = framer.cutter in
+    let within = begun_within c.frame c.limits c.place c.count framer.held c.in_input (h.nothing_whole none) in
+    omega (arith, within, ap (λ (l : FrameLimits). l.input_bytes) h.same_limits)
 
 -- where the ending is known, a piece changes nothing
 pub feeds_ended : (framer : FramerData) (piece : List ℕ) (into : List (List ℕ)) (e : Ending) → framer.ended ≡ Some e → Feeds framer framer piece into into (Some e)

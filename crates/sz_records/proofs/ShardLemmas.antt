@@ -134,7 +134,8 @@ no_shorter : (most : ℕ) (rs : List (List ℕ)) (n m : ℕ) → IsShard most rs
 no_shorter most rs n m a b less = ⊎_elim (λ (full : IsFull most (take n rs)). b.shortest n less full)
     (λ (all : n ≡ length rs). absurd (let w = b.within in omega (arith, all, w, less))) a.ends
 
-one_shard : (most : ℕ) (rs : List (List ℕ)) (n m : ℕ) → IsShard most rs n → IsShard most rs m → n ≡ m
+-- records have one shard at their front
+pub one_shard : (most : ℕ) (rs : List (List ℕ)) (n m : ℕ) → IsShard most rs n → IsShard most rs m → n ≡ m
 one_shard most rs n m a b = by_order (nat_lt n m) (nat_lt m n) refl refl where
   by_order : (p q : Bool) → nat_lt n m ≡ p → nat_lt m n ≡ q → n ≡ m
   by_order true q is other = absurd (no_shorter most rs n m a b (ltb-true n m is))

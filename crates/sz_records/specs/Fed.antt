@@ -1,8 +1,9 @@
 -- What a framer has read, and what it makes of the bytes that are still to come.
-use Rattle.std.specs.Prelude.{◌≡◌, ℕ, List, [], ◌++◌, Option, Some, None}
+use Rattle.std.specs.Prelude.{◌≡◌, ◌≢◌, ℕ, ◌+◌, List, [], ◌++◌, length, Option, Some, None}
 use Rattle.sz_types.specs.declared.frame.Frame.{Frame}
 use Rattle.sz_records.specs.declared.cutter.Cutter.{Cutter}
 use Rattle.sz_records.specs.declared.ending.Ending.{Ending}
+use Rattle.sz_records.specs.declared.ending.Ending.TheVariants.{Whole}
 use Rattle.sz_records.specs.declared.limits.FrameLimits.{FrameLimits}
 use Rattle.sz_records.specs.Cutting.{unfinished, IsCut}
 use Rattle.sz_records.specs.Steps.{stands, IsCutOn, CutsOff}
@@ -26,10 +27,14 @@ IsCutBy framer more rs e = IsCutBehind framer.cutter framer.held framer.ended mo
 abbrev pub IsOpen : FramerData → Type 0
 IsOpen framer = framer.ended ≡ None → stands framer.cutter framer.held ≡ unfinished
 
--- the framer was fed these bytes and gave these records: however the file goes on, what is still cut of it goes on that
+-- The framer was fed these bytes and gave these records: however the file goes on, what is still cut of it goes on that. Until the ending is
+-- known, the bytes that are held back are those behind the place where the next record begins; a file isn't whole before its end
 pub record HasRead (frame : Frame) (limits : FrameLimits) (framer : FramerData) (fed : List ℕ) (given : List (List ℕ)) : Type 0 where
   pub goes_on : (more : List ℕ) (rs : List (List ℕ)) (e : Ending) → IsCutBy framer more rs e → IsCut frame limits 0 0 (fed ++ more) (given ++ rs) e
   pub nothing_whole : IsOpen framer
+  pub same_limits : framer.cutter.limits ≡ limits
+  pub reached : framer.ended ≡ None → framer.cutter.place + length framer.held ≡ length fed
+  pub early : framer.ended ≢ Some Whole
 
 -- each file that begins with these bytes has these records and this ending
 abbrev pub Fixes : Frame → FrameLimits → List ℕ → List (List ℕ) → Ending → Type 0

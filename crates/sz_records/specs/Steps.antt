@@ -57,11 +57,13 @@ abbrev pub IsLeft : Cutter → List ℕ → Option Ending → Type 0
 IsLeft cutter left None = stands cutter left ≡ unfinished
 IsLeft cutter left (Some e) = stands cutter left ≡ stopped e
 
--- records were cut off the front of these bytes, and this is left: whatever comes behind, the cut of what is left goes on that of all
+-- Records were cut off the front of these bytes, and this is left: whatever comes behind, the cut of what is left goes on that of all. The
+-- bytes that are cut off are those between the places
 pub record CutsFront (old new : Cutter) (bytes left : List ℕ) (before after : List (List ℕ)) : Type 0 where
   pub of : IsOf old new
   pub given : List (List ℕ)
   pub gained : after ≡ before ++ given
+  pub passed : new.place + length left ≡ old.place + length bytes
   pub goes_on : (more : List ℕ) (rs : List (List ℕ)) (e : Ending) → IsCutOn new (left ++ more) rs e → IsCutOn old (bytes ++ more) (given ++ rs) e
 
 -- as many records were cut off as are whole, and this ending is known then

@@ -52,6 +52,7 @@ impl Framer {
     /// A framer at the beginning of a file. It takes no memory.
     pub fn new(alloc: Global, frame: Frame, limits: FrameLimits) -> Framer
         ensures start { HasRead frame limits result [] [] }
+        ensures not_ended { result.ended ≡ None }
     {
         let cutter = Cutter {
             frame,

@@ -30,7 +30,7 @@ use Rattle.sz_rounds.specs.Cuts.{cut_into}
 use Rattle.szl.specs.declared.status.Status.TheVariants as status
 use Rattle.szl.specs.declared.failure.Failure.{Failure}
 use Rattle.szl.specs.declared.failure.Failure.TheVariants as failure
-use Rattle.szl.specs.Opening.{ReadsText, ran_out, Decides, AnswersOn, AnswersText, AnswersCheck}
+use Rattle.szl.specs.Opening.{ran_out, Decides, AnswersOn, AnswersText, AnswersCheck}
 use Rattle.szl.specs.Outcome.{Answer, success, outcome_faulted, outcome_of_shards, outcome_of_statics, outcome_of_program}
 use Rattle.szl.specs.Outcome.{outcome_of_checked_run, outcome_of_checked}
 use Rattle.szl.specs.Checking.{checked}
@@ -39,7 +39,7 @@ use Rattle.szl.specs.Judging.{IsFailureOf, IsFailureOn}
 use Rattle.szl.specs.Promise.{OpensFirst}
 use Rattle.szl.specs.Records.{Cut, IsCutInto, limits}
 use Rattle.szl.specs.Shards.{shard_sizes, shards_in, job_of}
-use Rattle.szl.specs.Running.{GivesStatics, GivesTables, IsJobOf}
+use Rattle.szl.specs.Running.{GivesStatics, GivesFile, IsJobOf}
 use Rattle.szl.proofs.JudgementLemmas.{every_text_is_read}
 use Rattle.szl.proofs.OpeningLemmas.{holds_or}
 
@@ -107,7 +107,7 @@ opens_two program ending (faulted zero f) numbered = let le = numbered 0 f refl 
 opens_two program ending (faulted (suc k) f) numbered = refl
 opens_two program ending (lost n) numbered = refl
 
-no_usage : (program : Core) (ending : Ending) (o : ShardsEnd) → (outcome_of_shards program ending o).status ≢ status.Usage
+pub no_usage : (program : Core) (ending : Ending) (o : ShardsEnd) → (outcome_of_shards program ending o).status ≢ status.Usage
 no_usage program Whole (emitted es) = λ e. cc
 no_usage program (Damaged byte) (emitted es) = λ e. cc
 no_usage program (Limit byte) (emitted es) = λ e. cc
@@ -196,9 +196,6 @@ module _ (program : Core) (s : RunSettings) (slots : List Slot) (begun : statics
       ∙ opens_two program cut.ending (of_cut cut)
       (λ k f e. fault_is_numbered (job_of program slots s) 0 1 cut.records (shard_sizes s.shard cut.records) (omega arith) k f e) in omega (arith, two)
 
-  not_usage : (cut : Cut) → (outcome_of_program program s cut).status ≢ status.Usage
-  not_usage cut = subst (λ (a : Answer). a.status ≢ status.Usage) (sym (on_shards cut)) (no_usage program cut.ending (of_cut cut))
-
   -- the job has this outcome
   pub of_job : (job : Job) → IsJobOf program slots s job → (cut : Cut)
       → outcome_of_shards job.compiled cut.ending (outcome_of job (shards_in s.shard cut.records)) ≡ outcome_of_program program s cut
@@ -207,62 +204,28 @@ module _ (program : Core) (s : RunSettings) (slots : List Slot) (begun : statics
       ∙ ap (outcome_of_shards program cut.ending) (same_outcome (job_of program slots s) job.twice (shards_in s.shard cut.records))
       ∙ sym (on_shards cut)
 
-module _ {F : Type 0} (the_files : files.Ghosts F) (frame : Frame) (name : List ℕ) (old new : F) (program : Core)
-    (s : RunSettings) (limit : ℕ) (slots : List Slot) (begun : statics program s.budget ≡ Done slots) where
-  -- the input couldn't be read
-  pub input_fails : (f : Failure) → ReadsText (the_files.held old name) limit failure.NoMemory (Rose (the_files.faults old) (the_files.faults new)) (Err f)
-      → NamesGain (ran_out (Err f)) (the_files.names old) (the_files.names new) name
-      → AnswersOn the_files frame (outcome_of_program program s) name old new (Err f)
-  input_fails failure.ReadFailed reads gains = let c = cut_of frame reads.text in record {
-    input = reads.text;
-    cut = c.cut;
-    is_cut = c.is_cut;
-    holds = reads.holds;
-    decides = (reads.tells, not_usage program s slots begun c.cut);
-    opened = opened_one name _ _ _ (one_left program s slots begun c.cut) gains;
-  }
-  input_fails failure.NoMemory reads gains = let c = cut_of frame reads.text in record {
-    input = reads.text;
-    cut = c.cut;
-    is_cut = c.is_cut;
-    holds = reads.holds;
-    decides = tt;
-    opened = gained name _ _ _ (one_left program s slots begun c.cut) gains;
-  }
-  input_fails failure.Usage reads gains = let e = reads.tells.0 in absurd (cc)
-  input_fails (failure.Refused r) reads gains = let e = reads.tells.0 in absurd (cc)
-  input_fails (failure.Faulted n f) reads gains = let e = reads.tells.0 in absurd (cc)
-  input_fails (failure.Lost n) reads gains = let e = reads.tells.0 in absurd (cc)
-  input_fails (failure.Damaged b) reads gains = let e = reads.tells.0 in absurd (cc)
-  input_fails (failure.Limit b) reads gains = let e = reads.tells.0 in absurd (cc)
-  input_fails failure.WriteFailed reads gains = let e = reads.tells.0 in absurd (cc)
+module _ {F : Type 0} (the_files : files.Ghosts F) (old new : F) (program : Core) (s : RunSettings) (slots : List Slot)
+    (begun : statics program s.budget ≡ Done slots) where
+  opened_by : (answer : Result (List ℕ) Failure) (cut : Cut) → NamesGain (ran_out answer) (the_files.names old) (the_files.names new) s.input
+      → OpensFirst (s.input ∷ []) (the_files.names old) (the_files.names new) ((outcome_of_program program s cut).opens - 1)
+  opened_by answer cut gains = by (ran_out answer) gains
+    where
+      by : (b : Bool) → NamesGain b (the_files.names old) (the_files.names new) s.input
+          → OpensFirst (s.input ∷ []) (the_files.names old) (the_files.names new) ((outcome_of_program program s cut).opens - 1)
+      by true gains = gained s.input _ _ _ (one_left program s slots begun cut) gains
+      by false gains = opened_one s.input _ _ _ (one_left program s slots begun cut) gains
 
-  -- the input was read, and the program run over it
-  pub input_read : (bytes : List ℕ) (answer : Result (List ℕ) Failure) (job : Job) → IsJobOf program slots s job
-      → ReadsText (the_files.held old name) limit failure.NoMemory (Rose (the_files.faults old) (the_files.faults new)) (Ok bytes)
-      → the_files.names new ≡ the_files.names old ++ name ∷ [] → GivesTables job s.shard frame bytes answer
-      → AnswersOn the_files frame (outcome_of_program program s) name old new answer
-  input_read bytes answer job is reads gains gives = record {
-    input = reads.text;
-    cut = gives.cut;
-    is_cut = subst (λ b. IsCutInto frame b gives.cut) reads.tells.0 gives.is_cut;
-    holds = reads.holds;
-    decides = decides_still answer _ _ (subst (λ o. Decides answer o ⊥) (of_job program s slots begun job is gives.cut) gives.decides);
-    opened = opened_one name _ _ _ (one_left program s slots begun gives.cut) gains;
-  }
-
-  -- the input was read, and there was no memory for the job
-  pub input_without_memory : (bytes : List ℕ)
-      → ReadsText (the_files.held old name) limit failure.NoMemory (Rose (the_files.faults old) (the_files.faults new)) (Ok bytes)
-      → the_files.names new ≡ the_files.names old ++ name ∷ []
-      → AnswersOn the_files frame (outcome_of_program program s) name old new (Err failure.NoMemory)
-  input_without_memory bytes reads gains = let c = cut_of frame reads.text in record {
-    input = reads.text;
-    cut = c.cut;
-    is_cut = c.is_cut;
-    holds = reads.holds;
-    decides = tt;
-    opened = opened_one name _ _ _ (one_left program s slots begun c.cut) gains;
+  -- the program was run over the input, or that couldn't be read
+  pub input_run : (answer : Result (List ℕ) Failure) (job : Job) → IsJobOf program slots s job → GivesFile the_files job s old new answer
+      → AnswersOn the_files s.frame (outcome_of_program program s) s.input old new answer
+  input_run answer job is gives = record {
+    input = gives.input;
+    cut = gives.tables.cut;
+    is_cut = gives.tables.is_cut;
+    holds = gives.holds;
+    decides = subst (λ o. Decides answer o (Rose (the_files.faults old) (the_files.faults new))) (of_job program s slots begun job is gives.tables.cut)
+        gives.tables.decides;
+    opened = opened_by answer gives.tables.cut gives.opened;
   }
 
 -- the outcome of running the text that spells a program is the program's

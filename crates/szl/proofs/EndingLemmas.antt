@@ -1,81 +1,162 @@
--- How the run of a program over an input ends: by the statics, the records, and how these end.
-use Rattle.std.proofs.Common.{◌≡◌, ◌≤◌, ℕ, List, [], ◌++◌, length, arith, sym, ap, ◌∙◌, subst}
-use Rattle.std.specs.Prelude.{Option, Ok, Err}
+-- How the run of a program over an input ends: by its shards, and how its records end.
+use Rattle.std.proofs.Common.{◌≡◌, ◌≢◌, ◌≤◌, ℕ, List, [], ◌++◌, sym, ap, ◌∙◌, refl, append-nil, Bool, true}
+use Rattle.std.specs.Prelude.{Option, Some, None, Result, Ok, Err, IfSome, IsSome, unwrap_or}
+use Rattle.std.specs.Io.KnownBytes.{Consumes, IsAtEnd}
 use Rattle.sz_types.specs.declared.frame.Frame.{Frame}
 use Rattle.sz_core.specs.Programs.{tables_of}
 use Rattle.sz_tabs.specs.Data.{EmitDatum}
+use Rattle.sz_total.specs.States.{TotalState, declarations, emit_count, shown}
+use Rattle.sz_total.specs.Totals.{StandsFor}
 use Rattle.sz_attempt.specs.declared.job.Job.{Job}
-use Rattle.sz_rounds.specs.Outcomes.{emitted, outcome_of}
+use Rattle.sz_rounds.specs.Outcomes.{outcome_of}
 use Rattle.sz_print.specs.Tables.{tables_text}
-use Rattle.sz_records.specs.declared.ending.Ending.{Ending}
-use Rattle.sz_records.specs.declared.ending.Ending.TheVariants.{Whole, Damaged, Limit}
-use Rattle.sz_records.specs.Cutting.{IsCut}
-use Rattle.sz_records.specs.Fed.{FramerData, HasRead, Feeds, Finishes}
-use Rattle.sz_records.proofs.CutLaws.{records_are_few}
+use Rattle.sz_stream.specs.declared.stop.Stop.{Stop}
+use Rattle.sz_stream.specs.declared.stop.Stop.TheVariants as stops
+use Rattle.sz_stream.specs.Inputs.{GoesOn, EndsInput, RunsInput, RunsRead, RunsFile}
 use Rattle.szl.specs.declared.failure.Failure.{Failure}
 use Rattle.szl.specs.declared.failure.Failure.TheVariants as failure
 use Rattle.szl.specs.Outcome.{outcome_of_shards, outcome_of_ending, success}
-use Rattle.szl.specs.Records.{Cut, IsCutInto, limits}
-use Rattle.szl.specs.Shards.{shards_in}
-use Rattle.szl.specs.Running.{GivesTotal, GivesTables}
-use Rattle.szl.proofs.AnswerLemmas.{cut_of}
+use Rattle.szl.specs.Records.{Cut, IsCutInto}
+use Rattle.szl.specs.Shards.{shard_sizes, shards_in}
+use Rattle.szl.specs.Running.{failure_of_stop, GivesTables}
+use Rattle.szl.proofs.AnswerLemmas.{cut_of, no_usage}
+use Rattle.szl.proofs.OpeningLemmas.{holds_or}
+use Rattle.szl.proofs.ShardLemmas.{sizes_are_shards}
 
--- a framer that was fed a whole input cuts it
-pub cut_by : (frame : Frame) (first then : FramerData) (input : List ℕ) (none some all : List (List ℕ)) (ended : Option Ending) (e : Ending)
-    → HasRead frame limits first [] [] → Feeds first then input none some ended → none ≡ [] → Finishes then some all e
-    → IsCutInto frame input (record { records = all; ending = e })
-cut_by frame first then input none some all ended e start feeds empty finishes =
-    let a = feeds frame limits [] [] start in
-    let z = finishes frame limits input a.added a.read in
-    let is = z.gained ∙ ap (λ rs. rs ++ z.added) (a.gained ∙ ap (λ rs. rs ++ a.added) empty) in
-    subst (λ rs. IsCut frame limits 0 0 input rs e) (sym is) z.cut
-
--- an input has no more records than it may
-pub few_records : (frame : Frame) (input : List ℕ) (cut : Cut) → IsCutInto frame input cut → length cut.records ≤ 2147483648
-few_records frame input cut is_cut =
-    let few = records_are_few frame limits 0 0 input cut.records cut.ending (omega arith) is_cut in omega (arith, few)
-
-module _ (job : Job) (most : ℕ) (frame : Frame) (input : List ℕ) where
+module _ (job : Job) (most : ℕ) (frame : Frame) (input : List ℕ) (rose : Type 0) where
   -- there was no memory for the records, the tables or the text
-  pub no_memory_on : (cut : Cut) → IsCutInto frame input cut → GivesTables job most frame input (Err failure.NoMemory)
-  no_memory_on cut is_cut = record { cut = cut; is_cut = is_cut; decides = tt }
+  pub no_memory_at_all : GivesTables job most frame input rose (Err failure.NoMemory)
+  no_memory_at_all = let c = cut_of frame input in record { cut = c.cut; is_cut = c.is_cut; decides = tt }
 
-  pub no_memory_at_all : GivesTables job most frame input (Err failure.NoMemory)
-  no_memory_at_all = let c = cut_of frame input in no_memory_on c.cut c.is_cut
+  -- a read failed
+  pub read_fails : rose → GivesTables job most frame input rose (Err failure.ReadFailed)
+  read_fails is =
+      let c = cut_of frame input in
+      record { cut = c.cut; is_cut = c.is_cut; decides = (is, no_usage job.compiled c.cut.ending (outcome_of job (shards_in most c.cut.records))) }
 
-  -- a shard faults or is lost
-  pub total_fails : (cut : Cut) → IsCutInto frame input cut → (f : Failure) → GivesTotal job most cut.records (Err f)
-      → GivesTables job most frame input (Err f)
-  total_fails cut is_cut (failure.Faulted n fault) h =
-      record { cut = cut; is_cut = is_cut; decides = ap (outcome_of_shards job.compiled cut.ending) h }
-  total_fails cut is_cut (failure.Lost n) h = record { cut = cut; is_cut = is_cut; decides = ap (outcome_of_shards job.compiled cut.ending) h }
-  total_fails cut is_cut failure.NoMemory h = no_memory_on cut is_cut
-  total_fails cut is_cut failure.Usage h = absurd h
-  total_fails cut is_cut (failure.Refused r) h = absurd h
-  total_fails cut is_cut (failure.Damaged b) h = absurd h
-  total_fails cut is_cut (failure.Limit b) h = absurd h
-  total_fails cut is_cut failure.ReadFailed h = absurd h
-  total_fails cut is_cut failure.WriteFailed h = absurd h
+  module _ (low : 1 ≤ most) where
+    -- what comes of the input's own records
+    ends_so : (answer : Result TotalState Stop) → RunsInput job most frame input answer → (cut : Cut) → IsCutInto frame input cut
+        → EndsInput job.compiled cut.ending (outcome_of job (shards_in most cut.records)) answer
+    ends_so answer runs cut is_cut =
+        runs cut.records cut.ending (shard_sizes most cut.records) is_cut (sizes_are_shards most cut.records low)
 
-  module _ (records : List (List ℕ)) (emits : List EmitDatum) (is : outcome_of job (shards_in most records) ≡ emitted emits) where
-    on_ending : (ending : Ending) → outcome_of_shards job.compiled ending (outcome_of job (shards_in most records))
-        ≡ outcome_of_ending ending (tables_text (tables_of job.compiled.items) emits)
-    on_ending ending = ap (outcome_of_shards job.compiled ending) is
+    -- a shard faults or is lost, or the records don't end with the input
+    pub input_stops : (stop : Stop) → RunsInput job most frame input (Err stop) → (stop ≡ stops.ReadFailed → rose)
+        → GivesTables job most frame input rose (Err (failure_of_stop stop))
+    input_stops (stops.Fault n f) runs failed =
+        let c = cut_of frame input in
+        let h = ends_so (Err (stops.Fault n f)) runs c.cut c.is_cut in
+        record { cut = c.cut; is_cut = c.is_cut; decides = ap (outcome_of_shards job.compiled c.cut.ending) h }
+    input_stops (stops.Lost n) runs failed =
+        let c = cut_of frame input in
+        let h = ends_so (Err (stops.Lost n)) runs c.cut c.is_cut in
+        record { cut = c.cut; is_cut = c.is_cut; decides = ap (outcome_of_shards job.compiled c.cut.ending) h }
+    input_stops (stops.Damaged b) runs failed =
+        let c = cut_of frame input in
+        let h = ends_so (Err (stops.Damaged b)) runs c.cut c.is_cut in
+        record {
+          cut = c.cut;
+          is_cut = c.is_cut;
+          decides =
+              ap (outcome_of_shards job.compiled c.cut.ending) h.1.1
+              ∙ ap (λ e. outcome_of_ending e (tables_text (tables_of job.compiled.items) h.1.0)) h.0;
+        }
+    input_stops (stops.Limit b) runs failed =
+        let c = cut_of frame input in
+        let h = ends_so (Err (stops.Limit b)) runs c.cut c.is_cut in
+        record {
+          cut = c.cut;
+          is_cut = c.is_cut;
+          decides =
+              ap (outcome_of_shards job.compiled c.cut.ending) h.1.1
+              ∙ ap (λ e. outcome_of_ending e (tables_text (tables_of job.compiled.items) h.1.0)) h.0;
+        }
+    input_stops stops.ReadFailed runs failed = read_fails (failed refl)
+    input_stops stops.NoMemory runs failed = no_memory_at_all
 
-    -- all records are whole, and the text is that of all emits
-    pub ends_whole : (text : List ℕ) → IsCutInto frame input (record { records = records; ending = Whole })
-        → text ≡ tables_text (tables_of job.compiled.items) emits → GivesTables job most frame input (Ok text)
-    ends_whole text is_cut same = record {
-      cut = record { records = records; ending = Whole };
-      is_cut = is_cut;
-      decides = on_ending Whole ∙ ap success (sym same);
-    }
+    module _ (total : TotalState) (runs : RunsInput job most frame input (Ok total)) where
+      -- the tables are those of the program
+      pub tables_declared : total.tables ≡ tables_of job.compiled.items
+      tables_declared = let c = cut_of frame input in let h = ends_so (Ok total) runs c.cut c.is_cut in h.1.2.tables
 
-    -- the input is damaged, or passes a limit
-    pub ends_damaged : (byte : ℕ) → IsCutInto frame input (record { records = records; ending = Damaged byte })
-        → GivesTables job most frame input (Err (failure.Damaged byte))
-    ends_damaged byte is_cut = record { cut = record { records = records; ending = Damaged byte }; is_cut = is_cut; decides = on_ending (Damaged byte) }
+      -- all records are whole, and the text is that of all emits
+      pub input_ends : (text : List ℕ)
+          → ((emits : List EmitDatum) → StandsFor declarations emit_count shown total emits → text ≡ tables_text (tables_of job.compiled.items) emits)
+          → GivesTables job most frame input rose (Ok text)
+      input_ends text told =
+          let c = cut_of frame input in
+          let h = ends_so (Ok total) runs c.cut c.is_cut in
+          record {
+            cut = c.cut;
+            is_cut = c.is_cut;
+            decides =
+                ap (outcome_of_shards job.compiled c.cut.ending) h.1.1
+                ∙ ap (λ e. outcome_of_ending e (tables_text (tables_of job.compiled.items) h.1.0)) h.0
+                ∙ ap success (sym (told h.1.0 h.1.2.stands));
+          }
 
-    pub ends_limited : (byte : ℕ) → IsCutInto frame input (record { records = records; ending = Limit byte })
-        → GivesTables job most frame input (Err (failure.Limit byte))
-    ends_limited byte is_cut = record { cut = record { records = records; ending = Limit byte }; is_cut = is_cut; decides = on_ending (Limit byte) }
+-- an input that what was read may begin: the bytes that were left, where they are told, else just what was read
+pub record Picks (before : Option (List ℕ)) (read : List ℕ) (over : Bool) : Type 0 where
+  pub input : List ℕ
+  pub holds : IfSome before (λ bytes. bytes ≡ input)
+  pub on : GoesOn read over input
+
+pub picks : (before after : Option (List ℕ)) (read : List ℕ) (over : Bool) → Consumes before after read → (over ≡ true → IsAtEnd after) → Picks before read over
+picks None after read over consumed at_end =
+    record { input = read; holds = tt; on = record { more = []; begins = sym (append-nil read); ends = λ e. refl } }
+picks (Some bytes) None read over consumed at_end = absurd consumed
+picks (Some bytes) (Some rest) read over consumed at_end =
+    record { input = bytes; holds = refl; on = record { more = rest; begins = consumed; ends = at_end } }
+
+-- what is left is told, where what was there is
+pub still_told : (before after : Option (List ℕ)) (read : List ℕ) → Consumes before after read → IfSome before (λ _. IsSome after)
+still_told None after read consumed = tt
+still_told (Some bytes) None read consumed = absurd consumed
+still_told (Some bytes) (Some rest) read consumed = refl
+
+-- the same of a file
+pub record GivesRead (job : Job) (most : ℕ) (frame : Frame) (before : Option (List ℕ)) (rose : Type 0) (answer : Result (List ℕ) Failure) : Type 0 where
+  pub input : List ℕ
+  pub holds : IfSome before (λ bytes. bytes ≡ input)
+  pub tables : GivesTables job most frame input rose answer
+
+module _ (job : Job) (most : ℕ) (frame : Frame) (before after : Option (List ℕ)) (rose : Type 0) where
+  pub read_no_memory : GivesRead job most frame before rose (Err failure.NoMemory)
+  read_no_memory =
+      record { input = unwrap_or before []; holds = holds_or before []; tables = no_memory_at_all job most frame (unwrap_or before []) rose }
+
+  pub read_failed : rose → GivesRead job most frame before rose (Err failure.ReadFailed)
+  read_failed is =
+      record { input = unwrap_or before []; holds = holds_or before []; tables = read_fails job most frame (unwrap_or before []) rose is }
+
+  module _ (low : 1 ≤ most) where
+    by_read : (stop : Stop) → RunsRead job most frame before after (Err stop) → (stop ≡ stops.ReadFailed → rose)
+        → GivesRead job most frame before rose (Err (failure_of_stop stop))
+    by_read stop r failed =
+        let p = picks before after r.read r.over r.consumed r.at_end in
+        record { input = p.input; holds = p.holds; tables = input_stops job most frame p.input rose low stop (r.runs p.input p.on) failed }
+
+    pub file_stops : (stop : Stop) → RunsFile job most frame before after (Err stop) → (stop ≡ stops.ReadFailed → rose)
+        → GivesRead job most frame before rose (Err (failure_of_stop stop))
+    file_stops stops.ReadFailed r failed = read_failed (failed refl)
+    file_stops stops.NoMemory r failed = read_no_memory
+    file_stops (stops.Fault n f) r failed = by_read (stops.Fault n f) r failed
+    file_stops (stops.Lost n) r failed = by_read (stops.Lost n) r failed
+    file_stops (stops.Damaged b) r failed = by_read (stops.Damaged b) r failed
+    file_stops (stops.Limit b) r failed = by_read (stops.Limit b) r failed
+
+    module _ (total : TotalState) (r : RunsFile job most frame before after (Ok total)) where
+      pub file_declared : total.tables ≡ tables_of job.compiled.items
+      file_declared =
+          let p = picks before after r.read r.over r.consumed r.at_end in tables_declared job most frame p.input rose low total (r.runs p.input p.on)
+
+      pub file_ends : (text : List ℕ)
+          → ((emits : List EmitDatum) → StandsFor declarations emit_count shown total emits → text ≡ tables_text (tables_of job.compiled.items) emits)
+          → GivesRead job most frame before rose (Ok text)
+      file_ends text told =
+          let p = picks before after r.read r.over r.consumed r.at_end in
+          record { input = p.input; holds = p.holds; tables = input_ends job most frame p.input rose low total (r.runs p.input p.on) text told }
+
+      pub told_at_end : IfSome before (λ _. IsSome after)
+      told_at_end = still_told before after r.read r.consumed

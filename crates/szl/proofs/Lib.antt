@@ -1,11 +1,11 @@
 mod AnswerLemmas
 mod BoundsLemmas
 mod EndingLemmas
+mod FileLemmas
 mod JudgeLemmas
 mod JudgementLemmas
 mod MainLemmas
 mod OpeningLemmas
-mod RoundsLemmas
 mod RunningLemmas
 mod SelftestLemmas
 mod SettingsLemmas

@@ -67,7 +67,7 @@ module _ (program : Core) (s : RunSettings) (input : List ℕ) where
 
   -- the program was run over the bytes
   pub tables_over : (slots : List Slot) → statics program s.budget ≡ Done slots → (job : Job) → IsJobOf program slots s job
-      → (answer : Result (List ℕ) Failure) → GivesTables job s.shard s.frame input answer → AnswersOver program s input answer
+      → (answer : Result (List ℕ) Failure) → GivesTables job s.shard s.frame input ⊥ answer → AnswersOver program s input answer
   tables_over slots begun job of answer gives = record {
     cut = gives.cut;
     is_cut = gives.is_cut;

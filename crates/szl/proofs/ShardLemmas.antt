@@ -1,18 +1,11 @@
--- The sizes of an input's shards, and the shards that have them.
+-- The sizes of an input's shards.
 use Rattle.std.proofs.Common.{◌≡◌, inl, inr, ℕ, zero, suc, ◌+◌, ◌^◌, ◌<◌, ◌≤◌, List, [], ◌∷◌, ◌++◌, length, take, drop, Bool, true, false}
 use Rattle.std.proofs.Common.{refl, sym, ap, ◌∙◌, subst, arith, append-nil, append_assoc, length-append}
 use Rattle.std.specs.Prelude.{nat_le, ◌||◌, if◌then◌else◌}
 use Rattle.std.proofs.lemmas.Bool.Decides.{nat_tests}
 use Rattle.std.proofs.lemmas.List.Sums.{sum_by_push}
 use Rattle.sz_records.specs.Shards.{AreShards, IsShard, IsFull, bytes_in}
-use Rattle.sz_attempt.specs.declared.job.Shard.{Shard}
-use Rattle.sz_rounds.specs.Outcomes.{all_records}
-use Rattle.sz_rounds.specs.Cuts.{AreCut, ranges_of, cut_into, MakesRounds}
-use Rattle.sz_rounds.specs.Rounds.{numbered}
-use Rattle.sz_records.proofs.ShardLemmas.{shards_are_unique}
-use Rattle.sz_rounds.proofs.RangeLemmas.{makes_rounds}
-use Rattle.szl.specs.Rounds.{AreShardsIn}
-use Rattle.szl.specs.Shards.{sizes_behind, shard_sizes, shards_in}
+use Rattle.szl.specs.Shards.{sizes_behind, shard_sizes}
 
 take_front : {A : Type 0} (xs ys : List A) (m : ℕ) → m ≤ length xs → take m (xs ++ ys) ≡ take m xs
 take_front xs ys zero le = refl
@@ -122,41 +115,3 @@ sizes_are_shards most records low = shard_behind most [] records none
     none zero le (inl full) = absurd (omega (arith, full, low))
     none zero le (inr full) = absurd (omega (arith, full))
     none (suc m) le full = absurd (omega (arith, le))
-
-length-drop_within : {A : Type 0} (xs : List A) (n : ℕ) → n ≤ length xs → length (drop n xs) + n ≡ length xs
-length-drop_within xs zero le = omega arith
-length-drop_within [] (suc n) le = absurd (omega arith)
-length-drop_within (x ∷ xs) (suc n) le = let rest = length-drop_within xs n (omega arith) in omega (arith, rest)
-
--- there are no more shards than records
-few_sizes : (most : ℕ) (records : List (List ℕ)) (sizes : List ℕ) → AreShards most records sizes → length sizes ≤ length records
-few_sizes most records [] are = omega arith
-few_sizes most records (n ∷ sizes) are =
-    let rest = few_sizes most (drop n records) sizes are.1 in
-    let left = length-drop_within records n are.0.within in
-    omega (arith, rest, left, are.0.some)
-
-few_ranges : (place first : ℕ) (sizes : List ℕ) → length (ranges_of place first sizes) ≡ length sizes
-few_ranges place first [] = refl
-few_ranges place first (n ∷ sizes) = ap suc (few_ranges (place + n) (first + n) sizes)
-
--- shards that records are cut into are those of the outcome
-module _ (most : ℕ) (records : List (List ℕ)) (shards : List Shard) (low : 1 ≤ most) (fewer : length records ≤ 2 ^ 31) (cut : AreCut most records shards) where
-  rounds : MakesRounds records shards cut.sizes
-  rounds = makes_rounds most records shards fewer cut
-
-  pub cut_is_shards : numbered 0 records shards ≡ shards_in most records
-  cut_is_shards =
-      let same = shards_are_unique most records cut.sizes (shard_sizes most records) cut.are (sizes_are_shards most records low) in
-      rounds.are 0 ∙ ap (λ sizes. cut_into 0 1 records sizes) same
-
-  pub cut_shards_in : AreShardsIn records shards
-  cut_shards_in = record {
-    within = rounds.within;
-    next = rounds.next;
-    few =
-        let most_sizes = few_sizes most records cut.sizes cut.are in
-        omega (arith, fewer, most_sizes, ap length cut.lie, few_ranges 0 1 cut.sizes);
-    whole = ap all_records (rounds.are 0) ∙ rounds.whole 0;
-    most = fewer;
-  }

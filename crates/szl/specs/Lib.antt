@@ -11,5 +11,4 @@ pub mod Failing
 pub mod Opening
 pub mod Judging
 pub mod Printing
-pub mod Rounds
 pub mod Running

@@ -1,20 +1,24 @@
 -- What running a program gives, part by part.
-use Rattle.std.specs.Prelude.{◌≡◌, ℕ, ⊤, List, Result, Ok, Err, Vec}
+use Rattle.std.specs.Prelude.{◌≡◌, ℕ, ⊤, List, IfSome, Result, Ok, Err, Vec}
+use Rattle.sz_io.specs.Rose.{Rose}
+use Rattle.sz_io.specs.Calls.{NamesGain}
+use Rattle.sz_io.specs.declared.files.Files as files
+use Rattle.sz_io.specs.declared.error.OutsideError.{OutsideError}
+use Rattle.sz_io.specs.declared.error.OutsideError.TheVariants as outside
 use Rattle.sz_types.specs.declared.frame.Frame.{Frame}
 use Rattle.sz_core.specs.Programs.{Core}
-use Rattle.sz_tabs.specs.Data.{EmitDatum}
-use Rattle.sz_total.specs.States.{TotalState}
 use Rattle.sz_world.specs.World.{Done, Faulted}
 use Rattle.sz_world.specs.Slots.{Slot}
 use Rattle.sz_mean.specs.Programs.{statics}
 use Rattle.sz_run.specs.Ends.{seen_fault}
 use Rattle.sz_words.specs.declared.settings.RunSettings.{RunSettings}
 use Rattle.sz_attempt.specs.declared.job.Job.{Job}
-use Rattle.sz_attempt.specs.Ends.{StandForEmits}
-use Rattle.sz_rounds.specs.Outcomes.{emitted, faulted, lost, outcome_of}
+use Rattle.sz_rounds.specs.Outcomes.{outcome_of}
+use Rattle.sz_stream.specs.declared.stop.Stop.{Stop}
+use Rattle.sz_stream.specs.declared.stop.Stop.TheVariants as stops
 use Rattle.szl.specs.declared.failure.Failure.{Failure}
 use Rattle.szl.specs.declared.failure.Failure.TheVariants as failure
-use Rattle.szl.specs.Opening.{Decides}
+use Rattle.szl.specs.Opening.{Decides, ran_out}
 use Rattle.szl.specs.Outcome.{outcome_of_shards}
 use Rattle.szl.specs.Records.{Cut, IsCutInto}
 use Rattle.szl.specs.Shards.{shards_in, job_of}
@@ -31,20 +35,32 @@ GivesStatics program budget (Err (failure.Faulted number fault)) = (number ≡ 0
 GivesStatics program budget (Err failure.NoMemory) = ⊤
 GivesStatics program budget (Err failure) = ⊥
 
--- the tables that come of all shards of the records, or the cause why there are none; or want of memory
-abbrev pub GivesTotal : Job → ℕ → List (List ℕ) → Result TotalState Failure → Type 0
-GivesTotal job most records (Ok total) =
-    (emits : List EmitDatum) × (outcome_of job (shards_in most records) ≡ emitted emits) × StandForEmits job.compiled total emits
-GivesTotal job most records (Err (failure.Faulted number fault)) = outcome_of job (shards_in most records) ≡ faulted number (seen_fault fault)
-GivesTotal job most records (Err (failure.Lost shard)) = outcome_of job (shards_in most records) ≡ lost shard
-GivesTotal job most records (Err failure.NoMemory) = ⊤
-GivesTotal job most records (Err failure) = ⊥
+-- why the input couldn't be opened
+abbrev pub failure_of_opening : OutsideError → Failure
+failure_of_opening outside.Failed = failure.ReadFailed
+failure_of_opening outside.NoMemory = failure.NoMemory
 
--- what running a job over an input gives: the outcome of the shards of the input's records; or want of memory
-pub record GivesTables (job : Job) (most : ℕ) (frame : Frame) (input : List ℕ) (answer : Result (List ℕ) Failure) : Type 0 where
+-- why an input has no tables
+abbrev pub failure_of_stop : Stop → Failure
+failure_of_stop (stops.Fault number fault) = failure.Faulted number fault
+failure_of_stop (stops.Lost shard) = failure.Lost shard
+failure_of_stop (stops.Damaged byte) = failure.Damaged byte
+failure_of_stop (stops.Limit byte) = failure.Limit byte
+failure_of_stop stops.ReadFailed = failure.ReadFailed
+failure_of_stop stops.NoMemory = failure.NoMemory
+
+-- what running a job over an input gives: the outcome of the shards of the input's records; or that a read failed, or want of memory
+pub record GivesTables (job : Job) (most : ℕ) (frame : Frame) (input : List ℕ) (rose : Type 0) (answer : Result (List ℕ) Failure) : Type 0 where
   pub cut : Cut
   pub is_cut : IsCutInto frame input cut
-  pub decides : Decides answer (outcome_of_shards job.compiled cut.ending (outcome_of job (shards_in most cut.records))) ⊥
+  pub decides : Decides answer (outcome_of_shards job.compiled cut.ending (outcome_of job (shards_in most cut.records))) rose
+
+-- what running a job over the file of the settings gives, which is opened for it
+pub record GivesFile {F : Type 0} (the_files : files.Ghosts F) (job : Job) (s : RunSettings) (old new : F) (answer : Result (List ℕ) Failure) : Type 0 where
+  pub input : List ℕ
+  pub holds : IfSome (the_files.held old s.input) (λ bytes. bytes ≡ input)
+  pub tables : GivesTables job s.shard s.frame input (Rose (the_files.faults old) (the_files.faults new)) answer
+  pub opened : NamesGain (ran_out answer) (the_files.names old) (the_files.names new) s.input
 
 -- the job is what the outcome knows of the run, with some shards doubled
 pub record IsJobOf (program : Core) (slots : List Slot) (s : RunSettings) (job : Job) : Type 0 where

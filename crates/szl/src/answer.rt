@@ -17,7 +17,7 @@ use crate::failure::{Failure, refused};
 use crate::judge::{checked, tree_in};
 use crate::opening::read_text;
 use crate::refusal::Cause;
-use crate::running::{job_of, statics_of, tables_of};
+use crate::running::{job_of, statics_of, tables_of_file};
 use crate::selftest::answer_selftest;
 use std::alloc::Global;
 use std::sync::Wait;
@@ -175,13 +175,6 @@ fn answer_program<R: Threads + Wait + Sync, F: Files, G: Gate + Sync>(
 {
     let compiled = compile(alloc, program)?;
     let statics = statics_of(alloc, &compiled, settings.budget)?;
-    let input = read_text(
-        alloc,
-        files,
-        settings.input.as_str(),
-        usize::MAX,
-        Failure::NoMemory,
-    )?;
     let job = job_of(alloc, compiled, statics, settings)?;
-    tables_of(rt, alloc, &job, settings, &input, gate)
+    tables_of_file(rt, alloc, &job, settings, files, gate)
 }

@@ -8,9 +8,11 @@ use crate::refusal::{Cause, Refusal};
 use crate::status::Status;
 use std::alloc::AllocError;
 use sz_check::CheckError;
+use sz_io::OutsideError;
 use sz_lex::LexError;
 use sz_parse::ParseError;
 use sz_run::Fault;
+use sz_stream::Stop;
 use sz_types::Place;
 use sz_words::WordsError;
 
@@ -86,6 +88,36 @@ impl From<AllocError> for Failure {
 
     fn from(_: AllocError) -> Failure {
         Failure::NoMemory
+    }
+}
+
+impl From<OutsideError> for Failure {
+    ghost use Rattle.szl.specs.Running.{failure_of_opening};
+
+    ghost from_gives = { λ error failure. failure ≡ failure_of_opening error };
+
+    fn from(error: OutsideError) -> Failure {
+        match error {
+            OutsideError::Failed => Failure::ReadFailed,
+            OutsideError::NoMemory => Failure::NoMemory,
+        }
+    }
+}
+
+impl From<Stop> for Failure {
+    ghost use Rattle.szl.specs.Running.{failure_of_stop};
+
+    ghost from_gives = { λ stop failure. failure ≡ failure_of_stop stop };
+
+    fn from(stop: Stop) -> Failure {
+        match stop {
+            Stop::Fault { record_no, fault } => Failure::Faulted(record_no, fault),
+            Stop::Lost(shard) => Failure::Lost(shard),
+            Stop::Damaged(byte) => Failure::Damaged(byte),
+            Stop::Limit(byte) => Failure::Limit(byte),
+            Stop::ReadFailed => Failure::ReadFailed,
+            Stop::NoMemory => Failure::NoMemory,
+        }
     }
 }
 

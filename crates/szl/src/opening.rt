@@ -10,8 +10,7 @@ use crate::failure::Failure;
 use std::alloc::Global;
 use sz_io::{Files, ReadError, read_whole};
 
-/// Reads a whole file of at most `limit` bytes; `past` is the failure where it has more: that of a program's text, or want of memory
-/// for the file.
+/// Reads a whole file of at most `limit` bytes; `past` is the failure where it has more.
 pub fn read_text<F: Files>(
     alloc: Global,
     files: &mut F,

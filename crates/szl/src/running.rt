@@ -1,26 +1,24 @@
 //! A program run over an input.
-ghost use Rattle.std.specs.Prelude.{◌≡◌, ◌≤◌, ◌^◌, IfOk, length};
+ghost use Rattle.std.specs.Prelude.{◌≡◌, ◌<◌, ◌≤◌, ◌^◌, ◌++◌, ◌∷◌, [], IfOk, OnOk, length};
 ghost use Rattle.sz_code.specs.Simulates.{static_types};
 ghost use Rattle.sz_world.specs.Typed.{AllFit};
 ghost use Rattle.sz_attempt.specs.Shards.{IsJob};
-ghost use Rattle.szl.specs.Running.{GivesStatics, GivesTables, GivesTotal, IsJobOf, vec_items_of};
+ghost use Rattle.sz_io.specs.Opened.{KeepsFiles};
+ghost use Rattle.sz_io.specs.Calls.{ReadToEnd};
+ghost use Rattle.szl.specs.Running.{GivesStatics, GivesTables, GivesFile, IsJobOf, vec_items_of};
 ghost use Rattle.szl.specs.Settings.{HasBounds};
 
 use crate::failure::Failure;
-use crate::records::records_in;
-use crate::rounds::run_shards;
 use std::alloc::Global;
 use std::sync::Wait;
 use std::thread::Threads;
 use sz_attempt::Job;
 use sz_gen_stmt::Compiled;
-use sz_io::Gate;
+use sz_io::{Files, Gate};
 use sz_list::Items;
 use sz_print::text;
-use sz_records::{Ending, Records};
-use sz_rounds::{RoundEnd, cut_shards};
 use sz_run::{StaticsEnd, run_statics};
-use sz_total::Total;
+use sz_stream::{run_bytes, run_file};
 use sz_value::{NoMemory, Slots};
 use sz_words::RunSettings;
 
@@ -58,8 +56,31 @@ pub fn job_of(
     })
 }
 
-/// The text of the program's tables for all records of the input, by the frame, shards and workers that these settings ask for.
-pub fn tables_of<R: Threads + Wait + Sync, G: Gate + Sync>(
+/// The text of the program's tables for all records of the file that the settings name, by the frame, shards and workers that they ask for.
+pub fn tables_of_file<R: Threads + Wait + Sync, F: Files, G: Gate + Sync>(
+    rt: &R,
+    alloc: Global,
+    job: &Job,
+    settings: &RunSettings,
+    files: &mut F,
+    gate: &G,
+) -> Result<Vec<u8>, Failure>
+    requires few { length (F.names files.old) < 128 }
+    requires job { IsJob job.now }
+    requires attempts { (1 ≤ job.now.attempts) × (job.now.attempts ≤ 8) }
+    requires bounds { HasBounds settings.now }
+    ensures value { GivesFile F.Files job.now settings.now files.old files.new (vec_items_of result) }
+    ensures end { OnOk result (ReadToEnd F.Files files.old files.new settings.now.input) }
+    ensures names { OnOk result (F.names files.new ≡ F.names files.old ++ settings.now.input ∷ []) }
+    ensures kept { KeepsFiles F.held F.left F.given F.faults files.old files.new }
+{
+    let file = files.open_file(settings.input.as_str())?;
+    let total = run_file(rt, alloc, job, settings, files, file, gate)?;
+    Ok(text(alloc, &total, job.compiled.tables())?)
+}
+
+/// The same for these bytes.
+pub fn tables_of_bytes<R: Threads + Wait + Sync, G: Gate + Sync>(
     rt: &R,
     alloc: Global,
     job: &Job,
@@ -70,37 +91,8 @@ pub fn tables_of<R: Threads + Wait + Sync, G: Gate + Sync>(
     requires job { IsJob job.now }
     requires attempts { (1 ≤ job.now.attempts) × (job.now.attempts ≤ 8) }
     requires bounds { HasBounds settings.now }
-    ensures value { GivesTables job.now settings.now.shard settings.now.frame input.now (vec_items_of result) }
+    ensures value { GivesTables job.now settings.now.shard settings.now.frame input.now ⊥ (vec_items_of result) }
 {
-    let (records, ending) = records_in(alloc, settings.frame, input)?;
-    let total = total_of(rt, alloc, job, settings, records, gate)?;
-    match ending {
-        Ending::Whole => Ok(text(alloc, &total, job.compiled.tables())?),
-        Ending::Damaged(byte) => Err(Failure::Damaged(byte)),
-        Ending::Limit(byte) => Err(Failure::Limit(byte)),
-    }
-}
-
-/// The tables of all that the records emit, by the shards and workers that these settings ask for.
-fn total_of<'a, R: Threads + Wait + Sync, G: Gate + Sync>(
-    rt: &R,
-    alloc: Global,
-    job: &'a Job,
-    settings: &RunSettings,
-    records: Records,
-    gate: &G,
-) -> Result<Total<'a>, Failure>
-    requires job { IsJob job.now }
-    requires attempts { (1 ≤ job.now.attempts) × (job.now.attempts ≤ 8) }
-    requires bounds { HasBounds settings.now }
-    requires few { length records ≤ 2 ^ 31 }
-    ensures value { GivesTotal job.now settings.now.shard records result }
-{
-    let shards = cut_shards(alloc, &records, settings.shard)?;
-    let workers = settings.workers;
-    match run_shards(rt, alloc, job, records, shards.as_slice(), workers, gate)? {
-        RoundEnd::Tables(total) => Ok(total),
-        RoundEnd::Fault { record_no, fault } => Err(Failure::Faulted(record_no, fault)),
-        RoundEnd::Lost(shard) => Err(Failure::Lost(shard)),
-    }
+    let total = run_bytes(rt, alloc, job, settings, input, gate)?;
+    Ok(text(alloc, &total, job.compiled.tables())?)
 }

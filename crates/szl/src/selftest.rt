@@ -9,7 +9,7 @@ ghost use Rattle.szl.specs.Settings.{selftest_run, HasBounds};
 
 use crate::failure::Failure;
 use crate::judge::{checked, tree_in};
-use crate::running::{job_of, statics_of, tables_of};
+use crate::running::{job_of, statics_of, tables_of_bytes};
 use std::alloc::{AllocError, Global};
 use std::sync::Wait;
 use std::thread::Threads;
@@ -74,5 +74,5 @@ fn answer_over<R: Threads + Wait + Sync, G: Gate + Sync>(
     let compiled = compile(alloc, program)?;
     let statics = statics_of(alloc, &compiled, settings.budget)?;
     let job = job_of(alloc, compiled, statics, settings)?;
-    tables_of(rt, alloc, &job, settings, input, gate)
+    tables_of_bytes(rt, alloc, &job, settings, input, gate)
 }

@@ -36,6 +36,8 @@ mod statement_ticks;
 #[cfg(test)]
 mod statements;
 #[cfg(test)]
+mod streams;
+#[cfg(test)]
 mod tables;
 #[cfg(test)]
 mod workers;

@@ -1,4 +1,4 @@
-use Rattle.std.proofs.Common.{◌+◌, ◌-◌, ◌<◌, ◌≤◌, ◌^◌, length, arith, rules, sym, subst, inl, inr}
+use Rattle.std.proofs.Common.{◌+◌, ◌<◌, ◌≤◌, ◌^◌, length, arith, rules, sym, subst, inl, inr}
 use Rattle.sz_records.specs.Shards.{EndsShard}
 use Rattle.sz_records.proofs.ShardLemmas.{read_none, read_more, shard_full, all_read, shard_all, shard_open}
 use Rattle.sz_records.proofs.shard.shard_end.Goals as goal

@@ -32,13 +32,13 @@ returns-in_err-job g c =
     record { value = rw (p.1, p.2) (no_memory_over c.args.program c.args.settings.now c.args.input.now) }
 
 -- the job can be run
-pub tables_of-requires-clause-job : goal.tables_of-requires-clause-job
-tables_of-requires-clause-job g c κs within =
+pub tables_of_bytes-requires-clause-job : goal.tables_of_bytes-requires-clause-job
+tables_of_bytes-requires-clause-job g c κs within =
     is_job c.in_ok-compiled.compiled c.in_ok-statics.statics c.args.settings.now c.in_ok-job.job c.in_ok-job.ensures.value
     (subst IsSound (sym c.in_ok-compiled.ensures.value) c.requires.sound) c.in_ok-statics.ensures.fit c.requires.bounds
 
-pub tables_of-requires-clause-attempts : goal.tables_of-requires-clause-attempts
-tables_of-requires-clause-attempts g c κs within =
+pub tables_of_bytes-requires-clause-attempts : goal.tables_of_bytes-requires-clause-attempts
+tables_of_bytes-requires-clause-attempts g c κs within =
     let same = ap (λ (j : Job). j.attempts) c.in_ok-job.ensures.value.same in
     subst (λ n. (1 ≤ n) × (n ≤ 8)) (sym same) (c.requires.bounds.least_attempts, c.requires.bounds.most_attempts)
 
@@ -50,4 +50,4 @@ returns g c =
     let job = c.in_ok-job.job in
     let begun = subst (λ program. GivesStatics program s.budget (Ok slots)) c.in_ok-compiled.ensures.value c.in_ok-statics.ensures.value in
     let of = subst (λ program. IsJobOf program slots s job) c.in_ok-compiled.ensures.value c.in_ok-job.ensures.value in
-    record { value = tables_over c.args.program s c.args.input.now slots begun job of (vec_items_of c.tables_of.result) c.tables_of.ensures.value }
+    record { value = tables_over c.args.program s c.args.input.now slots begun job of (vec_items_of c.tables_of_bytes.result) c.tables_of_bytes.ensures.value }

@@ -1,4 +1,4 @@
-use Rattle.std.proofs.Common.{◌≡◌, ◌≤◌, ◌∷◌, length, get_or, sym, ap, ◌∙◌, arith, rules}
+use Rattle.std.proofs.Common.{◌≡◌, ◌∷◌, length, get_or}
 use Rattle.sz_records.proofs.HeldLemmas.{ends_up_to, place_within, cleared, cleared_ends}
 use Rattle.sz_records.proofs.records.Records.clear.Goals as goal
 

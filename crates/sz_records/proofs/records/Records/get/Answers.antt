@@ -1,5 +1,4 @@
-use Rattle.std.proofs.Common.{◌≡◌, ◌<◌, ◌≤◌, ◌∷◌, length, get_or, Some, sym, ap, ◌∙◌, arith, rules}
-use Rattle.std.specs.List.{slice_range}
+use Rattle.std.proofs.Common.{◌≡◌, ◌∷◌, length, get_or, arith, rules}
 use Rattle.std.proofs.lemmas.List.{get_or_read}
 use Rattle.sz_records.proofs.HeldLemmas.{end_at, held_at, end_within}
 use Rattle.sz_records.proofs.records.Records.get.Goals as goal

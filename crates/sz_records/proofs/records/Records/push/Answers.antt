@@ -1,4 +1,4 @@
-use Rattle.std.proofs.Common.{◌≡◌, ◌+◌, ◌++◌, ◌∷◌, [], length, sym, ap, ◌∙◌, arith, rules, length-append, refl}
+use Rattle.std.proofs.Common.{◌≡◌, ◌++◌, length, arith, rules, length-append}
 use Rattle.sz_records.proofs.HeldLemmas.{one_more, one_end_more}
 use Rattle.sz_records.proofs.records.Records.push.Goals as goal
 

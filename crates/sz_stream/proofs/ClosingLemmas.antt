@@ -1,0 +1,102 @@
+-- How the shards of a round are closed, one behind the other.
+use Rattle.std.proofs.Common.{◌≡◌, ◌⊎◌, ℕ, ◌+◌, ◌-◌, ◌<◌, ◌≤◌, List, [], ◌∷◌, ◌++◌, length, drop, Bool, true, false, Option, Some, None}
+use Rattle.std.proofs.Common.{refl, sym, ap, ◌∙◌, subst, arith, inl, inr, append-nil, append_assoc, length-append, length-drop}
+use Rattle.std.proofs.lemmas.List.{drop-drop}
+use Rattle.std.specs.Prelude.{is_some, not}
+use Rattle.sz_records.specs.declared.ending.Ending.{Ending}
+use Rattle.sz_records.specs.Shards.{EndsShard, IsOpenAt, MayGoOn}
+use Rattle.sz_attempt.specs.declared.job.Shard.{Shard}
+use Rattle.sz_rounds.specs.Cuts.{ranges_of}
+use Rattle.sz_stream.specs.declared.intake.Intake.{Intake}
+use Rattle.sz_stream.specs.Intakes.{IsClosed, AreClosed, sum_of, IsAnswered, Closes}
+use Rattle.sz_stream.proofs.ShardLemmas.{is_closed, are_more, sum_within, ranges_append, sum-append}
+
+pub closes_none : (intake : Intake) → Closes intake intake
+closes_none intake = record {
+  sizes = [];
+  are = tt;
+  shards = sym (append-nil intake.round.shards);
+  few = λ few. few;
+  closed = (let same : intake.closed ≡ intake.closed + 0 = omega arith in same);
+  records = refl;
+  first_shard = refl;
+  first = refl;
+  framer = refl;
+  ending = refl;
+  limit = refl;
+}
+
+abbrev shard_of : ℕ → ℕ → ℕ → Shard
+shard_of first start end = record { first = first; start = start; end = end }
+
+-- one shard more
+abbrev pub with_shards : Intake → List Shard → ℕ → ℕ → Intake
+with_shards intake shards end bytes = record intake { round = record intake.round { shards = shards }; closed = end; bytes = bytes }
+
+module _ (old now : Intake) (c : Closes old now) (low : old.closed ≤ length old.round.records) where
+  -- there are so many records
+  pub still_within : now.closed ≤ length now.round.records
+  still_within =
+      let within = sum_within old.most (is_some old.ending) (drop old.closed old.round.records) c.sizes c.are in
+      omega (arith, low, within, c.closed, ap length c.records, length-drop old.closed old.round.records)
+
+  pub closes_more : (end bytes : ℕ) (shards : List Shard) → EndsShard now.round.records now.closed now.most (is_some now.ending) end
+      → shards ≡ now.round.shards ++ shard_of (now.first + now.closed) now.closed end ∷ [] → length now.round.shards < 4096
+      → Closes old (with_shards now shards end bytes)
+  closes_more end bytes shards ends is room = record {
+    sizes = c.sizes ++ n ∷ [];
+    are =
+        are_more old.most (is_some old.ending) (drop old.closed old.round.records) c.sizes (n ∷ []) c.are
+        (subst (λ rs. IsClosed old.most (is_some old.ending) rs n) (sym left) here, tt);
+    shards =
+        is ∙ ap (λ l. l ++ shard_of (now.first + now.closed) now.closed end ∷ []) c.shards
+        ∙ append_assoc old.round.shards (ranges_of old.closed (old.first + old.closed) c.sizes) (shard_of (now.first + now.closed) now.closed end ∷ [])
+        ∙ ap (λ l. old.round.shards ++ l) (ap (λ s. ranges_of old.closed (old.first + old.closed) c.sizes ++ s ∷ []) same
+        ∙ sym (ranges_append old.closed (old.first + old.closed) c.sizes (n ∷ [])));
+    few = λ few. omega (arith, ap length is, length-append now.round.shards (shard_of (now.first + now.closed) now.closed end ∷ []), room);
+    closed = omega (arith, c.closed, sum-append c.sizes (n ∷ []), ends.within.0);
+    records = c.records;
+    first_shard = c.first_shard;
+    first = c.first;
+    framer = c.framer;
+    ending = c.ending;
+    limit = c.limit;
+  }
+    where
+      n : ℕ
+      n = end - now.closed
+
+      here : IsClosed old.most (is_some old.ending) (drop now.closed old.round.records) (end - now.closed)
+      here =
+          subst (λ rs. IsClosed old.most (is_some old.ending) (drop now.closed rs) (end - now.closed)) c.records
+          (subst (λ e. IsClosed old.most (is_some e) (drop now.closed now.round.records) (end - now.closed)) c.ending
+          (subst (λ m. IsClosed m (is_some now.ending) (drop now.closed now.round.records) (end - now.closed)) c.limit
+          (is_closed now.most (is_some now.ending) now.round.records now.closed end ends)))
+
+      left : drop (sum_of c.sizes) (drop old.closed old.round.records) ≡ drop now.closed old.round.records
+      left = drop-drop (sum_of c.sizes) old.closed old.round.records ∙ ap (λ k. drop k old.round.records) (sym c.closed)
+
+      shard_same : (a b d e f h : ℕ) → a ≡ b → d ≡ e → f ≡ h → shard_of a d f ≡ shard_of b e h
+      shard_same a b d e f h p q r = cc
+
+      same : shard_of (now.first + now.closed) now.closed end
+          ≡ shard_of (old.first + old.closed + sum_of c.sizes) (old.closed + sum_of c.sizes) (old.closed + sum_of c.sizes + (end - now.closed))
+      same =
+          shard_same (now.first + now.closed) (old.first + old.closed + sum_of c.sizes) now.closed (old.closed + sum_of c.sizes) end
+          (old.closed + sum_of c.sizes + (end - now.closed))
+          (omega (arith, c.first, c.closed)) c.closed (omega (arith, c.closed, ends.within.0))
+
+-- no shard can be closed any more
+pub answers_open : (intake : Intake) (at_end wants : Bool) → IsOpenAt intake.round.records intake.closed intake.most at_end → at_end ≡ is_some intake.ending
+    → wants ≡ not at_end → IsAnswered intake wants
+answers_open intake true wants opened is answer = subst (IsAnswered intake) (sym answer) (inr (sym is, by opened))
+  where
+    by : (length intake.round.records ≤ intake.closed) ⊎ ((true ≡ false) × MayGoOn intake.most (drop intake.closed intake.round.records))
+        → length intake.round.records ≤ intake.closed
+    by (inl le) = le
+    by (inr more) = absurd (let no = more.0 in cc)
+answers_open intake false wants opened is answer = subst (IsAnswered intake) (sym answer) (unknown intake.ending is)
+  where
+    unknown : (e : Option Ending) → false ≡ is_some e → e ≡ None
+    unknown None e = refl
+    unknown (Some w) e = absurd cc

@@ -1,0 +1,5 @@
+pub mod ShardLemmas
+pub mod FedLemmas
+pub mod ClosingLemmas
+pub mod RunLemmas
+pub mod ReachLemmas

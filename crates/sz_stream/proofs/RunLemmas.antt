@@ -1,0 +1,390 @@
+-- What is known between two rounds, and how each step carries it on.
+use Rattle.std.proofs.Common.{◌≡◌, ℕ, zero, suc, ◌+◌, ◌-◌, ◌*◌, ◌^◌, ◌<◌, ◌≤◌, List, [], ◌∷◌, ◌++◌, length, take, drop, Bool, true, false}
+use Rattle.std.proofs.Common.{Option, Some, None, refl, sym, ap, ◌∙◌, subst, arith, append-nil, append_assoc, length-append, length-drop}
+use native.Mathlib.Nat.{mul-add}
+use Rattle.std.specs.Prelude.{is_some, ◌==◌, Result, Ok, Err}
+use Rattle.sz_types.specs.declared.frame.Frame.{Frame}
+use Rattle.sz_core.specs.Programs.{tables_of}
+use Rattle.sz_tabs.specs.Data.{EmitDatum}
+use Rattle.sz_world.specs.World.{Fault}
+use Rattle.sz_total.specs.States.{TotalState, declarations, emit_count, shown}
+use Rattle.sz_total.specs.Totals.{IsNew, Joins}
+use Rattle.sz_records.specs.declared.ending.Ending.{Ending}
+use Rattle.sz_records.specs.declared.ending.Ending.TheVariants as endings
+use Rattle.sz_records.specs.Cutting.{IsCut}
+use Rattle.sz_records.specs.Fed.{HasRead}
+use Rattle.sz_records.specs.Shards.{AreShards}
+use Rattle.sz_attempt.specs.declared.job.Job.{Job}
+use Rattle.sz_attempt.specs.declared.job.Shard.{Shard}
+use Rattle.sz_attempt.specs.Shards.{IsJob, IsShardIn, ShardData}
+use Rattle.sz_attempt.specs.Ends.{StandForEmits}
+use Rattle.sz_rounds.specs.declared.round.Round.{Round}
+use Rattle.sz_rounds.specs.Outcomes.{ShardsEnd, emitted, faulted, lost, behind_front, then_outcome, outcome_of, all_records}
+use Rattle.sz_rounds.specs.Rounds.{shards_of, numbered, AreNext, IsRound}
+use Rattle.sz_rounds.specs.Cuts.{ranges_of, cut_into}
+use Rattle.sz_rounds.proofs.OutcomeLemmas.{outcome-append}
+use Rattle.sz_rounds.proofs.CountLemmas.{few_of_shards}
+use Rattle.sz_rounds.proofs.RangeLemmas.{numbered_cut}
+use Rattle.sz_stream.specs.declared.intake.Intake.{Intake}
+use Rattle.sz_stream.specs.declared.stop.Stop.{Stop}
+use Rattle.sz_stream.specs.declared.stop.Stop.TheVariants as stops
+use Rattle.sz_stream.specs.Inputs.{full, GoesOn, EndsInput, RunsInput}
+use Rattle.sz_stream.specs.Intakes.{AreClosed, sum_of, IsFed, IsEmpty, KeepsRound, HasTaken, TakesIn, Closes, moved_on}
+use Rattle.sz_stream.specs.Running.{RunsOn, HasRun, IsRunning, ended_so}
+use Rattle.sz_stream.proofs.ShardLemmas.{are_longer, are_more, sum_within, fewer_shards, split, cut_append, lie, ranges_append, length-ranges, sum-append}
+use Rattle.sz_stream.proofs.FedLemmas.{begins, few_given, whole_is_over}
+
+behind_nothing : (o : ShardsEnd) → o ≡ behind_front [] o
+behind_nothing (emitted es) = refl
+behind_nothing (faulted n f) = refl
+behind_nothing (lost n) = refl
+
+behind_both : (front more : List EmitDatum) (o : ShardsEnd) → behind_front front (behind_front more o) ≡ behind_front (front ++ more) o
+behind_both front more (emitted es) = ap emitted (sym (append_assoc front more es))
+behind_both front more (faulted n f) = refl
+behind_both front more (lost n) = refl
+
+-- the records of so many shards at the front
+length_cut : (most : ℕ) (at_end : Bool) (number first : ℕ) (records : List (List ℕ)) (ns : List ℕ) → AreClosed most at_end records ns
+    → length (all_records (cut_into number first records ns)) ≡ sum_of ns
+length_cut most at_end number first records [] a = refl
+length_cut most at_end number first records (n ∷ ns) a =
+    let rest = length_cut most at_end (suc number) (first + n) (drop n records) ns a.1 in
+    let here = taken n records a.0.within in
+    omega (arith, rest, here, length-append (take n records) (all_records (cut_into (suc number) (first + n) (drop n records) ns)))
+  where
+    taken : (n : ℕ) (rs : List (List ℕ)) → n ≤ length rs → length (take n rs) ≡ n
+    taken zero rs le = refl
+    taken (suc n) [] le = absurd (omega arith)
+    taken (suc n) (r ∷ rs) le = ap suc (taken n rs (omega arith))
+
+-- before anything is read
+module _ (job : Job) (frame : Frame) (most : ℕ) (intake : Intake) (total : TotalState) where
+  pub starts : 1 ≤ most → IsEmpty frame most intake → IsNew declarations emit_count shown (tables_of job.compiled.items) total
+      → IsRunning job frame most intake total [] false
+  starts low empty new = record {
+    given = [];
+    fed = empty.fed;
+    low = low;
+    limit = empty.limit;
+    sizes = [];
+    are = tt;
+    shards = ap (λ (r : Round). r.shards) empty.round;
+    few = (let none = ap (λ (r : Round). length r.shards) empty.round in omega (arith, none));
+    closed = empty.closed;
+    count = (let none = ap (λ (r : Round). length r.records) empty.round in omega (arith, none, empty.first));
+    numbers = (let none = ap (λ (r : Round). r.first_shard) empty.round in omega (arith, none, empty.first));
+    run = record {
+      emits = [];
+      stand = record { tables = new.same_tables; stands = new.empty };
+      count = 0;
+      begun = empty.first;
+      few = omega arith;
+      runs = λ more ends all are. record {
+        sizes = all;
+        are = subst (λ (r : Round). AreShards most (r.records ++ more) all) (sym empty.round) are;
+        goes_on =
+            behind_nothing (outcome_of job (cut_into 0 1 more all))
+            ∙ ap (λ (r : Round). behind_front [] (outcome_of job (cut_into r.first_shard 1 (r.records ++ more) all))) (sym empty.round)
+            ∙ ap (λ n. behind_front [] (outcome_of job (cut_into intake.round.first_shard n (intake.round.records ++ more) all))) (sym empty.first);
+      };
+    };
+  }
+
+module _ (job : Job) (frame : Frame) (most : ℕ) (old : Intake) (total : TotalState) (read : List ℕ) (over : Bool)
+    (h : IsRunning job frame most old total read over) where
+  -- there are no more records than there may be
+  pub few_left : old.first + length old.round.records ≤ 2 ^ 31 + 1
+  few_left = let few = few_given frame old.framer read over h.given old.ending h.fed in omega (arith, few, h.count)
+
+  pub closed_within : old.closed ≤ length old.round.records
+  closed_within = let within = sum_within most (is_some old.ending) old.round.records h.sizes h.are in omega (arith, within, h.closed)
+
+  pub few_numbers : old.round.first_shard + length old.round.shards ≤ 2 ^ 31 + 1
+  few_numbers =
+      let fewer = fewer_shards most (is_some old.ending) old.round.records h.sizes h.are in
+      omega (arith, few_left, closed_within, fewer, h.closed, h.numbers, ap length h.shards, length-ranges 0 old.first h.sizes)
+
+  -- where the round has a shard, it has a record
+  pub some_closed : 0 < length old.round.shards → 0 < old.closed
+  some_closed some =
+      let fewer = fewer_shards most (is_some old.ending) old.round.records h.sizes h.are in
+      omega (arith, some, fewer, h.closed, ap length h.shards, length-ranges 0 old.first h.sizes)
+
+  pub none_closed : length old.round.shards ≡ 0 → old.closed ≡ 0
+  none_closed none = h.closed ∙ by h.sizes (sym (length-ranges 0 old.first h.sizes) ∙ sym (ap length h.shards) ∙ none)
+    where
+      by : (ns : List ℕ) → length ns ≡ 0 → sum_of ns ≡ 0
+      by [] e = refl
+      by (n ∷ ns) e = absurd (omega (arith, e))
+
+  -- a piece is taken in
+  module _ (new : Intake) (piece : List ℕ) (more_comes : old.ending ≡ None) (taken : TakesIn old new piece) (kept : KeepsRound old new) where
+    fed_before : IsFed frame old.framer None read over h.given
+    fed_before = subst (λ e. IsFed frame old.framer e read over h.given) more_comes h.fed
+
+    has : HasTaken frame new.framer new.ending old.round.records new.round.records (read ++ piece) (length piece == 0) h.given
+    has = taken frame read h.given fed_before.0 fed_before.1
+
+    not_ended : is_some old.ending ≡ false
+    not_ended = ap is_some more_comes
+
+    -- what was run stays so
+    has_run : HasRun job most (is_some new.ending) (h.given ++ has.added) new.round.records new.round.first_shard new.first total
+    has_run = record {
+      emits = h.run.emits;
+      stand = h.run.stand;
+      count = h.run.count;
+      begun = kept.first ∙ h.run.begun;
+      few = h.run.few;
+      runs = λ more ends all are. (
+          let before = h.run.runs (has.added ++ more) (λ e. absurd (let no = sym not_ended ∙ e in cc)) all
+          (subst (λ rs. AreShards most rs all) (append_assoc h.given has.added more) are) in
+          let records : old.round.records ++ (has.added ++ more) ≡ new.round.records ++ more =
+          sym (append_assoc old.round.records has.added more) ∙ ap (λ rs. rs ++ more) (sym has.gained) in
+          record {
+            sizes = before.sizes;
+            are = subst (λ rs. AreShards most rs before.sizes) records before.are;
+            goes_on =
+                ap (λ rs. outcome_of job (cut_into 0 1 rs all)) (append_assoc h.given has.added more)
+                ∙ before.goes_on
+                ∙ ap (λ rs. behind_front h.run.emits (outcome_of job (cut_into old.round.first_shard old.first rs before.sizes))) records
+                ∙ ap (λ n. behind_front h.run.emits (outcome_of job (cut_into n old.first (new.round.records ++ more) before.sizes))) (sym kept.first_shard)
+                ∙ ap (λ n. behind_front h.run.emits (outcome_of job (cut_into new.round.first_shard n (new.round.records ++ more) before.sizes)))
+                (sym kept.first);
+          });
+    }
+
+    pub takes : IsRunning job frame most new total (read ++ piece) (length piece == 0)
+    takes = record {
+      given = h.given ++ has.added;
+      fed = has.fed;
+      low = h.low;
+      limit = kept.limit ∙ h.limit;
+      sizes = h.sizes;
+      are = subst (λ rs. AreClosed most (is_some new.ending) rs h.sizes) (sym has.gained)
+          (are_longer most (is_some new.ending) old.round.records has.added h.sizes
+          (subst (λ b. AreClosed most b old.round.records h.sizes) not_ended h.are));
+      shards = kept.shards ∙ h.shards ∙ ap (λ n. ranges_of 0 n h.sizes) (sym kept.first);
+      few = omega (arith, h.few, ap length kept.shards);
+      closed = kept.closed ∙ h.closed;
+      count = omega (arith, h.count, kept.first, ap length has.gained, length-append old.round.records has.added, length-append h.given has.added);
+      numbers = omega (arith, h.numbers, kept.first, kept.first_shard);
+      run = has_run;
+    }
+
+  -- shards are closed
+  pub closes : (new : Intake) → Closes old new → IsRunning job frame most new total read over
+  closes new c = record {
+    given = h.given;
+    fed = subst (λ f. IsFed frame f new.ending read over h.given) (sym c.framer)
+        (subst (λ e. IsFed frame old.framer e read over h.given) (sym c.ending) h.fed);
+    low = h.low;
+    limit = c.limit ∙ h.limit;
+    sizes = h.sizes ++ c.sizes;
+    are = subst (λ rs. AreClosed most (is_some new.ending) rs (h.sizes ++ c.sizes)) (sym c.records)
+        (subst (λ e. AreClosed most (is_some e) old.round.records (h.sizes ++ c.sizes)) (sym c.ending)
+        (are_more most (is_some old.ending) old.round.records h.sizes c.sizes h.are
+        (subst (λ n. AreClosed most (is_some old.ending) (drop n old.round.records) c.sizes) h.closed
+        (subst (λ m. AreClosed m (is_some old.ending) (drop old.closed old.round.records) c.sizes) h.limit c.are))));
+    shards =
+        c.shards
+        ∙ ap (λ l. l ++ ranges_of old.closed (old.first + old.closed) c.sizes) h.shards
+        ∙ ap (λ n. ranges_of 0 old.first h.sizes ++ ranges_of n (old.first + n) c.sizes) h.closed
+        ∙ ap (λ n. ranges_of 0 old.first h.sizes ++ ranges_of n (old.first + sum_of h.sizes) c.sizes) same
+        ∙ sym (ranges_append 0 old.first h.sizes c.sizes)
+        ∙ ap (λ n. ranges_of 0 n (h.sizes ++ c.sizes)) (sym c.first);
+    few = c.few h.few;
+    closed = c.closed ∙ ap (λ n. n + sum_of c.sizes) h.closed ∙ sym (sum-append h.sizes c.sizes);
+    count = omega (arith, h.count, c.first, ap length c.records);
+    numbers = omega (arith, h.numbers, c.first, c.first_shard);
+    run = record {
+      emits = h.run.emits;
+      stand = h.run.stand;
+      count = h.run.count;
+      begun = c.first ∙ h.run.begun;
+      few = h.run.few;
+      runs = λ more ends all are. (
+          let before = h.run.runs more (λ e. ends (ap is_some c.ending ∙ e)) all are in
+          record {
+            sizes = before.sizes;
+            are = subst (λ rs. AreShards most (rs ++ more) before.sizes) (sym c.records) before.are;
+            goes_on =
+                before.goes_on
+                ∙ ap (λ rs. behind_front h.run.emits (outcome_of job (cut_into old.round.first_shard old.first (rs ++ more) before.sizes))) (sym c.records)
+                ∙ ap (λ n. behind_front h.run.emits (outcome_of job (cut_into n old.first (new.round.records ++ more) before.sizes))) (sym c.first_shard)
+                ∙ ap (λ n. behind_front h.run.emits (outcome_of job (cut_into new.round.first_shard n (new.round.records ++ more) before.sizes)))
+                (sym c.first);
+          });
+    };
+  }
+    where
+      same : sum_of h.sizes ≡ 0 + sum_of h.sizes
+      same = omega arith
+
+  -- the shards at hand are a round
+  pub is_round : IsRound old.round
+  is_round =
+      let all = lie most (is_some old.ending) old.round.records 0 old.first h.sizes h.are (omega arith) (omega (arith, h.numbers)) few_left in
+      record {
+        few = h.few;
+        numbers = few_numbers;
+        within = subst (All_in old.round.records) (sym h.shards) all.within;
+        next = (0, old.first, subst (AreNext 0 old.first) (sym h.shards) all.next);
+      }
+    where
+      All_in : List (List ℕ) → List Shard → Type 0
+      All_in records shards = Rattle.std.proofs.Common.All (IsShardIn records) shards
+
+  -- as data they are the front of all that are still to be run
+  of_round : shards_of old.round ≡ cut_into old.round.first_shard old.first old.round.records h.sizes
+  of_round =
+      ap (numbered old.round.first_shard old.round.records) h.shards
+      ∙ numbered_cut old.round.first_shard old.round.records 0 old.first h.sizes
+
+  -- what comes of all shards, by what comes of those of the round
+  record Follows (more : List (List ℕ)) (all : List ℕ) : Type 0 where
+    sizes : List ℕ
+    are : AreShards most (drop old.closed old.round.records ++ more) sizes
+    goes_on : outcome_of job (cut_into 0 1 (h.given ++ more) all) ≡ behind_front h.run.emits (then_outcome (outcome_of job (shards_of old.round))
+        (outcome_of job (cut_into (old.round.first_shard + length old.round.shards) (old.first + old.closed) (drop old.closed old.round.records ++ more) sizes)))
+
+  follows : (more : List (List ℕ)) → (is_some old.ending ≡ true → more ≡ []) → (all : List ℕ) → AreShards most (h.given ++ more) all → Follows more all
+  follows more ends all are =
+      let before = h.run.runs more ends all are in
+      let s = split most (is_some old.ending) old.round.records more h.sizes before.sizes ends h.are before.are in
+      let n = old.round.first_shard in
+      let rest = λ (k : ℕ) (f : ℕ) (c : ℕ). outcome_of job (cut_into k f (drop c old.round.records ++ more) s.behind) in
+      record {
+        sizes = s.behind;
+        are = subst (λ c. AreShards most (drop c old.round.records ++ more) s.behind) (sym h.closed) s.are;
+        goes_on =
+            before.goes_on
+            ∙ ap (λ sizes. behind_front h.run.emits (outcome_of job (cut_into n old.first (old.round.records ++ more) sizes))) s.same
+            ∙ ap (λ shards. behind_front h.run.emits (outcome_of job shards))
+            (cut_append most (is_some old.ending) n old.first old.round.records more h.sizes s.behind h.are)
+            ∙ ap (behind_front h.run.emits) (outcome-append job (cut_into n old.first old.round.records h.sizes)
+            (cut_into (n + length h.sizes) (old.first + sum_of h.sizes) (drop (sum_of h.sizes) old.round.records ++ more) s.behind))
+            ∙ ap (λ shards. behind_front h.run.emits (then_outcome (outcome_of job shards)
+            (rest (n + length h.sizes) (old.first + sum_of h.sizes) (sum_of h.sizes)))) (sym of_round)
+            ∙ ap (λ c. behind_front h.run.emits (then_outcome (outcome_of job (shards_of old.round)) (rest (n + length h.sizes) (old.first + c) c))) (sym h.closed)
+            ∙ ap (λ k. behind_front h.run.emits (then_outcome (outcome_of job (shards_of old.round)) (rest (n + k) (old.first + old.closed) old.closed)))
+            (sym (ap length h.shards ∙ length-ranges 0 old.first h.sizes));
+      }
+
+  -- a shard of the round decides
+  decides : (o : ShardsEnd) → ((front : List EmitDatum) (rest : ShardsEnd) → behind_front front (then_outcome o rest) ≡ o)
+      → outcome_of job (shards_of old.round) ≡ o → (input : List ℕ) → GoesOn read over input
+      → (records : List (List ℕ)) (ending : Ending) (sizes : List ℕ) → IsCut frame full 0 0 input records ending → AreShards most records sizes
+      → outcome_of job (cut_into 0 1 records sizes) ≡ o
+  decides o stays is input on records ending sizes cut are =
+      let b = begins frame old.framer read over h.given old.ending h.fed input on records ending cut in
+      let f = follows b.more b.ends sizes (subst (λ rs. AreShards most rs sizes) b.same are) in
+      ap (λ rs. outcome_of job (cut_into 0 1 rs sizes)) b.same ∙ f.goes_on
+      ∙ ap (λ p. behind_front h.run.emits (then_outcome p (outcome_of job (cut_into (old.round.first_shard + length old.round.shards)
+      (old.first + old.closed) (drop old.closed old.round.records ++ b.more) f.sizes)))) is
+      ∙ stays h.run.emits _
+
+  pub faults : (n : ℕ) (f : Fault) → outcome_of job (shards_of old.round) ≡ faulted n f → (input : List ℕ) → GoesOn read over input
+      → (records : List (List ℕ)) (ending : Ending) (sizes : List ℕ) → IsCut frame full 0 0 input records ending → AreShards most records sizes
+      → outcome_of job (cut_into 0 1 records sizes) ≡ faulted n f
+  faults n f is = decides (faulted n f) (λ front rest. refl) is
+
+  pub loses : (n : ℕ) → outcome_of job (shards_of old.round) ≡ lost n → (input : List ℕ) → GoesOn read over input
+      → (records : List (List ℕ)) (ending : Ending) (sizes : List ℕ) → IsCut frame full 0 0 input records ending → AreShards most records sizes
+      → outcome_of job (cut_into 0 1 records sizes) ≡ lost n
+  loses n is = decides (lost n) (λ front rest. refl) is
+
+  -- none decides
+  module _ (part : TotalState) (es : List EmitDatum) (is : outcome_of job (shards_of old.round) ≡ emitted es) (standing : StandForEmits job.compiled part es) where
+    pub same_tables : part.tables ≡ total.tables
+    same_tables = standing.tables ∙ sym h.run.stand.tables
+
+    -- all emits so far are no more than the ticks of the records
+    few_emits : length (h.run.emits ++ es) ≤ job.budget * (h.run.count + old.closed)
+    few_emits =
+        let few = few_of_shards job (shards_of old.round) es is in
+        let all = ap (λ l. length (all_records l)) of_round
+        ∙ length_cut most (is_some old.ending) old.round.first_shard old.first old.round.records h.sizes h.are ∙ sym h.closed in
+        let here : length es ≤ job.budget * old.closed = subst (λ n. length es ≤ job.budget * n) all few in
+        omega (arith, here, h.run.few, mul-add job.budget h.run.count old.closed, length-append h.run.emits es)
+
+    -- there is room for those of the round
+    pub has_room : IsJob job → total.count + part.count ≤ 2 ^ 63
+    has_room job_is =
+        let less : h.run.count + old.closed ≤ 2 ^ 31 = omega (arith, few_left, closed_within, h.run.begun) in
+        let most_emits = bound job.budget (h.run.count + old.closed) (length (h.run.emits ++ es)) few_emits job_is.budget.most less in
+        omega (arith, most_emits, length-append h.run.emits es, h.run.stand.stands.counted, standing.stands.counted)
+      where
+        bound : (b m n : ℕ) → n ≤ b * m → b ≤ 2 ^ 32 → m ≤ 2 ^ 31 → n ≤ 2 ^ 63
+        bound b m n le few less = grind arith
+
+    -- the round was run, and the records behind it are at hand
+    pub moves_on : (merged : TotalState) → Joins declarations emit_count shown total part merged
+        → IsRunning job frame most (moved_on old) merged read over
+    moves_on merged joins = record {
+      given = h.given;
+      fed = h.fed;
+      low = h.low;
+      limit = h.limit;
+      sizes = [];
+      are = tt;
+      shards = refl;
+      few = omega arith;
+      closed = refl;
+      count = omega (arith, h.count, closed_within, length-drop old.closed old.round.records);
+      numbers =
+          (let fewer = fewer_shards most (is_some old.ending) old.round.records h.sizes h.are in
+          omega (arith, h.numbers, fewer, h.closed, ap length h.shards, length-ranges 0 old.first h.sizes));
+      run = record {
+        emits = h.run.emits ++ es;
+        stand = record {
+          tables = joins.same_tables ∙ h.run.stand.tables;
+          stands = joins.joined h.run.emits es h.run.stand.stands standing.stands;
+        };
+        count = h.run.count + old.closed;
+        begun = omega (arith, h.run.begun);
+        few = few_emits;
+        runs = λ more ends all are. (
+            let f = follows more ends all are in
+            record {
+              sizes = f.sizes;
+              are = f.are;
+              goes_on =
+                  f.goes_on
+                  ∙ ap (λ p. behind_front h.run.emits (then_outcome p (outcome_of job (cut_into (old.round.first_shard + length old.round.shards)
+                  (old.first + old.closed) (drop old.closed old.round.records ++ more) f.sizes)))) is
+                  ∙ behind_both h.run.emits es (outcome_of job (cut_into (old.round.first_shard + length old.round.shards)
+                  (old.first + old.closed) (drop old.closed old.round.records ++ more) f.sizes));
+            });
+      };
+    }
+
+  -- no record is left
+  pub ends_run : (e : Ending) → old.ending ≡ Some e → length old.round.records ≡ 0 → (input : List ℕ) → GoesOn read over input
+      → RunsInput job most frame input (ended_so total e)
+  ends_run e known none input on records ending sizes cut are =
+      let b = begins frame old.framer read over h.given old.ending h.fed input on records ending cut in
+      let nothing_more : b.more ≡ [] = b.ends (ap is_some known) in
+      let r = h.run.runs b.more b.ends sizes (subst (λ rs. AreShards most rs sizes) b.same are) in
+      let no_rest : old.round.records ++ b.more ≡ [] = ap (λ rs. old.round.records ++ rs) nothing_more ∙ append-nil old.round.records ∙ no_records old.round.records none in
+      let no_sizes : r.sizes ≡ [] = without r.sizes (subst (λ rs. AreShards most rs r.sizes) no_rest r.are) in
+      let outcome : outcome_of job (cut_into 0 1 records sizes) ≡ emitted h.run.emits =
+      ap (λ rs. outcome_of job (cut_into 0 1 rs sizes)) b.same ∙ r.goes_on
+      ∙ ap (λ l. behind_front h.run.emits (outcome_of job (cut_into old.round.first_shard old.first (old.round.records ++ b.more) l))) no_sizes
+      ∙ ap emitted (append-nil h.run.emits) in
+      by e (b.ending_is e known) outcome
+    where
+      no_records : (rs : List (List ℕ)) → length rs ≡ 0 → rs ≡ []
+      no_records [] z = refl
+      no_records (r ∷ rs) z = absurd (omega (arith, z))
+
+      without : (ns : List ℕ) → AreShards most [] ns → ns ≡ []
+      without [] a = refl
+      without (n ∷ ns) a = absurd (omega (arith, a.0.some, a.0.within))
+
+      by : (e : Ending) → ending ≡ e → outcome_of job (cut_into 0 1 records sizes) ≡ emitted h.run.emits
+          → EndsInput job.compiled ending (outcome_of job (cut_into 0 1 records sizes)) (ended_so total e)
+      by endings.Whole same outcome = (same, (h.run.emits, outcome, h.run.stand))
+      by (endings.Damaged byte) same outcome = (same, (h.run.emits, outcome))
+      by (endings.Limit byte) same outcome = (same, (h.run.emits, outcome))

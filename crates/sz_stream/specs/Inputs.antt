@@ -1,0 +1,65 @@
+-- What running a job over an input gives.
+use Rattle.std.specs.Prelude.{◌≡◌, ℕ, ◌^◌, ⊤, Bool, true, List, [], ◌++◌, Option, Result, Ok, Err}
+use Rattle.std.specs.Io.KnownBytes.{Consumes, IsAtEnd}
+use Rattle.sz_types.specs.declared.frame.Frame.{Frame}
+use Rattle.sz_core.specs.Programs.{Core}
+use Rattle.sz_tabs.specs.Data.{EmitDatum}
+use Rattle.sz_total.specs.States.{TotalState}
+use Rattle.sz_run.specs.Ends.{seen_fault}
+use Rattle.sz_records.specs.declared.ending.Ending.{Ending}
+use Rattle.sz_records.specs.declared.ending.Ending.TheVariants as endings
+use Rattle.sz_records.specs.declared.limits.FrameLimits.{FrameLimits}
+use Rattle.sz_records.specs.Cutting.{IsCut}
+use Rattle.sz_records.specs.Shards.{AreShards}
+use Rattle.sz_attempt.specs.declared.job.Job.{Job}
+use Rattle.sz_attempt.specs.Ends.{StandForEmits}
+use Rattle.sz_rounds.specs.Outcomes.{ShardsEnd, emitted, faulted, lost, outcome_of}
+use Rattle.sz_rounds.specs.Cuts.{cut_into}
+use Rattle.sz_stream.specs.declared.stop.Stop.{Stop}
+use Rattle.sz_stream.specs.declared.stop.Stop.TheVariants.{Fault, Lost, Damaged, Limit, ReadFailed, NoMemory}
+
+-- what an input may hold: the bytes of a record, the number of records, and its bytes in all
+abbrev pub full : FrameLimits
+full = record { record_bytes = 4194304; records = 2147483648; input_bytes = 2 ^ 40 }
+
+-- the input begins with what was read, and has no more where its end was reached
+pub record GoesOn (read : List ℕ) (over : Bool) (input : List ℕ) : Type 0 where
+  pub more : List ℕ
+  pub begins : input ≡ read ++ more
+  pub ends : over ≡ true → more ≡ []
+
+-- all shards gave their emits
+abbrev pub GivesAll : ShardsEnd → Type 0
+GivesAll outcome = (emits : List EmitDatum) × (outcome ≡ emitted emits)
+
+-- The answer is that of records with this ending, of whose shards comes this: the first shard that faults or is lost decides, and then the
+-- ending. The tables stand for just the emits
+abbrev pub EndsInput : Core → Ending → ShardsEnd → Result TotalState Stop → Type 0
+EndsInput program ending outcome (Ok total) =
+    (ending ≡ endings.Whole) × ((emits : List EmitDatum) × (outcome ≡ emitted emits) × StandForEmits program total emits)
+EndsInput program ending outcome (Err (Fault number fault)) = outcome ≡ faulted number (seen_fault fault)
+EndsInput program ending outcome (Err (Lost shard)) = outcome ≡ lost shard
+EndsInput program ending outcome (Err (Damaged byte)) = (ending ≡ endings.Damaged byte) × GivesAll outcome
+EndsInput program ending outcome (Err (Limit byte)) = (ending ≡ endings.Limit byte) × GivesAll outcome
+EndsInput program ending outcome (Err ReadFailed) = ⊤
+EndsInput program ending outcome (Err NoMemory) = ⊤
+
+-- the answer is that of the input's records, and of the shards that they are cut into, each of so many records at most
+abbrev pub RunsInput : Job → ℕ → Frame → List ℕ → Result TotalState Stop → Type 0
+RunsInput job most frame input answer =
+    (records : List (List ℕ)) (ending : Ending) (sizes : List ℕ) → IsCut frame full 0 0 input records ending → AreShards most records sizes
+    → EndsInput job.compiled ending (outcome_of job (cut_into 0 1 records sizes)) answer
+
+-- bytes were read, perhaps to their end, and the answer is that of each input which they may begin
+pub record RunsRead (job : Job) (most : ℕ) (frame : Frame) (before after : Option (List ℕ)) (answer : Result TotalState Stop) : Type 0 where
+  pub read : List ℕ
+  pub over : Bool
+  pub consumed : Consumes before after read
+  pub at_end : over ≡ true → IsAtEnd after
+  pub runs : (input : List ℕ) → GoesOn read over input → RunsInput job most frame input answer
+
+-- the same, unless a piece couldn't be read, or memory ran out
+abbrev pub RunsFile : Job → ℕ → Frame → Option (List ℕ) → Option (List ℕ) → Result TotalState Stop → Type 0
+RunsFile job most frame before after (Err ReadFailed) = ⊤
+RunsFile job most frame before after (Err NoMemory) = ⊤
+RunsFile job most frame before after answer = RunsRead job most frame before after answer

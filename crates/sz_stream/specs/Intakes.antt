@@ -1,0 +1,104 @@
+-- What is known of an input that comes in pieces, and what taking a piece in, closing shards and moving on change.
+use Rattle.std.specs.Prelude.{◌≡◌, ◌⊎◌, ℕ, ◌+◌, ◌<◌, ◌≤◌, ◌==◌, Bool, true, false, List, [], ◌∷◌, ◌++◌, length, drop, Option, Some, None, is_some, if◌then◌else◌}
+use Rattle.sz_types.specs.declared.frame.Frame.{Frame}
+use Rattle.sz_records.specs.declared.ending.Ending.{Ending}
+use Rattle.sz_records.specs.declared.ending.Ending.TheVariants.{Whole}
+use Rattle.sz_records.specs.Cutting.{IsCut}
+use Rattle.sz_records.specs.Fed.{FramerData, HasRead}
+use Rattle.sz_records.specs.Shards.{IsShard}
+use Rattle.sz_rounds.specs.Cuts.{ranges_of}
+use Rattle.sz_stream.specs.declared.intake.Intake.{Intake}
+use Rattle.sz_stream.specs.Inputs.{full, GoesOn}
+
+-- the first n records are a shard, whatever records are still to come; at the end there are no more
+pub record IsClosed (most : ℕ) (at_end : Bool) (records : List (List ℕ)) (n : ℕ) : Type 0 where
+  pub some : 0 < n
+  pub within : n ≤ length records
+  pub shard : (more : List (List ℕ)) → (at_end ≡ true → more ≡ []) → IsShard most (records ++ more) n
+
+-- the shards at the front have these sizes
+abbrev pub AreClosed : ℕ → Bool → List (List ℕ) → List ℕ → Type 0
+AreClosed most at_end records [] = Unit {0}
+AreClosed most at_end records (n ∷ ns) = IsClosed most at_end records n × AreClosed most at_end (drop n records) ns
+
+-- how many records are in shards of these sizes
+abbrev pub sum_of : List ℕ → ℕ
+sum_of [] = 0
+sum_of (n ∷ ns) = n + sum_of ns
+
+-- These bytes were read, perhaps to their end, and these records were given: the ending isn't known yet; or each input that they may begin
+-- has these records and this ending
+abbrev pub IsFed : Frame → FramerData → Option Ending → List ℕ → Bool → List (List ℕ) → Type 0
+IsFed frame framer None read over given = HasRead frame full framer read given × (framer.ended ≡ None) × (over ≡ false)
+IsFed frame framer (Some e) read over given =
+    ((input : List ℕ) → GoesOn read over input → IsCut frame full 0 0 input given e) × (e ≡ Whole → over ≡ true)
+
+-- nothing was read, and no record is at hand
+pub record IsEmpty (frame : Frame) (most : ℕ) (intake : Intake) : Type 0 where
+  pub fed : IsFed frame intake.framer intake.ending [] false []
+  pub more : intake.ending ≡ None
+  pub round : intake.round ≡ record { records = []; shards = []; first_shard = 0 }
+  pub first : intake.first ≡ 1
+  pub closed : intake.closed ≡ 0
+  pub limit : intake.most ≡ most
+
+-- the round's shards are as before, and so is where its records begin
+pub record KeepsRound (old new : Intake) : Type 0 where
+  pub shards : new.round.shards ≡ old.round.shards
+  pub first_shard : new.round.first_shard ≡ old.round.first_shard
+  pub first : new.first ≡ old.first
+  pub closed : new.closed ≡ old.closed
+  pub limit : new.most ≡ old.most
+
+-- a piece was read, and records came behind those at hand
+pub record HasTaken (frame : Frame) (framer : FramerData) (ending : Option Ending) (before after : List (List ℕ)) (read : List ℕ) (over : Bool)
+    (given : List (List ℕ)) : Type 0 where
+  pub added : List (List ℕ)
+  pub gained : after ≡ before ++ added
+  pub fed : IsFed frame framer ending read over (given ++ added)
+
+-- the piece is taken in, whatever was read before it; an empty one is the end
+abbrev pub TakesIn : Intake → Intake → List ℕ → Type 0
+TakesIn old new piece = (frame : Frame) (read : List ℕ) (given : List (List ℕ)) → HasRead frame full old.framer read given → old.framer.ended ≡ None
+    → HasTaken frame new.framer new.ending old.round.records new.round.records (read ++ piece) (length piece == 0) given
+
+-- Where the answer is that the round may grow, the ending isn't known. Where it isn't, the round has a shard, or the ending is known and
+-- all records are in closed shards
+abbrev pub IsAnswered : Intake → Bool → Type 0
+IsAnswered intake true = intake.ending ≡ None
+IsAnswered intake false =
+    (0 < length intake.round.shards) ⊎ ((is_some intake.ending ≡ true) × (length intake.round.records ≤ intake.closed))
+
+-- shards behind those of the round were closed, and all else is as before
+pub record Closes (old new : Intake) : Type 0 where
+  pub sizes : List ℕ
+  pub are : AreClosed old.most (is_some old.ending) (drop old.closed old.round.records) sizes
+  pub shards : new.round.shards ≡ old.round.shards ++ ranges_of old.closed (old.first + old.closed) sizes
+  pub few : length old.round.shards ≤ 4096 → length new.round.shards ≤ 4096
+  pub closed : new.closed ≡ old.closed + sum_of sizes
+  pub records : new.round.records ≡ old.round.records
+  pub first_shard : new.round.first_shard ≡ old.round.first_shard
+  pub first : new.first ≡ old.first
+  pub framer : new.framer ≡ old.framer
+  pub ending : new.ending ≡ old.ending
+  pub limit : new.most ≡ old.most
+
+-- behind the shards that are closed
+abbrev pub moved_on : Intake → Intake
+moved_on intake = record {
+  framer = intake.framer;
+  ending = intake.ending;
+  round = record {
+    records = drop intake.closed intake.round.records;
+    shards = [];
+    first_shard = intake.round.first_shard + length intake.round.shards;
+  };
+  first = intake.first + intake.closed;
+  closed = 0;
+  bytes = 0;
+  most = intake.most;
+}
+
+-- the ending, where no shard is left to be run
+abbrev pub end_of : Intake → Option Ending
+end_of intake = if length intake.round.shards == 0 then intake.ending else None

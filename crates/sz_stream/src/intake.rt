@@ -1,0 +1,149 @@
+//! The records at hand of an input, and the round that is made of them.
+ghost use Rattle.std.specs.Prelude.{◌≡◌, ◌+◌, ◌<◌, ◌≤◌, ◌^◌, None, length, IfOk, OnOk};
+ghost use Rattle.sz_stream.specs.Intakes.{IsEmpty, TakesIn, KeepsRound, Closes, IsAnswered, moved_on, end_of};
+
+use std::alloc::Global;
+use sz_attempt::Shard;
+use sz_list::Items;
+use sz_records::{Ending, FrameLimits, Framer, Records, shard_end};
+use sz_rounds::Round;
+use sz_types::Frame;
+use sz_value::NoMemory;
+
+/// The most shards of a round.
+const MOST_SHARDS: usize = 4096;
+
+/// A round of more than one shard has no more records than these.
+const MOST_RECORDS: usize = 1 << 20;
+
+/// The records of a round of more than one shard have no more bytes than these.
+const MOST_BYTES: usize = 1 << 26;
+
+/// The records at hand of an input that comes in pieces, and the round that is made of them.
+#[derive(Drop)]
+pub(crate) struct Intake {
+    /// Cuts the pieces into records.
+    pub(crate) framer: Framer,
+    /// How the records end, where that is known. Then no more of them come.
+    pub(crate) ending: Option<Ending>,
+    /// The next round. Its records are all that are at hand, and its shards are those that are closed: no more records belong to them.
+    pub(crate) round: Round,
+    /// The number of the first record at hand in the input, counted from 1.
+    pub(crate) first: u64,
+    /// How many records at hand belong to closed shards.
+    pub(crate) closed: usize,
+    /// How many bytes these have.
+    pub(crate) bytes: usize,
+    /// The most records of a shard.
+    pub(crate) most: u32,
+}
+
+impl Intake {
+    /// An intake at the beginning of an input. It takes no memory.
+    pub(crate) fn new(alloc: Global, frame: Frame, most: u32) -> Intake
+        ensures empty { IsEmpty frame most result }
+    {
+        Intake {
+            framer: Framer::new(alloc, frame, FrameLimits::FULL),
+            ending: None,
+            round: Round {
+                records: Records::new(alloc),
+                shards: Items::new(alloc),
+                first_shard: 0,
+            },
+            first: 1,
+            closed: 0,
+            bytes: 0,
+            most,
+        }
+    }
+
+    /// Takes in the next piece of the input. An empty one is its end.
+    pub(crate) fn take(&mut self, piece: &[u8]) -> Result<(), NoMemory>
+        requires more { self.old.ending ≡ None }
+        ensures taken { OnOk result (TakesIn self.old self.new piece.now) }
+        ensures kept { KeepsRound self.old self.new }
+    {
+        if piece.is_empty() {
+            let ending = self.framer.finish(&mut self.round.records)?;
+            self.ending = Some(ending);
+            return Ok(());
+        }
+        self.ending = self.framer.feed(piece, &mut self.round.records)?;
+        Ok(())
+    }
+
+    /// Closes the next shards for as long as the round has room for them. The answer is whether the round may still grow: it isn't full, and
+    /// the ending isn't known.
+    pub(crate) fn wants_piece(&mut self) -> Result<bool, NoMemory>
+        requires most { 1 ≤ self.old.most }
+        requires within { self.old.closed ≤ length self.old.round.records }
+        requires few { self.old.first + length self.old.round.records ≤ 2 ^ 31 + 1 }
+        ensures closed { OnOk result (Closes self.old self.new) }
+        ensures answer { IfOk result (λ wants. IsAnswered self.new wants) }
+    {
+        while self.round.shards.len() < MOST_SHARDS {
+            let start = self.closed;
+            let at_end = self.ending.is_some();
+            let Some(end) = shard_end(&self.round.records, start, self.most, at_end) else {
+                return Ok(!at_end);
+            };
+            let bytes = self
+                .bytes
+                .saturating_add(bytes_of(&self.round.records, start, end));
+            if !self.round.shards.is_empty() && is_large(end, bytes) {
+                return Ok(false);
+            }
+            self.round.shards.push(Shard {
+                first: self.first + start as u64,
+                start,
+                end,
+            })?;
+            self.closed = end;
+            self.bytes = bytes;
+        }
+        Ok(false)
+    }
+
+    /// The ending, where it is known and no shard is left to be run.
+    pub(crate) fn end(&self) -> Option<Ending>
+        ensures value { result ≡ end_of self.now }
+    {
+        if self.round.shards.is_empty() {
+            self.ending
+        } else {
+            None
+        }
+    }
+
+    /// Drops the shards of the round, which were run, and their records.
+    pub(crate) fn move_on(&mut self)
+        requires within { self.old.closed ≤ length self.old.round.records }
+        requires few { self.old.first + length self.old.round.records ≤ 2 ^ 31 + 1 }
+        requires numbers { self.old.round.first_shard + length self.old.round.shards ≤ 2 ^ 31 + 1 }
+        ensures value { self.new ≡ moved_on self.old }
+    {
+        self.round.records.clear(self.closed);
+        self.round.first_shard += self.round.shards.len() as u64;
+        self.round.shards.truncate(0);
+        self.first += self.closed as u64;
+        self.closed = 0;
+        self.bytes = 0;
+    }
+}
+
+/// Whether a round has no room for so many records with so many bytes.
+fn is_large(records: usize, bytes: usize) -> bool {
+    records > MOST_RECORDS || bytes > MOST_BYTES
+}
+
+/// How many bytes the records from one place to another have.
+fn bytes_of(records: &Records, start: usize, end: usize) -> usize
+    requires within { end ≤ length records.now }
+{
+    let mut bytes: usize = 0;
+    for place in start..end {
+        bytes = bytes.saturating_add(records.get(place).len());
+    }
+    bytes
+}

@@ -1,0 +1,50 @@
+//! Why an input has no tables.
+ghost use Rattle.std.specs.Prelude.{◌≡◌};
+
+use std::alloc::AllocError;
+use sz_io::OutsideError;
+use sz_run::Fault;
+
+/// Why the run of an input ends without the tables of all its records.
+#[derive(Drop)]
+pub enum Stop {
+    /// The first shard that faults or is lost faults.
+    Fault {
+        /// The number of its first record that faults, counted from 1.
+        record_no: u64,
+        fault: Fault,
+    },
+    /// The first shard that faults or is lost is lost: its number, counted from 0.
+    Lost(u64),
+    /// The input is damaged where a record would begin, at this byte from 0.
+    Damaged(u64),
+    /// The input passes a limit where a record would begin, at this byte from 0.
+    Limit(u64),
+    /// A piece couldn't be read.
+    ReadFailed,
+    /// There was not enough memory.
+    NoMemory,
+}
+
+impl From<AllocError> for Stop {
+    ghost use Rattle.sz_stream.specs.declared.stop.Stop.TheVariants.{NoMemory};
+
+    ghost from_gives = { λ _ stop. stop ≡ NoMemory };
+
+    fn from(_: AllocError) -> Stop {
+        Stop::NoMemory
+    }
+}
+
+impl From<OutsideError> for Stop {
+    ghost use Rattle.sz_stream.specs.Running.{stop_of};
+
+    ghost from_gives = { λ error stop. stop ≡ stop_of error };
+
+    fn from(error: OutsideError) -> Stop {
+        match error {
+            OutsideError::Failed => Stop::ReadFailed,
+            OutsideError::NoMemory => Stop::NoMemory,
+        }
+    }
+}

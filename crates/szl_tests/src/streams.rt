@@ -1,0 +1,217 @@
+//! Inputs of several pieces and rounds, too long for a row.
+use crate::command::{NEVER, PLAIN, Setting, left};
+use std::alloc::Global;
+use std::process::Abort;
+use std::sync::Wait;
+use std::test::Fail;
+use std::thread::Threads;
+use sz_io::NoMemory;
+
+/// A run over an input in which one part stands so often, between two others.
+struct Stream {
+    words: &'static str,
+    program: &'static str,
+    front: &'static str,
+    part: &'static str,
+    count: u32,
+    behind: &'static str,
+    /// The number of the call on the input that fails: 0 opens it, and the reads follow.
+    fails: u64,
+    left: &'static str,
+}
+
+/// A program that counts the records above 0, and faults on those that are no number.
+const COUNT: &str = "c: table sum of int;\nx: int = input;\nif (x > 0) emit c <- 1;";
+
+/// A program that adds up the lengths of the records.
+const LENGTHS: &str = "c: table sum of int; s: string = input; emit c <- len(s);";
+
+/// 65,536 bytes are read at once, and 4,096 shards are a round.
+const STREAMS: &[Stream] = &[
+    // A round that decides is run before the next piece is read.
+    Stream {
+        words: "run p f --shard 1",
+        program: COUNT,
+        front: "\n",
+        part: "1\n",
+        count: 100_000,
+        behind: "",
+        fails: 2,
+        left: "3 ! record 1: undefined value used at 3:1",
+    },
+    Stream {
+        words: "run p f --shard 1",
+        program: COUNT,
+        front: "",
+        part: "1\n",
+        count: 40_000,
+        behind: "x\n1\n",
+        fails: 3,
+        left: "3 ! record 40001: undefined value used at 3:1",
+    },
+    // Where none decides, the next piece is needed.
+    Stream {
+        words: "run p f --shard 1",
+        program: COUNT,
+        front: "",
+        part: "1\n",
+        count: 100_000,
+        behind: "",
+        fails: 2,
+        left: "5 ! read failed",
+    },
+    Stream {
+        words: "run p f --shard 1",
+        program: COUNT,
+        front: "",
+        part: "1\n",
+        count: 100_000,
+        behind: "",
+        fails: 4,
+        left: "5 ! read failed",
+    },
+    // An attempt that dies in a later round is made again, a doubled shard counts once, and one that is lost has its number.
+    Stream {
+        words: "run p f --shard 1 --kill 5000.0.0",
+        program: COUNT,
+        front: "",
+        part: "1\n",
+        count: 100_000,
+        behind: "",
+        fails: NEVER,
+        left: "0 c[] = 100000¶",
+    },
+    Stream {
+        words: "run p f --shard 1 --twice 4095,4096,40000 --workers 2",
+        program: COUNT,
+        front: "",
+        part: "1\n",
+        count: 50_000,
+        behind: "",
+        fails: NEVER,
+        left: "0 c[] = 50000¶",
+    },
+    Stream {
+        words: "run p f --shard 1 --attempts 1 --kill 9000.0.0",
+        program: COUNT,
+        front: "",
+        part: "1\n",
+        count: 40_000,
+        behind: "x\n",
+        fails: NEVER,
+        left: "7 ! shard 9000 lost",
+    },
+    Stream {
+        words: "run p f --shard 1",
+        program: COUNT,
+        front: "",
+        part: "1\n",
+        count: 40_000,
+        behind: "x\n",
+        fails: NEVER,
+        left: "3 ! record 40001: undefined value used at 3:1",
+    },
+    // Records lie across pieces, and so does a last line without its end.
+    Stream {
+        words: "run p f",
+        program: COUNT,
+        front: "",
+        part: "12345\n",
+        count: 50_000,
+        behind: "1",
+        fails: NEVER,
+        left: "0 c[] = 50001¶",
+    },
+    Stream {
+        words: "run p f --shard 7",
+        program: LENGTHS,
+        front: "",
+        part: "123\r\n",
+        count: 60_000,
+        behind: "12345",
+        fails: NEVER,
+        left: "0 c[] = 240005¶",
+    },
+    // A record is longer than a piece.
+    Stream {
+        words: "run p f",
+        program: LENGTHS,
+        front: "a\n",
+        part: "a",
+        count: 200_000,
+        behind: "\na",
+        fails: NEVER,
+        left: "0 c[] = 200002¶",
+    },
+    // The input is damaged, or passes a limit, behind several rounds.
+    Stream {
+        words: "run p f --frame delimited --shard 1",
+        program: COUNT,
+        front: "",
+        part: "\u{1}1",
+        count: 40_000,
+        behind: "\u{5}ab",
+        fails: NEVER,
+        left: "4 ! input damaged at byte 80000",
+    },
+    Stream {
+        words: "run p f --frame delimited --shard 1",
+        program: COUNT,
+        front: "\u{1}x",
+        part: "\u{1}1",
+        count: 40_000,
+        behind: "\u{5}ab",
+        fails: NEVER,
+        left: "3 ! record 1: undefined value used at 3:1",
+    },
+    Stream {
+        words: "run p f --shard 4",
+        program: COUNT,
+        front: "1\n",
+        part: "1",
+        count: 4_194_305,
+        behind: "\n1\n",
+        fails: NEVER,
+        left: "9 ! input limit at byte 2",
+    },
+];
+
+/// The runs. They are behind a call, so that no proof sees them.
+fn streams() -> &'static [Stream] {
+    STREAMS
+}
+
+/// The input of a run.
+fn input_of(alloc: Global, stream: &Stream) -> Result<String, NoMemory> {
+    let mut input = String::from_str(alloc, stream.front)?;
+    for _ in 0..stream.count {
+        input.push_str(stream.part)?;
+    }
+    input.push_str(stream.behind)?;
+    Ok(input)
+}
+
+/// Whether a run leaves what it says.
+fn holds<R: Threads + Wait + Sync>(rt: &R, alloc: Global, stream: &Stream) -> Result<bool, Fail> {
+    let input = input_of(alloc, stream)?;
+    let given = Setting {
+        words: stream.words,
+        input: input.as_str(),
+        input_fails: stream.fails,
+        ..PLAIN
+    };
+    Ok(left(rt, alloc, &given, stream.program.as_bytes())?.as_str() == stream.left)
+}
+
+/// Fails where a run leaves something else than it says.
+fn all_hold<R: Abort + Threads + Wait + Sync>(rt: &R, alloc: Global) -> Result<(), Fail> {
+    for stream in streams() {
+        assert!(rt; holds(rt, alloc, stream)?, "{} of {}", stream.words, stream.count);
+    }
+    Ok(())
+}
+
+#[test]
+fn an_input_of_several_pieces_leaves_what_it_says(rt: HostRuntime) -> Result<(), Fail> {
+    all_hold(&rt, rt.alloc())
+}
