@@ -20,7 +20,6 @@ const MOST_RECORDS: usize = 1 << 20;
 const MOST_BYTES: usize = 1 << 26;
 
 /// The records at hand of an input that comes in pieces, and the round that is made of them.
-#[derive(Drop)]
 pub(crate) struct Intake {
     /// Cuts the pieces into records.
     pub(crate) framer: Framer,
@@ -36,6 +35,20 @@ pub(crate) struct Intake {
     pub(crate) bytes: usize,
     /// The most records of a shard.
     pub(crate) most: u32,
+}
+
+impl Drop for Intake {
+    fn drop(self) {
+        let Intake {
+            framer: _,
+            ending: _,
+            round: _,
+            first: _,
+            closed: _,
+            bytes: _,
+            most: _,
+        } = self;
+    }
 }
 
 impl Intake {
