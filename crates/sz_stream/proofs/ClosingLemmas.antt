@@ -2,7 +2,7 @@
 use Rattle.std.proofs.Common.{◌≡◌, ◌⊎◌, ℕ, ◌+◌, ◌-◌, ◌<◌, ◌≤◌, List, [], ◌∷◌, ◌++◌, length, drop, Bool, true, false, Option, Some, None}
 use Rattle.std.proofs.Common.{refl, sym, ap, ◌∙◌, subst, arith, inl, inr, append-nil, append_assoc, length-append, length-drop}
 use Rattle.std.proofs.lemmas.List.{drop-drop}
-use Rattle.std.specs.Prelude.{is_some, not}
+use Rattle.std.specs.Prelude.{is_some, not, unwrap_or, IfSome, IfNone}
 use Rattle.sz_records.specs.declared.ending.Ending.{Ending}
 use Rattle.sz_records.specs.Shards.{EndsShard, IsOpenAt, MayGoOn}
 use Rattle.sz_attempt.specs.declared.job.Shard.{Shard}
@@ -85,6 +85,23 @@ module _ (old now : Intake) (c : Closes old now) (low : old.closed ≤ length ol
           shard_same (now.first + now.closed) (old.first + old.closed + sum_of c.sizes) now.closed (old.closed + sum_of c.sizes) end
           (old.closed + sum_of c.sizes + (end - now.closed))
           (omega (arith, c.first, c.closed)) c.closed (omega (arith, c.closed, ends.within.0))
+
+-- what is known of the next shard, by what was found
+pub found_within : (records : List (List ℕ)) (from most : ℕ) (at_end : Bool) (found : Option ℕ) (end all : ℕ)
+    → IfSome found (λ end. EndsShard records from most at_end end) → end ≡ unwrap_or found all → all ≡ length records → end ≤ length records
+found_within records from most at_end None end all ends is same = omega (arith, is, same)
+found_within records from most at_end (Some found) end all ends is same = omega (arith, is, ends.within.1)
+
+pub found_ends : (records : List (List ℕ)) (from most : ℕ) (at_end : Bool) (found : Option ℕ) (end all : ℕ)
+    → IfSome found (λ end. EndsShard records from most at_end end) → end ≡ unwrap_or found all → is_some found ≡ true
+    → EndsShard records from most at_end end
+found_ends records from most at_end None end all ends is some = absurd cc
+found_ends records from most at_end (Some found) end all ends is some = subst (EndsShard records from most at_end) (sym is) ends
+
+pub found_open : (records : List (List ℕ)) (from most : ℕ) (at_end : Bool) (found : Option ℕ) → IfNone found (IsOpenAt records from most at_end)
+    → is_some found ≡ false → IsOpenAt records from most at_end
+found_open records from most at_end None opened none = opened
+found_open records from most at_end (Some end) opened none = absurd cc
 
 -- no shard can be closed any more
 pub answers_open : (intake : Intake) (at_end wants : Bool) → IsOpenAt intake.round.records intake.closed intake.most at_end → at_end ≡ is_some intake.ending

@@ -86,8 +86,8 @@ impl Intake {
         Ok(())
     }
 
-    /// Closes the next shards for as long as the round has room for them. The answer is whether the round may still grow: it isn't full, and
-    /// the ending isn't known.
+    /// Closes the next shards for as long as the round has room for them. The answer is whether the round may still grow: the ending isn't
+    /// known, and there is room for the next shard as far as that is at hand.
     pub(crate) fn wants_piece(&mut self) -> Result<bool, NoMemory>
         requires most { 1 ≤ self.old.most }
         requires within { self.old.closed ≤ length self.old.round.records }
@@ -98,14 +98,17 @@ impl Intake {
         while self.round.shards.len() < MOST_SHARDS {
             let start = self.closed;
             let at_end = self.ending.is_some();
-            let Some(end) = shard_end(&self.round.records, start, self.most, at_end) else {
-                return Ok(!at_end);
-            };
+            let found = shard_end(&self.round.records, start, self.most, at_end);
+            let all = self.round.records.len();
+            let end = found.unwrap_or(all);
             let bytes = self
                 .bytes
                 .saturating_add(bytes_of(&self.round.records, start, end));
             if !self.round.shards.is_empty() && is_large(end, bytes) {
                 return Ok(false);
+            }
+            if found.is_none() {
+                return Ok(!at_end);
             }
             self.round.shards.push(Shard {
                 first: self.first + start as u64,

@@ -206,7 +206,12 @@ fn holds<R: Threads + Wait + Sync>(rt: &R, alloc: Global, stream: &Stream) -> Re
 /// Fails where a run leaves something else than it says.
 fn all_hold<R: Abort + Threads + Wait + Sync>(rt: &R, alloc: Global) -> Result<(), Fail> {
     for stream in streams() {
-        assert!(rt; holds(rt, alloc, stream)?, "{} of {}", stream.words, stream.count);
+        assert!(rt;
+            holds(rt, alloc, stream)?,
+            "{} of {}",
+            stream.words,
+            stream.count
+        );
     }
     Ok(())
 }
