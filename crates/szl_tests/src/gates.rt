@@ -131,7 +131,7 @@ impl Gate for Greatest {
 
 /// So many lines.
 fn lines_of(alloc: Global, count: usize) -> Result<String, NoMemory> {
-    let mut lines = String::with_capacity(alloc, 2 * count)?;
+    let mut lines = String::new(alloc);
     for _ in 0..count {
         lines.push_str("1\n")?;
     }
