@@ -84,10 +84,34 @@ fn killed_and_doubled_attempts_are_made(rt: HostRuntime) -> Result<(), Fail> {
 /// A program that faults on an empty line.
 const FAULTS: &str = "c: table sum of int;¶x: int = input;¶if (x > 0) emit c <- 1;¶";
 
+/// Whether a run over an empty line and a number leaves the fault, and how often its tickets and its attempts passed the gate.
+fn counted<R: Threads + Wait + Sync>(
+    rt: &R,
+    alloc: Global,
+    words: &str,
+) -> Result<(bool, u64, u64), Fail> {
+    let program = text_of(alloc, FAULTS)?;
+    let given = Setting {
+        words,
+        input: "¶1¶",
+        ..PLAIN
+    };
+    let gate = Counts {
+        tickets: AtomicU64::new(0),
+        attempts: AtomicU64::new(0),
+    };
+    let found = left_by(rt, alloc, &given, program.as_bytes(), &gate)?;
+    let faults = found.as_str() == "3 ! record 1: undefined value used at 3:1";
+    Ok((
+        faults,
+        gate.tickets.load(SeqCst),
+        gate.attempts.load(SeqCst),
+    ))
+}
+
 // The second ticket of a shard that faults has its attempt, too. The caller makes one more of it, since none was won.
 #[test]
 fn each_ticket_of_a_shard_that_faults_has_an_attempt(rt: HostRuntime) -> Result<(), Fail> {
-    let program = text_of(rt.alloc(), FAULTS)?;
     for (words, tickets, attempts) in [
         ("run p f --shard 1 --workers 1", 0x111, 0x102),
         (
@@ -96,23 +120,8 @@ fn each_ticket_of_a_shard_that_faults_has_an_attempt(rt: HostRuntime) -> Result<
             0x112,
         ),
     ] {
-        let given = Setting {
-            words,
-            input: "¶1¶",
-            ..PLAIN
-        };
-        let gate = Counts {
-            tickets: AtomicU64::new(0),
-            attempts: AtomicU64::new(0),
-        };
-        let found = left_by(&rt, rt.alloc(), &given, program.as_bytes(), &gate)?;
-        assert_eq!(&rt;
-            found.as_str(),
-            "3 ! record 1: undefined value used at 3:1",
-            "{words}"
-        );
-        assert_eq!(&rt; gate.tickets.load(SeqCst), tickets, "{words}");
-        assert_eq!(&rt; gate.attempts.load(SeqCst), attempts, "{words}");
+        let found = counted(&rt, rt.alloc(), words)?;
+        assert!(&rt; found == (true, tickets, attempts), "{words}");
     }
     Ok(())
 }
