@@ -40,6 +40,17 @@ const STREAMS: &[Stream] = &[
         left: "3 ! record 1: undefined value used at 3:1",
     },
     Stream {
+        words: "run p f --shard 1 --attempts 1 --kill 34000.0.0",
+        program: COUNT,
+        front: "",
+        part: "1\n",
+        count: 100_000,
+        behind: "",
+        fails: 3,
+        left: "7 ! shard 34000 lost",
+    },
+    // Where none decides, or the round isn't full, the next piece is needed.
+    Stream {
         words: "run p f --shard 1",
         program: COUNT,
         front: "",
@@ -47,9 +58,8 @@ const STREAMS: &[Stream] = &[
         count: 40_000,
         behind: "x\n1\n",
         fails: 3,
-        left: "3 ! record 40001: undefined value used at 3:1",
+        left: "5 ! read failed",
     },
-    // Where none decides, the next piece is needed.
     Stream {
         words: "run p f --shard 1",
         program: COUNT,
