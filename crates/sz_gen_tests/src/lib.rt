@@ -6,6 +6,4 @@ mod compiled;
 #[cfg(test)]
 mod rows;
 #[cfg(test)]
-mod searches;
-#[cfg(test)]
 mod shown;

@@ -1,14 +1,14 @@
 //! Code as text. Where memory runs out the text is another one than it should be.
-use std::fmt::Write;
+use std::fmt::{Debug, Write};
 use sz_instr::{Code, Instr, Line, Step, Steps};
 use sz_value::Value;
 
 fn constant(out: &mut String, value: &Value) {
     let _ = match value {
-        Value::Int(n) => writeln!(out, "constant {n}"),
-        Value::Bool(b) => writeln!(out, "constant {b}"),
-        Value::Str(text) => writeln!(out, "constant \"{}\"", text.as_str()),
-        _ => writeln!(out, "constant of another type"),
+        Value::Int(n) => write!(out, "constant {n} | "),
+        Value::Bool(b) => write!(out, "constant {b} | "),
+        Value::Str(text) => write!(out, "constant \"{}\" | ", text.as_str()),
+        _ => write!(out, "constant of another type | "),
     };
 }
 
@@ -17,18 +17,19 @@ fn names(out: &mut String, code: &Code) {
         constant(out, value);
     }
     for ty in code.types.as_slice() {
-        let _ = writeln!(out, "type {ty:?}");
+        let _ = write!(out, "type {ty:?} | ");
     }
 }
 
 fn routines(out: &mut String, code: &Code) {
     for f in code.functions.as_slice() {
-        let _ = writeln!(out, "function {} {} {}", f.entry, f.params, f.locals);
+        let _ = write!(out, "function {} {} {} | ", f.entry, f.params, f.locals);
     }
     for s in code.statics.as_slice() {
-        let _ = writeln!(out, "static {}", s.entry);
+        let _ = write!(out, "static {} | ", s.entry);
     }
-    let _ = writeln!(out, "record {} of {}", code.main.entry, code.main.locals);
+    let (entry, locals) = (code.main.entry, code.main.locals);
+    let _ = write!(out, "record {entry} of {locals} | ");
 }
 
 fn steps(out: &mut String, path: &Steps) {
@@ -40,62 +41,88 @@ fn steps(out: &mut String, path: &Steps) {
     }
 }
 
+fn word(out: &mut String, name: &str) {
+    let _ = write!(out, "{name}");
+}
+
+fn number(out: &mut String, name: &str, number: u32) {
+    let _ = write!(out, "{name}({number})");
+}
+
+fn place(out: &mut String, name: &str, place: usize) {
+    let _ = write!(out, "{name}({place})");
+}
+
+fn operator<T: Debug>(out: &mut String, name: &str, operator: &T) {
+    let _ = write!(out, "{name}({operator:?})");
+}
+
+fn store(out: &mut String, local: u32, path: &Steps) {
+    let _ = write!(out, "Store({local}");
+    steps(out, path);
+    word(out, ")");
+}
+
+fn emit(out: &mut String, table: u32, indexes: u32, is_weighted: bool) {
+    let _ = write!(out, "Emit({table}, {indexes}, {is_weighted})");
+}
+
+fn next(out: &mut String, local: u32, to: usize) {
+    let _ = write!(out, "Next({local}, {to})");
+}
+
 fn instr(out: &mut String, instr: &Instr) {
-    let _ = match instr {
-        Instr::Push(n) => write!(out, "Push({n})"),
-        Instr::Local(n) => write!(out, "Local({n})"),
-        Instr::Static(n) => write!(out, "Static({n})"),
-        Instr::Input => write!(out, "Input"),
-        Instr::Keep(n) => write!(out, "Keep({n})"),
-        Instr::KeepStatic(n) => write!(out, "KeepStatic({n})"),
-        Instr::Clear(n) => write!(out, "Clear({n})"),
-        Instr::Store(n, path) => {
-            let _ = write!(out, "Store({n}");
-            steps(out, path);
-            write!(out, ")")
-        }
-        Instr::Unary(operator) => write!(out, "Unary({operator:?})"),
-        Instr::Binary(operator) => write!(out, "Binary({operator:?})"),
-        Instr::Apply(function) => write!(out, "Apply({function:?})"),
-        Instr::Convert(n) => write!(out, "Convert({n})"),
-        Instr::Decode(n) => write!(out, "Decode({n})"),
-        Instr::MakeArray(count) => write!(out, "MakeArray({count})"),
-        Instr::MakeTuple(count) => write!(out, "MakeTuple({count})"),
-        Instr::MakeMap(count) => write!(out, "MakeMap({count})"),
-        Instr::Index => write!(out, "Index"),
-        Instr::Slice => write!(out, "Slice"),
-        Instr::Field(n) => write!(out, "Field({n})"),
-        Instr::Def => write!(out, "Def"),
-        Instr::Tick => write!(out, "Tick"),
-        Instr::Jump(to) => write!(out, "Jump({to})"),
-        Instr::Test(to) => write!(out, "Test({to})"),
-        Instr::AndTest(to) => write!(out, "AndTest({to})"),
-        Instr::OrTest(to) => write!(out, "OrTest({to})"),
-        Instr::Call(n) => write!(out, "Call({n})"),
-        Instr::Return => write!(out, "Return"),
-        Instr::EndRecord => write!(out, "EndRecord"),
-        Instr::Discard => write!(out, "Discard"),
-        Instr::Emit(n, indexes, weighted) => write!(out, "Emit({n}, {indexes}, {weighted})"),
-        Instr::Enter(slices) => write!(out, "Enter({slices})"),
-        Instr::Next(n, to) => write!(out, "Next({n}, {to})"),
-        Instr::Leave => write!(out, "Leave"),
-        Instr::Meets(to) => write!(out, "Meets({to})"),
-        Instr::Fails(to) => write!(out, "Fails({to})"),
-    };
+    match instr {
+        Instr::Push(n) => number(out, "Push", *n),
+        Instr::Local(n) => number(out, "Local", *n),
+        Instr::Static(n) => number(out, "Static", *n),
+        Instr::Input => word(out, "Input"),
+        Instr::Keep(n) => number(out, "Keep", *n),
+        Instr::KeepStatic(n) => number(out, "KeepStatic", *n),
+        Instr::Clear(n) => number(out, "Clear", *n),
+        Instr::Store(n, path) => store(out, *n, path),
+        Instr::Unary(op) => operator(out, "Unary", op),
+        Instr::Binary(op) => operator(out, "Binary", op),
+        Instr::Apply(function) => operator(out, "Apply", function),
+        Instr::Convert(n) => number(out, "Convert", *n),
+        Instr::Decode(n) => number(out, "Decode", *n),
+        Instr::MakeArray(count) => number(out, "MakeArray", *count),
+        Instr::MakeTuple(count) => number(out, "MakeTuple", *count),
+        Instr::MakeMap(count) => number(out, "MakeMap", *count),
+        Instr::Index => word(out, "Index"),
+        Instr::Slice => word(out, "Slice"),
+        Instr::Field(n) => number(out, "Field", *n),
+        Instr::Def => word(out, "Def"),
+        Instr::Tick => word(out, "Tick"),
+        Instr::Jump(to) => place(out, "Jump", *to),
+        Instr::Test(to) => place(out, "Test", *to),
+        Instr::AndTest(to) => place(out, "AndTest", *to),
+        Instr::OrTest(to) => place(out, "OrTest", *to),
+        Instr::Call(n) => number(out, "Call", *n),
+        Instr::Return => word(out, "Return"),
+        Instr::EndRecord => word(out, "EndRecord"),
+        Instr::Discard => word(out, "Discard"),
+        Instr::Emit(n, indexes, is_weighted) => emit(out, *n, *indexes, *is_weighted),
+        Instr::Enter(slices) => operator(out, "Enter", slices),
+        Instr::Next(n, to) => next(out, *n, *to),
+        Instr::Leave => word(out, "Leave"),
+        Instr::Meets(to) => place(out, "Meets", *to),
+        Instr::Fails(to) => place(out, "Fails", *to),
+    }
 }
 
 fn line(out: &mut String, at: usize, line: &Line) {
     let _ = write!(out, "{at} ");
     instr(out, &line.instr);
     let (charge, place) = (line.charge, line.place);
-    let _ = writeln!(out, " +{charge} {}:{}", place.line, place.column);
+    let _ = write!(out, " +{charge} {}:{} | ", place.line, place.column);
 }
 
-/// The code, a line of text for each name, routine and line of it.
+/// The code: each name, routine and line of it, with ` | ` behind it.
 pub fn code(out: &mut String, code: &Code) {
     names(out, code);
     routines(out, code);
-    for at in 0..code.lines.len() {
-        line(out, at, code.lines.get(at));
+    for (at, it) in code.lines.as_slice().iter().enumerate() {
+        line(out, at, it);
     }
 }
