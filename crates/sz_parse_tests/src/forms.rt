@@ -1,10 +1,7 @@
-//! Each form of the grammar, and its tree.
-use crate::outcome::holds;
+//! Each form of the grammar, and its tree; and the places of what a tree is made of.
 
-#[test]
-fn each_form_of_expression_is_read(rt: HostRuntime) {
-    let table =
-        r#"x = 1; x = "a"; x = B"b"; x = 'c'; => (assign x 1) (assign x "a") (assign x B"b") (assign x 'c')
+pub const EACH_FORM_OF_EXPRESSION_IS_READ: &str =
+    r#"x = 1; x = "a"; x = B"b"; x = 'c'; => (assign x 1) (assign x "a") (assign x B"b") (assign x 'c')
 x = true; x = false; x = y; => (assign x true) (assign x false) (assign x y)
 x = f(); x = f(1); x = f(1, y, g()); => (assign x (call f)) (assign x (call f 1)) (assign x (call f 1 y (call g)))
 x = def(y); x = (y); x = ((y)); => (assign x (def y)) (assign x (paren y)) (assign x (paren (paren y)))
@@ -20,12 +17,8 @@ x = -1; x = +a; x = !a; x = ~a; => (assign x (Negate 1)) (assign x (Plus a)) (as
 x = -+!~a; x = - -a; => (assign x (Negate (Plus (Not (Complement a))))) (assign x (Negate (Negate a)))
 x = -a[1]; x = -a.b; => (assign x (Negate (index a 1))) (assign x (Negate (field b a)))
 x = -f(1); x = (-a)[1]; => (assign x (Negate (call f 1))) (assign x (index (paren (Negate a)) 1))"#;
-    holds(&rt, rt.alloc(), table);
-}
 
-#[test]
-fn operators_bind_by_their_level_and_group_to_the_left(rt: HostRuntime) {
-    let table = "\
+pub const OPERATORS_BIND_BY_THEIR_LEVEL_AND_GROUP_TO_THE_LEFT: &str = "\
 x = 1 + 1; => (assign x (Add 1 1))
 x = a || b; x = a && b; => (assign x (Or a b)) (assign x (And a b))
 x = a == b; x = a != b; => (assign x (Equal a b)) (assign x (NotEqual a b))
@@ -48,12 +41,8 @@ x = a || b || c; x = a && b && c; => (assign x (Or (Or a b) c)) (assign x (And (
 x = a - (b - c); x = (a + b) * c; => (assign x (Subtract a (paren (Subtract b c)))) (assign x (Multiply (paren (Add a b)) c))
 x = (a < b) == (c < d); => (assign x (Equal (paren (Less a b)) (paren (Less c d))))
 x = a < b && c < d || e == f; => (assign x (Or (And (Less a b) (Less c d)) (Equal e f)))";
-    holds(&rt, rt.alloc(), table);
-}
 
-#[test]
-fn each_form_of_type_is_read(rt: HostRuntime) {
-    let table = "\
+pub const EACH_FORM_OF_TYPE_IS_READ: &str = "\
 a: bool; b: int; c: string; => (declare a Bool -) (declare b Int -) (declare c String -)
 d: bytes; e: time; f: t; => (declare d Bytes -) (declare e Time -) (declare f t -)
 a: array of int; a: array of array of t; => (declare a (array Int) -) (declare a (array (array t)) -)
@@ -61,12 +50,8 @@ a: map [int] of string; a: map [k: int] of map [t] of u; => (declare a (map - In
 a: {x: int}; a: {x: int, y: {z: t}}; => (declare a (tuple x Int) -) (declare a (tuple x Int y (tuple z t)) -)
 a: proto {x: int @ 1}; => (declare a (proto x Int 1 -) -)
 a: proto {x: int @ 1 fixed32, y: array of t @ 0x10}; => (declare a (proto x Int 1 fixed32 y (array t) 16 -) -)";
-    holds(&rt, rt.alloc(), table);
-}
 
-#[test]
-fn each_form_of_statement_is_read(rt: HostRuntime) {
-    let table = "\
+pub const EACH_FORM_OF_STATEMENT_IS_READ: &str = "\
 # a comment =>
  =>
 ; {} {;} {{} x = 1;} => (empty) (block) (block (empty)) (block (block) (assign x 1))
@@ -92,12 +77,8 @@ emit t <- 1; emit t[1][a] <- x weight 2; => (emit t <- 1 -) (emit t 1 a <- x 2)
 when (i: some int; a[i]) ; => (when (Some i Int) (index a i) (empty))
 when (i, j: each t; k: all string; m: some int; i < j) x++; => (when (Each i j t) (All k String) (Some m Int) (Less i j) (increment x))
 when (i: some int; f(i, j)) ; => (when (Some i Int) (call f i j) (empty))";
-    holds(&rt, rt.alloc(), table);
-}
 
-#[test]
-fn an_else_belongs_to_the_if_whose_part_it_follows(rt: HostRuntime) {
-    let table = "\
+pub const AN_ELSE_BELONGS_TO_THE_IF_WHOSE_PART_IT_FOLLOWS: &str = "\
 if (a) if (b) x++; else y++; => (if a (if b (increment x) (increment y)) -)
 if (a) {if (b) x++;} else y++; => (if a (block (if b (increment x) -)) (increment y))
 if (a) x++; else if (b) y++; else z++; => (if a (increment x) (if b (increment y) (increment z)))
@@ -108,5 +89,17 @@ if (a) ; else if (b) ; => (if a (empty) (if b (empty) -))
 if (a) ; ; else ; => 1:12
 if (a) ; else => 1:1
 if (a) ; else ; else ; => 1:17";
-    holds(&rt, rt.alloc(), table);
-}
+
+/// Behind `at` stand the column of each statement; of a declaration the columns of its name, its type and its value; of the value
+/// its level, and of an operator how loosely it binds and how loose its left operand may be; and the column of a step.
+pub const TREES_KNOW_THEIR_PLACES: &str = "\
+x: t = {:}; => at 1 1 4 8 0
+  x: {a: int} = f(x); => at 3 3 6 17 0
+ x: proto {a: int @ 1} = {1}; => at 2 2 5 26 0
+x: t = f(x) + 1; => at 1 1 4 8 2 2 2
+x: t = a || b; => at 1 1 4 8 5 5 5
+x: t = a && b; => at 1 1 4 8 4 4 4
+x: t = a < b; => at 1 1 4 8 3 3 2
+x: t = a | b; => at 1 1 4 8 2 2 2
+x: t = a & b; => at 1 1 4 8 1 1 1
+  i++; f: function(): t {} {} => at 3 3 8 28";

@@ -1,9 +1,6 @@
 //! Texts that are no program: each form with a token missing, a token twice, or a token of something else.
-use crate::outcome::{holds, outcome};
 
-#[test]
-fn a_refusal_is_at_the_first_statement_that_is_not_whole(rt: HostRuntime) {
-    let table = r#"} => 1:1
+pub const A_REFUSAL_IS_AT_THE_FIRST_STATEMENT_THAT_IS_NOT_WHOLE: &str = r#"} => 1:1
 ; } => 1:3
 { => 1:1
 ; {;;}; { => 1:9
@@ -12,18 +9,8 @@ fn a_refusal_is_at_the_first_statement_that_is_not_whole(rt: HostRuntime) {
 x = 1; y = ; z = 3; => 1:8
 x: int; y: string = "a"; { x = 1; } } => 1:37
 if (a) ; x = ; => 1:10"#;
-    holds(&rt, rt.alloc(), table);
-}
 
-#[test]
-fn a_refusal_counts_lines(rt: HostRuntime) {
-    let found = outcome(rt.alloc(), b"x = 1;\n  if (a) ;\n\ty = ;\n");
-    assert_eq!(rt; found.as_str(), " 3:2");
-}
-
-#[test]
-fn a_wrong_declaration_is_refused(rt: HostRuntime) {
-    let table = "\
+pub const A_WRONG_DECLARATION_IS_REFUSED: &str = "\
 x int; => 1:1
 x: ; => 1:1
 x:: int; => 1:1
@@ -60,12 +47,8 @@ type t = = int; => 1:1
 type t = int int; => 1:1
 type t = 1; => 1:1
 type t := int; => 1:1";
-    holds(&rt, rt.alloc(), table);
-}
 
-#[test]
-fn a_wrong_table_is_refused(rt: HostRuntime) {
-    let table = "\
+pub const A_WRONG_TABLE_IS_REFUSED: &str = "\
 t: table; => 1:1
 t: table of int; => 1:1
 t: table sum int; => 1:1
@@ -90,12 +73,8 @@ t: table sum of int weight; => 1:1
 t: table sum of int weight weight int; => 1:1
 t: table sum of int int; => 1:1
 t: table sum of 1; => 1:1";
-    holds(&rt, rt.alloc(), table);
-}
 
-#[test]
-fn a_wrong_function_is_refused(rt: HostRuntime) {
-    let table = "\
+pub const A_WRONG_FUNCTION_IS_REFUSED: &str = "\
 f: function: int {} => 1:1
 f: function(): {} => 1:1
 f: function() int {} => 1:1
@@ -112,12 +91,8 @@ f: function(1: int): int {} => 1:1
 f: function((a: int)): int {} => 1:1
 f: function function(): int {} => 1:1
 f: function(): int { x = ; } => 1:1";
-    holds(&rt, rt.alloc(), table);
-}
 
-#[test]
-fn a_wrong_assignment_or_call_is_refused(rt: HostRuntime) {
-    let table = "\
+pub const A_WRONG_ASSIGNMENT_OR_CALL_IS_REFUSED: &str = "\
 x 1; => 1:1
 x = 1 => 1:1
 x = ; => 1:1
@@ -151,12 +126,8 @@ f()[0]; => 1:1
 x; => 1:1
 x + 1; => 1:1
 int(1); => 1:1";
-    holds(&rt, rt.alloc(), table);
-}
 
-#[test]
-fn a_wrong_if_or_loop_is_refused(rt: HostRuntime) {
-    let table = "\
+pub const A_WRONG_IF_OR_LOOP_IS_REFUSED: &str = "\
 if a) ; => 1:1
 if (a ; => 1:1
 if () ; => 1:1
@@ -193,12 +164,8 @@ for (;; i := 1) ; => 1:1
 for (;; i++,) ; => 1:1
 for (i = 0, j = 0;;) ; => 1:1
 for for (;;) ; => 1:1";
-    holds(&rt, rt.alloc(), table);
-}
 
-#[test]
-fn a_wrong_jump_is_refused(rt: HostRuntime) {
-    let table = "\
+pub const A_WRONG_JUMP_IS_REFUSED: &str = "\
 break => 1:1
 break 1; => 1:1
 break break; => 1:1
@@ -210,12 +177,8 @@ return x => 1:1
 return return; => 1:1
 return x y; => 1:1
 return =; => 1:1";
-    holds(&rt, rt.alloc(), table);
-}
 
-#[test]
-fn a_wrong_emit_is_refused(rt: HostRuntime) {
-    let table = "\
+pub const A_WRONG_EMIT_IS_REFUSED: &str = "\
 emit <- 1; => 1:1
 emit t 1; => 1:1
 emit t <- ; => 1:1
@@ -231,12 +194,8 @@ emit t <- 1 weight weight 2; => 1:1
 emit t <- 1, 2; => 1:1
 emit 1 <- 1; => 1:1
 t <- 1; => 1:1";
-    holds(&rt, rt.alloc(), table);
-}
 
-#[test]
-fn a_wrong_when_is_refused(rt: HostRuntime) {
-    let table = "\
+pub const A_WRONG_WHEN_IS_REFUSED: &str = "\
 when (i: some int; i ; => 1:1
 when i: some int; i) ; => 1:1
 when (i: some int;) ; => 1:1
@@ -255,12 +214,8 @@ when (i: any int; i) ; => 1:1
 when (i: some int; i) => 1:1
 when (i: some int; i)) ; => 1:1
 when when (i: some int; i) ; => 1:1";
-    holds(&rt, rt.alloc(), table);
-}
 
-#[test]
-fn a_wrong_type_is_refused(rt: HostRuntime) {
-    let table = "\
+pub const A_WRONG_TYPE_IS_REFUSED: &str = "\
 x: array int; => 1:1
 x: array of; => 1:1
 x: array of of int; => 1:1
@@ -298,12 +253,8 @@ x: proto proto {a: int @ 1}; => 1:1
 x: (int); => 1:1
 x: int[]; => 1:1
 x: function; => 1:1";
-    holds(&rt, rt.alloc(), table);
-}
 
-#[test]
-fn a_wrong_operand_is_refused(rt: HostRuntime) {
-    let table = "\
+pub const A_WRONG_OPERAND_IS_REFUSED: &str = "\
 x = (1; => 1:1
 x = 1); => 1:1
 x = (); => 1:1
@@ -334,12 +285,8 @@ x = int(1, 2); => 1:1
 x = int int(1); => 1:1
 x = if; => 1:1
 x = weight; => 1:1";
-    holds(&rt, rt.alloc(), table);
-}
 
-#[test]
-fn a_wrong_list_or_map_is_refused(rt: HostRuntime) {
-    let table = "\
+pub const A_WRONG_LIST_OR_MAP_IS_REFUSED: &str = "\
 x = {; => 1:1
 x = {1; => 1:1
 x = {1,}; => 1:1
@@ -354,12 +301,8 @@ x = {1: 2, 3}; => 1:1
 x = {1, 2: 3}; => 1:1
 x = {1: 2 3: 4}; => 1:1
 x = {1: 2: 3}; => 1:1";
-    holds(&rt, rt.alloc(), table);
-}
 
-#[test]
-fn a_wrong_operator_is_refused(rt: HostRuntime) {
-    let table = "\
+pub const A_WRONG_OPERATOR_IS_REFUSED: &str = "\
 x = 1 +; => 1:1
 x = * 1; => 1:1
 x = 1 + * 2; => 1:1
@@ -378,5 +321,3 @@ x = a @ b; => 1:1
 x = --a; => 1:1
 x = a = b; => 1:1
 x = a := b; => 1:1";
-    holds(&rt, rt.alloc(), table);
-}

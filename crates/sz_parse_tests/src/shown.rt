@@ -5,6 +5,7 @@ use sz_tree::{
     Elem, Expr, First, Literal, Name, Pair, Param, Path, ProtoField, Quantifier, Simple, Step,
     Stmt, Table, TypeTree,
 };
+use sz_types::Place;
 
 // A node: what opens it, and its parts, each shown by the function before it.
 macro_rules! node {
@@ -285,5 +286,33 @@ fn maybe_stmt(out: &mut String, part: &Option<Box<Stmt>>) {
     match part {
         Some(part) => stmt(out, part),
         None => word(out, "-"),
+    }
+}
+
+fn column(out: &mut String, part: Place) {
+    let _ = write!(out, " {}", part.column);
+}
+
+fn levels(out: &mut String, value: &Expr) {
+    let _ = write!(out, " {}", value.level());
+    if let Expr::Binary(_, op, _, _) = value {
+        let _ = write!(out, " {} {}", op.level(), op.left_level());
+    }
+}
+
+/// The columns of each statement and of parts of it, and the levels of what it declares.
+pub fn places(out: &mut String, statements: &Vec<Stmt>) {
+    for tree in statements {
+        column(out, tree.place());
+        match tree {
+            Stmt::Declare(part, of, Some(value)) => {
+                column(out, part.place());
+                column(out, of.place());
+                column(out, value.place());
+                levels(out, value);
+            }
+            Stmt::Simple(step) => column(out, step.place()),
+            _ => {}
+        }
     }
 }
