@@ -3,5 +3,4 @@ pub mod CountLemmas
 pub mod RoundLemmas
 pub mod LawLemmas
 pub mod PlanLemmas
-pub mod CutLemmas
 pub mod RangeLemmas

@@ -8,7 +8,18 @@ use Rattle.sz_attempt.specs.Shards.{IsShardIn}
 use Rattle.sz_rounds.specs.Outcomes.{FollowFrom, all_records}
 use Rattle.sz_rounds.specs.Rounds.{numbered, AreNext}
 use Rattle.sz_rounds.specs.Cuts.{ranges_of, cut_into, AreCut, MakesRounds}
-use Rattle.sz_rounds.proofs.CutLemmas.{shard_of, drop_more}
+
+drop_nothing : {A : Type 0} (n : ℕ) → drop {A = A} n [] ≡ []
+drop_nothing zero = refl
+drop_nothing (suc n) = refl
+
+pub drop_more : {A : Type 0} (s n : ℕ) (xs : List A) → drop n (drop s xs) ≡ drop (s + n) xs
+drop_more zero n xs = let same : n ≡ 0 + n = omega arith in ap (λ m. drop m xs) same
+drop_more (suc s) n [] = drop_nothing n ∙ sym (drop_nothing (suc s + n))
+drop_more (suc s) n (x ∷ xs) = let next : suc s + n ≡ suc (s + n) = omega arith in drop_more s n xs ∙ ap (λ m. drop m (x ∷ xs)) (sym next)
+
+abbrev shard_of : ℕ → ℕ → ℕ → Shard
+shard_of first start end = record { first = first; start = start; end = end }
 
 length-take_within : {A : Type 0} (n : ℕ) (xs : List A) → n ≤ length xs → length (take n xs) ≡ n
 length-take_within zero xs le = refl

@@ -1,13 +1,10 @@
-//! Rounds of shards: what comes of them, their plans, and how an input's records are cut into shards. The first shard that faults or is
-//! lost decides.
+//! Rounds of shards: what comes of them, and their plans. The first shard that faults or is lost decides.
 #![tactic(auto)]
 
-mod cutting;
 mod laws;
 mod plan;
 mod round;
 
-pub use cutting::cut_shards;
 pub use laws::{
     cuts_make_rounds, emits_of_shards_are_those_of_all_records, records_decide_without_kills,
     rounds_follow_each_other, the_first_shard_decides,
