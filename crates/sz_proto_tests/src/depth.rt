@@ -65,23 +65,38 @@ fn nested(alloc: Global, levels: u32) -> Result<Vec<u8>, Fail> {
 
 fn is_message(alloc: Global, ty: &Ty, bytes: &[u8]) -> Result<bool, Fail> {
     let slot = decode(alloc, ty, bytes)?;
-    Ok(matches!(&slot, Slot::Defined(_)))
+    let is_message = matches!(&slot, Slot::Defined(_));
+    drop(slot);
+    Ok(is_message)
+}
+
+// Whether so many groups are read.
+fn groups_are_read(alloc: Global, count: u32) -> Result<bool, Fail> {
+    let bytes = groups(alloc, count)?;
+    let ty = type_of(alloc, "2 int")?;
+    let is_message = is_message(alloc, &ty, bytes.as_slice());
+    drop(ty);
+    is_message
+}
+
+// Whether a message of so many levels is read.
+fn levels_are_read(alloc: Global, levels: u32) -> Result<bool, Fail> {
+    let bytes = nested(alloc, levels)?;
+    let ty = nested_type(alloc, 120)?;
+    let is_message = is_message(alloc, &ty, bytes.as_slice());
+    drop(ty);
+    is_message
 }
 
 #[test]
-fn groups_nest_to_level_100(rt: HostRuntime) -> Result<(), Fail> {
-    let ty = type_of(rt.alloc(), "2 int")?;
+fn messages_and_groups_nest_to_level_100(rt: HostRuntime) -> Result<(), Fail> {
     for (count, expected) in [(99, true), (100, false)] {
-        let bytes = groups(rt.alloc(), count)?;
-        let found = is_message(rt.alloc(), &ty, bytes.as_slice())?;
-        assert_eq!(rt; found, expected, "at {count}");
+        assert_eq!(rt;
+            groups_are_read(rt.alloc(), count)?,
+            expected,
+            "of {count} groups"
+        );
     }
-    Ok(())
-}
-
-#[test]
-fn messages_nest_to_level_100(rt: HostRuntime) -> Result<(), Fail> {
-    let ty = nested_type(rt.alloc(), 120)?;
     for (levels, expected) in [
         (1, true),
         (99, true),
@@ -89,9 +104,11 @@ fn messages_nest_to_level_100(rt: HostRuntime) -> Result<(), Fail> {
         (101, false),
         (110, false),
     ] {
-        let bytes = nested(rt.alloc(), levels)?;
-        let found = is_message(rt.alloc(), &ty, bytes.as_slice())?;
-        assert_eq!(rt; found, expected, "at {levels}");
+        assert_eq!(rt;
+            levels_are_read(rt.alloc(), levels)?,
+            expected,
+            "of {levels} levels"
+        );
     }
     Ok(())
 }

@@ -71,10 +71,15 @@ type 1 int 2 array int
 08 05 08 07 12 02 01 02 10 03 2b 08 01 2c 0a 01 78 => {7, [1, 2, 3]}
 08 => undefined";
 
-// The text of the value that the bytes have.
-fn value_of(alloc: Global, type_text: &str, bytes: &[u8]) -> Result<String, Fail> {
+// Whether the value of the bytes has this text.
+fn has_value(alloc: Global, type_text: &str, bytes: &[u8], expected: &str) -> Result<bool, Fail> {
     let ty = type_of(alloc, type_text)?;
-    Ok(told(alloc, &decode(alloc, &ty, bytes)?)?)
+    let found = decode(alloc, &ty, bytes);
+    drop(ty);
+    let found = found?;
+    let text = told(alloc, &found);
+    drop(found);
+    Ok(text?.as_str() == expected)
 }
 
 // The bytes of each row have its value.
@@ -89,8 +94,10 @@ fn holds(rt: &impl Abort, alloc: Global, rows: &str) -> Result<(), Fail> {
             type_text = text;
         } else if let Some((digits, expected)) = line.split_once("=> ") {
             add_bytes(&mut bytes, digits)?;
-            let found = value_of(alloc, type_text, bytes.as_slice())?;
-            assert_eq!(rt; found.as_str(), expected, "at {shown}: {line}");
+            assert!(rt;
+                has_value(alloc, type_text, bytes.as_slice(), expected)?,
+                "at {shown}: {line}"
+            );
             bytes.clear();
         } else {
             add_bytes(&mut bytes, line)?;
@@ -99,12 +106,15 @@ fn holds(rt: &impl Abort, alloc: Global, rows: &str) -> Result<(), Fail> {
     Ok(())
 }
 
-#[test]
-fn messages_have_the_values_of_their_fields(rt: HostRuntime) -> Result<(), Fail> {
-    holds(&rt, rt.alloc(), ROWS)
+// The tables behind a call, so that no proof sees what stands in them.
+fn tables() -> [&'static str; 2] {
+    [ROWS, written::ROWS]
 }
 
 #[test]
-fn messages_that_protoc_wrote_are_read(rt: HostRuntime) -> Result<(), Fail> {
-    holds(&rt, rt.alloc(), written::ROWS)
+fn messages_have_the_values_of_their_fields(rt: HostRuntime) -> Result<(), Fail> {
+    for rows in tables() {
+        holds(&rt, rt.alloc(), rows)?;
+    }
+    Ok(())
 }
