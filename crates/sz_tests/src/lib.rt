@@ -14,8 +14,6 @@ mod scopes;
 #[cfg(test)]
 mod tokens;
 #[cfg(test)]
-mod trees;
-#[cfg(test)]
 mod types;
 #[cfg(test)]
 mod values;
