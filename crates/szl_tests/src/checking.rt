@@ -1,6 +1,6 @@
 //! Large programs, which `check` judges.
-use itoa::Buffer;
 use std::alloc::{AllocError, Global};
+use std::fmt::Write;
 use std::test::Fail;
 use std::thread::Builder;
 use sz_check::check;
@@ -10,28 +10,22 @@ use sz_parse::parse;
 /// How much stack the program runs a command line on, as in `szl_cli`.
 const STACK_BYTES: usize = 2 << 30;
 
-/// Appends words with a number behind each but the last.
-fn push(text: &mut String, words: &[&str], numbers: &[u32]) -> Result<(), AllocError> {
-    for (word, number) in words.iter().zip(numbers) {
-        let mut digits = Buffer::new();
-        text.push_str(word)?;
-        text.push_str(digits.format(*number))?;
+/// Appends a part so often.
+fn repeat(text: &mut String, part: &str, times: u32) -> Result<(), AllocError> {
+    for _ in 0..times {
+        text.push_str(part)?;
     }
-    text.push_str(";\n")
+    Ok(())
 }
 
 /// A chain of this many types, each an array of the one before, and a variable of the last.
 fn chain(alloc: Global, count: u32) -> Result<String, AllocError> {
     let mut program = String::new(alloc);
-    program.push_str("type A0 = int;\n")?;
+    writeln!(program, "type A0 = int;")?;
     for number in 1..count {
-        push(
-            &mut program,
-            &["type A", " = array of A"],
-            &[number, number - 1],
-        )?;
+        writeln!(program, "type A{number} = array of A{};", number - 1)?;
     }
-    push(&mut program, &["x: A"], &[count.saturating_sub(1)])?;
+    writeln!(program, "x: A{};", count.saturating_sub(1))?;
     Ok(program)
 }
 
@@ -40,14 +34,10 @@ fn nested(alloc: Global, count: u32) -> Result<String, AllocError> {
     let mut program = String::new(alloc);
     for number in 0..count {
         program.push_str("{ x: ")?;
-        for _ in 0..200 {
-            program.push_str("{a:")?;
-        }
+        repeat(&mut program, "{a:", 200)?;
         program.push_str("int")?;
-        for _ in 0..200 {
-            program.push_str("}")?;
-        }
-        push(&mut program, &["; y: int = "], &[number])?;
+        repeat(&mut program, "}", 200)?;
+        writeln!(program, "; y: int = {number};")?;
         program.push_str("}\n")?;
     }
     Ok(program)
@@ -57,25 +47,18 @@ fn nested(alloc: Global, count: u32) -> Result<String, AllocError> {
 /// much higher than that of 1,000.
 fn tower(alloc: Global, count: u32) -> Result<String, AllocError> {
     let mut program = String::new(alloc);
-    program.push_str("type T0 = int;\n")?;
+    writeln!(program, "type T0 = int;")?;
     for number in 1..count {
-        let mut digits = Buffer::new();
-        program.push_str("type T")?;
-        program.push_str(digits.format(number))?;
-        program.push_str(" = ")?;
-        for _ in 0..254 {
-            program.push_str("{a:")?;
-        }
-        program.push_str("T")?;
-        program.push_str(digits.format(number - 1))?;
-        for _ in 0..254 {
-            program.push_str("}")?;
-        }
+        write!(program, "type T{number} = ")?;
+        repeat(&mut program, "{a:", 254)?;
+        write!(program, "T{}", number - 1)?;
+        repeat(&mut program, "}", 254)?;
         program.push_str(";\n")?;
     }
     let last = count.saturating_sub(1);
-    push(&mut program, &["x: T"], &[last])?;
-    push(&mut program, &["{ z: T"], &[last])?;
+    writeln!(program, "x: T{last};")?;
+    program.push_str("{ ")?;
+    writeln!(program, "z: T{last};")?;
     program.push_str("z = x; }\n")?;
     Ok(program)
 }
@@ -83,9 +66,9 @@ fn tower(alloc: Global, count: u32) -> Result<String, AllocError> {
 /// This many variables, each with the value of the one before.
 fn declarations(alloc: Global, count: u32) -> Result<String, AllocError> {
     let mut program = String::new(alloc);
-    program.push_str("x0: int = 1;\n")?;
+    writeln!(program, "x0: int = 1;")?;
     for number in 1..count {
-        push(&mut program, &["x", ": int = x"], &[number, number - 1])?;
+        writeln!(program, "x{number}: int = x{};", number - 1)?;
     }
     Ok(program)
 }
@@ -101,7 +84,10 @@ fn is_fine(alloc: Global, text: &str) -> bool {
     let Ok(tree) = parse(alloc, &tokens) else {
         return false;
     };
-    check(alloc, &tree).is_ok()
+    let checked = check(alloc, &tree);
+    let is_fine = checked.is_ok();
+    drop(checked);
+    is_fine
 }
 
 /// Whether nothing is refused of large programs.

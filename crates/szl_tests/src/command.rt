@@ -10,9 +10,10 @@ use std::thread::Threads;
 use sz_io::{Gate, MemFiles, MemSink, NoGate, NoMemory};
 use szl::szl_main;
 
-/// What a run is given beside its program: words, an input, and the numbers of the calls that fail.
+/// What a run is given: the program that its row writes, words, an input, and the numbers of the calls that fail.
 #[derive(Clone, Copy)]
 pub struct Setting<'t> {
+    pub program: &'t str,
     pub words: &'t str,
     pub input: &'t str,
     pub program_fails: u64,
@@ -25,6 +26,7 @@ pub const NEVER: u64 = 1000;
 
 /// What a run is given where no line says otherwise.
 pub const PLAIN: Setting<'static> = Setting {
+    program: "",
     words: "run p f",
     input: "",
     program_fails: NEVER,

@@ -130,22 +130,29 @@ fn left_with<R: Threads + Wait + Sync>(
     left(rt, alloc, &given, program.as_bytes())
 }
 
+/// Whether a run that is drawn leaves the same by any number of workers.
+fn is_alike<R: Threads + Wait + Sync>(
+    rt: &R,
+    alloc: Global,
+    draws: &mut Draws,
+) -> Result<bool, Fail> {
+    let program = program_of(draws.draw());
+    let input = input_drawn(alloc, draws)?;
+    let words = words_drawn(alloc, draws)?;
+    let one = left_with(rt, alloc, program, &input, &words, 1)?;
+    let mut alike = true;
+    for workers in [2, 3, 8] {
+        let more = left_with(rt, alloc, program, &input, &words, workers)?;
+        alike = alike && more.as_str() == one.as_str();
+    }
+    Ok(alike)
+}
+
 #[test]
 fn two_hundred_runs_are_alike_by_any_number_of_workers(rt: HostRuntime) -> Result<(), Fail> {
     let mut draws = Draws { last: 1 };
-    for _ in 0..200 {
-        let program = program_of(draws.draw());
-        let input = input_drawn(rt.alloc(), &mut draws)?;
-        let words = words_drawn(rt.alloc(), &mut draws)?;
-        let one = left_with(&rt, rt.alloc(), program, &input, &words, 1)?;
-        for workers in [2, 3, 8] {
-            let more = left_with(&rt, rt.alloc(), program, &input, &words, workers)?;
-            assert_eq!(&rt;
-                more.as_str(),
-                one.as_str(),
-                "{words} by {workers}: {program}"
-            );
-        }
+    for number in 0..200 {
+        assert!(&rt; is_alike(&rt, rt.alloc(), &mut draws)?, "run {number}");
     }
     Ok(())
 }

@@ -5,164 +5,84 @@ pub const RUNS: &str = r#"== a shard is lost where both attempts die
 < 3¶4¶
 $ [run p f --shard 1 --attempts 2]
 c: table sum of int; x: int = input; emit c <- x; => 0 c[] = 7¶
-$ [run p f --shard 1 --attempts 2 --kill 1.1.0]
-c: table sum of int; x: int = input; emit c <- x; => 0 c[] = 7¶
-$ [run p f --shard 1 --attempts 2 --kill 1.1.1]
-c: table sum of int; x: int = input; emit c <- x; => 0 c[] = 7¶
-$ [run p f --shard 1 --attempts 2 --kill 1.0.0]
-c: table sum of int; x: int = input; emit c <- x; => 0 c[] = 7¶
-$ [run p f --shard 1 --attempts 2 --kill 1.0.0,1.1.0]
-c: table sum of int; x: int = input; emit c <- x; => 7 ! shard 1 lost
-$ [run p f --shard 1 --attempts 2 --kill 1.0.0,1.1.1]
-c: table sum of int; x: int = input; emit c <- x; => 7 ! shard 1 lost
-$ [run p f --shard 1 --attempts 2 --kill 1.0.1]
-c: table sum of int; x: int = input; emit c <- x; => 0 c[] = 7¶
-$ [run p f --shard 1 --attempts 2 --kill 1.0.1,1.1.0]
-c: table sum of int; x: int = input; emit c <- x; => 7 ! shard 1 lost
-$ [run p f --shard 1 --attempts 2 --kill 1.0.1,1.1.1]
-c: table sum of int; x: int = input; emit c <- x; => 7 ! shard 1 lost
-$ [run p f --shard 1 --attempts 2 --kill 0.1.0]
-c: table sum of int; x: int = input; emit c <- x; => 0 c[] = 7¶
-$ [run p f --shard 1 --attempts 2 --kill 0.1.0,1.1.0]
-c: table sum of int; x: int = input; emit c <- x; => 0 c[] = 7¶
-$ [run p f --shard 1 --attempts 2 --kill 0.1.0,1.1.1]
-c: table sum of int; x: int = input; emit c <- x; => 0 c[] = 7¶
-$ [run p f --shard 1 --attempts 2 --kill 0.1.0,1.0.0]
-c: table sum of int; x: int = input; emit c <- x; => 0 c[] = 7¶
-$ [run p f --shard 1 --attempts 2 --kill 0.1.0,1.0.0,1.1.0]
-c: table sum of int; x: int = input; emit c <- x; => 7 ! shard 1 lost
-$ [run p f --shard 1 --attempts 2 --kill 0.1.0,1.0.0,1.1.1]
-c: table sum of int; x: int = input; emit c <- x; => 7 ! shard 1 lost
-$ [run p f --shard 1 --attempts 2 --kill 0.1.0,1.0.1]
-c: table sum of int; x: int = input; emit c <- x; => 0 c[] = 7¶
-$ [run p f --shard 1 --attempts 2 --kill 0.1.0,1.0.1,1.1.0]
-c: table sum of int; x: int = input; emit c <- x; => 7 ! shard 1 lost
-$ [run p f --shard 1 --attempts 2 --kill 0.1.0,1.0.1,1.1.1]
-c: table sum of int; x: int = input; emit c <- x; => 7 ! shard 1 lost
-$ [run p f --shard 1 --attempts 2 --kill 0.1.1]
-c: table sum of int; x: int = input; emit c <- x; => 0 c[] = 7¶
-$ [run p f --shard 1 --attempts 2 --kill 0.1.1,1.1.0]
-c: table sum of int; x: int = input; emit c <- x; => 0 c[] = 7¶
-$ [run p f --shard 1 --attempts 2 --kill 0.1.1,1.1.1]
-c: table sum of int; x: int = input; emit c <- x; => 0 c[] = 7¶
-$ [run p f --shard 1 --attempts 2 --kill 0.1.1,1.0.0]
-c: table sum of int; x: int = input; emit c <- x; => 0 c[] = 7¶
-$ [run p f --shard 1 --attempts 2 --kill 0.1.1,1.0.0,1.1.0]
-c: table sum of int; x: int = input; emit c <- x; => 7 ! shard 1 lost
-$ [run p f --shard 1 --attempts 2 --kill 0.1.1,1.0.0,1.1.1]
-c: table sum of int; x: int = input; emit c <- x; => 7 ! shard 1 lost
-$ [run p f --shard 1 --attempts 2 --kill 0.1.1,1.0.1]
-c: table sum of int; x: int = input; emit c <- x; => 0 c[] = 7¶
-$ [run p f --shard 1 --attempts 2 --kill 0.1.1,1.0.1,1.1.0]
-c: table sum of int; x: int = input; emit c <- x; => 7 ! shard 1 lost
-$ [run p f --shard 1 --attempts 2 --kill 0.1.1,1.0.1,1.1.1]
-c: table sum of int; x: int = input; emit c <- x; => 7 ! shard 1 lost
-$ [run p f --shard 1 --attempts 2 --kill 0.0.0]
-c: table sum of int; x: int = input; emit c <- x; => 0 c[] = 7¶
-$ [run p f --shard 1 --attempts 2 --kill 0.0.0,1.1.0]
-c: table sum of int; x: int = input; emit c <- x; => 0 c[] = 7¶
-$ [run p f --shard 1 --attempts 2 --kill 0.0.0,1.1.1]
-c: table sum of int; x: int = input; emit c <- x; => 0 c[] = 7¶
-$ [run p f --shard 1 --attempts 2 --kill 0.0.0,1.0.0]
-c: table sum of int; x: int = input; emit c <- x; => 0 c[] = 7¶
-$ [run p f --shard 1 --attempts 2 --kill 0.0.0,1.0.0,1.1.0]
-c: table sum of int; x: int = input; emit c <- x; => 7 ! shard 1 lost
-$ [run p f --shard 1 --attempts 2 --kill 0.0.0,1.0.0,1.1.1]
-c: table sum of int; x: int = input; emit c <- x; => 7 ! shard 1 lost
-$ [run p f --shard 1 --attempts 2 --kill 0.0.0,1.0.1]
-c: table sum of int; x: int = input; emit c <- x; => 0 c[] = 7¶
-$ [run p f --shard 1 --attempts 2 --kill 0.0.0,1.0.1,1.1.0]
-c: table sum of int; x: int = input; emit c <- x; => 7 ! shard 1 lost
-$ [run p f --shard 1 --attempts 2 --kill 0.0.0,1.0.1,1.1.1]
-c: table sum of int; x: int = input; emit c <- x; => 7 ! shard 1 lost
-$ [run p f --shard 1 --attempts 2 --kill 0.0.0,0.1.0]
-c: table sum of int; x: int = input; emit c <- x; => 7 ! shard 0 lost
-$ [run p f --shard 1 --attempts 2 --kill 0.0.0,0.1.0,1.1.0]
-c: table sum of int; x: int = input; emit c <- x; => 7 ! shard 0 lost
-$ [run p f --shard 1 --attempts 2 --kill 0.0.0,0.1.0,1.1.1]
-c: table sum of int; x: int = input; emit c <- x; => 7 ! shard 0 lost
-$ [run p f --shard 1 --attempts 2 --kill 0.0.0,0.1.0,1.0.0]
-c: table sum of int; x: int = input; emit c <- x; => 7 ! shard 0 lost
-$ [run p f --shard 1 --attempts 2 --kill 0.0.0,0.1.0,1.0.0,1.1.0]
-c: table sum of int; x: int = input; emit c <- x; => 7 ! shard 0 lost
-$ [run p f --shard 1 --attempts 2 --kill 0.0.0,0.1.0,1.0.0,1.1.1]
-c: table sum of int; x: int = input; emit c <- x; => 7 ! shard 0 lost
-$ [run p f --shard 1 --attempts 2 --kill 0.0.0,0.1.0,1.0.1]
-c: table sum of int; x: int = input; emit c <- x; => 7 ! shard 0 lost
-$ [run p f --shard 1 --attempts 2 --kill 0.0.0,0.1.0,1.0.1,1.1.0]
-c: table sum of int; x: int = input; emit c <- x; => 7 ! shard 0 lost
-$ [run p f --shard 1 --attempts 2 --kill 0.0.0,0.1.0,1.0.1,1.1.1]
-c: table sum of int; x: int = input; emit c <- x; => 7 ! shard 0 lost
-$ [run p f --shard 1 --attempts 2 --kill 0.0.0,0.1.1]
-c: table sum of int; x: int = input; emit c <- x; => 7 ! shard 0 lost
-$ [run p f --shard 1 --attempts 2 --kill 0.0.0,0.1.1,1.1.0]
-c: table sum of int; x: int = input; emit c <- x; => 7 ! shard 0 lost
-$ [run p f --shard 1 --attempts 2 --kill 0.0.0,0.1.1,1.1.1]
-c: table sum of int; x: int = input; emit c <- x; => 7 ! shard 0 lost
-$ [run p f --shard 1 --attempts 2 --kill 0.0.0,0.1.1,1.0.0]
-c: table sum of int; x: int = input; emit c <- x; => 7 ! shard 0 lost
-$ [run p f --shard 1 --attempts 2 --kill 0.0.0,0.1.1,1.0.0,1.1.0]
-c: table sum of int; x: int = input; emit c <- x; => 7 ! shard 0 lost
-$ [run p f --shard 1 --attempts 2 --kill 0.0.0,0.1.1,1.0.0,1.1.1]
-c: table sum of int; x: int = input; emit c <- x; => 7 ! shard 0 lost
-$ [run p f --shard 1 --attempts 2 --kill 0.0.0,0.1.1,1.0.1]
-c: table sum of int; x: int = input; emit c <- x; => 7 ! shard 0 lost
-$ [run p f --shard 1 --attempts 2 --kill 0.0.0,0.1.1,1.0.1,1.1.0]
-c: table sum of int; x: int = input; emit c <- x; => 7 ! shard 0 lost
-$ [run p f --shard 1 --attempts 2 --kill 0.0.0,0.1.1,1.0.1,1.1.1]
-c: table sum of int; x: int = input; emit c <- x; => 7 ! shard 0 lost
-$ [run p f --shard 1 --attempts 2 --kill 0.0.1]
-c: table sum of int; x: int = input; emit c <- x; => 0 c[] = 7¶
-$ [run p f --shard 1 --attempts 2 --kill 0.0.1,1.1.0]
-c: table sum of int; x: int = input; emit c <- x; => 0 c[] = 7¶
-$ [run p f --shard 1 --attempts 2 --kill 0.0.1,1.1.1]
-c: table sum of int; x: int = input; emit c <- x; => 0 c[] = 7¶
-$ [run p f --shard 1 --attempts 2 --kill 0.0.1,1.0.0]
-c: table sum of int; x: int = input; emit c <- x; => 0 c[] = 7¶
-$ [run p f --shard 1 --attempts 2 --kill 0.0.1,1.0.0,1.1.0]
-c: table sum of int; x: int = input; emit c <- x; => 7 ! shard 1 lost
-$ [run p f --shard 1 --attempts 2 --kill 0.0.1,1.0.0,1.1.1]
-c: table sum of int; x: int = input; emit c <- x; => 7 ! shard 1 lost
-$ [run p f --shard 1 --attempts 2 --kill 0.0.1,1.0.1]
-c: table sum of int; x: int = input; emit c <- x; => 0 c[] = 7¶
-$ [run p f --shard 1 --attempts 2 --kill 0.0.1,1.0.1,1.1.0]
-c: table sum of int; x: int = input; emit c <- x; => 7 ! shard 1 lost
-$ [run p f --shard 1 --attempts 2 --kill 0.0.1,1.0.1,1.1.1]
-c: table sum of int; x: int = input; emit c <- x; => 7 ! shard 1 lost
-$ [run p f --shard 1 --attempts 2 --kill 0.0.1,0.1.0]
-c: table sum of int; x: int = input; emit c <- x; => 7 ! shard 0 lost
-$ [run p f --shard 1 --attempts 2 --kill 0.0.1,0.1.0,1.1.0]
-c: table sum of int; x: int = input; emit c <- x; => 7 ! shard 0 lost
-$ [run p f --shard 1 --attempts 2 --kill 0.0.1,0.1.0,1.1.1]
-c: table sum of int; x: int = input; emit c <- x; => 7 ! shard 0 lost
-$ [run p f --shard 1 --attempts 2 --kill 0.0.1,0.1.0,1.0.0]
-c: table sum of int; x: int = input; emit c <- x; => 7 ! shard 0 lost
-$ [run p f --shard 1 --attempts 2 --kill 0.0.1,0.1.0,1.0.0,1.1.0]
-c: table sum of int; x: int = input; emit c <- x; => 7 ! shard 0 lost
-$ [run p f --shard 1 --attempts 2 --kill 0.0.1,0.1.0,1.0.0,1.1.1]
-c: table sum of int; x: int = input; emit c <- x; => 7 ! shard 0 lost
-$ [run p f --shard 1 --attempts 2 --kill 0.0.1,0.1.0,1.0.1]
-c: table sum of int; x: int = input; emit c <- x; => 7 ! shard 0 lost
-$ [run p f --shard 1 --attempts 2 --kill 0.0.1,0.1.0,1.0.1,1.1.0]
-c: table sum of int; x: int = input; emit c <- x; => 7 ! shard 0 lost
-$ [run p f --shard 1 --attempts 2 --kill 0.0.1,0.1.0,1.0.1,1.1.1]
-c: table sum of int; x: int = input; emit c <- x; => 7 ! shard 0 lost
-$ [run p f --shard 1 --attempts 2 --kill 0.0.1,0.1.1]
-c: table sum of int; x: int = input; emit c <- x; => 7 ! shard 0 lost
-$ [run p f --shard 1 --attempts 2 --kill 0.0.1,0.1.1,1.1.0]
-c: table sum of int; x: int = input; emit c <- x; => 7 ! shard 0 lost
-$ [run p f --shard 1 --attempts 2 --kill 0.0.1,0.1.1,1.1.1]
-c: table sum of int; x: int = input; emit c <- x; => 7 ! shard 0 lost
-$ [run p f --shard 1 --attempts 2 --kill 0.0.1,0.1.1,1.0.0]
-c: table sum of int; x: int = input; emit c <- x; => 7 ! shard 0 lost
-$ [run p f --shard 1 --attempts 2 --kill 0.0.1,0.1.1,1.0.0,1.1.0]
-c: table sum of int; x: int = input; emit c <- x; => 7 ! shard 0 lost
-$ [run p f --shard 1 --attempts 2 --kill 0.0.1,0.1.1,1.0.0,1.1.1]
-c: table sum of int; x: int = input; emit c <- x; => 7 ! shard 0 lost
-$ [run p f --shard 1 --attempts 2 --kill 0.0.1,0.1.1,1.0.1]
-c: table sum of int; x: int = input; emit c <- x; => 7 ! shard 0 lost
-$ [run p f --shard 1 --attempts 2 --kill 0.0.1,0.1.1,1.0.1,1.1.0]
-c: table sum of int; x: int = input; emit c <- x; => 7 ! shard 0 lost
-$ [run p f --shard 1 --attempts 2 --kill 0.0.1,0.1.1,1.0.1,1.1.1]
-c: table sum of int; x: int = input; emit c <- x; => 7 ! shard 0 lost
+$ [run p f --shard 1 --attempts 2 --kill 1.1.0] => 0 c[] = 7¶
+$ [run p f --shard 1 --attempts 2 --kill 1.1.1] => 0 c[] = 7¶
+$ [run p f --shard 1 --attempts 2 --kill 1.0.0] => 0 c[] = 7¶
+$ [run p f --shard 1 --attempts 2 --kill 1.0.0,1.1.0] => 7 ! shard 1 lost
+$ [run p f --shard 1 --attempts 2 --kill 1.0.0,1.1.1] => 7 ! shard 1 lost
+$ [run p f --shard 1 --attempts 2 --kill 1.0.1] => 0 c[] = 7¶
+$ [run p f --shard 1 --attempts 2 --kill 1.0.1,1.1.0] => 7 ! shard 1 lost
+$ [run p f --shard 1 --attempts 2 --kill 1.0.1,1.1.1] => 7 ! shard 1 lost
+$ [run p f --shard 1 --attempts 2 --kill 0.1.0] => 0 c[] = 7¶
+$ [run p f --shard 1 --attempts 2 --kill 0.1.0,1.1.0] => 0 c[] = 7¶
+$ [run p f --shard 1 --attempts 2 --kill 0.1.0,1.1.1] => 0 c[] = 7¶
+$ [run p f --shard 1 --attempts 2 --kill 0.1.0,1.0.0] => 0 c[] = 7¶
+$ [run p f --shard 1 --attempts 2 --kill 0.1.0,1.0.0,1.1.0] => 7 ! shard 1 lost
+$ [run p f --shard 1 --attempts 2 --kill 0.1.0,1.0.0,1.1.1] => 7 ! shard 1 lost
+$ [run p f --shard 1 --attempts 2 --kill 0.1.0,1.0.1] => 0 c[] = 7¶
+$ [run p f --shard 1 --attempts 2 --kill 0.1.0,1.0.1,1.1.0] => 7 ! shard 1 lost
+$ [run p f --shard 1 --attempts 2 --kill 0.1.0,1.0.1,1.1.1] => 7 ! shard 1 lost
+$ [run p f --shard 1 --attempts 2 --kill 0.1.1] => 0 c[] = 7¶
+$ [run p f --shard 1 --attempts 2 --kill 0.1.1,1.1.0] => 0 c[] = 7¶
+$ [run p f --shard 1 --attempts 2 --kill 0.1.1,1.1.1] => 0 c[] = 7¶
+$ [run p f --shard 1 --attempts 2 --kill 0.1.1,1.0.0] => 0 c[] = 7¶
+$ [run p f --shard 1 --attempts 2 --kill 0.1.1,1.0.0,1.1.0] => 7 ! shard 1 lost
+$ [run p f --shard 1 --attempts 2 --kill 0.1.1,1.0.0,1.1.1] => 7 ! shard 1 lost
+$ [run p f --shard 1 --attempts 2 --kill 0.1.1,1.0.1] => 0 c[] = 7¶
+$ [run p f --shard 1 --attempts 2 --kill 0.1.1,1.0.1,1.1.0] => 7 ! shard 1 lost
+$ [run p f --shard 1 --attempts 2 --kill 0.1.1,1.0.1,1.1.1] => 7 ! shard 1 lost
+$ [run p f --shard 1 --attempts 2 --kill 0.0.0] => 0 c[] = 7¶
+$ [run p f --shard 1 --attempts 2 --kill 0.0.0,1.1.0] => 0 c[] = 7¶
+$ [run p f --shard 1 --attempts 2 --kill 0.0.0,1.1.1] => 0 c[] = 7¶
+$ [run p f --shard 1 --attempts 2 --kill 0.0.0,1.0.0] => 0 c[] = 7¶
+$ [run p f --shard 1 --attempts 2 --kill 0.0.0,1.0.0,1.1.0] => 7 ! shard 1 lost
+$ [run p f --shard 1 --attempts 2 --kill 0.0.0,1.0.0,1.1.1] => 7 ! shard 1 lost
+$ [run p f --shard 1 --attempts 2 --kill 0.0.0,1.0.1] => 0 c[] = 7¶
+$ [run p f --shard 1 --attempts 2 --kill 0.0.0,1.0.1,1.1.0] => 7 ! shard 1 lost
+$ [run p f --shard 1 --attempts 2 --kill 0.0.0,1.0.1,1.1.1] => 7 ! shard 1 lost
+$ [run p f --shard 1 --attempts 2 --kill 0.0.0,0.1.0] => 7 ! shard 0 lost
+$ [run p f --shard 1 --attempts 2 --kill 0.0.0,0.1.0,1.1.0] => 7 ! shard 0 lost
+$ [run p f --shard 1 --attempts 2 --kill 0.0.0,0.1.0,1.1.1] => 7 ! shard 0 lost
+$ [run p f --shard 1 --attempts 2 --kill 0.0.0,0.1.0,1.0.0] => 7 ! shard 0 lost
+$ [run p f --shard 1 --attempts 2 --kill 0.0.0,0.1.0,1.0.0,1.1.0] => 7 ! shard 0 lost
+$ [run p f --shard 1 --attempts 2 --kill 0.0.0,0.1.0,1.0.0,1.1.1] => 7 ! shard 0 lost
+$ [run p f --shard 1 --attempts 2 --kill 0.0.0,0.1.0,1.0.1] => 7 ! shard 0 lost
+$ [run p f --shard 1 --attempts 2 --kill 0.0.0,0.1.0,1.0.1,1.1.0] => 7 ! shard 0 lost
+$ [run p f --shard 1 --attempts 2 --kill 0.0.0,0.1.0,1.0.1,1.1.1] => 7 ! shard 0 lost
+$ [run p f --shard 1 --attempts 2 --kill 0.0.0,0.1.1] => 7 ! shard 0 lost
+$ [run p f --shard 1 --attempts 2 --kill 0.0.0,0.1.1,1.1.0] => 7 ! shard 0 lost
+$ [run p f --shard 1 --attempts 2 --kill 0.0.0,0.1.1,1.1.1] => 7 ! shard 0 lost
+$ [run p f --shard 1 --attempts 2 --kill 0.0.0,0.1.1,1.0.0] => 7 ! shard 0 lost
+$ [run p f --shard 1 --attempts 2 --kill 0.0.0,0.1.1,1.0.0,1.1.0] => 7 ! shard 0 lost
+$ [run p f --shard 1 --attempts 2 --kill 0.0.0,0.1.1,1.0.0,1.1.1] => 7 ! shard 0 lost
+$ [run p f --shard 1 --attempts 2 --kill 0.0.0,0.1.1,1.0.1] => 7 ! shard 0 lost
+$ [run p f --shard 1 --attempts 2 --kill 0.0.0,0.1.1,1.0.1,1.1.0] => 7 ! shard 0 lost
+$ [run p f --shard 1 --attempts 2 --kill 0.0.0,0.1.1,1.0.1,1.1.1] => 7 ! shard 0 lost
+$ [run p f --shard 1 --attempts 2 --kill 0.0.1] => 0 c[] = 7¶
+$ [run p f --shard 1 --attempts 2 --kill 0.0.1,1.1.0] => 0 c[] = 7¶
+$ [run p f --shard 1 --attempts 2 --kill 0.0.1,1.1.1] => 0 c[] = 7¶
+$ [run p f --shard 1 --attempts 2 --kill 0.0.1,1.0.0] => 0 c[] = 7¶
+$ [run p f --shard 1 --attempts 2 --kill 0.0.1,1.0.0,1.1.0] => 7 ! shard 1 lost
+$ [run p f --shard 1 --attempts 2 --kill 0.0.1,1.0.0,1.1.1] => 7 ! shard 1 lost
+$ [run p f --shard 1 --attempts 2 --kill 0.0.1,1.0.1] => 0 c[] = 7¶
+$ [run p f --shard 1 --attempts 2 --kill 0.0.1,1.0.1,1.1.0] => 7 ! shard 1 lost
+$ [run p f --shard 1 --attempts 2 --kill 0.0.1,1.0.1,1.1.1] => 7 ! shard 1 lost
+$ [run p f --shard 1 --attempts 2 --kill 0.0.1,0.1.0] => 7 ! shard 0 lost
+$ [run p f --shard 1 --attempts 2 --kill 0.0.1,0.1.0,1.1.0] => 7 ! shard 0 lost
+$ [run p f --shard 1 --attempts 2 --kill 0.0.1,0.1.0,1.1.1] => 7 ! shard 0 lost
+$ [run p f --shard 1 --attempts 2 --kill 0.0.1,0.1.0,1.0.0] => 7 ! shard 0 lost
+$ [run p f --shard 1 --attempts 2 --kill 0.0.1,0.1.0,1.0.0,1.1.0] => 7 ! shard 0 lost
+$ [run p f --shard 1 --attempts 2 --kill 0.0.1,0.1.0,1.0.0,1.1.1] => 7 ! shard 0 lost
+$ [run p f --shard 1 --attempts 2 --kill 0.0.1,0.1.0,1.0.1] => 7 ! shard 0 lost
+$ [run p f --shard 1 --attempts 2 --kill 0.0.1,0.1.0,1.0.1,1.1.0] => 7 ! shard 0 lost
+$ [run p f --shard 1 --attempts 2 --kill 0.0.1,0.1.0,1.0.1,1.1.1] => 7 ! shard 0 lost
+$ [run p f --shard 1 --attempts 2 --kill 0.0.1,0.1.1] => 7 ! shard 0 lost
+$ [run p f --shard 1 --attempts 2 --kill 0.0.1,0.1.1,1.1.0] => 7 ! shard 0 lost
+$ [run p f --shard 1 --attempts 2 --kill 0.0.1,0.1.1,1.1.1] => 7 ! shard 0 lost
+$ [run p f --shard 1 --attempts 2 --kill 0.0.1,0.1.1,1.0.0] => 7 ! shard 0 lost
+$ [run p f --shard 1 --attempts 2 --kill 0.0.1,0.1.1,1.0.0,1.1.0] => 7 ! shard 0 lost
+$ [run p f --shard 1 --attempts 2 --kill 0.0.1,0.1.1,1.0.0,1.1.1] => 7 ! shard 0 lost
+$ [run p f --shard 1 --attempts 2 --kill 0.0.1,0.1.1,1.0.1] => 7 ! shard 0 lost
+$ [run p f --shard 1 --attempts 2 --kill 0.0.1,0.1.1,1.0.1,1.1.0] => 7 ! shard 0 lost
+$ [run p f --shard 1 --attempts 2 --kill 0.0.1,0.1.1,1.0.1,1.1.1] => 7 ! shard 0 lost
 "#;

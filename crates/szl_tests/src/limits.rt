@@ -1,5 +1,6 @@
 //! Programs and inputs that are as large as they may be, or larger, and texts that no row can have.
 use crate::command::{PLAIN, Setting, left};
+use crate::limits::Large::{Blanks, NoText, Parentheses, Sum, Tables};
 use std::alloc::Global;
 use std::fmt::Write;
 use std::sync::Wait;
@@ -7,18 +8,73 @@ use std::test::Fail;
 use std::thread::Threads;
 use sz_io::NoMemory;
 
-/// Whether the run of a program over the input `3` leaves this.
-fn leaves<R: Threads + Wait + Sync>(
-    rt: &R,
-    alloc: Global,
-    program: &[u8],
-    wanted: &str,
-) -> Result<bool, Fail> {
-    let given = Setting {
-        input: "3¶",
-        ..PLAIN
-    };
-    Ok(left(rt, alloc, &given, program)?.as_str() == wanted)
+/// A program that no row can have.
+#[derive(Clone, Copy)]
+enum Large {
+    /// A value in so many pairs of parentheses, between two texts.
+    Parentheses(usize, &'static str, &'static str),
+    /// It emits 1 and so many more times 1, added from the left.
+    Sum(usize),
+    /// So many tables, each declared in a line of its own.
+    Tables(u32),
+    /// So many blanks.
+    Blanks(usize),
+    /// A byte that is no text.
+    NoText,
+}
+
+const LINE: &str = "c: table sum of int;\nx: int = ";
+
+const EMIT: &str = ";\nemit c <- x;";
+
+/// The words, the input, the program, and what its run leaves.
+type Row = (&'static str, &'static str, Large, &'static str);
+
+const ROWS: &[Row] = &[
+    // A statement is 256 high at most, and operators from the left add to its height.
+    ("run p f", "3¶", Parentheses(254, LINE, EMIT), "0 c[] = 1¶"),
+    (
+        "run p f",
+        "3¶",
+        Parentheses(255, LINE, EMIT),
+        "2 ! program: syntax at 2:1",
+    ),
+    (
+        "run p f",
+        "3¶",
+        Parentheses(300, "x: int = ", ";"),
+        "2 ! program: syntax at 1:1",
+    ),
+    ("run p f", "3¶", Sum(254), "0 c[] = 255¶"),
+    ("run p f", "3¶", Sum(255), "2 ! program: syntax at 2:1"),
+    // A program has 64 tables at most.
+    ("run p f", "", Tables(64), "0"),
+    (
+        "run p f",
+        "",
+        Tables(65),
+        "2 ! program: too many tables at 65:1",
+    ),
+    ("check p", "", Tables(64), "0"),
+    (
+        "check p",
+        "",
+        Tables(65),
+        "2 ! program: too many tables at 65:1",
+    ),
+    // What is no text, or longer than one may be.
+    ("run p f", "3¶", NoText, "2 ! program: not UTF-8 at 1:1"),
+    (
+        "run p f",
+        "3¶",
+        Blanks(1_048_577),
+        "2 ! program: too long at 1:1",
+    ),
+    ("run p f", "3¶", Blanks(1_048_576), "0"),
+];
+
+fn rows() -> &'static [Row] {
+    ROWS
 }
 
 /// A value in so many pairs of parentheses, between two texts.
@@ -27,7 +83,7 @@ fn in_parentheses(
     count: usize,
     before: &str,
     behind: &str,
-) -> Result<Vec<u8>, Fail> {
+) -> Result<Vec<u8>, NoMemory> {
     let mut text = Vec::new(alloc);
     text.extend_from_slice(before.as_bytes())?;
     for _ in 0..count {
@@ -42,7 +98,7 @@ fn in_parentheses(
 }
 
 /// A program that emits 1 and then so many more times 1, added from the left.
-fn long_sum(alloc: Global, count: usize) -> Result<Vec<u8>, Fail> {
+fn long_sum(alloc: Global, count: usize) -> Result<Vec<u8>, NoMemory> {
     let mut text = Vec::new(alloc);
     text.extend_from_slice(b"c: table sum of int;\nx: int = 1")?;
     for _ in 0..count {
@@ -52,65 +108,38 @@ fn long_sum(alloc: Global, count: usize) -> Result<Vec<u8>, Fail> {
     Ok(text)
 }
 
-#[test]
-fn a_statement_may_be_256_high(rt: HostRuntime) -> Result<(), Fail> {
-    let line = "c: table sum of int;\nx: int = ";
-    for (count, before, behind, wanted) in [
-        (254, line, ";\nemit c <- x;", "0 c[] = 1¶"),
-        (255, line, ";\nemit c <- x;", "2 ! program: syntax at 2:1"),
-        (300, "x: int = ", ";", "2 ! program: syntax at 1:1"),
-    ] {
-        let program = in_parentheses(rt.alloc(), count, before, behind)?;
-        assert!(&rt; leaves(&rt, rt.alloc(), &program, wanted)?, "of {count}");
-    }
-    Ok(())
-}
-
-#[test]
-fn operators_from_the_left_add_to_the_height(rt: HostRuntime) -> Result<(), Fail> {
-    for (count, wanted) in [(254, "0 c[] = 255¶"), (255, "2 ! program: syntax at 2:1")] {
-        let program = long_sum(rt.alloc(), count)?;
-        assert!(&rt; leaves(&rt, rt.alloc(), &program, wanted)?, "of {count}");
-    }
-    Ok(())
-}
-
 /// So many tables, each declared in a line of its own.
-fn declarations(alloc: Global, count: u32) -> Result<String, Fail> {
+fn declarations(alloc: Global, count: u32) -> Result<Vec<u8>, NoMemory> {
     let mut text = String::new(alloc);
     for number in 0..count {
         writeln!(text, "t{number}: table sum of int;")?;
     }
-    Ok(text)
+    Ok(text.into_bytes())
 }
 
-#[test]
-fn a_program_has_64_tables_at_most(rt: HostRuntime) -> Result<(), Fail> {
-    for (words, count, wanted) in [
-        ("run p f", 64, "0"),
-        ("run p f", 65, "2 ! program: too many tables at 65:1"),
-        ("check p", 64, "0"),
-        ("check p", 65, "2 ! program: too many tables at 65:1"),
-    ] {
-        let program = declarations(rt.alloc(), count)?;
-        let given = Setting { words, ..PLAIN };
-        let found = left(&rt, rt.alloc(), &given, program.as_bytes())?;
-        assert_eq!(&rt; found.as_str(), wanted, "{words} of {count}");
+fn program_of(alloc: Global, large: Large) -> Result<Vec<u8>, NoMemory> {
+    match large {
+        Large::Parentheses(count, before, behind) => in_parentheses(alloc, count, before, behind),
+        Large::Sum(count) => long_sum(alloc, count),
+        Large::Tables(count) => declarations(alloc, count),
+        Large::Blanks(count) => Ok(vec![in alloc; b' '; count]?),
+        Large::NoText => Ok(vec![in alloc; 0xff; 1]?),
     }
-    Ok(())
 }
 
-#[test]
-fn a_text_that_no_row_can_have_is_refused(rt: HostRuntime) -> Result<(), Fail> {
-    let blanks = vec![in rt.alloc(); b' '; 1_048_577]?;
-    for (program, wanted) in [
-        (b"\xff".as_slice(), "2 ! program: not UTF-8 at 1:1"),
-        (&blanks, "2 ! program: too long at 1:1"),
-        (&blanks[1..], "0"),
-    ] {
-        assert!(&rt; leaves(&rt, rt.alloc(), program, wanted)?);
-    }
-    Ok(())
+/// Whether a run leaves what its row says.
+fn holds<R: Threads + Wait + Sync>(
+    rt: &R,
+    alloc: Global,
+    (words, input, large, wanted): Row,
+) -> Result<bool, Fail> {
+    let program = program_of(alloc, large)?;
+    let given = Setting {
+        words,
+        input,
+        ..PLAIN
+    };
+    Ok(left(rt, alloc, &given, &program)?.as_str() == wanted)
 }
 
 /// A line that is longer than a record may be.
@@ -122,14 +151,24 @@ fn long_line(alloc: Global) -> Result<String, NoMemory> {
     Ok(line)
 }
 
-#[test]
-fn a_line_past_the_limit_is_refused(rt: HostRuntime) -> Result<(), Fail> {
-    let line = long_line(rt.alloc())?;
+/// Whether a line that is longer than a record may be is refused.
+fn long_line_is_refused<R: Threads + Wait + Sync>(rt: &R, alloc: Global) -> Result<bool, Fail> {
+    let line = long_line(alloc)?;
     let given = Setting {
         input: line.as_str(),
         ..PLAIN
     };
-    let found = left(&rt, rt.alloc(), &given, b"c: table sum of int;")?;
-    assert_eq!(&rt; found.as_str(), "9 ! input limit at byte 0");
+    let found = left(rt, alloc, &given, b"c: table sum of int;")?;
+    Ok(found.as_str() == "9 ! input limit at byte 0")
+}
+
+#[test]
+fn what_is_as_large_as_it_may_be_is_run_and_what_is_larger_is_refused(
+    rt: HostRuntime,
+) -> Result<(), Fail> {
+    for (number, row) in rows().iter().enumerate() {
+        assert!(&rt; holds(&rt, rt.alloc(), *row)?, "row {number}");
+    }
+    assert!(&rt; long_line_is_refused(&rt, rt.alloc())?);
     Ok(())
 }

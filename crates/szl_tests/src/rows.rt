@@ -10,80 +10,70 @@ use std::sync::Wait;
 use std::test::Fail;
 use std::thread::Threads;
 
-/// The rows of whole runs. Here and below they are behind a call, so that no proof sees them.
-fn rows_of_runs() -> &'static str {
-    runs::RUNS
+/// The rows of runs that die, fault, or have workers of their own. Here and below they are behind a call, so that no proof sees them.
+fn rows_of_runs() -> [&'static str; 5] {
+    [
+        runs::RUNS,
+        workers::RUNS,
+        kill_lists::RUNS,
+        kill_lists_of_pairs::RUNS,
+        kill_lists_and_faults::RUNS,
+    ]
 }
 
-fn rows_of_workers() -> &'static str {
-    workers::RUNS
+/// The rows of the language.
+fn rows_of_programs() -> [&'static str; 8] {
+    [
+        tables::RUNS,
+        expressions::RUNS,
+        statements::RUNS,
+        expression_ticks::RUNS,
+        statement_ticks::RUNS,
+        searches::RUNS,
+        messages::RUNS,
+        checks::RUNS,
+    ]
 }
 
-fn rows_of_kill_lists() -> &'static str {
-    kill_lists::RUNS
-}
-
-fn rows_of_kill_lists_of_pairs() -> &'static str {
-    kill_lists_of_pairs::RUNS
-}
-
-fn rows_of_kill_lists_and_faults() -> &'static str {
-    kill_lists_and_faults::RUNS
-}
-
-fn rows_of_tables() -> &'static str {
-    tables::RUNS
-}
-
-fn rows_of_expressions() -> &'static str {
-    expressions::RUNS
-}
-
-fn rows_of_statements() -> &'static str {
-    statements::RUNS
-}
-
-fn rows_of_expression_ticks() -> &'static str {
-    expression_ticks::RUNS
-}
-
-fn rows_of_statement_ticks() -> &'static str {
-    statement_ticks::RUNS
-}
-
-fn rows_of_searches() -> &'static str {
-    searches::RUNS
-}
-
-fn rows_of_messages() -> &'static str {
-    messages::RUNS
-}
-
-fn rows_of_checks() -> &'static str {
-    checks::RUNS
-}
-
-/// What is given below a line that says so, and none where the line says nothing of it.
-fn given_below<'t>(line: &'t str, before: Setting<'t>) -> Option<Setting<'t>> {
+/// What is given from a line on, and what the run leaves that the line is, where it is one.
+fn read<'t>(line: &'t str, before: Setting<'t>) -> (Setting<'t>, Option<&'t str>) {
     if line.is_empty() || line.starts_with("== ") {
-        return Some(PLAIN);
+        return (PLAIN, None);
     }
     if let Some(words) = line.strip_prefix("$ [") {
-        return Some(Setting {
-            words: words.strip_suffix(']')?,
-            ..before
-        });
+        return read_words(words, before);
     }
     if let Some(input) = line.strip_prefix("< ") {
-        return Some(Setting { input, ..before });
+        return (Setting { input, ..before }, None);
     }
-    let call = line.strip_prefix("! ")?;
-    Some(Setting {
+    if let Some(call) = line.strip_prefix("! ") {
+        return (failing(call, before), None);
+    }
+    match line.split_once(" => ") {
+        Some((program, wanted)) => (Setting { program, ..before }, Some(wanted)),
+        None => (before, Some("no arrow")),
+    }
+}
+
+/// The same of a line with words.
+fn read_words<'t>(words: &'t str, before: Setting<'t>) -> (Setting<'t>, Option<&'t str>) {
+    match words.split_once("] => ") {
+        Some((words, wanted)) => (Setting { words, ..before }, Some(wanted)),
+        None => {
+            let words = words.strip_suffix(']').unwrap_or("no bracket");
+            (Setting { words, ..before }, None)
+        }
+    }
+}
+
+/// What is given where this call fails alone.
+fn failing<'t>(call: &str, before: Setting<'t>) -> Setting<'t> {
+    Setting {
         program_fails: number_of(call, "p "),
         input_fails: number_of(call, "f "),
         out_fails: number_of(call, "out "),
         ..before
-    })
+    }
 }
 
 /// The number of the call that fails on a device.
@@ -94,15 +84,14 @@ fn number_of(call: &str, device: &str) -> u64 {
     }
 }
 
-/// Whether a run leaves what its row says.
+/// Whether a run leaves this.
 fn holds<R: Threads + Wait + Sync>(
     rt: &R,
     alloc: Global,
     given: &Setting<'_>,
-    row: &str,
+    wanted: &str,
 ) -> Result<bool, Fail> {
-    let (program, wanted) = row.split_once(" => ").ok_or("no arrow")?;
-    let program = text_of(alloc, program)?;
+    let program = text_of(alloc, given.program)?;
     Ok(left(rt, alloc, given, program.as_bytes())?.as_str() == wanted)
 }
 
@@ -114,9 +103,14 @@ fn all_hold<R: Abort + Threads + Wait + Sync>(
 ) -> Result<(), Fail> {
     let mut given = PLAIN;
     for line in rows.lines() {
-        match given_below(line, given) {
-            Some(next) => given = next,
-            None => assert!(rt; holds(rt, alloc, &given, line)?, "at {line}"),
+        let (next, wanted) = read(line, given);
+        given = next;
+        if let Some(wanted) = wanted {
+            assert!(rt;
+                holds(rt, alloc, &given, wanted)?,
+                "at {line} ({})",
+                given.program
+            );
         }
     }
     Ok(())
@@ -124,65 +118,16 @@ fn all_hold<R: Abort + Threads + Wait + Sync>(
 
 #[test]
 fn each_run_leaves_what_its_row_says(rt: HostRuntime) -> Result<(), Fail> {
-    all_hold(&rt, rt.alloc(), rows_of_runs())
+    for rows in rows_of_runs() {
+        all_hold(&rt, rt.alloc(), rows)?;
+    }
+    Ok(())
 }
 
 #[test]
-fn any_number_of_workers_leaves_what_its_row_says(rt: HostRuntime) -> Result<(), Fail> {
-    all_hold(&rt, rt.alloc(), rows_of_workers())
-}
-
-#[test]
-fn each_list_of_deaths_leaves_what_its_row_says(rt: HostRuntime) -> Result<(), Fail> {
-    all_hold(&rt, rt.alloc(), rows_of_kill_lists())
-}
-
-#[test]
-fn deaths_in_pairs_of_records_leave_what_their_rows_say(rt: HostRuntime) -> Result<(), Fail> {
-    all_hold(&rt, rt.alloc(), rows_of_kill_lists_of_pairs())
-}
-
-#[test]
-fn deaths_and_faults_leave_what_their_rows_say(rt: HostRuntime) -> Result<(), Fail> {
-    all_hold(&rt, rt.alloc(), rows_of_kill_lists_and_faults())
-}
-
-#[test]
-fn tables_print_what_their_rows_say(rt: HostRuntime) -> Result<(), Fail> {
-    all_hold(&rt, rt.alloc(), rows_of_tables())
-}
-
-#[test]
-fn expressions_give_what_their_rows_say(rt: HostRuntime) -> Result<(), Fail> {
-    all_hold(&rt, rt.alloc(), rows_of_expressions())
-}
-
-#[test]
-fn statements_do_what_their_rows_say(rt: HostRuntime) -> Result<(), Fail> {
-    all_hold(&rt, rt.alloc(), rows_of_statements())
-}
-
-#[test]
-fn expressions_take_the_ticks_of_their_rows(rt: HostRuntime) -> Result<(), Fail> {
-    all_hold(&rt, rt.alloc(), rows_of_expression_ticks())
-}
-
-#[test]
-fn statements_take_the_ticks_of_their_rows(rt: HostRuntime) -> Result<(), Fail> {
-    all_hold(&rt, rt.alloc(), rows_of_statement_ticks())
-}
-
-#[test]
-fn searches_find_what_their_rows_say(rt: HostRuntime) -> Result<(), Fail> {
-    all_hold(&rt, rt.alloc(), rows_of_searches())
-}
-
-#[test]
-fn messages_have_the_values_of_their_rows(rt: HostRuntime) -> Result<(), Fail> {
-    all_hold(&rt, rt.alloc(), rows_of_messages())
-}
-
-#[test]
-fn programs_are_refused_as_their_rows_say(rt: HostRuntime) -> Result<(), Fail> {
-    all_hold(&rt, rt.alloc(), rows_of_checks())
+fn each_program_does_what_its_rows_say(rt: HostRuntime) -> Result<(), Fail> {
+    for rows in rows_of_programs() {
+        all_hold(&rt, rt.alloc(), rows)?;
+    }
+    Ok(())
 }

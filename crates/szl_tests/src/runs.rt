@@ -7,7 +7,8 @@
 //! Lines above a run say what else it is given, up to the next line of the kind or the next title:
 //!
 //! - `== TITLE` begins anew: with the words `run p f`, an empty input, and no call that fails.
-//! - `$ [WORDS]` has the words of the command line, with a blank between two of them.
+//! - `$ [WORDS]` has the words of the command line, with a blank between two of them. With `=> STATUS OUTPUT ! LINE` behind it the line is
+//!   a run, of the program above.
 //! - `< INPUT` has the input, in which `\x` and two hexadecimal digits stand for a byte.
 //! - `! p 0` has the first call on the program fail, `! f 0` that on the input, `! out 1` the second writing to the output,
 //!   and `! none` no call.
@@ -89,180 +90,100 @@ c: table sum of int; => 0
 == words that are no command line have a status of their own
 $ [run p]
 c: table sum of int; x: int = input; emit c <- x; => 1 ! bad command line
-$ [run p f g]
-c: table sum of int; x: int = input; emit c <- x; => 1 ! bad command line
-$ [run p f --workers 0]
-c: table sum of int; x: int = input; emit c <- x; => 1 ! bad command line
-$ [run - -]
-c: table sum of int; x: int = input; emit c <- x; => 1 ! bad command line
-$ [run p -f]
-c: table sum of int; x: int = input; emit c <- x; => 1 ! bad command line
-$ [run  f]
-c: table sum of int; x: int = input; emit c <- x; => 1 ! bad command line
-$ [run p ]
-c: table sum of int; x: int = input; emit c <- x; => 1 ! bad command line
-$ [walk p f]
-c: table sum of int; x: int = input; emit c <- x; => 1 ! bad command line
-$ [Run p f]
-c: table sum of int; x: int = input; emit c <- x; => 1 ! bad command line
-$ []
-c: table sum of int; x: int = input; emit c <- x; => 1 ! bad command line
-$ [check]
-c: table sum of int; x: int = input; emit c <- x; => 1 ! bad command line
-$ [check a b]
-c: table sum of int; x: int = input; emit c <- x; => 1 ! bad command line
-$ [check --x]
-c: table sum of int; x: int = input; emit c <- x; => 1 ! bad command line
-$ [check ]
-c: table sum of int; x: int = input; emit c <- x; => 1 ! bad command line
-$ [run p f --help]
-c: table sum of int; x: int = input; emit c <- x; => 1 ! bad command line
-$ [run p f --version]
-c: table sum of int; x: int = input; emit c <- x; => 1 ! bad command line
-$ [run p f -h]
-c: table sum of int; x: int = input; emit c <- x; => 1 ! bad command line
-$ [--help]
-c: table sum of int; x: int = input; emit c <- x; => 1 ! bad command line
-$ [help]
-c: table sum of int; x: int = input; emit c <- x; => 1 ! bad command line
-$ [merge p f]
-c: table sum of int; x: int = input; emit c <- x; => 1 ! bad command line
+$ [run p f g] => 1 ! bad command line
+$ [run p f --workers 0] => 1 ! bad command line
+$ [run - -] => 1 ! bad command line
+$ [run p -f] => 1 ! bad command line
+$ [run  f] => 1 ! bad command line
+$ [run p ] => 1 ! bad command line
+$ [walk p f] => 1 ! bad command line
+$ [Run p f] => 1 ! bad command line
+$ [] => 1 ! bad command line
+$ [check] => 1 ! bad command line
+$ [check a b] => 1 ! bad command line
+$ [check --x] => 1 ! bad command line
+$ [check ] => 1 ! bad command line
+$ [run p f --help] => 1 ! bad command line
+$ [run p f --version] => 1 ! bad command line
+$ [run p f -h] => 1 ! bad command line
+$ [--help] => 1 ! bad command line
+$ [help] => 1 ! bad command line
+$ [merge p f] => 1 ! bad command line
 
 == options stand anywhere behind the command
 < 3¶-1¶
 $ [run p f]
 c: table sum of int; x: int = input; emit c <- x; => 0 c[] = 2¶
-$ [run p f --budget 100]
-c: table sum of int; x: int = input; emit c <- x; => 0 c[] = 2¶
-$ [run p f --budget=100]
-c: table sum of int; x: int = input; emit c <- x; => 0 c[] = 2¶
-$ [run --budget 100 p f]
-c: table sum of int; x: int = input; emit c <- x; => 0 c[] = 2¶
-$ [run p --budget=100 f]
-c: table sum of int; x: int = input; emit c <- x; => 0 c[] = 2¶
-$ [run --frame lines --budget 100 p f]
-c: table sum of int; x: int = input; emit c <- x; => 0 c[] = 2¶
-$ [run p f --frame=lines]
-c: table sum of int; x: int = input; emit c <- x; => 0 c[] = 2¶
-$ [run -- p f]
-c: table sum of int; x: int = input; emit c <- x; => 0 c[] = 2¶
-$ [run p -- f]
-c: table sum of int; x: int = input; emit c <- x; => 0 c[] = 2¶
-$ [run p f --]
-c: table sum of int; x: int = input; emit c <- x; => 0 c[] = 2¶
-$ [run --budget 100 -- p f]
-c: table sum of int; x: int = input; emit c <- x; => 0 c[] = 2¶
-$ [run p f --budget 0100]
-c: table sum of int; x: int = input; emit c <- x; => 0 c[] = 2¶
-$ [run p f --budget 4294967296]
-c: table sum of int; x: int = input; emit c <- x; => 0 c[] = 2¶
-$ [run p f --budget 9]
-c: table sum of int; x: int = input; emit c <- x; => 0 c[] = 2¶
-$ [run p f --budget 5]
-c: table sum of int; x: int = input; emit c <- x; => 3 ! record 1: budget passed at 1:38
-$ [run p f --budget 1]
-c: table sum of int; x: int = input; emit c <- x; => 3 ! record 1: budget passed at 1:31
-$ [run p f --budget 0]
-c: table sum of int; x: int = input; emit c <- x; => 1 ! bad command line
-$ [run p f --budget 4294967297]
-c: table sum of int; x: int = input; emit c <- x; => 1 ! bad command line
-$ [run p f --budget]
-c: table sum of int; x: int = input; emit c <- x; => 1 ! bad command line
-$ [run p f --budget=]
-c: table sum of int; x: int = input; emit c <- x; => 1 ! bad command line
-$ [run p f --budget -1]
-c: table sum of int; x: int = input; emit c <- x; => 1 ! bad command line
-$ [run p f --budget=-1]
-c: table sum of int; x: int = input; emit c <- x; => 1 ! bad command line
-$ [run p f --budget +1]
-c: table sum of int; x: int = input; emit c <- x; => 1 ! bad command line
-$ [run p f --budget 1x]
-c: table sum of int; x: int = input; emit c <- x; => 1 ! bad command line
-$ [run p f --budget 100000000000000000000]
-c: table sum of int; x: int = input; emit c <- x; => 1 ! bad command line
-$ [run p f --budget 000000000000000000100]
-c: table sum of int; x: int = input; emit c <- x; => 1 ! bad command line
-$ [run p f --budget 9 --budget 9]
-c: table sum of int; x: int = input; emit c <- x; => 1 ! bad command line
-$ [run p f --budget=9 --budget 9]
-c: table sum of int; x: int = input; emit c <- x; => 1 ! bad command line
-$ [run p f --frame x]
-c: table sum of int; x: int = input; emit c <- x; => 1 ! bad command line
-$ [run p f --frame]
-c: table sum of int; x: int = input; emit c <- x; => 1 ! bad command line
-$ [run p f --frame lines --frame lines]
-c: table sum of int; x: int = input; emit c <- x; => 1 ! bad command line
-$ [run p f --Budget 9]
-c: table sum of int; x: int = input; emit c <- x; => 1 ! bad command line
-$ [run p f --bud 9]
-c: table sum of int; x: int = input; emit c <- x; => 1 ! bad command line
-$ [run p f -budget 9]
-c: table sum of int; x: int = input; emit c <- x; => 1 ! bad command line
-$ [run p f --skip 9]
-c: table sum of int; x: int = input; emit c <- x; => 1 ! bad command line
-$ [--budget 9 run p f]
-c: table sum of int; x: int = input; emit c <- x; => 1 ! bad command line
-$ [run p f -- --budget 9]
-c: table sum of int; x: int = input; emit c <- x; => 1 ! bad command line
+$ [run p f --budget 100] => 0 c[] = 2¶
+$ [run p f --budget=100] => 0 c[] = 2¶
+$ [run --budget 100 p f] => 0 c[] = 2¶
+$ [run p --budget=100 f] => 0 c[] = 2¶
+$ [run --frame lines --budget 100 p f] => 0 c[] = 2¶
+$ [run p f --frame=lines] => 0 c[] = 2¶
+$ [run -- p f] => 0 c[] = 2¶
+$ [run p -- f] => 0 c[] = 2¶
+$ [run p f --] => 0 c[] = 2¶
+$ [run --budget 100 -- p f] => 0 c[] = 2¶
+$ [run p f --budget 0100] => 0 c[] = 2¶
+$ [run p f --budget 4294967296] => 0 c[] = 2¶
+$ [run p f --budget 9] => 0 c[] = 2¶
+$ [run p f --budget 5] => 3 ! record 1: budget passed at 1:38
+$ [run p f --budget 1] => 3 ! record 1: budget passed at 1:31
+$ [run p f --budget 0] => 1 ! bad command line
+$ [run p f --budget 4294967297] => 1 ! bad command line
+$ [run p f --budget] => 1 ! bad command line
+$ [run p f --budget=] => 1 ! bad command line
+$ [run p f --budget -1] => 1 ! bad command line
+$ [run p f --budget=-1] => 1 ! bad command line
+$ [run p f --budget +1] => 1 ! bad command line
+$ [run p f --budget 1x] => 1 ! bad command line
+$ [run p f --budget 100000000000000000000] => 1 ! bad command line
+$ [run p f --budget 000000000000000000100] => 1 ! bad command line
+$ [run p f --budget 9 --budget 9] => 1 ! bad command line
+$ [run p f --budget=9 --budget 9] => 1 ! bad command line
+$ [run p f --frame x] => 1 ! bad command line
+$ [run p f --frame] => 1 ! bad command line
+$ [run p f --frame lines --frame lines] => 1 ! bad command line
+$ [run p f --Budget 9] => 1 ! bad command line
+$ [run p f --bud 9] => 1 ! bad command line
+$ [run p f -budget 9] => 1 ! bad command line
+$ [run p f --skip 9] => 1 ! bad command line
+$ [--budget 9 run p f] => 1 ! bad command line
+$ [run p f -- --budget 9] => 1 ! bad command line
 
 == shards and attempts have their bounds, and the lists their forms
 < 3¶-1¶
 $ [run p f --shard 1000]
 c: table sum of int; x: int = input; emit c <- x; => 0 c[] = 2¶
-$ [run p f --shard 1]
-c: table sum of int; x: int = input; emit c <- x; => 0 c[] = 2¶
-$ [run p f --shard=65536]
-c: table sum of int; x: int = input; emit c <- x; => 0 c[] = 2¶
-$ [run p f --shard 0]
-c: table sum of int; x: int = input; emit c <- x; => 1 ! bad command line
-$ [run p f --shard 65537]
-c: table sum of int; x: int = input; emit c <- x; => 1 ! bad command line
-$ [run p f --attempts 1]
-c: table sum of int; x: int = input; emit c <- x; => 0 c[] = 2¶
-$ [run p f --attempts 8]
-c: table sum of int; x: int = input; emit c <- x; => 0 c[] = 2¶
-$ [run p f --attempts 0]
-c: table sum of int; x: int = input; emit c <- x; => 1 ! bad command line
-$ [run p f --attempts 9]
-c: table sum of int; x: int = input; emit c <- x; => 1 ! bad command line
-$ [run p f --workers 4 --shard 1000 --attempts 3 --budget 100 --frame lines]
-c: table sum of int; x: int = input; emit c <- x; => 0 c[] = 2¶
-$ [run p f --kill 0.0.0]
-c: table sum of int; x: int = input; emit c <- x; => 0 c[] = 2¶
-$ [run p f --kill 7.7.7]
-c: table sum of int; x: int = input; emit c <- x; => 0 c[] = 2¶
-$ [run p f --kill x]
-c: table sum of int; x: int = input; emit c <- x; => 1 ! bad command line
-$ [run p f --kill 0.0.0,0.0.1]
-c: table sum of int; x: int = input; emit c <- x; => 1 ! bad command line
-$ [run p f --twice 0]
-c: table sum of int; x: int = input; emit c <- x; => 0 c[] = 2¶
-$ [run p f --twice 7]
-c: table sum of int; x: int = input; emit c <- x; => 0 c[] = 2¶
-$ [run p f --twice 0,0]
-c: table sum of int; x: int = input; emit c <- x; => 1 ! bad command line
-$ [run p f --kill 0.0.0 --kill 0.1.0]
-c: table sum of int; x: int = input; emit c <- x; => 1 ! bad command line
-$ [run p f --shard 1 --attempts 2 --kill 0.0.0,1.0.1 --twice 1,0]
-c: table sum of int; x: int = input; emit c <- x; => 0 c[] = 2¶
-$ [selftest 1 1]
-c: table sum of int; x: int = input; emit c <- x; => 1 ! bad command line
-$ [selftest 9223372036854775808 1 1]
-c: table sum of int; x: int = input; emit c <- x; => 1 ! bad command line
+$ [run p f --shard 1] => 0 c[] = 2¶
+$ [run p f --shard=65536] => 0 c[] = 2¶
+$ [run p f --shard 0] => 1 ! bad command line
+$ [run p f --shard 65537] => 1 ! bad command line
+$ [run p f --attempts 1] => 0 c[] = 2¶
+$ [run p f --attempts 8] => 0 c[] = 2¶
+$ [run p f --attempts 0] => 1 ! bad command line
+$ [run p f --attempts 9] => 1 ! bad command line
+$ [run p f --workers 4 --shard 1000 --attempts 3 --budget 100 --frame lines] => 0 c[] = 2¶
+$ [run p f --kill 0.0.0] => 0 c[] = 2¶
+$ [run p f --kill 7.7.7] => 0 c[] = 2¶
+$ [run p f --kill x] => 1 ! bad command line
+$ [run p f --kill 0.0.0,0.0.1] => 1 ! bad command line
+$ [run p f --twice 0] => 0 c[] = 2¶
+$ [run p f --twice 7] => 0 c[] = 2¶
+$ [run p f --twice 0,0] => 1 ! bad command line
+$ [run p f --kill 0.0.0 --kill 0.1.0] => 1 ! bad command line
+$ [run p f --shard 1 --attempts 2 --kill 0.0.0,1.0.1 --twice 1,0] => 0 c[] = 2¶
+$ [selftest 1 1] => 1 ! bad command line
+$ [selftest 9223372036854775808 1 1] => 1 ! bad command line
 
 == a self test runs its own program over its own file, and opens none
 $ [selftest 1 3 2]
 no program => 0 queries["de"] = 1¶queries["fr"] = 1¶queries["us"] = 1¶slow[] = "de" weight 819¶slow[] = "us" weight 472¶slow[] = "fr" weight 305¶hours[] = 3¶hours[] = 17¶
-$ [selftest 1 1 1]
-no program => 0 queries["fr"] = 1¶slow[] = "fr" weight 305¶hours[] = 17¶
-$ [selftest 2 1 1]
-no program => 0
-$ [selftest 5 0 64]
-no program => 0
-$ [selftest 1 1 65]
-no program => 1 ! bad command line
-$ [selftest 1 1000001 1]
-no program => 1 ! bad command line
+$ [selftest 1 1 1] => 0 queries["fr"] = 1¶slow[] = "fr" weight 305¶hours[] = 17¶
+$ [selftest 2 1 1] => 0
+$ [selftest 5 0 64] => 0
+$ [selftest 1 1 65] => 1 ! bad command line
+$ [selftest 1 1000001 1] => 1 ! bad command line
 
 == the tables are those of all shards
 $ [run p f --shard 1 --twice 0 --kill 0.0.0 --attempts 1]
@@ -271,8 +192,7 @@ count: table sum of int;¶total: table sum of int;¶sum_of_squares: table sum of
 $ [run p f --shard 1]
 s: table set(2) of string;¶r: string = input;¶emit s <- r;¶ => 0 s[] = "a"¶s[] = "b"¶
 < a¶b¶a¶c¶
-$ [run p f --shard 1]
-s: table set(2) of string;¶r: string = input;¶emit s <- r;¶ => 0 s[] = overflow¶
+$ [run p f --shard 1] => 0 s[] = overflow¶
 < c¶a¶a¶
 $ [run p f --shard 1]
 t: table collection of string;¶s: string = input;¶emit t <- s;¶ => 0 t[] = "a"¶t[] = "a"¶t[] = "c"¶
@@ -285,62 +205,48 @@ count: table sum of int;¶total: table sum of int;¶sum_of_squares: table sum of
 $ [run p f --shard 1 --attempts 2 --kill 0.0.0]
 count: table sum of int;¶total: table sum of int;¶sum_of_squares: table sum of int;¶x: int = input;¶emit count <- 1;¶emit total <- x;¶emit sum_of_squares <- x * x;¶ => 0 count[] = 2¶total[] = 2¶sum_of_squares[] = 10¶
 < 3¶-1¶
-$ [run p f --shard 1 --twice 0,1]
-count: table sum of int;¶total: table sum of int;¶sum_of_squares: table sum of int;¶x: int = input;¶emit count <- 1;¶emit total <- x;¶emit sum_of_squares <- x * x;¶ => 0 count[] = 2¶total[] = 2¶sum_of_squares[] = 10¶
+$ [run p f --shard 1 --twice 0,1] => 0 count[] = 2¶total[] = 2¶sum_of_squares[] = 10¶
 < 3¶-1¶
-$ [run p f --shard 1 --attempts 2 --kill 0.0.1,1.1.0 --twice 0,1]
-count: table sum of int;¶total: table sum of int;¶sum_of_squares: table sum of int;¶x: int = input;¶emit count <- 1;¶emit total <- x;¶emit sum_of_squares <- x * x;¶ => 0 count[] = 2¶total[] = 2¶sum_of_squares[] = 10¶
+$ [run p f --shard 1 --attempts 2 --kill 0.0.1,1.1.0 --twice 0,1] => 0 count[] = 2¶total[] = 2¶sum_of_squares[] = 10¶
 < 3¶-1¶
-$ [run p f --shard 2 --attempts 2 --kill 0.0.2 --twice 0]
-count: table sum of int;¶total: table sum of int;¶sum_of_squares: table sum of int;¶x: int = input;¶emit count <- 1;¶emit total <- x;¶emit sum_of_squares <- x * x;¶ => 0 count[] = 2¶total[] = 2¶sum_of_squares[] = 10¶
+$ [run p f --shard 2 --attempts 2 --kill 0.0.2 --twice 0] => 0 count[] = 2¶total[] = 2¶sum_of_squares[] = 10¶
 
 == a shard of which all attempts die is lost
 < 3¶-1¶
 $ [run p f --shard 1 --attempts 2 --kill 1.0.0,1.1.1]
 count: table sum of int;¶total: table sum of int;¶sum_of_squares: table sum of int;¶x: int = input;¶emit count <- 1;¶emit total <- x;¶emit sum_of_squares <- x * x;¶ => 7 ! shard 1 lost
 < 3¶-1¶
-$ [run p f --shard 1 --attempts 2 --kill 1.0.0,1.1.1 --twice 1]
-count: table sum of int;¶total: table sum of int;¶sum_of_squares: table sum of int;¶x: int = input;¶emit count <- 1;¶emit total <- x;¶emit sum_of_squares <- x * x;¶ => 7 ! shard 1 lost
+$ [run p f --shard 1 --attempts 2 --kill 1.0.0,1.1.1 --twice 1] => 7 ! shard 1 lost
 < 3¶-1¶
-$ [run p f --attempts 1 --kill 0.0.2]
-count: table sum of int;¶total: table sum of int;¶sum_of_squares: table sum of int;¶x: int = input;¶emit count <- 1;¶emit total <- x;¶emit sum_of_squares <- x * x;¶ => 7 ! shard 0 lost
+$ [run p f --attempts 1 --kill 0.0.2] => 7 ! shard 0 lost
 < 3¶-1¶
-$ [run p f --attempts 1 --kill 0.0.3]
-count: table sum of int;¶total: table sum of int;¶sum_of_squares: table sum of int;¶x: int = input;¶emit count <- 1;¶emit total <- x;¶emit sum_of_squares <- x * x;¶ => 0 count[] = 2¶total[] = 2¶sum_of_squares[] = 10¶
+$ [run p f --attempts 1 --kill 0.0.3] => 0 count[] = 2¶total[] = 2¶sum_of_squares[] = 10¶
 < 3¶-1¶
-$ [run p f --shard 1 --attempts 1 --kill 2.0.0]
-count: table sum of int;¶total: table sum of int;¶sum_of_squares: table sum of int;¶x: int = input;¶emit count <- 1;¶emit total <- x;¶emit sum_of_squares <- x * x;¶ => 0 count[] = 2¶total[] = 2¶sum_of_squares[] = 10¶
+$ [run p f --shard 1 --attempts 1 --kill 2.0.0] => 0 count[] = 2¶total[] = 2¶sum_of_squares[] = 10¶
 
 == the first shard that faults or is lost decides
 < ¶1¶
 $ [run p f --shard 2 --attempts 2 --kill 0.0.2,0.1.2]
 c: table sum of int;¶x: int = input;¶if (x > 0) emit c <- 1;¶ => 3 ! record 1: undefined value used at 3:1
 < ¶1¶
-$ [run p f --shard 2 --attempts 2 --kill 0.0.0,0.1.0]
-c: table sum of int;¶x: int = input;¶if (x > 0) emit c <- 1;¶ => 7 ! shard 0 lost
+$ [run p f --shard 2 --attempts 2 --kill 0.0.0,0.1.0] => 7 ! shard 0 lost
 < ¶1¶
-$ [run p f --shard 2 --attempts 2 --kill 0.0.0]
-c: table sum of int;¶x: int = input;¶if (x > 0) emit c <- 1;¶ => 3 ! record 1: undefined value used at 3:1
+$ [run p f --shard 2 --attempts 2 --kill 0.0.0] => 3 ! record 1: undefined value used at 3:1
 < ¶1¶1¶¶1¶
-$ [run p f --shard 1 --attempts 1 --kill 2.0.0]
-c: table sum of int;¶x: int = input;¶if (x > 0) emit c <- 1;¶ => 3 ! record 1: undefined value used at 3:1
+$ [run p f --shard 1 --attempts 1 --kill 2.0.0] => 3 ! record 1: undefined value used at 3:1
 < 1¶1¶1¶¶
-$ [run p f --shard 1 --attempts 1 --kill 2.0.0]
-c: table sum of int;¶x: int = input;¶if (x > 0) emit c <- 1;¶ => 7 ! shard 2 lost
+$ [run p f --shard 1 --attempts 1 --kill 2.0.0] => 7 ! shard 2 lost
 < 1¶¶1¶¶
-$ [run p f --shard 1]
-c: table sum of int;¶x: int = input;¶if (x > 0) emit c <- 1;¶ => 3 ! record 2: undefined value used at 3:1
+$ [run p f --shard 1] => 3 ! record 2: undefined value used at 3:1
 < 1¶1¶1¶¶
-$ [run p f --shard 3]
-c: table sum of int;¶x: int = input;¶if (x > 0) emit c <- 1;¶ => 3 ! record 4: undefined value used at 3:1
+$ [run p f --shard 3] => 3 ! record 4: undefined value used at 3:1
 
 == a lost shard comes before the ending, and a fault in a static before all shards
 < \x011\x05ab
 $ [run p f --frame delimited --attempts 1 --kill 0.0.1]
 count: table sum of int;¶total: table sum of int;¶sum_of_squares: table sum of int;¶x: int = input;¶emit count <- 1;¶emit total <- x;¶emit sum_of_squares <- x * x;¶ => 7 ! shard 0 lost
 < \x011\x05ab
-$ [run p f --frame delimited --attempts 1 --kill 0.0.2]
-count: table sum of int;¶total: table sum of int;¶sum_of_squares: table sum of int;¶x: int = input;¶emit count <- 1;¶emit total <- x;¶emit sum_of_squares <- x * x;¶ => 4 ! input damaged at byte 2
+$ [run p f --frame delimited --attempts 1 --kill 0.0.2] => 4 ! input damaged at byte 2
 < 1¶
 $ [run p f --attempts 1 --kill 0.0.0]
 f: function(n: int): int { return f(n + 1); }¶static s: int = f(0); => 3 ! record 0: calls too deep at 1:35
@@ -348,18 +254,12 @@ f: function(n: int): int { return f(n + 1); }¶static s: int = f(0); => 3 ! reco
 == a check takes no options
 $ [check p]
 c: table sum of int; x: int = input; emit c <- x; => 0
-$ [check -- p]
-c: table sum of int; x: int = input; emit c <- x; => 0
-$ [check p --]
-c: table sum of int; x: int = input; emit c <- x; => 0
-$ [check p --budget 9]
-c: table sum of int; x: int = input; emit c <- x; => 1 ! bad command line
-$ [check p --frame lines]
-c: table sum of int; x: int = input; emit c <- x; => 1 ! bad command line
-$ [check p --workers 4]
-c: table sum of int; x: int = input; emit c <- x; => 1 ! bad command line
-$ [check p f]
-c: table sum of int; x: int = input; emit c <- x; => 1 ! bad command line
+$ [check -- p] => 0
+$ [check p --] => 0
+$ [check p --budget 9] => 1 ! bad command line
+$ [check p --frame lines] => 1 ! bad command line
+$ [check p --workers 4] => 1 ! bad command line
+$ [check p f] => 1 ! bad command line
 
 == a check of a fine program answers nothing
 $ [check p]
@@ -384,8 +284,7 @@ count: table sum of int;¶total: table sum of int;¶sum_of_squares: table sum of
 ! f 0
 count: table sum of int;¶total: table sum of int;¶sum_of_squares: table sum of int;¶x: int = input;¶emit count <- 1;¶emit total <- x;¶emit sum_of_squares <- x * x;¶ => 5 ! read failed
 ! none
-$ [run p missing]
-count: table sum of int;¶total: table sum of int;¶sum_of_squares: table sum of int;¶x: int = input;¶emit count <- 1;¶emit total <- x;¶emit sum_of_squares <- x * x;¶ => 5 ! read failed
+$ [run p missing] => 5 ! read failed
 
 == what the output took before a writing failed stays there
 < 3¶-1¶

@@ -86,18 +86,14 @@ c: table sum of int; f: function(): int { emit c <- 1; return 1; } a: array of i
 < ¶
 $ [run p f --budget 17]
 c: table sum of int; a: array of int = {3, 5}; when (i: some int; a[i] == 3) emit c <- i; => 0 c[] = 0¶
-$ [run p f --budget 16]
-c: table sum of int; a: array of int = {3, 5}; when (i: some int; a[i] == 3) emit c <- i; => 3 ! record 1: budget passed at 1:78
+$ [run p f --budget 16] => 3 ! record 1: budget passed at 1:78
 $ [run p f --budget 23]
 c: table sum of int; a: array of int = {3, 5}; when (i: each int; a[i] == 3) emit c <- i; => 0 c[] = 0¶
-$ [run p f --budget 22]
-c: table sum of int; a: array of int = {3, 5}; when (i: each int; a[i] == 3) emit c <- i; => 3 ! record 1: budget passed at 1:67
+$ [run p f --budget 22] => 3 ! record 1: budget passed at 1:67
 $ [run p f --budget 20]
 c: table sum of int; a: array of int = {3, 5}; when (i: all int; a[i] == 3) emit c <- 7; => 0
-$ [run p f --budget 19]
-c: table sum of int; a: array of int = {3, 5}; when (i: all int; a[i] == 3) emit c <- 7; => 3 ! record 1: budget passed at 1:66
+$ [run p f --budget 19] => 3 ! record 1: budget passed at 1:66
 $ [run p f --budget 8]
 c: table sum of int; a: array of int = {3, 5}; when (i: some int; a[i] == 3) emit c <- i; => 3 ! record 1: budget passed at 1:48
-$ [run p f --budget 7]
-c: table sum of int; a: array of int = {3, 5}; when (i: some int; a[i] == 3) emit c <- i; => 3 ! record 1: budget passed at 1:67
+$ [run p f --budget 7] => 3 ! record 1: budget passed at 1:67
 "#;

@@ -38,16 +38,13 @@ a: array of int = {1};¶a[5] = 1 / 0; => 3 ! record 1: undefined value used at 2
 a: array of int;¶a[1 / 0] = 5; => 3 ! record 1: undefined value used at 2:1
 $ [run p f --budget 8]
 a: array of int = {1};¶a[5] = 1; => 3 ! record 1: store outside the value at 2:1
-$ [run p f --budget 7]
-a: array of int = {1};¶a[5] = 1; => 3 ! record 1: budget passed at 2:1
+$ [run p f --budget 7] => 3 ! record 1: budget passed at 2:1
 $ [run p f --budget 4]
 x: int;¶x = 1 / 0; => 3 ! record 1: undefined value used at 2:1
-$ [run p f --budget 3]
-x: int;¶x = 1 / 0; => 3 ! record 1: budget passed at 2:1
+$ [run p f --budget 3] => 3 ! record 1: budget passed at 2:1
 $ [run p f --budget 2]
 u: bool;¶if (u) ; => 3 ! record 1: undefined value used at 2:1
-$ [run p f --budget 1]
-u: bool;¶if (u) ; => 3 ! record 1: budget passed at 2:1
+$ [run p f --budget 1] => 3 ! record 1: budget passed at 2:1
 
 == assignments change a variable, or a part of its value
 < ¶
@@ -102,18 +99,15 @@ c: table sum of int; i: int = 0; while (i < 10000) i++; emit c <- i; => 0 c[] = 
 < ¶
 $ [run p f --budget 999]
 while (true) ; => 3 ! record 1: budget passed at 1:8
-$ [run p f --budget 1000]
-while (true) ; => 3 ! record 1: budget passed at 1:1
-$ [run p f --budget 1001]
-while (true) ; => 3 ! record 1: budget passed at 1:1
+$ [run p f --budget 1000] => 3 ! record 1: budget passed at 1:1
+$ [run p f --budget 1001] => 3 ! record 1: budget passed at 1:1
 for (;;) ; => 3 ! record 1: budget passed at 1:1
 do ; while (true); => 3 ! record 1: budget passed at 1:1
 while (true) continue; => 3 ! record 1: budget passed at 1:1
 static a: int = 1;¶f: function(): int { while (true) ; }¶static b: int = f(); => 3 ! record 0: budget passed at 2:22
 $ [run p f --budget 100]
 f: function(n: int): int { return f(n + 1); }¶x: int = f(0); => 3 ! record 1: budget passed at 1:37
-$ [run p f]
-f: function(n: int): int { return f(n + 1); }¶x: int = f(0); => 3 ! record 1: calls too deep at 1:35
+$ [run p f] => 3 ! record 1: calls too deep at 1:35
 f: function(): int { return f(); }¶f(); => 3 ! record 1: calls too deep at 1:29
 
 == return ends the record
@@ -190,6 +184,5 @@ $ [run p f --budget 3]
 c: table sum of int; emit c <- 1; => 0 c[] = 3¶
 $ [run p f --budget 7]
 c: table sum of int; x: int = input; y: int = x; emit c <- 1; => 3 ! record 1: budget passed at 1:50
-$ [run p f --budget 8]
-c: table sum of int; x: int = input; y: int = x; emit c <- 1; => 0 c[] = 3¶
+$ [run p f --budget 8] => 0 c[] = 3¶
 "#;
