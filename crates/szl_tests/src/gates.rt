@@ -101,7 +101,7 @@ fn killed_and_doubled_attempts_are_made(rt: HostRuntime) -> Result<(), Fail> {
 const FAULTS: &str = "c: table sum of int;¶x: int = input;¶if (x > 0) emit c <- 1;¶";
 
 /// Whether a run over an empty line and a number leaves the fault, and how often its tickets and its attempts passed the gate.
-fn counted<R: Threads + Wait + Sync>(
+fn passes_of<R: Threads + Wait + Sync>(
     rt: &R,
     alloc: Global,
     words: &str,
@@ -136,7 +136,7 @@ fn each_ticket_of_a_shard_that_faults_has_an_attempt(rt: HostRuntime) -> Result<
             0x112,
         ),
     ] {
-        let found = counted(&rt, rt.alloc(), words)?;
+        let found = passes_of(&rt, rt.alloc(), words)?;
         assert!(&rt; found == (true, tickets, attempts), "{words}");
     }
     Ok(())
