@@ -123,6 +123,7 @@ fn left_with<R: Threads + Wait + Sync>(
 ) -> Result<String, Fail> {
     let words = format!(in alloc; "{words} --workers {workers}")?;
     let given = Setting {
+        program: "",
         words: words.as_str(),
         input,
         ..PLAIN

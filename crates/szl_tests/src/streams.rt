@@ -205,6 +205,7 @@ fn input_of(alloc: Global, stream: &Stream) -> Result<String, NoMemory> {
 fn holds<R: Threads + Wait + Sync>(rt: &R, alloc: Global, stream: &Stream) -> Result<bool, Fail> {
     let input = input_of(alloc, stream)?;
     let given = Setting {
+        program: "",
         words: stream.words,
         input: input.as_str(),
         input_fails: stream.fails,
