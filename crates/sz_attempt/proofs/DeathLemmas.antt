@@ -4,12 +4,12 @@ use Rattle.std.proofs.Common.{refl, sym, ap, ◌∙◌, arith}
 use Rattle.std.specs.Prelude.{filter, nat_le, ◌&&◌, if◌then◌else◌}
 use Rattle.std.proofs.lemmas.Bool.Decides.{nat_tests}
 use Rattle.sz_tabs.specs.Data.{EmitDatum}
-use Rattle.sz_world.specs.World.{Fault}
+use Rattle.sz_world_rules.specs.World.{Fault}
 use Rattle.sz_mean.specs.Records.{Emitted, FaultedAt}
 use Rattle.sz_attempt.specs.declared.job.Job.{Job}
 use Rattle.sz_attempt.specs.Shards.{ShardData}
 use Rattle.sz_attempt.specs.Attempts.{gives, faults, dies, kills_of, lesser, least_of, is_clean, living_end, end_by, means, shard_means, has_effect, end_of}
-use Rattle.sz_attempt.specs.Running.{IsDeath, run_of}
+use Rattle.sz_attempt.specs.ShardRuns.{IsDeath, run_of}
 use Rattle.sz_attempt.proofs.MeansLemmas.{fault_stays, clean_front, take_whole}
 
 -- one number more

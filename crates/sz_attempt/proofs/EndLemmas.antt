@@ -2,8 +2,8 @@
 use Rattle.std.proofs.Common.{◌≡◌, ℕ, ◌-◌, List, length, take, Option, Some, None, refl, sym, ap, ◌∙◌, subst}
 use Rattle.sz_tabs.specs.Data.{EmitDatum}
 use Rattle.sz_mean.specs.Records.{Emitted}
-use Rattle.sz_run.specs.declared.ends.Fault.{Fault}
-use Rattle.sz_run.specs.Ends.{seen_fault}
+use Rattle.sz_machine.specs.declared.ends.Fault.{Fault}
+use Rattle.sz_machine.specs.Ends.{seen_fault}
 use Rattle.sz_words.specs.declared.settings.Kill.{Kill}
 use Rattle.sz_total.specs.States.{TotalState}
 use Rattle.sz_attempt.specs.declared.job.Job.{Job}
@@ -11,7 +11,7 @@ use Rattle.sz_attempt.specs.declared.job.Shard.{Shard}
 use Rattle.sz_attempt.specs.Shards.{shard_at, records_of, IsShardIn}
 use Rattle.sz_attempt.specs.Attempts.{gives, faults, dies, kills_of, means, end_of}
 use Rattle.sz_attempt.specs.Ends.{StandForEmits}
-use Rattle.sz_attempt.specs.Running.{IsDeath, run_of, RunsRecords}
+use Rattle.sz_attempt.specs.ShardRuns.{IsDeath, run_of, RunsRecords}
 use Rattle.sz_attempt.proofs.DeathLemmas.{dies_so, faults_so, gives_so}
 use Rattle.sz_attempt.proofs.RunLemmas.{length_of_range}
 

@@ -15,7 +15,7 @@ use Rattle.sz_attempt.specs.declared.job.Job.{Job}
 use Rattle.sz_attempt.specs.Shards.{ShardData}
 use Rattle.sz_attempt.specs.Attempts.{End, gives, faults, dies, kills_of, lesser, least_of, is_clean, living_end, end_by, means, shard_means}
 use Rattle.sz_attempt.specs.Attempts.{has_effect, deaths_of, end_of, DiedAfter, HasDied, IsLost, dies_at, all_die, is_lost}
-use Rattle.sz_attempt.specs.Running.{least_with}
+use Rattle.sz_attempt.specs.ShardRuns.{least_with}
 use Rattle.sz_attempt.proofs.DeathLemmas.{kept, least_push, effect_closed, end_by_least}
 
 -- a kill of an attempt

@@ -2,7 +2,7 @@
 use Rattle.std.proofs.Common.{◌≡◌, ℕ, zero, suc, ◌+◌, ◌*◌, ◌≤◌, List, [], ◌∷◌, ◌++◌, length, take, drop, true, refl, sym, ap, ◌∙◌, arith, append-nil}
 use Rattle.std.proofs.Common.{length-append}
 use Rattle.sz_tabs.specs.Data.{EmitDatum}
-use Rattle.sz_world.specs.World.{Fault, Outcome, Done, Faulted}
+use Rattle.sz_world_rules.specs.World.{Fault, Outcome, Done, Faulted}
 use Rattle.sz_mean.specs.Programs.{mean}
 use Rattle.sz_mean.specs.Records.{Records, Emitted, FaultedAt, behind_emits, then_records}
 use Rattle.sz_mean.proofs.RecordLaws.{behind_both}

@@ -16,15 +16,15 @@ use Rattle.sz_instr.specs.declared.instr.Instr.TheVariants.{AndTest, OrTest, Cal
 use Rattle.sz_instr.specs.declared.routine.Routine.{Routine}
 use Rattle.sz_instr.specs.declared.line.Line.{Line}
 use Rattle.sz_instr.specs.declared.code.Code.{Code}
-use Rattle.sz_world.specs.World.{World, new_world, spend, Outcome, Done, Faulted, calls_too_deep, most_open_calls}
-use Rattle.sz_world.specs.Slots.{Slot, all_defined}
-use Rattle.sz_world.specs.Ticks.{weight_of_all}
-use Rattle.sz_world.specs.Emits.{EmitParts, listed, slots_of, emit_with, emit_weighted, emit_by_weight, emit_of, weight_number, weight_if_all, emit_weight, with_emit}
-use Rattle.sz_world.specs.Stores.{Stored, Holds, Undefined, Outside}
-use Rattle.sz_machine.specs.States.{Caller, State, After, Goes, Halts, Faults, Stuck, goes_to, goes_on, faults, on_one, on_two, on_three, popped}
-use Rattle.sz_machine.specs.Rows.{after_store, if_true_or_fault, if_true, if_false, if_defined, enter}
-use Rattle.sz_machine.specs.Rows.{call_with, call_routine, leave_to, next_candidate, drop_list, emit_parts, act}
-use Rattle.sz_machine.specs.Running.{charged, does, charge_of, LeadsBy, GoesOn, RunsFor, EndsRecord, RunsTo}
+use Rattle.sz_world_rules.specs.World.{World, new_world, spend, Outcome, Done, Faulted, calls_too_deep, most_open_calls}
+use Rattle.sz_world_rules.specs.Slots.{Slot, all_defined}
+use Rattle.sz_world_rules.specs.Ticks.{weight_of_all}
+use Rattle.sz_world_rules.specs.Emits.{EmitParts, listed, slots_of, emit_with, emit_weighted, emit_by_weight, emit_of, weight_number, weight_if_all, emit_weight, with_emit}
+use Rattle.sz_world_rules.specs.Stores.{Stored, Holds, Undefined, Outside}
+use Rattle.sz_machine_rules.specs.States.{Caller, State, After, Goes, Halts, Faults, Stuck, goes_to, goes_on, faults, on_one, on_two, on_three, popped}
+use Rattle.sz_machine_rules.specs.Rows.{after_store, if_true_or_fault, if_true, if_false, if_defined, enter}
+use Rattle.sz_machine_rules.specs.Rows.{call_with, call_routine, leave_to, next_candidate, drop_list, emit_parts, act}
+use Rattle.sz_machine_rules.specs.Runs.{charged, does, charge_of, LeadsBy, GoesOn, RunsFor, EndsRecord, RunsTo}
 
 -- what the indexes and the value of an emit weigh
 abbrev parts_weight : EmitDatum → ℕ

@@ -9,15 +9,15 @@ use Rattle.sz_core.specs.Programs.{tables_of}
 use Rattle.sz_tabs.specs.Data.{EmitDatum}
 use Rattle.sz_tabs.specs.Fitting.{IsEmitTo}
 use Rattle.sz_instr.specs.declared.code.Code.{Code}
-use Rattle.sz_world.specs.World.{Fault, Outcome, Done, Faulted}
+use Rattle.sz_world_rules.specs.World.{Fault, Outcome, Done, Faulted}
 use Rattle.sz_mean.specs.Programs.{mean}
 use Rattle.sz_mean.specs.Records.{Emitted, FaultedAt}
 use Rattle.sz_mean.proofs.EmitCosts.{emits_are_paid}
-use Rattle.sz_machine.specs.Running.{RunsTo}
-use Rattle.sz_machine.proofs.EmitsFit.{emits_fit}
-use Rattle.sz_run.specs.declared.ends.RunEnd.{RunEnd}
-use Rattle.sz_run.specs.Ends.{seen_end, RunEnds}
-use Rattle.sz_code.specs.Compiled.{IsCompiled}
+use Rattle.sz_machine_rules.specs.Runs.{RunsTo}
+use Rattle.sz_machine_rules.proofs.EmitsFit.{emits_fit}
+use Rattle.sz_machine.specs.declared.ends.RunEnd.{RunEnd}
+use Rattle.sz_machine.specs.Ends.{seen_end, RunEnds}
+use Rattle.sz_gen_rules.specs.Compiled.{IsCompiled}
 use Rattle.sz_total.specs.Short.{HasShortParts}
 use Rattle.sz_total.specs.Totals.{StandsFor, Gains}
 use Rattle.sz_total.specs.States.{TotalState, declarations, emit_count, shown}
@@ -25,7 +25,7 @@ use Rattle.sz_attempt.specs.declared.job.Job.{Job}
 use Rattle.sz_attempt.specs.Shards.{IsJob}
 use Rattle.sz_attempt.specs.Attempts.{means}
 use Rattle.sz_attempt.specs.Ends.{StandForEmits}
-use Rattle.sz_attempt.specs.Running.{GainsAll}
+use Rattle.sz_attempt.specs.ShardRuns.{GainsAll}
 use Rattle.sz_attempt.proofs.PaidLemmas.{emits_paid}
 use Rattle.sz_attempt.proofs.ShortLemmas.{emits_short}
 use Rattle.sz_attempt.proofs.MeansLemmas.{means_more, means_fault, fault_stays, take_of_take, length-take_within}

@@ -5,7 +5,7 @@ use Rattle.sz_value.specs.Data.{Datum, truth, int, time, str, bytes, array, tupl
 use Rattle.sz_value.specs.Weight.{full_weight, data_weight, entries_weight, weight_of}
 use Rattle.sz_flat.specs.Spelling.{HasShortLengths, HaveShortLengths, PairsHaveShortLengths}
 use Rattle.sz_tabs.specs.Data.{EmitDatum}
-use Rattle.sz_world.specs.Ticks.{weight_of_all}
+use Rattle.sz_world_rules.specs.Ticks.{weight_of_all}
 use Rattle.sz_total.specs.Short.{HasShortParts}
 use Rattle.sz_attempt.proofs.PaidLemmas.{IsPaid}
 

@@ -3,7 +3,7 @@ use Rattle.std.specs.Prelude.{◌≡◌, ℕ, zero, suc, ◌<◌, ◌≤◌, Lis
 use Rattle.std.specs.Prelude.{Option, Some, None}
 use Rattle.std.specs.List.{Contains}
 use Rattle.sz_tabs.specs.Data.{EmitDatum}
-use Rattle.sz_world.specs.World.{Fault}
+use Rattle.sz_world_rules.specs.World.{Fault}
 use Rattle.sz_mean.specs.Records.{Records, Emitted, FaultedAt, mean_from}
 use Rattle.sz_words.specs.declared.settings.Kill.{Kill}
 use Rattle.sz_attempt.specs.declared.job.Job.{Job}

@@ -2,7 +2,7 @@
 use Rattle.std.specs.Prelude.{◌≡◌, List}
 use Rattle.sz_core.specs.Programs.{Core, tables_of}
 use Rattle.sz_tabs.specs.Data.{EmitDatum}
-use Rattle.sz_run.specs.Ends.{seen_fault}
+use Rattle.sz_machine.specs.Ends.{seen_fault}
 use Rattle.sz_total.specs.Totals.{StandsFor}
 use Rattle.sz_total.specs.States.{TotalState, declarations, emit_count, shown}
 use Rattle.sz_attempt.specs.declared.ends.AttemptEnd.{AttemptEnd}

@@ -3,4 +3,4 @@ pub mod Shards
 pub mod Attempts
 pub mod Ends
 -- what the functions inside the crate promise each other
-pub mod Running
+pub mod ShardRuns

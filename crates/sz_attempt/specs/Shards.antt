@@ -2,8 +2,8 @@
 use Rattle.std.specs.Prelude.{ℕ, ◌+◌, ◌-◌, ◌^◌, ◌≤◌, List, length}
 use Rattle.std.specs.List.{slice_range}
 use Rattle.sz_core.specs.Sound.{IsSound}
-use Rattle.sz_world.specs.Typed.{AllFit}
-use Rattle.sz_code.specs.Simulates.{IsBudget, static_types}
+use Rattle.sz_world_rules.specs.Typed.{AllFit}
+use Rattle.sz_gen_rules.specs.Simulates.{IsBudget, static_types}
 use Rattle.sz_attempt.specs.declared.job.Job.{Job}
 use Rattle.sz_attempt.specs.declared.job.Shard.{Shard}
 

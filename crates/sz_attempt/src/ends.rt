@@ -1,5 +1,5 @@
 //! How attempts end.
-use sz_run::Fault;
+use sz_machine::Fault;
 use sz_total::Total;
 
 /// How an attempt ends.

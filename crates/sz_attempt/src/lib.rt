@@ -4,7 +4,7 @@
 mod ends;
 mod job;
 mod laws;
-mod running;
+mod shard_run;
 
 pub use ends::AttemptEnd;
 pub use job::{Job, Shard, ShardRanges};
@@ -12,4 +12,4 @@ pub use laws::{
     attempts_end_as_listed, emits_of_records_are_few, kills_are_of_different_attempts,
     shards_are_lost_with_all_attempts,
 };
-pub use running::attempt;
+pub use shard_run::attempt;

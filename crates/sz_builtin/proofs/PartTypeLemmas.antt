@@ -17,8 +17,8 @@ use Rattle.sz_builtin.specs.Places.{at_place, code, span, cut, part}
 use Rattle.sz_builtin.specs.Predeclared.{len, keys, haskey, strfind, first_place, place}
 use Rattle.sz_builtin.specs.Conversions.{number_in, as_truth, as_int, as_time, as_str, as_bytes, convert}
 use Rattle.sz_types.specs.Rows.{index_row, slice_row, len_row, keys_row, haskey_row, strfind_row, convert_row}
-use Rattle.sz_typed.specs.Types.{has_type, all_have, pairs_have}
-use Rattle.sz_typed.proofs.ForCallers.{of_int, of_str, of_bytes, of_array, of_mapping}
+use Rattle.sz_typing_rules.specs.Types.{has_type, all_have, pairs_have}
+use Rattle.sz_typing_rules.proofs.ForCallers.{of_int, of_str, of_bytes, of_array, of_mapping}
 use Rattle.sz_builtin.specs.Types.{KeepsIndex, KeepsSlice, KeepsBuiltin, KeepsConvert}
 use Rattle.sz_builtin.proofs.TypeLemmas.{some_same, if_some, both, both_in, truth_keeps}
 

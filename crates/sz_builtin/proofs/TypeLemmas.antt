@@ -11,8 +11,8 @@ use Rattle.std.specs.Ordering.{is_eq, is_ne, is_lt, is_le, is_gt, is_ge}
 use Rattle.sz_value.specs.Order.{compare}
 use Rattle.sz_builtin.specs.Operators.{sum, difference, of_numbers, on_numbers}
 use Rattle.sz_types.specs.Rows.{sum_row, difference_row, unary_row, both_int, ordered}
-use Rattle.sz_typed.specs.Types.{has_type, all_have}
-use Rattle.sz_typed.proofs.ForCallers.{of_truth, of_int, of_time, of_str, of_bytes, of_array}
+use Rattle.sz_typing_rules.specs.Types.{has_type, all_have}
+use Rattle.sz_typing_rules.proofs.ForCallers.{of_truth, of_int, of_time, of_str, of_bytes, of_array}
 use Rattle.sz_builtin.specs.Types.{KeepsUnary, KeepsBinary}
 
 pub some_same : {X : Type 0} (x y : X) → Some x ≡ Some y → x ≡ y

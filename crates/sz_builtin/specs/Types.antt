@@ -5,7 +5,7 @@ use Rattle.sz_types.specs.declared.operator.UnOp.{UnOp}
 use Rattle.sz_types.specs.declared.operator.BinOp.{BinOp}
 use Rattle.sz_types.specs.declared.operator.Builtin.{Builtin}
 use Rattle.sz_value.specs.Data.{Datum}
-use Rattle.sz_typed.specs.Types.{has_type, have_types}
+use Rattle.sz_typing_rules.specs.Types.{has_type, have_types}
 use Rattle.sz_builtin.specs.Operators.{unary, binary}
 use Rattle.sz_builtin.specs.Places.{index, slice}
 use Rattle.sz_builtin.specs.Predeclared.{builtin}

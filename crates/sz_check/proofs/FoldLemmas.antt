@@ -6,14 +6,14 @@ use Rattle.std.proofs.Math.ListN.{drop_of_length-le}
 use Rattle.sz_types.specs.Data.{Shape}
 use Rattle.sz_tree.specs.declared.stmt.Quantity.{Quantity}
 use Rattle.sz_tree.specs.Names.{Ident}
-use Rattle.sz_judge.specs.Refusals.{Judged, ◌>>=◌}
-use Rattle.sz_judge.specs.Names.{Block}
-use Rattle.sz_judge.specs.Scene.{Scene, with_quantified}
-use Rattle.sz_known.specs.Outcome.{Stops}
-use Rattle.sz_known.specs.declared.error.CheckError.{CheckError}
-use Rattle.sz_judge.specs.EmittingTrees.{is_seen_inside}
-use Rattle.sz_judge.specs.Quantifying.{Variable, Declared, judge_names, judge_quantifier, judge_quantifiers, bind, bind_inside, may_follow, all_last}
-use Rattle.sz_known.proofs.TurnLemmas.{stops_then, goes_on}
+use Rattle.sz_check_rules.specs.Refusals.{Judged, ◌>>=◌}
+use Rattle.sz_check_rules.specs.Names.{Block}
+use Rattle.sz_check_rules.specs.Scene.{Scene, with_quantified}
+use Rattle.sz_check_names.specs.Outcome.{Stops}
+use Rattle.sz_check_names.specs.declared.error.CheckError.{CheckError}
+use Rattle.sz_check_rules.specs.EmittingTrees.{is_seen_inside}
+use Rattle.sz_check_rules.specs.Quantifying.{Variable, Declared, judge_names, judge_quantifier, judge_quantifiers, bind, bind_inside, may_follow, all_last}
+use Rattle.sz_check_names.proofs.TurnLemmas.{stops_then, goes_on}
 use Rattle.sz_check.proofs.StatementLoops.{assoc}
 
 -- the elements from a place on

@@ -13,19 +13,19 @@ use Rattle.sz_tree.specs.Statements.{Stms}
 use Rattle.sz_tree.specs.Types.{Typ, Params, no_params, param, params_of}
 use Rattle.sz_tree.specs.View.{param_of}
 use Rattle.sz_core.specs.Programs.{Signature}
-use Rattle.sz_judge.specs.Refusals.{Judged, ◌>>=◌, declared_twice}
-use Rattle.sz_judge.specs.Names.{Meaning, Named, Block, has, only, is_seen_by_functions}
-use Rattle.sz_judge.specs.Names as names
-use Rattle.sz_judge.specs.JudgingTypes.{judge_type}
-use Rattle.sz_judge.specs.Scene.{Scene, with_variable}
-use Rattle.sz_judge.specs.EmittingTrees.{emits_by, stms_emit}
-use Rattle.sz_judge.specs.JudgingStatements.{judge_stms}
-use Rattle.sz_judge.specs.JudgingPrograms.{TopScene, Found, blocks_of, judge_parameters, innermost_on, in_function, judge_function}
+use Rattle.sz_check_rules.specs.Refusals.{Judged, ◌>>=◌, declared_twice}
+use Rattle.sz_check_rules.specs.Names.{Meaning, Named, Block, has, only, is_seen_by_functions}
+use Rattle.sz_check_rules.specs.Names as names
+use Rattle.sz_check_rules.specs.JudgingTypes.{judge_type}
+use Rattle.sz_check_rules.specs.Scene.{Scene, with_variable}
+use Rattle.sz_check_rules.specs.EmittingTrees.{emits_by, stms_emit}
+use Rattle.sz_check_rules.specs.JudgingStatements.{judge_stms}
+use Rattle.sz_check_rules.specs.JudgingPrograms.{TopScene, Found, blocks_of, judge_parameters, innermost_on, in_function, judge_function}
 use Rattle.sz_check.specs.Functions.{front_of, judge_header, declare_parameters, Body, judge_body, finished, judge_function_by_parts}
-use Rattle.sz_known.specs.Outcome.{Stops}
-use Rattle.sz_known.specs.declared.error.CheckError.{CheckError}
-use Rattle.sz_judge.proofs.Holds.{good, good_is}
-use Rattle.sz_known.proofs.TurnLemmas.{stops_then, goes_on}
+use Rattle.sz_check_names.specs.Outcome.{Stops}
+use Rattle.sz_check_names.specs.declared.error.CheckError.{CheckError}
+use Rattle.sz_check_rules.proofs.Holds.{good, good_is}
+use Rattle.sz_check_names.proofs.TurnLemmas.{stops_then, goes_on}
 use Rattle.sz_types.proofs.ForCallers.{rest_more}
 use Rattle.sz_check.proofs.StatementLoops.{assoc}
 

@@ -14,10 +14,10 @@ use Rattle.sz_tree.specs.Statements.{stms_of}
 use Rattle.sz_tree.specs.View.{stm_of, param_of, type_of}
 use Rattle.sz_tree.proofs.RowLemmas.{stm_of_function}
 use Rattle.sz_core.specs.Programs.{Item}
-use Rattle.sz_judge.specs.Refusals.{Judged, ◌>>=◌}
-use Rattle.sz_judge.specs.JudgingPrograms.{TopScene, Found, blocks_of, kind_of, limit_of, judge_elems, judge_weight, declaration_of, judge_table}
-use Rattle.sz_judge.specs.JudgingPrograms.{judge_function, judge_top, judge_all}
-use Rattle.sz_judge.specs.JudgingTypes.{judge_type}
+use Rattle.sz_check_rules.specs.Refusals.{Judged, ◌>>=◌}
+use Rattle.sz_check_rules.specs.JudgingPrograms.{TopScene, Found, blocks_of, kind_of, limit_of, judge_elems, judge_weight, declaration_of, judge_table}
+use Rattle.sz_check_rules.specs.JudgingPrograms.{judge_function, judge_top, judge_all}
+use Rattle.sz_check_rules.specs.JudgingTypes.{judge_type}
 use Rattle.sz_types.specs.Data.{Shape}
 use Rattle.sz_types.specs.Tables.{Declaration}
 use Rattle.sz_types.specs.declared.table.TableKind.{TableKind}
@@ -25,9 +25,9 @@ use Rattle.sz_tree.specs.Statements.{TableForm}
 use Rattle.sz_check_table.specs.Tables.{judge_table_declaration}
 use Rattle.sz_check.specs.Declaring.{declare_table}
 use Rattle.sz_check.specs.Top.{with_items}
-use Rattle.sz_known.specs.Outcome.{Stops}
-use Rattle.sz_known.specs.declared.error.CheckError.{CheckError}
-use Rattle.sz_known.specs.declared.error.CheckError.TheVariants as errors
+use Rattle.sz_check_names.specs.Outcome.{Stops}
+use Rattle.sz_check_names.specs.declared.error.CheckError.{CheckError}
+use Rattle.sz_check_names.specs.declared.error.CheckError.TheVariants as errors
 use Rattle.sz_types.proofs.ForCallers.{rest_more, rest_none}
 
 -- the statements behind the first, with what the first is

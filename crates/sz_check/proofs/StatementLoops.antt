@@ -13,21 +13,21 @@ use Rattle.sz_tree.specs.Types.{params_of}
 use Rattle.sz_tree.specs.View.{step_of, stm_of, param_of, type_of}
 use Rattle.sz_core.specs.Statements.{Stm, with_stm}
 use Rattle.sz_core.specs.Statements as core
-use Rattle.sz_judge.specs.Refusals.{Judged, ◌>>=◌}
-use Rattle.sz_judge.specs.Names as names
-use Rattle.sz_judge.specs.JudgingTypes.{judge_type}
-use Rattle.sz_judge.specs.JudgingParts.{field_in}
-use Rattle.sz_judge.specs.Scene.{Scene, with_variable}
-use Rattle.sz_judge.specs.Scenes.{Behind, AllBehind, judge}
-use Rattle.sz_judge.specs.JudgingStatements.{Around, judge_stm, judge_stms}
-use Rattle.sz_judge.specs.JudgingPaths.{Target, stepped, indexed, judge_steps}
-use Rattle.sz_judge.specs.JudgingPrograms.{judge_parameters}
-use Rattle.sz_known.specs.Turns.{behind, put_all}
+use Rattle.sz_check_rules.specs.Refusals.{Judged, ◌>>=◌}
+use Rattle.sz_check_rules.specs.Names as names
+use Rattle.sz_check_rules.specs.JudgingTypes.{judge_type}
+use Rattle.sz_check_rules.specs.JudgingParts.{field_in}
+use Rattle.sz_check_rules.specs.Scene.{Scene, with_variable}
+use Rattle.sz_check_rules.specs.Scenes.{Behind, AllBehind, judge}
+use Rattle.sz_check_rules.specs.JudgingStatements.{Around, judge_stm, judge_stms}
+use Rattle.sz_check_rules.specs.JudgingPaths.{Target, stepped, indexed, judge_steps}
+use Rattle.sz_check_rules.specs.JudgingPrograms.{judge_parameters}
+use Rattle.sz_check_names.specs.Turns.{behind, put_all}
 use Rattle.sz_check.specs.Targets.{judge_step}
 use Rattle.sz_check.specs.Behind.{in_front}
-use Rattle.sz_known.specs.Outcome.{Stops}
-use Rattle.sz_known.specs.declared.error.CheckError.{CheckError}
-use Rattle.sz_known.proofs.TurnLemmas.{behind_next, behind_ends, turn_fails, stops_then, goes_on}
+use Rattle.sz_check_names.specs.Outcome.{Stops}
+use Rattle.sz_check_names.specs.declared.error.CheckError.{CheckError}
+use Rattle.sz_check_names.proofs.TurnLemmas.{behind_next, behind_ends, turn_fails, stops_then, goes_on}
 use Rattle.sz_types.proofs.ForCallers.{rest_more, rest_none}
 
 -- what goes on from a judgement that goes on from another

@@ -11,23 +11,23 @@ use Rattle.sz_tree.specs.Types.{Typ, Params}
 use Rattle.sz_core.specs.Nodes.{Node, Nodes}
 use Rattle.sz_core.specs.Statements.{Stm, Stms, stms_of}
 use Rattle.sz_core.specs.Statements as core
-use Rattle.sz_judge.specs.Refusals.{Judged, ◌>>=◌, unless, wrong_weight, misplaced}
-use Rattle.sz_judge.specs.Names.{look_up, Meaning}
-use Rattle.sz_judge.specs.Agreeing.{in_turn, agree, agrees, counted}
-use Rattle.sz_judge.specs.JudgingExpressions.{judge_exps}
-use Rattle.sz_judge.specs.JudgingOperators.{test}
-use Rattle.sz_judge.specs.Quantifying.{judge_front, quantify}
-use Rattle.sz_judge.specs.Scene.{Scene, opened}
-use Rattle.sz_judge.specs.Scenes.{Behind, AllBehind, judge, judge_if_some, closed}
-use Rattle.sz_judge.specs.JudgingStatements.{Around, in_block, in_loop, judge_stm, judge_stms}
-use Rattle.sz_judge.specs.JudgingSimple.{Numbered, judge_first, judge_between, test_if_some, table_named, weight_agrees}
-use Rattle.sz_judge.specs.JudgingSimple.{judge_definition, judge_simple, judge_return, done, judge_emit, same_presence}
-use Rattle.sz_known.specs.Outcome.{Stops, Judges}
-use Rattle.sz_known.specs.declared.error.CheckError.{CheckError}
-use Rattle.sz_known.proofs.TurnLemmas.{stops_then, goes_on}
+use Rattle.sz_check_rules.specs.Refusals.{Judged, ◌>>=◌, unless, wrong_weight, misplaced}
+use Rattle.sz_check_rules.specs.Names.{look_up, Meaning}
+use Rattle.sz_check_rules.specs.Agreeing.{in_turn, agree, agrees, counted}
+use Rattle.sz_check_rules.specs.JudgingExpressions.{judge_exps}
+use Rattle.sz_check_rules.specs.JudgingOperators.{test}
+use Rattle.sz_check_rules.specs.Quantifying.{judge_front, quantify}
+use Rattle.sz_check_rules.specs.Scene.{Scene, opened}
+use Rattle.sz_check_rules.specs.Scenes.{Behind, AllBehind, judge, judge_if_some, closed}
+use Rattle.sz_check_rules.specs.JudgingStatements.{Around, in_block, in_loop, judge_stm, judge_stms}
+use Rattle.sz_check_rules.specs.JudgingSimple.{Numbered, judge_first, judge_between, test_if_some, table_named, weight_agrees}
+use Rattle.sz_check_rules.specs.JudgingSimple.{judge_definition, judge_simple, judge_return, done, judge_emit, same_presence}
+use Rattle.sz_check_names.specs.Outcome.{Stops, Judges}
+use Rattle.sz_check_names.specs.declared.error.CheckError.{CheckError}
+use Rattle.sz_check_names.proofs.TurnLemmas.{stops_then, goes_on}
 use Rattle.sz_core.specs.declared.stmt.CoreStmt.{CoreStmt}
 use Rattle.sz_core.specs.View.{stm_of}
-use Rattle.sz_known.specs.Holding.{Held, outside_of, scene_of}
+use Rattle.sz_check_names.specs.Holding.{Held, outside_of, scene_of}
 use Rattle.sz_check.specs.Behind.{behind_of, branch_of, while_of, do_while_of, judge_inside, judge_else, judge_turns, judge_for}
 use Rattle.sz_check.specs.Behind.{judge_quantified, judge_bound_body, Emitted, judge_emitted, emitted_fits, judge_emit_by_parts}
 

@@ -14,21 +14,21 @@ use Rattle.sz_quant.specs.Fitting.{BoundForm, bounds_of}
 use Rattle.sz_core.specs.Nodes.{Node}
 use Rattle.sz_core.specs.Statements.{Stm}
 use Rattle.sz_core.specs.Statements as core
-use Rattle.sz_judge.specs.Refusals.{Judged, ◌>>=◌, refused_for}
-use Rattle.sz_judge.specs.Names.{Block}
-use Rattle.sz_known.specs.Holding.{Held, blocks_of, outside_of, scene_of}
-use Rattle.sz_known.specs.Outcome.{Stops, Judges}
-use Rattle.sz_judge.specs.Scene.{Scene}
-use Rattle.sz_known.specs.declared.error.CheckError.{CheckError}
-use Rattle.sz_known.specs.declared.error.CheckError.TheVariants as errors
-use Rattle.sz_judge.specs.JudgingExpressions.{judge_exp}
-use Rattle.sz_judge.specs.Scenes.{Behind, closed}
-use Rattle.sz_judge.specs.JudgingStatements.{Around, out_of_loops}
-use Rattle.sz_judge.specs.Quantifying.{Variable, Declared, Front, judge_quantifiers, judge_front, bind_inside, judge_bound, unbounded}
-use Rattle.sz_judge.specs.Quantifying.{names_of, all_bounded, all_last, Based, judge_base, judge_bases, quantify}
+use Rattle.sz_check_rules.specs.Refusals.{Judged, ◌>>=◌, refused_for}
+use Rattle.sz_check_rules.specs.Names.{Block}
+use Rattle.sz_check_names.specs.Holding.{Held, blocks_of, outside_of, scene_of}
+use Rattle.sz_check_names.specs.Outcome.{Stops, Judges}
+use Rattle.sz_check_rules.specs.Scene.{Scene}
+use Rattle.sz_check_names.specs.declared.error.CheckError.{CheckError}
+use Rattle.sz_check_names.specs.declared.error.CheckError.TheVariants as errors
+use Rattle.sz_check_rules.specs.JudgingExpressions.{judge_exp}
+use Rattle.sz_check_rules.specs.Scenes.{Behind, closed}
+use Rattle.sz_check_rules.specs.JudgingStatements.{Around, out_of_loops}
+use Rattle.sz_check_rules.specs.Quantifying.{Variable, Declared, Front, judge_quantifiers, judge_front, bind_inside, judge_bound, unbounded}
+use Rattle.sz_check_rules.specs.Quantifying.{names_of, all_bounded, all_last, Based, judge_base, judge_bases, quantify}
 use Rattle.sz_check.specs.Behind.{judge_inside, judge_bound_body}
-use Rattle.sz_known.proofs.TurnLemmas.{stops_then, goes_on, behind_next, behind_stops, behind_ends}
-use Rattle.sz_known.specs.Turns.{behind, put_all}
+use Rattle.sz_check_names.proofs.TurnLemmas.{stops_then, goes_on, behind_next, behind_stops, behind_ends}
+use Rattle.sz_check_names.specs.Turns.{behind, put_all}
 use Rattle.sz_check.proofs.StatementParts.{inside_of}
 
 -- ---- the variables and the condition

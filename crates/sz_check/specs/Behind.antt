@@ -22,18 +22,18 @@ use Rattle.sz_core.specs.declared.stmt.CoreStmt.{CoreStmt}
 use Rattle.sz_core.specs.View.{stm_of, node_of}
 use Rattle.sz_check.specs.declared.emitted.Parts.{Parts}
 use Rattle.sz_check.specs.declared.stmt.Around.{Around as Standing}
-use Rattle.sz_judge.specs.Refusals.{Judged, ◌>>=◌, unless, wrong_weight}
-use Rattle.sz_judge.specs.Names.{look_up}
-use Rattle.sz_judge.specs.Agreeing.{in_turn, agree, agrees, counted}
-use Rattle.sz_judge.specs.JudgingExpressions.{judge_exps}
-use Rattle.sz_judge.specs.JudgingOperators.{test}
-use Rattle.sz_judge.specs.Scene.{Scene, opened}
-use Rattle.sz_judge.specs.Scenes.{Behind, AllBehind, judge, judge_if_some, closed}
-use Rattle.sz_judge.specs.JudgingSimple.{Numbered, judge_first, judge_between, test_if_some, table_named, weight_agrees, same_presence, done}
-use Rattle.sz_judge.specs.JudgingStatements.{Around, in_block, in_loop, out_of_loops, judge_stm}
-use Rattle.sz_judge.specs.Quantifying.{Variable, in_bound, quantify}
+use Rattle.sz_check_rules.specs.Refusals.{Judged, ◌>>=◌, unless, wrong_weight}
+use Rattle.sz_check_rules.specs.Names.{look_up}
+use Rattle.sz_check_rules.specs.Agreeing.{in_turn, agree, agrees, counted}
+use Rattle.sz_check_rules.specs.JudgingExpressions.{judge_exps}
+use Rattle.sz_check_rules.specs.JudgingOperators.{test}
+use Rattle.sz_check_rules.specs.Scene.{Scene, opened}
+use Rattle.sz_check_rules.specs.Scenes.{Behind, AllBehind, judge, judge_if_some, closed}
+use Rattle.sz_check_rules.specs.JudgingSimple.{Numbered, judge_first, judge_between, test_if_some, table_named, weight_agrees, same_presence, done}
+use Rattle.sz_check_rules.specs.JudgingStatements.{Around, in_block, in_loop, out_of_loops, judge_stm}
+use Rattle.sz_check_rules.specs.Quantifying.{Variable, in_bound, quantify}
 use Rattle.sz_check_expr.specs.Asking.{asked_of}
-use Rattle.sz_known.specs.Holding.{Held, scene_of}
+use Rattle.sz_check_names.specs.Holding.{Held, scene_of}
 
 -- a checked statement, and what is known behind it
 abbrev pub behind_of : Held → CoreStmt → Behind

@@ -4,9 +4,9 @@ use Rattle.sz_types.specs.Tables.{Declaration}
 use Rattle.sz_tree.specs.Names.{Ident}
 use Rattle.sz_core.specs.Programs.{Static}
 use Rattle.sz_core.specs.Programs as items
-use Rattle.sz_judge.specs.Refusals.{Judged, ◌>>=◌, unless, too_many}
-use Rattle.sz_judge.specs.Names as names
-use Rattle.sz_judge.specs.JudgingPrograms.{TopScene, Found, blocks_of, with_blocks, most_tables}
+use Rattle.sz_check_rules.specs.Refusals.{Judged, ◌>>=◌, unless, too_many}
+use Rattle.sz_check_rules.specs.Names as names
+use Rattle.sz_check_rules.specs.JudgingPrograms.{TopScene, Found, blocks_of, with_blocks, most_tables}
 
 -- a table under its name, with the next number
 abbrev pub declare_table : TopScene → Ident → Declaration → Judged Found

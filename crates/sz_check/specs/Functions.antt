@@ -7,14 +7,14 @@ use Rattle.sz_tree.specs.Types.{Typ, Params, param}
 use Rattle.sz_core.specs.Statements.{Stms}
 use Rattle.sz_core.specs.Programs.{Signature}
 use Rattle.sz_core.specs.Programs as items
-use Rattle.sz_judge.specs.Refusals.{Judged, ◌>>=◌}
-use Rattle.sz_judge.specs.Names.{Block, only, is_seen_by_functions}
-use Rattle.sz_judge.specs.Names as names
-use Rattle.sz_judge.specs.JudgingTypes.{judge_type}
-use Rattle.sz_judge.specs.Scene.{Scene, with_variable}
-use Rattle.sz_judge.specs.EmittingTrees.{emits_by, stms_emit}
-use Rattle.sz_judge.specs.JudgingStatements.{judge_stms}
-use Rattle.sz_judge.specs.JudgingPrograms.{TopScene, Found, blocks_of, with_blocks, judge_parameters, in_function}
+use Rattle.sz_check_rules.specs.Refusals.{Judged, ◌>>=◌}
+use Rattle.sz_check_rules.specs.Names.{Block, only, is_seen_by_functions}
+use Rattle.sz_check_rules.specs.Names as names
+use Rattle.sz_check_rules.specs.JudgingTypes.{judge_type}
+use Rattle.sz_check_rules.specs.Scene.{Scene, with_variable}
+use Rattle.sz_check_rules.specs.EmittingTrees.{emits_by, stms_emit}
+use Rattle.sz_check_rules.specs.JudgingStatements.{judge_stms}
+use Rattle.sz_check_rules.specs.JudgingPrograms.{TopScene, Found, blocks_of, with_blocks, judge_parameters, in_function}
 
 -- what a function sees at first, with these blocks round it
 abbrev pub front_of : List Block → Scene

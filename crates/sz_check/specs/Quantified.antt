@@ -3,10 +3,10 @@ use Rattle.std.specs.Prelude.{List, map}
 use Rattle.sz_types.specs.Seen.{seen}
 use Rattle.sz_core.specs.View.{node_of, quantified_of}
 use Rattle.sz_core.specs.declared.stmt.Quantified.{Quantified as HeldQuantified}
-use Rattle.sz_known.specs.Holding.{Held, blocks_of, scene_of}
+use Rattle.sz_check_names.specs.Holding.{Held, blocks_of, scene_of}
 use Rattle.sz_check.specs.declared.quantified.Variable.{Variable as HeldVariable}
 use Rattle.sz_check.specs.declared.quantified.Front.{Front as HeldFront}
-use Rattle.sz_judge.specs.Quantifying.{Variable, Declared, Front, Based}
+use Rattle.sz_check_rules.specs.Quantifying.{Variable, Declared, Front, Based}
 
 -- a variable
 abbrev pub variable_of : HeldVariable → Variable

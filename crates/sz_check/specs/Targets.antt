@@ -11,12 +11,12 @@ use Rattle.sz_core.specs.Nodes.{Node}
 use Rattle.sz_core.specs.Statements.{at_index, at_field}
 use Rattle.sz_core.specs.View.{step_of}
 use Rattle.sz_check.specs.declared.target.Target.{Target as Reached}
-use Rattle.sz_judge.specs.Refusals.{Judged, ◌>>=◌, unless, not_assignable}
-use Rattle.sz_judge.specs.Agreeing.{Found}
-use Rattle.sz_judge.specs.JudgingParts.{field_in}
-use Rattle.sz_judge.specs.Scene.{Scene}
-use Rattle.sz_judge.specs.Scenes.{judge}
-use Rattle.sz_judge.specs.JudgingPaths.{Target, stepped, indexed}
+use Rattle.sz_check_rules.specs.Refusals.{Judged, ◌>>=◌, unless, not_assignable}
+use Rattle.sz_check_rules.specs.Agreeing.{Found}
+use Rattle.sz_check_rules.specs.JudgingParts.{field_in}
+use Rattle.sz_check_rules.specs.Scene.{Scene}
+use Rattle.sz_check_rules.specs.Scenes.{judge}
+use Rattle.sz_check_rules.specs.JudgingPaths.{Target, stepped, indexed}
 
 -- where a path has come to
 abbrev pub target_seen : Reached → Target

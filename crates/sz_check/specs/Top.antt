@@ -6,9 +6,9 @@ use Rattle.sz_types.specs.Data.{Shape}
 use Rattle.sz_core.specs.Programs.{Item, Core, core_of}
 use Rattle.sz_core.specs.declared.program.Item.{Item as HeldItem}
 use Rattle.sz_check.specs.declared.top.Top.{Top}
-use Rattle.sz_judge.specs.Refusals.{Judged, ◌>>=◌}
-use Rattle.sz_judge.specs.JudgingPrograms.{TopScene, Found}
-use Rattle.sz_known.specs.Holding.{scene_of}
+use Rattle.sz_check_rules.specs.Refusals.{Judged, ◌>>=◌}
+use Rattle.sz_check_rules.specs.JudgingPrograms.{TopScene, Found}
+use Rattle.sz_check_names.specs.Holding.{scene_of}
 
 -- what is known at the top level
 abbrev pub top_of : Top → TopScene

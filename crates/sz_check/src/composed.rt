@@ -5,13 +5,13 @@ ghost use Rattle.sz_tree.specs.View.{tree_of};
 ghost use Rattle.sz_core.specs.Statements.{block, stms_of};
 ghost use Rattle.sz_core.specs.View.{node_of, stm_of};
 ghost use Rattle.sz_check.specs.Behind.{branch_of, while_of, do_while_of, for_of};
-ghost use Rattle.sz_known.specs.Outcome.{Judges};
+ghost use Rattle.sz_check_names.specs.Outcome.{Judges};
 
 use crate::simple::test_if_some;
 use std::alloc::{AllocError, Global};
 use sz_check_expr::test;
+use sz_check_names::CheckError;
 use sz_core::{CoreExpr, CoreStmt};
-use sz_known::CheckError;
 use sz_tree::Expr;
 use sz_types::Place;
 

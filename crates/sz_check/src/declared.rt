@@ -3,19 +3,19 @@ ghost use Rattle.std.specs.Prelude.{◌≡◌};
 ghost use Rattle.std.specs.Option.{option_map};
 ghost use Rattle.sz_tree.specs.Statements.{declare};
 ghost use Rattle.sz_tree.specs.View.{tree_of, type_of};
-ghost use Rattle.sz_judge.specs.JudgingStatements.{Around, judge_stm};
-ghost use Rattle.sz_known.specs.Holding.{scene_of};
+ghost use Rattle.sz_check_rules.specs.JudgingStatements.{Around, judge_stm};
+ghost use Rattle.sz_check_names.specs.Holding.{scene_of};
 ghost use Rattle.sz_check.specs.Behind.{behind_of};
-ghost use Rattle.sz_known.specs.Outcome.{Judges};
+ghost use Rattle.sz_check_names.specs.Outcome.{Judges};
 
 use crate::simple::{judge_declaration, judge_initialised};
 use std::alloc::Global;
+use sz_check_names::{CheckError, Known};
 use sz_core::CoreStmt;
-use sz_known::{CheckError, Known};
 use sz_tree::{Expr, Name, TypeTree};
 
 // `name: type;`, or `name: type = e;`, wherever it stands.
-#[tactic(auto, unfolding(sz_judge::specs::JudgingStatements::judge_stm))]
+#[tactic(auto, unfolding(sz_check_rules::specs::JudgingStatements::judge_stm))]
 pub fn judge_declared(
     alloc: Global,
     known: &mut Known,

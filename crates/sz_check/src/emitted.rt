@@ -6,16 +6,16 @@ ghost use Rattle.sz_types.specs.SeenTables.{seen_table};
 ghost use Rattle.sz_tree.specs.Expressions.{exps_of};
 ghost use Rattle.sz_tree.specs.View.{tree_of};
 ghost use Rattle.sz_core.specs.View.{node_of, stm_of};
-ghost use Rattle.sz_judge.specs.Scenes.{judge_if_some};
-ghost use Rattle.sz_judge.specs.JudgingSimple.{table_named, weight_agrees};
-ghost use Rattle.sz_known.specs.Holding.{means_of, scene_of};
+ghost use Rattle.sz_check_rules.specs.Scenes.{judge_if_some};
+ghost use Rattle.sz_check_rules.specs.JudgingSimple.{table_named, weight_agrees};
+ghost use Rattle.sz_check_names.specs.Holding.{means_of, scene_of};
 ghost use Rattle.sz_check.specs.Behind.{numbered_of, emitted_of, judge_emitted, emitted_fits, judge_emit_by_parts};
-ghost use Rattle.sz_known.specs.Outcome.{Judges};
+ghost use Rattle.sz_check_names.specs.Outcome.{Judges};
 
 use std::alloc::Global;
 use sz_check_expr::{Asks, agree, agrees, counted, judge_exp, judge_exps};
+use sz_check_names::{CheckError, Known, Means, Site};
 use sz_core::{CoreExpr, CoreStmt};
-use sz_known::{CheckError, Known, Means, Site};
 use sz_tree::{Expr, Name};
 use sz_types::{Place, TableDecl, Ty};
 

@@ -5,20 +5,20 @@ ghost use Rattle.sz_tree.specs.Types.{params_of};
 ghost use Rattle.sz_tree.specs.Statements.{stms_of};
 ghost use Rattle.sz_tree.specs.View.{type_of, param_of, stm_of};
 ghost use Rattle.sz_core.specs.View.{signature_of};
-ghost use Rattle.sz_judge.specs.Names.{declare, function};
-ghost use Rattle.sz_judge.specs.JudgingPrograms.{judge_parameters, judge_function};
-ghost use Rattle.sz_known.specs.Holding.{blocks_of, scene_of};
+ghost use Rattle.sz_check_rules.specs.Names.{declare, function};
+ghost use Rattle.sz_check_rules.specs.JudgingPrograms.{judge_parameters, judge_function};
+ghost use Rattle.sz_check_names.specs.Holding.{blocks_of, scene_of};
 ghost use Rattle.sz_check.specs.Functions.{declare_parameters, judge_header, judge_body, finished};
 ghost use Rattle.sz_check.specs.FunctionParts.{body_of};
 ghost use Rattle.sz_check.specs.Top.{found_one, top_of};
-ghost use Rattle.sz_known.specs.Outcome.{Judges};
+ghost use Rattle.sz_check_names.specs.Outcome.{Judges};
 
 use crate::stmt::{Around, judge_stms};
 use crate::top::Top;
 use std::alloc::{AllocError, Global};
+use sz_check_emits::body_emits;
+use sz_check_names::{CheckError, Known, Meaning, judge_type, small};
 use sz_core::{CoreStmt, Function, Item, Signature};
-use sz_emitting::body_emits;
-use sz_known::{CheckError, Known, Meaning, judge_type, small};
 use sz_tree::{Name, Param, Stmt, TypeTree};
 use sz_types::{Ty, Tys, copy_ty, copy_tys};
 

@@ -14,4 +14,4 @@ mod target;
 mod top;
 
 pub use program::check;
-pub use sz_known::CheckError;
+pub use sz_check_names::CheckError;

@@ -3,10 +3,10 @@ ghost use Rattle.std.specs.Prelude.{◌≡◌, ◌++◌, IfOk, map as each, None
 ghost use Rattle.sz_tree.specs.Statements.{stms_of};
 ghost use Rattle.sz_tree.specs.View.{tree_of, type_of, stm_of, program_of};
 ghost use Rattle.sz_core.specs.View.{item_of, static_of};
-ghost use Rattle.sz_judge.specs.JudgingPrograms.{judge_static, judge_typedef, judge_statement, judge_top, judge_all, known_at_first, judge_program};
+ghost use Rattle.sz_check_rules.specs.JudgingPrograms.{judge_static, judge_typedef, judge_statement, judge_top, judge_all, known_at_first, judge_program};
 ghost use Rattle.sz_check.specs.Declaring.{declare_static};
 ghost use Rattle.sz_check.specs.Top.{found_all, found_one, found_with, items_in, top_of, core_seen};
-ghost use Rattle.sz_known.specs.Outcome.{Judges};
+ghost use Rattle.sz_check_names.specs.Outcome.{Judges};
 
 use crate::function::judge_function;
 use crate::stmt::{Around, judge_stm};
@@ -14,9 +14,9 @@ use crate::table::judge_table;
 use crate::top::Top;
 use std::alloc::{AllocError, Global};
 use sz_check_expr::{converted, judge_exp};
+use sz_check_laws::judged_programs_are_sound;
+use sz_check_names::{CheckError, Known, Meaning, Site, judge_type, judge_written, small};
 use sz_core::{Item, Program, Static};
-use sz_known::{CheckError, Known, Meaning, Site, judge_type, judge_written, small};
-use sz_sound::judged_programs_are_sound;
 use sz_tree::{Expr, Name, Stmt, Tree, TypeTree};
 use sz_types::{Place, Tys, copy_ty};
 

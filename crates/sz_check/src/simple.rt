@@ -7,20 +7,20 @@ ghost use Rattle.sz_tree.specs.View.{tree_of, type_of, path_of, simple_of, first
 ghost use Rattle.sz_core.specs.Statements.{nothing};
 ghost use Rattle.sz_core.specs.Nodes.{node};
 ghost use Rattle.sz_core.specs.View.{form_of, node_of, stm_of};
-ghost use Rattle.sz_judge.specs.Scenes.{judge_if_some};
-ghost use Rattle.sz_judge.specs.JudgingSimple.{judge_declaration, judge_initialised, judge_definition, judge_assignment, judge_change, judge_simple};
-ghost use Rattle.sz_judge.specs.JudgingSimple.{judge_first, judge_between, test_if_some, judge_return};
+ghost use Rattle.sz_check_rules.specs.Scenes.{judge_if_some};
+ghost use Rattle.sz_check_rules.specs.JudgingSimple.{judge_declaration, judge_initialised, judge_definition, judge_assignment, judge_change, judge_simple};
+ghost use Rattle.sz_check_rules.specs.JudgingSimple.{judge_first, judge_between, test_if_some, judge_return};
 ghost use Rattle.sz_check_expr.specs.Asking.{asked_of};
-ghost use Rattle.sz_known.specs.Holding.{scene_of};
+ghost use Rattle.sz_check_names.specs.Holding.{scene_of};
 ghost use Rattle.sz_check.specs.Behind.{behind_of, change_row, one_at, variable_at, changed_at};
-ghost use Rattle.sz_known.specs.Outcome.{Judges};
+ghost use Rattle.sz_check_names.specs.Outcome.{Judges};
 
 use crate::composed::boxed;
 use crate::target::{Target, judge_path, judge_variable};
 use std::alloc::{AllocError, Global};
 use sz_check_expr::{agrees, converted, difference_row, judge_call, judge_exp, sum_row, test};
+use sz_check_names::{CheckError, Known, Site, judge_type};
 use sz_core::{CoreExpr, CoreStmt, Form};
-use sz_known::{CheckError, Known, Site, judge_type};
 use sz_tree::{Expr, First, Name, Path, Simple, TypeTree};
 use sz_types::{BinOp, Place, Ty, copy_ty};
 use sz_value::Value;

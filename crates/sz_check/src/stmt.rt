@@ -4,11 +4,11 @@ ghost use Rattle.std.specs.Option.{option_map};
 ghost use Rattle.sz_tree.specs.Statements.{stms_of, block, if_only, while, do_while, when};
 ghost use Rattle.sz_tree.specs.View.{tree_of, stm_of, simple_of, first_of, quantifier_of};
 ghost use Rattle.sz_core.specs.View.{node_of, stm_of as core_stm_of};
-ghost use Rattle.sz_judge.specs.JudgingStatements.{judge_stm, judge_stms};
-ghost use Rattle.sz_known.specs.Holding.{scene_of};
+ghost use Rattle.sz_check_rules.specs.JudgingStatements.{judge_stm, judge_stms};
+ghost use Rattle.sz_check_names.specs.Holding.{scene_of};
 ghost use Rattle.sz_check.specs.Behind.{behind_of, all_behind_of, around_of, judge_inside, judge_else, judge_turns, judge_for, judge_bound_body};
 ghost use Rattle.sz_check.specs.Quantified.{variable_of};
-ghost use Rattle.sz_known.specs.Outcome.{Judges};
+ghost use Rattle.sz_check_names.specs.Outcome.{Judges};
 
 use crate::composed::{alone, boxed, branch, do_while_loop, for_loop, joined, while_loop};
 use crate::declared::judge_declared;
@@ -19,8 +19,8 @@ use crate::simple::{
 };
 use std::alloc::Global;
 use sz_check_expr::judge_exp;
+use sz_check_names::{CheckError, Known, Site};
 use sz_core::{CoreExpr, CoreStmt};
-use sz_known::{CheckError, Known, Site};
 use sz_tree::{Expr, First, Quantifier, Simple, Stmt};
 use sz_types::{Place, Ty};
 
@@ -142,7 +142,7 @@ fn judge_inside(
 }
 
 #[cycle(stmt)]
-#[tactic(auto, unfolding(sz_judge::specs::JudgingStatements::judge_stm))]
+#[tactic(auto, unfolding(sz_check_rules::specs::JudgingStatements::judge_stm))]
 fn judge_block(
     alloc: Global,
     known: &mut Known,

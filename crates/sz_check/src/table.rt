@@ -1,16 +1,16 @@
 //! Declarations of tables under their names.
 ghost use Rattle.sz_types.specs.SeenTables.{seen_table};
 ghost use Rattle.sz_tree.specs.View.{table_of};
-ghost use Rattle.sz_judge.specs.JudgingPrograms.{judge_table};
+ghost use Rattle.sz_check_rules.specs.JudgingPrograms.{judge_table};
 ghost use Rattle.sz_check.specs.Declaring.{declare_table};
 ghost use Rattle.sz_check.specs.Top.{found_one, top_of};
-ghost use Rattle.sz_known.specs.Outcome.{Judges};
+ghost use Rattle.sz_check_names.specs.Outcome.{Judges};
 
 use crate::top::Top;
 use std::alloc::Global;
+use sz_check_names::{CheckError, Meaning};
 use sz_check_table::judge_table_declaration;
 use sz_core::Item;
-use sz_known::{CheckError, Meaning};
 use sz_tree::{Name, Table};
 use sz_types::{TableDecl, copy_table};
 

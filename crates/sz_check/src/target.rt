@@ -3,16 +3,16 @@ ghost use Rattle.std.specs.Prelude.{◌≡◌, [], IfOk, map as each};
 ghost use Rattle.sz_types.specs.Seen.{seen};
 ghost use Rattle.sz_tree.specs.View.{tree_of, step_of};
 ghost use Rattle.sz_core.specs.View.{node_of, step_of as core_step_of};
-ghost use Rattle.sz_judge.specs.JudgingParts.{field_in};
-ghost use Rattle.sz_judge.specs.JudgingPaths.{target_of, stepped, indexed, judge_steps, judge_path};
-ghost use Rattle.sz_known.specs.Holding.{means_of, scene_of};
+ghost use Rattle.sz_check_rules.specs.JudgingParts.{field_in};
+ghost use Rattle.sz_check_rules.specs.JudgingPaths.{target_of, stepped, indexed, judge_steps, judge_path};
+ghost use Rattle.sz_check_names.specs.Holding.{means_of, scene_of};
 ghost use Rattle.sz_check.specs.Targets.{target_seen, into_string, to_part, part_of, judge_step, path_form, assignable};
-ghost use Rattle.sz_known.specs.Outcome.{Judges};
+ghost use Rattle.sz_check_names.specs.Outcome.{Judges};
 
 use std::alloc::{AllocError, Global};
 use sz_check_expr::{agrees, field_in, judge_exp, whole};
+use sz_check_names::{CheckError, Kind, Known, Means, Site, small, type_kind};
 use sz_core::{CoreExpr, CoreStep};
-use sz_known::{CheckError, Kind, Known, Means, Site, small, type_kind};
 use sz_tree::{Expr, Name, Step};
 use sz_types::{Place, Ty, copy_ty};
 
@@ -198,7 +198,7 @@ pub fn judge_path(
 }
 
 // A path that is a name alone.
-#[tactic(auto, unfolding(sz_judge::specs::JudgingPaths::judge_steps))]
+#[tactic(auto, unfolding(sz_check_rules::specs::JudgingPaths::judge_steps))]
 pub fn judge_variable(alloc: Global, known: &Known, name: &Name) -> Result<Target, CheckError>
     ensures value { Judges target_seen result (judge_path (scene_of known.now) (path_form name.now [])) }
 {

@@ -1,6 +1,6 @@
 //! What is known at the top level.
+use sz_check_names::Known;
 use sz_core::Signature;
-use sz_known::Known;
 
 // What is known in front of a statement at the top level, how many tables and statics are declared, and the functions.
 #[derive(Drop)]

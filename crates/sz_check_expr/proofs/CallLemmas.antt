@@ -18,10 +18,10 @@ use Rattle.sz_core.specs.declared.expr.CoreExpr.{CoreExpr}
 use Rattle.sz_core.specs.Nodes.{Node, node, Nodes, no_nodes, with_node, nodes_of, type_of, types_of}
 use Rattle.sz_core.specs.Nodes as forms
 use Rattle.sz_core.specs.View.{node_of}
-use Rattle.sz_judge.specs.Refusals.{◌>>=◌, unless, wrong_type, wrong_count}
-use Rattle.sz_judge.specs.JudgingCalls.{conversion_call}
-use Rattle.sz_judge.specs.JudgingComposites.{asks_of_list, made_tuple}
-use Rattle.sz_judge.specs.Agreeing.{in_turn, field_types, fields_count}
+use Rattle.sz_check_rules.specs.Refusals.{◌>>=◌, unless, wrong_type, wrong_count}
+use Rattle.sz_check_rules.specs.JudgingCalls.{conversion_call}
+use Rattle.sz_check_rules.specs.JudgingComposites.{asks_of_list, made_tuple}
+use Rattle.sz_check_rules.specs.Agreeing.{in_turn, field_types, fields_count}
 use Rattle.sz_check_expr.specs.Calling.{first_converts, first_converted, tuple_of}
 
 -- whether there is one expression

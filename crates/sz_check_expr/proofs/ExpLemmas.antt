@@ -9,17 +9,17 @@ use Rattle.sz_tree.specs.declared.operator.BinaryOp.{BinaryOp}
 use Rattle.sz_tree.specs.Expressions.{Lit, Exp, literal, paren, index, slice, binary, exps_of, pairs_of}
 use Rattle.sz_tree.specs.View.{tree_of, pair_of}
 use Rattle.sz_core.specs.Nodes.{Node, type_of, Nodes, no_nodes, with_node, nodes_of, Pairings, no_pairings, with_pairing, pairings_of}
-use Rattle.sz_judge.specs.Refusals.{Judged, ◌>>=◌}
-use Rattle.sz_judge.specs.Names.{Block}
-use Rattle.sz_judge.specs.Agreeing.{Asks, asked_first, asked_behind}
-use Rattle.sz_judge.specs.JudgingParts.{made_index, made_slice}
-use Rattle.sz_judge.specs.JudgingOperators.{operation_of, asked_of_right, made_binary}
-use Rattle.sz_judge.specs.JudgingExpressions.{literal_node, judge_exp, judge_exps, judge_pairs}
-use Rattle.sz_known.specs.Turns.{behind, put_all}
+use Rattle.sz_check_rules.specs.Refusals.{Judged, ◌>>=◌}
+use Rattle.sz_check_rules.specs.Names.{Block}
+use Rattle.sz_check_rules.specs.Agreeing.{Asks, asked_first, asked_behind}
+use Rattle.sz_check_rules.specs.JudgingParts.{made_index, made_slice}
+use Rattle.sz_check_rules.specs.JudgingOperators.{operation_of, asked_of_right, made_binary}
+use Rattle.sz_check_rules.specs.JudgingExpressions.{literal_node, judge_exp, judge_exps, judge_pairs}
+use Rattle.sz_check_names.specs.Turns.{behind, put_all}
 use Rattle.sz_check_expr.specs.Lists.{with_pair, judge_pair}
-use Rattle.sz_known.specs.Outcome.{Stops}
-use Rattle.sz_known.specs.declared.error.CheckError.{CheckError}
-use Rattle.sz_known.proofs.TurnLemmas.{stops_then, goes_on, turn_fails, turn_goes, turn_ends}
+use Rattle.sz_check_names.specs.Outcome.{Stops}
+use Rattle.sz_check_names.specs.declared.error.CheckError.{CheckError}
+use Rattle.sz_check_names.proofs.TurnLemmas.{stops_then, goes_on, turn_fails, turn_goes, turn_ends}
 use Rattle.sz_types.proofs.ForCallers.{rest_more, rest_none}
 
 -- nodes put in front of none are these nodes

@@ -11,9 +11,9 @@ use Rattle.sz_core.specs.declared.expr.CoreExpr.{CoreExpr}
 use Rattle.sz_core.specs.declared.expr.CorePair.{CorePair}
 use Rattle.sz_core.specs.Nodes.{nodes_of, pairings_of}
 use Rattle.sz_core.specs.View.{node_of, pairing_of}
-use Rattle.sz_judge.specs.Refusals.{Judged, ◌>>=◌}
+use Rattle.sz_check_rules.specs.Refusals.{Judged, ◌>>=◌}
 use Rattle.sz_types.proofs.ForCallers.{rest_more}
-use Rattle.sz_judge.specs.Agreeing.{Asks, asked_first, asked_behind, agrees, agree, pairs_agree, count_of}
+use Rattle.sz_check_rules.specs.Agreeing.{Asks, asked_first, asked_behind, agrees, agree, pairs_agree, count_of}
 
 -- whether the expressions from a place on agree, and so keys and values
 abbrev pub agree_from : Asks → List Expr → List CoreExpr → ℕ → Judged Unit

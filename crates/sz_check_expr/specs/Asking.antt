@@ -7,7 +7,7 @@ use Rattle.sz_types.specs.Seen.{seen, seen_field}
 use Rattle.sz_types.specs.declared.ty.Ty.{Ty}
 use Rattle.sz_check_expr.specs.declared.asks.Asks.{Asks as Asked}
 use Rattle.sz_check_expr.specs.declared.asks.Asks.TheVariants as asked
-use Rattle.sz_judge.specs.Agreeing.{Asks, nothing, each, in_turn, field_types, Found}
+use Rattle.sz_check_rules.specs.Agreeing.{Asks, nothing, each, in_turn, field_types, Found}
 
 -- what is asked of some expressions
 abbrev pub asks_of : Asked → Asks

@@ -10,10 +10,10 @@ use Rattle.sz_core.specs.Nodes as forms
 use Rattle.sz_core.specs.View.{signature_of}
 use Rattle.sz_check_expr.specs.declared.call.Callee.{Callee as Called}
 use Rattle.sz_check_expr.specs.declared.call.Callee.TheVariants as called
-use Rattle.sz_judge.specs.Refusals.{Judged, ◌>>=◌, unless, wrong_type, wrong_count}
-use Rattle.sz_judge.specs.Agreeing.{in_turn, agree, counted, field_types, fields_count}
-use Rattle.sz_judge.specs.JudgingCalls.{Callee, declared, predeclared, conversion}
-use Rattle.sz_judge.specs.JudgingComposites.{made_list}
+use Rattle.sz_check_rules.specs.Refusals.{Judged, ◌>>=◌, unless, wrong_type, wrong_count}
+use Rattle.sz_check_rules.specs.Agreeing.{in_turn, agree, counted, field_types, fields_count}
+use Rattle.sz_check_rules.specs.JudgingCalls.{Callee, declared, predeclared, conversion}
+use Rattle.sz_check_rules.specs.JudgingComposites.{made_list}
 
 -- what is called
 abbrev pub callee_seen : Called → Callee

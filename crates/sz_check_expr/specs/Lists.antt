@@ -3,9 +3,9 @@ use Rattle.std.specs.Prelude.{List, Bool, Option, Ok}
 use Rattle.sz_types.specs.Data.{Shape}
 use Rattle.sz_tree.specs.Expressions.{Exp}
 use Rattle.sz_core.specs.Nodes.{Node, Pairings, with_pairing}
-use Rattle.sz_judge.specs.Refusals.{Judged, ◌>>=◌}
-use Rattle.sz_judge.specs.Names.{Block}
-use Rattle.sz_judge.specs.JudgingExpressions.{judge_exp}
+use Rattle.sz_check_rules.specs.Refusals.{Judged, ◌>>=◌}
+use Rattle.sz_check_rules.specs.Names.{Block}
+use Rattle.sz_check_rules.specs.JudgingExpressions.{judge_exp}
 
 -- a key and its value in front of others
 abbrev pub with_pair : Node × Node → Pairings → Pairings

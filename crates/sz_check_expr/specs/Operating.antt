@@ -7,7 +7,7 @@ use Rattle.sz_types.specs.declared.operator.BinOp.{BinOp}
 use Rattle.sz_types.specs.declared.operator.BinOp.TheVariants.{Equal, NotEqual, Less, LessEqual, Greater, GreaterEqual}
 use Rattle.sz_check_expr.specs.declared.operator.Operation.{Operation as Operated}
 use Rattle.sz_check_expr.specs.declared.operator.Operation.TheVariants as operated
-use Rattle.sz_judge.specs.JudgingOperators.{Operation, both, either, of}
+use Rattle.sz_check_rules.specs.JudgingOperators.{Operation, both, either, of}
 
 -- what an operator of two operands is
 abbrev pub operation_seen : Operated → Operation

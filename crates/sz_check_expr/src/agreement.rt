@@ -5,17 +5,17 @@ ghost use Rattle.sz_tree.specs.Expressions.{exps_of, pairs_of};
 ghost use Rattle.sz_tree.specs.View.{tree_of, pair_of};
 ghost use Rattle.sz_core.specs.Nodes.{nodes_of, pairings_of};
 ghost use Rattle.sz_core.specs.View.{node_of, pairing_of};
-ghost use Rattle.sz_judge.specs.Agreeing.{agrees, agree, pairs_agree, counted, converted};
+ghost use Rattle.sz_check_rules.specs.Agreeing.{agrees, agree, pairs_agree, counted, converted};
 ghost use Rattle.sz_check_expr.specs.Asking.{asks_of, asked_of};
 ghost use Rattle.sz_check_expr.specs.Calling.{fits};
-ghost use Rattle.sz_known.specs.Outcome.{Judges};
+ghost use Rattle.sz_check_names.specs.Outcome.{Judges};
 
 use crate::asks::Asks;
 use crate::path::conversion_node;
 use crate::rows::alike;
 use std::alloc::Global;
+use sz_check_names::CheckError;
 use sz_core::{CoreExpr, CorePair};
-use sz_known::CheckError;
 use sz_tree::{Expr, Pair};
 use sz_types::{Place, Ty, copy_ty};
 

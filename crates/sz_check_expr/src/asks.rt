@@ -1,6 +1,6 @@
 //! What a place asks of the expressions that stand there.
 ghost use Rattle.std.specs.Prelude.{◌≡◌};
-ghost use Rattle.sz_judge.specs.Agreeing.{asked_first, asked_behind};
+ghost use Rattle.sz_check_rules.specs.Agreeing.{asked_first, asked_behind};
 ghost use Rattle.sz_check_expr.specs.Asking.{asks_of, asked_of};
 
 use sz_types::{Field, Ty};

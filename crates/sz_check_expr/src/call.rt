@@ -6,21 +6,21 @@ ghost use Rattle.sz_types.specs.declared.operator.Builtin.TheVariants.{HasKey, S
 ghost use Rattle.sz_tree.specs.View.{tree_of};
 ghost use Rattle.sz_core.specs.Nodes.{nodes_of, with_node};
 ghost use Rattle.sz_core.specs.View.{node_of, signature_of};
-ghost use Rattle.sz_judge.specs.Agreeing.{arguments_fit};
+ghost use Rattle.sz_check_rules.specs.Agreeing.{arguments_fit};
 ghost use Rattle.sz_types.specs.Rows.{arity};
-ghost use Rattle.sz_judge.specs.JudgingExpressions.{variable_node};
-ghost use Rattle.sz_judge.specs.JudgingCalls.{callee_of, asks_of_callee, declared_call, predeclared_call, conversion_call, made_call};
+ghost use Rattle.sz_check_rules.specs.JudgingExpressions.{variable_node};
+ghost use Rattle.sz_check_rules.specs.JudgingCalls.{callee_of, asks_of_callee, declared_call, predeclared_call, conversion_call, made_call};
 ghost use Rattle.sz_check_expr.specs.Asking.{asks_of};
 ghost use Rattle.sz_check_expr.specs.Calling.{callee_seen, first_converts, first_converted};
-ghost use Rattle.sz_known.specs.Holding.{means_of};
-ghost use Rattle.sz_known.specs.Outcome.{Judges};
+ghost use Rattle.sz_check_names.specs.Holding.{means_of};
+ghost use Rattle.sz_check_names.specs.Outcome.{Judges};
 
 use crate::agreement::{agree, counted, fits};
 use crate::asks::Asks;
 use crate::rows::{builtin_row, has_elements, has_keys_of, is_found_in, is_map, is_searched_for};
 use std::alloc::Global;
+use sz_check_names::{CheckError, Means};
 use sz_core::{CoreExpr, Form, Signature};
-use sz_known::{CheckError, Means};
 use sz_tree::{Expr, Name};
 use sz_types::{Builtin, Place, Ty, converts, copy_ty};
 

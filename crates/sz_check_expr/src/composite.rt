@@ -6,16 +6,16 @@ ghost use Rattle.sz_tree.specs.Expressions.{exps_of, pairs_of};
 ghost use Rattle.sz_tree.specs.View.{tree_of, pair_of};
 ghost use Rattle.sz_core.specs.Nodes.{nodes_of, pairings_of};
 ghost use Rattle.sz_core.specs.View.{node_of, pairing_of};
-ghost use Rattle.sz_judge.specs.JudgingComposites.{asks_of_list, made_tuple, made_list, asked_of_keys, asked_of_values, made_mapping};
+ghost use Rattle.sz_check_rules.specs.JudgingComposites.{asks_of_list, made_tuple, made_list, asked_of_keys, asked_of_values, made_mapping};
 ghost use Rattle.sz_check_expr.specs.Asking.{asks_of, asked_of};
 ghost use Rattle.sz_check_expr.specs.Calling.{made_array, tuple_of};
-ghost use Rattle.sz_known.specs.Outcome.{Judges};
+ghost use Rattle.sz_check_names.specs.Outcome.{Judges};
 
 use crate::agreement::{agree, counted, pairs_agree};
 use crate::asks::Asks;
 use std::alloc::Global;
+use sz_check_names::{CheckError, Kind, type_kind};
 use sz_core::{CoreExpr, CorePair, Form};
-use sz_known::{CheckError, Kind, type_kind};
 use sz_tree::{Expr, Pair};
 use sz_types::{Field, Place, Ty, copy_ty};
 

@@ -5,12 +5,12 @@ ghost use Rattle.sz_tree.specs.Expressions.{exps_of, pairs_of, named, call, def,
 ghost use Rattle.sz_tree.specs.View.{tree_of, pair_of};
 ghost use Rattle.sz_core.specs.Nodes.{nodes_of, pairings_of};
 ghost use Rattle.sz_core.specs.View.{node_of, pairing_of};
-ghost use Rattle.sz_judge.specs.JudgingExpressions.{judge_exp, judge_exps, judge_pairs};
+ghost use Rattle.sz_check_rules.specs.JudgingExpressions.{judge_exp, judge_exps, judge_pairs};
 ghost use Rattle.sz_check_expr.specs.Asking.{asks_of, asked_of};
-ghost use Rattle.sz_known.specs.Holding.{blocks_for};
-ghost use Rattle.sz_known.specs.Sites.{may_emit};
+ghost use Rattle.sz_check_names.specs.Holding.{blocks_for};
+ghost use Rattle.sz_check_names.specs.Sites.{may_emit};
 ghost use Rattle.sz_check_expr.specs.Lists.{judge_pair};
-ghost use Rattle.sz_known.specs.Outcome.{Judges};
+ghost use Rattle.sz_check_names.specs.Outcome.{Judges};
 
 use crate::asks::Asks;
 use crate::call::{asks_of_callee, callee_of, made_call, variable_node};
@@ -19,8 +19,8 @@ use crate::literal::literal_node;
 use crate::operator::{asked_of_right, made_binary, made_unary};
 use crate::path::{conversion_node, made_field, made_index, made_slice};
 use std::alloc::Global;
+use sz_check_names::{CheckError, Known, Site, basic_type};
 use sz_core::{CoreExpr, CorePair, Form};
-use sz_known::{CheckError, Known, Site, basic_type};
 use sz_tree::{BasicType, Expr, Name, Pair, UnaryOp};
 use sz_types::{Place, Ty};
 
@@ -90,7 +90,7 @@ fn judge_part(
 }
 
 // A name as a value.
-#[tactic(auto, unfolding(sz_judge::specs::JudgingExpressions::judge_exp))]
+#[tactic(auto, unfolding(sz_check_rules::specs::JudgingExpressions::judge_exp))]
 fn judge_named(
     alloc: Global,
     known: &Known,
@@ -105,7 +105,7 @@ fn judge_named(
 
 /// A checked call, or its first refusal: what the name calls, the arguments, and then the call of them.
 #[cycle(expr)]
-#[tactic(auto, unfolding(sz_judge::specs::JudgingExpressions::judge_exp))]
+#[tactic(auto, unfolding(sz_check_rules::specs::JudgingExpressions::judge_exp))]
 pub fn judge_call(
     alloc: Global,
     known: &Known,
@@ -123,7 +123,7 @@ pub fn judge_call(
 
 // `def(e)`.
 #[cycle(expr)]
-#[tactic(auto, unfolding(sz_judge::specs::JudgingExpressions::judge_exp))]
+#[tactic(auto, unfolding(sz_check_rules::specs::JudgingExpressions::judge_exp))]
 fn judge_def(
     alloc: Global,
     known: &Known,
@@ -141,7 +141,7 @@ fn judge_def(
 
 // A conversion to a type that is a word.
 #[cycle(expr)]
-#[tactic(auto, unfolding(sz_judge::specs::JudgingExpressions::judge_exp))]
+#[tactic(auto, unfolding(sz_check_rules::specs::JudgingExpressions::judge_exp))]
 fn judge_conversion(
     alloc: Global,
     known: &Known,
@@ -159,7 +159,7 @@ fn judge_conversion(
 
 // `{e, ..}`.
 #[cycle(expr)]
-#[tactic(auto, unfolding(sz_judge::specs::JudgingExpressions::judge_exp))]
+#[tactic(auto, unfolding(sz_check_rules::specs::JudgingExpressions::judge_exp))]
 fn judge_list(
     alloc: Global,
     known: &Known,
@@ -178,7 +178,7 @@ fn judge_list(
 
 // `{k: v, ..}`.
 #[cycle(expr)]
-#[tactic(auto, unfolding(sz_judge::specs::JudgingExpressions::judge_exp))]
+#[tactic(auto, unfolding(sz_check_rules::specs::JudgingExpressions::judge_exp))]
 fn judge_mapping(
     alloc: Global,
     known: &Known,
@@ -198,7 +198,7 @@ fn judge_mapping(
 
 // `e.name`.
 #[cycle(expr)]
-#[tactic(auto, unfolding(sz_judge::specs::JudgingExpressions::judge_exp))]
+#[tactic(auto, unfolding(sz_check_rules::specs::JudgingExpressions::judge_exp))]
 fn judge_field(
     alloc: Global,
     known: &Known,
@@ -216,7 +216,7 @@ fn judge_field(
 
 // An operator before its operand.
 #[cycle(expr)]
-#[tactic(auto, unfolding(sz_judge::specs::JudgingExpressions::judge_exp))]
+#[tactic(auto, unfolding(sz_check_rules::specs::JudgingExpressions::judge_exp))]
 fn judge_unary(
     alloc: Global,
     known: &Known,

@@ -2,7 +2,7 @@
 ghost use Rattle.std.specs.Prelude.{◌≡◌, IfOk};
 ghost use Rattle.sz_tree.specs.View.{literal_of};
 ghost use Rattle.sz_core.specs.View.{node_of};
-ghost use Rattle.sz_judge.specs.JudgingExpressions.{literal_node};
+ghost use Rattle.sz_check_rules.specs.JudgingExpressions.{literal_node};
 
 use std::alloc::{AllocError, Global};
 use sz_core::{CoreExpr, Form};

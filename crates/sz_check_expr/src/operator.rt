@@ -3,17 +3,17 @@ ghost use Rattle.std.specs.Prelude.{◌≡◌};
 ghost use Rattle.sz_types.specs.Seen.{seen};
 ghost use Rattle.sz_tree.specs.View.{tree_of};
 ghost use Rattle.sz_core.specs.View.{node_of};
-ghost use Rattle.sz_judge.specs.JudgingOperators.{unary_of, made_unary, operation_of, hands_type_on, asked_of_right, takes_left, made_operator, test};
-ghost use Rattle.sz_judge.specs.JudgingOperators.{made_binary};
+ghost use Rattle.sz_check_rules.specs.JudgingOperators.{unary_of, made_unary, operation_of, hands_type_on, asked_of_right, takes_left, made_operator, test};
+ghost use Rattle.sz_check_rules.specs.JudgingOperators.{made_binary};
 ghost use Rattle.sz_check_expr.specs.Asking.{asked_of};
 ghost use Rattle.sz_check_expr.specs.Operating.{operation_seen};
-ghost use Rattle.sz_known.specs.Outcome.{Judges};
+ghost use Rattle.sz_check_names.specs.Outcome.{Judges};
 
 use crate::agreement::fits;
 use crate::rows::{alike, binary_row, unary_row};
 use std::alloc::Global;
+use sz_check_names::{CheckError, Kind, type_kind};
 use sz_core::{CoreExpr, Form};
-use sz_known::{CheckError, Kind, type_kind};
 use sz_tree::{BinaryOp, Expr, UnaryOp};
 use sz_types::{BinOp, Place, Ty, UnOp};
 

@@ -5,17 +5,17 @@ ghost use Rattle.sz_types.specs.Data.{fields_of};
 ghost use Rattle.sz_types.specs.Seen.{seen, seen_field};
 ghost use Rattle.sz_tree.specs.View.{tree_of};
 ghost use Rattle.sz_core.specs.View.{node_of};
-ghost use Rattle.sz_judge.specs.Agreeing.{field_named};
-ghost use Rattle.sz_judge.specs.JudgingCalls.{conversion_node};
-ghost use Rattle.sz_judge.specs.JudgingParts.{made_index, whole, made_slice, field_in, made_field};
+ghost use Rattle.sz_check_rules.specs.Agreeing.{field_named};
+ghost use Rattle.sz_check_rules.specs.JudgingCalls.{conversion_node};
+ghost use Rattle.sz_check_rules.specs.JudgingParts.{made_index, whole, made_slice, field_in, made_field};
 ghost use Rattle.sz_check_expr.specs.Asking.{found_of};
-ghost use Rattle.sz_known.specs.Outcome.{Judges};
+ghost use Rattle.sz_check_names.specs.Outcome.{Judges};
 
 use crate::agreement::fits;
 use crate::rows::{alike, has_elements, has_slices, index_row};
 use std::alloc::Global;
+use sz_check_names::{CheckError, Kind, small, type_kind};
 use sz_core::{CoreExpr, Form};
-use sz_known::{CheckError, Kind, small, type_kind};
 use sz_tree::{Expr, Name};
 use sz_types::{Field, Place, Ty, converts, copy_ty};
 

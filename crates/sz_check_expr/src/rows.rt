@@ -8,13 +8,13 @@ ghost use Rattle.sz_types.specs.Rows.{both_int, ordered, sum_row, difference_row
 ghost use Rattle.sz_types.specs.Rows.{strfind_row, builtin_row};
 ghost use Rattle.sz_core.specs.Nodes.{nodes_of, types_of};
 ghost use Rattle.sz_core.specs.View.{node_of};
-ghost use Rattle.sz_judge.specs.Agreeing.{is_searched_for, is_map};
-ghost use Rattle.sz_judge.specs.JudgingParts.{has_index};
+ghost use Rattle.sz_check_rules.specs.Agreeing.{is_searched_for, is_map};
+ghost use Rattle.sz_check_rules.specs.JudgingParts.{has_index};
 ghost use Rattle.sz_check_expr.specs.Operating.{is_compared};
 
 use std::alloc::{AllocError, Global};
+use sz_check_names::{Kind, type_kind};
 use sz_core::CoreExpr;
-use sz_known::{Kind, type_kind};
 use sz_types::{BinOp, Builtin, Ty, UnOp, copy_ty, same};
 
 // Whether the types are the same.

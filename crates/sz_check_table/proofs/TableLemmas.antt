@@ -12,16 +12,16 @@ use Rattle.sz_tree.specs.Names.{Ident}
 use Rattle.sz_tree.specs.Statements.{TableForm}
 use Rattle.sz_tree.specs.View.{elem_of, type_of}
 use Rattle.sz_core.specs.WellFormed.{kind_allows, has_sum, has_no_weight}
-use Rattle.sz_judge.specs.Refusals.{Judged, ◌>>=◌, bad_table}
-use Rattle.sz_judge.specs.Names.{Block}
-use Rattle.sz_judge.specs.JudgingTypes.{judge_type}
-use Rattle.sz_judge.specs.JudgingPrograms.{kind_of, limit_of, judge_elems, judge_weight, declaration_of}
-use Rattle.sz_known.specs.Turns.{behind, put_all}
+use Rattle.sz_check_rules.specs.Refusals.{Judged, ◌>>=◌, bad_table}
+use Rattle.sz_check_rules.specs.Names.{Block}
+use Rattle.sz_check_rules.specs.JudgingTypes.{judge_type}
+use Rattle.sz_check_rules.specs.JudgingPrograms.{kind_of, limit_of, judge_elems, judge_weight, declaration_of}
+use Rattle.sz_check_names.specs.Turns.{behind, put_all}
 use Rattle.sz_check_table.specs.Tables.{judge_table_declaration}
 use Rattle.sz_check_table.specs.Tabling.{with_type, Types, judge_types, IsLimit}
-use Rattle.sz_known.specs.Outcome.{Stops}
-use Rattle.sz_known.specs.declared.error.CheckError.{CheckError}
-use Rattle.sz_known.proofs.TurnLemmas.{turn_fails, turn_goes, turn_ends}
+use Rattle.sz_check_names.specs.Outcome.{Stops}
+use Rattle.sz_check_names.specs.declared.error.CheckError.{CheckError}
+use Rattle.sz_check_names.proofs.TurnLemmas.{turn_fails, turn_goes, turn_ends}
 use Rattle.sz_types.proofs.ForCallers.{rest_more, rest_none}
 
 second_fails : (a b : Bool) → b ≡ false → (a && b) ≡ false

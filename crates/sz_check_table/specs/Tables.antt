@@ -3,10 +3,10 @@ use Rattle.std.specs.Prelude.{List}
 use Rattle.sz_types.specs.Tables.{Declaration}
 use Rattle.sz_tree.specs.Names.{Ident}
 use Rattle.sz_tree.specs.Statements.{TableForm}
-use Rattle.sz_judge.specs.Refusals.{Judged, ◌>>=◌}
-use Rattle.sz_judge.specs.Names.{Block}
-use Rattle.sz_judge.specs.JudgingTypes.{judge_type}
-use Rattle.sz_judge.specs.JudgingPrograms.{kind_of, limit_of, judge_elems, judge_weight, declaration_of}
+use Rattle.sz_check_rules.specs.Refusals.{Judged, ◌>>=◌}
+use Rattle.sz_check_rules.specs.Names.{Block}
+use Rattle.sz_check_rules.specs.JudgingTypes.{judge_type}
+use Rattle.sz_check_rules.specs.JudgingPrograms.{kind_of, limit_of, judge_elems, judge_weight, declaration_of}
 
 -- the declaration, or its first refusal
 abbrev pub judge_table_declaration : List Block → Ident → TableForm → Judged Declaration

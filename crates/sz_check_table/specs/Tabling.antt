@@ -7,12 +7,12 @@ use Rattle.sz_types.specs.Tables.{Declaration}
 use Rattle.sz_types.specs.declared.table.TableKind.{TableKind}
 use Rattle.sz_tree.specs.Names.{Ident}
 use Rattle.sz_tree.specs.Statements.{TableForm}
-use Rattle.sz_judge.specs.Refusals.{Judged, ◌>>=◌}
-use Rattle.sz_judge.specs.Names.{Block}
-use Rattle.sz_judge.specs.JudgingTypes.{judge_type}
-use Rattle.sz_judge.specs.JudgingPrograms.{judge_elems, judge_weight, declaration_of}
-use Rattle.sz_known.specs.Outcome.{Stops}
-use Rattle.sz_known.specs.declared.error.CheckError.{CheckError}
+use Rattle.sz_check_rules.specs.Refusals.{Judged, ◌>>=◌}
+use Rattle.sz_check_rules.specs.Names.{Block}
+use Rattle.sz_check_rules.specs.JudgingTypes.{judge_type}
+use Rattle.sz_check_rules.specs.JudgingPrograms.{judge_elems, judge_weight, declaration_of}
+use Rattle.sz_check_names.specs.Outcome.{Stops}
+use Rattle.sz_check_names.specs.declared.error.CheckError.{CheckError}
 use Rattle.sz_check_table.specs.declared.table.Types.{Types as Held}
 
 -- a type in front of others

@@ -6,15 +6,15 @@ ghost use Rattle.sz_types.specs.Seen.{seen, seen_field};
 ghost use Rattle.sz_types.specs.SeenTables.{seen_table};
 ghost use Rattle.sz_tree.specs.View.{elem_of, table_of};
 ghost use Rattle.sz_core.specs.WellFormed.{are_whole_numbers, has_sum, is_weight, has_no_weight, is_between, is_allowed};
-ghost use Rattle.sz_judge.specs.JudgingPrograms.{kind_of, has_limit, limit_of, judge_elems, judge_weight, allowed};
-ghost use Rattle.sz_judge.specs.Refusals.{no_kind};
+ghost use Rattle.sz_check_rules.specs.JudgingPrograms.{kind_of, has_limit, limit_of, judge_elems, judge_weight, allowed};
+ghost use Rattle.sz_check_rules.specs.Refusals.{no_kind};
 ghost use Rattle.sz_check_table.specs.Tables.{judge_table_declaration};
 ghost use Rattle.sz_check_table.specs.Tabling.{is_int, judge_types, types_of, made_of, IsLimit};
-ghost use Rattle.sz_known.specs.Holding.{blocks_of};
-ghost use Rattle.sz_known.specs.Outcome.{Judges, Stops};
+ghost use Rattle.sz_check_names.specs.Holding.{blocks_of};
+ghost use Rattle.sz_check_names.specs.Outcome.{Judges, Stops};
 
 use std::alloc::{AllocError, Global};
-use sz_known::{CheckError, Kind, Known, beside, judge_type, type_kind};
+use sz_check_names::{CheckError, Kind, Known, beside, judge_type, type_kind};
 use sz_tree::{Elem, Name, Table};
 use sz_types::{Field, TableDecl, TableKind, Text, Ty, Tys};
 

@@ -13,10 +13,10 @@ use Rattle.sz_instr.specs.declared.instr.Instr.TheVariants.{Push, Tick}
 use Rattle.sz_gen_expr.proofs.Numbers.{named_by, begins_with_one, only_itself, is_itself}
 use Rattle.sz_instr.specs.declared.line.Line.{Line}
 use Rattle.sz_gen_expr.specs.declared.builder.Builder.{Builder}
-use Rattle.sz_code.specs.Tables.{Tables, constant_number, number_in, type_number, type_number_in, HasConstant, HasType, line}
-use Rattle.sz_code.specs.ExpressionCode.{followed, closed, decided, changing, conversion, expression_code, form_code, count_of, pair_count_of}
+use Rattle.sz_gen_rules.specs.Tables.{Tables, constant_number, number_in, type_number, type_number_in, HasConstant, HasType, line}
+use Rattle.sz_gen_rules.specs.ExpressionCode.{followed, closed, decided, changing, conversion, expression_code, form_code, count_of, pair_count_of}
 use Rattle.sz_gen_expr.proofs.Patches.{decided_lines}
-use Rattle.sz_code.specs.Named.{HasNames, HasTarget, FormHasNames}
+use Rattle.sz_gen_rules.specs.Named.{HasNames, HasTarget, FormHasNames}
 use Rattle.sz_types.specs.Seen.{seen as shape_of}
 use Rattle.sz_core.specs.Nodes.{Node, Form, nodes_of, pairings_of}
 use Rattle.sz_core.specs.declared.expr.CoreExpr.{CoreExpr}

@@ -12,7 +12,7 @@ use Rattle.sz_value.specs.Order.{compare}
 use Rattle.std.specs.Cmp.{Equal-is}
 use Rattle.sz_core.specs.Sound.{BeginsWith}
 use Rattle.sz_value.specs.Total.{compare_ties, compare_itself}
-use Rattle.sz_code.specs.Tables.{first_passing}
+use Rattle.sz_gen_rules.specs.Tables.{first_passing}
 
 -- ---- what the set of constants answers
 

@@ -5,8 +5,8 @@ use Rattle.sz_instr.specs.declared.instr.Instr.{Instr}
 use Rattle.sz_instr.specs.declared.line.Line.{Line}
 use Rattle.sz_types.specs.declared.place.Place.{Place}
 use Rattle.sz_instr.specs.declared.instr.Instr.TheVariants.{Tick}
-use Rattle.sz_code.specs.ExpressionCode.{decided}
-use Rattle.sz_code.specs.Tables.{line}
+use Rattle.sz_gen_rules.specs.ExpressionCode.{decided}
+use Rattle.sz_gen_rules.specs.Tables.{line}
 use Rattle.sz_gen_expr.specs.Building.{with_target, aimed, with_instr, patched}
 
 pub patched_set : (lines : List Line) (at to : ℕ) (l : Line) (i : Instr) → slice_get lines at ≡ Some l → with_target l.instr to ≡ Some i

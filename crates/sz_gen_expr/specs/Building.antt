@@ -13,9 +13,9 @@ use Rattle.sz_instr.specs.declared.instr.Instr.{Instr}
 use Rattle.sz_instr.specs.declared.instr.Instr.TheVariants.{Jump, Test, AndTest, OrTest, Next, Meets, Fails, MakeMap}
 use Rattle.sz_instr.specs.declared.line.Line.{Line}
 use Rattle.sz_gen_expr.specs.declared.builder.Builder.{Builder}
-use Rattle.sz_code.specs.Tables.{Tables, line}
-use Rattle.sz_code.specs.ExpressionCode.{closed, decided, pair_count_of, expression_code, expressions_code, pairings_code}
-use Rattle.sz_code.specs.Named.{HasNames, HaveNames, PairingsHaveNames}
+use Rattle.sz_gen_rules.specs.Tables.{Tables, line}
+use Rattle.sz_gen_rules.specs.ExpressionCode.{closed, decided, pair_count_of, expression_code, expressions_code, pairings_code}
+use Rattle.sz_gen_rules.specs.Named.{HasNames, HaveNames, PairingsHaveNames}
 
 -- constants with one more, unless it is there
 abbrev pub with_constant : List Datum → Datum → List Datum

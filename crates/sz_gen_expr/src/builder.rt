@@ -4,9 +4,9 @@ ghost use Rattle.sz_types.specs.Same.{alike};
 ghost use Rattle.sz_types.specs.Seen.{seen as shape_of};
 ghost use Rattle.sz_value.specs.Seen.{seen};
 ghost use Rattle.sz_instr.specs.declared.instr.Instr.TheVariants.{Push};
-ghost use Rattle.sz_code.specs.Tables.{line, constant_number, type_number_in, HasConstant};
-ghost use Rattle.sz_code.specs.ExpressionCode.{changing, conversion};
-ghost use Rattle.sz_code.specs.Named.{HasTarget};
+ghost use Rattle.sz_gen_rules.specs.Tables.{line, constant_number, type_number_in, HasConstant};
+ghost use Rattle.sz_gen_rules.specs.ExpressionCode.{changing, conversion};
+ghost use Rattle.sz_gen_rules.specs.Named.{HasTarget};
 ghost use Rattle.sz_gen_expr.specs.Building.{with_type, with_target, patched, Lands, AppendsLine, Nothing};
 
 use crate::NoMemory;

@@ -1,7 +1,7 @@
 //! The constants of code in the making.
 ghost use Rattle.std.specs.Prelude.{◌≡◌, [], map, IfOk, OnOk, OnErr};
 ghost use Rattle.sz_value.specs.Seen.{seen};
-ghost use Rattle.sz_code.specs.Tables.{number_in};
+ghost use Rattle.sz_gen_rules.specs.Tables.{number_in};
 ghost use Rattle.sz_gen_expr.specs.Building.{with_constant};
 
 use crate::NoMemory;

@@ -2,7 +2,7 @@
 ghost use Rattle.std.specs.Prelude.{◌≡◌, map, IfOk, OnOk};
 ghost use Rattle.sz_core.specs.Nodes.{nodes_of, pairings_of};
 ghost use Rattle.sz_core.specs.View.{node_of, pairing_of};
-ghost use Rattle.sz_code.specs.ExpressionCode.{count_of, pair_count_of};
+ghost use Rattle.sz_gen_rules.specs.ExpressionCode.{count_of, pair_count_of};
 ghost use Rattle.sz_gen_expr.specs.Building.{AppendsNode, AppendsClosed, AppendsDecided, AppendsNodes, AppendsList, AppendsPairings, AppendsMap};
 
 use crate::NoMemory;

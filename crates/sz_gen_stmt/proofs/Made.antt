@@ -20,15 +20,15 @@ use Rattle.sz_instr.specs.declared.routine.Routine.{Routine}
 use Rattle.sz_instr.specs.declared.code.Code.{Code}
 use Rattle.sz_mean.specs.Programs.{body_of}
 use Rattle.sz_gen_expr.specs.declared.builder.Builder.{Builder}
-use Rattle.sz_code.specs.Tables.{Tables, HasConstant, line}
-use Rattle.sz_code.specs.ExpressionCode.{followed, expression_code}
+use Rattle.sz_gen_rules.specs.Tables.{Tables, HasConstant, line}
+use Rattle.sz_gen_rules.specs.ExpressionCode.{followed, expression_code}
 use Rattle.sz_gen_expr.specs.Building.{tables_made, Grows, Appends, AppendsLine, AppendsClosed, Lands, Nothing}
 use Rattle.sz_gen_expr.proofs.Builds.{grows_itself, grows_on, grows_same, landed_grows, behind}
-use Rattle.sz_code.specs.StatementCode as codes
-use Rattle.sz_code.specs.FreeLines.{no_place}
-use Rattle.sz_code.specs.StatementCode.{no_exits, branch_code, loop_code, loop_behind_code}
-use Rattle.sz_code.specs.ProgramCode.{IsCodeOf, returns_undefined, function_code, functions_code, function_routines, static_code, statics_code, static_routines, record_code}
-use Rattle.sz_code.specs.NamedStatements.{StmsHaveNames}
+use Rattle.sz_gen_rules.specs.StatementCode as codes
+use Rattle.sz_gen_rules.specs.FreeLines.{no_place}
+use Rattle.sz_gen_rules.specs.StatementCode.{no_exits, branch_code, loop_code, loop_behind_code}
+use Rattle.sz_gen_rules.specs.ProgramCode.{IsCodeOf, returns_undefined, function_code, functions_code, function_routines, static_code, statics_code, static_routines, record_code}
+use Rattle.sz_gen_rules.specs.NamedStatements.{StmsHaveNames}
 use Rattle.sz_gen_stmt.specs.Making.{AppendsStm, AppendsStms, Extends, ExtendsFunction, ExtendsFunctions, ExtendsStatic, ExtendsStatics}
 use Rattle.sz_gen_stmt.proofs.Patches.{length-patched, branch_lines, loop_lines, loop_behind_lines}
 

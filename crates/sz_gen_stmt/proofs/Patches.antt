@@ -3,11 +3,11 @@ use Rattle.std.proofs.Common.{◌≡◌, ◌∙◌, ℕ, zero, suc, ◌+◌, Lis
 use Rattle.sz_instr.specs.declared.instr.Instr.TheVariants.{Test, Tick}
 use Rattle.sz_instr.specs.declared.line.Line.{Line}
 use Rattle.sz_types.specs.declared.place.Place.{Place}
-use Rattle.sz_code.specs.Tables.{line}
+use Rattle.sz_gen_rules.specs.Tables.{line}
 use Rattle.sz_gen_expr.specs.Building.{patched}
 use Rattle.sz_gen_expr.proofs.Patches.{patched_behind}
-use Rattle.sz_code.specs.FreeLines.{goes}
-use Rattle.sz_code.specs.StatementCode.{branch_code, loop_code, loop_behind_code}
+use Rattle.sz_gen_rules.specs.FreeLines.{goes}
+use Rattle.sz_gen_rules.specs.StatementCode.{branch_code, loop_code, loop_behind_code}
 
 pub length-patched : (lines : List Line) (at to : ℕ) → length (patched lines at to) ≡ length lines
 length-patched [] at to = refl

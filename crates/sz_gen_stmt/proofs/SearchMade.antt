@@ -7,16 +7,16 @@ use Rattle.sz_core.specs.Statements.{Stm, Quantity, some, each, all, Quantified}
 use Rattle.sz_instr.specs.declared.instr.Instr.TheVariants.{Jump, Push, Discard, Enter, Next, Leave, Meets}
 use Rattle.sz_instr.specs.declared.line.Line.{Line}
 use Rattle.sz_gen_expr.specs.declared.builder.Builder.{Builder}
-use Rattle.sz_code.specs.Tables.{Tables, HasConstant, constant_number}
-use Rattle.sz_code.specs.ExpressionCode.{expression_code}
-use Rattle.sz_code.specs.Named.{HasNames}
+use Rattle.sz_gen_rules.specs.Tables.{Tables, HasConstant, constant_number}
+use Rattle.sz_gen_rules.specs.ExpressionCode.{expression_code}
+use Rattle.sz_gen_rules.specs.Named.{HasNames}
 use Rattle.sz_gen_expr.specs.Building.{Appends, AppendsLine, AppendsNode, Lands, Nothing}
 use Rattle.sz_gen_expr.proofs.Builds.{grows_on, landed_grows, behind, renamed}
-use Rattle.sz_code.specs.FreeLines.{no_place, free, goes}
-use Rattle.sz_code.specs.StatementCode as codes
-use Rattle.sz_code.specs.StatementCode.{in_search, discards, variable_code_of, statement_code}
-use Rattle.sz_code.specs.SearchCode.{VariableCode, some_code, each_code, all_code, holds_code, variable_code, search_code}
-use Rattle.sz_code.specs.NamedStatements.{QuantityHasNames, FlagsHaveNames, BasesHaveNames, StmHasNames}
+use Rattle.sz_gen_rules.specs.FreeLines.{no_place, free, goes}
+use Rattle.sz_gen_rules.specs.StatementCode as codes
+use Rattle.sz_gen_rules.specs.StatementCode.{in_search, discards, variable_code_of, statement_code}
+use Rattle.sz_gen_rules.specs.SearchCode.{VariableCode, some_code, each_code, all_code, holds_code, variable_code, search_code}
+use Rattle.sz_gen_rules.specs.NamedStatements.{QuantityHasNames, FlagsHaveNames, BasesHaveNames, StmHasNames}
 use Rattle.sz_gen_stmt.specs.Making.{AppendsStm, AppendsCandidates, AppendsSearch, AppendsHolds}
 use Rattle.sz_gen_stmt.proofs.SearchPatches.{some_lines, each_lines, all_lines, when_lines}
 

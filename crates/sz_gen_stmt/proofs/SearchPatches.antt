@@ -3,10 +3,10 @@ use Rattle.std.proofs.Common.{◌≡◌, ◌∙◌, ℕ, suc, ◌+◌, List, [],
 use Rattle.sz_instr.specs.declared.instr.Instr.TheVariants.{Enter, Next, Leave, Meets, Discard}
 use Rattle.sz_instr.specs.declared.line.Line.{Line}
 use Rattle.sz_types.specs.declared.place.Place.{Place}
-use Rattle.sz_code.specs.Tables.{Tables, line}
+use Rattle.sz_gen_rules.specs.Tables.{Tables, line}
 use Rattle.sz_gen_expr.specs.Building.{patched}
-use Rattle.sz_code.specs.FreeLines.{free, goes}
-use Rattle.sz_code.specs.SearchCode.{VariableCode, flag, some_code, each_code, all_code}
+use Rattle.sz_gen_rules.specs.FreeLines.{free, goes}
+use Rattle.sz_gen_rules.specs.SearchCode.{VariableCode, flag, some_code, each_code, all_code}
 use Rattle.sz_gen_expr.proofs.Patches.{patched_behind}
 use Rattle.sz_gen_stmt.proofs.Patches.{patches}
 

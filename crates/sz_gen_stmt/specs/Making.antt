@@ -14,16 +14,16 @@ use Rattle.sz_instr.specs.declared.instr.Instr.TheVariants.{Enter}
 use Rattle.sz_instr.specs.declared.line.Line.{Line}
 use Rattle.sz_instr.specs.declared.routine.Routine.{Routine}
 use Rattle.sz_gen_expr.specs.declared.builder.Builder.{Builder}
-use Rattle.sz_code.specs.Tables.{Tables, HasConstant}
-use Rattle.sz_code.specs.ExpressionCode.{expression_code, indexes_code}
-use Rattle.sz_code.specs.Named.{HasNames, StepsHaveNames}
+use Rattle.sz_gen_rules.specs.Tables.{Tables, HasConstant}
+use Rattle.sz_gen_rules.specs.ExpressionCode.{expression_code, indexes_code}
+use Rattle.sz_gen_rules.specs.Named.{HasNames, StepsHaveNames}
 use Rattle.sz_gen_expr.specs.Building.{tables_made, Grows, Appends}
-use Rattle.sz_code.specs.StatementCode as codes
-use Rattle.sz_code.specs.StatementCode.{in_loop, in_search, test_code, loop_code, variable_code_of, statement_code, statements_code}
-use Rattle.sz_code.specs.FreeLines.{free}
-use Rattle.sz_code.specs.SearchCode.{holds_code, search_code}
-use Rattle.sz_code.specs.NamedStatements.{FlagsHaveNames, BasesHaveNames, StmHasNames, StmsHaveNames, FunctionsHaveNames, StaticsHaveNames}
-use Rattle.sz_code.specs.ProgramCode.{function_code, functions_code, function_routines, static_code, statics_code, static_routines}
+use Rattle.sz_gen_rules.specs.StatementCode as codes
+use Rattle.sz_gen_rules.specs.StatementCode.{in_loop, in_search, test_code, loop_code, variable_code_of, statement_code, statements_code}
+use Rattle.sz_gen_rules.specs.FreeLines.{free}
+use Rattle.sz_gen_rules.specs.SearchCode.{holds_code, search_code}
+use Rattle.sz_gen_rules.specs.NamedStatements.{FlagsHaveNames, BasesHaveNames, StmHasNames, StmsHaveNames, FunctionsHaveNames, StaticsHaveNames}
+use Rattle.sz_gen_rules.specs.ProgramCode.{function_code, functions_code, function_routines, static_code, statics_code, static_routines}
 use Rattle.sz_gen_stmt.specs.declared.generate.Exits.{Exits}
 
 -- the exits as the code's definition has them

@@ -1,19 +1,19 @@
 //! Compiled programs.
 ghost use Rattle.std.specs.Prelude.{◌≡◌, IfOk};
 ghost use Rattle.sz_core.specs.Programs.{tables_of};
-ghost use Rattle.sz_code.specs.Compiled.{IsCompiled};
+ghost use Rattle.sz_gen_rules.specs.Compiled.{IsCompiled};
 
 use crate::program::gen_program;
 use std::alloc::Global;
 use std::marker::Model;
 use std::snapshot::Snapshot;
 use sz_core::Program;
+use sz_gen_laws::code_of_a_sound_program_is_compiled;
 use sz_instr::Code;
-use sz_simulates::code_of_a_sound_program_is_compiled;
 use sz_types::TableDecls;
 use sz_value::NoMemory;
 
-/// The code of a program, which does what the program means, as `IsCompiled` of `sz_code` says.
+/// The code of a program, which does what the program means, as `IsCompiled` of `sz_gen_rules` says.
 ///
 /// At run time there is the code alone, with the declarations of the tables. Contracts see the program.
 pub struct Compiled {
@@ -33,7 +33,7 @@ impl Drop for Compiled {
 impl Model for Compiled {
     ghost use Rattle.sz_core.specs.Programs.{Core};
     ghost use Rattle.sz_core.specs.ProgramCode.{core_code};
-    ghost use Rattle.sz_code.specs.Compiled.{IsCompiled};
+    ghost use Rattle.sz_gen_rules.specs.Compiled.{IsCompiled};
 
     ghost Value = { Core };
 

@@ -6,11 +6,11 @@ ghost use Rattle.sz_core.specs.Statements.{store, emit};
 ghost use Rattle.sz_core.specs.View.{node_of, step_of, quantified_of};
 ghost use Rattle.sz_instr.specs.declared.instr.Instr.TheVariants.{Push, Jump};
 ghost use Rattle.sz_value.specs.Data.{truth};
-ghost use Rattle.sz_code.specs.Tables.{constant_number, HasConstant};
-ghost use Rattle.sz_code.specs.ExpressionCode.{code_if_some};
-ghost use Rattle.sz_code.specs.Named.{HasNames};
-ghost use Rattle.sz_code.specs.FreeLines.{no_place};
-ghost use Rattle.sz_code.specs.StatementCode.{no_exits, discards, bare_step};
+ghost use Rattle.sz_gen_rules.specs.Tables.{constant_number, HasConstant};
+ghost use Rattle.sz_gen_rules.specs.ExpressionCode.{code_if_some};
+ghost use Rattle.sz_gen_rules.specs.Named.{HasNames};
+ghost use Rattle.sz_gen_rules.specs.FreeLines.{no_place};
+ghost use Rattle.sz_gen_rules.specs.StatementCode.{no_exits, discards, bare_step};
 ghost use Rattle.sz_gen_expr.specs.Building.{Appends, AppendsLine, Nothing};
 ghost use Rattle.sz_gen_stmt.specs.Making.{node_if_some, AppendsStm, AppendsTest, AppendsCandidates, AppendsIndexes};
 

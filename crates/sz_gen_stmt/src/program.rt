@@ -5,10 +5,10 @@ ghost use Rattle.sz_core.specs.Statements.{stms_of};
 ghost use Rattle.sz_core.specs.Programs.{functions_of, statics_of, statements_of, tables_of};
 ghost use Rattle.sz_core.specs.Sound.{IsSound};
 ghost use Rattle.sz_core.specs.View.{item_of, function_of, static_of};
-ghost use Rattle.sz_code.specs.Tables.{HasConstant};
+ghost use Rattle.sz_gen_rules.specs.Tables.{HasConstant};
 ghost use Rattle.sz_gen_expr.specs.Building.{Appends};
-ghost use Rattle.sz_code.specs.StatementCode.{no_exits};
-ghost use Rattle.sz_code.specs.ProgramCode.{IsCodeOf, returns_undefined};
+ghost use Rattle.sz_gen_rules.specs.StatementCode.{no_exits};
+ghost use Rattle.sz_gen_rules.specs.ProgramCode.{IsCodeOf, returns_undefined};
 ghost use Rattle.sz_gen_stmt.specs.Making.{AppendsStms, ExtendsFunction, ExtendsFunctions, ExtendsStatic, ExtendsStatics};
 
 use crate::generate::{Exits, gen_stmt, gen_stmts};

@@ -1,5 +1,7 @@
 -- what the public contracts rest on
-pub mod States
-pub mod Rows
-pub mod Covering
-pub mod Running
+pub mod Ends
+-- what the functions inside the crate promise each other
+pub mod Acting
+pub mod Emitting
+pub mod Storing
+pub mod CodeRuns

@@ -1,6 +1,15 @@
-//! The machine that runs the code of a program, as definitions: states, what each instruction does to one, charges, and runs.
+//! The machine that runs code: on a record with the statics, or for the statics themselves.
 #![tactic(auto)]
 
-mod laws;
+mod acting;
+mod code_run;
+mod emitting;
+mod ends;
+mod flow;
+mod held;
+mod rows;
+mod storing;
 
-pub use laws::{a_run_emits_what_fits, a_run_ends_in_one_way};
+pub use code_run::{Room, run, run_statics};
+pub use ends::{Fault, RunEnd, StaticsEnd};
+pub use sz_value::NoMemory;

@@ -12,12 +12,12 @@ use Rattle.sz_core.specs.Nodes.{both, either, Nodes, no_nodes, with_node, Pairin
 use Rattle.sz_core.specs.Statements.{Step, at_index, at_field, Stm, Stms, no_stms, with_stm, block, clear, keep, store, evaluate, branch, while, do_while, for_loop, break, continue}
 use Rattle.sz_core.specs.Statements.{return_value, end_record, emit, Quantity, some, each, all, Quantified, when}
 use Rattle.sz_core.specs.Programs.{Core, Function, functions_of}
-use Rattle.sz_world.specs.World.{most_open_calls, World, new_world, Given, Gives, Stops, Doing, and_then, ◌>>=◌, give, fails, spend, paid, pay, Done}
-use Rattle.sz_world.specs.Slots.{Slot, slot_at, all_defined}
-use Rattle.sz_world.specs.Operations.{unary_of, binary_of, applied, element_of, slice_of, part_of, definedness, converted, array_of, tuple_of, map_of}
-use Rattle.sz_world.specs.Ticks.{no_weight, result_weight, binary_weight, builtin_weight, conversion_weight}
-use Rattle.sz_world.specs.Emits.{EmitParts, emit_weight, emit_of, with_emit}
-use Rattle.sz_world.specs.Stores.{Stored, Holds, Undefined, Outside}
+use Rattle.sz_world_rules.specs.World.{most_open_calls, World, new_world, Given, Gives, Stops, Doing, and_then, ◌>>=◌, give, fails, spend, paid, pay, Done}
+use Rattle.sz_world_rules.specs.Slots.{Slot, slot_at, all_defined}
+use Rattle.sz_world_rules.specs.Operations.{unary_of, binary_of, applied, element_of, slice_of, part_of, definedness, converted, array_of, tuple_of, map_of}
+use Rattle.sz_world_rules.specs.Ticks.{no_weight, result_weight, binary_weight, builtin_weight, conversion_weight}
+use Rattle.sz_world_rules.specs.Emits.{EmitParts, emit_weight, emit_of, with_emit}
+use Rattle.sz_world_rules.specs.Stores.{Stored, Holds, Undefined, Outside}
 use Rattle.sz_mean.specs.Expressions.{Setting, results, called, if_true, if_false, eval, eval_form, eval_all, eval_pairings, eval_indexes, eval_if_some}
 use Rattle.sz_mean.specs.Endings.{Ending, Normal, Breaks, Continues, Returns, Running, then_run, then_loop, chosen, turns, turns_behind}
 use Rattle.sz_mean.specs.Search.{Variable, Finding, Succeeds, Misses, Leaves, Searching, or_else, and_also, and_each, found_one, if_met, if_refuted, succeeded}

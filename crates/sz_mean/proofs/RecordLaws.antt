@@ -2,8 +2,8 @@
 use Rattle.std.proofs.Common.{◌≡◌, ℕ, suc, ◌≤◌, List, [], ◌∷◌, ◌++◌, refl, sym, ap, arith, append_assoc}
 use Rattle.sz_tabs.specs.Data.{EmitDatum}
 use Rattle.sz_core.specs.Programs.{Core}
-use Rattle.sz_world.specs.World.{Fault, Outcome, Done, Faulted}
-use Rattle.sz_world.specs.Slots.{Slot}
+use Rattle.sz_world_rules.specs.World.{Fault, Outcome, Done, Faulted}
+use Rattle.sz_world_rules.specs.Slots.{Slot}
 use Rattle.sz_mean.specs.Programs.{mean}
 use Rattle.sz_mean.specs.Records.{Records, Emitted, FaultedAt, behind_emits, then_records, mean_from}
 

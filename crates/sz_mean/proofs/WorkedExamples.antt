@@ -6,7 +6,7 @@ use Rattle.sz_value.specs.Data.{Datum}
 use Rattle.sz_tabs.specs.Data.{EmitDatum}
 use Rattle.sz_core.specs.Statements.{some, each, all}
 use Rattle.sz_core.specs.Programs.{Core}
-use Rattle.sz_world.specs.World.{Outcome, Done, Faulted, budget_passed, undefined_used, store_outside, calls_too_deep}
+use Rattle.sz_world_rules.specs.World.{Outcome, Done, Faulted, budget_passed, undefined_used, store_outside, calls_too_deep}
 use Rattle.sz_mean.specs.Programs.{mean}
 use Rattle.sz_mean.specs.Records.{FaultedAt, mean_all}
 use Rattle.sz_mean.proofs.WorkedTrees.{at, number, emits_sum, joins_texts, counts_down, counts_up, emits_if, stores_outside, calls_on}

@@ -2,8 +2,8 @@
 use Rattle.std.specs.Prelude.{ℕ, zero, suc, List, slice_set, true, Some, None}
 use Rattle.sz_types.specs.declared.place.Place.{Place}
 use Rattle.sz_value.specs.Data.{truth}
-use Rattle.sz_world.specs.World.{Doing, ◌>>=◌, ◌>>◌, give, pay, fails, undefined_used, budget_passed}
-use Rattle.sz_world.specs.Slots.{Slot}
+use Rattle.sz_world_rules.specs.World.{Doing, ◌>>=◌, ◌>>◌, give, pay, fails, undefined_used, budget_passed}
+use Rattle.sz_world_rules.specs.Slots.{Slot}
 
 -- how a statement ends: at its end, by `break` or by `continue`, each with the variables as they are then, or by `return`
 pub data Ending : Type 0 where

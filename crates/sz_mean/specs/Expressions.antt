@@ -6,10 +6,10 @@ use Rattle.sz_value.specs.Data.{Datum, truth}
 use Rattle.sz_core.specs.Nodes.{Node, node, Form, constant, local, static, input, call, builtin, def, convert, array, tuple, mapping, index, slice}
 use Rattle.sz_core.specs.Nodes.{field, unary, binary, both, either, Nodes, no_nodes, with_node, Pairings, no_pairings, with_pairing}
 use Rattle.sz_core.specs.Statements.{Step, at_index, at_field}
-use Rattle.sz_world.specs.World.{Doing, ◌>>=◌, ◌>>◌, give, pay}
-use Rattle.sz_world.specs.Slots.{Slot, slot_at, all_defined}
-use Rattle.sz_world.specs.Operations.{unary_of, binary_of, applied, element_of, slice_of, part_of, definedness, converted, array_of, tuple_of, map_of}
-use Rattle.sz_world.specs.Ticks.{no_weight, result_weight, binary_weight, builtin_weight, conversion_weight}
+use Rattle.sz_world_rules.specs.World.{Doing, ◌>>=◌, ◌>>◌, give, pay}
+use Rattle.sz_world_rules.specs.Slots.{Slot, slot_at, all_defined}
+use Rattle.sz_world_rules.specs.Operations.{unary_of, binary_of, applied, element_of, slice_of, part_of, definedness, converted, array_of, tuple_of, map_of}
+use Rattle.sz_world_rules.specs.Ticks.{no_weight, result_weight, binary_weight, builtin_weight, conversion_weight}
 
 -- what calls do: of the function with this number, made at this place, with these arguments
 abbrev pub Calls : Type 0

@@ -4,9 +4,9 @@ use Rattle.sz_value.specs.Data.{Datum, bytes}
 use Rattle.sz_tabs.specs.Data.{EmitDatum}
 use Rattle.sz_core.specs.Statements.{Stms, stms_of}
 use Rattle.sz_core.specs.Programs.{Function, Static, Core, functions_of, statics_of, statements_of}
-use Rattle.sz_world.specs.World.{new_world, calls_too_deep, most_open_calls, Given, Gives, Stops, Doing, ◌>>=◌, ◌>>◌, give, pay, fails}
-use Rattle.sz_world.specs.World.{Outcome, Done, Faulted}
-use Rattle.sz_world.specs.Slots.{Slot, undefined_slots, fresh}
+use Rattle.sz_world_rules.specs.World.{new_world, calls_too_deep, most_open_calls, Given, Gives, Stops, Doing, ◌>>=◌, ◌>>◌, give, pay, fails}
+use Rattle.sz_world_rules.specs.World.{Outcome, Done, Faulted}
+use Rattle.sz_world_rules.specs.Slots.{Slot, undefined_slots, fresh}
 use Rattle.sz_mean.specs.Expressions.{Calls, Setting, eval}
 use Rattle.sz_mean.specs.Endings.{Ending, Normal, Breaks, Continues, Returns}
 use Rattle.sz_mean.specs.Statements.{exec_all}

@@ -2,8 +2,8 @@
 use Rattle.std.specs.Prelude.{ℕ, suc, List, [], ◌∷◌, ◌++◌}
 use Rattle.sz_tabs.specs.Data.{EmitDatum}
 use Rattle.sz_core.specs.Programs.{Core}
-use Rattle.sz_world.specs.World.{Fault, Outcome, Done, Faulted}
-use Rattle.sz_world.specs.Slots.{Slot}
+use Rattle.sz_world_rules.specs.World.{Fault, Outcome, Done, Faulted}
+use Rattle.sz_world_rules.specs.Slots.{Slot}
 use Rattle.sz_mean.specs.Programs.{mean}
 
 -- what comes of records: the emits of all of them in order, or the number of the first that faults, and its fault

@@ -3,9 +3,9 @@ use Rattle.std.specs.Prelude.{ℕ, List, [], ◌∷◌, Bool, true, false, Some}
 use Rattle.sz_types.specs.declared.place.Place.{Place}
 use Rattle.sz_value.specs.Data.{Datum, truth}
 use Rattle.sz_core.specs.Statements.{Quantity, some, each, all}
-use Rattle.sz_world.specs.World.{Doing, ◌>>=◌, ◌>>◌, give, pay}
-use Rattle.sz_world.specs.Slots.{Slot}
-use Rattle.sz_world.specs.Candidates.{candidates}
+use Rattle.sz_world_rules.specs.World.{Doing, ◌>>=◌, ◌>>◌, give, pay}
+use Rattle.sz_world_rules.specs.Slots.{Slot}
+use Rattle.sz_world_rules.specs.Candidates.{candidates}
 use Rattle.sz_mean.specs.Endings.{Ending, Normal, Breaks, Continues, Returns, Running, with_local}
 
 -- a quantified variable: how it is quantified, its number, whether it is a bound of a slice and no index, and what its base gives

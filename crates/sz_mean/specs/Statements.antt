@@ -5,11 +5,11 @@ use Rattle.sz_value.specs.Data.{truth}
 use Rattle.sz_core.specs.Nodes.{Node}
 use Rattle.sz_core.specs.Statements.{Step, at_index, at_field, Stm, block, clear, keep, store, evaluate, branch, while, do_while, for_loop, break, continue}
 use Rattle.sz_core.specs.Statements.{return_value, end_record, emit, Quantified, when, Stms, no_stms, with_stm}
-use Rattle.sz_world.specs.World.{Gives, Doing, ◌>>=◌, ◌>>◌, give, pay, fails, undefined_used, store_outside}
-use Rattle.sz_world.specs.Slots.{Slot, slot_at}
-use Rattle.sz_world.specs.Emits.{EmitParts, emit_of, emit_weight, with_emit}
-use Rattle.sz_world.specs.Stores.{by_index, by_field, Stored, Holds, Undefined, Outside, stored}
-use Rattle.sz_world.specs.Stores as stores
+use Rattle.sz_world_rules.specs.World.{Gives, Doing, ◌>>=◌, ◌>>◌, give, pay, fails, undefined_used, store_outside}
+use Rattle.sz_world_rules.specs.Slots.{Slot, slot_at}
+use Rattle.sz_world_rules.specs.Emits.{EmitParts, emit_of, emit_weight, with_emit}
+use Rattle.sz_world_rules.specs.Stores.{by_index, by_field, Stored, Holds, Undefined, Outside, stored}
+use Rattle.sz_world_rules.specs.Stores as stores
 use Rattle.sz_mean.specs.Expressions.{Setting, eval, eval_all, eval_indexes, eval_if_some}
 use Rattle.sz_mean.specs.Endings.{Ending, Normal, Breaks, Continues, Returns, Running, with_local, then_run, chosen, turns, turns_behind}
 use Rattle.sz_mean.specs.Search.{Variable, exec_when}

@@ -2,8 +2,8 @@
 ghost use Rattle.std.specs.Prelude.{◌≡◌, ◌≤◌, ℕ, List, length};
 ghost use Rattle.sz_tabs.specs.Data.{EmitDatum};
 ghost use Rattle.sz_core.specs.Programs.{Core};
-ghost use Rattle.sz_world.specs.World.{Fault, Done};
-ghost use Rattle.sz_world.specs.Slots.{Slot};
+ghost use Rattle.sz_world_rules.specs.World.{Fault, Done};
+ghost use Rattle.sz_world_rules.specs.Slots.{Slot};
 ghost use Rattle.sz_mean.specs.Programs.{mean};
 ghost use Rattle.sz_mean.specs.Records.{FaultedAt, mean_all};
 

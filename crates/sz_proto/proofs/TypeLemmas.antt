@@ -6,7 +6,7 @@ use Rattle.sz_types.specs.Data as shapes
 use Rattle.sz_types.specs.declared.encoding.Encoding.{Encoding}
 use Rattle.sz_value.specs.Data.{Datum, data_of}
 use Rattle.sz_value.specs.Data as values
-use Rattle.sz_typed.specs.Types.{has_type, all_have, parts_fit}
+use Rattle.sz_typing_rules.specs.Types.{has_type, all_have, parts_fit}
 use Rattle.sz_wire.specs.Field.{Content, Field}
 use Rattle.sz_proto.specs.Payloads.{payloads, occurrences}
 use Rattle.sz_proto.specs.Elements.{in_all, truths_in, numbers_in, texts_in, last_or}

@@ -3,7 +3,7 @@ use Rattle.std.proofs.Common.{◌≡◌, ℕ, zero, suc, ◌+◌, ◌<◌, ◌�
 use Rattle.std.proofs.Common.{◌⊎◌, inl, inr, refl, sym, ap, ◌∙◌, subst, arith, append_assoc}
 use Rattle.std.specs.Prelude.{slice_get, if◌then◌else◌, ◌&&◌}
 use Rattle.sz_tabs.specs.Data.{EmitDatum}
-use Rattle.sz_world.specs.World.{Fault}
+use Rattle.sz_world_rules.specs.World.{Fault}
 use Rattle.sz_mean.specs.Records.{Records, Emitted, FaultedAt}
 use Rattle.sz_attempt.specs.declared.job.Job.{Job}
 use Rattle.sz_attempt.specs.Shards.{ShardData}

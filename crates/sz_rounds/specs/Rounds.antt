@@ -2,7 +2,7 @@
 use Rattle.std.specs.Prelude.{◌≡◌, ℕ, suc, ◌+◌, ◌-◌, ◌^◌, ◌≤◌, List, [], ◌∷◌, length, All}
 use Rattle.sz_core.specs.Programs.{Core}
 use Rattle.sz_tabs.specs.Data.{EmitDatum}
-use Rattle.sz_run.specs.Ends.{seen_fault}
+use Rattle.sz_machine.specs.Ends.{seen_fault}
 use Rattle.sz_attempt.specs.declared.job.Shard.{Shard}
 use Rattle.sz_attempt.specs.Shards.{ShardData, shard_at, IsShardIn}
 use Rattle.sz_attempt.specs.Ends.{StandForEmits}

@@ -1,7 +1,7 @@
 //! Rounds, and how they end.
 use sz_attempt::ShardRanges;
+use sz_machine::Fault;
 use sz_records::Records;
-use sz_run::Fault;
 use sz_total::Total;
 
 /// Shards that are run together.

@@ -26,8 +26,8 @@ use Rattle.sz_stream.specs.declared.stop.Stop.{Stop}
 use Rattle.sz_stream.specs.declared.stop.Stop.TheVariants as stops
 use Rattle.sz_stream.specs.Inputs.{full, GoesOn, RunsInput, RunsFile}
 use Rattle.sz_stream.specs.Intakes.{IsFed, IsEmpty, KeepsRound, HasTaken, TakesIn, IsAnswered, Closes, moved_on, end_of}
-use Rattle.sz_stream.specs.Running.{IsRunning, Reaches, CanRead, CanRun, Fills, left_to_read, ReadsPiece, HasTakenAll, TakesAll, IsReady}
-use Rattle.sz_stream.specs.Running.{RunsRound, StopsRound, ended_so, stop_of}
+use Rattle.sz_stream.specs.InputRuns.{IsRunning, Reaches, CanRead, CanRun, Fills, left_to_read, ReadsPiece, HasTakenAll, TakesAll, IsReady}
+use Rattle.sz_stream.specs.InputRuns.{RunsRound, StopsRound, ended_so, stop_of}
 use Rattle.sz_stream.proofs.FedLemmas.{whole_is_over}
 use Rattle.sz_stream.proofs.RunLemmas.{starts, takes, closes, moves_on, ends_run, some_closed, none_closed}
 

@@ -6,7 +6,7 @@ use Rattle.std.specs.Prelude.{is_some, ◌==◌, Result, Ok, Err}
 use Rattle.sz_types.specs.declared.frame.Frame.{Frame}
 use Rattle.sz_core.specs.Programs.{tables_of}
 use Rattle.sz_tabs.specs.Data.{EmitDatum}
-use Rattle.sz_world.specs.World.{Fault}
+use Rattle.sz_world_rules.specs.World.{Fault}
 use Rattle.sz_total.specs.States.{TotalState, declarations, emit_count, shown}
 use Rattle.sz_total.specs.Totals.{IsNew, Joins}
 use Rattle.sz_records.specs.declared.ending.Ending.{Ending}
@@ -30,7 +30,7 @@ use Rattle.sz_stream.specs.declared.stop.Stop.{Stop}
 use Rattle.sz_stream.specs.declared.stop.Stop.TheVariants as stops
 use Rattle.sz_stream.specs.Inputs.{full, GoesOn, EndsInput, RunsInput}
 use Rattle.sz_stream.specs.Intakes.{AreClosed, sum_of, IsFed, IsEmpty, KeepsRound, HasTaken, TakesIn, Closes, moved_on}
-use Rattle.sz_stream.specs.Running.{RunsOn, HasRun, IsRunning, ended_so}
+use Rattle.sz_stream.specs.InputRuns.{RunsOn, HasRun, IsRunning, ended_so}
 use Rattle.sz_stream.proofs.ShardLemmas.{are_longer, are_more, sum_within, fewer_shards, split, cut_append, lie, ranges_append, length-ranges, sum-append}
 use Rattle.sz_stream.proofs.FedLemmas.{begins, few_given, whole_is_over}
 

@@ -5,7 +5,7 @@ use Rattle.sz_types.specs.declared.frame.Frame.{Frame}
 use Rattle.sz_core.specs.Programs.{Core}
 use Rattle.sz_tabs.specs.Data.{EmitDatum}
 use Rattle.sz_total.specs.States.{TotalState}
-use Rattle.sz_run.specs.Ends.{seen_fault}
+use Rattle.sz_machine.specs.Ends.{seen_fault}
 use Rattle.sz_records.specs.declared.ending.Ending.{Ending}
 use Rattle.sz_records.specs.declared.ending.Ending.TheVariants as endings
 use Rattle.sz_records.specs.declared.limits.FrameLimits.{FrameLimits}

@@ -2,4 +2,4 @@
 pub mod Inputs
 -- what the functions inside the crate promise each other
 pub mod Intakes
-pub mod Running
+pub mod InputRuns

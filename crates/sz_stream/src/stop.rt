@@ -3,7 +3,7 @@ ghost use Rattle.std.specs.Prelude.{◌≡◌};
 
 use std::alloc::AllocError;
 use sz_io::OutsideError;
-use sz_run::Fault;
+use sz_machine::Fault;
 
 /// Why the run of an input ends without the tables of all its records.
 #[derive(Drop)]
@@ -37,7 +37,7 @@ impl From<AllocError> for Stop {
 }
 
 impl From<OutsideError> for Stop {
-    ghost use Rattle.sz_stream.specs.Running.{stop_of};
+    ghost use Rattle.sz_stream.specs.InputRuns.{stop_of};
 
     ghost from_gives = { λ error stop. stop ≡ stop_of error };
 

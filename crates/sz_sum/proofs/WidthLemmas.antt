@@ -2,7 +2,7 @@
 use Rattle.std.proofs.Common.{◌≡◌, ◌&&◌, Bool, true, false, List, [], ◌∷◌, map, length, refl, arith}
 use Rattle.sz_types.specs.Data.{Shape, FieldShape, FieldShapes, no_fields, with_field, field, fields_of}
 use Rattle.sz_value.specs.Data.{Datum, int, tuple, Data, no_data, datum, parts_of}
-use Rattle.sz_typed.specs.Types.{has_type, parts_fit}
+use Rattle.sz_typing_rules.specs.Types.{has_type, parts_fit}
 use Rattle.sz_tabs.specs.Rows.{number_of, components_of}
 use Rattle.sz_sum.specs.Data.{width, field_count}
 

@@ -1,7 +1,7 @@
 -- Pairs fit tables of pairs.
 use Rattle.std.proofs.Common.{◌≡◌, ℤ, true, None, is_some, refl, sym, subst}
 use Rattle.sz_types.specs.Tables.{Declaration}
-use Rattle.sz_typed.specs.Types.{has_type}
+use Rattle.sz_typing_rules.specs.Types.{has_type}
 use Rattle.sz_tabs.specs.Aggregating.{weighted}
 use Rattle.sz_tabs.specs.Fitting.{Fits}
 use Rattle.sz_tables_tests.specs.Pairs.{pairs, pair_of}

@@ -6,7 +6,7 @@ use Rattle.std.proofs.lemmas.Option.{slice_get_within, get_or_from_slice_get}
 use Rattle.sz_types.specs.Data.{Shape}
 use Rattle.sz_types.specs.Tables.{Declaration}
 use Rattle.sz_value.specs.Data.{Datum, int, data_of}
-use Rattle.sz_typed.specs.Types.{has_type, have_types}
+use Rattle.sz_typing_rules.specs.Types.{has_type, have_types}
 use Rattle.sz_flat.specs.Spelling.{HasShortLengths, HaveShortLengths}
 use Rattle.sz_tabs.specs.Aggregating.{weighted}
 use Rattle.sz_tabs.specs.Data.{EmitDatum}

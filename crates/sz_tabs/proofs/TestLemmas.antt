@@ -3,7 +3,7 @@ use Rattle.std.proofs.Common.{◌≡◌, ℤ, true, Option, is_some, refl, sym, 
 use Rattle.sz_types.specs.Data.{Shape}
 use Rattle.sz_types.specs.Tables.{Declaration}
 use Rattle.sz_value.specs.Data.{int}
-use Rattle.sz_typed.specs.Types.{has_type}
+use Rattle.sz_typing_rules.specs.Types.{has_type}
 use Rattle.sz_tabs.specs.Aggregating.{weighted}
 use Rattle.sz_tabs.specs.Fitting.{Fits}
 

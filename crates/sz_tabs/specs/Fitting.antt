@@ -1,7 +1,7 @@
 -- Which values, weights and emits fit the declaration of a table.
 use Rattle.std.specs.Prelude.{◌≡◌, List, true, Some, is_some, slice_get}
 use Rattle.sz_types.specs.Tables.{Declaration}
-use Rattle.sz_typed.specs.Types.{has_type, have_types}
+use Rattle.sz_typing_rules.specs.Types.{has_type, have_types}
 use Rattle.sz_tabs.specs.Data.{EmitDatum, Weighted}
 use Rattle.sz_tabs.specs.Rows.{brought_by}
 

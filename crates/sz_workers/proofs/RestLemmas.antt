@@ -4,10 +4,10 @@ use Rattle.std.proofs.Common.{arith}
 use Rattle.std.specs.Prelude.{slice_get, Bool, nat_eq, ◌||◌, if◌then◌else◌}
 use Rattle.std.proofs.lemmas.Bool.Decides.{nat_tests}
 use Rattle.sz_words.specs.Lists.{is_among}
-use Rattle.sz_run.specs.declared.ends.Fault.{Fault as SeenFault}
-use Rattle.sz_run.specs.Ends.{seen_fault}
+use Rattle.sz_machine.specs.declared.ends.Fault.{Fault as SeenFault}
+use Rattle.sz_machine.specs.Ends.{seen_fault}
 use Rattle.sz_tabs.specs.Data.{EmitDatum}
-use Rattle.sz_world.specs.World.{Fault}
+use Rattle.sz_world_rules.specs.World.{Fault}
 use Rattle.sz_total.specs.States.{TotalState}
 use Rattle.sz_total.specs.Laws.{ForgetsOrder}
 use Rattle.sz_book.specs.History.{IsAmong, AreApart}
@@ -25,7 +25,7 @@ use Rattle.sz_rounds.proofs.OutcomeLemmas.{lost_at, faulted_at, more_at, gives_m
 use Rattle.sz_rounds.proofs.RoundLemmas.{length-numbered, same_there, shard_there}
 use Rattle.sz_workers.specs.Parts.{given_by, given_in, emits_at, Counts, Dies, Faults, gathered, HoldsShards, are_apart}
 use Rattle.sz_book.specs.Plan.{PlanData}
-use Rattle.sz_workers.specs.Running.{HasFront, NoneInFront, IsSet}
+use Rattle.sz_workers.specs.RoundRuns.{HasFront, NoneInFront, IsSet}
 use Rattle.sz_workers.proofs.GatherLemmas.{in_order, gives_all, among_front, among_back}
 use Rattle.sz_workers.proofs.PartLemmas.{counts_low, holds_one, stands_in_any_order}
 

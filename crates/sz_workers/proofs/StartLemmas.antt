@@ -5,14 +5,14 @@ use Rattle.sz_book.specs.Lanes.{LaneData}
 use Rattle.sz_book.specs.History.{IsLegal, calls_by, HasWon}
 use Rattle.sz_claims.specs.Known.{LedgerData, PassData, AreInHand}
 use Rattle.sz_claims.proofs.ForCallers.{none_in_hand}
-use Rattle.sz_crew.specs.Working.{IsAtWork}
+use Rattle.sz_workers_loop.specs.Working.{IsAtWork}
 use Rattle.sz_attempt.specs.declared.job.Job.{Job}
 use Rattle.sz_attempt.specs.Shards.{IsJob}
 use Rattle.sz_rounds.specs.declared.round.Round.{Round}
 use Rattle.sz_rounds.specs.Rounds.{IsRound}
 use Rattle.sz_rounds.specs.Tickets.{IsPlanOf, tickets_upto}
 use Rattle.sz_workers.specs.Parts.{plan_for}
-use Rattle.sz_workers.specs.Running.{IsSet}
+use Rattle.sz_workers.specs.RoundRuns.{IsSet}
 use Rattle.sz_workers.specs.Starting.{IsFresh}
 
 -- a worker whose pass made no call, and whose pocket is empty, is at work

@@ -2,5 +2,5 @@
 pub mod Parts
 -- what the functions inside the crate promise each other
 pub mod Ends
-pub mod Running
+pub mod RoundRuns
 pub mod Starting

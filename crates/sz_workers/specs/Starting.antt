@@ -4,7 +4,7 @@ use Rattle.sz_book.specs.Plan.{PlanData}
 use Rattle.sz_claims.specs.Known.{LedgerData, PassData}
 use Rattle.sz_attempt.specs.declared.job.Job.{Job}
 use Rattle.sz_rounds.specs.declared.round.Round.{Round}
-use Rattle.sz_workers.specs.Running.{IsSet}
+use Rattle.sz_workers.specs.RoundRuns.{IsSet}
 
 -- the pass is of this ledger, and has seen and made no call
 pub record IsFresh (ledger : LedgerData) (v : PassData) : Type 0 where

@@ -7,8 +7,8 @@ ghost use Rattle.sz_workers.specs.Ends.{IsEndOf};
 use std::alloc::Global;
 use sz_attempt::{AttemptEnd, Job, attempt};
 use sz_io::Gate;
+use sz_machine::Room;
 use sz_rounds::Round;
-use sz_run::Room;
 use sz_value::NoMemory;
 
 /// Runs an attempt of the shard at a place of the round. The gate is called before.

@@ -6,8 +6,8 @@ mod making;
 mod part;
 mod pool;
 mod rest;
-mod running;
+mod round_run;
 mod worker;
 
 pub use part::{RoundName, RoundPart};
-pub use running::run_round;
+pub use round_run::run_round;

@@ -3,7 +3,7 @@ ghost use Rattle.std.specs.Prelude.{◌≡◌, ◌<◌, [], ◌∷◌, IfOk, OnO
 ghost use Rattle.sz_attempt.specs.Shards.{IsJob};
 ghost use Rattle.sz_rounds.specs.Rounds.{IsRound, shards_of};
 ghost use Rattle.sz_workers.specs.Ends.{IsEndOf};
-ghost use Rattle.sz_crew.specs.Makers.{IsTrueMiss, GivesEmits};
+ghost use Rattle.sz_workers_loop.specs.Makers.{IsTrueMiss, GivesEmits};
 ghost use Rattle.sz_workers.specs.Parts.{Dies, Faults, HoldsShards};
 
 use crate::attempts::run_attempt;
@@ -12,10 +12,10 @@ use std::alloc::Global;
 use std::marker::{Model, PhantomData};
 use sz_attempt::{AttemptEnd, Job};
 use sz_book::Claim;
-use sz_crew::{Maker, Missed};
 use sz_io::Gate;
+use sz_machine::Room;
 use sz_rounds::Round;
-use sz_run::Room;
+use sz_workers_loop::{Maker, Missed};
 
 /// Makes the attempts of a round in a room of its own.
 #[derive(Drop)]

@@ -4,7 +4,7 @@ ghost use Rattle.sz_attempt.specs.Shards.{IsJob};
 ghost use Rattle.sz_rounds.specs.Outcomes.{outcome_of};
 ghost use Rattle.sz_rounds.specs.Rounds.{IsRound, shards_of, EndsRound};
 ghost use Rattle.sz_workers.specs.Parts.{HoldsShards};
-ghost use Rattle.sz_workers.specs.Running.{IsSet, HasFront, RestEnds};
+ghost use Rattle.sz_workers.specs.RoundRuns.{IsSet, HasFront, RestEnds};
 
 use crate::attempts::run_attempt;
 use crate::part::RoundName;
@@ -13,8 +13,8 @@ use std::alloc::Global;
 use sz_attempt::{AttemptEnd, Job};
 use sz_book::{NoMemory, Plan};
 use sz_io::Gate;
+use sz_machine::Room;
 use sz_rounds::{Round, RoundEnd};
-use sz_run::Room;
 use sz_total::{Total, tables_forget_the_order};
 
 /// What comes of a shard that the caller runs.

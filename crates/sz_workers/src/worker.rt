@@ -8,10 +8,10 @@ use std::marker::{Model, PhantomData};
 use sz_attempt::Job;
 use sz_book::{Lane, NoMemory, Plan};
 use sz_claims::{Ledger, Pass};
-use sz_crew::work;
 use sz_io::Gate;
+use sz_machine::Room;
 use sz_rounds::Round;
-use sz_run::Room;
+use sz_workers_loop::work;
 
 /// A worker of a round before it begins: what all workers share, and a pass of its own.
 ///

@@ -8,21 +8,21 @@ use Rattle.sz_io.specs.Calls.{NamesGain}
 use Rattle.sz_io.specs.declared.files.Files as files
 use Rattle.sz_tree.specs.Statements.{Stms}
 use Rattle.sz_core.specs.Programs.{Core}
-use Rattle.sz_world.specs.World.{Fault, Done}
-use Rattle.sz_world.specs.Slots.{Slot}
+use Rattle.sz_world_rules.specs.World.{Fault, Done}
+use Rattle.sz_world_rules.specs.Slots.{Slot}
 use Rattle.sz_mean.specs.Programs.{statics}
 use Rattle.sz_mean.specs.Records.{Records, Emitted, FaultedAt}
 use Rattle.sz_mean.proofs.RecordLaws.{fault_number}
 use Rattle.sz_records.specs.declared.ending.Ending.{Ending}
 use Rattle.sz_records.specs.declared.ending.Ending.TheVariants.{Whole, Damaged, Limit}
 use Rattle.sz_records.proofs.CutLaws.{every_file_is_cut}
-use Rattle.sz_run.specs.Ends.{seen_fault}
+use Rattle.sz_machine.specs.Ends.{seen_fault}
 use Rattle.sz_words.specs.declared.settings.RunSettings.{RunSettings}
 use Rattle.sz_attempt.specs.declared.job.Job.{Job}
 use Rattle.sz_attempt.specs.Shards.{ShardData, IsJob}
 use Rattle.sz_core.specs.Sound.{IsSound}
-use Rattle.sz_world.specs.Typed.{AllFit}
-use Rattle.sz_code.specs.Simulates.{static_types}
+use Rattle.sz_world_rules.specs.Typed.{AllFit}
+use Rattle.sz_gen_rules.specs.Simulates.{static_types}
 use Rattle.szl.specs.Settings.{HasBounds}
 use Rattle.sz_attempt.specs.Attempts.{shard_means, is_lost, all_die, dies_at, end_of}
 use Rattle.sz_rounds.specs.Outcomes.{ShardsEnd, emitted, faulted, lost, then_shards, outcome_of}
@@ -39,7 +39,7 @@ use Rattle.szl.specs.Judging.{IsFailureOf, IsFailureOn}
 use Rattle.szl.specs.Promise.{OpensFirst}
 use Rattle.szl.specs.Records.{Cut, IsCutInto, limits}
 use Rattle.szl.specs.Shards.{shard_sizes, shards_in, job_of}
-use Rattle.szl.specs.Running.{GivesStatics, GivesFile, IsJobOf}
+use Rattle.szl.specs.ProgramRuns.{GivesStatics, GivesFile, IsJobOf}
 use Rattle.szl.proofs.JudgementLemmas.{every_text_is_read}
 use Rattle.szl.proofs.OpeningLemmas.{holds_or}
 

@@ -18,7 +18,7 @@ use Rattle.szl.specs.declared.failure.Failure.TheVariants as failure
 use Rattle.szl.specs.Outcome.{outcome_of_shards, outcome_of_ending, success}
 use Rattle.szl.specs.Records.{Cut, IsCutInto}
 use Rattle.szl.specs.Shards.{shard_sizes, shards_in}
-use Rattle.szl.specs.Running.{failure_of_stop, GivesTables}
+use Rattle.szl.specs.ProgramRuns.{failure_of_stop, GivesTables}
 use Rattle.szl.proofs.AnswerLemmas.{cut_of, no_usage}
 use Rattle.szl.proofs.OpeningLemmas.{holds_or}
 use Rattle.szl.proofs.ShardLemmas.{sizes_are_shards}

@@ -14,7 +14,7 @@ use Rattle.sz_attempt.specs.declared.job.Job.{Job}
 use Rattle.szl.specs.declared.failure.Failure.{Failure}
 use Rattle.szl.specs.declared.failure.Failure.TheVariants as failure
 use Rattle.szl.specs.Opening.{ran_out}
-use Rattle.szl.specs.Running.{failure_of_opening, GivesTables, GivesFile}
+use Rattle.szl.specs.ProgramRuns.{failure_of_opening, GivesTables, GivesFile}
 use Rattle.szl.proofs.EndingLemmas.{GivesRead, no_memory_at_all, read_fails}
 use Rattle.szl.proofs.OpeningLemmas.{holds_or}
 

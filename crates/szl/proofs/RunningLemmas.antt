@@ -2,17 +2,17 @@
 use Rattle.std.proofs.Common.{◌≡◌, ℕ, ◌^◌, ◌≤◌, List, sym, ap, ◌∙◌}
 use Rattle.sz_core.specs.Programs.{Core}
 use Rattle.sz_instr.specs.declared.code.Code.{Code}
-use Rattle.sz_world.specs.World.{Outcome}
-use Rattle.sz_world.specs.Slots.{Slot}
-use Rattle.sz_world.specs.Typed.{AllFit}
+use Rattle.sz_world_rules.specs.World.{Outcome}
+use Rattle.sz_world_rules.specs.Slots.{Slot}
+use Rattle.sz_world_rules.specs.Typed.{AllFit}
 use Rattle.sz_mean.specs.Programs.{statics}
-use Rattle.sz_machine.specs.Running.{StaticsRunTo}
+use Rattle.sz_machine_rules.specs.Runs.{StaticsRunTo}
 use Rattle.sz_value.specs.declared.slots.Slots.{Slots}
-use Rattle.sz_run.specs.declared.ends.StaticsEnd.{StaticsEnd}
-use Rattle.sz_run.specs.declared.ends.StaticsEnd.TheVariants as statics_ends
-use Rattle.sz_run.specs.Ends.{seen_statics_end, StaticsRunEnds}
-use Rattle.sz_code.specs.Simulates.{static_types}
-use Rattle.sz_code.specs.Compiled.{IsCompiled}
+use Rattle.sz_machine.specs.declared.ends.StaticsEnd.{StaticsEnd}
+use Rattle.sz_machine.specs.declared.ends.StaticsEnd.TheVariants as statics_ends
+use Rattle.sz_machine.specs.Ends.{seen_statics_end, StaticsRunEnds}
+use Rattle.sz_gen_rules.specs.Simulates.{static_types}
+use Rattle.sz_gen_rules.specs.Compiled.{IsCompiled}
 
 -- what the code does is what the program means
 module _ (program : Core) (code : Code) (compiled : IsCompiled program code) (budget : ℕ) (least : 1 ≤ budget) (most : budget ≤ 2 ^ 32) where

@@ -7,10 +7,10 @@ use Rattle.sz_feed.specs.Feed.{file_of}
 use Rattle.sz_feed.specs.Program.{program_text}
 use Rattle.sz_tree.specs.Statements.{Stms}
 use Rattle.sz_core.specs.Programs.{Core}
-use Rattle.sz_world.specs.World.{Done}
-use Rattle.sz_world.specs.Slots.{Slot}
+use Rattle.sz_world_rules.specs.World.{Done}
+use Rattle.sz_world_rules.specs.Slots.{Slot}
 use Rattle.sz_mean.specs.Programs.{statics}
-use Rattle.sz_run.specs.Ends.{seen_fault}
+use Rattle.sz_machine.specs.Ends.{seen_fault}
 use Rattle.sz_words.specs.declared.settings.RunSettings.{RunSettings}
 use Rattle.sz_words.specs.declared.settings.Settings.TheVariants.{Selftest}
 use Rattle.sz_attempt.specs.declared.job.Job.{Job}
@@ -22,7 +22,7 @@ use Rattle.szl.specs.Judging.{IsFailureOf, IsFailureOn}
 use Rattle.szl.specs.Opening.{Decides, Answers, AnswersOver, AnswersTextOver}
 use Rattle.szl.specs.Outcome.{outcome_faulted, outcome_of_statics, outcome_of_checked_run}
 use Rattle.szl.specs.Promise.{AreReadToEnd}
-use Rattle.szl.specs.Running.{GivesStatics, GivesTables, IsJobOf}
+use Rattle.szl.specs.ProgramRuns.{GivesStatics, GivesTables, IsJobOf}
 use Rattle.szl.specs.Settings.{selftest_run, HasBounds}
 use Rattle.szl.proofs.JudgementLemmas.{every_text_is_read}
 use Rattle.szl.proofs.AnswerLemmas.{cut_of, decides_still, of_job}

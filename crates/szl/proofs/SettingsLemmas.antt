@@ -11,9 +11,9 @@ use Rattle.sz_io.specs.Calls.{NamesGain, ReadToEnd}
 use Rattle.sz_io.proofs.ForCallers.{rose_later}
 use Rattle.sz_io.specs.declared.files.Files as files
 use Rattle.sz_core.specs.Programs.{Core}
-use Rattle.sz_world.specs.World.{Done, Faulted}
-use Rattle.sz_world.specs.World as world
-use Rattle.sz_world.specs.Slots.{Slot}
+use Rattle.sz_world_rules.specs.World.{Done, Faulted}
+use Rattle.sz_world_rules.specs.World as world
+use Rattle.sz_world_rules.specs.Slots.{Slot}
 use Rattle.sz_mean.specs.Programs.{statics}
 use Rattle.sz_records.specs.declared.ending.Ending.{Ending}
 use Rattle.sz_records.specs.declared.ending.Ending.TheVariants.{Whole, Damaged, Limit}

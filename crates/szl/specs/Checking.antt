@@ -2,9 +2,9 @@
 use Rattle.std.specs.Prelude.{ℕ, List, [], ◌∷◌, slice_index_or, Result, Ok, Err}
 use Rattle.sz_tree.specs.Statements.{Stms}
 use Rattle.sz_core.specs.Programs.{Core}
-use Rattle.sz_judge.specs.Refusals.{Judged}
-use Rattle.sz_judge.specs.Refusals as judging
-use Rattle.sz_judge.specs.JudgingPrograms.{judge_program}
+use Rattle.sz_check_rules.specs.Refusals.{Judged}
+use Rattle.sz_check_rules.specs.Refusals as judging
+use Rattle.sz_check_rules.specs.JudgingPrograms.{judge_program}
 use Rattle.szl.specs.declared.refusal.Cause.{Cause}
 use Rattle.szl.specs.declared.refusal.Cause.TheVariants.{BadChar, BadLiteral, NotUtf8, TooLong, Syntax, UnknownName, Redeclared, WrongKind, WrongType, NoType, NoField, WrongCount, WrongWeight, NotAssignable}
 use Rattle.szl.specs.declared.refusal.Cause.TheVariants.{Misplaced, LeftOut, BadTable, BadProto, Unbounded, QuantOrder, TooMany, EmitHere}

@@ -4,7 +4,7 @@ use Rattle.szl.specs.declared.status.Status.{Status}
 use Rattle.szl.specs.declared.status.Status.TheVariants as status
 use Rattle.szl.specs.declared.failure.Failure.{Failure}
 use Rattle.szl.specs.declared.failure.Failure.TheVariants.{Usage, Refused, Faulted, Lost, Damaged, Limit, ReadFailed, WriteFailed, NoMemory}
-use Rattle.sz_run.specs.Ends.{seen_fault}
+use Rattle.sz_machine.specs.Ends.{seen_fault}
 use Rattle.szl.specs.Outcome.{refusal_line, fault_line, usage_line, lost_line, damaged_line, limit_line, read_failed_line, write_failed_line, no_memory_line}
 
 -- the number that a status has as the exit status of the process

@@ -6,8 +6,8 @@ use Rattle.sz_lex.specs.declared.error.LexError.{LexError}
 use Rattle.sz_lex.specs.declared.error.LexError.TheVariants as lexing
 use Rattle.sz_parse.specs.declared.error.ParseError.{ParseError}
 use Rattle.sz_parse.specs.declared.error.ParseError.TheVariants as parsing
-use Rattle.sz_known.specs.declared.error.CheckError.{CheckError}
-use Rattle.sz_known.specs.declared.error.CheckError.TheVariants as checking
+use Rattle.sz_check_names.specs.declared.error.CheckError.{CheckError}
+use Rattle.sz_check_names.specs.declared.error.CheckError.TheVariants as checking
 use Rattle.szl.specs.declared.refusal.Cause.TheVariants as causes
 use Rattle.szl.specs.declared.failure.Failure.{Failure}
 use Rattle.szl.specs.declared.failure.Failure.TheVariants.{Usage, Refused, NoMemory}

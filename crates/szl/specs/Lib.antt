@@ -11,4 +11,4 @@ pub mod Failing
 pub mod Opening
 pub mod Judging
 pub mod Printing
-pub mod Running
+pub mod ProgramRuns

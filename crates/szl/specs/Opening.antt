@@ -9,7 +9,7 @@ use Rattle.szl.specs.declared.refusal.Cause.TheVariants.{TooLong}
 use Rattle.sz_lex.specs.Tokens.{first_place}
 use Rattle.sz_types.specs.declared.frame.Frame.{Frame}
 use Rattle.sz_core.specs.Programs.{Core}
-use Rattle.sz_run.specs.Ends.{seen_fault}
+use Rattle.sz_machine.specs.Ends.{seen_fault}
 use Rattle.sz_words.specs.declared.settings.RunSettings.{RunSettings}
 use Rattle.sz_words.specs.declared.settings.Settings.{Settings}
 use Rattle.szl.specs.Settings.{frame_asked}

@@ -3,9 +3,9 @@ use Rattle.std.specs.Prelude.{ℕ, zero, suc, List, [], ◌∷◌, ◌++◌, sli
 use Rattle.std.specs.Fmt.{decimal}
 use Rattle.sz_types.specs.declared.place.Place.{Place}
 use Rattle.sz_core.specs.Programs.{Core, tables_of}
-use Rattle.sz_world.specs.World.{Fault, Done, Faulted}
-use Rattle.sz_world.specs.World as world
-use Rattle.sz_world.specs.Slots.{Slot}
+use Rattle.sz_world_rules.specs.World.{Fault, Done, Faulted}
+use Rattle.sz_world_rules.specs.World as world
+use Rattle.sz_world_rules.specs.Slots.{Slot}
 use Rattle.sz_mean.specs.Programs.{statics}
 use Rattle.sz_print.specs.Tables.{tables_text}
 use Rattle.sz_records.specs.declared.ending.Ending.{Ending}

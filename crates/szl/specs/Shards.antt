@@ -1,7 +1,7 @@
 -- The shards of an input, and what the attempts of a run have in common.
 use Rattle.std.specs.Prelude.{ℕ, zero, suc, ◌+◌, ◌^◌, ◌≤◌, List, [], ◌∷◌, length, nat_le, ◌||◌, if◌then◌else◌}
 use Rattle.sz_core.specs.Programs.{Core}
-use Rattle.sz_world.specs.Slots.{Slot}
+use Rattle.sz_world_rules.specs.Slots.{Slot}
 use Rattle.sz_records.specs.Shards.{AreShards}
 use Rattle.sz_words.specs.declared.settings.RunSettings.{RunSettings}
 use Rattle.sz_attempt.specs.declared.job.Job.{Job}

@@ -10,14 +10,14 @@ ghost use Rattle.szl.specs.Opening.{ReadsText, ran_out, past_program, Answers, A
 ghost use Rattle.szl.specs.Outcome.{outcome_of_program};
 ghost use Rattle.szl.specs.Judgement.{most_program_bytes};
 ghost use Rattle.szl.specs.Promise.{AreReadToEnd, names_asked};
-ghost use Rattle.szl.specs.Running.{vec_items_of};
+ghost use Rattle.szl.specs.ProgramRuns.{vec_items_of};
 ghost use Rattle.szl.specs.Settings.{HasBounds, IsBounded};
 
 use crate::failure::{Failure, refused};
 use crate::judge::{checked, tree_in};
 use crate::opening::read_text;
+use crate::program_run::{job_of, statics_of, tables_of_file};
 use crate::refusal::Cause;
-use crate::running::{job_of, statics_of, tables_of_file};
 use crate::selftest::answer_selftest;
 use std::alloc::Global;
 use std::sync::Wait;

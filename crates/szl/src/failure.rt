@@ -10,8 +10,8 @@ use std::alloc::AllocError;
 use sz_check::CheckError;
 use sz_io::OutsideError;
 use sz_lex::LexError;
+use sz_machine::Fault;
 use sz_parse::ParseError;
-use sz_run::Fault;
 use sz_stream::Stop;
 use sz_types::Place;
 use sz_words::WordsError;
@@ -92,7 +92,7 @@ impl From<AllocError> for Failure {
 }
 
 impl From<OutsideError> for Failure {
-    ghost use Rattle.szl.specs.Running.{failure_of_opening};
+    ghost use Rattle.szl.specs.ProgramRuns.{failure_of_opening};
 
     ghost from_gives = { λ error failure. failure ≡ failure_of_opening error };
 
@@ -105,7 +105,7 @@ impl From<OutsideError> for Failure {
 }
 
 impl From<Stop> for Failure {
-    ghost use Rattle.szl.specs.Running.{failure_of_stop};
+    ghost use Rattle.szl.specs.ProgramRuns.{failure_of_stop};
 
     ghost from_gives = { λ stop failure. failure ≡ failure_of_stop stop };
 

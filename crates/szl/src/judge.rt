@@ -9,10 +9,10 @@ ghost use Rattle.szl.specs.Judging.{IsFailureOf, IsFailureOn};
 use crate::failure::Failure;
 use std::alloc::Global;
 use sz_check::check;
+use sz_check_laws::judged_programs_are_sound;
 use sz_core::Program;
 use sz_lex::lex;
 use sz_parse::parse;
-use sz_sound::judged_programs_are_sound;
 use sz_tree::Tree;
 
 /// The tree that the text spells.

@@ -1,12 +1,12 @@
 //! The lines that name the byte of an input, a record that faults, or a shard that is lost.
 ghost use Rattle.std.specs.Prelude.{◌≡◌, ◌++◌, ◌∷◌, [], IfOk, decimal, slice_index_or};
-ghost use Rattle.sz_run.specs.Ends.{seen_fault};
+ghost use Rattle.sz_machine.specs.Ends.{seen_fault};
 ghost use Rattle.szl.specs.Outcome.{lost_line, damaged_line, limit_line, fault_texts, fault_line};
 
 use crate::refusal::push_place;
 use itoa::Buffer;
 use std::alloc::{AllocError, Global};
-use sz_run::Fault;
+use sz_machine::Fault;
 
 /// The line of an input that is damaged at a byte, with its newline.
 pub fn damaged_line(alloc: Global, byte: u64) -> Result<Vec<u8>, AllocError>

@@ -4,7 +4,7 @@ ghost use Rattle.sz_io.specs.Rose.{Rose};
 ghost use Rattle.sz_io.specs.Opened.{KeepsFiles};
 ghost use Rattle.sz_io.specs.Calls.{NamesGain, ReadToEnd};
 ghost use Rattle.szl.specs.Opening.{ReadsText, past_program, ran_out};
-ghost use Rattle.szl.specs.Running.{vec_items_of};
+ghost use Rattle.szl.specs.ProgramRuns.{vec_items_of};
 
 use crate::failure::Failure;
 use std::alloc::Global;

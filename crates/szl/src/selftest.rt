@@ -4,12 +4,12 @@ ghost use Rattle.sz_core.specs.Sound.{IsSound};
 ghost use Rattle.sz_feed.specs.Feed.{file_of};
 ghost use Rattle.sz_feed.specs.Program.{program_text};
 ghost use Rattle.szl.specs.Opening.{AnswersOver, AnswersTextOver};
-ghost use Rattle.szl.specs.Running.{vec_items_of};
+ghost use Rattle.szl.specs.ProgramRuns.{vec_items_of};
 ghost use Rattle.szl.specs.Settings.{selftest_run, HasBounds};
 
 use crate::failure::Failure;
 use crate::judge::{checked, tree_in};
-use crate::running::{job_of, statics_of, tables_of_bytes};
+use crate::program_run::{job_of, statics_of, tables_of_bytes};
 use std::alloc::{AllocError, Global};
 use std::sync::Wait;
 use std::thread::Threads;

@@ -6,8 +6,8 @@ use Rattle.sz_tree.specs.Types.{params_of}
 use Rattle.sz_tree.specs.Statements.{stms_of}
 use Rattle.sz_tree.specs.View.{type_of, param_of, stm_of}
 use Rattle.sz_core.specs.View.{signature_of}
-use Rattle.sz_known.specs.Holding.{Held, blocks_of, scene_of}
-use Rattle.sz_judge.specs.JudgingPrograms.{Found}
+use Rattle.sz_check_names.specs.Holding.{Held, blocks_of, scene_of}
+use Rattle.sz_check_rules.specs.JudgingPrograms.{Found}
 use Rattle.sz_check.specs.FunctionParts.{body_of}
 use Rattle.sz_check.specs.Top.{top_of}
 use Rattle.sz_check.proofs.FunctionLemmas.{body_fails, body_makes, finished_same}

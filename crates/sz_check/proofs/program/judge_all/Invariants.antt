@@ -3,7 +3,7 @@ use Rattle.std.proofs.Common.{◌≡◌, map, drop}
 use Rattle.sz_tree.specs.Statements.{stms_of}
 use Rattle.sz_tree.specs.View.{stm_of}
 use Rattle.sz_core.specs.View.{item_of}
-use Rattle.sz_judge.specs.JudgingPrograms.{judge_all}
+use Rattle.sz_check_rules.specs.JudgingPrograms.{judge_all}
 use Rattle.sz_check.specs.Top.{top_of, with_items}
 use Rattle.sz_check.proofs.program.judge_all.Given as goal
 

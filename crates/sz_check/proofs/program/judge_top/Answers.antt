@@ -1,7 +1,7 @@
 use Rattle.std.proofs.Common.{sym, ◌∙◌, subst}
 use Rattle.std.proofs.lemmas.Result.{err_from_is_err_and}
 use Rattle.sz_check.specs.Top.{top_of}
-use Rattle.sz_known.specs.Outcome.{Stops}
+use Rattle.sz_check_names.specs.Outcome.{Stops}
 use Rattle.sz_check.proofs.ProgramLemmas.{of_function}
 use Rattle.sz_check.proofs.program.judge_top.Goals as goal
 

@@ -6,7 +6,7 @@ use Rattle.std.proofs.lemmas.Option.{slice_get-map, slice_get_read}
 use Rattle.sz_tree.specs.View.{tree_of}
 use Rattle.sz_quant.specs.Fitting.{bounds_of}
 use Rattle.sz_quant.specs.Seen.{bound_of}
-use Rattle.sz_judge.specs.Quantifying.{names_of}
+use Rattle.sz_check_rules.specs.Quantifying.{names_of}
 use Rattle.sz_check.specs.Quantified.{variable_of}
 use Rattle.sz_check.proofs.WhenLemmas.{stops_as, all_found, lacks, lack_within}
 use Rattle.sz_check.proofs.quantified.all_bounded.Goals as goal

@@ -1,6 +1,6 @@
 -- The variables that are left, behind one that speaks of all candidates or none, are all of them.
 use Rattle.std.proofs.Common.{◌≡◌, drop, map, false}
-use Rattle.sz_judge.specs.Quantifying.{all_last}
+use Rattle.sz_check_rules.specs.Quantifying.{all_last}
 use Rattle.sz_check.specs.Quantified.{variable_of}
 use Rattle.sz_check.proofs.quantified.all_last.Given as goal
 

@@ -1,7 +1,7 @@
 -- The variables that are left, behind what is known by now, are all of them; all else stays.
 use Rattle.std.proofs.Common.{◌≡◌, drop, map}
-use Rattle.sz_known.specs.Holding.{blocks_of}
-use Rattle.sz_judge.specs.Quantifying.{bind_inside}
+use Rattle.sz_check_names.specs.Holding.{blocks_of}
+use Rattle.sz_check_rules.specs.Quantifying.{bind_inside}
 use Rattle.sz_check.specs.Quantified.{variable_of}
 use Rattle.sz_check.proofs.quantified.bind_inside.Given as goal
 

@@ -3,8 +3,8 @@ use Rattle.std.proofs.lemmas.Bool.{ltb-false}
 use Rattle.std.proofs.lemmas.Result.{err_from_is_err_and}
 use Rattle.sz_quant.specs.Seen.{bound_of}
 use Rattle.sz_core.specs.View.{quantified_of}
-use Rattle.sz_known.specs.Holding.{blocks_of}
-use Rattle.sz_known.proofs.TurnLemmas.{map_push}
+use Rattle.sz_check_names.specs.Holding.{blocks_of}
+use Rattle.sz_check_names.proofs.TurnLemmas.{map_push}
 use Rattle.sz_types.proofs.ForCallers.{rest_more, rest_none}
 use Rattle.sz_check.specs.Quantified.{variable_of, based_of}
 use Rattle.sz_check.proofs.WhenLemmas.{stops_as, bases_go, bases_fail, bases_lack, bases_end}

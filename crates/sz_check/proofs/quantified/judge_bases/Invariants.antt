@@ -2,9 +2,9 @@
 use Rattle.std.proofs.Common.{◌≡◌, ◌∷◌, drop, map}
 use Rattle.sz_quant.specs.Seen.{bound_of}
 use Rattle.sz_core.specs.View.{quantified_of}
-use Rattle.sz_known.specs.Holding.{blocks_of}
-use Rattle.sz_known.specs.Turns.{behind}
-use Rattle.sz_judge.specs.Quantifying.{judge_bases}
+use Rattle.sz_check_names.specs.Holding.{blocks_of}
+use Rattle.sz_check_names.specs.Turns.{behind}
+use Rattle.sz_check_rules.specs.Quantifying.{judge_bases}
 use Rattle.sz_check.specs.Quantified.{variable_of}
 use Rattle.sz_check.proofs.quantified.judge_bases.Given as goal
 

@@ -2,7 +2,7 @@ use Rattle.std.proofs.Common.{map, ap, ◌∙◌}
 use Rattle.std.proofs.lemmas.Result.{err_from_is_err_and}
 use Rattle.sz_tree.specs.View.{tree_of, quantifier_of}
 use Rattle.sz_core.specs.View.{node_of}
-use Rattle.sz_known.specs.Holding.{Held}
+use Rattle.sz_check_names.specs.Holding.{Held}
 use Rattle.sz_check.specs.Quantified.{variable_of, declared_of}
 use Rattle.sz_check.proofs.WhenLemmas.{front_stops, condition_stops, front_made}
 use Rattle.sz_check.proofs.quantified.judge_front.Goals as goal

@@ -1,9 +1,9 @@
 use Rattle.std.proofs.Common.{map, ap, ◌∙◌}
 use Rattle.std.proofs.lemmas.Result.{err_from_is_err_and}
 use Rattle.sz_types.specs.Seen.{seen}
-use Rattle.sz_known.specs.Holding.{scene_of}
-use Rattle.sz_known.proofs.TurnLemmas.{map_push}
-use Rattle.sz_judge.specs.Quantifying.{Variable}
+use Rattle.sz_check_names.specs.Holding.{scene_of}
+use Rattle.sz_check_names.proofs.TurnLemmas.{map_push}
+use Rattle.sz_check_rules.specs.Quantifying.{Variable}
 use Rattle.sz_check.specs.Quantified.{variable_of, declared_of}
 use Rattle.sz_check.proofs.FoldLemmas.{name_stops, name_goes}
 use Rattle.sz_check.proofs.quantified.judge_name.Goals as goal

@@ -1,7 +1,7 @@
 -- The names that are left, behind what is declared by now, are all of them; what is outside the innermost block stays.
 use Rattle.std.proofs.Common.{◌≡◌, drop}
 use Rattle.sz_types.specs.Seen.{seen}
-use Rattle.sz_judge.specs.Quantifying.{judge_names}
+use Rattle.sz_check_rules.specs.Quantifying.{judge_names}
 use Rattle.sz_check.specs.Quantified.{declared_of}
 use Rattle.sz_check.proofs.quantified.judge_names.Given as goal
 

@@ -1,6 +1,6 @@
 -- The names so far, and those that are left, are all of them.
 use Rattle.std.proofs.Common.{◌≡◌, ◌++◌, drop, map}
-use Rattle.sz_judge.specs.Quantifying.{names_of}
+use Rattle.sz_check_rules.specs.Quantifying.{names_of}
 use Rattle.sz_check.specs.Quantified.{variable_of}
 use Rattle.sz_check.proofs.quantified.names_of.Given as goal
 

@@ -3,7 +3,7 @@ use Rattle.std.proofs.lemmas.Result.{err_from_is_err_and}
 use Rattle.sz_tree.specs.View.{tree_of}
 use Rattle.sz_quant.specs.Seen.{bound_of}
 use Rattle.sz_core.specs.View.{quantified_of}
-use Rattle.sz_known.specs.Holding.{Held}
+use Rattle.sz_check_names.specs.Holding.{Held}
 use Rattle.sz_check.specs.Quantified.{variable_of}
 use Rattle.sz_check.proofs.WhenLemmas.{quantify_stops, quantify_made}
 use Rattle.sz_check.proofs.quantified.quantify.Goals as goal

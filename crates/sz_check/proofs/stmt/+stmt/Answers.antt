@@ -3,12 +3,12 @@ use Rattle.std.proofs.lemmas.Result.{err_from_is_err_and}
 use Rattle.sz_core.specs.View.{node_of, stm_of as core_stm_of}
 use Rattle.sz_tree.specs.Statements.{stms_of}
 use Rattle.sz_tree.specs.View.{tree_of, stm_of}
-use Rattle.sz_known.specs.Outcome.{Stops, Judges}
+use Rattle.sz_check_names.specs.Outcome.{Stops, Judges}
 use Rattle.sz_tree.proofs.RowLemmas.{stm_of_block}
-use Rattle.sz_judge.specs.JudgingStatements.{judge_stm}
-use Rattle.sz_known.specs.Holding.{Held, scene_of}
+use Rattle.sz_check_rules.specs.JudgingStatements.{judge_stm}
+use Rattle.sz_check_names.specs.Holding.{Held, scene_of}
 use Rattle.sz_check.specs.Behind.{around_of, behind_of, judge_else}
-use Rattle.sz_known.proofs.TurnLemmas.{map_push, judged_as}
+use Rattle.sz_check_names.proofs.TurnLemmas.{map_push, judged_as}
 use Rattle.sz_check.specs.Quantified.{variable_of}
 use Rattle.sz_check.proofs.WhenLemmas.{body_stops, body_made}
 use Rattle.sz_check.proofs.StatementLoops.{stms_fail, stms_go, stms_end}

@@ -3,9 +3,9 @@ use Rattle.std.proofs.Common.{◌≡◌, map, drop}
 use Rattle.sz_tree.specs.Statements.{stms_of}
 use Rattle.sz_tree.specs.View.{stm_of}
 use Rattle.sz_core.specs.View.{stm_of as core_stm_of}
-use Rattle.sz_judge.specs.JudgingStatements.{judge_stms}
-use Rattle.sz_known.specs.Holding.{scene_of}
-use Rattle.sz_known.specs.Turns.{behind}
+use Rattle.sz_check_rules.specs.JudgingStatements.{judge_stms}
+use Rattle.sz_check_names.specs.Holding.{scene_of}
+use Rattle.sz_check_names.specs.Turns.{behind}
 use Rattle.sz_check.specs.Behind.{in_front, around_of}
 use Rattle.sz_check.proofs.stmt.+stmt.Given as goal
 

@@ -1,8 +1,8 @@
 -- The path that is left, from what was reached, is the whole path.
 use Rattle.std.proofs.Common.{◌≡◌, map, drop}
 use Rattle.sz_tree.specs.View.{step_of}
-use Rattle.sz_judge.specs.JudgingPaths.{judge_steps}
-use Rattle.sz_known.specs.Holding.{scene_of}
+use Rattle.sz_check_rules.specs.JudgingPaths.{judge_steps}
+use Rattle.sz_check_names.specs.Holding.{scene_of}
 use Rattle.sz_check.specs.Targets.{target_seen}
 use Rattle.sz_check.proofs.target.judge_steps.Given as goal
 

@@ -1,7 +1,7 @@
 use Rattle.std.proofs.Common.{sym, ◌∙◌, arith}
 use Rattle.std.proofs.lemmas.Result.{err_from_is_err_and}
 use Rattle.sz_check_expr.specs.Asking.{asks_of}
-use Rattle.sz_known.proofs.TurnLemmas.{stops_then, goes_on}
+use Rattle.sz_check_names.proofs.TurnLemmas.{stops_then, goes_on}
 use Rattle.sz_check_expr.proofs.ListLemmas.{agree_turn, agree_over}
 use Rattle.sz_check_expr.proofs.agreement.agree.Goals as goal
 

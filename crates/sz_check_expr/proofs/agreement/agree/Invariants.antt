@@ -4,7 +4,7 @@ use Rattle.sz_tree.specs.Expressions.{exps_of}
 use Rattle.sz_tree.specs.View.{tree_of}
 use Rattle.sz_core.specs.Nodes.{nodes_of}
 use Rattle.sz_core.specs.View.{node_of}
-use Rattle.sz_judge.specs.Agreeing.{agree}
+use Rattle.sz_check_rules.specs.Agreeing.{agree}
 use Rattle.sz_check_expr.specs.Asking.{asks_of}
 use Rattle.sz_check_expr.proofs.agreement.agree.Given as goal
 

@@ -1,7 +1,7 @@
 use Rattle.std.proofs.Common.{sym, ◌∙◌, arith}
 use Rattle.std.proofs.lemmas.Result.{err_from_is_err_and}
 use Rattle.sz_types.specs.Seen.{seen}
-use Rattle.sz_known.proofs.TurnLemmas.{stops_then, goes_on}
+use Rattle.sz_check_names.proofs.TurnLemmas.{stops_then, goes_on}
 use Rattle.sz_check_expr.proofs.ListLemmas.{pairs_turn, pairs_over}
 use Rattle.sz_check_expr.proofs.agreement.pairs_agree.Goals as goal
 

@@ -5,7 +5,7 @@ use Rattle.sz_tree.specs.Expressions.{pairs_of}
 use Rattle.sz_tree.specs.View.{pair_of}
 use Rattle.sz_core.specs.Nodes.{pairings_of}
 use Rattle.sz_core.specs.View.{pairing_of}
-use Rattle.sz_judge.specs.Agreeing.{pairs_agree}
+use Rattle.sz_check_rules.specs.Agreeing.{pairs_agree}
 use Rattle.sz_check_expr.proofs.agreement.pairs_agree.Given as goal
 
 abbrev pub invariant-loop-i : goal.invariant-loop-i

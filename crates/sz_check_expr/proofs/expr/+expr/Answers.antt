@@ -2,13 +2,13 @@ use Rattle.std.proofs.Common.{map, ap, sym, subst, ◌∙◌, arith}
 use Rattle.std.proofs.lemmas.Result.{err_from_is_err_and}
 use Rattle.sz_core.specs.View.{node_of, pairing_of}
 use Rattle.sz_check_expr.specs.Asking.{asks_of, asked_of}
-use Rattle.sz_known.specs.Holding.{blocks_for}
-use Rattle.sz_known.specs.Sites.{may_emit}
-use Rattle.sz_known.specs.Outcome.{Stops}
+use Rattle.sz_check_names.specs.Holding.{blocks_for}
+use Rattle.sz_check_names.specs.Sites.{may_emit}
+use Rattle.sz_check_names.specs.Outcome.{Stops}
 use Rattle.sz_tree.specs.View.{tree_of}
 use Rattle.sz_tree.proofs.RowLemmas.{tree_of_call, tree_of_list, tree_of_map}
-use Rattle.sz_judge.specs.JudgingExpressions.{judge_exp}
-use Rattle.sz_known.proofs.TurnLemmas.{map_push, judged_as}
+use Rattle.sz_check_rules.specs.JudgingExpressions.{judge_exp}
+use Rattle.sz_check_names.proofs.TurnLemmas.{map_push, judged_as}
 use Rattle.sz_check_expr.proofs.ExpLemmas.{slice_stops, exps_fails, exps_goes, exps_ends, pairs_fails, pairs_goes, pairs_ends}
 use Rattle.sz_check_expr.proofs.expr.+expr.Goals as goal
 

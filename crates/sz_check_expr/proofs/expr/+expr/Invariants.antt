@@ -4,11 +4,11 @@ use Rattle.sz_tree.specs.Expressions.{exps_of, pairs_of}
 use Rattle.sz_tree.specs.View.{tree_of, pair_of}
 use Rattle.sz_core.specs.Nodes.{with_node}
 use Rattle.sz_core.specs.View.{node_of, pairing_of}
-use Rattle.sz_judge.specs.JudgingExpressions.{judge_exps, judge_pairs}
+use Rattle.sz_check_rules.specs.JudgingExpressions.{judge_exps, judge_pairs}
 use Rattle.sz_check_expr.specs.Asking.{asks_of, asked_of}
-use Rattle.sz_known.specs.Holding.{blocks_for}
-use Rattle.sz_known.specs.Sites.{may_emit}
-use Rattle.sz_known.specs.Turns.{behind}
+use Rattle.sz_check_names.specs.Holding.{blocks_for}
+use Rattle.sz_check_names.specs.Sites.{may_emit}
+use Rattle.sz_check_names.specs.Turns.{behind}
 use Rattle.sz_check_expr.specs.Lists.{with_pair}
 use Rattle.sz_check_expr.proofs.ExpLemmas.{exps_from, pairs_from}
 use Rattle.sz_check_expr.proofs.expr.+expr.Given as goal

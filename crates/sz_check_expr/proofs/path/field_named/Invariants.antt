@@ -2,7 +2,7 @@
 use Rattle.std.proofs.Common.{◌≡◌, map, drop}
 use Rattle.sz_types.specs.Data.{fields_of}
 use Rattle.sz_types.specs.Seen.{seen_field}
-use Rattle.sz_judge.specs.Agreeing.{field_named}
+use Rattle.sz_check_rules.specs.Agreeing.{field_named}
 use Rattle.sz_check_expr.proofs.path.field_named.Given as goal
 
 abbrev pub invariant-loop-i : goal.invariant-loop-i

@@ -9,9 +9,9 @@ use Rattle.sz_core.specs.Nodes.{nodes_of, pairings_of}
 use Rattle.sz_core.specs.View.{node_of, form_of, pairing_of}
 use Rattle.sz_core.proofs.ForCallers.{form_of_call, form_of_builtin, form_of_array, form_of_tuple, form_of_map}
 use Rattle.sz_instr.specs.declared.instr.Instr.TheVariants.{AndTest, OrTest, Call, Apply, Binary, Index, Slice, MakeArray, MakeTuple, MakeMap}
-use Rattle.sz_code.specs.Tables.{line}
-use Rattle.sz_code.specs.ExpressionCode.{conversion}
-use Rattle.sz_code.specs.Named.{HasTarget}
+use Rattle.sz_gen_rules.specs.Tables.{line}
+use Rattle.sz_gen_rules.specs.ExpressionCode.{conversion}
+use Rattle.sz_gen_rules.specs.Named.{HasTarget}
 use Rattle.sz_gen_expr.specs.Building.{Appends, AppendsLine, AppendsNode, AppendsClosed, AppendsDecided, AppendsNodes, AppendsList, AppendsPairings, AppendsMap, Nothing}
 use Rattle.sz_gen_expr.proofs.Builds.{none, behind, closes, closed_by, closed_behind, renamed, counted, three_behind, of_form, decided_made, starts, stays}
 use Rattle.sz_types.proofs.ForCallers.{rest_more, rest_none}

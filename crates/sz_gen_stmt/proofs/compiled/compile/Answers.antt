@@ -1,5 +1,5 @@
 use Rattle.std.proofs.Common.{subst, sym}
-use Rattle.sz_code.specs.Compiled.{IsCompiled}
+use Rattle.sz_gen_rules.specs.Compiled.{IsCompiled}
 use Rattle.sz_gen_stmt.proofs.compiled.compile.Goals as goal
 
 -- the program is sound, and this is its code

@@ -2,11 +2,11 @@
 use Rattle.std.proofs.Common.{map, sym, subst, arith}
 use Rattle.std.proofs.lemmas.Result.{on_ok_weaker}
 use Rattle.sz_core.specs.View.{node_of, quantified_of}
-use Rattle.sz_code.specs.ExpressionCode.{expression_code}
+use Rattle.sz_gen_rules.specs.ExpressionCode.{expression_code}
 use Rattle.sz_gen_expr.proofs.Builds.{behind, renamed, no_more, starts, stays}
 use Rattle.sz_types.proofs.ForCallers.{rest_none}
-use Rattle.sz_code.specs.StatementCode.{variable_code_of}
-use Rattle.sz_code.specs.SearchCode.{holds_code}
+use Rattle.sz_gen_rules.specs.StatementCode.{variable_code_of}
+use Rattle.sz_gen_rules.specs.SearchCode.{holds_code}
 use Rattle.sz_gen_stmt.specs.Making.{AppendsHolds}
 use Rattle.sz_gen_stmt.proofs.SearchMade.{all_made}
 use Rattle.sz_gen_stmt.proofs.generate.+holds.Goals as goal

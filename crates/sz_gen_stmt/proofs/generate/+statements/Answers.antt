@@ -11,9 +11,9 @@ use Rattle.sz_core.proofs.ForCallers.{stm_of_block}
 use Rattle.sz_gen_expr.proofs.Builds.{none, behind, renamed, no_more, closed_behind, starts, stays}
 use Rattle.sz_instr.specs.declared.instr.Instr.TheVariants.{Return}
 use Rattle.sz_types.proofs.ForCallers.{rest_more, rest_none}
-use Rattle.sz_code.specs.ExpressionCode.{expression_code}
-use Rattle.sz_code.specs.StatementCode.{test_code, in_search, variable_code_of, statement_code}
-use Rattle.sz_code.specs.SearchCode.{search_code}
+use Rattle.sz_gen_rules.specs.ExpressionCode.{expression_code}
+use Rattle.sz_gen_rules.specs.StatementCode.{test_code, in_search, variable_code_of, statement_code}
+use Rattle.sz_gen_rules.specs.SearchCode.{search_code}
 use Rattle.sz_gen_stmt.specs.Making.{exits_of, node_if_some, stm_if_some, AppendsStm, AppendsStms, AppendsLoop, AppendsIfAny, AppendsSearch, AppendsHolds}
 use Rattle.sz_gen_stmt.proofs.Made.{of_stm, lent_is, stays_landed, branch_made, loop_made, loop_behind_made}
 use Rattle.sz_gen_stmt.proofs.SearchMade.{when_made, none_searched, some_searched, each_searched, all_searched}

@@ -1,7 +1,7 @@
 -- The steps so far, and those that are left, are all of them.
 use Rattle.std.proofs.Common.{◌≡◌, ◌++◌, map, drop}
 use Rattle.sz_core.specs.View.{step_of}
-use Rattle.sz_code.specs.StatementCode.{bare_step}
+use Rattle.sz_gen_rules.specs.StatementCode.{bare_step}
 use Rattle.sz_gen_stmt.proofs.parts.bare_steps.Given as goal
 
 abbrev pub invariant-loop-step : goal.invariant-loop-step

@@ -1,7 +1,7 @@
 -- One line more.
 use Rattle.std.proofs.Common.{◌≡◌, subst, arith}
 use Rattle.sz_gen_expr.specs.Building.{Appends, Nothing}
-use Rattle.sz_code.specs.StatementCode.{discards}
+use Rattle.sz_gen_rules.specs.StatementCode.{discards}
 use Rattle.sz_gen_stmt.proofs.SearchMade.{discards_more}
 use Rattle.sz_gen_stmt.proofs.parts.gen_discards.Goals as goal
 

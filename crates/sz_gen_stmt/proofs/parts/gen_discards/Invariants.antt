@@ -1,6 +1,6 @@
 -- As many lines as there were turns.
 use Rattle.sz_gen_expr.specs.Building.{Appends, Nothing}
-use Rattle.sz_code.specs.StatementCode.{discards}
+use Rattle.sz_gen_rules.specs.StatementCode.{discards}
 use Rattle.sz_gen_stmt.proofs.parts.gen_discards.Given as goal
 
 abbrev pub invariant-loop : goal.invariant-loop

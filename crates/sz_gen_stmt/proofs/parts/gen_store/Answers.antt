@@ -2,7 +2,7 @@ use Rattle.std.proofs.Common.{subst, map}
 use Rattle.std.proofs.lemmas.Result.{on_ok_weaker}
 use Rattle.sz_core.specs.View.{node_of, step_of}
 use Rattle.sz_instr.specs.declared.instr.Instr.TheVariants.{Store}
-use Rattle.sz_code.specs.StatementCode.{bare_step}
+use Rattle.sz_gen_rules.specs.StatementCode.{bare_step}
 use Rattle.sz_gen_expr.specs.Building.{AppendsClosed}
 use Rattle.sz_gen_expr.proofs.Builds.{closed_behind}
 use Rattle.sz_gen_stmt.proofs.parts.gen_store.Goals as goal

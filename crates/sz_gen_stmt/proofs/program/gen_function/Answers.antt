@@ -2,7 +2,7 @@ use Rattle.std.proofs.Common.{◌∙◌, subst, map}
 use Rattle.std.proofs.lemmas.Result.{on_ok_weaker}
 use Rattle.sz_core.specs.Statements.{stms_of}
 use Rattle.sz_core.specs.View.{stm_of, function_of}
-use Rattle.sz_code.specs.StatementCode.{no_exits}
+use Rattle.sz_gen_rules.specs.StatementCode.{no_exits}
 use Rattle.sz_gen_stmt.specs.Making.{AppendsStms}
 use Rattle.sz_gen_stmt.proofs.Made.{function_made}
 use Rattle.sz_gen_stmt.proofs.program.gen_function.Goals as goal

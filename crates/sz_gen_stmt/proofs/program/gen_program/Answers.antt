@@ -3,8 +3,8 @@ use Rattle.std.proofs.lemmas.Result.{IfOk-weaker}
 use Rattle.sz_core.specs.Statements.{stms_of}
 use Rattle.sz_core.specs.Programs.{functions_of, statics_of, statements_of, tables_of}
 use Rattle.sz_gen_expr.proofs.Builds.{no_more, behind}
-use Rattle.sz_code.specs.StatementCode.{no_exits}
-use Rattle.sz_code.specs.ProgramCode.{IsCodeOf}
+use Rattle.sz_gen_rules.specs.StatementCode.{no_exits}
+use Rattle.sz_gen_rules.specs.ProgramCode.{IsCodeOf}
 use Rattle.sz_gen_stmt.specs.Making.{AppendsStms, ExtendsFunctions, ExtendsStatics}
 use Rattle.sz_gen_stmt.proofs.Made.{program_made}
 use Rattle.sz_gen_stmt.proofs.program.gen_program.Goals as goal

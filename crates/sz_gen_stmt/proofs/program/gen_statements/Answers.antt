@@ -5,7 +5,7 @@ use Rattle.sz_gen_expr.proofs.Builds.{none, behind}
 use Rattle.sz_types.proofs.ForCallers.{rest_more, rest_none}
 use Rattle.sz_core.specs.Statements.{stms_of}
 use Rattle.sz_core.specs.Programs.{statements_of}
-use Rattle.sz_code.specs.StatementCode.{no_exits}
+use Rattle.sz_gen_rules.specs.StatementCode.{no_exits}
 use Rattle.sz_gen_stmt.specs.Making.{AppendsStms}
 use Rattle.sz_gen_stmt.proofs.Made.{no_statement}
 use Rattle.sz_gen_stmt.proofs.program.gen_statements.Goals as goal

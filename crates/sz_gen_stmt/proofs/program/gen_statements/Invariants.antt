@@ -4,7 +4,7 @@ use Rattle.sz_core.specs.Statements.{stms_of}
 use Rattle.sz_core.specs.Programs.{statements_of}
 use Rattle.sz_core.specs.View.{item_of}
 use Rattle.sz_gen_expr.specs.declared.builder.Builder.{Builder}
-use Rattle.sz_code.specs.StatementCode.{no_exits}
+use Rattle.sz_gen_rules.specs.StatementCode.{no_exits}
 use Rattle.sz_gen_stmt.specs.Making.{AppendsStms}
 use Rattle.sz_gen_stmt.proofs.program.gen_statements.Given as goal
 

@@ -1,6 +1,6 @@
 use Rattle.std.proofs.Common.{◌+◌, List, ℕ, sym, ap, ◌∙◌, subst}
 use Rattle.sz_words.specs.Lists.{is_among}
-use Rattle.sz_workers.specs.Running.{HasFront, RestEnds}
+use Rattle.sz_workers.specs.RoundRuns.{HasFront, RestEnds}
 use Rattle.sz_workers.proofs.RestLemmas.{among_is, among_not, front_with, front_added, none_before}
 use Rattle.sz_workers.proofs.rest.complete.Goals as goal
 

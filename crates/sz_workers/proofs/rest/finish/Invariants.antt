@@ -1,5 +1,5 @@
 use Rattle.sz_workers.specs.Parts.{HoldsShards}
-use Rattle.sz_workers.specs.Running.{HasFront}
+use Rattle.sz_workers.specs.RoundRuns.{HasFront}
 use Rattle.sz_workers.proofs.rest.finish.Given as goal
 
 -- all shards in front are in the pool

@@ -3,7 +3,7 @@ use Rattle.std.proofs.lemmas.Result.{err_from_is_err_and}
 use Rattle.std.specs.Prelude.{string_bytes, OnOk}
 use Rattle.szl.specs.Opening.{Answers}
 use Rattle.szl.specs.Promise.{AreReadToEnd, names_asked}
-use Rattle.szl.specs.Running.{vec_items_of}
+use Rattle.szl.specs.ProgramRuns.{vec_items_of}
 use Rattle.szl.proofs.BoundsLemmas.{is_bounded}
 use Rattle.szl.proofs.SettingsLemmas.{words_fail}
 use Rattle.szl.proofs.answer.answer.Goals as goal

@@ -1,7 +1,7 @@
 use Rattle.std.proofs.Common.{subst}
 use Rattle.std.proofs.lemmas.Result.{err_from_is_err_and}
 use Rattle.szl.specs.Opening.{AnswersCheck}
-use Rattle.szl.specs.Running.{vec_items_of}
+use Rattle.szl.specs.ProgramRuns.{vec_items_of}
 use Rattle.sz_words.specs.declared.settings.Settings.TheVariants.{Check}
 use Rattle.szl.proofs.SettingsLemmas.{of_check, text_fails, text_checked, when_ok, one_read}
 use Rattle.szl.proofs.answer.answer_check.Goals as goal

@@ -4,7 +4,7 @@ use Rattle.std.specs.Prelude.{Ok, Err, ◌≤◌}
 use Rattle.sz_core.specs.Sound.{IsSound}
 use Rattle.sz_attempt.specs.declared.job.Job.{Job}
 use Rattle.szl.specs.Outcome.{outcome_of_program}
-use Rattle.szl.specs.Running.{GivesStatics, IsJobOf, vec_items_of}
+use Rattle.szl.specs.ProgramRuns.{GivesStatics, IsJobOf, vec_items_of}
 use Rattle.szl.proofs.AnswerLemmas.{no_code, static_fails, input_run, is_job}
 use Rattle.szl.proofs.answer.answer_program.Goals as goal
 

@@ -3,7 +3,7 @@ use Rattle.std.proofs.lemmas.Result.{err_from_is_err_and}
 use Rattle.sz_words.specs.declared.settings.Settings.TheVariants.{Run}
 use Rattle.szl.specs.Opening.{AnswersText}
 use Rattle.szl.specs.Promise.{AreReadToEnd}
-use Rattle.szl.specs.Running.{vec_items_of}
+use Rattle.szl.specs.ProgramRuns.{vec_items_of}
 use Rattle.szl.proofs.SettingsLemmas.{NamesProgram, of_run, text_fails, text_read, both_when_ok, both_read}
 use Rattle.szl.proofs.answer.answer_run.Goals as goal
 

@@ -1,6 +1,6 @@
 use Rattle.std.proofs.lemmas.Result.{err_from_is_err_and}
 use Rattle.sz_tree.specs.View.{program_of}
-use Rattle.szl.specs.Running.{vec_items_of}
+use Rattle.szl.specs.ProgramRuns.{vec_items_of}
 use Rattle.szl.proofs.AnswerLemmas.{text_refused, statements_refused, program_answers}
 use Rattle.szl.proofs.answer.answer_text.Goals as goal
 

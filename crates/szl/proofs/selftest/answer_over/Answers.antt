@@ -3,7 +3,7 @@ use Rattle.std.proofs.lemmas.Result.{err_from_is_err_and}
 use Rattle.std.specs.Prelude.{Ok, Err, ◌≤◌}
 use Rattle.sz_core.specs.Sound.{IsSound}
 use Rattle.sz_attempt.specs.declared.job.Job.{Job}
-use Rattle.szl.specs.Running.{GivesStatics, IsJobOf, vec_items_of}
+use Rattle.szl.specs.ProgramRuns.{GivesStatics, IsJobOf, vec_items_of}
 use Rattle.szl.proofs.AnswerLemmas.{is_job}
 use Rattle.szl.proofs.SelftestLemmas.{no_memory_over, static_fails_over, tables_over}
 use Rattle.szl.proofs.selftest.answer_over.Goals as goal

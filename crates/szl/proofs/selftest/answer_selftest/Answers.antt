@@ -7,7 +7,7 @@ use Rattle.sz_tree.specs.View.{program_of}
 use Rattle.szl.specs.Judging.{IsFailureOf}
 use Rattle.szl.specs.Judgement.{HasStatements, most_program_bytes}
 use Rattle.szl.specs.Opening.{AnswersOver}
-use Rattle.szl.specs.Running.{vec_items_of}
+use Rattle.szl.specs.ProgramRuns.{vec_items_of}
 use Rattle.szl.specs.Settings.{selftest_run, HasBounds}
 use Rattle.szl.proofs.SelftestLemmas.{is_short, has_bounds, no_memory_text, text_refused_over, statements_refused_over, program_over}
 use Rattle.szl.proofs.selftest.answer_selftest.Goals as goal

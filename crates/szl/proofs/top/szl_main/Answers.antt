@@ -1,7 +1,7 @@
 use Rattle.std.proofs.Common.{sym, subst, map}
 use Rattle.std.specs.Prelude.{string_bytes}
 use Rattle.szl.specs.Promise.{MeansSource}
-use Rattle.szl.specs.Running.{vec_items_of}
+use Rattle.szl.specs.ProgramRuns.{vec_items_of}
 use Rattle.szl.proofs.MainLemmas.{means_failure}
 use Rattle.szl.proofs.top.szl_main.Goals as goal
 

@@ -2,7 +2,7 @@ use Rattle.std.proofs.Common.{◌∙◌, map, ap}
 use Rattle.std.specs.Ordering.{is_eq}
 use Rattle.sz_value.specs.Seen.{seen}
 use Rattle.sz_value.specs.Order.{compare}
-use Rattle.sz_code.specs.Tables.{number_in}
+use Rattle.sz_gen_rules.specs.Tables.{number_in}
 use Rattle.sz_gen_expr.specs.Building.{with_constant}
 use Rattle.sz_gen_expr.proofs.Numbers.{number_is, kept_is}
 use Rattle.sz_gen_expr.proofs.constants.Constants.number.Goals as goal

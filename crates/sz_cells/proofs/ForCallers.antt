@@ -1,2 +1,0 @@
--- What the crates above may cite.
-pub use Rattle.sz_cells.proofs.ListLemmas.{are_all, all_told}

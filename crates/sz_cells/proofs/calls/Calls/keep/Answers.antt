@@ -1,9 +1,0 @@
--- One local is another.
-use Rattle.std.proofs.Common.{sym}
-use Rattle.sz_cells.proofs.CallLemmas.{one_kept}
-use Rattle.sz_cells.proofs.calls.Calls.keep.Goals as goal
-
-pub returns : goal.returns
-returns c =
-    let s = c.self.inside in
-    record { value = rw (sym c.self.view_is) (one_kept s.waiting.items s.cells.items s.lists.items s.locals_from s.lists_from c.args.n c.args.cell) }

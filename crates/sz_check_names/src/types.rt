@@ -1,0 +1,292 @@
+//! Types as they are written.
+ghost use Rattle.std.specs.Prelude.{◌≡◌, ◌∷◌, [], List, IfOk, OnOk, map as each};
+ghost use Rattle.std.specs.Option.{option_map};
+ghost use Rattle.sz_types.specs.Data.{Shape, fields_of};
+ghost use Rattle.sz_types.specs.Seen.{seen};
+ghost use Rattle.sz_tree.specs.Types.{tuple, proto, params_of, fields_of as trees_of};
+ghost use Rattle.sz_tree.specs.View.{type_of, param_of, field_of};
+ghost use Rattle.sz_check_rules.specs.JudgingTypes.{type_named, field_number, encoding_of, coding_of, judge_type, judge_parts, judge_fields};
+ghost use Rattle.sz_check_names.specs.Holding.{means_of, blocks_of, IsOfTypes};
+ghost use Rattle.sz_check_names.specs.Parts.{free_name, free_coding, coding_seen, judge_part, judge_field};
+ghost use Rattle.sz_check_names.specs.Written.{shape_in, field_in};
+ghost use Rattle.sz_check_names.specs.Outcome.{Judges};
+
+use crate::error::CheckError;
+use crate::known::Known;
+use crate::meaning::Means;
+use crate::site::Site;
+use crate::taken::{TakenNames, TakenNumbers};
+use crate::waiting::beside;
+use crate::written::{NamedTypes, Written, WrittenField};
+use std::alloc::Global;
+use sz_tree::{Name, Param, ProtoField, TypeTree};
+use sz_types::{Encoding, Place, Text, Ty};
+
+// The type that a name stands for, which is one of these types.
+fn type_named(
+    alloc: Global,
+    types: &NamedTypes,
+    name: &Name,
+    means: Means<'_>,
+) -> Result<Written, CheckError>
+    requires types { IsOfTypes types.now means }
+    ensures value { Judges (shape_in types.now) result (type_named name.now (means_of means.entry)) }
+{
+    match means {
+        Means::Type(ty) => Ok(Written::Named(ty.number)),
+        _ => Err(CheckError::of(alloc, 8, name)),
+    }
+}
+
+// The most that the number of a field can be.
+const MOST_FIELD_NUMBER: i64 = 536_870_911;
+
+// The number of a message's field, if it can be one.
+fn field_number(number: i64) -> Option<u32>
+    ensures value { result ≡ field_number number }
+{
+    if 1 <= number && number <= MOST_FIELD_NUMBER {
+        Some(number as u32)
+    } else {
+        None
+    }
+}
+
+// The encoding that a word stands for; no word is the plain one.
+fn encoding_of(label: &Option<Name>) -> Option<Encoding>
+    ensures value { result ≡ encoding_of label.now }
+{
+    let Some(name) = label else {
+        return Some(Encoding::Plain);
+    };
+    let word = name.text().as_bytes();
+    if word == b"zigzag".as_slice() {
+        return Some(Encoding::Zigzag);
+    }
+    if word == b"fixed32".as_slice() {
+        return Some(Encoding::Fixed32);
+    }
+    if word == b"fixed64".as_slice() {
+        return Some(Encoding::Fixed64);
+    }
+    None
+}
+
+// How a field of this type is coded, if its number is free and in range, and its encoding word fits the type.
+#[tactic(auto, using(crate::proofs::SortLemmas::sort_is_field, crate::proofs::SortLemmas::sort_encodes))]
+fn coding_of(
+    used: &TakenNumbers,
+    types: &NamedTypes,
+    ty: &Written,
+    number: Option<u32>,
+    code: Option<Encoding>,
+) -> Option<(u32, Encoding)>
+    ensures value { option_map coding_seen result ≡ coding_of used.now (shape_in types.now ty.now) number code }
+{
+    let (Some(number), Some(code)) = (number, code) else {
+        return None;
+    };
+    let sort = types.sort_of(ty);
+    if !used.has(number) && sort.is_field() && sort.takes(code) {
+        Some((number, code))
+    } else {
+        None
+    }
+}
+
+// A name of a part or a field, which must be free, and is taken now.
+fn take_name(alloc: Global, name: &Name, taken: &mut TakenNames) -> Result<Text, CheckError>
+    ensures value { Judges (λ text. text) result (free_name name.now taken.old) }
+    ensures taken { OnOk result (taken.new ≡ name.now.text ∷ taken.old) }
+{
+    let text = name.text().as_str();
+    if !taken.add(text)? {
+        return Err(CheckError::of(alloc, 18, name));
+    }
+    Ok(Text::from_str(alloc, text)?)
+}
+
+// The number and the encoding of a field, which it must have.
+fn judge_coding(
+    alloc: Global,
+    types: &NamedTypes,
+    tree: &ProtoField,
+    ty: &Written,
+    used: &TakenNumbers,
+) -> Result<(u32, Encoding), CheckError>
+    ensures value { Judges coding_seen result
+        (free_coding tree.now.name (coding_of used.now (shape_in types.now ty.now) (field_number tree.now.number)
+        (encoding_of tree.now.label))) }
+{
+    let number = field_number(tree.number);
+    match coding_of(used, types, ty, number, encoding_of(&tree.label)) {
+        Some(coding) => Ok(coding),
+        None => Err(CheckError::of(alloc, 18, &tree.name)),
+    }
+}
+
+/// The type of a tree, as it is written, or its first refusal: 6, 8, 16 at a name, 18 at a field or a part.
+#[cycle(types)]
+#[tactic(auto, unfolding(sz_check_rules::specs::JudgingTypes::judge_type))]
+pub fn judge_written(alloc: Global, known: &Known, tree: &TypeTree) -> Result<Written, CheckError>
+    ensures value { Judges (shape_in known.now.outside.types) result (judge_type (blocks_of known.now) (type_of tree.now)) }
+{
+    match tree {
+        TypeTree::Basic(_, basic) => Ok(Written::Basic(*basic)),
+        TypeTree::Named(name) => {
+            let means = known.look_up(alloc, Site::Statement, name)?;
+            type_named(alloc, known.types(), name, means)
+        }
+        TypeTree::Array(_, element) => Ok(Written::Array(judge_boxed(alloc, known, element)?)),
+        TypeTree::Map(_, _, key, value) => {
+            let key = judge_boxed(alloc, known, key)?;
+            let value = judge_boxed(alloc, known, value)?;
+            Ok(Written::Map(key, value))
+        }
+        TypeTree::Tuple(place, parts) => judge_tuple(alloc, known, *place, parts.as_slice()),
+        TypeTree::Proto(place, fields) => judge_proto(alloc, known, *place, fields.as_slice()),
+    }
+}
+
+/// The type of a tree, with all names written out, or its first refusal: 6, 8, 16 at a name, 18 at a field or a part.
+pub fn judge_type(alloc: Global, known: &Known, tree: &TypeTree) -> Result<Ty, CheckError>
+    ensures value { Judges seen result (judge_type (blocks_of known.now) (type_of tree.now)) }
+{
+    let written = judge_written(alloc, known, tree)?;
+    let ty = known.types().write_out(alloc, &written);
+    drop(written);
+    Ok(ty?)
+}
+
+// The type on the heap, as a part of another.
+#[cycle(types)]
+fn judge_boxed(alloc: Global, known: &Known, tree: &TypeTree) -> Result<Box<Written>, CheckError>
+    ensures value { Judges (λ made. shape_in known.now.outside.types made.value) result
+        (judge_type (blocks_of known.now) (type_of tree.now)) }
+{
+    Ok(Box::new(alloc, judge_written(alloc, known, tree)?)?)
+}
+
+// A tuple type.
+#[cycle(types)]
+#[tactic(auto, using(crate::proofs::WrittenLemmas::shape_in_tuple), unfolding(sz_check_rules::specs::JudgingTypes::judge_type))]
+fn judge_tuple(
+    alloc: Global,
+    known: &Known,
+    place: Place,
+    trees: &[Param],
+) -> Result<Written, CheckError>
+    ensures value { Judges (shape_in known.now.outside.types) result
+        (judge_type (blocks_of known.now) (tuple place (params_of (each param_of trees.now)))) }
+{
+    let mut taken = TakenNames::new(alloc)?;
+    let parts = judge_parts(alloc, known, trees, &mut taken);
+    drop(taken);
+    Ok(Written::Tuple(parts?))
+}
+
+// A proto type.
+#[cycle(types)]
+#[tactic(auto, using(crate::proofs::WrittenLemmas::shape_in_proto), unfolding(sz_check_rules::specs::JudgingTypes::judge_type))]
+fn judge_proto(
+    alloc: Global,
+    known: &Known,
+    place: Place,
+    trees: &[ProtoField],
+) -> Result<Written, CheckError>
+    ensures value { Judges (shape_in known.now.outside.types) result
+        (judge_type (blocks_of known.now) (proto place (trees_of (each field_of trees.now)))) }
+{
+    let mut taken = TakenNames::new(alloc)?;
+    let mut used = TakenNumbers::new(alloc);
+    let fields = judge_fields(alloc, known, trees, &mut taken, &mut used);
+    drop(taken);
+    drop(used);
+    Ok(Written::Proto(fields?))
+}
+
+// The next part of a tuple, whose name must be free.
+#[cycle(types)]
+fn judge_part(
+    alloc: Global,
+    known: &Known,
+    tree: &Param,
+    taken: &mut TakenNames,
+) -> Result<WrittenField, CheckError>
+    ensures value { Judges (field_in known.now.outside.types) result
+        (judge_part (blocks_of known.now) taken.old tree.now.name (type_of tree.now.of)) }
+    ensures taken { IfOk result (λ made. taken.new ≡ made.name ∷ taken.old) }
+{
+    let ty = judge_written(alloc, known, &tree.of)?;
+    let (name, ty) = beside(take_name(alloc, &tree.name, taken), ty)?;
+    Ok(WrittenField {
+        name,
+        ty,
+        number: 0,
+        code: Encoding::Plain,
+    })
+}
+
+// The parts of a tuple: each is judged whole before the next.
+#[cycle(types)]
+fn judge_parts(
+    alloc: Global,
+    known: &Known,
+    trees: &[Param],
+    taken: &mut TakenNames,
+) -> Result<Vec<WrittenField>, CheckError>
+    ensures value { Judges (λ made. fields_of (each (field_in known.now.outside.types) made.items)) result
+        (judge_parts (blocks_of known.now) taken.old (params_of (each param_of trees.now))) }
+{
+    let mut parts = Vec::new(alloc);
+    for tree in trees {
+        parts.push(judge_part(alloc, known, tree, taken)?)?;
+    }
+    Ok(parts)
+}
+
+// The next field of a message, whose name and number must be free.
+#[cycle(types)]
+fn judge_field(
+    alloc: Global,
+    known: &Known,
+    tree: &ProtoField,
+    taken: &mut TakenNames,
+    used: &mut TakenNumbers,
+) -> Result<WrittenField, CheckError>
+    ensures value { Judges (field_in known.now.outside.types) result
+        (judge_field (blocks_of known.now) taken.old used.old (field_of tree.now)) }
+    ensures taken { IfOk result (λ made. taken.new ≡ made.name ∷ taken.old) }
+    ensures used { IfOk result (λ made. used.new ≡ made.number ∷ used.old) }
+{
+    let ty = judge_written(alloc, known, &tree.of)?;
+    let coding = judge_coding(alloc, known.types(), tree, &ty, used);
+    let ((number, code), ty) = beside(coding, ty)?;
+    let (name, ty) = beside(take_name(alloc, &tree.name, taken), ty)?;
+    let (_, (name, ty)) = beside(used.add(number), (name, ty))?;
+    Ok(WrittenField {
+        name,
+        ty,
+        number,
+        code,
+    })
+}
+
+// The fields of a message.
+#[cycle(types)]
+fn judge_fields(
+    alloc: Global,
+    known: &Known,
+    trees: &[ProtoField],
+    taken: &mut TakenNames,
+    used: &mut TakenNumbers,
+) -> Result<Vec<WrittenField>, CheckError>
+    ensures value { Judges (λ made. fields_of (each (field_in known.now.outside.types) made.items)) result
+        (judge_fields (blocks_of known.now) taken.old used.old (trees_of (each field_of trees.now))) }
+{
+    let mut fields = Vec::new(alloc);
+    for tree in trees {
+        fields.push(judge_field(alloc, known, tree, taken, used)?)?;
+    }
+    Ok(fields)
+}

@@ -1,8 +1,0 @@
--- What is hidden by now, and the names that are left, are what was hidden and all of them.
-use Rattle.std.proofs.Common.{◌≡◌, ◌++◌, drop}
-use Rattle.sz_judge.specs.EmittingTrees.{texts_of}
-use Rattle.sz_emitting.specs.Hidden.{hidden_of}
-use Rattle.sz_emitting.proofs.emitting.hide_names.Given as goal
-
-abbrev pub invariant-loop-name : goal.invariant-loop-name
-invariant-loop-name l = hidden_of l.hidden.items ++ texts_of (drop l.name-index l.names) ≡ hidden_of l.fn.hidden.items ++ texts_of l.names

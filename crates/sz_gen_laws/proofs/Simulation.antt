@@ -1,0 +1,147 @@
+-- The code of a sound program simulates it, and the slots of its statics have their types.
+use Rattle.std.proofs.Common.{◌≡◌, ◌∙◌, ℕ, suc, ◌+◌, List, [], ◌∷◌, ◌++◌, length, Some, refl, sym, ap, subst, arith, append_assoc, append-nil, length-append}
+use Rattle.std.specs.Prelude.{slice_get}
+use Rattle.std.proofs.lemmas.List.{length-map}
+use Rattle.sz_value.specs.Data.{bytes}
+use Rattle.sz_core.specs.Programs.{Function, Static, Core, functions_of, statics_of}
+use Rattle.sz_core.specs.Sound.{Declared, IsSound, declared_by, nothing_declared}
+use Rattle.sz_instr.specs.declared.line.Line.{Line}
+use Rattle.sz_instr.specs.declared.routine.Routine.{Routine}
+use Rattle.sz_instr.specs.declared.code.Code.{Code}
+use Rattle.sz_instr.specs.declared.instr.Instr.TheVariants.{EndRecord}
+use Rattle.sz_world_rules.specs.World.{new_world, Done}
+use Rattle.sz_world_rules.specs.Slots.{Slot, undefined_slots}
+use Rattle.sz_world_rules.specs.Typed.{AllFit}
+use Rattle.sz_mean.specs.Programs.{calls_at, statics, body_of, run_record, mean}
+use Rattle.sz_machine_rules.specs.States.{State}
+use Rattle.sz_machine_rules.specs.Runs.{ComesTo, RoutinesRunTo, StaticsRunTo, RunsTo}
+use Rattle.sz_gen_rules.specs.Tables.{Tables, tables_in}
+use Rattle.sz_gen_rules.specs.Runs.{CallsBelow, HasAt}
+use Rattle.sz_gen_laws.proofs.Steps.{has_front, has_back}
+use Rattle.sz_gen_rules.specs.StatementCode.{no_exits, statements_code}
+use Rattle.sz_gen_rules.specs.FreeLines.{free}
+use Rattle.sz_gen_rules.specs.ProgramCode.{IsCodeOf, functions_code, statics_code, static_routines, record_code}
+use Rattle.sz_gen_rules.specs.Simulates.{Simulates, static_types}
+use Rattle.sz_gen_laws.proofs.Slots.{fit_undefined}
+use Rattle.sz_gen_laws.proofs.Declared.{IsWhole, Stands, stands}
+use Rattle.sz_gen_laws.proofs.Calls.{calls_run}
+use Rattle.sz_gen_laws.proofs.Statics.{SlotsFit, statics_run}
+use Rattle.sz_gen_laws.proofs.Records.{record_end, ends_record, record_ends, body_runs}
+
+got : (front rest : List Line) (l : Line) → slice_get (front ++ l ∷ rest) (length front) ≡ Some l
+got [] rest l = refl
+got (k ∷ front) rest l = got front rest l
+
+-- lines that stand behind others
+has_all : (lines front rest : List Line) → HasAt (front ++ (lines ++ rest)) (length front) lines
+has_all [] front rest = tt
+has_all (l ∷ lines) front rest =
+    let one : length (front ++ l ∷ []) ≡ suc (length front) = omega (arith, length-append front (l ∷ [])) in
+    let more = subst (λ k. HasAt k (length (front ++ l ∷ [])) lines) (append_assoc front (l ∷ []) (lines ++ rest)) (has_all lines (front ++ l ∷ []) rest) in
+    (got front (lines ++ rest) l, subst (λ n. HasAt (front ++ l ∷ (lines ++ rest)) n lines) one more)
+
+has_whole : (lines : List Line) → HasAt lines 0 lines
+has_whole lines = subst (λ k. HasAt k 0 lines) (append-nil lines) (has_all lines [] [])
+
+pub routines_counted : (tables : Tables) (n : ℕ) (ss : List Static) (at : ℕ) → length (static_routines tables n ss at) ≡ length ss
+routines_counted tables n [] at = refl
+routines_counted tables n (s ∷ ss) at = ap suc (routines_counted tables (suc n) ss _)
+
+module _ (core : Core) (code : Code) (sound : IsSound core) (is : IsCodeOf core code) where
+  abbrev pub tables : Tables
+  tables = tables_in code
+
+  abbrev pub fs : List Function
+  fs = functions_of core.items
+
+  abbrev pub ss : List Static
+  ss = statics_of core.items
+
+  abbrev pub function_lines : List Line
+  function_lines = functions_code tables fs 0
+
+  abbrev pub static_lines : List Line
+  static_lines = statics_code tables 0 ss (length function_lines)
+
+  abbrev pub record_lines : List Line
+  record_lines = record_code tables core code.main.entry
+
+  abbrev pub whole : Declared
+  whole = declared_by core.items
+
+  pub all_whole : IsWhole nothing_declared core.items whole
+  all_whole = record { statics = refl; functions = refl; tables = refl }
+
+  pub has : HasAt code.lines 0 (function_lines ++ (static_lines ++ record_lines))
+  has = subst (λ l. HasAt code.lines 0 l) is.lines (has_whole code.lines)
+
+  pub has_behind : HasAt code.lines (length function_lines) (static_lines ++ record_lines)
+  has_behind =
+      let e : 0 + length function_lines ≡ length function_lines = omega arith in
+      subst (λ n. HasAt code.lines n (static_lines ++ record_lines)) e (has_back code.lines 0 function_lines (static_lines ++ record_lines) has)
+
+  pub has_record : HasAt code.lines code.main.entry record_lines
+  has_record =
+      subst (λ n. HasAt code.lines n record_lines) (sym (ap (λ (r : Routine). r.entry) is.main))
+      (has_back code.lines (length function_lines) static_lines record_lines has_behind)
+
+  pub all_stand : (f : ℕ) (h : Function) → slice_get fs f ≡ Some h → Stands tables code.lines code.functions whole f h
+  all_stand f h e =
+      subst (λ r. Stands tables code.lines r whole f h) (sym is.functions)
+      (stands tables code.lines whole core.locals [] nothing_declared core.items sound.items all_whole is.names.functions 0
+      (has_front code.lines 0 function_lines (static_lines ++ record_lines) has) f h e)
+
+  all_calls : (slots : List Slot) → AllFit slots whole.statics → (room limit : ℕ)
+      → CallsBelow code whole.functions slots room limit (calls_at fs slots room)
+  all_calls slots typed room limit = calls_run code fs whole all_stand refl is.tables slots typed room limit
+
+  undefined_fit : AllFit (undefined_slots (length ss)) whole.statics
+  undefined_fit = subst (λ n. AllFit (undefined_slots n) whole.statics) (length-map ss (λ (s : Static). s.type)) (fit_undefined whole.statics)
+
+  statics_both : (budget : ℕ) → RoutinesRunTo code (static_routines tables 0 ss (length function_lines)) (new_world budget) (undefined_slots (length ss))
+      (statics core budget)
+      × SlotsFit (statics core budget) whole.statics
+  statics_both budget =
+      statics_run code fs whole all_calls core.locals core.items [] nothing_declared 0 (length function_lines) (undefined_slots (length ss)) (new_world budget)
+      sound.items all_whole refl is.names.statics undefined_fit (has_front code.lines (length function_lines) static_lines record_lines has_behind)
+
+  statics_end : (budget : ℕ) → StaticsRunTo code budget (statics core budget)
+  statics_end budget =
+      let counted : length code.statics ≡ length ss = ap length is.statics ∙ routines_counted tables 0 ss (length function_lines) in
+      subst (λ n. RoutinesRunTo code code.statics (new_world budget) (undefined_slots n) (statics core budget)) (sym counted)
+      (subst (λ rs. RoutinesRunTo code rs (new_world budget) (undefined_slots (length ss)) (statics core budget)) (sym is.statics)
+      (statics_both budget).0)
+
+  records_end : (slots : List Slot) (budget : ℕ) (input : List ℕ) → AllFit slots (static_types core)
+      → RunsTo code input slots budget (mean core slots budget input)
+  records_end slots budget input typed =
+      let ended = run_record core slots budget input in
+      let x = record_end slots ended in
+      let body = statements_code tables (body_of core) no_exits code.main.entry in
+      let at1 = code.main.entry + length body in
+      let start : ℕ → State = λ n. record {
+        at = code.main.entry;
+        stack = [];
+        locals = undefined_slots n;
+        lists = [];
+        callers = [];
+        statics = slots;
+        input = Some (bytes input);
+        world = new_world budget;
+      } in
+      record {
+        end = x;
+        comes = subst (λ n. ComesTo code (start n) x) (sym (ap (λ (r : Routine). r.locals) is.main))
+            (body_runs code fs whole all_calls is.tables core.locals slots typed input x core.items [] nothing_declared (start (length core.locals)) at1
+            sound.items all_whole is.names.body (fit_undefined core.locals) refl refl refl
+            (has_front code.lines code.main.entry body (free EndRecord ∷ []) has_record) refl
+            (record_ends code core.locals (start (length core.locals)) at1 (has_back code.lines code.main.entry body
+            (free EndRecord ∷ []) has_record).0 ended));
+        is = ends_record slots ended;
+      }
+
+  pub simulates : Simulates core code
+  simulates = record { statics_end = λ budget b. statics_end budget; records_end = λ slots budget input typed b. records_end slots budget input typed }
+
+  pub statics_fit : (budget : ℕ) (slots : List Slot) → statics core budget ≡ Done slots → AllFit slots (static_types core)
+  statics_fit budget slots e = subst (λ o. SlotsFit o whole.statics) e (statics_both budget).1

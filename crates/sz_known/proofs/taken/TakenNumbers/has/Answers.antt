@@ -1,7 +1,0 @@
-use Rattle.std.proofs.Common.{ap, ◌∙◌}
-use Rattle.sz_known.specs.Parts.{has_number}
-use Rattle.sz_known.proofs.TakenLemmas.{number_has}
-use Rattle.sz_known.proofs.taken.TakenNumbers.has.Goals as goal
-
-pub returns : goal.returns
-returns c = record { value = c.contains.ensures ∙ number_has c.args.number c.self.inside.held.keys ∙ ap (has_number c.args.number) c.self.view_is }

@@ -1,0 +1,147 @@
+-- Emits whose parts are on the operands.
+use Rattle.std.proofs.Common.{◌≡◌, ◌∙◌, ℕ, suc, ◌+◌, List, [], ◌∷◌, ◌++◌, length, drop, ◌≤◌, Option, Some, None, true, false, refl, sym, ap, subst, arith}
+use Rattle.std.specs.Option.{option_map}
+use Rattle.sz_types.specs.declared.place.Place.{Place}
+use Rattle.sz_value.specs.Data.{Datum}
+use Rattle.sz_value.specs.Weight.{weight_of}
+use Rattle.sz_instr.specs.declared.instr.Instr.TheVariants.{Emit}
+use Rattle.sz_instr.specs.declared.code.Code.{Code}
+use Rattle.sz_world_rules.specs.World.{spend}
+use Rattle.sz_world_rules.specs.Slots.{Slot, all_defined}
+use Rattle.sz_world_rules.specs.Ticks.{weight_of_all}
+use Rattle.sz_world_rules.specs.Emits.{emit_by_weight, emit_weight, emit_weighted, with_emit, weight_number, weight_if_all, listed}
+use Rattle.sz_machine_rules.specs.States.{State, Goes, popped}
+use Rattle.sz_machine.specs.Acting.{when_paid, weighs_and_acts}
+use Rattle.sz_machine.specs.Emitting.{parts_weight, emits_parts, emits_on_top}
+
+-- nothing is emitted without indexes
+pub no_indexes : (table : ℕ) (value : Slot) (weight : Option Slot) → emit_by_weight table None value weight ≡ None
+no_indexes table value None = refl
+no_indexes table value (Some w) = by (weight_number w)
+  where
+    by : (n : _) → emit_weighted table None value n ≡ None
+    by None = refl
+    by (Some n) = refl
+
+-- or without a value
+pub no_value : (table : ℕ) (indexes : Option (List Datum)) (weight : Option Slot) → emit_by_weight table indexes None weight ≡ None
+no_value table None weight = no_indexes table None weight
+no_value table (Some ds) None = refl
+no_value table (Some ds) (Some w) = by (weight_number w)
+  where
+    by : (n : _) → emit_weighted table (Some ds) None n ≡ None
+    by None = refl
+    by (Some n) = refl
+
+-- the values of two lists, if all are there
+abbrev joined : Option (List Datum) → Option (List Datum) → Option (List Datum)
+joined None other = None
+joined (Some ds) other = option_map (λ es. ds ++ es) other
+
+joined_with : (d : Datum) (a b : Option (List Datum)) → option_map (λ ds. d ∷ ds) (joined a b) ≡ joined (option_map (λ ds. d ∷ ds) a) b
+joined_with d None b = refl
+joined_with d (Some ds) None = refl
+joined_with d (Some ds) (Some es) = refl
+
+kept : (o : Option (List Datum)) → o ≡ joined (Some []) o
+kept None = refl
+kept (Some ds) = refl
+
+defined_of_both : (xs ys : List Slot) → all_defined (xs ++ ys) ≡ joined (all_defined xs) (all_defined ys)
+defined_of_both [] ys = kept (all_defined ys)
+defined_of_both (None ∷ xs) ys = refl
+defined_of_both (Some d ∷ xs) ys = ap (option_map (λ ds. d ∷ ds)) (defined_of_both xs ys) ∙ joined_with d (all_defined xs) (all_defined ys)
+
+weight_of_both : (ds es : List Datum) → weight_of_all (ds ++ es) ≡ weight_of_all ds + weight_of_all es
+weight_of_both [] es = omega arith
+weight_of_both (d ∷ ds) es = ap (λ n. weight_of d + n) (weight_of_both ds es) ∙ omega arith
+
+-- the weight of an emit, whose indexes are at hand
+pub weight_at_hand : (xs : List Slot) (x : Slot) (w : Option Slot) → emit_weight (record { indexes = xs; value = x; weight = w }) ≡ parts_weight (all_defined xs) x w
+weight_at_hand xs x w = ap weight_if_all (defined_of_both xs (x ∷ listed w)) ∙ by (all_defined xs) x w
+  where
+    by : (o : Option (List Datum)) (x : Slot) (w : Option Slot) → weight_if_all (joined o (all_defined (x ∷ listed w))) ≡ parts_weight o x w
+    by None x w = refl
+    by (Some ds) None w = refl
+    by (Some ds) (Some v) None = weight_of_both ds (v ∷ []) ∙ omega arith
+    by (Some ds) (Some v) (Some None) = refl
+    by (Some ds) (Some v) (Some (Some w)) = weight_of_both ds (v ∷ w ∷ []) ∙ omega arith
+
+one_more : (n : ℕ) → n + 1 ≡ suc n
+one_more n = omega arith
+
+two_more : (n : ℕ) → n + 2 ≡ suc (suc n)
+two_more n = omega arith
+
+module _ (code : Code) (table n : ℕ) (place : Place) where
+  -- an emit without a weight
+  pub emit_without : (s : State) (x : Slot) (stack : List Slot) → s.stack ≡ x ∷ stack
+      → weighs_and_acts code (Emit table n false) place s ≡ emits_on_top table n None place s
+  emit_without s x stack e =
+      let at_hand : (l : List Slot) → l ≡ x ∷ stack → weighs_and_acts code (Emit table n false) place (record s { stack = l })
+      ≡ emits_on_top table n None place (record s { stack = l }) =
+      λ l is. subst (λ l. weighs_and_acts code (Emit table n false) place (record s { stack = l })
+      ≡ emits_on_top table n None place (record s { stack = l })) (sym is) there in
+      at_hand s.stack e
+    where
+      dropped : drop (n + 1) (x ∷ stack) ≡ drop n stack
+      dropped = ap (λ m. drop m (x ∷ stack)) (one_more n)
+
+      there : weighs_and_acts code (Emit table n false) place (record s { stack = x ∷ stack })
+          ≡ emits_on_top table n None place (record s { stack = x ∷ stack })
+      there = λ i. when_paid place (spend (weight_at_hand (popped n stack) x None i) s.world) (λ w. Goes (record s {
+        at = suc s.at;
+        stack = dropped i;
+        world = with_emit (emit_by_weight table (all_defined (popped n stack)) x None) w;
+      }))
+
+  -- an emit with a weight, which is popped first
+  pub emit_with_weight : (s : State) (weight x : Slot) (below stack : List Slot) → s.stack ≡ weight ∷ below → below ≡ x ∷ stack
+      → weighs_and_acts code (Emit table n true) place s ≡ emits_on_top table n (Some weight) place (record s { stack = below })
+  emit_with_weight s weight x below stack e f =
+      let at_hand : weighs_and_acts code (Emit table n true) place (record s { stack = weight ∷ x ∷ stack })
+      ≡ emits_on_top table n (Some weight) place (record s { stack = x ∷ stack }) = there in
+      subst (λ l. weighs_and_acts code (Emit table n true) place (record s { stack = l }) ≡ emits_on_top table n (Some weight) place (record s { stack = below }))
+      (sym e)
+      (subst (λ l. weighs_and_acts code (Emit table n true) place (record s { stack = weight ∷ l }) ≡ emits_on_top table n (Some weight) place (record s { stack = l }))
+      (sym f) at_hand)
+    where
+      dropped : drop (n + 2) (weight ∷ x ∷ stack) ≡ drop n stack
+      dropped = ap (λ m. drop m (weight ∷ x ∷ stack)) (two_more n)
+
+      there : weighs_and_acts code (Emit table n true) place (record s { stack = weight ∷ x ∷ stack })
+          ≡ emits_on_top table n (Some weight) place (record s { stack = x ∷ stack })
+      there = λ i. when_paid place (spend (weight_at_hand (popped n stack) x (Some weight) i) s.world) (λ w. Goes (record s {
+        at = suc s.at;
+        stack = dropped i;
+        world = with_emit (emit_by_weight table (all_defined (popped n stack)) x (Some weight)) w;
+      }))
+
+  -- the same, where there are so many operands
+  pub emits_without : (s : State) → n + 1 ≤ length s.stack → weighs_and_acts code (Emit table n false) place s ≡ emits_on_top table n None place s
+  emits_without s within = by s.stack refl within
+    where
+      by : (l : List Slot) → s.stack ≡ l → n + 1 ≤ length l → weighs_and_acts code (Emit table n false) place s ≡ emits_on_top table n None place s
+      by [] e h = absurd (omega (arith, h))
+      by (x ∷ stack) e h = emit_without s x stack e
+
+  pub emits_with_weight : (s : State) (weight : Slot) (below : List Slot) → s.stack ≡ weight ∷ below → n + 2 ≤ length s.stack
+      → weighs_and_acts code (Emit table n true) place s ≡ emits_on_top table n (Some weight) place (record s { stack = below })
+  emits_with_weight s weight below e within = by below refl
+    where
+      by : (l : List Slot) → below ≡ l
+          → weighs_and_acts code (Emit table n true) place s ≡ emits_on_top table n (Some weight) place (record s { stack = below })
+      by [] f = absurd (omega (arith, within, ap length e, ap length f))
+      by (x ∷ stack) f = emit_with_weight s weight x below stack e f
+
+module _ (code : Code) (table : ℕ) (place : Place) where
+  -- a value alone
+  pub emit_single : (s : State) (x : Slot) (rest : List Slot) → s.stack ≡ x ∷ rest
+      → weighs_and_acts code (Emit table 0 false) place s ≡ emits_parts table (Some []) x None place (record s { stack = rest })
+  emit_single s x rest e = emit_without code table 0 place s x rest e ∙ at_hand s.stack e
+    where
+      at_hand : (l : List Slot) → l ≡ x ∷ rest
+          → emits_on_top table 0 None place (record s { stack = l }) ≡ emits_parts table (Some []) x None place (record s { stack = rest })
+      at_hand l is =
+          subst (λ l. emits_on_top table 0 None place (record s { stack = l }) ≡ emits_parts table (Some []) x None place (record s { stack = rest }))
+          (sym is) refl

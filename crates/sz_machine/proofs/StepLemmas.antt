@@ -1,0 +1,109 @@
+-- A line in two steps: its charge is taken, and then its instruction takes the weight of its result and acts.
+use Rattle.std.proofs.Common.{◌≡◌, ◌∙◌, ℕ, ◌+◌, ◌<◌, length, slice_get, unwrap_or, Option, Some, None, true, refl, sym, ap, subst, arith}
+use Rattle.sz_instr.specs.declared.instr.Instr.{Instr}
+use Rattle.sz_instr.specs.declared.instr.Instr.TheVariants.{Push, Local, Static, Input, Keep, KeepStatic, Clear, Store, Unary, Binary, Apply}
+use Rattle.sz_instr.specs.declared.instr.Instr.TheVariants.{Convert, Decode, MakeArray, MakeTuple, MakeMap, Index, Slice, Field, Def, Tick, Jump, Test}
+use Rattle.sz_instr.specs.declared.instr.Instr.TheVariants.{AndTest, OrTest, Call, Return, EndRecord, Discard, Emit, Enter, Next, Leave, Meets, Fails}
+use Rattle.sz_instr.specs.declared.line.Line.{Line}
+use Rattle.sz_instr.specs.declared.code.Code.{Code}
+use Rattle.sz_world_rules.specs.World.{World, spend}
+use Rattle.sz_machine_rules.specs.States.{State}
+use Rattle.sz_machine_rules.specs.Rows.{act}
+use Rattle.sz_machine_rules.specs.Covering.{Covers}
+use Rattle.sz_machine_rules.specs.Runs.{weight_added, charge_of, charged, does}
+use Rattle.sz_machine.specs.declared.held.Held.{Held}
+use Rattle.sz_machine.specs.declared.held.Next.{Next as Going}
+use Rattle.sz_machine.specs.CodeRuns.{LineDoes}
+use Rattle.sz_machine.specs.Acting.{Around, world_of, state_of, when_paid, weighs_and_acts, leads, DoesFromTo, Paid, base_charge, TakesCandidate}
+use Rattle.sz_machine.proofs.CoverLemmas.{list_there}
+use Rattle.sz_machine.proofs.PayLemmas.{world, spend_more}
+
+-- what is known of each instruction: its ticks are a charge and a weight, whether its row covers a state doesn't depend on the
+-- world, and a candidate is taken of a list that is there
+pub record Splits (code : Code) (ticks : ℕ) (i : Instr) (s : State) : Type 0 where
+  pub charge : charge_of code ticks i s ≡ base_charge ticks i s.lists + weight_added code i s.stack
+  pub covers : (w : World) → Covers code i s → Covers code i (record s { world = w })
+  pub lists : Covers code i s → TakesCandidate i → 0 < length s.lists
+
+pub splits : (code : Code) (ticks : ℕ) (i : Instr) (s : State) → Splits code ticks i s
+splits code ticks (Push c) s = record { charge = refl; covers = λ w h. h; lists = λ h t. absurd t }
+splits code ticks (Local n) s = record { charge = refl; covers = λ w h. h; lists = λ h t. absurd t }
+splits code ticks (Static n) s = record { charge = refl; covers = λ w h. h; lists = λ h t. absurd t }
+splits code ticks Input s = record { charge = refl; covers = λ w h. h; lists = λ h t. absurd t }
+splits code ticks (Keep n) s = record { charge = refl; covers = λ w h. h; lists = λ h t. absurd t }
+splits code ticks (KeepStatic n) s = record { charge = refl; covers = λ w h. h; lists = λ h t. absurd t }
+splits code ticks (Clear n) s = record { charge = refl; covers = λ w h. h; lists = λ h t. absurd t }
+splits code ticks (Store n path) s = record { charge = refl; covers = λ w h. h; lists = λ h t. absurd t }
+splits code ticks (Unary op) s = record { charge = refl; covers = λ w h. h; lists = λ h t. absurd t }
+splits code ticks (Binary op) s = record { charge = refl; covers = λ w h. h; lists = λ h t. absurd t }
+splits code ticks (Apply b) s = record { charge = refl; covers = λ w h. h; lists = λ h t. absurd t }
+splits code ticks (Convert ty) s = record { charge = refl; covers = λ w h. h; lists = λ h t. absurd t }
+splits code ticks (Decode ty) s = record { charge = refl; covers = λ w h. h; lists = λ h t. absurd t }
+splits code ticks (MakeArray count) s = record { charge = refl; covers = λ w h. h; lists = λ h t. absurd t }
+splits code ticks (MakeTuple count) s = record { charge = refl; covers = λ w h. h; lists = λ h t. absurd t }
+splits code ticks (MakeMap count) s = record { charge = refl; covers = λ w h. h; lists = λ h t. absurd t }
+splits code ticks Index s = record { charge = refl; covers = λ w h. h; lists = λ h t. absurd t }
+splits code ticks Slice s = record { charge = refl; covers = λ w h. h; lists = λ h t. absurd t }
+splits code ticks (Field n) s = record { charge = refl; covers = λ w h. h; lists = λ h t. absurd t }
+splits code ticks Def s = record { charge = refl; covers = λ w h. h; lists = λ h t. absurd t }
+splits code ticks Tick s = record { charge = refl; covers = λ w h. h; lists = λ h t. absurd t }
+splits code ticks (Jump to) s = record { charge = refl; covers = λ w h. h; lists = λ h t. absurd t }
+splits code ticks (Test to) s = record { charge = refl; covers = λ w h. h; lists = λ h t. absurd t }
+splits code ticks (AndTest to) s = record { charge = refl; covers = λ w h. h; lists = λ h t. absurd t }
+splits code ticks (OrTest to) s = record { charge = refl; covers = λ w h. h; lists = λ h t. absurd t }
+splits code ticks (Call f) s = record { charge = refl; covers = λ w h. h; lists = λ h t. absurd t }
+splits code ticks Return s = record { charge = refl; covers = λ w h. h; lists = λ h t. absurd t }
+splits code ticks EndRecord s = record { charge = refl; covers = λ w h. h; lists = λ h t. absurd t }
+splits code ticks Discard s = record { charge = refl; covers = λ w h. h; lists = λ h t. absurd t }
+splits code ticks (Emit t n weighted) s = record { charge = refl; covers = λ w h. h; lists = λ h t. absurd t }
+splits code ticks (Enter slice) s = record { charge = refl; covers = λ w h. h; lists = λ h t. absurd t }
+splits code ticks (Next n to) s = record { charge = omega arith; covers = λ w h. h; lists = λ h t. list_there s.lists h.1 }
+splits code ticks Leave s = record { charge = refl; covers = λ w h. h; lists = λ h t. absurd t }
+splits code ticks (Meets to) s = record { charge = refl; covers = λ w h. h; lists = λ h t. absurd t }
+splits code ticks (Fails to) s = record { charge = refl; covers = λ w h. h; lists = λ h t. absurd t }
+
+module _ (code : Code) (line : Line) (old : Held) (a b : Around) where
+  -- what is done once all ticks were taken
+  then_acts : (m : Option World) → charged code line (state_of old a) m
+      ≡ when_paid line.place m (λ w. act code line.instr line.place (record (state_of old a) { world = w }))
+  then_acts None = refl
+  then_acts (Some w) = refl
+
+  -- the line is done in place, with so many ticks left once its charge is taken
+  with_left : (left : ℕ) (new : Held) (next : Going)
+      → spend (base_charge line.charge line.instr old.calls.lists) (world_of old) ≡ Some (world left old.emits)
+      → DoesFromTo a b (weighs_and_acts code line.instr) (record old { left = left }) next new
+      → does code line (state_of old a) ≡ leads next line.place b new
+  with_left left new next spent acts =
+      let ticks = base_charge line.charge line.instr old.calls.lists in
+      let weight = weight_added code line.instr old.operands in
+      let split = splits code line.charge line.instr (state_of old a) in
+      let taken = ap (λ n. spend n (world_of old)) split.charge ∙ spend_more ticks weight old.left left old.emits old.emits spent in
+      ap (charged code line (state_of old a)) taken ∙ then_acts (spend weight (world left old.emits)) ∙ acts line.place
+
+  pub step_does : (mid new : Held) (next : Going) → Paid (base_charge line.charge line.instr old.calls.lists) old true mid
+      → DoesFromTo a b (weighs_and_acts code line.instr) mid next new → does code line (state_of old a) ≡ leads next line.place b new
+  step_does mid new next paid acts =
+      let ticks = base_charge line.charge line.instr old.calls.lists in
+      with_left mid.left new next (subst (λ h. spend ticks (world_of old) ≡ Some (world_of h)) paid.kept paid.spent)
+      (subst (λ h. DoesFromTo a b (weighs_and_acts code line.instr) h next new) paid.kept acts)
+
+  -- its row covers the state whose charge is taken
+  pub still_covered : (mid : Held) → Paid (base_charge line.charge line.instr old.calls.lists) old true mid → Covers code line.instr (state_of old a)
+      → Covers code line.instr (state_of mid a)
+  still_covered mid paid h =
+      subst (λ held. Covers code line.instr (state_of held a)) (sym paid.kept)
+      ((splits code line.charge line.instr (state_of old a)).covers (world mid.left old.emits) h)
+
+  -- what the line that is there does, each line there does
+  line_does : (new : Held) (next : Going) → slice_get code.lines a.at ≡ Some line → does code line (state_of old a) ≡ leads next line.place b new
+      → LineDoes code a b old next new
+  line_does new next found e l is =
+      let same : line ≡ l = ap (λ o. unwrap_or o line) (sym found ∙ is) in
+      subst (λ k. does code k (state_of old a) ≡ leads next k.place b new) same e
+
+  -- a line whose charge is there goes on by its instruction
+  pub line_goes : (mid new : Held) (next : Going) → slice_get code.lines a.at ≡ Some line
+      → Paid (base_charge line.charge line.instr old.calls.lists) old true mid → DoesFromTo a b (weighs_and_acts code line.instr) mid next new
+      → LineDoes code a b old next new
+  line_goes mid new next found paid acts = line_does new next found (step_does mid new next paid acts)

@@ -1,0 +1,32 @@
+-- The run begins in the first state, and each of its ends is that of the definition.
+use Rattle.std.proofs.Common.{rules, ◌≡◌, Some, refl, subst}
+use Rattle.std.proofs.lemmas.Result.{IfOk-weaker}
+use Rattle.sz_value.specs.Data.{bytes}
+use Rattle.sz_world_rules.specs.World.{new_world}
+use Rattle.sz_machine_rules.specs.Runs.{EndsRecord}
+use Rattle.sz_machine.specs.Acting.{state_of, in_record}
+use Rattle.sz_machine.specs.Ends.{seen_end}
+use Rattle.sz_machine.specs.CodeRuns.{OfEnds}
+use Rattle.sz_machine.proofs.RunLemmas.{begun, record_ends, record_outcome}
+use Rattle.sz_machine.proofs.code_run.Room.run.Goals as goal
+
+pub run_record-requires : goal.run_record-requires
+run_record-requires c =
+    let is : c.begin.new.self ≡ begun c.args.code.now.main (new_world c.args.budget) = search rules in
+    let record_is : c.set_bytes.new.self ≡ Some (bytes c.args.input.now) = search rules in
+    record {
+      there = rw record_is refl;
+      ends = rw record_is (record_ends c.args.code.now c.args.input.now c.args.statics.now c.args.budget c.begin.new.self is c.requires.ends);
+    }
+
+pub returns : goal.returns
+returns c =
+    let is : c.begin.new.self ≡ begun c.args.code.now.main (new_world c.args.budget) = search rules in
+    let record_is : c.set_bytes.new.self ≡ Some (bytes c.args.input.now) = search rules in
+    record {
+      value = λ o runs. IfOk-weaker c.run_record.result _ _
+          (λ end ends. record_outcome c.args.code.now c.args.input.now c.args.statics.now c.args.budget c.begin.new.self is (seen_end end) o runs
+          (subst (λ r. OfEnds c.args.code.now (state_of c.begin.new.self (in_record c.args.code.now.main.entry c.args.statics.now r)) (λ x. EndsRecord x (seen_end end)))
+          record_is ends))
+          c.run_record.ensures.value;
+    }

@@ -1,5 +1,0 @@
-use Rattle.sz_machine.proofs.EmitsFit.{emits_fit}
-use Rattle.sz_machine.proofs.laws.a_run_emits_what_fits.Goals as goal
-
-pub returns : goal.returns
-returns c = record { fit = emits_fit }

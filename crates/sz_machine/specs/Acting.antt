@@ -1,0 +1,138 @@
+-- What contracts see of a run in place, and what a line has done to it.
+use Rattle.std.specs.Prelude.{◌≡◌, ℕ, suc, List, ◌∷◌, Option, Some, None, Bool, true, false}
+use Rattle.sz_types.specs.declared.place.Place.{Place}
+use Rattle.sz_instr.specs.declared.instr.Instr.{Instr}
+use Rattle.sz_instr.specs.declared.instr.Instr.TheVariants.{Static, Input, KeepStatic, Next as NextCandidate}
+use Rattle.sz_instr.specs.declared.instr.Instr.TheVariants.{Unary, Apply, Convert, Decode, MakeArray, MakeTuple, MakeMap, Index, Slice, Field}
+use Rattle.sz_instr.specs.declared.instr.Instr.TheVariants.{Def, Call, Return, Discard, Enter, Leave, Meets, Fails}
+use Rattle.sz_instr.specs.declared.code.Code.{Code}
+use Rattle.sz_value.specs.Data.{Datum}
+use Rattle.sz_world_rules.specs.World.{World, spend, budget_passed}
+use Rattle.sz_world_rules.specs.Slots.{Slot}
+use Rattle.sz_machine_rules.specs.States.{State, After, Goes, Halts, faults}
+use Rattle.sz_machine_rules.specs.Rows.{act}
+use Rattle.sz_machine_rules.specs.Covering.{Covers}
+use Rattle.sz_machine_rules.specs.Runs.{weight_added, candidate_charge}
+use Rattle.sz_machine.specs.declared.held.Held.{Held}
+use Rattle.sz_machine.specs.declared.held.Next.{Next}
+use Rattle.sz_machine.specs.declared.held.Next.TheVariants.{On, To, End, Fault}
+
+-- what a run in place has around it: the place of the next line, the statics, and the record
+pub record Around : Type 0 where
+  pub at : ℕ
+  pub statics : List Slot
+  pub input : Slot
+
+-- the world of a run in place
+abbrev pub world_of : Held → World
+world_of h = record { left = h.left; emits = h.emits }
+
+-- the state of the machine that a run in place stands for
+abbrev pub state_of : Held → Around → State
+state_of h a = record {
+  at = a.at;
+  stack = h.operands;
+  locals = h.calls.locals;
+  lists = h.calls.lists;
+  callers = h.calls.callers;
+  statics = a.statics;
+  input = a.input;
+  world = world_of h;
+}
+
+-- what follows once ticks were taken, or the fault where they weren't left
+abbrev pub when_paid : Place → Option World → (World → After) → After
+when_paid place None go = faults budget_passed place
+when_paid place (Some w) go = go w
+
+-- what an instruction does, the charge of its line being taken, but not yet the weight of its result
+abbrev pub weighs_and_acts : Code → Instr → Place → State → After
+weighs_and_acts code instr place s =
+    when_paid place (spend (weight_added code instr s.stack) s.world) (λ w. act code instr place (record s { world = w }))
+
+-- what a run in place leads to: it goes on behind the line or at a place, it ends, or it faults
+abbrev pub leads : Next → Place → Around → Held → After
+leads On place a h = Goes (state_of h (record a { at = suc a.at }))
+leads (To at) place a h = Goes (state_of h (record a { at = at }))
+leads End place a h = Halts (world_of h) a.statics
+leads (Fault kind) place a h = faults kind place
+
+-- whatever is around it, and wherever in the text, the old run in place leads by this to the new one
+abbrev pub Does : (Place → State → After) → Held → Next → Held → Type 0
+Does row old next new = (place : Place) (a : Around) → row place (state_of old a) ≡ leads next place a new
+
+-- the world, if ticks were taken
+abbrev pub paid_world : Bool → World → Option World
+paid_world true w = Some w
+paid_world false w = None
+
+-- the same from these surroundings to those
+abbrev pub DoesFromTo : Around → Around → (Place → State → After) → Held → Next → Held → Type 0
+DoesFromTo a b row old next new = (place : Place) → row place (state_of old a) ≡ leads next place b new
+
+-- the same where this holds of what is around it
+abbrev pub DoesWhere : (Around → Type 0) → (Place → State → After) → Held → Next → Held → Type 0
+DoesWhere holds row old next new = (place : Place) (a : Around) → holds a → row place (state_of old a) ≡ leads next place a new
+
+-- so many ticks were taken, or weren't there
+pub record Paid (ticks : ℕ) (old : Held) (paid : Bool) (new : Held) : Type 0 where
+  pub spent : spend ticks (world_of old) ≡ paid_world paid (world_of new)
+  pub kept : new ≡ record old { left = new.left }
+
+-- the ticks that a line takes before its result weighs anything: no charge where no candidate is left
+abbrev pub base_charge : ℕ → Instr → List (List Datum) → ℕ
+base_charge charge (NextCandidate n to) lists = candidate_charge lists charge
+base_charge charge _ lists = charge
+
+-- a result is left on the operands, its weight being taken
+abbrev pub results : ℕ → Slot → Place → State → After
+results weight made place s =
+    when_paid place (spend weight s.world) (λ w. Goes (record s { at = suc s.at; stack = made ∷ s.stack; world = w }))
+
+-- the instruction has to do with the operands, the locals and the calls alone
+abbrev pub IsInside : Instr → Type 0
+IsInside (Static n) = ⊥
+IsInside Input = ⊥
+IsInside (KeepStatic n) = ⊥
+IsInside _ = Unit {0}
+
+-- the instruction is none of those that the loop over the lines has in line
+abbrev pub IsApart : Instr → Type 0
+IsApart (Unary op) = Unit {0}
+IsApart (Apply which) = Unit {0}
+IsApart (Convert ty) = Unit {0}
+IsApart (Decode ty) = Unit {0}
+IsApart (MakeArray count) = Unit {0}
+IsApart (MakeTuple count) = Unit {0}
+IsApart (MakeMap count) = Unit {0}
+IsApart Index = Unit {0}
+IsApart Slice = Unit {0}
+IsApart (Field n) = Unit {0}
+IsApart Def = Unit {0}
+IsApart (Call function) = Unit {0}
+IsApart Return = Unit {0}
+IsApart Discard = Unit {0}
+IsApart (Enter slice) = Unit {0}
+IsApart (NextCandidate n to) = Unit {0}
+IsApart Leave = Unit {0}
+IsApart (Meets to) = Unit {0}
+IsApart (Fails to) = Unit {0}
+IsApart _ = ⊥
+
+-- its row covers the run in place, whatever is around it but for the place of the line
+pub record IsCovered (code : Code) (instr : Instr) (h : Held) : Type 0 where
+  pub around : Around
+  pub covers : Covers code instr (state_of h around)
+
+-- around the run for a record
+abbrev pub in_record : ℕ → List Slot → Slot → Around
+in_record at statics input = record { at = at; statics = statics; input = input }
+
+-- around the run of a static
+abbrev pub in_static : ℕ → List Slot → Around
+in_static at statics = record { at = at; statics = statics; input = None }
+
+-- the instruction takes a candidate
+abbrev pub TakesCandidate : Instr → Type 0
+TakesCandidate (NextCandidate n to) = Unit {0}
+TakesCandidate _ = ⊥

@@ -1,0 +1,31 @@
+-- Emits whose parts are at hand.
+use Rattle.std.specs.Prelude.{ℕ, suc, ◌+◌, List, [], ◌∷◌, drop, Option, Some, None}
+use Rattle.sz_types.specs.declared.place.Place.{Place}
+use Rattle.sz_value.specs.Data.{Datum}
+use Rattle.sz_value.specs.Weight.{weight_of}
+use Rattle.sz_world_rules.specs.World.{spend}
+use Rattle.sz_world_rules.specs.Slots.{Slot, all_defined}
+use Rattle.sz_world_rules.specs.Ticks.{weight_of_all}
+use Rattle.sz_world_rules.specs.Emits.{emit_by_weight, with_emit}
+use Rattle.sz_machine_rules.specs.States.{State, After, Goes, Stuck, popped}
+use Rattle.sz_machine.specs.Acting.{when_paid}
+
+-- what the parts of an emit add, if they are all there
+abbrev pub parts_weight : Option (List Datum) → Slot → Option Slot → ℕ
+parts_weight (Some ds) (Some value) None = weight_of_all ds + weight_of value
+parts_weight (Some ds) (Some value) (Some (Some w)) = weight_of_all ds + weight_of value + weight_of w
+parts_weight _ _ _ = 0
+
+-- these parts are emitted, if they are all there, and their weight is taken
+abbrev pub emits_parts : ℕ → Option (List Datum) → Slot → Option Slot → Place → State → After
+emits_parts table indexes value weight place s =
+    when_paid place (spend (parts_weight indexes value weight) s.world)
+    (λ w. Goes (record s { at = suc s.at; world = with_emit (emit_by_weight table indexes value weight) w }))
+
+-- the same of a value and so many indexes on the operands
+abbrev pub emits_on_top : ℕ → ℕ → Option Slot → Place → State → After
+emits_on_top table indexes weight place s = by s.stack
+  where
+    by : List Slot → After
+    by [] = Stuck
+    by (x ∷ stack) = emits_parts table (all_defined (popped indexes stack)) x weight place (record s { stack = drop indexes stack })

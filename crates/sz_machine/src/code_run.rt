@@ -1,0 +1,274 @@
+//! Runs of code.
+ghost use Rattle.std.specs.Prelude.{◌≡◌, ◌≤◌, ◌<◌, ◌^◌, IfOk, OnOk, [], true, length, slice_get, Some, IsSome, List, Option};
+ghost use Rattle.sz_value.specs.Data.{Datum};
+ghost use Rattle.sz_tabs.specs.Data.{EmitDatum};
+ghost use Rattle.sz_world_rules.specs.World.{Outcome};
+ghost use Rattle.sz_world_rules.specs.Slots.{undefined_slots};
+ghost use Rattle.sz_instr.specs.WellFormed.{is_well_formed};
+ghost use Rattle.sz_machine_rules.specs.Runs.{EndsRecord, RunsTo, StaticsRunTo};
+ghost use Rattle.sz_machine.specs.Acting.{state_of, world_of, in_record, in_static};
+ghost use Rattle.sz_machine.specs.Ends.{seen_end, seen_statics_end, RunEnds, StaticsRunEnds};
+ghost use Rattle.sz_machine.specs.CodeRuns.{Ends, OfEnds, EndsSo, LineDoes};
+
+use crate::ends::{Fault, RunEnd, StaticsEnd};
+use crate::held::{BUDGET_PASSED, Held, Next};
+use std::alloc::Global;
+use std::mem;
+use sz_instr::{Code, Line, Routine};
+use sz_machine_cells::{Calls, Cell, Operands};
+use sz_tabs::Emits;
+use sz_value::{NoMemory, Slot, Slots};
+
+/// Room for runs: what a run has at hand lies in it, and the memory that one run took is kept for the next.
+pub struct Room {
+    alloc: Global,
+    held: Held,
+    input: Cell,
+}
+
+impl Drop for Room {
+    fn drop(self) {
+        let Room {
+            alloc: _,
+            held: _,
+            input: _,
+        } = self;
+    }
+}
+
+impl Room {
+    /// No room yet, which takes no memory.
+    pub fn new(alloc: Global) -> Room {
+        Room {
+            alloc,
+            held: Held::new(alloc, 0),
+            input: Cell::undefined(),
+        }
+    }
+
+    /// Runs the code for a record as `run` does, in this room.
+    pub fn run(
+        &mut self,
+        code: &Code,
+        input: &[u8],
+        statics: &Slots,
+        budget: u64,
+    ) -> Result<RunEnd, NoMemory>
+        requires formed { is_well_formed code.now ≡ true }
+        requires least { 1 ≤ budget }
+        requires most { budget ≤ 2 ^ 32 }
+        requires ends { RunEnds code.now input.now statics.now budget }
+        ensures value { (o : Outcome (List EmitDatum)) → RunsTo code.now input.now statics.now budget o → IfOk result (λ end. seen_end end ≡ o) }
+    {
+        self.held.renew(budget);
+        self.held.begin(&code.main)?;
+        self.input.set_bytes(self.alloc, input)?;
+        self.held
+            .run_record(self.alloc, code, statics, &self.input, code.main.entry)
+    }
+
+    /// Gives the list of a run's emits back, so that the next run needs no memory for its own.
+    pub fn take_back(&mut self, emits: Emits) {
+        self.held.emits = emits;
+    }
+}
+
+impl Held {
+    /// Nothing in place yet but so many ticks, which takes no memory.
+    fn new(alloc: Global, budget: u64) -> Held
+        ensures value { result ≡ record { operands = []; calls = record { locals = []; lists = []; callers = [] }; emits = []; left = budget } }
+    {
+        Held {
+            operands: Operands::new(alloc),
+            calls: Calls::new(alloc),
+            emits: Emits::new(alloc),
+            left: budget,
+        }
+    }
+
+    /// Forgets the emits, and has so many ticks. The room is kept.
+    fn renew(&mut self, budget: u64)
+        ensures value { self.new ≡ record self.old { emits = []; left = budget } }
+    {
+        self.emits.truncate(0);
+        self.left = budget;
+    }
+
+    /// Begins the routine without operands. The room is kept.
+    fn begin(&mut self, routine: &Routine) -> Result<(), NoMemory>
+        ensures value { OnOk result (self.new ≡ record self.old {
+          operands = [];
+          calls = record { locals = undefined_slots routine.now.locals; lists = []; callers = [] };
+        }) }
+    {
+        self.operands.clear();
+        self.calls.begin(routine.locals)
+    }
+
+    /// What the line at a place does in the run for a record.
+    #[inline(always)]
+    fn step_in_record(
+        &mut self,
+        alloc: Global,
+        code: &Code,
+        statics: &Slots,
+        input: &Cell,
+        at: usize,
+    ) -> Result<Next, NoMemory>
+        requires there { IsSome input.now }
+        requires ends { Ends code.now (state_of self.old (in_record at statics.now input.now)) }
+        ensures value { IfOk result (λ next.
+            LineDoes code.now (in_record at statics.now input.now) (in_record at statics.now input.now) self.old next self.new) }
+    {
+        let line = line_at(code, at);
+        let charge = self.base_charge(line.charge, &line.instr);
+        if !self.pay(charge) {
+            return Ok(Next::Fault(BUDGET_PASSED));
+        }
+        self.act_in_record(alloc, code, statics, input, at, &line.instr)
+    }
+
+    /// What the line at a place does in the run of a static.
+    fn step_in_static(
+        &mut self,
+        alloc: Global,
+        code: &Code,
+        statics: &mut Slots,
+        at: usize,
+    ) -> Result<Next, NoMemory>
+        requires ends { Ends code.now (state_of self.old (in_static at statics.old)) }
+        ensures value { IfOk result (λ next.
+            LineDoes code.now (in_static at statics.old) (in_static at statics.new) self.old next self.new) }
+    {
+        let line = line_at(code, at);
+        let charge = self.base_charge(line.charge, &line.instr);
+        if !self.pay(charge) {
+            return Ok(Next::Fault(BUDGET_PASSED));
+        }
+        self.act_in_static(alloc, code, statics, at, &line.instr)
+    }
+
+    /// The run for a record from a place to its end.
+    fn run_record(
+        &mut self,
+        alloc: Global,
+        code: &Code,
+        statics: &Slots,
+        input: &Cell,
+        start: usize,
+    ) -> Result<RunEnd, NoMemory>
+        requires there { IsSome input.now }
+        requires ends { Ends code.now (state_of self.old (in_record start statics.now input.now)) }
+        ensures value { IfOk result (λ end.
+            OfEnds code.now (state_of self.old (in_record start statics.now input.now)) (λ x. EndsRecord x (seen_end end))) }
+    {
+        let mut at = start;
+        for _ in 0..u64::MAX {
+            let line = line_at(code, at);
+            match self.step_in_record(alloc, code, statics, input, at)? {
+                Next::On => at += 1,
+                Next::To(to) => at = to,
+                Next::End => return Ok(RunEnd::Done(mem::replace(
+                    &mut self.emits,
+                    Emits::new(alloc),
+                ))),
+                Next::Fault(kind) => return Ok(RunEnd::Fault(Fault {
+                    kind,
+                    place: line.place,
+                })),
+            }
+        }
+        Err(NoMemory)
+    }
+
+    /// The run of a static from a place to its end: the fault, if it ends in one.
+    fn run_static(
+        &mut self,
+        alloc: Global,
+        code: &Code,
+        statics: &mut Slots,
+        start: usize,
+    ) -> Result<Option<Fault>, NoMemory>
+        requires ends { Ends code.now (state_of self.old (in_static start statics.old)) }
+        ensures value { IfOk result (λ fault.
+            OfEnds code.now (state_of self.old (in_static start statics.old)) (EndsSo fault (world_of self.new) statics.new)) }
+    {
+        let mut at = start;
+        for _ in 0..u64::MAX {
+            let line = line_at(code, at);
+            match self.step_in_static(alloc, code, statics, at)? {
+                Next::On => at += 1,
+                Next::To(to) => at = to,
+                Next::End => return Ok(None),
+                Next::Fault(kind) => return Ok(Some(Fault {
+                    kind,
+                    place: line.place,
+                })),
+            }
+        }
+        Err(NoMemory)
+    }
+}
+
+// The line at a place.
+#[inline(always)]
+fn line_at(code: &Code, at: usize) -> &Line
+    requires within { at < length code.now.lines }
+    ensures value { slice_get code.now.lines at ≡ Some result.now }
+    ensures room { at < usize.MAX }
+{
+    &code.lines.as_slice()[at]
+}
+
+// So many undefined slots.
+fn undefined(alloc: Global, count: usize) -> Result<Slots, NoMemory>
+    ensures value { IfOk result (λ slots. slots ≡ undefined_slots count) }
+{
+    let mut slots = Slots::with_capacity(alloc, count)?;
+    for _ in 0..count {
+        slots.push(Slot::Undefined)?;
+    }
+    Ok(slots)
+}
+
+/// Runs the code for a record of these bytes, with these statics and `budget` ticks.
+///
+/// A run of more than 2^64 - 1 lines, which would take centuries, is given up like one without memory.
+pub fn run(
+    alloc: Global,
+    code: &Code,
+    input: &[u8],
+    statics: &Slots,
+    budget: u64,
+) -> Result<RunEnd, NoMemory>
+    requires formed { is_well_formed code.now ≡ true }
+    requires least { 1 ≤ budget }
+    requires most { budget ≤ 2 ^ 32 }
+    requires ends { RunEnds code.now input.now statics.now budget }
+    ensures value { (o : Outcome (List EmitDatum)) → RunsTo code.now input.now statics.now budget o → IfOk result (λ end. seen_end end ≡ o) }
+{
+    Room::new(alloc).run(code, input, statics, budget)
+}
+
+/// Runs the code that computes the statics, all of them with `budget` ticks.
+///
+/// A run of more than 2^64 - 1 lines, which would take centuries, is given up like one without memory.
+pub fn run_statics(alloc: Global, code: &Code, budget: u64) -> Result<StaticsEnd, NoMemory>
+    requires formed { is_well_formed code.now ≡ true }
+    requires least { 1 ≤ budget }
+    requires most { budget ≤ 2 ^ 32 }
+    requires ends { StaticsRunEnds code.now budget }
+    ensures value { (o : Outcome (List (Option Datum))) → StaticsRunTo code.now budget o → IfOk result (λ end. seen_statics_end end ≡ o) }
+{
+    let mut held = Held::new(alloc, budget);
+    let count = code.statics.len();
+    let mut statics = undefined(alloc, count)?;
+    for i in 0..count {
+        let routine = code.statics.get(i);
+        held.begin(routine)?;
+        if let Some(fault) = held.run_static(alloc, code, &mut statics, routine.entry)? {
+            return Ok(StaticsEnd::Fault(fault));
+        }
+    }
+    Ok(StaticsEnd::Done(statics))
+}

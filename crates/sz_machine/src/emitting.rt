@@ -1,0 +1,231 @@
+//! Emits.
+ghost use Rattle.std.specs.Prelude.{◌≡◌, ◌+◌, ◌<◌, ◌≤◌, ◌∷◌, length, drop, map, false, IfOk, Some, None, Option, List, []};
+ghost use Rattle.sz_instr.specs.declared.code.Code.{Code};
+ghost use Rattle.sz_instr.specs.declared.instr.Instr.TheVariants as instr;
+ghost use Rattle.sz_value.specs.Seen.{seen};
+ghost use Rattle.sz_value.specs.Data.{Datum, int};
+ghost use Rattle.sz_value.specs.Weight.{weight_of};
+ghost use Rattle.sz_world_rules.specs.Ticks.{weight_of_all};
+ghost use Rattle.sz_world_rules.specs.Emits.{weight_number};
+ghost use Rattle.sz_machine_rules.specs.Rows.{emit_operands};
+ghost use Rattle.sz_machine.specs.Acting.{Paid, Does, weighs_and_acts};
+ghost use Rattle.sz_machine.specs.Emitting.{emits_parts, emits_on_top};
+
+use crate::held::{BUDGET_PASSED, Held, Next, again};
+use std::alloc::Global;
+use std::mem;
+use sz_machine_cells::Cell;
+use sz_tabs::{Emit, Emits};
+use sz_value::{List, NoMemory, Value, weight};
+
+impl Held {
+    /// Pops the parts of an emit to the table, and emits them if all are defined. A whole number alone is emitted in line.
+    #[inline(always)]
+    pub fn emit(
+        &mut self,
+        alloc: Global,
+        table: u32,
+        indexes: u32,
+        weighted: bool,
+    ) -> Result<Next, NoMemory>
+        requires within { emit_operands indexes weighted ≤ length self.old.operands }
+        ensures value { (code : Code) → IfOk result (λ next. Does (weighs_and_acts code (instr.Emit table indexes weighted)) self.old next self.new) }
+    {
+        if weighted {
+            return self.emit_apart(alloc, table, indexes, weighted);
+        }
+        if indexes != 0 {
+            return self.emit_apart(alloc, table, indexes, weighted);
+        }
+        match self.operands.top().int() {
+            Some(number) => self.emit_top(alloc, table, number),
+            None => self.emit_apart(alloc, table, indexes, weighted),
+        }
+    }
+
+    // Pops a whole number and emits it, with neither indexes nor a weight.
+    #[inline(always)]
+    fn emit_top(&mut self, alloc: Global, table: u32, number: i64) -> Result<Next, NoMemory>
+        requires top { self.old.operands ≡ Some (int number) ∷ drop 1 self.old.operands }
+        ensures value { (code : Code) → IfOk result (λ next. Does (weighs_and_acts code (instr.Emit table 0 false)) self.old next self.new) }
+    {
+        self.operands.drop_top(1);
+        self.emit_number(alloc, table, number)
+    }
+
+    // The same of any parts, with the answer made anew.
+    #[inline(always)]
+    fn emit_apart(
+        &mut self,
+        alloc: Global,
+        table: u32,
+        indexes: u32,
+        weighted: bool,
+    ) -> Result<Next, NoMemory>
+        requires within { emit_operands indexes weighted ≤ length self.old.operands }
+        ensures value { (code : Code) → IfOk result (λ next. Does (weighs_and_acts code (instr.Emit table indexes weighted)) self.old next self.new) }
+    {
+        again(self.emit_any(alloc, table, indexes, weighted))
+    }
+
+    // The same of any parts.
+    #[inline(never)]
+    fn emit_any(
+        &mut self,
+        alloc: Global,
+        table: u32,
+        indexes: u32,
+        weighted: bool,
+    ) -> Result<Next, NoMemory>
+        requires within { emit_operands indexes weighted ≤ length self.old.operands }
+        ensures value { (code : Code) → IfOk result (λ next. Does (weighs_and_acts code (instr.Emit table indexes weighted)) self.old next self.new) }
+    {
+        if weighted {
+            let weight = self.operands.pop();
+            self.emit_on_top(alloc, table, indexes, Some(weight))
+        } else {
+            self.emit_on_top(alloc, table, indexes, None)
+        }
+    }
+
+    // Emits a whole number, which weighs one tick. The vector behind the list is taken out for the push, which then stands in line: the
+    // emit is written where it stays, and not copied there.
+    #[inline(always)]
+    fn emit_number(&mut self, alloc: Global, table: u32, number: i64) -> Result<Next, NoMemory>
+        ensures value { IfOk result (λ next. Does (emits_parts table (Some []) (Some (int number)) None) self.old next self.new) }
+    {
+        if !self.pay(1) {
+            return Ok(Next::Fault(BUDGET_PASSED));
+        }
+        let mut emits = mem::replace(&mut self.emits, Emits::new(alloc)).into_vec();
+        emits.push(Emit {
+            table,
+            indexes: List::new(alloc),
+            value: Value::Int(number),
+            weight: None,
+        })?;
+        self.emits = Emits::from_vec(emits);
+        Ok(Next::On)
+    }
+
+    // Pops the value and the indexes of an emit with this weight.
+    fn emit_on_top(
+        &mut self,
+        alloc: Global,
+        table: u32,
+        indexes: u32,
+        weight: Option<Cell>,
+    ) -> Result<Next, NoMemory>
+        requires within { indexes + 1 ≤ length self.old.operands }
+        ensures value { IfOk result (λ next. Does (emits_on_top table indexes weight) self.old next self.new) }
+    {
+        let value = self.operands.pop();
+        let indexes = self.operands.pop_values(alloc, indexes as usize)?;
+        self.emit_parts(alloc, table, indexes, value, weight)
+    }
+
+    // Emits these parts, if they are all there.
+    #[tactic(auto, using(crate::proofs::EmitLemmas::no_indexes, crate::proofs::EmitLemmas::no_value))]
+    fn emit_parts(
+        &mut self,
+        alloc: Global,
+        table: u32,
+        indexes: Option<List>,
+        value: Cell,
+        weight: Option<Cell>,
+    ) -> Result<Next, NoMemory>
+        ensures value { IfOk result (λ next. Does (emits_parts table indexes value weight) self.old next self.new) }
+    {
+        let Some(indexes) = indexes else {
+            return Ok(Next::On);
+        };
+        let Some(value) = value.into_value(alloc)? else {
+            return Ok(Next::On);
+        };
+        match weight {
+            None => self.emit_plain(table, indexes, value),
+            Some(weight) => match weight.into_value(alloc)? {
+                Some(weight) => self.emit_weighted(table, indexes, value, &weight),
+                None => Ok(Next::On),
+            },
+        }
+    }
+
+    // Emits a value under indexes.
+    fn emit_plain(&mut self, table: u32, indexes: List, value: Value) -> Result<Next, NoMemory>
+        ensures value { IfOk result (λ next. Does (emits_parts table (Some indexes) (Some (seen value)) None) self.old next self.new) }
+    {
+        if !self.pay_parts(&indexes, &value) {
+            return Ok(Next::Fault(BUDGET_PASSED));
+        }
+        self.emits.push(Emit {
+            table,
+            indexes,
+            value,
+            weight: None,
+        })?;
+        Ok(Next::On)
+    }
+
+    // Emits a value under indexes with a weight.
+    fn emit_weighted(
+        &mut self,
+        table: u32,
+        indexes: List,
+        value: Value,
+        given: &Value,
+    ) -> Result<Next, NoMemory>
+        ensures value { IfOk result (λ next.
+            Does (emits_parts table (Some indexes) (Some (seen value)) (Some (Some (seen given.now)))) self.old next self.new) }
+    {
+        if !self.pay_weighted(&indexes, &value, given) {
+            return Ok(Next::Fault(BUDGET_PASSED));
+        }
+        if let Some(weight) = weight_number(given) {
+            self.emits.push(Emit {
+                table,
+                indexes,
+                value,
+                weight: Some(weight),
+            })?;
+        }
+        Ok(Next::On)
+    }
+
+    // Takes what the indexes, the value and the weight weigh.
+    #[tactic(auto, using(crate::proofs::PayLemmas::paid_more, crate::proofs::PayLemmas::paid_less))]
+    fn pay_weighted(&mut self, indexes: &List, value: &Value, given: &Value) -> bool
+        ensures value { Paid (weight_of_all indexes.now + weight_of (seen value.now) + weight_of (seen given.now)) self.old result self.new }
+    {
+        self.pay_parts(indexes, value) && self.pay(weight(given))
+    }
+
+    // Takes what the indexes and the value weigh.
+    #[tactic(auto, using(crate::proofs::PayLemmas::paid_more, crate::proofs::PayLemmas::paid_less))]
+    fn pay_parts(&mut self, indexes: &List, value: &Value) -> bool
+        ensures value { Paid (weight_of_all indexes.now + weight_of (seen value.now)) self.old result self.new }
+    {
+        self.pay_all(indexes.as_slice()) && self.pay(weight(value))
+    }
+
+    // Takes what all of the values weigh.
+    #[tactic(auto, using(crate::proofs::PayLemmas::paid_more, crate::proofs::PayLemmas::paid_less))]
+    fn pay_all(&mut self, values: &[Value]) -> bool
+        ensures value { Paid (weight_of_all (map seen values.now)) self.old result self.new }
+    {
+        match values {
+            [] => true,
+            [first, rest @ ..] => self.pay(weight(first)) && self.pay_all(rest),
+        }
+    }
+}
+
+// The number that a weight is.
+fn weight_number(value: &Value) -> Option<i64>
+    ensures value { result ≡ weight_number (Some (seen value.now)) }
+{
+    match value {
+        Value::Int(number) | Value::Time(number) => Some(*number),
+        _ => None,
+    }
+}

@@ -1,0 +1,169 @@
+//! What instructions do to the place of the next line: tests, calls and candidates.
+ghost use Rattle.std.specs.Prelude.{◌≡◌, ◌<◌, ◌≤◌, length, Some, IfOk};
+ghost use Rattle.sz_instr.specs.declared.code.Code.{Code};
+ghost use Rattle.sz_instr.specs.declared.instr.Instr.TheVariants as instr;
+ghost use Rattle.sz_machine_rules.specs.Rows.{act, call_routine};
+ghost use Rattle.sz_machine.specs.Acting.{Around, Does, DoesWhere};
+
+use crate::held::{CALLS_TOO_DEEP, Held, Next, UNDEFINED_USED};
+use std::alloc::Global;
+use sz_instr::Routine;
+use sz_machine_cells::{Candidates, Cell};
+use sz_value::NoMemory;
+
+// How many calls can be open.
+const MOST_OPEN_CALLS: usize = 128;
+
+impl Held {
+    /// Pops a slot and goes to the place where it is false.
+    #[inline(always)]
+    pub fn test(&mut self, to: usize) -> Next
+        requires some { 0 < length self.old.operands }
+        ensures value { (code : Code) → Does (act code (instr.Test to)) self.old result self.new }
+    {
+        let x = self.operands.pop();
+        match x.truth() {
+            Some(true) => Next::On,
+            _ if x.is_defined() => Next::To(to),
+            _ => Next::Fault(UNDEFINED_USED),
+        }
+    }
+
+    /// Goes to the place where the slot on top isn't true, and leaves it; else pops it.
+    #[inline(always)]
+    pub fn and_test(&mut self, to: usize) -> Next
+        requires some { 0 < length self.old.operands }
+        ensures value { (code : Code) → Does (act code (instr.AndTest to)) self.old result self.new }
+    {
+        match self.operands.top().truth() {
+            Some(true) => {
+                self.operands.pop();
+                Next::On
+            }
+            _ => Next::To(to),
+        }
+    }
+
+    /// Goes to the place where the slot on top isn't false, and leaves it; else pops it.
+    #[inline(always)]
+    pub fn or_test(&mut self, to: usize) -> Next
+        requires some { 0 < length self.old.operands }
+        ensures value { (code : Code) → Does (act code (instr.OrTest to)) self.old result self.new }
+    {
+        match self.operands.top().truth() {
+            Some(false) => {
+                self.operands.pop();
+                Next::On
+            }
+            _ => Next::To(to),
+        }
+    }
+
+    /// Pops a slot, and goes to the place unless it is true.
+    #[inline(never)]
+    pub fn meets(&mut self, to: usize) -> Next
+        requires some { 0 < length self.old.operands }
+        ensures value { (code : Code) → Does (act code (instr.Meets to)) self.old result self.new }
+    {
+        let x = self.operands.pop();
+        match x.truth() {
+            Some(true) => Next::On,
+            _ => Next::To(to),
+        }
+    }
+
+    /// Pops a slot, and goes to the place where it is false.
+    #[inline(never)]
+    pub fn fails(&mut self, to: usize) -> Next
+        requires some { 0 < length self.old.operands }
+        ensures value { (code : Code) → Does (act code (instr.Fails to)) self.old result self.new }
+    {
+        let x = self.operands.pop();
+        match x.truth() {
+            Some(false) => Next::To(to),
+            _ => Next::On,
+        }
+    }
+
+    /// Pops a slot, which is to be defined.
+    #[inline(never)]
+    pub fn discard(&mut self) -> Next
+        requires some { 0 < length self.old.operands }
+        ensures value { (code : Code) → Does (act code instr.Discard) self.old result self.new }
+    {
+        let x = self.operands.pop();
+        if x.is_defined() {
+            Next::On
+        } else {
+            Next::Fault(UNDEFINED_USED)
+        }
+    }
+
+    /// Enters the routine with its arguments, from the line at a place, unless one of them is undefined.
+    #[inline(never)]
+    pub fn call(&mut self, routine: &Routine, at: usize) -> Result<Next, NoMemory>
+        requires within { routine.now.params ≤ length self.old.operands }
+        requires room { at < usize.MAX }
+        ensures value { IfOk result (λ next.
+            DoesWhere (λ a. a.at ≡ at) (call_routine (Some routine.now)) self.old next self.new) }
+    {
+        let count = routine.params as usize;
+        if !self.operands.are_defined(count) {
+            self.operands.drop_top(count);
+            self.operands.push(Cell::undefined())?;
+            return Ok(Next::On);
+        }
+        if self.calls.open() >= MOST_OPEN_CALLS {
+            return Ok(Next::Fault(CALLS_TOO_DEEP));
+        }
+        self.calls
+            .enter(&mut self.operands, routine.params, routine.locals, at + 1)?;
+        Ok(Next::To(routine.entry))
+    }
+
+    /// Leaves the routine, with the slot on top for the one that called it.
+    #[inline(never)]
+    pub fn give_back(&mut self) -> Next
+        requires some { 0 < length self.old.operands }
+        requires called { 0 < length self.old.calls.callers }
+        ensures value { (code : Code) → Does (act code instr.Return) self.old result self.new }
+    {
+        Next::To(self.calls.leave())
+    }
+
+    /// Pops a base and adds the list of its candidates.
+    #[inline(never)]
+    pub fn enter_search(&mut self, alloc: Global, slice: bool) -> Result<Next, NoMemory>
+        requires some { 0 < length self.old.operands }
+        ensures value { (code : Code) → IfOk result (λ next. Does (act code (instr.Enter slice)) self.old next self.new) }
+    {
+        let base = self.operands.pop();
+        let list = Candidates::of(alloc, slice, &base)?;
+        self.calls.add_list(list)?;
+        Ok(Next::On)
+    }
+
+    /// Takes the next candidate into the local, or drops the list and goes to the place where none is left.
+    #[inline(never)]
+    pub fn next_candidate(&mut self, alloc: Global, n: u32, to: usize) -> Result<Next, NoMemory>
+        requires within { n < length self.old.calls.locals }
+        requires some { 0 < length self.old.calls.lists }
+        ensures value { (code : Code) → IfOk result (λ next. Does (act code (instr.Next n to)) self.old next self.new) }
+    {
+        if self.calls.next(alloc, n)? {
+            Ok(Next::On)
+        } else {
+            Ok(Next::To(to))
+        }
+    }
+
+    /// Drops the innermost candidate list.
+    #[inline(never)]
+    pub fn leave_search(&mut self) -> Next
+        requires some { 0 < length self.old.calls.lists }
+        ensures value { (code : Code) → Does (act code instr.Leave) self.old result self.new }
+    {
+        self.calls.drop_list();
+        Next::On
+    }
+}

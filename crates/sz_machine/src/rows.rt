@@ -1,0 +1,277 @@
+//! What instructions do to operands: constants, variables, operators, conversions, composites and parts.
+ghost use Rattle.std.specs.Prelude.{◌≡◌, ◌<◌, ◌≤◌, ◌*◌, ◌∷◌, length, drop, IfOk, Some};
+ghost use Rattle.sz_instr.specs.declared.code.Code.{Code};
+ghost use Rattle.sz_instr.specs.declared.instr.Instr.TheVariants as instr;
+ghost use Rattle.sz_value.specs.Data.{int};
+ghost use Rattle.sz_machine_rules.specs.Rows.{act};
+ghost use Rattle.sz_types.specs.Rows.{arity};
+ghost use Rattle.sz_machine.specs.Acting.{Does, weighs_and_acts};
+
+use crate::held::{Held, Next, again};
+use std::alloc::Global;
+use sz_instr::Code;
+use sz_machine_cells::{
+    Cell, applied_to_one, applied_to_two, array_of, binary_of, binary_weight, builtin_weight,
+    conversion_weight, converted, decoded, definedness, element_of, map_of, of_ints, part_of,
+    result_weight, slice_of, tuple_of, unary_of,
+};
+use sz_types::{BinOp, Builtin, UnOp};
+use sz_value::NoMemory;
+
+impl Held {
+    /// Pushes a copy of the constant.
+    #[inline(always)]
+    pub fn push(&mut self, alloc: Global, code: &Code, constant: u32) -> Result<Next, NoMemory>
+        requires within { constant < length code.now.constants }
+        ensures value { IfOk result (λ next. Does (act code.now (instr.Push constant)) self.old next self.new) }
+    {
+        let cell = Cell::of_copy(alloc, code.constants.get(constant as usize))?;
+        self.operands.push(cell)?;
+        Ok(Next::On)
+    }
+
+    /// Pushes a copy of the local.
+    #[inline(always)]
+    pub fn push_local(&mut self, n: u32) -> Result<Next, NoMemory>
+        requires within { n < length self.old.calls.locals }
+        ensures value { (code : Code) → IfOk result (λ next. Does (act code (instr.Local n)) self.old next self.new) }
+    {
+        let cell = self.calls.local(n).copy()?;
+        self.operands.push(cell)?;
+        Ok(Next::On)
+    }
+
+    /// Pops a slot into the local.
+    #[inline(always)]
+    pub fn keep(&mut self, n: u32) -> Next
+        requires within { n < length self.old.calls.locals }
+        requires some { 0 < length self.old.operands }
+        ensures value { (code : Code) → Does (act code (instr.Keep n)) self.old result self.new }
+    {
+        let cell = self.operands.pop();
+        self.calls.keep(n, cell);
+        Next::On
+    }
+
+    /// Makes the local undefined.
+    #[inline(always)]
+    pub fn clear(&mut self, n: u32) -> Next
+        requires within { n < length self.old.calls.locals }
+        ensures value { (code : Code) → Does (act code (instr.Clear n)) self.old result self.new }
+    {
+        self.calls.keep(n, Cell::undefined());
+        Next::On
+    }
+
+    /// Pops an operand and pushes what the operator makes of it.
+    #[inline(never)]
+    pub fn unary(&mut self, alloc: Global, op: UnOp) -> Result<Next, NoMemory>
+        requires some { 0 < length self.old.operands }
+        ensures value { (code : Code) → IfOk result (λ next. Does (act code (instr.Unary op)) self.old next self.new) }
+    {
+        let x = self.operands.pop();
+        let made = unary_of(alloc, op, &x)?;
+        self.operands.push(made)?;
+        Ok(Next::On)
+    }
+
+    /// Pops two operands and pushes what the operator makes of them. Whole numbers under a common operator are done in place.
+    #[inline(always)]
+    pub fn binary(&mut self, alloc: Global, op: BinOp) -> Result<Next, NoMemory>
+        requires some { 1 < length self.old.operands }
+        ensures value { (code : Code) → IfOk result (λ next. Does (weighs_and_acts code (instr.Binary op)) self.old next self.new) }
+    {
+        match self.operands.top_ints() {
+            Some((a, b)) => self.binary_of_ints(alloc, op, a, b),
+            None => self.binary_apart(alloc, op),
+        }
+    }
+
+    // The same, with these two whole numbers on top.
+    #[inline(always)]
+    fn binary_of_ints(&mut self, alloc: Global, op: BinOp, a: i64, b: i64) -> Result<Next, NoMemory>
+        requires ints { self.old.operands ≡ Some (int b) ∷ Some (int a) ∷ drop 2 self.old.operands }
+        ensures value { (code : Code) → IfOk result (λ next. Does (weighs_and_acts code (instr.Binary op)) self.old next self.new) }
+    {
+        match of_ints(op, a, b) {
+            Some(made) => {
+                self.operands.put_for_two(made);
+                Ok(Next::On)
+            }
+            None => self.binary_apart(alloc, op),
+        }
+    }
+
+    // The same of any operands, with the answer made anew.
+    #[inline(always)]
+    fn binary_apart(&mut self, alloc: Global, op: BinOp) -> Result<Next, NoMemory>
+        requires some { 1 < length self.old.operands }
+        ensures value { (code : Code) → IfOk result (λ next. Does (weighs_and_acts code (instr.Binary op)) self.old next self.new) }
+    {
+        again(self.binary_of_any(alloc, op))
+    }
+
+    // The same of any operands.
+    #[inline(never)]
+    fn binary_of_any(&mut self, alloc: Global, op: BinOp) -> Result<Next, NoMemory>
+        requires some { 1 < length self.old.operands }
+        ensures value { (code : Code) → IfOk result (λ next. Does (weighs_and_acts code (instr.Binary op)) self.old next self.new) }
+    {
+        let y = self.operands.pop();
+        let x = self.operands.pop();
+        let made = binary_of(alloc, op, &x, &y)?;
+        let weight = binary_weight(op, &made);
+        self.finish(made, weight)
+    }
+
+    /// Pops the arguments and pushes what the function makes of them. They are looked at where they are.
+    #[inline(never)]
+    pub fn apply(&mut self, alloc: Global, which: Builtin) -> Result<Next, NoMemory>
+        requires within { arity which ≤ length self.old.operands }
+        ensures value { (code : Code) → IfOk result (λ next. Does (weighs_and_acts code (instr.Apply which)) self.old next self.new) }
+    {
+        match which {
+            Builtin::Len | Builtin::Keys => self.apply_to_one(alloc, which),
+            Builtin::HasKey | Builtin::StrFind => self.apply_to_two(alloc, which),
+        }
+    }
+
+    // The same of a function of one argument.
+    fn apply_to_one(&mut self, alloc: Global, which: Builtin) -> Result<Next, NoMemory>
+        requires one { arity which ≡ 1 }
+        requires some { 0 < length self.old.operands }
+        ensures value { (code : Code) → IfOk result (λ next. Does (weighs_and_acts code (instr.Apply which)) self.old next self.new) }
+    {
+        let x = self.operands.pop();
+        let made = applied_to_one(alloc, which, &x)?;
+        let weight = builtin_weight(which, &made);
+        self.finish(made, weight)
+    }
+
+    // The same of a function of two arguments.
+    fn apply_to_two(&mut self, alloc: Global, which: Builtin) -> Result<Next, NoMemory>
+        requires two { arity which ≡ 2 }
+        requires some { 1 < length self.old.operands }
+        ensures value { (code : Code) → IfOk result (λ next. Does (weighs_and_acts code (instr.Apply which)) self.old next self.new) }
+    {
+        let y = self.operands.pop();
+        let x = self.operands.pop();
+        let made = applied_to_two(alloc, which, &x, &y)?;
+        let weight = builtin_weight(which, &made);
+        self.finish(made, weight)
+    }
+
+    /// Pops an operand and pushes it converted to the type.
+    #[inline(never)]
+    pub fn convert(&mut self, alloc: Global, code: &Code, ty: u32) -> Result<Next, NoMemory>
+        requires within { ty < length code.now.types }
+        requires some { 0 < length self.old.operands }
+        ensures value { IfOk result (λ next. Does (weighs_and_acts code.now (instr.Convert ty)) self.old next self.new) }
+    {
+        let to = code.types.get(ty as usize);
+        let x = self.operands.pop();
+        let made = converted(alloc, to, &x)?;
+        let weight = conversion_weight(to, &x, &made);
+        self.finish(made, weight)
+    }
+
+    /// Pops bytes and pushes the message that they are by the type.
+    #[inline(never)]
+    pub fn decode(&mut self, alloc: Global, code: &Code, ty: u32) -> Result<Next, NoMemory>
+        requires within { ty < length code.now.types }
+        requires some { 0 < length self.old.operands }
+        ensures value { IfOk result (λ next. Does (weighs_and_acts code.now (instr.Decode ty)) self.old next self.new) }
+    {
+        let by = code.types.get(ty as usize);
+        let x = self.operands.pop();
+        let made = decoded(alloc, by, &x)?;
+        let weight = result_weight(&made);
+        self.finish(made, weight)
+    }
+
+    /// Pops the elements and pushes the array of them.
+    #[inline(never)]
+    pub fn make_array(&mut self, alloc: Global, count: u32) -> Result<Next, NoMemory>
+        requires within { count ≤ length self.old.operands }
+        ensures value { (code : Code) → IfOk result (λ next. Does (weighs_and_acts code (instr.MakeArray count)) self.old next self.new) }
+    {
+        let elements = self.operands.pop_values(alloc, count as usize)?;
+        let made = array_of(alloc, elements)?;
+        let weight = result_weight(&made);
+        self.finish(made, weight)
+    }
+
+    /// Pops the parts and pushes the tuple of them.
+    #[inline(never)]
+    pub fn make_tuple(&mut self, alloc: Global, count: u32) -> Result<Next, NoMemory>
+        requires within { count ≤ length self.old.operands }
+        ensures value { (code : Code) → IfOk result (λ next. Does (weighs_and_acts code (instr.MakeTuple count)) self.old next self.new) }
+    {
+        let parts = self.operands.pop_values(alloc, count as usize)?;
+        let made = tuple_of(alloc, parts)?;
+        let weight = result_weight(&made);
+        self.finish(made, weight)
+    }
+
+    /// Pops the keys and values and pushes the map of them.
+    #[inline(never)]
+    pub fn make_map(&mut self, alloc: Global, count: u32) -> Result<Next, NoMemory>
+        requires within { 2 * count ≤ length self.old.operands }
+        ensures value { (code : Code) → IfOk result (λ next. Does (weighs_and_acts code (instr.MakeMap count)) self.old next self.new) }
+    {
+        let parts = self.operands.pop_values(alloc, 2 * count as usize)?;
+        let made = map_of(alloc, parts)?;
+        let weight = result_weight(&made);
+        self.finish(made, weight)
+    }
+
+    /// Pops an index or a key and what it leads into, and pushes the element.
+    #[inline(never)]
+    pub fn index(&mut self, alloc: Global) -> Result<Next, NoMemory>
+        requires some { 1 < length self.old.operands }
+        ensures value { (code : Code) → IfOk result (λ next. Does (act code instr.Index) self.old next self.new) }
+    {
+        let i = self.operands.pop();
+        let x = self.operands.pop();
+        let made = element_of(alloc, &x, &i)?;
+        self.operands.push(made)?;
+        Ok(Next::On)
+    }
+
+    /// Pops the bounds of a part and what it is a part of, and pushes the part.
+    #[inline(never)]
+    pub fn slice(&mut self, alloc: Global) -> Result<Next, NoMemory>
+        requires some { 2 < length self.old.operands }
+        ensures value { (code : Code) → IfOk result (λ next. Does (weighs_and_acts code instr.Slice) self.old next self.new) }
+    {
+        let j = self.operands.pop();
+        let i = self.operands.pop();
+        let x = self.operands.pop();
+        let made = slice_of(alloc, &x, &i, &j)?;
+        let weight = result_weight(&made);
+        self.finish(made, weight)
+    }
+
+    /// Pops a tuple or a message and pushes a part of it.
+    #[inline(never)]
+    pub fn field(&mut self, alloc: Global, n: u32) -> Result<Next, NoMemory>
+        requires some { 0 < length self.old.operands }
+        ensures value { (code : Code) → IfOk result (λ next. Does (act code (instr.Field n)) self.old next self.new) }
+    {
+        let x = self.operands.pop();
+        let made = part_of(alloc, n, &x)?;
+        self.operands.push(made)?;
+        Ok(Next::On)
+    }
+
+    /// Pops a slot and pushes whether it was defined.
+    #[inline(never)]
+    pub fn def(&mut self) -> Result<Next, NoMemory>
+        requires some { 0 < length self.old.operands }
+        ensures value { (code : Code) → IfOk result (λ next. Does (act code instr.Def) self.old next self.new) }
+    {
+        let x = self.operands.pop();
+        self.operands.push(definedness(&x))?;
+        Ok(Next::On)
+    }
+}

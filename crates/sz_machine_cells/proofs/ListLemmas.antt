@@ -1,0 +1,124 @@
+-- Lists whose last items come first, as operands do.
+use Rattle.std.proofs.Common.{◌≡◌, ◌∙◌, ℕ, zero, suc, ◌-◌, ◌<◌, ◌≤◌, List, [], ◌∷◌, ◌++◌, length, map, take, drop, reverse, set, get_or, true, false, Some, None, is_some, refl, sym, ap}
+use Rattle.std.proofs.Common.{arith}
+use Rattle.std.specs.List.{list_all}
+use Rattle.std.specs.Option.{option_map}
+use Rattle.std.proofs.lemmas.List.{reverse-append, reverse-reverse, length-reverse, length-drop, length-take-le, take-append-drop, map-append}
+use Rattle.std.proofs.Math.Seq.{drop-append_seam, take-append_seam}
+use Rattle.sz_value.specs.Data.{Datum}
+use Rattle.sz_value.specs.Seen.{seen}
+use Rattle.sz_value.specs.declared.value.Value.{Value}
+use Rattle.sz_world_rules.specs.Slots.{Slot, all_defined}
+use Rattle.sz_machine_cells.specs.Results.{defined_of}
+
+-- of a list turned round, its last items come first
+turned : {X : Type 0} → (xs : List X) (k : ℕ) → reverse xs ≡ reverse (drop k xs) ++ reverse (take k xs)
+turned xs k = sym (ap reverse (take-append-drop k xs)) ∙ reverse-append (take k xs) (drop k xs)
+
+-- how many they are
+count_of_last : {X : Type 0} → (xs : List X) (n : ℕ) → n ≤ length xs → length (reverse (drop (length xs - n) xs)) ≡ n
+count_of_last xs n h = length-reverse (drop (length xs - n) xs) ∙ length-drop (length xs - n) xs ∙ omega (arith, h)
+
+-- what is left below the last ones
+pub below_last : {X : Type 0} → (xs : List X) (n : ℕ) → n ≤ length xs → reverse (take (length xs - n) xs) ≡ drop n (reverse xs)
+below_last xs n h =
+    let k = length xs - n in
+    sym (ap (drop n) (turned xs k)
+    ∙ ap (λ m. drop m (reverse (drop k xs) ++ reverse (take k xs))) (sym (count_of_last xs n h))
+    ∙ drop-append_seam (reverse (drop k xs)) (reverse (take k xs)))
+
+-- the last ones, in order
+pub last_of : {X : Type 0} → (xs : List X) (n : ℕ) → n ≤ length xs → drop (length xs - n) xs ≡ reverse (take n (reverse xs))
+last_of xs n h =
+    let k = length xs - n in
+    sym (ap (λ ys. reverse (take n ys)) (turned xs k)
+    ∙ ap (λ m. reverse (take m (reverse (drop k xs) ++ reverse (take k xs)))) (sym (count_of_last xs n h))
+    ∙ ap reverse (take-append_seam (reverse (drop k xs)) (reverse (take k xs)))
+    ∙ reverse-reverse (drop k xs))
+
+-- what contracts see of values turned round
+map_reverse : {X Y : Type 0} → (f : X → Y) (xs : List X) → map f (reverse xs) ≡ reverse (map f xs)
+map_reverse f [] = refl
+map_reverse f (x ∷ xs) =
+    ap (map f) (reverse-append (x ∷ []) xs) ∙ map-append f (reverse xs) (x ∷ []) ∙ ap (λ ys. ys ++ f x ∷ []) (map_reverse f xs)
+    ∙ sym (reverse-append (f x ∷ []) (map f xs))
+
+-- values that are turned round twice
+pub keys_back : (vs : List Value) → reverse (map seen (reverse vs)) ≡ map seen vs
+keys_back vs = ap reverse (map_reverse seen vs) ∙ reverse-reverse (map seen vs)
+
+-- the slots of a list are all defined where each of them is
+pub all_told : (xs : List Slot) → list_all is_some xs ≡ is_some (all_defined xs)
+all_told [] = refl
+all_told (None ∷ xs) = refl
+all_told (Some d ∷ xs) = all_told xs ∙ sym (mapped (all_defined xs))
+  where
+    mapped : (o : _) → is_some (option_map (λ ds. d ∷ ds) o) ≡ is_some o
+    mapped None = refl
+    mapped (Some ds) = refl
+
+-- where all slots are defined, their values are those that are defined
+pub are_all : (xs : List Slot) → list_all is_some xs ≡ true → all_defined xs ≡ Some (defined_of xs)
+are_all [] e = refl
+are_all (None ∷ xs) e = absurd (cc)
+are_all (Some d ∷ xs) e = ap (λ o. option_map (λ ds. d ∷ ds) o) (are_all xs e)
+
+-- where one isn't, there are none
+pub are_not_all : (xs : List Slot) → list_all is_some xs ≡ false → all_defined xs ≡ None
+are_not_all [] e = absurd (cc)
+are_not_all (None ∷ xs) e = refl
+are_not_all (Some d ∷ xs) e = ap (λ o. option_map (λ ds. d ∷ ds) o) (are_not_all xs e)
+
+-- one value more
+pub one_more_defined : (xs : List Slot) (d : Datum) → defined_of (xs ++ Some d ∷ []) ≡ defined_of xs ++ d ∷ []
+one_more_defined [] d = refl
+one_more_defined (None ∷ xs) d = one_more_defined xs d
+one_more_defined (Some e ∷ xs) d = ap (λ ds. e ∷ ds) (one_more_defined xs d)
+
+-- an undefined slot more
+pub no_more_defined : (xs : List Slot) → defined_of (xs ++ None ∷ []) ≡ defined_of xs
+no_more_defined [] = refl
+no_more_defined (None ∷ xs) = no_more_defined xs
+no_more_defined (Some e ∷ xs) = ap (λ ds. e ∷ ds) (no_more_defined xs)
+
+-- a list and its last item, which is at this place
+pub split_last : {X : Type 0} → (xs : List X) (k : ℕ) (d : X) → suc k ≡ length xs → xs ≡ take k xs ++ get_or xs k d ∷ []
+split_last [] k d e = absurd (omega (arith, e))
+split_last (x ∷ []) zero d e = refl
+split_last (x ∷ []) (suc k) d e = absurd (omega (arith, e))
+split_last (x ∷ y ∷ xs) zero d e = absurd (omega (arith, e))
+split_last (x ∷ y ∷ xs) (suc k) d e = ap (λ l. x ∷ l) (split_last (y ∷ xs) k d (omega (arith, e)))
+
+-- another last item
+pub set_last : {X : Type 0} → (xs : List X) (k : ℕ) (y : X) → suc k ≡ length xs → set xs k y ≡ take k xs ++ y ∷ []
+set_last [] k y e = absurd (omega (arith, e))
+set_last (x ∷ []) zero y e = refl
+set_last (x ∷ []) (suc k) y e = absurd (omega (arith, e))
+set_last (x ∷ z ∷ xs) zero y e = absurd (omega (arith, e))
+set_last (x ∷ z ∷ xs) (suc k) y e = ap (λ l. x ∷ l) (set_last (z ∷ xs) k y (omega (arith, e)))
+
+-- the next of the keys
+pub key_next : (vs : List Value) (v : Value) → reverse (map seen (vs ++ v ∷ [])) ≡ seen v ∷ reverse (map seen vs)
+key_next vs v = ap reverse (map-append seen vs (v ∷ [])) ∙ reverse-append (map seen vs) (seen v ∷ [])
+
+-- two items fewer, one by one
+one_by_one : {X : Type 0} → (xs : List X) → drop 1 (drop 1 xs) ≡ drop 2 xs
+one_by_one [] = refl
+one_by_one (x ∷ []) = refl
+one_by_one (x ∷ y ∷ xs) = refl
+
+-- another topmost item
+top_set : {X : Type 0} → (xs : List X) (y : X) → 0 < length xs → reverse (set xs (length xs - 1) y) ≡ y ∷ drop 1 (reverse xs)
+top_set xs y h =
+    let k = length xs - 1 in
+    ap reverse (set_last xs k y (omega (arith, h))) ∙ reverse-append (take k xs) (y ∷ []) ∙ ap (λ l. y ∷ l) (below_last xs 1 h)
+
+-- one item in the stead of the two topmost ones
+pub two_replaced : {X : Type 0} → (xs : List X) (y : X) → 1 < length xs
+    → reverse (set (take (length xs - 1) xs) (length xs - 2) y) ≡ y ∷ drop 2 (reverse xs)
+two_replaced xs y h =
+    let k = length xs - 1 in
+    let count : length (take k xs) ≡ k = length-take-le k xs (omega (arith, h)) in
+    let place : length xs - 2 ≡ length (take k xs) - 1 = omega (arith, count, h) in
+    ap (λ n. reverse (set (take k xs) n y)) place ∙ top_set (take k xs) y (omega (arith, count, h))
+    ∙ ap (λ l. y ∷ drop 1 l) (below_last xs 1 (omega (arith, h))) ∙ ap (λ l. y ∷ l) (one_by_one (reverse xs))

@@ -1,0 +1,21 @@
+-- What contracts see of cells.
+use Rattle.std.specs.Prelude.{Option, Some, None, Bool, take, drop}
+use Rattle.sz_value.specs.Data.{Datum, truth, int, time, bytes}
+use Rattle.sz_value.specs.Seen.{seen}
+use Rattle.sz_machine_cells.specs.declared.cell.Form.{Form}
+use Rattle.sz_machine_cells.specs.declared.cell.Form.TheVariants.{Undefined, Bool as Truth, Int, Time, Shared, Buffer, Part}
+
+-- the slot that a cell of this form is
+abbrev pub slot_of : Form → Option Datum
+slot_of Undefined = None
+slot_of (Truth b) = Some (truth b)
+slot_of (Int n) = Some (int n)
+slot_of (Time n) = Some (time n)
+slot_of (Shared shared) = Some (seen shared.value)
+slot_of (Buffer buffer) = Some (bytes buffer.value.items)
+slot_of (Part count before buffer) = Some (bytes (take count (drop before buffer.value.items)))
+
+-- the truth value that a slot is
+abbrev pub truth_of : Option Datum → Option Bool
+truth_of (Some (truth b)) = Some b
+truth_of _ = None

@@ -1,0 +1,39 @@
+-- What is made of operands whose values are at hand.
+use Rattle.std.specs.Prelude.{◌≡◌, List, [], ◌∷◌, Option, Some, None, option_map}
+use Rattle.sz_value.specs.Data.{Datum, array, tuple, mapping, data_of, entries_of}
+use Rattle.sz_world_rules.specs.Slots.{Slot}
+use Rattle.sz_world_rules.specs.Operations.{with_pairs}
+
+-- the array of these elements, if they are all defined
+abbrev pub array_of_all : Option (List Datum) → Slot
+array_of_all elements = option_map (λ ds. array (data_of ds)) elements
+
+-- the tuple of these parts, if they are all defined
+abbrev pub tuple_of_all : Option (List Datum) → Slot
+tuple_of_all parts = option_map (λ ds. tuple (data_of ds)) parts
+
+-- the map of these keys and values, which stand by turns, if they are all defined
+abbrev pub map_of_all : Option (List Datum) → Slot
+map_of_all parts = option_map (λ ds. mapping (entries_of (with_pairs [] ds))) parts
+
+-- the pairs of keys and values that stand by turns
+abbrev pub by_turns : List Datum → List (Datum × Datum)
+by_turns (key ∷ value ∷ rest) = (key, value) ∷ by_turns rest
+by_turns _ = []
+
+-- the values of those slots that are defined
+abbrev pub defined_of : List Slot → List Datum
+defined_of [] = []
+defined_of (None ∷ slots) = defined_of slots
+defined_of (Some d ∷ slots) = d ∷ defined_of slots
+
+-- the key that has no value yet, of keys and values that stand by turns
+abbrev pub left_over : List Datum → Option Datum
+left_over [] = None
+left_over (key ∷ []) = Some key
+left_over (key ∷ value ∷ rest) = left_over rest
+
+-- these are the pairs of keys and values that stand by turns, and the key that has no value yet
+pub record ArePaired (parts : List Datum) (pairs : List (Datum × Datum)) (key : Option Datum) : Type 0 where
+  pub paired : pairs ≡ by_turns parts
+  pub waits : key ≡ left_over parts

@@ -1,0 +1,294 @@
+//! What operators, functions, conversions and composites make of operands.
+ghost use Rattle.std.specs.Prelude.{◌≡◌, ◌∷◌, [], ℕ, IfOk, Some, slice_get, take, drop};
+ghost use Rattle.sz_types.specs.Seen.{seen as seen_type};
+ghost use Rattle.sz_value.specs.Data.{bytes, int};
+ghost use Rattle.sz_value.specs.Seen.{seen_pairs};
+ghost use Rattle.sz_builtin.specs.Conversions.{convert};
+ghost use Rattle.sz_builtin.specs.Places.{slice};
+ghost use Rattle.sz_builtin.specs.Views.{seen_view};
+ghost use Rattle.sz_world_rules.specs.Operations.{unary_of, binary_of, applied, converted_plainly, message_of, decoded_as, array_of, tuple_of, map_of};
+ghost use Rattle.sz_world_rules.specs.Operations.{element_of, slice_of, part_at, part_of, definedness};
+ghost use Rattle.sz_machine_cells.specs.Results.{array_of_all, tuple_of_all, map_of_all, by_turns};
+
+use crate::cell::{Cell, Form, lying, part_held};
+use std::alloc::Global;
+use std::rc::Rc;
+use sz_builtin::{
+    Kind, View, binary_of_views, builtin_of_one, builtin_of_two, bytes_between, convert_view,
+    index_of_views, slice_of_view, unary_of_view,
+};
+use sz_proto::decode;
+use sz_types::{BinOp, Builtin, Ty, UnOp};
+use sz_value::{List, NoMemory, Pair, Pairs, Value};
+
+/// What the operator makes of an operand.
+pub fn unary_of(alloc: Global, op: UnOp, x: &Cell) -> Result<Cell, NoMemory>
+    ensures value { IfOk result (λ made. made ≡ unary_of op x.now) }
+{
+    match x.view() {
+        Some(a) => Cell::of_slot(alloc, unary_of_view(op, &a)),
+        None => Ok(Cell::undefined()),
+    }
+}
+
+/// What the operator makes of two operands.
+pub fn binary_of(alloc: Global, op: BinOp, x: &Cell, y: &Cell) -> Result<Cell, NoMemory>
+    ensures value { IfOk result (λ made. made ≡ binary_of op x.now y.now) }
+{
+    match (x.view(), y.view()) {
+        (Some(a), Some(b)) => Cell::of_slot(alloc, binary_of_views(alloc, op, &a, &b)?),
+        _ => Ok(Cell::undefined()),
+    }
+}
+
+/// What the function makes of its one argument, which is looked at where it is.
+pub fn applied_to_one(alloc: Global, which: Builtin, x: &Cell) -> Result<Cell, NoMemory>
+    ensures value { IfOk result (λ made. made ≡ applied which (x.now ∷ [])) }
+{
+    match x.view() {
+        Some(a) => Cell::of_slot(alloc, builtin_of_one(alloc, which, &a)?),
+        None => Ok(Cell::undefined()),
+    }
+}
+
+/// What the function makes of its two arguments, which are looked at where they are.
+pub fn applied_to_two(alloc: Global, which: Builtin, x: &Cell, y: &Cell) -> Result<Cell, NoMemory>
+    ensures value { IfOk result (λ made. made ≡ applied which (x.now ∷ y.now ∷ [])) }
+{
+    match (x.view(), y.view()) {
+        (Some(a), Some(b)) => Cell::of_slot(alloc, builtin_of_two(alloc, which, &a, &b)?),
+        _ => Ok(Cell::undefined()),
+    }
+}
+
+/// What an operand becomes by a conversion to the type. Bytes stay bytes where that is a proto type: `decoded` reads them.
+pub fn converted(alloc: Global, to: &Ty, x: &Cell) -> Result<Cell, NoMemory>
+    ensures value { IfOk result (λ made. made ≡ converted_plainly (seen_type to.now) x.now) }
+{
+    match x.view() {
+        Some(a) => became(alloc, to, &a),
+        None => Ok(Cell::undefined()),
+    }
+}
+
+// What a value becomes by a conversion to the type.
+fn became(alloc: Global, to: &Ty, value: &View<'_>) -> Result<Cell, NoMemory>
+    ensures value { IfOk result (λ made. made ≡ convert (seen_view value.now) (seen_type to.now)) }
+{
+    match to {
+        Ty::Proto(_) => Cell::of_value(alloc, value.owned(alloc)?),
+        Ty::Bool
+        | Ty::Int
+        | Ty::Time
+        | Ty::Str
+        | Ty::Bytes
+        | Ty::Array(_)
+        | Ty::Map(_, _)
+        | Ty::Tuple(_) => Cell::of_slot(alloc, convert_view(alloc, value, to)?),
+    }
+}
+
+/// The message that an operand's bytes are by the type. It is undefined where the operand isn't bytes.
+pub fn decoded(alloc: Global, by: &Ty, x: &Cell) -> Result<Cell, NoMemory>
+    ensures value { IfOk result (λ made. made ≡ decoded_as (seen_type by.now) x.now) }
+{
+    match x.view() {
+        Some(a) => message_of(alloc, by, &a),
+        None => Ok(Cell::undefined()),
+    }
+}
+
+// The message that a value is by the type: bytes alone are one.
+fn message_of(alloc: Global, by: &Ty, value: &View<'_>) -> Result<Cell, NoMemory>
+    ensures value { IfOk result (λ made. made ≡ message_of (seen_type by.now) (seen_view value.now)) }
+{
+    match value.kind() {
+        Kind::Bytes(held) => Cell::of_slot(alloc, decode(alloc, by, held)?),
+        _ => Ok(Cell::undefined()),
+    }
+}
+
+/// The array of these elements, if they are all there.
+pub fn array_of(alloc: Global, elements: Option<List>) -> Result<Cell, NoMemory>
+    ensures value { IfOk result (λ made. made ≡ array_of_all elements) }
+{
+    match elements {
+        Some(list) => Cell::of_value(alloc, Value::Array(list)),
+        None => Ok(Cell::undefined()),
+    }
+}
+
+/// The tuple of these parts, if they are all there.
+pub fn tuple_of(alloc: Global, parts: Option<List>) -> Result<Cell, NoMemory>
+    ensures value { IfOk result (λ made. made ≡ tuple_of_all parts) }
+{
+    match parts {
+        Some(list) => Cell::of_value(alloc, Value::Tuple(list)),
+        None => Ok(Cell::undefined()),
+    }
+}
+
+/// The map of these keys and values, which stand by turns, if they are all there.
+#[tactic(auto, using(crate::proofs::TurnLemmas::put_by_turns))]
+pub fn map_of(alloc: Global, parts: Option<List>) -> Result<Cell, NoMemory>
+    ensures value { IfOk result (λ made. made ≡ map_of_all parts) }
+{
+    match parts {
+        Some(list) => {
+            let pairs = by_turns(alloc, list)?;
+            Cell::of_value(alloc, Value::Map(Pairs::from_pairs(alloc, pairs)?))
+        }
+        None => Ok(Cell::undefined()),
+    }
+}
+
+// The pairs of keys and values that stand by turns.
+fn by_turns(alloc: Global, parts: List) -> Result<Vec<Pair>, NoMemory>
+    ensures value { IfOk result (λ pairs. seen_pairs pairs.items ≡ by_turns parts) }
+{
+    let mut pairs = Vec::with_capacity(alloc, parts.len() / 2)?;
+    let mut waiting: Option<Value> = None;
+    for part in parts.into_vec() {
+        match waiting.take() {
+            Some(key) => pairs.push(Pair { key, value: part })?,
+            None => waiting = Some(part),
+        }
+    }
+    Ok(pairs)
+}
+
+/// The element of a value under an index or a key.
+pub fn element_of(alloc: Global, x: &Cell, i: &Cell) -> Result<Cell, NoMemory>
+    ensures value { IfOk result (λ made. made ≡ element_of x.now i.now) }
+{
+    match (x.view(), i.view()) {
+        (Some(base), Some(at)) => Cell::of_slot(alloc, index_of_views(alloc, &base, &at)?),
+        _ => Ok(Cell::undefined()),
+    }
+}
+
+/// The part of a value between two places. Of bytes that lie in a buffer it is one that lies there too.
+#[tactic(auto, using(crate::proofs::ResultLemmas::no_beginning, crate::proofs::ResultLemmas::no_end))]
+pub fn slice_of(alloc: Global, x: &Cell, i: &Cell, j: &Cell) -> Result<Cell, NoMemory>
+    ensures value { IfOk result (λ made. made ≡ slice_of x.now i.now j.now) }
+{
+    let Some(base) = x.view() else {
+        return Ok(Cell::undefined());
+    };
+    let Some(from) = i.view() else {
+        return Ok(Cell::undefined());
+    };
+    let Some(to) = j.view() else {
+        return Ok(Cell::undefined());
+    };
+    match (from.kind(), to.kind()) {
+        (Kind::Int(from), Kind::Int(to)) => part_between(alloc, x, &base, from, to),
+        _ => Ok(Cell::undefined()),
+    }
+}
+
+// The part between two places of a value that is seen in this cell.
+fn part_between(
+    alloc: Global,
+    x: &Cell,
+    base: &View<'_>,
+    from: i64,
+    to: i64,
+) -> Result<Cell, NoMemory>
+    requires same { x.now ≡ Some (seen_view base.now) }
+    ensures value { IfOk result (λ made. made ≡ slice (seen_view base.now) from to) }
+{
+    match &x.held {
+        Form::Buffer(buffer) => part_of_buffer(alloc, buffer, from, to),
+        Form::Part(count, before, buffer) => {
+            part_of_part(alloc, *count, *before, buffer, from, to)
+        }
+        _ => part_anew(alloc, base, from, to),
+    }
+}
+
+// The part between two places of the bytes of a buffer.
+fn part_of_buffer(alloc: Global, buffer: &Rc<Vec<u8>>, from: i64, to: i64) -> Result<Cell, NoMemory>
+    ensures value { IfOk result (λ made. made ≡ slice (bytes buffer.now.value.items) from to) }
+{
+    match bytes_between(buffer.as_ref().as_slice(), from, to) {
+        Some((before, count)) => Cell::of_part(alloc, buffer, before, count),
+        None => Ok(Cell::undefined()),
+    }
+}
+
+// The part between two places of so many bytes of a buffer, behind so many others.
+#[tactic(auto, using(crate::proofs::ResultLemmas::part_in_part))]
+fn part_of_part(
+    alloc: Global,
+    count: u16,
+    before: u32,
+    buffer: &Rc<Vec<u8>>,
+    from: i64,
+    to: i64,
+) -> Result<Cell, NoMemory>
+    ensures value { IfOk result (λ made. made ≡ slice (bytes (take count (drop before buffer.now.value.items))) from to) }
+{
+    match bytes_between(part_held(count, before, buffer), from, to) {
+        Some((more, count)) => Cell::of_part(alloc, buffer, before as usize + more, count),
+        None => Ok(Cell::undefined()),
+    }
+}
+
+// The part between two places of a value, in memory of its own.
+fn part_anew(alloc: Global, base: &View<'_>, from: i64, to: i64) -> Result<Cell, NoMemory>
+    ensures value { IfOk result (λ made. made ≡ slice (seen_view base.now) from to) }
+{
+    match base.kind() {
+        Kind::Bytes(held) => bytes_anew(alloc, held, from, to),
+        _ => Cell::of_slot(alloc, slice_of_view(alloc, base, from, to)?),
+    }
+}
+
+// The part between two places of bytes, in memory of its own.
+fn bytes_anew(alloc: Global, held: &[u8], from: i64, to: i64) -> Result<Cell, NoMemory>
+    ensures value { IfOk result (λ made. made ≡ slice (bytes held.now) from to) }
+{
+    match bytes_between(held, from, to) {
+        Some((before, count)) => Cell::of_bytes(alloc, lying(held, before, count)),
+        None => Ok(Cell::undefined()),
+    }
+}
+
+/// The part of a tuple or a message at a place.
+pub fn part_of(alloc: Global, n: u32, x: &Cell) -> Result<Cell, NoMemory>
+    ensures value { IfOk result (λ made. made ≡ part_of n x.now) }
+{
+    match x.view() {
+        Some(a) => part_at(alloc, n as usize, &a),
+        None => Ok(Cell::undefined()),
+    }
+}
+
+// A copy of the part of a value at a place.
+#[tactic(auto, using(sz_builtin::proofs::Parts::parts_back))]
+fn part_at(alloc: Global, n: usize, value: &View<'_>) -> Result<Cell, NoMemory>
+    ensures value { IfOk result (λ made. made ≡ part_at n (seen_view value.now)) }
+{
+    match value.kind() {
+        Kind::Tuple(parts) => item_at(alloc, n, parts),
+        _ => Ok(Cell::undefined()),
+    }
+}
+
+// A copy of the value at a place of the list.
+fn item_at(alloc: Global, n: usize, parts: &List) -> Result<Cell, NoMemory>
+    ensures value { IfOk result (λ made. made ≡ slice_get parts.now n) }
+{
+    match parts.as_slice().get(n) {
+        Some(value) => Cell::of_copy(alloc, value),
+        None => Ok(Cell::undefined()),
+    }
+}
+
+/// Whether an operand is defined.
+pub fn definedness(x: &Cell) -> Cell
+    ensures value { result ≡ definedness x.now }
+{
+    Cell::of_bool(x.is_defined())
+}

@@ -1,0 +1,131 @@
+//! The ticks that a result adds to the charge of its line.
+ghost use Rattle.std.specs.Prelude.{◌≡◌, Some};
+ghost use Rattle.sz_types.specs.Data.{Shape, FieldShapes, str, bytes, proto};
+ghost use Rattle.sz_types.specs.Seen.{seen as seen_type};
+ghost use Rattle.sz_value.specs.Data.{bytes as octets};
+ghost use Rattle.sz_value.specs.Seen.{seen};
+ghost use Rattle.sz_value.specs.Weight.{weight_of};
+ghost use Rattle.sz_world_rules.specs.Ticks.{result_weight, sum_weight, binary_weight, builtin_weight, conversion_weight};
+
+use crate::cell::{Cell, Form, part_held};
+use sz_types::{BinOp, Builtin, Ty};
+use sz_value::{Value, weight};
+
+/// What a cell weighs, if it is defined.
+#[inline(always)]
+pub fn result_weight(made: &Cell) -> u64
+    ensures value { result ≡ result_weight made.now }
+{
+    match &made.held {
+        Form::Undefined => 0,
+        Form::Bool(_) | Form::Int(_) | Form::Time(_) => 1,
+        Form::Shared(shared) => weight(shared.as_ref()),
+        Form::Buffer(buffer) => bytes_weight(buffer.as_ref().as_slice()),
+        Form::Part(count, before, buffer) => bytes_weight(part_held(*count, *before, buffer)),
+    }
+}
+
+// What bytes weigh.
+#[inline(always)]
+fn bytes_weight(held: &[u8]) -> u64
+    ensures value { result ≡ weight_of (octets held.now) }
+{
+    (held.len() as u64).saturating_add(1)
+}
+
+/// What an operator of two operands adds for its result.
+#[inline(always)]
+pub fn binary_weight(op: BinOp, made: &Cell) -> u64
+    ensures value { result ≡ binary_weight op made.now }
+{
+    match op {
+        BinOp::Add => sum_weight(made),
+        _ => 0,
+    }
+}
+
+// What a sum adds: its weight where it joins strings, byte strings or arrays.
+#[inline(always)]
+fn sum_weight(made: &Cell) -> u64
+    ensures value { result ≡ sum_weight made.now }
+{
+    match &made.held {
+        Form::Shared(shared) => joined_weight(shared.as_ref()),
+        Form::Buffer(_) | Form::Part(_, _, _) => result_weight(made),
+        _ => 0,
+    }
+}
+
+// What a sum that lies in memory adds.
+#[inline(never)]
+fn joined_weight(value: &Value) -> u64
+    ensures value { result ≡ sum_weight (Some (seen value.now)) }
+{
+    match value {
+        Value::Str(_) | Value::Bytes(_) | Value::Array(_) => weight(value),
+        _ => 0,
+    }
+}
+
+/// What a predeclared function adds for its result.
+pub fn builtin_weight(which: Builtin, made: &Cell) -> u64
+    ensures value { result ≡ builtin_weight which made.now }
+{
+    match which {
+        Builtin::Keys => result_weight(made),
+        _ => 0,
+    }
+}
+
+/// What a conversion of a cell to the type adds for its result.
+pub fn conversion_weight(to: &Ty, from: &Cell, made: &Cell) -> u64
+    ensures value { result ≡ conversion_weight (seen_type to.now) from.now made.now }
+{
+    match to {
+        Ty::Str => weight_of_text(from, made),
+        Ty::Bytes => weight_of_bytes(from, made),
+        Ty::Proto(_) => weight_of_message(from, made),
+        Ty::Bool | Ty::Int | Ty::Time | Ty::Array(_) | Ty::Map(_, _) | Ty::Tuple(_) => 0,
+    }
+}
+
+// What a conversion to a string adds: nothing where it was one.
+fn weight_of_text(from: &Cell, made: &Cell) -> u64
+    ensures value { result ≡ conversion_weight str from.now made.now }
+{
+    match &from.held {
+        Form::Shared(shared) => match shared.as_ref() {
+            Value::Str(_) => 0,
+            _ => result_weight(made),
+        },
+        _ => result_weight(made),
+    }
+}
+
+// What a conversion to bytes adds: nothing where they were bytes.
+fn weight_of_bytes(from: &Cell, made: &Cell) -> u64
+    ensures value { result ≡ conversion_weight bytes from.now made.now }
+{
+    match &from.held {
+        Form::Shared(shared) => match shared.as_ref() {
+            Value::Bytes(_) => 0,
+            _ => result_weight(made),
+        },
+        Form::Buffer(_) | Form::Part(_, _, _) => 0,
+        _ => result_weight(made),
+    }
+}
+
+// What a conversion to a message adds: its weight where it was made of bytes.
+fn weight_of_message(from: &Cell, made: &Cell) -> u64
+    ensures value { (fields : FieldShapes) → result ≡ conversion_weight (proto fields) from.now made.now }
+{
+    match &from.held {
+        Form::Shared(shared) => match shared.as_ref() {
+            Value::Bytes(_) => result_weight(made),
+            _ => 0,
+        },
+        Form::Buffer(_) | Form::Part(_, _, _) => result_weight(made),
+        _ => 0,
+    }
+}

@@ -1,7 +1,0 @@
--- So many slots are there as the loop has made turns.
-use Rattle.std.proofs.Common.{◌≡◌}
-use Rattle.sz_world.specs.Slots.{undefined_slots}
-use Rattle.sz_run.proofs.running.undefined.Given as goal
-
-abbrev pub invariant-loop : goal.invariant-loop
-invariant-loop l = l.slots ≡ undefined_slots l.counter

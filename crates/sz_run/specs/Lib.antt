@@ -1,7 +1,0 @@
--- what the public contracts rest on
-pub mod Ends
--- what the functions inside the crate promise each other
-pub mod Acting
-pub mod Emitting
-pub mod Storing
-pub mod Running

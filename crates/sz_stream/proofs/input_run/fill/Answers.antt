@@ -1,0 +1,56 @@
+use Rattle.std.proofs.Common.{IsTrue, sym, ◌∙◌, subst}
+use Rattle.sz_stream.specs.Intakes.{IsAnswered}
+use Rattle.sz_stream.proofs.RunLemmas.{few_left, closed_within}
+use Rattle.sz_stream.proofs.ReachLemmas.{can_closed, fills_closed, fills_more, is_ready, keeps_on}
+use Rattle.sz_stream.proofs.input_run.fill.Goals as goal
+
+-- shards can be closed
+pub wants_piece-requires-clause-within : goal.wants_piece-requires-clause-within
+wants_piece-requires-clause-within g c =
+    let r = c.loop-intake.invariant.can_read in closed_within r.job r.frame r.most c.loop-intake.intake r.total r.read r.over r.running
+
+pub wants_piece-requires-clause-few : goal.wants_piece-requires-clause-few
+wants_piece-requires-clause-few g c =
+    let r = c.loop-intake.invariant.can_read in few_left r.job r.frame r.most c.loop-intake.intake r.total r.read r.over r.running
+
+-- a piece can be read
+pub read_piece-requires-clause-can_read : goal.read_piece-requires-clause-can_read
+read_piece-requires-clause-can_read g c =
+    can_closed c.loop-intake.intake c.wants_piece.new.self c.in_ok-wants_piece.ensures.closed c.loop-intake.invariant.can_read
+
+-- a piece was read
+pub loop-intake-preserved : goal.loop-intake-preserved
+loop-intake-preserved g c =
+    let files = g.F.Files in
+    let file = c.args.file in
+    let first = c.args.intake.now in
+    let left = files.left c.loop-intake.files file in
+    let closed = fills_closed first c.loop-intake.intake c.wants_piece.new.self (files.left c.args.files.now file) left
+    c.in_ok-wants_piece.ensures.closed c.loop-intake.invariant.fills in
+    let reads = c.in_ok-read_piece.ensures.ok in
+    record {
+      given = subst IsTrue (sym (c.read_piece.ensures.kept.given_same file)) c.loop-intake.invariant.given;
+      can_read = reads.can_read;
+      fills = fills_more first c.wants_piece.new.self c.read_piece.new.intake (files.left c.args.files.now file) left
+          (files.left c.read_piece.new.files file) closed reads;
+      first = c.read_piece.ensures.first ∙ c.in_ok-wants_piece.ensures.closed.first ∙ c.loop-intake.invariant.first;
+      kept = keeps_on files.held files.left files.given files.names files.faults file c.args.files.now c.loop-intake.files c.read_piece.new.files
+          c.loop-intake.invariant.kept c.read_piece.ensures.kept;
+    }
+
+-- all that was read was taken in
+pub returns-clause-ok : goal.returns-clause-ok
+returns-clause-ok g c =
+    fills_closed c.args.intake.now c.loop-intake.intake c.wants_piece.new.self (g.F.Files.left c.args.files.now c.args.file)
+    (g.F.Files.left c.loop-intake.files c.args.file) c.in_ok-wants_piece.ensures.closed c.loop-intake.invariant.fills
+
+-- and a round is ready
+pub returns-clause-ready : goal.returns-clause-ready
+returns-clause-ready g c =
+    let new = c.wants_piece.new.self in
+    is_ready new (can_closed c.loop-intake.intake new c.in_ok-wants_piece.ensures.closed c.loop-intake.invariant.can_read)
+    (subst (IsAnswered new) c.if-branch.false c.in_ok-wants_piece.ensures.answer)
+
+-- where the records at hand begin
+pub returns-clause-first : goal.returns-clause-first
+returns-clause-first g c = c.in_ok-wants_piece.ensures.closed.first ∙ c.loop-intake.invariant.first

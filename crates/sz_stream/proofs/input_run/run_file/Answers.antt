@@ -1,0 +1,89 @@
+use Rattle.std.proofs.Common.{IsTrue, sym, ◌∙◌, subst, arith}
+use Rattle.std.specs.Prelude.{OnOk}
+use Rattle.std.specs.Io.KnownBytes.{IsAtEnd}
+use Rattle.std.proofs.lemmas.Result.{err_from_is_err_and}
+use Rattle.sz_total.specs.Weights.{HaveTheirWeights}
+use Rattle.sz_attempt.proofs.ForCallers.{have_their_weights}
+use Rattle.sz_stream.specs.Inputs.{RunsFile}
+use Rattle.sz_stream.proofs.RunLemmas.{few_left}
+use Rattle.sz_stream.proofs.ReachLemmas.{file_ends, file_is_over, file_stops, can_run, none_not, keeps_on}
+use Rattle.sz_stream.proofs.input_run.run_file.Goals as goal
+
+-- the tables of a sound program have their weights
+pub new-requires : goal.new-requires
+new-requires g c =
+    record { weights = subst HaveTheirWeights (sym c.tables.ensures.value) (have_their_weights c.args.job.now.compiled c.requires.job.sound) }
+
+-- all shards were run
+pub returns-in-Some-clause-value : goal.returns-in-Some-clause-value
+returns-in-Some-clause-value g c =
+    let job = c.args.job.now in
+    let s = c.args.settings.now in
+    let start = g.F.Files.left c.args.files.now c.args.file in
+    let left = g.F.Files.left c.fill.new.files c.args.file in
+    let total = c.loop-total.total in
+    let r = c.in_ok-fill.ensures.ok job s.frame s.shard total start c.loop-total.invariant.reached in
+    subst (RunsFile job s.shard s.frame start left) (sym c.ended.ensures.value)
+    (file_ends job s.frame s.shard total c.fill.new.intake start left r c.in_ok-fill.ensures.ready c.in-Some.ending (sym c.end.ensures.value ∙ c.in-Some.is))
+
+pub returns-in-Some-clause-end : goal.returns-in-Some-clause-end
+returns-in-Some-clause-end g c =
+    let job = c.args.job.now in
+    let s = c.args.settings.now in
+    let start = g.F.Files.left c.args.files.now c.args.file in
+    let left = g.F.Files.left c.fill.new.files c.args.file in
+    let total = c.loop-total.total in
+    let r = c.in_ok-fill.ensures.ok job s.frame s.shard total start c.loop-total.invariant.reached in
+    subst (λ result. OnOk result (IsAtEnd left)) (sym c.ended.ensures.value)
+    (file_is_over job s.frame s.shard total c.fill.new.intake start left r c.in_ok-fill.ensures.ready c.in-Some.ending (sym c.end.ensures.value ∙ c.in-Some.is))
+
+-- the next ones can be run
+pub run_next-requires-clause-can_run : goal.run_next-requires-clause-can_run
+run_next-requires-clause-can_run g c κs within =
+    let job = c.args.job.now in
+    let s = c.args.settings.now in
+    let start = g.F.Files.left c.args.files.now c.args.file in
+    let left = g.F.Files.left c.fill.new.files c.args.file in
+    let total = c.loop-total.total in
+    let r = c.in_ok-fill.ensures.ok job s.frame s.shard total start c.loop-total.invariant.reached in
+    can_run job s.frame s.shard c.fill.new.intake total start left r c.in_ok-fill.ensures.ready
+    (sym c.end.ensures.value ∙ none_not c.end.result c.in_default.not-Some)
+
+-- fewer records are left
+pub loop-total-smaller : goal.loop-total-smaller
+loop-total-smaller g c =
+    let s = c.args.settings.now in
+    let r = c.loop-total.invariant.reached in
+    let few = few_left c.args.job.now s.frame s.shard c.loop-total.intake c.loop-total.total r.read r.over r.running in
+    let first = c.in_ok-fill.ensures.first in
+    let further = c.in_ok-run_next.ensures.ok.further in
+    omega (arith, few, first, further)
+
+-- one round more was run
+pub loop-total-preserved : goal.loop-total-preserved
+loop-total-preserved g c =
+    let files = g.F.Files in
+    let file = c.args.file in
+    let s = c.args.settings.now in
+    let start = files.left c.args.files.now file in
+    let left = files.left c.fill.new.files file in
+    let r = c.in_ok-fill.ensures.ok c.args.job.now s.frame s.shard c.loop-total.total start c.loop-total.invariant.reached in
+    record {
+      given = subst IsTrue (sym (c.fill.ensures.kept.given_same file)) c.loop-total.invariant.given;
+      room = c.loop-total.invariant.room;
+      reached = c.in_ok-run_next.ensures.ok.goes_on s.frame s.shard start left r;
+      kept = keeps_on files.held files.left files.given files.names files.faults file c.args.files.now c.loop-total.files c.fill.new.files
+          c.loop-total.invariant.kept c.fill.ensures.kept;
+    }
+
+-- a shard decides
+pub returns-in_err-run_next-clause-value : goal.returns-in_err-run_next-clause-value
+returns-in_err-run_next-clause-value g c =
+    let p = err_from_is_err_and c.from_residual-in_err-run_next.result c.from_residual-in_err-run_next.ensures.1 in
+    let job = c.args.job.now in
+    let s = c.args.settings.now in
+    let start = g.F.Files.left c.args.files.now c.args.file in
+    let left = g.F.Files.left c.fill.new.files c.args.file in
+    let total = c.loop-total.total in
+    let r = c.in_ok-fill.ensures.ok job s.frame s.shard total start c.loop-total.invariant.reached in
+    rw (p.1, p.2) (file_stops job s.frame s.shard total c.fill.new.intake start left r c.in_err-run_next.field-0.0 c.in_err-run_next.ensures.err)

@@ -1,0 +1,216 @@
+//! An input, run.
+ghost use Rattle.std.specs.Prelude.{◌≡◌, ◌+◌, ◌<◌, ◌≤◌, ◌^◌, None, length, IsTrue, IfErr, OnOk, IsErrOf};
+ghost use Rattle.std.specs.Io.KnownBytes.{IsAtEnd};
+ghost use Rattle.sz_io.specs.Rose.{Rose};
+ghost use Rattle.sz_io.specs.Opened.{KeepsOtherFiles};
+ghost use Rattle.sz_total.specs.States.{declarations, emit_count, shown};
+ghost use Rattle.sz_total.specs.Totals.{Joins};
+ghost use Rattle.sz_attempt.specs.Shards.{IsJob};
+ghost use Rattle.sz_stream.specs.Inputs.{RunsInput, RunsFile};
+ghost use Rattle.sz_stream.specs.InputRuns.{CanRead, CanRun, Fills, ReadsPiece, TakesAll, IsReady, RunsRound, StopsRound, ended_so};
+
+use crate::intake::Intake;
+use crate::stop::Stop;
+use std::alloc::Global;
+use std::sync::Wait;
+use std::thread::Threads;
+use sz_attempt::Job;
+use sz_io::{Failed, Files, Gate, OutsideError};
+use sz_records::Ending;
+use sz_rounds::RoundEnd;
+use sz_total::Total;
+use sz_value::NoMemory;
+use sz_words::RunSettings;
+use sz_workers::run_round;
+
+/// How many bytes are read at most by one call.
+const PIECE_BYTES: usize = 65_536;
+
+/// The tables of all that the records of an opened file emit, by the frame, shards and workers of these settings; or why there are none.
+///
+/// The file is read in pieces. A piece is read only where the ending isn't known and the records at hand don't fill a round. A round that
+/// is full is run, and its records are dropped; the first that has a shard which faults or is lost ends the run, and no more is read.
+///
+/// Each round is run by so many workers, of which all but the first have a thread: so the call may wait. The gate is called before each
+/// attempt; tickets are counted from 0 in each round.
+pub fn run_file<'a, R: Threads + Wait + Sync, F: Files, G: Gate + Sync>(
+    rt: &R,
+    alloc: Global,
+    job: &'a Job,
+    settings: &RunSettings,
+    files: &mut F,
+    file: u32,
+    gate: &G,
+) -> Result<Total<'a>, Stop>
+    requires given { IsTrue (F.given files.old file) }
+    requires job { IsJob job.now }
+    requires attempts { (1 ≤ job.now.attempts) × (job.now.attempts ≤ 8) }
+    requires workers { (1 ≤ settings.now.workers) × (settings.now.workers ≤ 64) }
+    requires shard { 1 ≤ settings.now.shard }
+    ensures value { RunsFile job.now settings.now.shard settings.now.frame (F.left files.old file) (F.left files.new file) result }
+    ensures end { OnOk result (IsAtEnd (F.left files.new file)) }
+    ensures failed { IsErrOf result Stop.ReadFailed → Rose (F.faults files.old) (F.faults files.new) }
+    ensures kept { KeepsOtherFiles F.held F.left F.given F.names F.faults file files.old files.new }
+{
+    let mut buffer = Vec::new(alloc);
+    buffer.resize(PIECE_BYTES, 0)?;
+    let mut intake = Intake::new(alloc, settings.frame, settings.shard);
+    let mut total = Total::new(alloc, job.compiled.tables())?;
+    loop {
+        fill(&mut intake, files, file, &mut buffer)?;
+        if let Some(ending) = intake.end() {
+            return ended(total, ending);
+        }
+        run_next(
+            rt,
+            alloc,
+            job,
+            settings.workers,
+            &mut intake,
+            &mut total,
+            gate,
+        )?;
+    }
+}
+
+/// The same for an input that is in memory as a whole.
+pub fn run_bytes<'a, R: Threads + Wait + Sync, G: Gate + Sync>(
+    rt: &R,
+    alloc: Global,
+    job: &'a Job,
+    settings: &RunSettings,
+    bytes: &[u8],
+    gate: &G,
+) -> Result<Total<'a>, Stop>
+    requires job { IsJob job.now }
+    requires attempts { (1 ≤ job.now.attempts) × (job.now.attempts ≤ 8) }
+    requires workers { (1 ≤ settings.now.workers) × (settings.now.workers ≤ 64) }
+    requires shard { 1 ≤ settings.now.shard }
+    ensures value { RunsInput job.now settings.now.shard settings.now.frame bytes.now result }
+    ensures read { IsErrOf result Stop.ReadFailed → ⊥ }
+{
+    let mut intake = Intake::new(alloc, settings.frame, settings.shard);
+    let mut total = Total::new(alloc, job.compiled.tables())?;
+    take_all(&mut intake, bytes)?;
+    loop {
+        let _ = intake.wants_piece()?;
+        if let Some(ending) = intake.end() {
+            return ended(total, ending);
+        }
+        run_next(
+            rt,
+            alloc,
+            job,
+            settings.workers,
+            &mut intake,
+            &mut total,
+            gate,
+        )?;
+    }
+}
+
+/// Takes in an input as one piece, and then its end.
+fn take_all(intake: &mut Intake, bytes: &[u8]) -> Result<(), NoMemory>
+    requires more { intake.old.ending ≡ None }
+    ensures ok { OnOk result (TakesAll intake.old intake.new bytes.now) }
+{
+    intake.take(bytes)?;
+    if intake.ending.is_some() {
+        return Ok(());
+    }
+    intake.take(&[])
+}
+
+/// Reads pieces of a file until its next round is full, or its ending is known.
+fn fill<F: Files>(
+    intake: &mut Intake,
+    files: &mut F,
+    file: u32,
+    buffer: &mut [u8],
+) -> Result<(), OutsideError>
+    requires given { IsTrue (F.given files.old file) }
+    requires room { 0 < length buffer.old }
+    requires can_read { CanRead intake.old }
+    ensures ok { OnOk result (Fills intake.old intake.new (F.left files.old file) (F.left files.new file)) }
+    ensures ready { OnOk result (IsReady intake.new) }
+    ensures first { OnOk result (intake.new.first ≡ intake.old.first) }
+    ensures failed { IsErrOf result OutsideError.Failed → Rose (F.faults files.old) (F.faults files.new) }
+    ensures kept { KeepsOtherFiles F.held F.left F.given F.names F.faults file files.old files.new }
+{
+    while intake.wants_piece()? {
+        read_piece(intake, files, file, buffer)?;
+    }
+    Ok(())
+}
+
+/// Reads the next piece of a file.
+fn read_piece<F: Files>(
+    intake: &mut Intake,
+    files: &mut F,
+    file: u32,
+    buffer: &mut [u8],
+) -> Result<(), OutsideError>
+    requires given { IsTrue (F.given files.old file) }
+    requires room { 0 < length buffer.old }
+    requires can_read { CanRead intake.old }
+    requires more { intake.old.ending ≡ None }
+    ensures ok { OnOk result (ReadsPiece intake.old intake.new (F.left files.old file) (F.left files.new file)) }
+    ensures first { intake.new.first ≡ intake.old.first }
+    ensures failed { IsErrOf result OutsideError.Failed → Rose (F.faults files.old) (F.faults files.new) }
+    ensures kept { KeepsOtherFiles F.held F.left F.given F.names F.faults file files.old files.new }
+{
+    match files.read(file, buffer) {
+        Ok(count) => Ok(intake.take(&buffer[..count])?),
+        Err(Failed) => Err(OutsideError::Failed),
+    }
+}
+
+/// Runs the next round by so many workers, merges its tables into the total, and moves on behind it.
+fn run_next<'a, R: Threads + Wait + Sync, G: Gate + Sync>(
+    rt: &R,
+    alloc: Global,
+    job: &'a Job,
+    workers: u32,
+    intake: &mut Intake,
+    total: &mut Total<'a>,
+    gate: &G,
+) -> Result<(), Stop>
+    requires job { IsJob job.now }
+    requires attempts { (1 ≤ job.now.attempts) × (job.now.attempts ≤ 8) }
+    requires workers { (1 ≤ workers) × (workers ≤ 64) }
+    requires can_run { CanRun job.now intake.old total.old }
+    ensures ok { OnOk result (RunsRound job.now intake.old intake.new total.old total.new) }
+    ensures err { IfErr result (λ stop. StopsRound job.now intake.old total.old stop) }
+    ensures read { IsErrOf result Stop.ReadFailed → ⊥ }
+{
+    match run_round(rt, alloc, job, &intake.round, workers, gate)? {
+        RoundEnd::Tables(part) => merge(total, part)?,
+        RoundEnd::Fault { record_no, fault } => return Err(Stop::Fault { record_no, fault }),
+        RoundEnd::Lost(shard) => return Err(Stop::Lost(shard)),
+    }
+    intake.move_on();
+    Ok(())
+}
+
+/// Merges the tables of one round more.
+fn merge<'a>(total: &mut Total<'a>, part: Total<'a>) -> Result<(), NoMemory>
+    requires same { part.tables ≡ total.old.tables }
+    requires room { total.old.count + part.count ≤ 2 ^ 63 }
+    ensures ok { OnOk result (Joins declarations emit_count shown total.old part.entry total.new) }
+{
+    match total.merge(part) {
+        Ok(()) => Ok(()),
+        Err(_) => Err(NoMemory),
+    }
+}
+
+/// The tables of an input that ends so, behind its last round.
+fn ended<'a>(total: Total<'a>, ending: Ending) -> Result<Total<'a>, Stop>
+    ensures value { result ≡ ended_so total.entry ending }
+{
+    match ending {
+        Ending::Whole => Ok(total),
+        Ending::Damaged(byte) => Err(Stop::Damaged(byte)),
+        Ending::Limit(byte) => Err(Stop::Limit(byte)),
+    }
+}

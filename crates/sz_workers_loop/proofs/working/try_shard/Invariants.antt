@@ -1,0 +1,16 @@
+use Rattle.std.specs.Prelude.{◌≡◌}
+use Rattle.sz_book.specs.History.{HasDrawn}
+use Rattle.sz_book.specs.Orderly.{asks}
+use Rattle.sz_workers_loop.specs.Working.{Grows, IsAtWork}
+use Rattle.sz_workers_loop.specs.Tickets.{Leads}
+use Rattle.sz_workers_loop.proofs.LeftLemmas.{numbers_left}
+use Rattle.sz_workers_loop.proofs.working.try_shard.Given as goal
+
+-- the ticket is to ask for a number
+abbrev pub invariant-loop-number : goal.invariant-loop-number
+invariant-loop-number g l =
+    Leads g.T.Load.died g.T.Load.faults l.ledger.plan l.initial.pass l.pass l.claim.ticket asks asks × IsAtWork l.pass l.pocket
+    × HasDrawn l.claim l.pass.mine × (g.M.Maker.plan l.maker ≡ g.M.Maker.plan l.initial.maker) × Grows l.initial.pocket l.pocket
+
+abbrev pub decreases-loop-number : goal.decreases-loop-number
+decreases-loop-number g l = numbers_left l.pass l.claim.shard

@@ -1,0 +1,131 @@
+//! The work of one worker.
+ghost use Rattle.std.specs.Prelude.{◌≡◌, ◌<◌, [], ◌∷◌, IfOk, OnOk, OnErr};
+ghost use Rattle.sz_book.specs.History.{HasDrawn, HasNumber};
+ghost use Rattle.sz_book.specs.Orderly.{asks, tries, ended};
+ghost use Rattle.sz_claims.specs.Known.{AreInHand};
+ghost use Rattle.sz_workers_loop.specs.Makers.{GivesEmits};
+ghost use Rattle.sz_workers_loop.specs.Working.{Goes, IsInPlace, Grows, HasAllWon, IsAtWork};
+ghost use Rattle.sz_workers_loop.specs.Advances.{HasWorked, HasBegun};
+ghost use Rattle.sz_workers_loop.specs.Tickets.{Leads, Stops, phase_behind};
+
+use crate::maker::{Maker, Missed};
+use sz_book::{Claim, Lane, Load, NoMemory, Settled};
+use sz_claims::{Ledger, Pass};
+
+/// Draws tickets until none is left, runs their attempts, and puts the part of each shard that it wins into the pocket. It stops where
+/// there is no memory.
+pub fn work<T: Load, M: Maker<T>>(
+    maker: &mut M,
+    ledger: &Ledger<T>,
+    pass: &mut Pass<T>,
+    pocket: &mut Lane<T>,
+) -> Result<(), NoMemory>
+    requires of { (pass.old.ledger ≡ ledger.now) × (M.plan maker.old ≡ ledger.now.plan) }
+    requires ready { IsAtWork pass.old pocket.old }
+    ensures goes { Goes pass.old pass.new }
+    ensures place { IsInPlace pass.new }
+    ensures plan { M.plan maker.new ≡ M.plan maker.old }
+    ensures worked { OnOk result (HasWorked T.died T.faults ledger.now.plan pass.old pass.new) }
+    ensures begun { OnErr result (HasBegun T.died T.faults ledger.now.plan pass.old pass.new) }
+    ensures grows { Grows pocket.old pocket.new }
+    ensures hand { AreInHand pocket.new.shards pass.new.mine }
+    ensures won { OnOk result (HasAllWon pass.new pocket.new) }
+{
+    while let Some(claim) = ledger.draw(pass) {
+        try_shard(maker, ledger, pass, pocket, &claim)?;
+    }
+    Ok(())
+}
+
+// Runs attempts of the claim's shard until the ticket ends.
+fn try_shard<T: Load, M: Maker<T>>(
+    maker: &mut M,
+    ledger: &Ledger<T>,
+    pass: &mut Pass<T>,
+    pocket: &mut Lane<T>,
+    claim: &Claim,
+) -> Result<(), NoMemory>
+    requires of { (pass.old.ledger ≡ ledger.now) × (M.plan maker.old ≡ ledger.now.plan) }
+    requires ready { IsAtWork pass.old pocket.old }
+    requires drew { HasDrawn claim.now pass.old.mine }
+    ensures plan { M.plan maker.new ≡ M.plan maker.old }
+    ensures ok { OnOk result (Leads T.died T.faults ledger.now.plan pass.old pass.new claim.now.ticket asks ended) }
+    ensures err { OnErr result (Stops T.died T.faults ledger.now.plan pass.old pass.new claim.now.ticket asks) }
+    ensures grows { Grows pocket.old pocket.new }
+    ensures hand { AreInHand pocket.new.shards pass.new.mine }
+    ensures won { OnOk result (HasAllWon pass.new pocket.new) }
+{
+    while let Some(number) = ledger.number(pass, claim) {
+        if try_once(maker, ledger, pass, pocket, claim, number)? {
+            return Ok(());
+        }
+    }
+    Ok(())
+}
+
+// Makes an attempt and reports how it ended. Whether its ticket has ended.
+fn try_once<T: Load, M: Maker<T>>(
+    maker: &mut M,
+    ledger: &Ledger<T>,
+    pass: &mut Pass<T>,
+    pocket: &mut Lane<T>,
+    claim: &Claim,
+    number: u32,
+) -> Result<bool, NoMemory>
+    requires of { (pass.old.ledger ≡ ledger.now) × (M.plan maker.old ≡ ledger.now.plan) }
+    requires ready { IsAtWork pass.old pocket.old }
+    requires drew { HasDrawn claim.now pass.old.mine }
+    requires given { HasNumber claim.now number pass.old.mine }
+    ensures plan { M.plan maker.new ≡ M.plan maker.old }
+    ensures ok { IfOk result (λ done.
+        Leads T.died T.faults ledger.now.plan pass.old pass.new claim.now.ticket (tries number) (phase_behind done)) }
+    ensures err { OnErr result (Stops T.died T.faults ledger.now.plan pass.old pass.new claim.now.ticket (tries number)) }
+    ensures grows { Grows pocket.old pocket.new }
+    ensures hand { AreInHand pocket.new.shards pass.new.mine }
+    ensures won { OnOk result (HasAllWon pass.new pocket.new) }
+{
+    match maker.attempt(claim, number) {
+        Ok(part) => {
+            settle(ledger, pass, pocket, claim, number, part)?;
+            Ok(true)
+        }
+        Err(Missed::Died) => {
+            ledger.died(pass, claim, number);
+            Ok(false)
+        }
+        Err(Missed::Bad) => {
+            ledger.bad(pass, claim.shard);
+            Ok(true)
+        }
+        Err(Missed::NoMemory) => Err(NoMemory),
+    }
+}
+
+// Settles the claim's shard, and puts the part into the pocket where it was won.
+fn settle<T: Load>(
+    ledger: &Ledger<T>,
+    pass: &mut Pass<T>,
+    pocket: &mut Lane<T>,
+    claim: &Claim,
+    number: u32,
+    part: T,
+) -> Result<(), NoMemory>
+    requires of { pass.old.ledger ≡ ledger.now }
+    requires ready { IsAtWork pass.old pocket.old }
+    requires drew { HasDrawn claim.now pass.old.mine }
+    requires given { HasNumber claim.now number pass.old.mine }
+    requires part { (T.plan part ≡ ledger.now.plan) × T.stands part (claim.now.shard ∷ []) }
+    requires gave { GivesEmits T.died T.faults claim.now.shard number }
+    ensures led { Leads T.died T.faults ledger.now.plan pass.old pass.new claim.now.ticket (tries number) ended }
+    ensures grows { Grows pocket.old pocket.new }
+    ensures hand { AreInHand pocket.new.shards pass.new.mine }
+    ensures won { OnOk result (HasAllWon pass.new pocket.new) }
+{
+    match ledger.settle(pass, claim, number) {
+        Settled::Won(receipt) => match pocket.put(receipt, part) {
+            Ok(()) => Ok(()),
+            Err(_) => Err(NoMemory),
+        },
+        Settled::Late(_) => Ok(()),
+    }
+}

@@ -1,0 +1,67 @@
+-- What running a program gives, part by part.
+use Rattle.std.specs.Prelude.{◌≡◌, ℕ, ⊤, List, IfSome, Result, Ok, Err, Vec}
+use Rattle.sz_io.specs.Rose.{Rose}
+use Rattle.sz_io.specs.Calls.{NamesGain}
+use Rattle.sz_io.specs.declared.files.Files as files
+use Rattle.sz_io.specs.declared.error.OutsideError.{OutsideError}
+use Rattle.sz_io.specs.declared.error.OutsideError.TheVariants as outside
+use Rattle.sz_types.specs.declared.frame.Frame.{Frame}
+use Rattle.sz_core.specs.Programs.{Core}
+use Rattle.sz_world_rules.specs.World.{Done, Faulted}
+use Rattle.sz_world_rules.specs.Slots.{Slot}
+use Rattle.sz_mean.specs.Programs.{statics}
+use Rattle.sz_machine.specs.Ends.{seen_fault}
+use Rattle.sz_words.specs.declared.settings.RunSettings.{RunSettings}
+use Rattle.sz_attempt.specs.declared.job.Job.{Job}
+use Rattle.sz_rounds.specs.Outcomes.{outcome_of}
+use Rattle.sz_stream.specs.declared.stop.Stop.{Stop}
+use Rattle.sz_stream.specs.declared.stop.Stop.TheVariants as stops
+use Rattle.szl.specs.declared.failure.Failure.{Failure}
+use Rattle.szl.specs.declared.failure.Failure.TheVariants as failure
+use Rattle.szl.specs.Opening.{Decides, ran_out}
+use Rattle.szl.specs.Outcome.{outcome_of_shards}
+use Rattle.szl.specs.Records.{Cut, IsCutInto}
+use Rattle.szl.specs.Shards.{shards_in, job_of}
+
+-- the bytes of a vector that a result holds, or its failure
+abbrev pub vec_items_of : {A : Type 0} → Result (Vec ℕ A) Failure → Result (List ℕ) Failure
+vec_items_of (Ok bytes) = Ok bytes.items
+vec_items_of (Err failure) = Err failure
+
+-- the statics that a program means, or the fault in one, which is that of record 0; or want of memory
+abbrev pub GivesStatics : Core → ℕ → Result (List Slot) Failure → Type 0
+GivesStatics program budget (Ok slots) = statics program budget ≡ Done slots
+GivesStatics program budget (Err (failure.Faulted number fault)) = (number ≡ 0) × (statics program budget ≡ Faulted (seen_fault fault))
+GivesStatics program budget (Err failure.NoMemory) = ⊤
+GivesStatics program budget (Err failure) = ⊥
+
+-- why the input couldn't be opened
+abbrev pub failure_of_opening : OutsideError → Failure
+failure_of_opening outside.Failed = failure.ReadFailed
+failure_of_opening outside.NoMemory = failure.NoMemory
+
+-- why an input has no tables
+abbrev pub failure_of_stop : Stop → Failure
+failure_of_stop (stops.Fault number fault) = failure.Faulted number fault
+failure_of_stop (stops.Lost shard) = failure.Lost shard
+failure_of_stop (stops.Damaged byte) = failure.Damaged byte
+failure_of_stop (stops.Limit byte) = failure.Limit byte
+failure_of_stop stops.ReadFailed = failure.ReadFailed
+failure_of_stop stops.NoMemory = failure.NoMemory
+
+-- what running a job over an input gives: the outcome of the shards of the input's records; or that a read failed, or want of memory
+pub record GivesTables (job : Job) (most : ℕ) (frame : Frame) (input : List ℕ) (rose : Type 0) (answer : Result (List ℕ) Failure) : Type 0 where
+  pub cut : Cut
+  pub is_cut : IsCutInto frame input cut
+  pub decides : Decides answer (outcome_of_shards job.compiled cut.ending (outcome_of job (shards_in most cut.records))) rose
+
+-- what running a job over the file of the settings gives, which is opened for it
+pub record GivesFile {F : Type 0} (the_files : files.Ghosts F) (job : Job) (s : RunSettings) (old new : F) (answer : Result (List ℕ) Failure) : Type 0 where
+  pub input : List ℕ
+  pub holds : IfSome (the_files.held old s.input) (λ bytes. bytes ≡ input)
+  pub tables : GivesTables job s.shard s.frame input (Rose (the_files.faults old) (the_files.faults new)) answer
+  pub opened : NamesGain (ran_out answer) (the_files.names old) (the_files.names new) s.input
+
+-- the job is what the outcome knows of the run, with some shards doubled
+pub record IsJobOf (program : Core) (slots : List Slot) (s : RunSettings) (job : Job) : Type 0 where
+  pub same : job ≡ record (job_of program slots s) { twice = job.twice }

@@ -1,0 +1,98 @@
+//! A program run over an input.
+ghost use Rattle.std.specs.Prelude.{◌≡◌, ◌<◌, ◌≤◌, ◌^◌, ◌++◌, ◌∷◌, [], IfOk, OnOk, length};
+ghost use Rattle.sz_gen_rules.specs.Simulates.{static_types};
+ghost use Rattle.sz_world_rules.specs.Typed.{AllFit};
+ghost use Rattle.sz_attempt.specs.Shards.{IsJob};
+ghost use Rattle.sz_io.specs.Opened.{KeepsFiles};
+ghost use Rattle.sz_io.specs.Calls.{ReadToEnd};
+ghost use Rattle.szl.specs.ProgramRuns.{GivesStatics, GivesTables, GivesFile, IsJobOf, vec_items_of};
+ghost use Rattle.szl.specs.Settings.{HasBounds};
+
+use crate::failure::Failure;
+use std::alloc::Global;
+use std::sync::Wait;
+use std::thread::Threads;
+use sz_attempt::Job;
+use sz_gen_stmt::Compiled;
+use sz_io::{Files, Gate};
+use sz_list::Items;
+use sz_machine::{StaticsEnd, run_statics};
+use sz_print::text;
+use sz_stream::{run_bytes, run_file};
+use sz_value::{NoMemory, Slots};
+use sz_words::RunSettings;
+
+/// The statics of the program, all of them with so many ticks.
+pub fn statics_of(alloc: Global, compiled: &Compiled, budget: u64) -> Result<Slots, Failure>
+    requires least { 1 ≤ budget }
+    requires most { budget ≤ 2 ^ 32 }
+    ensures value { GivesStatics compiled.now budget result }
+    ensures fit { IfOk result (λ slots. AllFit slots (static_types compiled.now)) }
+{
+    match run_statics(alloc, compiled.code(), budget)? {
+        StaticsEnd::Done(slots) => Ok(slots),
+        StaticsEnd::Fault(fault) => Err(Failure::Faulted(0, fault)),
+    }
+}
+
+/// What the attempts of a run have in common, as its settings ask for it.
+pub fn job_of(
+    alloc: Global,
+    compiled: Compiled,
+    statics: Slots,
+    settings: &RunSettings,
+) -> Result<Job, NoMemory>
+    ensures value { IfOk result (λ job. IsJobOf compiled statics settings.now job) }
+{
+    let kills = Items::copied(alloc, settings.kills.as_slice())?;
+    let twice = Items::copied(alloc, settings.twice.as_slice())?;
+    Ok(Job {
+        compiled,
+        statics,
+        budget: settings.budget,
+        attempts: settings.attempts,
+        kills,
+        twice,
+    })
+}
+
+/// The text of the program's tables for all records of the file that the settings name, by the frame, shards and workers that they ask for.
+pub fn tables_of_file<R: Threads + Wait + Sync, F: Files, G: Gate + Sync>(
+    rt: &R,
+    alloc: Global,
+    job: &Job,
+    settings: &RunSettings,
+    files: &mut F,
+    gate: &G,
+) -> Result<Vec<u8>, Failure>
+    requires few { length (F.names files.old) < 128 }
+    requires job { IsJob job.now }
+    requires attempts { (1 ≤ job.now.attempts) × (job.now.attempts ≤ 8) }
+    requires bounds { HasBounds settings.now }
+    ensures value { GivesFile F.Files job.now settings.now files.old files.new (vec_items_of result) }
+    ensures end { OnOk result (ReadToEnd F.Files files.old files.new settings.now.input) }
+    ensures names { OnOk result (F.names files.new ≡ F.names files.old ++ settings.now.input ∷ []) }
+    ensures kept { KeepsFiles F.held F.left F.given F.faults files.old files.new }
+{
+    let file = files.open_file(settings.input.as_str())?;
+    let total = run_file(rt, alloc, job, settings, files, file, gate)?;
+    Ok(text(alloc, &total, job.compiled.tables())?)
+}
+
+/// The same for these bytes.
+pub fn tables_of_bytes<R: Threads + Wait + Sync, G: Gate + Sync>(
+    rt: &R,
+    alloc: Global,
+    job: &Job,
+    settings: &RunSettings,
+    input: &[u8],
+    gate: &G,
+) -> Result<Vec<u8>, Failure>
+    requires job { IsJob job.now }
+    requires attempts { (1 ≤ job.now.attempts) × (job.now.attempts ≤ 8) }
+    requires bounds { HasBounds settings.now }
+    ensures value { GivesTables job.now settings.now.shard settings.now.frame input.now ⊥ (vec_items_of result) }
+{
+    let total = run_bytes(rt, alloc, job, settings, input, gate)?;
+    Ok(text(alloc, &total, job.compiled.tables())?)
+}
