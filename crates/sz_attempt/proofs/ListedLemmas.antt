@@ -58,7 +58,7 @@ kills_step s k one ks = by (is_of s k one)
     by true = refl
     by false = refl
 
--- one kill more behind
+-- one kill more after
 pub kills_more : (s k : ℕ) (ks : List Kill) (one : Kill) → least_of (kills_of s k (ks ++ one ∷ [])) ≡ least_with s k one (least_of (kills_of s k ks))
 kills_more s k ks one =
     ap least_of (ap (map (λ (x : Kill). x.after)) (filter-append (is_of s k) ks (one ∷ []))

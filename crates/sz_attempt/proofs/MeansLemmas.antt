@@ -4,30 +4,30 @@ use Rattle.std.proofs.Common.{length-append}
 use Rattle.sz_tabs.specs.Data.{EmitDatum}
 use Rattle.sz_world_rules.specs.World.{Fault, Outcome, Done, Faulted}
 use Rattle.sz_mean.specs.Programs.{mean}
-use Rattle.sz_mean.specs.Records.{Records, Emitted, FaultedAt, behind_emits, then_records}
-use Rattle.sz_mean.proofs.RecordLaws.{behind_both}
+use Rattle.sz_mean.specs.Records.{Records, Emitted, FaultedAt, after_emits, then_records}
+use Rattle.sz_mean.proofs.RecordLaws.{later_both}
 use Rattle.sz_mean.proofs.EmitCosts.{emits_are_paid}
 use Rattle.sz_attempt.specs.declared.job.Job.{Job}
 use Rattle.sz_attempt.specs.Attempts.{means, is_clean}
 
--- what comes of records behind which others come
+-- what comes of records after which others come
 abbrev pub joined : Records → Records → Records
-joined (Emitted es) r = behind_emits es r
+joined (Emitted es) r = after_emits es r
 joined (FaultedAt n f) r = FaultedAt n f
 
-behind_nothing : (r : Records) → r ≡ behind_emits [] r
-behind_nothing (Emitted es) = refl
-behind_nothing (FaultedAt n f) = refl
+after_nothing : (r : Records) → r ≡ after_emits [] r
+after_nothing (Emitted es) = refl
+after_nothing (FaultedAt n f) = refl
 
-behind_joined : (es : List EmitDatum) (a b : Records) → behind_emits es (joined a b) ≡ joined (behind_emits es a) b
-behind_joined es (Emitted fs) b = behind_both es fs b
-behind_joined es (FaultedAt n f) b = refl
+after_joined : (es : List EmitDatum) (a b : Records) → after_emits es (joined a b) ≡ joined (after_emits es a) b
+after_joined es (Emitted fs) b = later_both es fs b
+after_joined es (FaultedAt n f) b = refl
 
 then_joined : (n : ℕ) (o : Outcome (List EmitDatum)) (a b : Records) → then_records n o (joined a b) ≡ joined (then_records n o a) b
-then_joined n (Done es) a b = behind_joined es a b
+then_joined n (Done es) a b = after_joined es a b
 then_joined n (Faulted f) a b = refl
 
--- a list in front of a place and behind it
+-- a list in front of a place and after it
 pub take_and_drop : {A : Type 0} (n : ℕ) (xs : List A) → xs ≡ take n xs ++ drop n xs
 take_and_drop zero xs = refl
 take_and_drop (suc n) [] = refl
@@ -54,7 +54,7 @@ module _ (job : Job) where
   pub means-append : (n : ℕ) (xs ys : List (List ℕ)) → means job n (xs ++ ys) ≡ joined (means job n xs) (means job (n + length xs) ys)
   means-append n [] ys =
       let same : n + 0 ≡ n = omega arith in
-      behind_nothing (means job n ys) ∙ ap (λ m. behind_emits [] (means job m ys)) (sym same)
+      after_nothing (means job n ys) ∙ ap (λ m. after_emits [] (means job m ys)) (sym same)
   means-append n (x ∷ xs) ys =
       let same : suc n + length xs ≡ n + suc (length xs) = omega arith in
       let one = mean job.compiled job.statics job.budget x in
@@ -67,7 +67,7 @@ module _ (job : Job) where
       → mean job.compiled job.statics job.budget x ≡ Done more → means job n (xs ++ x ∷ []) ≡ Emitted (es ++ more)
   means_more n xs x es more front last =
       means-append n xs (x ∷ []) ∙ ap (λ r. joined r (means job (n + length xs) (x ∷ []))) front
-      ∙ ap (λ o. behind_emits es (then_records (n + length xs) o (Emitted []))) last
+      ∙ ap (λ o. after_emits es (then_records (n + length xs) o (Emitted []))) last
       ∙ ap (λ fs. Emitted (es ++ fs)) (append-nil more)
 
   -- one record more that faults
@@ -75,7 +75,7 @@ module _ (job : Job) where
       → mean job.compiled job.statics job.budget x ≡ Faulted f → means job n (xs ++ x ∷ []) ≡ FaultedAt (n + length xs) f
   means_fault n xs x es f front last =
       means-append n xs (x ∷ []) ∙ ap (λ r. joined r (means job (n + length xs) (x ∷ []))) front
-      ∙ ap (λ o. behind_emits es (then_records (n + length xs) o (Emitted []))) last
+      ∙ ap (λ o. after_emits es (then_records (n + length xs) o (Emitted []))) last
 
   -- a fault among the first records is that of them all
   pub fault_stays : (n i k : ℕ) (xs : List (List ℕ)) (f : Fault) → means job n (take i xs) ≡ FaultedAt k f → means job n xs ≡ FaultedAt k f
@@ -110,8 +110,8 @@ module _ (job : Job) where
           → length es ≤ job.budget * suc (length rs)
       by (Done front) (Emitted fs) paid few e =
           let first = emits_are_paid job.compiled job.statics job.budget r front paid in
-          let behind = few fs refl in
+          let later = few fs refl in
           let both = sym (ap length (same (front ++ fs) es e)) in
-          omega (arith, first, behind, both, length-append front fs)
+          omega (arith, first, later, both, length-append front fs)
       by (Done front) (FaultedAt k f) paid few e = absurd (cc)
       by (Faulted f) rest paid few e = absurd (cc)

@@ -36,9 +36,9 @@ some_same x y e = cc
 -- the values of slots that are all defined
 appended : (slots rest : List Slot) (ds es : List Datum) → all_defined slots ≡ Some ds → all_defined rest ≡ Some es
     → all_defined (slots ++ rest) ≡ Some (ds ++ es)
-appended [] rest ds es front behind = behind ∙ ap (λ l. Some (l ++ es)) (some_same [] ds front)
-appended (None ∷ slots) rest ds es front behind = absurd (cc)
-appended (Some d ∷ slots) rest ds es front behind = by (all_defined slots) refl front (λ fs is. appended slots rest fs es is behind)
+appended [] rest ds es front later = later ∙ ap (λ l. Some (l ++ es)) (some_same [] ds front)
+appended (None ∷ slots) rest ds es front later = absurd (cc)
+appended (Some d ∷ slots) rest ds es front later = by (all_defined slots) refl front (λ fs is. appended slots rest fs es is later)
   where
     by : (found : Option (List Datum)) → all_defined slots ≡ found → option_map (λ l. d ∷ l) found ≡ Some ds
         → ((fs : List Datum) → all_defined slots ≡ Some fs → all_defined (slots ++ rest) ≡ Some (fs ++ es))
@@ -265,13 +265,13 @@ module _ (budget : ℕ) where
     leads_keeps None s x leads keeps = absurd leads
     leads_keeps (Some line) s x leads keeps = subst KeepsAfter leads.1 (line_keeps line s keeps)
 
-    -- what goes on behind a line
+    -- what goes on after a line
     keeps_on : (y x : After) (next : State → Type 0) → ((s : State) → next s → Keeps s.world → KeepsAfter x) → GoesOn y next x → KeepsAfter y
         → KeepsAfter x
-    keeps_on (Goes s) x next behind goes keeps = behind s goes keeps
-    keeps_on (Halts w statics) x next behind goes keeps = subst KeepsAfter goes keeps
-    keeps_on (Faults fault) x next behind goes keeps = subst KeepsAfter goes keeps
-    keeps_on Stuck x next behind goes keeps = absurd goes
+    keeps_on (Goes s) x next later goes keeps = later s goes keeps
+    keeps_on (Halts w statics) x next later goes keeps = subst KeepsAfter goes keeps
+    keeps_on (Faults fault) x next later goes keeps = subst KeepsAfter goes keeps
+    keeps_on Stuck x next later goes keeps = absurd goes
 
     -- whatever a run comes to
     runs_keep : (n : ℕ) (s : State) (x : After) → RunsFor code n s x → Keeps s.world → KeepsAfter x

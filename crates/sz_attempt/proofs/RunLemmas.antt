@@ -39,10 +39,10 @@ take_suc (y ∷ xs) (suc i) x there = ap (λ zs. y ∷ zs) (take_suc xs i x ther
 pub take_got : {A : Type 0} (xs : List A) (i : ℕ) (x : A) → slice_get xs i ≡ Some x → take (i + 1) xs ≡ take i xs ++ x ∷ []
 take_got xs i x there = let next : i + 1 ≡ suc i = omega arith in ap (λ n. take n xs) next ∙ take_suc xs i x there
 
-got_behind : {A : Type 0} (a : ℕ) (xs : List A) (i : ℕ) → slice_get (drop a xs) i ≡ slice_get xs (a + i)
-got_behind zero xs i = let same : i ≡ 0 + i = omega arith in ap (λ n. slice_get xs n) same
-got_behind (suc a) [] i = refl
-got_behind (suc a) (x ∷ xs) i = let next : suc a + i ≡ suc (a + i) = omega arith in got_behind a xs i ∙ ap (λ n. slice_get (x ∷ xs) n) (sym next)
+got_after : {A : Type 0} (a : ℕ) (xs : List A) (i : ℕ) → slice_get (drop a xs) i ≡ slice_get xs (a + i)
+got_after zero xs i = let same : i ≡ 0 + i = omega arith in ap (λ n. slice_get xs n) same
+got_after (suc a) [] i = refl
+got_after (suc a) (x ∷ xs) i = let next : suc a + i ≡ suc (a + i) = omega arith in got_after a xs i ∙ ap (λ n. slice_get (x ∷ xs) n) (sym next)
 
 got_in_front : {A : Type 0} (n : ℕ) (xs : List A) (i : ℕ) → i < n → slice_get (take n xs) i ≡ slice_get xs i
 got_in_front zero xs i less = absurd (omega arith)
@@ -52,16 +52,16 @@ got_in_front (suc n) (x ∷ xs) (suc i) less = got_in_front n xs i (omega arith)
 
 -- the item at a place of a part of a list
 pub got_in_range : {A : Type 0} (xs : List A) (a b i : ℕ) (x : A) → slice_get xs (a + i) ≡ Some x → i < b - a → slice_get (slice_range xs a b) i ≡ Some x
-got_in_range xs a b i x there less = got_in_front (b - a) (drop a xs) i less ∙ got_behind a xs i ∙ there
+got_in_range xs a b i x there less = got_in_front (b - a) (drop a xs) i less ∙ got_after a xs i ∙ there
 
-left_behind : {A : Type 0} (ys : List A) (n : ℕ) → length ys - n ≤ length (drop n ys)
-left_behind ys zero = omega arith
-left_behind [] (suc n) = omega arith
-left_behind (y ∷ ys) (suc n) = let rest = left_behind ys n in omega (arith, rest)
+left_later : {A : Type 0} (ys : List A) (n : ℕ) → length ys - n ≤ length (drop n ys)
+left_later ys zero = omega arith
+left_later [] (suc n) = omega arith
+left_later (y ∷ ys) (suc n) = let rest = left_later ys n in omega (arith, rest)
 
 -- a part of a list within it has all items between the two places
 pub length_of_range : {A : Type 0} (xs : List A) (a b : ℕ) → b ≤ length xs → length (slice_range xs a b) ≡ b - a
-length_of_range xs a b le = let long : b - a ≤ length (drop a xs) = omega (arith, le, left_behind xs a) in length-take_within (b - a) (drop a xs) long
+length_of_range xs a b le = let long : b - a ≤ length (drop a xs) = omega (arith, le, left_later xs a) in length-take_within (b - a) (drop a xs) long
 
 -- emits that are added one after the other
 pub gains_nothing : (total : TotalState) → GainsAll total total []
@@ -157,7 +157,7 @@ module _ (job : Job) (first : ℕ) (records : List (List ℕ)) where
     few = omega (arith, gains.count, h.few, is.budget.most, emits_are_paid job.compiled job.statics job.budget r es gives);
   }
 
-  -- a record faults, and so do all up to any place behind it
+  -- a record faults, and so do all up to any place after it
   pub run_fails : (i n : ℕ) (old : TotalState) (r : List ℕ) (f : Fault) → slice_get records i ≡ Some r → i < n
       → mean job.compiled job.statics job.budget r ≡ Faulted f → IsRunUpTo job first records i old
       → means job first (take n records) ≡ FaultedAt (first + i) f

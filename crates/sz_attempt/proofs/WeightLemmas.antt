@@ -7,7 +7,7 @@ use Rattle.sz_types.specs.declared.table.TableKind.{TableKind}
 use Rattle.sz_types.specs.declared.table.TableKind.TheVariants.{Sum, Maximum, Minimum, Set, Collection}
 use Rattle.sz_core.specs.Programs.{Item, Core, tables_of}
 use Rattle.sz_core.specs.Programs as items
-use Rattle.sz_core.specs.Sound.{IsSound, AreItems, Declared, nothing_declared, record_sight, seen_behind}
+use Rattle.sz_core.specs.Sound.{IsSound, AreItems, Declared, nothing_declared, record_sight, seen_after}
 use Rattle.sz_core.specs.WellFormed.{kind_allows, is_weight, is_between}
 use Rattle.sz_total.specs.Weights.{ranks, HasItsWeights, HaveTheirWeights}
 
@@ -38,7 +38,7 @@ items_have_weights locals seen d (items.function f ∷ rest) sound =
 items_have_weights locals seen d (items.static s ∷ rest) sound =
     items_have_weights locals seen (record d { statics = d.statics ++ s.type ∷ [] }) rest sound.1
 items_have_weights locals seen d (items.statement s ∷ rest) sound =
-    items_have_weights locals (seen_behind (record_sight locals seen d) s).seen d rest sound.1
+    items_have_weights locals (seen_after (record_sight locals seen d) s).seen d rest sound.1
 
 -- each table of a sound program has weights if it ranks its values by them
 pub have_their_weights : (program : Core) → IsSound program → HaveTheirWeights (tables_of program.items)

@@ -27,7 +27,7 @@ abbrev pub run_of : Option ℕ → ℕ → ℕ
 run_of (Some after) count = after
 run_of None count = count
 
--- the new tables stand for each list that the old ones stand for, with these emits behind it
+-- the new tables stand for each list that the old ones stand for, with these emits after it
 pub record GainsAll (old new : TotalState) (emits : List EmitDatum) : Type 0 where
   pub tables : new.tables ≡ old.tables
   pub count : new.count ≡ old.count + length emits

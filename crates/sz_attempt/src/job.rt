@@ -40,7 +40,7 @@ pub struct Shard {
     pub first: u64,
     /// The place of its first record among those at hand, counted from 0.
     pub start: usize,
-    /// The place behind its last record.
+    /// The place after its last record.
     pub end: usize,
 }
 

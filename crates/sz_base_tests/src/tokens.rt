@@ -4,7 +4,7 @@ use std::fmt::Write;
 use sz_lex::{LexError, Quoted, Tokens, decode, lex};
 use sz_types::{NoMemory, Place};
 
-// In each line a text stands before `=>`, and behind it the kinds of its tokens, or why it has none.
+// In each line a text stands before `=>`, and after it the kinds of its tokens, or why it has none.
 const LINES: &str = r##"# Words and names. =>
 all array bool break bytes continue => Word(All) Word(Array) Word(Bool) Word(Break) Word(Bytes) Word(Continue)
 def do each else emit false for function => Word(Def) Word(Do) Word(Each) Word(Else) Word(Emit) Word(False) Word(For) Word(Function)
@@ -129,7 +129,7 @@ const ROWS: &[Row] = &[
     Row::Longest,
 ];
 
-// The tables behind calls, so that no proof sees what stands in them.
+// The tables after calls, so that no proof sees what stands in them.
 fn table() -> &'static str {
     LINES
 }
@@ -138,14 +138,14 @@ fn rows() -> &'static [Row] {
     ROWS
 }
 
-// The kinds of tokens, each behind a space. Where memory runs out the text is another one than it should be.
+// The kinds of tokens, each after a space. Where memory runs out the text is another one than it should be.
 fn kinds(out: &mut String, tokens: &Tokens) {
     for token in tokens.as_slice() {
         let _ = write!(out, " {:?}", token.kind);
     }
 }
 
-// The places of tokens with their lengths in bytes, each behind a space.
+// The places of tokens with their lengths in bytes, each after a space.
 fn places(out: &mut String, tokens: &Tokens) {
     for token in tokens.as_slice() {
         let (place, len) = (token.place, tokens.lexeme(token).len());
@@ -185,7 +185,7 @@ fn comes_of(alloc: Global, text: &[u8], is_of_kinds: bool, wanted: &str) -> bool
     found.as_str() == wanted
 }
 
-// Whether what stands behind the arrow comes of what stands in front of it.
+// Whether what stands after the arrow comes of what stands in front of it.
 fn line_holds(alloc: Global, line: &str) -> bool {
     match line.split_once(" =>") {
         Some((text, wanted)) => comes_of(alloc, text.as_bytes(), true, wanted),

@@ -6,7 +6,7 @@ use std::cmp::Ordering;
 use std::hash::{DefaultHasher, Hash, Hasher};
 use sz_value::{List, NoMemory, Pair, Pairs, Slot, Slots, Text, Value, copy, equal, order, weight};
 
-// Each value is less than all behind it.
+// Each value is less than all after it.
 const ASCENDING: &[Given] = &[
     Bool(false),
     Bool(true),
@@ -91,7 +91,7 @@ const ROWS: &[Row] = &[
     Row::Slots,
 ];
 
-// The tables behind calls, so that no proof sees what stands in them.
+// The tables after calls, so that no proof sees what stands in them.
 fn ascending() -> &'static [Given] {
     ASCENDING
 }
@@ -136,7 +136,7 @@ fn copy_stands_at(
     Ok(stands)
 }
 
-// Whether this is less than all values behind the place, more than all before it, and equal to the one there alone, as which
+// Whether this is less than all values after the place, more than all before it, and equal to the one there alone, as which
 // it hashes.
 fn is_between(values: &[Value], place: usize, made: &Value) -> bool {
     let mut all = true;

@@ -43,9 +43,9 @@ marked_at s i [] low = absurd (omega arith)
 marked_at s zero (mark ∷ marks) low = refl
 marked_at s (suc i) (mark ∷ marks) low = marked_at s i marks (omega arith)
 
-unplaced_behind : (n a : ℕ) (marks ss : List ℕ) → AreUnplaced n marks ss → AreUnplaced n (a ∷ marks) (map suc ss)
-unplaced_behind n a marks [] h = tt
-unplaced_behind n a marks (s ∷ ss) h = (h.0, unplaced_behind n a (set marks s 0) ss h.1)
+unplaced_after : (n a : ℕ) (marks ss : List ℕ) → AreUnplaced n marks ss → AreUnplaced n (a ∷ marks) (map suc ss)
+unplaced_after n a marks [] h = tt
+unplaced_after n a marks (s ∷ ss) h = (h.0, unplaced_after n a (set marks s 0) ss h.1)
 
 one_unplaced : (mark : ℕ) (marks ss : List ℕ) → mark ≤ 1 → AreUnplaced 0 (0 ∷ marks) ss → AreUnplaced 0 (mark ∷ marks) (cond (mark == 0) ss (0 ∷ ss))
 one_unplaced zero marks ss low h = h
@@ -56,7 +56,7 @@ one_unplaced (suc m) marks ss low h = let one : suc m ≡ 1 = omega (arith, low)
 pub unplaced_all : (marks : List ℕ) → ((s : ℕ) → slice_index marks s ≤ 1) → AreUnplaced 0 marks (marked_from 0 marks)
 unplaced_all [] low = tt
 unplaced_all (mark ∷ marks) low = one_unplaced mark marks (marked_from 1 marks) (low 0)
-    (subst (AreUnplaced 0 (0 ∷ marks)) (sym (marked_later 0 marks)) (unplaced_behind 0 0 marks (marked_from 0 marks) (unplaced_all marks (λ s. low (suc s)))))
+    (subst (AreUnplaced 0 (0 ∷ marks)) (sym (marked_later 0 marks)) (unplaced_after 0 0 marks (marked_from 0 marks) (unplaced_all marks (λ s. low (suc s)))))
 
 -- an allowed event fits with what comes with it
 pub brought_fits : (p : PlanData) (x : LedgerState) (event : Event) → IsSound p x → IsAllowed p x event → Fits p x 0 event (brought x event)

@@ -128,7 +128,7 @@ shards_at [] i d low = absurd (omega arith)
 shards_at (l ∷ ls) zero d low = refl
 shards_at (l ∷ ls) (suc i) d low = shards_at ls i d (omega arith)
 
--- a list with these shards behind it
+-- a list with these shards after it
 abbrev pub longer : ReservedData → List ℕ → ReservedData
 longer r ss = record { room = r.room; shards = r.shards ++ ss }
 

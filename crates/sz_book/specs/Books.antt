@@ -60,7 +60,7 @@ Lends old i lane new =
 abbrev pub LendsNone : ShelfData → ℕ → ShelfData → Type 0
 LendsNone old i new = (new.homes ≡ old.homes) × (Applies old.held (LaneOut i) [] (Lane false) new.held ⊎ Refuses old (LaneOut i) [] new)
 
--- the lane came home with these shards behind those that it had
+-- the lane came home with these shards after those that it had
 abbrev pub Homes : ShelfData → ℕ → LaneData → List ℕ → ShelfData → Type 0
 Homes old i lane further new = Applies old.held (LaneBack i) further Noted new.held × (new.homes ≡ slice_set old.homes i (Some lane))
 

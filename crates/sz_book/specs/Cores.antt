@@ -49,8 +49,8 @@ marked_from s [] = []
 marked_from s (mark ∷ marks) = if mark == 0 then marked_from (suc s) marks else s ∷ marked_from (suc s) marks
 
 -- whether a shard is marked, and none of those in front of it
-abbrev pub is_unplaced_behind : List ℕ → List ℕ → ℕ → Bool
-is_unplaced_behind marks front s = (slice_index marks s == 1) && not (list_any (λ t. t == s) front)
+abbrev pub is_unplaced_after : List ℕ → List ℕ → ℕ → Bool
+is_unplaced_after marks front s = (slice_index marks s == 1) && not (list_any (λ t. t == s) front)
 
 -- the shards that were won and are in no lane, in order
 abbrev pub floating : LedgerState → List ℕ

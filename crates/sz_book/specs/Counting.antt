@@ -76,7 +76,7 @@ left_by p lanes log = state_after p (opening p lanes) log
 abbrev pub EachShardCountsOnce : Type 0
 EachShardCountsOnce = (p : PlanData) (lanes : ℕ) (log : List Entry) → IsPlan p → IsLegal p lanes log → CountsOnce p (left_by p lanes log) log
 
--- a shard that is settled keeps its winner, whatever comes behind
+-- a shard that is settled keeps its winner, whatever comes after
 abbrev pub TheWinnerStays : Type 0
 TheWinnerStays = (p : PlanData) (lanes : ℕ) (front back : List Entry) (s w : ℕ) → IsPlan p → IsLegal p lanes (front ++ back)
     → slice_index (left_by p lanes front).winners s ≡ w + 1 → slice_index (left_by p lanes (front ++ back)).winners s ≡ w + 1

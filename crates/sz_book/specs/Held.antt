@@ -35,7 +35,7 @@ is_change p x (LaneOut i) shards = false
 is_change p x (LaneBack i) shards = nat_lt 0 (length shards)
 is_change p x (Bad s) shards = nat_lt s x.least_bad
 
--- the history after a call: the call stands behind it, if it was a change
+-- the history after a call: the call stands after it, if it was a change
 abbrev pub history_after : HeldData → Event → List ℕ → Reply → List Entry
 history_after h event shards reply = if is_change h.plan h.state event shards then h.history ++ entry 0 event shards reply ∷ [] else h.history
 
@@ -45,7 +45,7 @@ pub record Applies (old : HeldData) (event : Event) (shards : List ℕ) (reply :
   pub history : new.history ≡ history_after old event shards reply
   pub kept : (new.plan ≡ old.plan) × (new.lanes ≡ old.lanes)
 
--- the lending that a return stands behind
+-- the lending that a return stands after
 abbrev pub lending : Event → List Entry
 lending (LaneBack i) = entry 0 (LaneOut i) [] (Lane true) ∷ []
 lending event = []
@@ -69,7 +69,7 @@ abbrev pub ChangesAreSeen : Type 0
 ChangesAreSeen = (p : PlanData) (x : LedgerState) (event : Event) (shards : List ℕ) → IsSound p x → Fits p x 0 event shards
     → (is_change p x event shards ≡ true) ↔ (all_home (after p x 0 event shards) ≢ all_home x)
 
--- the history that changes stand for: with each come so many of the shards that are listed behind one another
+-- the history that changes stand for: with each come so many of the shards that are listed after one another
 abbrev pub history_of : List Change → List ℕ → List Entry
 history_of [] brought = []
 history_of (c ∷ cs) brought = entry 0 c.event (take c.shards brought) c.reply ∷ history_of cs (drop c.shards brought)

@@ -15,7 +15,7 @@ use std::alloc::Global;
 use std::marker::Model;
 use std::sync::{Mutex, Wait};
 
-/// The ledger of a round behind one lock. Each call tests under the lock whether its event fits the state. If it does, it is taken in
+/// The ledger of a round after one lock. Each call tests under the lock whether its event fits the state. If it does, it is taken in
 /// and answered; if it doesn't, nothing changes.
 ///
 /// Contracts see its plan. What the lock keeps is told by no call but the last one; what a call answers is held against the plan.
@@ -207,7 +207,7 @@ impl<T: Load> Book<T> {
         self.shelf.lock(rt).lend(lane_no)
     }
 
-    /// Gives back a lane. It is dropped where it isn't out, or where it doesn't have the shards that it was lent with, and behind them
+    /// Gives back a lane. It is dropped where it isn't out, or where it doesn't have the shards that it was lent with, and after them
     /// further ones that are distinct, won and in no lane.
     pub fn give<W: Wait>(&self, rt: &W, _pass: &mut BookPass, lane_no: u32, lane: Lane<T>) {
         self.shelf.lock(rt).give(lane_no, lane);

@@ -20,7 +20,7 @@ use std::marker::{Model, PhantomData};
 pub struct Held<T: Load> {
     core: Core,
     changes: Vec<Change>,
-    /// The shards that came with the changes, behind one another.
+    /// The shards that came with the changes, after one another.
     brought: Reserved,
     meanings: PhantomData<T>,
 }
@@ -47,7 +47,7 @@ impl<T: Load> Model for Held<T> {
     ghost invariant = { λ held. IsHeld T.died T.faults held.core held.changes.items held.brought (vec_capacity held.changes) };
 }
 
-// Puts a change behind the others, with the shards that came with it.
+// Puts a change after the others, with the shards that came with it.
 fn note(
     changes: &mut Vec<Change>,
     brought: &mut Reserved,
@@ -133,7 +133,7 @@ impl<T: Load> Held<T> {
     }
 }
 
-// The number at a place, or 0 behind the row.
+// The number at a place, or 0 after the row.
 fn number_at(row: &[u32], index: usize) -> u64
     ensures value { result ≡ slice_index row.now index }
 {

@@ -3,7 +3,7 @@ ghost use Rattle.std.specs.Prelude.{◌≡◌, ◌≢◌, ◌==◌, ◌↔◌, �
 ghost use Rattle.std.specs.Int.{bit_at};
 ghost use Rattle.sz_book.specs.Plan.{PlanData};
 ghost use Rattle.sz_book.specs.Machine.{opening, IsDrawn, IsTried, IsReturned, AreUnplaced, Fits, list_of, placed};
-ghost use Rattle.sz_book.specs.Cores.{Takes, TakesWith, GoesOn, IsAllowed, IsSound, is_unplaced_behind, least_or_none, brought, marked_from};
+ghost use Rattle.sz_book.specs.Cores.{Takes, TakesWith, GoesOn, IsAllowed, IsSound, is_unplaced_after, least_or_none, brought, marked_from};
 ghost use Rattle.sz_book.specs.Held.{is_change};
 ghost use Rattle.sz_book.specs.declared.event.Event.TheVariants as events;
 ghost use Rattle.sz_book.specs.declared.event.Reply.TheVariants as replies;
@@ -132,7 +132,7 @@ fn are_unplaced(marks: &[u32], shards: &[u32]) -> bool
 
 // Whether one more shard is won, in no lane, and none of those in front of it.
 fn is_next(marks: &[u32], front: &[u32], shard: u32) -> bool
-    ensures value { result ≡ is_unplaced_behind marks.now front.now shard }
+    ensures value { result ≡ is_unplaced_after marks.now front.now shard }
 {
     is_marked(marks, shard) && !front.contains(&shard)
 }

@@ -40,7 +40,7 @@ impl Reserved {
         Ok(Reserved { held, room })
     }
 
-    /// Puts these shards behind the list.
+    /// Puts these shards after the list.
     pub fn add(&mut self, shards: &[u32])
         requires room { length self.old.shards + length shards.now ≤ self.old.room }
         ensures value { self.new ≡ record { room = self.old.room; shards = self.old.shards ++ shards.now } }

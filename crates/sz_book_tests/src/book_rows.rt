@@ -89,7 +89,7 @@ const RUNS: &[Run] = &[
     (OneShard, WHAT_DOES_NOT_FIT, false, (0, 0, None, 1)),
 ];
 
-// The runs behind a call, so that no proof sees them.
+// The runs after a call, so that no proof sees them.
 fn runs() -> &'static [Run] {
     RUNS
 }

@@ -1,4 +1,4 @@
-//! Tests of the ledger of one thread, of lanes, and of the ledger behind a lock.
+//! Tests of the ledger of one thread, of lanes, and of the ledger after a lock.
 #![tactic(auto)]
 
 #[cfg(test)]

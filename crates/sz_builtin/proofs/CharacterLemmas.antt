@@ -14,11 +14,11 @@ use Rattle.sz_value.proofs.ForCallers.{passes_ascii, ascii_part}
 use Rattle.sz_builtin.specs.Characters.{IsRestAfter}
 use Rattle.sz_builtin.specs.Places.{cut}
 
--- at the front nothing is behind
+-- at the front nothing is after
 pub at_front : (text : List ℕ) → IsUtf8 text → IsRestAfter 0 text text
 at_front text u = record { front = []; many = refl; whole = refl; characters = refl; utf8 = u }
 
--- one character more is behind
+-- one character more is after
 pub one_more : (count : ℕ) (text r t : List ℕ) (c : ℕ) → IsRestAfter count text r → r ≡ encode_utf8 c ++ t → IsRestAfter (count + 1) text t
 one_more count text r t c h e = record {
   front = h.front ++ c ∷ [];
@@ -30,10 +30,10 @@ one_more count text r t c h e = record {
   utf8 = IsUtf8-past_char r t c h.utf8 e;
 }
 
--- what is behind the front of a list, by the front's length
-pub get_behind : {X : Type 0} (f xs : List X) → slice_get (f ++ xs) (length f) ≡ slice_get xs 0
-get_behind [] xs = refl
-get_behind (x ∷ f) xs = get_behind f xs
+-- what is after the front of a list, by the front's length
+pub get_after : {X : Type 0} (f xs : List X) → slice_get (f ++ xs) (length f) ≡ slice_get xs 0
+get_after [] xs = refl
+get_after (x ∷ f) xs = get_after f xs
 
 -- fewer characters than rounds are in a text that is at its end
 pub too_few : (at count : ℕ) (text rest : List ℕ) → IsRestAfter at text rest → length rest ≡ 0 → at < count → length (chars text) < count
@@ -43,25 +43,25 @@ too_few at count text rest h nothing less =
     let z = ap length none in omega (arith, e, z, h.many)
 
 -- a character of the rest is a character of the text
-pub character_behind : (count : ℕ) (text rest : List ℕ) → IsRestAfter count text rest → slice_get (chars text) count ≡ slice_get (chars rest) 0
-character_behind count text rest h =
-    sym (ap (λ n. slice_get (chars text) n) h.many) ∙ ap (λ cs. slice_get cs (length h.front)) h.characters ∙ get_behind h.front (chars rest)
+pub character_after : (count : ℕ) (text rest : List ℕ) → IsRestAfter count text rest → slice_get (chars text) count ≡ slice_get (chars rest) 0
+character_after count text rest h =
+    sym (ap (λ n. slice_get (chars text) n) h.many) ∙ ap (λ cs. slice_get cs (length h.front)) h.characters ∙ get_after h.front (chars rest)
 
 -- fewer characters of the rest are fewer of the text
-pub fewer_behind : (skip count : ℕ) (text rest : List ℕ) → IsRestAfter skip text rest → length (chars rest) < count → length (chars text) < skip + count
-fewer_behind skip count text rest h few =
+pub fewer_after : (skip count : ℕ) (text rest : List ℕ) → IsRestAfter skip text rest → length (chars rest) < count → length (chars text) < skip + count
+fewer_after skip count text rest h few =
     let e = ap length h.characters ∙ length-append h.front (chars rest) in omega (arith, e, h.many)
 
--- two cuts one behind the other take the characters between them
+-- two cuts one after the other take the characters between them
 pub characters_between : (skip count : ℕ) (text tail rest : List ℕ) → IsRestAfter skip text tail → IsRestAfter count tail rest
     → take (length tail - length rest) tail ≡ encode_utf8_all (take count (drop skip (chars text)))
 characters_between skip count text tail rest h k =
     let bytes = ap length k.whole ∙ length-append (encode_utf8_all k.front) rest in
     let size : length tail - length rest ≡ length (encode_utf8_all k.front) = omega (arith, bytes) in
     let left = ap (take (length tail - length rest)) k.whole ∙ take_at (encode_utf8_all k.front) rest (length tail - length rest) (sym size) in
-    let behind : drop skip (chars text) ≡ chars tail = ap (drop skip) h.characters ∙ drop_at h.front (chars tail) skip h.many in
+    let after : drop skip (chars text) ≡ chars tail = ap (drop skip) h.characters ∙ drop_at h.front (chars tail) skip h.many in
     let taken : take count (chars tail) ≡ k.front = ap (take count) k.characters ∙ take_at k.front (chars rest) count k.many in
-    left ∙ sym (ap (λ cs. encode_utf8_all (take count cs)) behind ∙ ap encode_utf8_all taken)
+    left ∙ sym (ap (λ cs. encode_utf8_all (take count cs)) after ∙ ap encode_utf8_all taken)
 
 -- they aren't more than the text has
 pub within_text : (skip count : ℕ) (text tail rest : List ℕ) → IsRestAfter skip text tail → IsRestAfter count tail rest → skip + count ≤ length (chars text)

@@ -90,12 +90,12 @@ stands_from hay needle k o = record {
 
 occurs_from : (hay needle : List ℕ) (k : ℕ) → Stands needle hay k → OccursAt hay needle k
 occurs_from hay needle k s =
-    let behind : drop k hay ≡ needle ++ s.rest = ap (drop k) s.split ∙ drop_at s.front (needle ++ s.rest) k s.at in
+    let after : drop k hay ≡ needle ++ s.rest = ap (drop k) s.split ∙ drop_at s.front (needle ++ s.rest) k s.at in
     let size = ap length s.split ∙ length-append s.front (needle ++ s.rest) in
     let size2 = length-append needle s.rest in
     let at = s.at in
     OccursAt-from_part hay needle k (omega (arith, size, size2, at))
-    (ap (take (length needle)) behind ∙ take_at needle s.rest (length needle) refl)
+    (ap (take (length needle)) after ∙ take_at needle s.rest (length needle) refl)
 
 pub bytes_first : (hay needle : List ℕ) (r : Option ℕ) → FindsNeedle hay needle 0 r → IsFirstPlace needle hay r
 bytes_first hay needle None h = λ k s. let o = occurs_from hay needle k s in h k (omega arith) (omega (arith, o.fits)) o

@@ -5,7 +5,7 @@ ghost use Rattle.sz_builtin.specs.Characters.{IsRestAfter};
 
 use sz_value::Text;
 
-/// The text behind its first `count` characters, or none where it has fewer.
+/// The text after its first `count` characters, or none where it has fewer.
 #[tactic(auto, using(crate::proofs::CharacterLemmas::at_front, crate::proofs::CharacterLemmas::too_few))]
 pub fn rest_after(text: &str, count: u64) -> Option<&str>
     ensures some { IfSome result (λ rest. IsRestAfter count text.now rest.now) }
@@ -19,15 +19,15 @@ pub fn rest_after(text: &str, count: u64) -> Option<&str>
 }
 
 /// The character at a place, or none where the text ends before it.
-#[tactic(auto, using(crate::proofs::CharacterLemmas::character_behind))]
+#[tactic(auto, using(crate::proofs::CharacterLemmas::character_after))]
 pub fn character_at(text: &str, place: u64) -> Option<char>
     ensures value { result ≡ slice_get (chars text.now) place }
 {
     rest_after(text, place)?.chars().next()
 }
 
-/// The `count` characters behind the first `skip`, or none where the text has fewer.
-#[tactic(auto, using(crate::proofs::CharacterLemmas::fewer_behind, crate::proofs::CharacterLemmas::characters_between, crate::proofs::CharacterLemmas::within_text, crate::proofs::CharacterLemmas::cut_between))]
+/// The `count` characters after the first `skip`, or none where the text has fewer.
+#[tactic(auto, using(crate::proofs::CharacterLemmas::fewer_after, crate::proofs::CharacterLemmas::characters_between, crate::proofs::CharacterLemmas::within_text, crate::proofs::CharacterLemmas::cut_between))]
 pub fn characters_from(text: &str, skip: u64, count: u64) -> Option<&str>
     ensures some { IfSome result (λ part. part.now ≡ encode_utf8_all (take count (drop skip (chars text.now)))) }
     ensures within { IfSome result (λ part. skip + count ≤ length (chars text.now)) }

@@ -60,7 +60,7 @@ fn span(from: i64, to: i64) -> Option<(u64, u64)>
     }
 }
 
-// The `count` elements behind the first `skip`.
+// The `count` elements after the first `skip`.
 #[tactic(auto, using(crate::proofs::Parts::parts_back))]
 fn part(alloc: Global, base: &View<'_>, skip: u64, count: u64) -> Result<Slot, NoMemory>
     ensures value { IfOk result (λ slot. seen_slot slot ≡ part (seen_view base.now) (skip, count)) }
@@ -127,7 +127,7 @@ fn part_of_list(alloc: Global, values: &[Value], skip: u64, count: u64) -> Resul
     }
 }
 
-// The `count` items behind the first `skip`, or none where there are fewer.
+// The `count` items after the first `skip`, or none where there are fewer.
 fn cut<T>(items: &[T], skip: u64, count: u64) -> Option<&[T]>
     ensures some { IfSome result (λ part. cut items.now (skip, count) ≡ Some part.now) }
     ensures none { IfNone result (cut items.now (skip, count) ≡ None) }
@@ -139,7 +139,7 @@ fn cut<T>(items: &[T], skip: u64, count: u64) -> Option<&[T]>
     }
 }
 
-// Whether `count` items stand behind the first `skip` of `len` items.
+// Whether `count` items stand after the first `skip` of `len` items.
 fn fits(skip: u64, count: u64, len: usize) -> bool
     ensures value { result ≡ nat_le (skip + count) len }
 {

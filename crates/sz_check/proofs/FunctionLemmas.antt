@@ -52,12 +52,12 @@ module _ (n : Ident) (t : Typ) (ps : Params) (rest : AllDeclare ps) (b : Block) 
   abbrev named : Shape → Named
   named u = record { name = n.text; meaning = names.variable (length locals) u }
 
-  -- the parameters behind one of this type
-  abbrev behind : Shape → List Block → Judged Scene
-  behind u blocks = judge_parameters (record { blocks = blocks; locals = locals ++ u ∷ [] }) ps
+  -- the parameters after one of this type
+  abbrev following : Shape → List Block → Judged Scene
+  following u blocks = judge_parameters (record { blocks = blocks; locals = locals ++ u ∷ [] }) ps
 
   by_test : (u : Shape) (c : Bool) → has n.text b ≡ c
-      → ((if c then declared_twice n else good ((named u ∷ b) ∷ bs)) >>= behind u) ≡ good front
+      → ((if c then declared_twice n else good ((named u ∷ b) ∷ bs)) >>= following u) ≡ good front
       → AreDeclared (param n t ps) b locals front
   unfolding declare_parameters
   by_test u true e h = absurd cc
@@ -70,7 +70,7 @@ module _ (n : Ident) (t : Typ) (ps : Params) (rest : AllDeclare ps) (b : Block) 
       }
 
   by_type : (j : Judged Shape)
-      → (j >>= λ u. names.declare n (names.variable (length locals) u) (b ∷ bs) >>= behind u) ≡ good front
+      → (j >>= λ u. names.declare n (names.variable (length locals) u) (b ∷ bs) >>= following u) ≡ good front
       → AreDeclared (param n t ps) b locals front
   by_type (Ok u) h = by_test u (has n.text b) refl h
   by_type (Err r) h = absurd cc
@@ -81,7 +81,7 @@ all_declare no_params b bs locals front h =
     subst (AreDeclared no_params b locals) (good_is h) (record { types = []; grown = sym (append-nil locals); declared = λ others. refl })
 all_declare (param n t ps) b bs locals front h = by_type n t ps (all_declare ps) b bs locals front (judge_type (b ∷ bs) t) h
 
--- what was judged in front of a function's own name is declared behind it
+-- what was judged in front of a function's own name is declared after it
 declared_again : (ps : Params) (blocks own : List Block) (front : Scene) → judge_parameters (front_of blocks) ps ≡ good front
     → declare_parameters (front_of own) ps front.locals ≡ good (moved front (only is_seen_by_functions own))
 declared_again ps blocks own front h =
@@ -93,7 +93,7 @@ module _ (k : TopScene) (n : Ident) (ps : Params) (t : Typ) (ss : Stms) where
   abbrev signature : Scene → Shape → Signature
   signature front u = record { parameters = front.locals; result = u; emits = stms_emit (emits_by front.blocks) (n.text ∷ []) ss }
 
-  -- what is behind the parameters and the result: as it is judged, and by parts
+  -- what is after the parameters and the result: as it is judged, and by parts
   abbrev whole : Scene → Shape → Judged Found
   whole front u =
       names.declare n (names.function (length k.functions) (signature front u)) (blocks_of k) >>= λ own.

@@ -30,12 +30,12 @@ use Rattle.sz_check_names.specs.declared.error.CheckError.{CheckError}
 use Rattle.sz_check_names.specs.declared.error.CheckError.TheVariants as errors
 use Rattle.sz_types.proofs.ForCallers.{rest_more, rest_none}
 
--- the statements behind the first, with what the first is
-abbrev behind : List Stmt → Found → Judged Found
-behind ts first = judge_all first.known (stms_of (map stm_of ts)) >>= λ rest. Ok (record { known = rest.known; items = first.items ++ rest.items })
+-- the statements after the first, with what the first is
+abbrev following : List Stmt → Found → Judged Found
+following ts first = judge_all first.known (stms_of (map stm_of ts)) >>= λ rest. Ok (record { known = rest.known; items = first.items ++ rest.items })
 
 all_turn : (k : TopScene) (ts : List Stmt) (i : ℕ) (t : Stmt) → i < length ts → t ≡ get_or ts i t
-    → judge_all k (stms_of (map stm_of (drop i ts))) ≡ (judge_top k (stm_of t) >>= behind (drop (i + 1) ts))
+    → judge_all k (stms_of (map stm_of (drop i ts))) ≡ (judge_top k (stm_of t) >>= following (drop (i + 1) ts))
 unfolding judge_all
 all_turn k ts i t within is = rw (rest_more stm_of ts i t within is) refl
 
@@ -43,7 +43,7 @@ pub all_fails : (front : List Item) (k : TopScene) (ts : List Stmt) (i : ℕ) (t
     → t ≡ get_or ts i t → Stops e (judge_top k (stm_of t)) → with_items front (judge_all k (stms_of (map stm_of (drop i ts)))) ≡ whole → Stops e whole
 all_fails front k ts i t errors.NoMemory whole within is h so_far = tt
 all_fails front k ts i t (errors.Refused n p name) whole within is h so_far =
-    sym so_far ∙ ap (with_items front) (all_turn k ts i t within is ∙ ap (λ (j : Judged Found). j >>= behind (drop (i + 1) ts)) h)
+    sym so_far ∙ ap (with_items front) (all_turn k ts i t within is ∙ ap (λ (j : Judged Found). j >>= following (drop (i + 1) ts)) h)
 
 joined : (front items : List Item) (j : Judged Found)
     → with_items front (j >>= λ rest. Ok (record { known = rest.known; items = items ++ rest.items })) ≡ with_items (front ++ items) j
@@ -55,7 +55,7 @@ pub all_go : (front : List Item) (k : TopScene) (ts : List Stmt) (i : ℕ) (t : 
     → with_items (front ++ first.items) (judge_all first.known (stms_of (map stm_of (drop (i + 1) ts)))) ≡ whole
 all_go front k ts i t first whole within is h so_far =
     sym (joined front first.items (judge_all first.known (stms_of (map stm_of (drop (i + 1) ts)))))
-    ∙ ap (with_items front) (ap (λ (j : Judged Found). j >>= behind (drop (i + 1) ts)) (sym h) ∙ sym (all_turn k ts i t within is))
+    ∙ ap (with_items front) (ap (λ (j : Judged Found). j >>= following (drop (i + 1) ts)) (sym h) ∙ sym (all_turn k ts i t within is))
     ∙ so_far
 
 pub all_end : (front : List Item) (k : TopScene) (ts : List Stmt) (i : ℕ) (whole : Judged Found) → length ts ≤ i

@@ -18,16 +18,16 @@ use Rattle.sz_check_rules.specs.Names as names
 use Rattle.sz_check_rules.specs.JudgingTypes.{judge_type}
 use Rattle.sz_check_rules.specs.JudgingParts.{field_in}
 use Rattle.sz_check_rules.specs.Scene.{Scene, with_variable}
-use Rattle.sz_check_rules.specs.Scenes.{Behind, AllBehind, judge}
+use Rattle.sz_check_rules.specs.Scenes.{Later, AllAfter, judge}
 use Rattle.sz_check_rules.specs.JudgingStatements.{Around, judge_stm, judge_stms}
 use Rattle.sz_check_rules.specs.JudgingPaths.{Target, stepped, indexed, judge_steps}
 use Rattle.sz_check_rules.specs.JudgingPrograms.{judge_parameters}
-use Rattle.sz_check_names.specs.Turns.{behind, put_all}
+use Rattle.sz_check_names.specs.Turns.{following, put_all}
 use Rattle.sz_check.specs.Targets.{judge_step}
-use Rattle.sz_check.specs.Behind.{in_front}
+use Rattle.sz_check.specs.Later.{in_front}
 use Rattle.sz_check_names.specs.Outcome.{Stops}
 use Rattle.sz_check_names.specs.declared.error.CheckError.{CheckError}
-use Rattle.sz_check_names.proofs.TurnLemmas.{behind_next, behind_ends, turn_fails, stops_then, goes_on}
+use Rattle.sz_check_names.proofs.TurnLemmas.{later_next, after_ends, turn_fails, stops_then, goes_on}
 use Rattle.sz_types.proofs.ForCallers.{rest_more, rest_none}
 
 -- what goes on from a judgement that goes on from another
@@ -71,27 +71,27 @@ stms_turn : (a : Around) (s : Scene) (ts : List Stmt) (i : ℕ) (t : Stmt) → i
 unfolding judge_stms
 stms_turn a s ts i t within is = rw (rest_more stm_of ts i t within is) refl
 
-pub stms_fail : (front : List Stm) (a : Around) (s : Scene) (ts : List Stmt) (i : ℕ) (t : Stmt) (e : CheckError) (whole : Judged AllBehind) → i < length ts
+pub stms_fail : (front : List Stm) (a : Around) (s : Scene) (ts : List Stmt) (i : ℕ) (t : Stmt) (e : CheckError) (whole : Judged AllAfter) → i < length ts
     → t ≡ get_or ts i t
-    → Stops e (judge_stm a s (stm_of t)) → behind in_front front (judge_stms a s (stms_of (map stm_of (drop i ts)))) ≡ whole → Stops e whole
+    → Stops e (judge_stm a s (stm_of t)) → following in_front front (judge_stms a s (stms_of (map stm_of (drop i ts)))) ≡ whole → Stops e whole
 stms_fail front a s ts i t e whole within is h so_far = turn_fails in_front front e _ _ _ whole (stms_turn a s ts i t within is) h so_far
 
-pub stms_go : (front : List Stm) (a : Around) (s : Scene) (ts : List Stmt) (i : ℕ) (t : Stmt) (b : Behind) (whole : Judged AllBehind) → i < length ts
+pub stms_go : (front : List Stm) (a : Around) (s : Scene) (ts : List Stmt) (i : ℕ) (t : Stmt) (b : Later) (whole : Judged AllAfter) → i < length ts
     → t ≡ get_or ts i t
-    → judge_stm a s (stm_of t) ≡ Ok b → behind in_front front (judge_stms a s (stms_of (map stm_of (drop i ts)))) ≡ whole
-    → behind in_front (front ++ b.stm ∷ []) (judge_stms a b.scene (stms_of (map stm_of (drop (i + 1) ts)))) ≡ whole
+    → judge_stm a s (stm_of t) ≡ Ok b → following in_front front (judge_stms a s (stms_of (map stm_of (drop i ts)))) ≡ whole
+    → following in_front (front ++ b.stm ∷ []) (judge_stms a b.scene (stms_of (map stm_of (drop (i + 1) ts)))) ≡ whole
 stms_go front a s ts i t b whole within is h so_far =
-    sym (behind_next in_front front b.stm (judge_stms a b.scene (stms_of (map stm_of (drop (i + 1) ts)))))
-    ∙ ap (behind in_front front) (ap (λ (k : Judged Behind). k >>= λ first. judge_stms a first.scene (stms_of (map stm_of (drop (i + 1) ts)))
+    sym (later_next in_front front b.stm (judge_stms a b.scene (stms_of (map stm_of (drop (i + 1) ts)))))
+    ∙ ap (following in_front front) (ap (λ (k : Judged Later). k >>= λ first. judge_stms a first.scene (stms_of (map stm_of (drop (i + 1) ts)))
     >>= λ rest. Ok (in_front first.stm rest)) (sym h) ∙ sym (stms_turn a s ts i t within is))
     ∙ so_far
 
-pub stms_end : (front : List Stm) (a : Around) (s : Scene) (ts : List Stmt) (i : ℕ) (whole : Judged AllBehind) → length ts ≤ i
-    → behind in_front front (judge_stms a s (stms_of (map stm_of (drop i ts)))) ≡ whole → whole ≡ Ok (record { scene = s; stms = core.stms_of front })
+pub stms_end : (front : List Stm) (a : Around) (s : Scene) (ts : List Stmt) (i : ℕ) (whole : Judged AllAfter) → length ts ≤ i
+    → following in_front front (judge_stms a s (stms_of (map stm_of (drop i ts)))) ≡ whole → whole ≡ Ok (record { scene = s; stms = core.stms_of front })
 unfolding judge_stms
 stms_end front a s ts i whole over so_far =
-    sym so_far ∙ ap (λ (rest : List _). behind in_front front (judge_stms a s (stms_of rest))) (rest_none stm_of ts i over)
-    ∙ behind_ends in_front front (record { scene = s; stms = core.no_stms }) ∙ ap (λ (b : AllBehind). Ok b) (put_stms s front)
+    sym so_far ∙ ap (λ (rest : List _). following in_front front (judge_stms a s (stms_of rest))) (rest_none stm_of ts i over)
+    ∙ after_ends in_front front (record { scene = s; stms = core.no_stms }) ∙ ap (λ (b : AllAfter). Ok b) (put_stms s front)
 
 params_turn : (s : Scene) (ps : List Param) (i : ℕ) (p : Param) → i < length ps → p ≡ get_or ps i p
     → judge_parameters s (params_of (map param_of (drop i ps)))

@@ -18,7 +18,7 @@ use Rattle.sz_check_rules.specs.JudgingExpressions.{judge_exps}
 use Rattle.sz_check_rules.specs.JudgingOperators.{test}
 use Rattle.sz_check_rules.specs.Quantifying.{judge_front, quantify}
 use Rattle.sz_check_rules.specs.Scene.{Scene, opened}
-use Rattle.sz_check_rules.specs.Scenes.{Behind, AllBehind, judge, judge_if_some, closed}
+use Rattle.sz_check_rules.specs.Scenes.{Later, AllAfter, judge, judge_if_some, closed}
 use Rattle.sz_check_rules.specs.JudgingStatements.{Around, in_block, in_loop, judge_stm, judge_stms}
 use Rattle.sz_check_rules.specs.JudgingSimple.{Numbered, judge_first, judge_between, test_if_some, table_named, weight_agrees}
 use Rattle.sz_check_rules.specs.JudgingSimple.{judge_definition, judge_simple, judge_return, done, judge_emit, same_presence}
@@ -28,15 +28,15 @@ use Rattle.sz_check_names.proofs.TurnLemmas.{stops_then, goes_on}
 use Rattle.sz_core.specs.declared.stmt.CoreStmt.{CoreStmt}
 use Rattle.sz_core.specs.View.{stm_of}
 use Rattle.sz_check_names.specs.Holding.{Held, outside_of, scene_of}
-use Rattle.sz_check.specs.Behind.{behind_of, branch_of, while_of, do_while_of, judge_inside, judge_else, judge_turns, judge_for}
-use Rattle.sz_check.specs.Behind.{judge_quantified, judge_bound_body, Emitted, judge_emitted, emitted_fits, judge_emit_by_parts}
+use Rattle.sz_check.specs.Later.{after_of, branch_of, while_of, do_while_of, judge_inside, judge_else, judge_turns, judge_for}
+use Rattle.sz_check.specs.Later.{judge_quantified, judge_bound_body, Emitted, judge_emitted, emitted_fits, judge_emit_by_parts}
 
-tested : (u : Judged Unit) (s : Scene) (x : Stm) (f : Behind → Behind)
+tested : (u : Judged Unit) (s : Scene) (x : Stm) (f : Later → Later)
     → (u >>= λ _. Ok (f (record { scene = s; stm = x }))) ≡ (done s (u >>= λ _. Ok x) >>= λ b. Ok (f b))
 tested (Ok t) s x f = refl
 tested (Err r) s x f = refl
 
-turns_then : (p : Place) (j : Judged (Option Node)) (k : Judged Stm) (l : Judged Behind) (u : Option Node → Judged Unit) (f : Behind → Behind)
+turns_then : (p : Place) (j : Judged (Option Node)) (k : Judged Stm) (l : Judged Later) (u : Option Node → Judged Unit) (f : Later → Later)
     → (j >>= λ n. k >>= λ step. l >>= λ body. u n >>= λ _. Ok (f (record { scene = body.scene; stm = core.for_loop p n step body.stm })))
     ≡ ((j >>= λ n. k >>= λ step. l >>= λ body. done body.scene (u n >>= λ _. Ok (core.for_loop p n step body.stm))) >>= λ t. Ok (f t))
 turns_then p (Err r) k l u f = refl
@@ -45,11 +45,11 @@ turns_then p (Ok n) (Ok step) (Err r) u f = refl
 turns_then p (Ok n) (Ok step) (Ok body) u f = tested (u n) body.scene (core.for_loop p n step body.stm) f
 
 -- a `for`, where its parts are judged
-abbrev for_end : Scene → Place → Behind → Option Node → Stm → Behind → Behind
+abbrev for_end : Scene → Place → Later → Option Node → Stm → Later → Later
 for_end s p first n step body = record { scene = closed s body.scene; stm = core.block (stms_of (first.stm ∷ core.for_loop p n step body.stm ∷ [])) }
 
 -- a `for`, where its first part and its turns are judged
-abbrev for_whole : Scene → Behind → Behind → Behind
+abbrev for_whole : Scene → Later → Later → Later
 for_whole s first turns = record { scene = closed s turns.scene; stm = core.block (stms_of (first.stm ∷ turns.stm ∷ [])) }
 
 -- a `for` is its first part and then its turns
@@ -58,7 +58,7 @@ pub for_is : (a : Around) (s : Scene) (p : Place) (f : Option FirstForm) (c : Op
 unfolding judge_stm
 for_is a s p f c between t = first_then (judge_first (opened s) f)
   where
-    first_then : (j : Judged Behind)
+    first_then : (j : Judged Later)
         → (j >>= λ first. judge_if_some first.scene None c >>= λ n. judge_between first.scene between
         >>= λ step. judge_inside (in_loop a) first.scene t >>= λ body. test_if_some c n >>= λ _. Ok (for_end s p first n step body))
         ≡ (j >>= λ first. judge_turns a first.scene p c between t >>= λ turns. Ok (for_whole s first turns))
@@ -117,11 +117,11 @@ inside_of k = record k { innermost = []; outside = outside_of k }
 abbrev from_inside : {A B : Type 0} → (Scene → Judged A) → (A → Judged B) → Held → Judged B
 from_inside judge f k = judge (scene_of k) >>= f
 
--- a part statement is judged with a block more, and behind it is known what was known before
-pub inside_made : (a : Around) (k inner behind after : Held) (t : Tree) (x : Stm) → inner ≡ inside_of k
-    → judge_stm a (scene_of inner) t ≡ Ok (record { scene = scene_of behind; stm = x }) → after ≡ record k { locals = behind.locals }
+-- a part statement is judged with a block more, and after it is known what was known before
+pub inside_made : (a : Around) (k inner following after : Held) (t : Tree) (x : Stm) → inner ≡ inside_of k
+    → judge_stm a (scene_of inner) t ≡ Ok (record { scene = scene_of following; stm = x }) → after ≡ record k { locals = following.locals }
     → judge_inside a (scene_of k) t ≡ Ok (record { scene = scene_of after; stm = x })
-inside_made a k inner behind after t x opening h ending =
+inside_made a k inner following after t x opening h ending =
     ap (λ (u : Held). in_block (scene_of k) (judge_stm a (scene_of u) t)) (sym opening) ∙ ap (in_block (scene_of k)) h
     ∙ ap (λ (u : Held). Ok (record { scene = scene_of u; stm = x })) (sym ending)
 
@@ -132,15 +132,15 @@ inside_stops a k inner t e opening h =
     (ap (λ (u : Held). in_block (scene_of k) (judge_stm a (scene_of u) t)) opening)
 
 -- the same of a block
-abbrev ended : Held → AllBehind → Judged Behind
+abbrev ended : Held → AllAfter → Judged Later
 ended k b = Ok (record { scene = closed (scene_of k) b.scene; stm = core.block b.stms })
 
-pub block_made : (a : Around) (k inner behind after : Held) (p : Place) (ts : Trees) (xs : Stms) → inner ≡ inside_of k
-    → judge_stms a (scene_of inner) ts ≡ Ok (record { scene = scene_of behind; stms = xs }) → after ≡ record k { locals = behind.locals }
+pub block_made : (a : Around) (k inner following after : Held) (p : Place) (ts : Trees) (xs : Stms) → inner ≡ inside_of k
+    → judge_stms a (scene_of inner) ts ≡ Ok (record { scene = scene_of following; stms = xs }) → after ≡ record k { locals = following.locals }
     → judge_stm a (scene_of k) (block p ts) ≡ Ok (record { scene = scene_of after; stm = core.block xs })
 unfolding judge_stm
-block_made a k inner behind after p ts xs opening h ending =
-    ap (from_inside (λ s. judge_stms a s ts) (ended k)) (sym opening) ∙ ap (λ (j : Judged AllBehind). j >>= ended k) h
+block_made a k inner following after p ts xs opening h ending =
+    ap (from_inside (λ s. judge_stms a s ts) (ended k)) (sym opening) ∙ ap (λ (j : Judged AllAfter). j >>= ended k) h
     ∙ ap (λ (u : Held). Ok (record { scene = scene_of u; stm = core.block xs })) (sym ending)
 
 pub block_stops : (a : Around) (k inner : Held) (p : Place) (ts : Trees) (e : CheckError) → inner ≡ inside_of k
@@ -151,36 +151,36 @@ block_stops a k inner p ts e opening h =
 
 -- ---- a `for` by what is judged of it
 
--- what a `for` does behind its first part
-abbrev behind_first : Around → Scene → Place → Option Exp → Option SimpleForm → Tree → Behind → Judged Behind
-behind_first a s p c between t first =
+-- what a `for` does after its first part
+abbrev later_first : Around → Scene → Place → Option Exp → Option SimpleForm → Tree → Later → Judged Later
+later_first a s p c between t first =
     judge_turns a first.scene p c between t
     >>= λ turns. Ok (record { scene = closed s turns.scene; stm = core.block (stms_of (first.stm ∷ turns.stm ∷ [])) })
 
 module _ (a : Around) (k inner start : Held) (p : Place) (f : Option FirstForm) (c : Option Exp) (between : Option SimpleForm) (t : Tree) where
-  begin : inner ≡ inside_of k → (judge_first (scene_of inner) f >>= behind_first a (scene_of k) p c between t) ≡ judge_for a (scene_of k) p f c between t
-  begin opening = ap (from_inside (λ s. judge_first s f) (behind_first a (scene_of k) p c between t)) opening
+  begin : inner ≡ inside_of k → (judge_first (scene_of inner) f >>= later_first a (scene_of k) p c between t) ≡ judge_for a (scene_of k) p f c between t
+  begin opening = ap (from_inside (λ s. judge_first s f) (later_first a (scene_of k) p c between t)) opening
 
   pub for_first_stops : (e : CheckError) → inner ≡ inside_of k → Stops e (judge_first (scene_of inner) f) → Stops e (judge_for a (scene_of k) p f c between t)
-  for_first_stops e opening h = stops_then e (judge_first (scene_of inner) f) (behind_first a (scene_of k) p c between t) _ h (begin opening)
+  for_first_stops e opening h = stops_then e (judge_first (scene_of inner) f) (later_first a (scene_of k) p c between t) _ h (begin opening)
 
-  behind_start : (x : Stm) → inner ≡ inside_of k → judge_first (scene_of inner) f ≡ Ok (record { scene = scene_of start; stm = x })
-      → behind_first a (scene_of k) p c between t (record { scene = scene_of start; stm = x }) ≡ judge_for a (scene_of k) p f c between t
-  behind_start x opening h = goes_on (judge_first (scene_of inner) f) (behind_first a (scene_of k) p c between t) _
+  after_start : (x : Stm) → inner ≡ inside_of k → judge_first (scene_of inner) f ≡ Ok (record { scene = scene_of start; stm = x })
+      → later_first a (scene_of k) p c between t (record { scene = scene_of start; stm = x }) ≡ judge_for a (scene_of k) p f c between t
+  after_start x opening h = goes_on (judge_first (scene_of inner) f) (later_first a (scene_of k) p c between t) _
       (record { scene = scene_of start; stm = x }) h (begin opening)
 
   pub for_turns_stop : (x : Stm) (e : CheckError) → inner ≡ inside_of k → judge_first (scene_of inner) f ≡ Ok (record { scene = scene_of start; stm = x })
       → Stops e (judge_turns a (scene_of start) p c between t) → Stops e (judge_for a (scene_of k) p f c between t)
   for_turns_stop x e opening h g =
       stops_then e (judge_turns a (scene_of start) p c between t)
-      (λ turns. Ok (record { scene = closed (scene_of k) turns.scene; stm = core.block (stms_of (x ∷ turns.stm ∷ [])) })) _ g (behind_start x opening h)
+      (λ turns. Ok (record { scene = closed (scene_of k) turns.scene; stm = core.block (stms_of (x ∷ turns.stm ∷ [])) })) _ g (after_start x opening h)
 
-  pub for_made : (behind after : Held) (x y : Stm) → inner ≡ inside_of k → judge_first (scene_of inner) f ≡ Ok (record { scene = scene_of start; stm = x })
-      → judge_turns a (scene_of start) p c between t ≡ Ok (record { scene = scene_of behind; stm = y }) → after ≡ record k { locals = behind.locals }
+  pub for_made : (following after : Held) (x y : Stm) → inner ≡ inside_of k → judge_first (scene_of inner) f ≡ Ok (record { scene = scene_of start; stm = x })
+      → judge_turns a (scene_of start) p c between t ≡ Ok (record { scene = scene_of following; stm = y }) → after ≡ record k { locals = following.locals }
       → judge_for a (scene_of k) p f c between t ≡ Ok (record { scene = scene_of after; stm = core.block (stms_of (x ∷ y ∷ [])) })
-  for_made behind after x y opening h g ending =
-      sym (behind_start x opening h)
-      ∙ ap (λ (j : Judged Behind). j >>= λ turns. Ok (record { scene = closed (scene_of k) turns.scene; stm = core.block (stms_of (x ∷ turns.stm ∷ [])) })) g
+  for_made following after x y opening h g ending =
+      sym (after_start x opening h)
+      ∙ ap (λ (j : Judged Later). j >>= λ turns. Ok (record { scene = closed (scene_of k) turns.scene; stm = core.block (stms_of (x ∷ turns.stm ∷ [])) })) g
       ∙ ap (λ (u : Held). Ok (record { scene = scene_of u; stm = core.block (stms_of (x ∷ y ∷ [])) })) (sym ending)
 
 -- ---- branches
@@ -232,18 +232,18 @@ module _ (a : Around) (s : Scene) (p : Place) (c : Exp) where
   else_test_stops t o e h =
       stops_then e (judge s None c) (λ n. judge_inside a s t >>= λ b. judge_else a b.scene p c n b.stm o) _ h (sym (if_else_is t o))
 
-  behind_test : (t o : Tree) (n : Node) → judge s None c ≡ Ok n
+  after_test : (t o : Tree) (n : Node) → judge s None c ≡ Ok n
       → (judge_inside a s t >>= λ b. judge_else a b.scene p c n b.stm o) ≡ judge_stm a s (trees.if_else p c t o)
-  behind_test t o n g =
+  after_test t o n g =
       goes_on (judge s None c) (λ m. judge_inside a s t >>= λ b. judge_else a b.scene p c m b.stm o) _ n g (sym (if_else_is t o))
 
   pub else_part_stops : (t o : Tree) (n : Node) (e : CheckError) → judge s None c ≡ Ok n → Stops e (judge_inside a s t)
       → Stops e (judge_stm a s (trees.if_else p c t o))
-  else_part_stops t o n e g h = stops_then e (judge_inside a s t) (λ b. judge_else a b.scene p c n b.stm o) _ h (behind_test t o n g)
+  else_part_stops t o n e g h = stops_then e (judge_inside a s t) (λ b. judge_else a b.scene p c n b.stm o) _ h (after_test t o n g)
 
-  pub else_goes_on : (t o : Tree) (n : Node) (b : Behind) → judge s None c ≡ Ok n → judge_inside a s t ≡ Ok b
+  pub else_goes_on : (t o : Tree) (n : Node) (b : Later) → judge s None c ≡ Ok n → judge_inside a s t ≡ Ok b
       → judge_stm a s (trees.if_else p c t o) ≡ judge_else a b.scene p c n b.stm o
-  else_goes_on t o n b g h = sym (goes_on (judge_inside a s t) (λ b. judge_else a b.scene p c n b.stm o) _ b h (behind_test t o n g))
+  else_goes_on t o n b g h = sym (goes_on (judge_inside a s t) (λ b. judge_else a b.scene p c n b.stm o) _ b h (after_test t o n g))
 
   -- the same of the other part
   pub other_stops : (n : Node) (taken : Stm) (o : Tree) (e : CheckError) → Stops e (judge_inside a s o) → Stops e (judge_else a s p c n taken o)
@@ -298,6 +298,6 @@ module _ (a : Around) (s : Scene) where
   emitting_is p n es e w = ap (done s) (emit_is s p n es e w)
 
 -- a statement that declares nothing leaves what is known as it was
-pub done_is : (k : Held) (r : Result CoreStmt CheckError) (j : Judged Stm) → Judges stm_of r j → Judges (λ s. behind_of k s) r (done (scene_of k) j)
+pub done_is : (k : Held) (r : Result CoreStmt CheckError) (j : Judged Stm) → Judges stm_of r j → Judges (λ s. after_of k s) r (done (scene_of k) j)
 done_is k (Ok s) j h = ap (done (scene_of k)) h
 done_is k (Err e) j h = stops_then e j (λ m. Ok (record { scene = scene_of k; stm = m })) _ h refl

@@ -22,18 +22,18 @@ use Rattle.sz_check_rules.specs.Scene.{Scene}
 use Rattle.sz_check_names.specs.declared.error.CheckError.{CheckError}
 use Rattle.sz_check_names.specs.declared.error.CheckError.TheVariants as errors
 use Rattle.sz_check_rules.specs.JudgingExpressions.{judge_exp}
-use Rattle.sz_check_rules.specs.Scenes.{Behind, closed}
+use Rattle.sz_check_rules.specs.Scenes.{Later, closed}
 use Rattle.sz_check_rules.specs.JudgingStatements.{Around, out_of_loops}
 use Rattle.sz_check_rules.specs.Quantifying.{Variable, Declared, Front, judge_quantifiers, judge_front, bind_inside, judge_bound, unbounded}
 use Rattle.sz_check_rules.specs.Quantifying.{names_of, all_bounded, all_last, Based, judge_base, judge_bases, quantify}
-use Rattle.sz_check.specs.Behind.{judge_inside, judge_bound_body}
-use Rattle.sz_check_names.proofs.TurnLemmas.{stops_then, goes_on, behind_next, behind_stops, behind_ends}
-use Rattle.sz_check_names.specs.Turns.{behind, put_all}
+use Rattle.sz_check.specs.Later.{judge_inside, judge_bound_body}
+use Rattle.sz_check_names.proofs.TurnLemmas.{stops_then, goes_on, later_next, after_stops, after_ends}
+use Rattle.sz_check_names.specs.Turns.{following, put_all}
 use Rattle.sz_check.proofs.StatementParts.{inside_of}
 
 -- ---- the variables and the condition
 
--- the condition behind the variables
+-- the condition after the variables
 abbrev condition_of : Scene → Exp → Declared → Judged Front
 condition_of s c d =
     judge_exp d.scene.blocks false None c >>= λ n. Ok (record { scene = closed s d.scene; variables = d.variables; condition = n })
@@ -64,24 +64,24 @@ module _ (k inner : Held) (qs : List QuantifierForm) (c : Exp) (opening : inner 
 -- ---- the statement inside
 
 -- the variables that it sees, in a block of their own
-pub bound_is : (k inner behind : Held) (vs : List Variable) (r : Result Unit CheckError) → inner ≡ inside_of k
-    → Judges (λ u. blocks_of behind) r (bind_inside vs (blocks_of inner)) → IfOk r (λ u. behind.locals ≡ inner.locals)
-    → Judges (λ u. scene_of behind) r (judge_bound (scene_of k) vs)
-bound_is k inner behind vs (Ok u) opening h locals =
+pub bound_is : (k inner following : Held) (vs : List Variable) (r : Result Unit CheckError) → inner ≡ inside_of k
+    → Judges (λ u. blocks_of following) r (bind_inside vs (blocks_of inner)) → IfOk r (λ u. following.locals ≡ inner.locals)
+    → Judges (λ u. scene_of following) r (judge_bound (scene_of k) vs)
+bound_is k inner following vs (Ok u) opening h locals =
     ap (λ (b : Held). bind_inside vs (blocks_of b) >>= λ blocks. Ok (record { blocks = blocks; locals = k.locals })) (sym opening)
     ∙ ap (λ (j : Judged (List Block)). j >>= λ blocks. Ok (record { blocks = blocks; locals = k.locals })) h
-    ∙ ap (λ (l : List Shape). Ok (record { blocks = blocks_of behind; locals = l })) (sym (locals ∙ ap (λ (b : Held). b.locals) opening))
-bound_is k inner behind vs (Err e) opening h locals =
+    ∙ ap (λ (l : List Shape). Ok (record { blocks = blocks_of following; locals = l })) (sym (locals ∙ ap (λ (b : Held). b.locals) opening))
+bound_is k inner following vs (Err e) opening h locals =
     stops_then e (bind_inside vs (blocks_of inner)) (λ blocks. Ok (record { blocks = blocks; locals = k.locals })) _ h
     (ap (λ (b : Held). bind_inside vs (blocks_of b) >>= λ blocks. Ok (record { blocks = blocks; locals = k.locals })) opening)
 
 -- what is outside the block is what was known
-pub bound_outside : (k inner behind : Held) (r : Result Unit CheckError) → inner ≡ inside_of k → IfOk r (λ u. behind.outside ≡ inner.outside)
-    → IfOk r (λ u. behind.outside ≡ outside_of k)
-bound_outside k inner behind (Ok u) opening h = h ∙ ap (λ (b : Held). b.outside) opening
-bound_outside k inner behind (Err e) opening h = tt
+pub bound_outside : (k inner following : Held) (r : Result Unit CheckError) → inner ≡ inside_of k → IfOk r (λ u. following.outside ≡ inner.outside)
+    → IfOk r (λ u. following.outside ≡ outside_of k)
+bound_outside k inner following (Ok u) opening h = h ∙ ap (λ (b : Held). b.outside) opening
+bound_outside k inner following (Err e) opening h = tt
 
-abbrev body_end : Scene → Behind → Judged Behind
+abbrev body_end : Scene → Later → Judged Later
 body_end s body = Ok (record { scene = closed s body.scene; stm = body.stm })
 
 module _ (a in_body : Around) (k inner : Held) (vs : List Variable) (t : Tree) (same : in_body ≡ out_of_loops a)
@@ -93,10 +93,10 @@ module _ (a in_body : Around) (k inner : Held) (vs : List Variable) (t : Tree) (
   pub body_stops : (e : CheckError) → Stops e (judge_inside in_body (scene_of inner) t) → Stops e (judge_bound_body a (scene_of k) vs t)
   body_stops e h = stops_then e (judge_inside in_body (scene_of inner) t) (body_end (scene_of k)) _ h left
 
-  pub body_made : (behind after : Held) (x : Stm) → judge_inside in_body (scene_of inner) t ≡ Ok (record { scene = scene_of behind; stm = x })
-      → after ≡ record k { locals = behind.locals } → judge_bound_body a (scene_of k) vs t ≡ Ok (record { scene = scene_of after; stm = x })
-  body_made behind after x h ending =
-      sym left ∙ ap (λ (j : Judged Behind). j >>= body_end (scene_of k)) h ∙ ap (λ (u : Held). Ok (record { scene = scene_of u; stm = x })) (sym ending)
+  pub body_made : (following after : Held) (x : Stm) → judge_inside in_body (scene_of inner) t ≡ Ok (record { scene = scene_of following; stm = x })
+      → after ≡ record k { locals = following.locals } → judge_bound_body a (scene_of k) vs t ≡ Ok (record { scene = scene_of after; stm = x })
+  body_made following after x h ending =
+      sym left ∙ ap (λ (j : Judged Later). j >>= body_end (scene_of k)) h ∙ ap (λ (u : Held). Ok (record { scene = scene_of u; stm = x })) (sym ending)
 
 -- ---- the bounds
 
@@ -170,40 +170,40 @@ put x xs = x ∷ xs
 
 pub bases_go : (front : List core.Quantified) (blocks : List Block) (vs ws : List Variable) (bs cs : List BoundForm) (v : Variable) (b : BoundForm) (x : Based)
     (whole : Judged (List core.Quantified)) → vs ≡ v ∷ ws → bs ≡ b ∷ cs → judge_base blocks v b ≡ Ok x
-    → behind put front (judge_bases blocks vs bs) ≡ whole → behind put (front ++ x.variable ∷ []) (judge_bases x.blocks ws cs) ≡ whole
+    → following put front (judge_bases blocks vs bs) ≡ whole → following put (front ++ x.variable ∷ []) (judge_bases x.blocks ws cs) ≡ whole
 unfolding judge_bases
 bases_go front blocks vs ws bs cs v b x whole vs_is bs_is h so_far =
-    sym (behind_next put front x.variable (judge_bases x.blocks ws cs))
-    ∙ ap (behind put front) (ap (λ (j : Judged Based). j >>= λ first. judge_bases first.blocks ws cs >>= λ rest. Ok (put first.variable rest)) (sym h)
+    sym (later_next put front x.variable (judge_bases x.blocks ws cs))
+    ∙ ap (following put front) (ap (λ (j : Judged Based). j >>= λ first. judge_bases first.blocks ws cs >>= λ rest. Ok (put first.variable rest)) (sym h)
     ∙ (λ i. judge_bases blocks (sym vs_is i) (sym bs_is i)))
     ∙ so_far
 
 pub bases_fail : (front : List core.Quantified) (blocks : List Block) (vs ws : List Variable) (bs cs : List BoundForm) (v : Variable) (b : BoundForm)
     (e : CheckError) (whole : Judged (List core.Quantified)) → vs ≡ v ∷ ws → bs ≡ b ∷ cs → Stops e (judge_base blocks v b)
-    → behind put front (judge_bases blocks vs bs) ≡ whole → Stops e whole
+    → following put front (judge_bases blocks vs bs) ≡ whole → Stops e whole
 unfolding judge_bases
 bases_fail front blocks vs ws bs cs v b errors.NoMemory whole vs_is bs_is h so_far = tt
 bases_fail front blocks vs ws bs cs v b (errors.Refused m p name) whole vs_is bs_is h so_far =
-    sym so_far ∙ (λ i. behind put front (judge_bases blocks (vs_is i) (bs_is i)))
-    ∙ ap (λ (j : Judged Based). behind put front (j >>= λ first. judge_bases first.blocks ws cs >>= λ rest. Ok (put first.variable rest))) h
-    ∙ behind_stops put front _
+    sym so_far ∙ (λ i. following put front (judge_bases blocks (vs_is i) (bs_is i)))
+    ∙ ap (λ (j : Judged Based). following put front (j >>= λ first. judge_bases first.blocks ws cs >>= λ rest. Ok (put first.variable rest))) h
+    ∙ after_stops put front _
 
 -- a variable more than there are bounds
 pub bases_lack : (front : List core.Quantified) (blocks : List Block) (vs ws : List Variable) (bs : List BoundForm) (v : Variable)
-    (whole : Judged (List core.Quantified)) → vs ≡ v ∷ ws → bs ≡ [] → behind put front (judge_bases blocks vs bs) ≡ whole → whole ≡ unbounded v.name
+    (whole : Judged (List core.Quantified)) → vs ≡ v ∷ ws → bs ≡ [] → following put front (judge_bases blocks vs bs) ≡ whole → whole ≡ unbounded v.name
 unfolding judge_bases
 bases_lack front blocks vs ws bs v whole vs_is bs_is so_far =
-    sym so_far ∙ (λ i. behind put front (judge_bases blocks (vs_is i) (bs_is i))) ∙ behind_stops put front _
+    sym so_far ∙ (λ i. following put front (judge_bases blocks (vs_is i) (bs_is i))) ∙ after_stops put front _
 
 put_bases : (front : List core.Quantified) → put_all put front [] ≡ front
 put_bases [] = refl
 put_bases (x ∷ front) = ap (put x) (put_bases front)
 
 pub bases_end : (front : List core.Quantified) (blocks : List Block) (vs : List Variable) (bs : List BoundForm) (whole : Judged (List core.Quantified))
-    → vs ≡ [] → behind put front (judge_bases blocks vs bs) ≡ whole → whole ≡ Ok front
+    → vs ≡ [] → following put front (judge_bases blocks vs bs) ≡ whole → whole ≡ Ok front
 unfolding judge_bases
 bases_end front blocks vs bs whole vs_is so_far =
-    sym so_far ∙ ap (λ (l : List Variable). behind put front (judge_bases blocks l bs)) vs_is ∙ behind_ends put front []
+    sym so_far ∙ ap (λ (l : List Variable). following put front (judge_bases blocks l bs)) vs_is ∙ after_ends put front []
     ∙ ap (λ (l : _). Ok l) (put_bases front)
 
 -- the rules of the variables, and then what their candidates are made of, in a block of their own

@@ -2,7 +2,7 @@
 -- what the functions inside the crate promise each other
 pub mod Targets
 pub mod Quantified
-pub mod Behind
+pub mod Later
 pub mod Top
 pub mod Functions
 pub mod FunctionParts

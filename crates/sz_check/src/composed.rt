@@ -4,7 +4,7 @@ ghost use Rattle.std.specs.Option.{option_map};
 ghost use Rattle.sz_tree.specs.View.{tree_of};
 ghost use Rattle.sz_core.specs.Statements.{block, stms_of};
 ghost use Rattle.sz_core.specs.View.{node_of, stm_of};
-ghost use Rattle.sz_check.specs.Behind.{branch_of, while_of, do_while_of, for_of};
+ghost use Rattle.sz_check.specs.Later.{branch_of, while_of, do_while_of, for_of};
 ghost use Rattle.sz_check_names.specs.Outcome.{Judges};
 
 use crate::simple::test_if_some;
@@ -31,7 +31,7 @@ pub fn alone(alloc: Global, statement: CoreStmt) -> Result<Vec<CoreStmt>, AllocE
     Ok(statements)
 }
 
-// A block of statements and one more behind them.
+// A block of statements and one more after them.
 pub fn joined(front: Vec<CoreStmt>, last: CoreStmt) -> Result<CoreStmt, AllocError>
     ensures value { IfOk result (λ made. stm_of made ≡ block (stms_of (each stm_of front.items ++ stm_of last ∷ []))) }
 {
@@ -67,7 +67,7 @@ pub fn while_loop(
     Ok(CoreStmt::While(place, node, body))
 }
 
-// A loop with a test behind each turn, which must be a truth value.
+// A loop with a test after each turn, which must be a truth value.
 pub fn do_while_loop(
     place: Place,
     condition: &Expr,

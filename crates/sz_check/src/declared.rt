@@ -5,7 +5,7 @@ ghost use Rattle.sz_tree.specs.Statements.{declare};
 ghost use Rattle.sz_tree.specs.View.{tree_of, type_of};
 ghost use Rattle.sz_check_rules.specs.JudgingStatements.{Around, judge_stm};
 ghost use Rattle.sz_check_names.specs.Holding.{scene_of};
-ghost use Rattle.sz_check.specs.Behind.{behind_of};
+ghost use Rattle.sz_check.specs.Later.{after_of};
 ghost use Rattle.sz_check_names.specs.Outcome.{Judges};
 
 use crate::simple::{judge_declaration, judge_initialised};
@@ -23,7 +23,7 @@ pub fn judge_declared(
     tree: &TypeTree,
     value: &Option<Expr>,
 ) -> Result<CoreStmt, CheckError>
-    ensures value { (a : Around) → Judges (λ s. behind_of known.new s) result
+    ensures value { (a : Around) → Judges (λ s. after_of known.new s) result
         (judge_stm a (scene_of known.old) (declare name.now (type_of tree.now) (option_map tree_of value.now))) }
     ensures outside { known.new.outside ≡ known.old.outside }
 {

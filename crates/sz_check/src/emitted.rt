@@ -9,7 +9,7 @@ ghost use Rattle.sz_core.specs.View.{node_of, stm_of};
 ghost use Rattle.sz_check_rules.specs.Scenes.{judge_if_some};
 ghost use Rattle.sz_check_rules.specs.JudgingSimple.{table_named, weight_agrees};
 ghost use Rattle.sz_check_names.specs.Holding.{means_of, scene_of};
-ghost use Rattle.sz_check.specs.Behind.{numbered_of, emitted_of, judge_emitted, emitted_fits, judge_emit_by_parts};
+ghost use Rattle.sz_check.specs.Later.{numbered_of, emitted_of, judge_emitted, emitted_fits, judge_emit_by_parts};
 ghost use Rattle.sz_check_names.specs.Outcome.{Judges};
 
 use std::alloc::Global;

@@ -10,7 +10,7 @@ ghost use Rattle.sz_check_names.specs.Holding.{blocks_of, outside_of, scene_of};
 ghost use Rattle.sz_check_names.specs.Outcome.{Judges};
 ghost use Rattle.sz_check_rules.specs.Quantifying.{judge_names, judge_quantifier, judge_quantifiers, none_declared, judge_front, bind, bind_inside, judge_bound};
 ghost use Rattle.sz_check_rules.specs.Quantifying.{names_of, all_bounded, may_follow, all_last, are_of, checked, judge_base, judge_bases, quantify};
-ghost use Rattle.sz_check.specs.Behind.{judge_quantified};
+ghost use Rattle.sz_check.specs.Later.{judge_quantified};
 ghost use Rattle.sz_check.specs.Quantified.{variable_of, declared_of, front_of, based_of};
 
 use std::alloc::{AllocError, Global};
@@ -39,7 +39,7 @@ pub struct Front<'t> {
     pub condition: CoreExpr,
 }
 
-// Declares a variable behind those that are declared by now.
+// Declares a variable after those that are declared by now.
 fn judge_name<'t>(
     alloc: Global,
     known: &mut Known,
@@ -63,7 +63,7 @@ fn judge_name<'t>(
     Ok(())
 }
 
-// Declares variables of one kind and type behind those that are declared by now.
+// Declares variables of one kind and type after those that are declared by now.
 fn judge_names<'t>(
     alloc: Global,
     known: &mut Known,
@@ -82,7 +82,7 @@ fn judge_names<'t>(
     Ok(())
 }
 
-// Declares the variables of a quantifier behind those that are declared by now.
+// Declares the variables of a quantifier after those that are declared by now.
 fn judge_quantifier<'t>(
     alloc: Global,
     known: &mut Known,
@@ -222,7 +222,7 @@ fn all_bounded(
     }
 }
 
-// Whether a variable speaks of all candidates, behind one that does or doesn't.
+// Whether a variable speaks of all candidates, after one that does or doesn't.
 fn may_follow(variable: &Variable<'_>, after: bool) -> Result<bool, CheckError>
     ensures value { Judges (λ x. x) result (may_follow (variable_of variable.now) after) }
 {
@@ -235,7 +235,7 @@ fn may_follow(variable: &Variable<'_>, after: bool) -> Result<bool, CheckError>
     }
 }
 
-// No variable of another kind stands behind one that speaks of all candidates. Whether the last one does.
+// No variable of another kind stands after one that speaks of all candidates. Whether the last one does.
 fn all_last(variables: &[Variable<'_>]) -> Result<bool, CheckError>
     ensures value { Judges (λ x. x) result (all_last (each variable_of variables.now) false) }
 {

@@ -12,7 +12,7 @@ ghost use Rattle.sz_check_rules.specs.JudgingSimple.{judge_declaration, judge_in
 ghost use Rattle.sz_check_rules.specs.JudgingSimple.{judge_first, judge_between, test_if_some, judge_return};
 ghost use Rattle.sz_check_expr.specs.Asking.{asked_of};
 ghost use Rattle.sz_check_names.specs.Holding.{scene_of};
-ghost use Rattle.sz_check.specs.Behind.{behind_of, change_row, one_at, variable_at, changed_at};
+ghost use Rattle.sz_check.specs.Later.{after_of, change_row, one_at, variable_at, changed_at};
 ghost use Rattle.sz_check_names.specs.Outcome.{Judges};
 
 use crate::composed::boxed;
@@ -32,7 +32,7 @@ pub fn judge_declaration(
     name: &Name,
     tree: &TypeTree,
 ) -> Result<CoreStmt, CheckError>
-    ensures value { Judges (λ s. behind_of known.new s) result
+    ensures value { Judges (λ s. after_of known.new s) result
         (judge_declaration (scene_of known.old) name.now (type_of tree.now)) }
     ensures outside { known.new.outside ≡ known.old.outside }
 {
@@ -49,7 +49,7 @@ pub fn judge_initialised(
     tree: &TypeTree,
     value: &Expr,
 ) -> Result<CoreStmt, CheckError>
-    ensures value { Judges (λ s. behind_of known.new s) result
+    ensures value { Judges (λ s. after_of known.new s) result
         (judge_initialised (scene_of known.old) name.now (type_of tree.now) (tree_of value.now)) }
     ensures outside { known.new.outside ≡ known.old.outside }
 {
@@ -67,7 +67,7 @@ pub fn judge_definition(
     name: &Name,
     value: &Expr,
 ) -> Result<CoreStmt, CheckError>
-    ensures value { Judges (λ s. behind_of known.new s) result
+    ensures value { Judges (λ s. after_of known.new s) result
         (judge_definition (scene_of known.old) name.now (tree_of value.now)) }
     ensures outside { known.new.outside ≡ known.old.outside }
 {
@@ -190,7 +190,7 @@ pub fn judge_first(
     known: &mut Known,
     first: &Option<First>,
 ) -> Result<CoreStmt, CheckError>
-    ensures value { Judges (λ s. behind_of known.new s) result
+    ensures value { Judges (λ s. after_of known.new s) result
         (judge_first (scene_of known.old) (option_map first_of first.now)) }
     ensures outside { known.new.outside ≡ known.old.outside }
 {

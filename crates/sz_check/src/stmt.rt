@@ -6,7 +6,7 @@ ghost use Rattle.sz_tree.specs.View.{tree_of, stm_of, simple_of, first_of, quant
 ghost use Rattle.sz_core.specs.View.{node_of, stm_of as core_stm_of};
 ghost use Rattle.sz_check_rules.specs.JudgingStatements.{judge_stm, judge_stms};
 ghost use Rattle.sz_check_names.specs.Holding.{scene_of};
-ghost use Rattle.sz_check.specs.Behind.{behind_of, all_behind_of, around_of, judge_inside, judge_else, judge_turns, judge_for, judge_bound_body};
+ghost use Rattle.sz_check.specs.Later.{after_of, all_after_of, around_of, judge_inside, judge_else, judge_turns, judge_for, judge_bound_body};
 ghost use Rattle.sz_check.specs.Quantified.{variable_of};
 ghost use Rattle.sz_check_names.specs.Outcome.{Judges};
 
@@ -63,7 +63,7 @@ pub fn judge_stm(
     around: Around<'_>,
     tree: &Stmt,
 ) -> Result<CoreStmt, CheckError>
-    ensures value { Judges (λ s. behind_of known.new s) result
+    ensures value { Judges (λ s. after_of known.new s) result
         (judge_stm (around_of around.entry) (scene_of known.old) (stm_of tree.now)) }
     ensures outside { IfOk result (λ _. known.new.outside ≡ known.old.outside) }
 {
@@ -131,7 +131,7 @@ fn judge_inside(
     around: Around<'_>,
     tree: &Stmt,
 ) -> Result<Box<CoreStmt>, CheckError>
-    ensures value { Judges (λ s. behind_of known.new s.value) result
+    ensures value { Judges (λ s. after_of known.new s.value) result
         (judge_inside (around_of around.entry) (scene_of known.old) (stm_of tree.now)) }
     ensures outside { IfOk result (λ _. known.new.outside ≡ known.old.outside) }
 {
@@ -150,7 +150,7 @@ fn judge_block(
     place: Place,
     trees: &[Stmt],
 ) -> Result<CoreStmt, CheckError>
-    ensures value { Judges (λ s. behind_of known.new s) result
+    ensures value { Judges (λ s. after_of known.new s) result
         (judge_stm (around_of around.entry) (scene_of known.old) (block place (stms_of (each stm_of trees.now)))) }
     ensures outside { IfOk result (λ _. known.new.outside ≡ known.old.outside) }
 {
@@ -168,7 +168,7 @@ pub fn judge_stms(
     around: Around<'_>,
     trees: &[Stmt],
 ) -> Result<Vec<CoreStmt>, CheckError>
-    ensures value { Judges (λ ss. all_behind_of known.new ss.items) result
+    ensures value { Judges (λ ss. all_after_of known.new ss.items) result
         (judge_stms (around_of around.entry) (scene_of known.old) (stms_of (each stm_of trees.now))) }
     ensures outside { IfOk result (λ _. known.new.outside ≡ known.old.outside) }
 {
@@ -190,7 +190,7 @@ fn judge_if_only(
     taken: &Stmt,
     condition: &Expr,
 ) -> Result<CoreStmt, CheckError>
-    ensures value { Judges (λ s. behind_of known.new s) result
+    ensures value { Judges (λ s. after_of known.new s) result
         (judge_stm (around_of around.entry) (scene_of known.old) (if_only place (tree_of condition.now) (stm_of taken.now))) }
     ensures outside { IfOk result (λ _. known.new.outside ≡ known.old.outside) }
 {
@@ -200,7 +200,7 @@ fn judge_if_only(
     branch(place, condition, node, taken, other)
 }
 
-// What an `if` does behind its part: the other part, and then the branch over the test.
+// What an `if` does after its part: the other part, and then the branch over the test.
 #[cycle(stmt)]
 #[tactic(auto, using(crate::proofs::StatementParts::done_is))]
 fn judge_else(
@@ -213,7 +213,7 @@ fn judge_else(
     node: CoreExpr,
     taken: Box<CoreStmt>,
 ) -> Result<CoreStmt, CheckError>
-    ensures value { Judges (λ s. behind_of known.new s) result
+    ensures value { Judges (λ s. after_of known.new s) result
         (judge_else (around_of around.entry) (scene_of known.old) place (tree_of condition.now) (node_of node)
         (core_stm_of taken.value) (stm_of other.now)) }
     ensures outside { IfOk result (λ _. known.new.outside ≡ known.old.outside) }
@@ -232,7 +232,7 @@ fn judge_while(
     body: &Stmt,
     condition: &Expr,
 ) -> Result<CoreStmt, CheckError>
-    ensures value { Judges (λ s. behind_of known.new s) result
+    ensures value { Judges (λ s. after_of known.new s) result
         (judge_stm (around_of around.entry) (scene_of known.old) (while place (tree_of condition.now) (stm_of body.now))) }
     ensures outside { IfOk result (λ _. known.new.outside ≡ known.old.outside) }
 {
@@ -251,7 +251,7 @@ fn judge_do_while(
     body: &Stmt,
     condition: &Expr,
 ) -> Result<CoreStmt, CheckError>
-    ensures value { Judges (λ s. behind_of known.new s) result
+    ensures value { Judges (λ s. after_of known.new s) result
         (judge_stm (around_of around.entry) (scene_of known.old) (do_while place (stm_of body.now) (tree_of condition.now))) }
     ensures outside { IfOk result (λ _. known.new.outside ≡ known.old.outside) }
 {
@@ -260,7 +260,7 @@ fn judge_do_while(
     do_while_loop(place, condition, body, node)
 }
 
-// What a `for` does behind its first part.
+// What a `for` does after its first part.
 #[cycle(stmt)]
 #[tactic(auto, using(crate::proofs::StatementParts::done_is))]
 fn judge_turns(
@@ -272,7 +272,7 @@ fn judge_turns(
     condition: &Option<Expr>,
     between: &Option<Simple>,
 ) -> Result<CoreStmt, CheckError>
-    ensures value { Judges (λ s. behind_of known.new s) result
+    ensures value { Judges (λ s. after_of known.new s) result
         (judge_turns (around_of around.entry) (scene_of known.old) place (option_map tree_of condition.now)
         (option_map simple_of between.now) (stm_of body.now)) }
     ensures outside { IfOk result (λ _. known.new.outside ≡ known.old.outside) }
@@ -294,7 +294,7 @@ fn judge_for(
     condition: &Option<Expr>,
     between: &Option<Simple>,
 ) -> Result<CoreStmt, CheckError>
-    ensures value { Judges (λ s. behind_of known.new s) result
+    ensures value { Judges (λ s. after_of known.new s) result
         (judge_for (around_of around.entry) (scene_of known.old) place (option_map first_of first.now)
         (option_map tree_of condition.now) (option_map simple_of between.now) (stm_of body.now)) }
     ensures outside { IfOk result (λ _. known.new.outside ≡ known.old.outside) }
@@ -316,7 +316,7 @@ fn judge_bound_body(
     tree: &Stmt,
     variables: &[Variable<'_>],
 ) -> Result<Box<CoreStmt>, CheckError>
-    ensures value { Judges (λ s. behind_of known.new s.value) result
+    ensures value { Judges (λ s. after_of known.new s.value) result
         (judge_bound_body (around_of around.entry) (scene_of known.old) (each variable_of variables.now) (stm_of tree.now)) }
     ensures outside { IfOk result (λ _. known.new.outside ≡ known.old.outside) }
 {
@@ -337,7 +337,7 @@ fn judge_when(
     quantifiers: &[Quantifier],
     condition: &Expr,
 ) -> Result<CoreStmt, CheckError>
-    ensures value { Judges (λ s. behind_of known.new s) result
+    ensures value { Judges (λ s. after_of known.new s) result
         (judge_stm (around_of around.entry) (scene_of known.old)
         (when place (each quantifier_of quantifiers.now) (tree_of condition.now) (stm_of body.now))) }
     ensures outside { IfOk result (λ _. known.new.outside ≡ known.old.outside) }

@@ -14,8 +14,8 @@ use Rattle.sz_tree.specs.declared.stmt.Stmt.{Stmt}
 use Rattle.sz_tree.specs.Expressions.{call, list, mapping, exps_of, pairs_of}
 use Rattle.sz_tree.specs.Statements.{StepForm, at_index, at_field, FirstForm, first_declare, first_define, first_simple, Stm, block, declare, define, stms_of}
 use Rattle.sz_tree.specs.View.{tree_of, pair_of, step_of, stm_of}
-use Rattle.sz_check_rules.specs.EmittingTrees.{calls, exp_emits, exps_emit, pairs_emit, steps_emit, stm_emits, stms_emit, hidden_behind}
-use Rattle.sz_check_rules.specs.EmittingTrees.{hidden_behind_first}
+use Rattle.sz_check_rules.specs.EmittingTrees.{calls, exp_emits, exps_emit, pairs_emit, steps_emit, stm_emits, stms_emit, hidden_after}
+use Rattle.sz_check_rules.specs.EmittingTrees.{hidden_after_first}
 use Rattle.sz_check_emits.specs.Hidden.{hidden_of}
 use Rattle.sz_types.proofs.ForCallers.{rest_more, rest_none}
 use Rattle.sz_check_rules.proofs.TruthLemmas.{or_false, or_assoc}
@@ -91,12 +91,12 @@ front_taken front more n is = ap (λ (m : ℕ). take m (front ++ more)) is ∙ a
     at (x ∷ xs) = ap (λ (l : List (List ℕ)). x ∷ l) (at xs)
 
 -- a statement leaves what was hidden in front
-pub behind_front : (h : List (List ℕ)) (s : Stm) → (more : List (List ℕ)) × (hidden_behind h s ≡ h ++ more)
-behind_front h (declare n t e) = (n.text ∷ [], refl)
-behind_front h (define n e) = (n.text ∷ [], refl)
-behind_front h _ = ([], sym (append-nil h))
+pub after_front : (h : List (List ℕ)) (s : Stm) → (more : List (List ℕ)) × (hidden_after h s ≡ h ++ more)
+after_front h (declare n t e) = (n.text ∷ [], refl)
+after_front h (define n e) = (n.text ∷ [], refl)
+after_front h _ = ([], sym (append-nil h))
 
-pub first_front : (h : List (List ℕ)) (f : Option FirstForm) → (more : List (List ℕ)) × (hidden_behind_first h f ≡ h ++ more)
+pub first_front : (h : List (List ℕ)) (f : Option FirstForm) → (more : List (List ℕ)) × (hidden_after_first h f ≡ h ++ more)
 first_front h (Some (first_declare n t e)) = (n.text ∷ [], refl)
 first_front h (Some (first_define n e)) = (n.text ∷ [], refl)
 first_front h (Some (first_simple s)) = ([], sym (append-nil h))
@@ -141,16 +141,16 @@ pub kept_taken : (old mid : List (Bor Name)) (count : ℕ) → count ≡ length 
     → hidden_of (take count mid) ≡ hidden_of old
 kept_taken old mid count counted is = hidden_taken count mid ∙ ap (λ n. take n (hidden_of mid)) counted ∙ is
 
--- the names are those that there were behind a statement, a `for` and a `when` too
-pub kept_behind : (old mid : List (Bor Name)) (count : ℕ) (s : Stm) → count ≡ length old → hidden_of mid ≡ hidden_behind (hidden_of old) s
+-- the names are those that there were after a statement, a `for` and a `when` too
+pub kept_later : (old mid : List (Bor Name)) (count : ℕ) (s : Stm) → count ≡ length old → hidden_of mid ≡ hidden_after (hidden_of old) s
     → hidden_of (take count mid) ≡ hidden_of old
-kept_behind old mid count s counted is =
-    let front = behind_front (hidden_of old) s in
+kept_later old mid count s counted is =
+    let front = after_front (hidden_of old) s in
     kept_front old mid count front.0 counted (is ∙ front.1)
 
-pub kept_behind_for : (old start mid : List (Bor Name)) (count : ℕ) (f : Option FirstForm) → count ≡ length old
-    → hidden_of start ≡ hidden_behind_first (hidden_of old) f → hidden_of mid ≡ hidden_of start → hidden_of (take count mid) ≡ hidden_of old
-kept_behind_for old start mid count f counted is same =
+pub kept_after_for : (old start mid : List (Bor Name)) (count : ℕ) (f : Option FirstForm) → count ≡ length old
+    → hidden_of start ≡ hidden_after_first (hidden_of old) f → hidden_of mid ≡ hidden_of start → hidden_of (take count mid) ≡ hidden_of old
+kept_after_for old start mid count f counted is same =
     let front = first_front (hidden_of old) f in
     kept_front old mid count front.0 counted (same ∙ is ∙ front.1)
 
@@ -160,24 +160,24 @@ module _ (old first cut second : List (Bor Name)) (count : ℕ) (names inside : 
   pub hidden_inside : hidden_of second ≡ hidden_of old ++ inside
   hidden_inside = later ∙ ap (λ (l : List (List ℕ)). l ++ inside) (ap hidden_of cut_is ∙ kept_front old first count names counted is)
 
-  pub kept_behind_when : (after : List (Bor Name)) → hidden_of after ≡ hidden_of second → hidden_of (take count after) ≡ hidden_of old
-  kept_behind_when after same = kept_front old after count inside counted (same ∙ hidden_inside)
+  pub kept_after_when : (after : List (Bor Name)) → hidden_of after ≡ hidden_of second → hidden_of (take count after) ≡ hidden_of old
+  kept_after_when after same = kept_front old after count inside counted (same ∙ hidden_inside)
 
 -- ---- turns of the loop over statements
 
 module _ (emits : List ℕ → Bool) (h : List (List ℕ)) (ts : List Stmt) (i : ℕ) where
   stms_turn : (t : Stmt) → i < length ts → t ≡ get_or ts i t
       → stms_emit emits h (stms_of (map stm_of (drop i ts)))
-      ≡ (stm_emits emits h (stm_of t) || stms_emit emits (hidden_behind h (stm_of t)) (stms_of (map stm_of (drop (i + 1) ts))))
+      ≡ (stm_emits emits h (stm_of t) || stms_emit emits (hidden_after h (stm_of t)) (stms_of (map stm_of (drop (i + 1) ts))))
   unfolding stms_emit
   stms_turn t within is = rw (rest_more stm_of ts i t within is) refl
 
   pub stms_go : (t : Stmt) (found here whole : Bool) (k : List (List ℕ)) → i < length ts → t ≡ get_or ts i t → here ≡ stm_emits emits h (stm_of t)
-      → k ≡ hidden_behind h (stm_of t) → (found || stms_emit emits h (stms_of (map stm_of (drop i ts)))) ≡ whole
+      → k ≡ hidden_after h (stm_of t) → (found || stms_emit emits h (stms_of (map stm_of (drop i ts)))) ≡ whole
       → (found || here || stms_emit emits k (stms_of (map stm_of (drop (i + 1) ts)))) ≡ whole
   stms_go t found here whole k within is here_is k_is so_far =
       (λ j. found || here_is j || stms_emit emits (k_is j) (stms_of (map stm_of (drop (i + 1) ts))))
-      ∙ or_assoc found (stm_emits emits h (stm_of t)) (stms_emit emits (hidden_behind h (stm_of t)) (stms_of (map stm_of (drop (i + 1) ts))))
+      ∙ or_assoc found (stm_emits emits h (stm_of t)) (stms_emit emits (hidden_after h (stm_of t)) (stms_of (map stm_of (drop (i + 1) ts))))
       ∙ ap (λ b. found || b) (sym (stms_turn t within is)) ∙ so_far
 
   pub stms_end : (found whole : Bool) → length ts ≤ i → (found || stms_emit emits h (stms_of (map stm_of (drop i ts)))) ≡ whole → found ≡ whole
@@ -185,8 +185,8 @@ module _ (emits : List ℕ → Bool) (h : List (List ℕ)) (ts : List Stmt) (i :
   stms_end found whole over so_far =
       sym (or_false found) ∙ ap (λ (l : List Stm). found || stms_emit emits h (stms_of l)) (sym (rest_none stm_of ts i over)) ∙ so_far
 
--- more is hidden behind a statement
-pub front_grows : (old h k more : List (List ℕ)) (s : Stm) → h ≡ old ++ more → k ≡ hidden_behind h s → (rest : List (List ℕ)) × (k ≡ old ++ rest)
-front_grows old h k more s is behind =
-    let next = behind_front h s in
-    (more ++ next.0, behind ∙ next.1 ∙ ap (λ (l : List (List ℕ)). l ++ next.0) is ∙ append_assoc old more next.0)
+-- more is hidden after a statement
+pub front_grows : (old h k more : List (List ℕ)) (s : Stm) → h ≡ old ++ more → k ≡ hidden_after h s → (rest : List (List ℕ)) × (k ≡ old ++ rest)
+front_grows old h k more s is following =
+    let next = after_front h s in
+    (more ++ next.0, following ∙ next.1 ∙ ap (λ (l : List (List ℕ)). l ++ next.0) is ∙ append_assoc old more next.0)

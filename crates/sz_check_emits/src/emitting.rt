@@ -7,8 +7,8 @@ ghost use Rattle.sz_tree.specs.View.{tree_of, pair_of, step_of, simple_of, first
 ghost use Rattle.sz_check_rules.specs.Refusals.{has_name};
 ghost use Rattle.sz_check_names.specs.Holding.{blocks_of, maybe_means_of};
 ghost use Rattle.sz_check_rules.specs.EmittingTrees.{means_emitting, emits_by, is_seen_inside, texts_of, quantified_names, calls, exp_emits, exps_emit};
-ghost use Rattle.sz_check_rules.specs.EmittingTrees.{pairs_emit, part_emits, steps_emit, simple_emits, between_emits, first_emits, hidden_behind_first};
-ghost use Rattle.sz_check_rules.specs.EmittingTrees.{hidden_behind, stm_emits, stms_emit, for_emits, when_emits};
+ghost use Rattle.sz_check_rules.specs.EmittingTrees.{pairs_emit, part_emits, steps_emit, simple_emits, between_emits, first_emits, hidden_after_first};
+ghost use Rattle.sz_check_rules.specs.EmittingTrees.{hidden_after, stm_emits, stms_emit, for_emits, when_emits};
 ghost use Rattle.sz_check_emits.specs.Hidden.{hidden_of};
 
 use std::alloc::{AllocError, Global};
@@ -157,8 +157,8 @@ fn between_emits(known: &Known, hidden: &[&Name], tree: &Option<Simple>) -> bool
     }
 }
 
-// Hides the name of a variable behind what was found of its value.
-fn hide_behind<'t>(
+// Hides the name of a variable after what was found of its value.
+fn hide_after<'t>(
     emits: bool,
     hidden: &mut Vec<&'t Name>,
     name: &'t Name,
@@ -170,19 +170,19 @@ fn hide_behind<'t>(
     Ok(emits)
 }
 
-// Whether the first part of a `for` can emit. Its variable's name is hidden behind it.
+// Whether the first part of a `for` can emit. Its variable's name is hidden after it.
 fn first_emits<'t>(
     known: &Known,
     hidden: &mut Vec<&'t Name>,
     first: &'t Option<First>,
 ) -> Result<bool, AllocError>
     ensures value { IfOk result (λ emits. emits ≡ first_emits (emits_by (blocks_of known.now)) (hidden_of hidden.old.items) (option_map first_of first.now)) }
-    ensures hidden { OnOk result (hidden_of hidden.new.items ≡ hidden_behind_first (hidden_of hidden.old.items) (option_map first_of first.now)) }
+    ensures hidden { OnOk result (hidden_of hidden.new.items ≡ hidden_after_first (hidden_of hidden.old.items) (option_map first_of first.now)) }
 {
     match first {
         None => Ok(false),
         Some(First::Declare(name, _, value)) | Some(First::Define(name, value)) => {
-            hide_behind(exp_emits(known, hidden.as_slice(), value), hidden, name)
+            hide_after(exp_emits(known, hidden.as_slice(), value), hidden, name)
         }
         Some(First::Simple(tree)) => Ok(simple_emits(known, hidden.as_slice(), tree)),
     }
@@ -224,7 +224,7 @@ fn hide_quantified<'t>(
     Ok(())
 }
 
-// Whether the statement can emit. A variable that it declares is hidden behind it.
+// Whether the statement can emit. A variable that it declares is hidden after it.
 #[cycle(stm_emits)]
 #[tactic(auto, unfolding(sz_check_rules::specs::EmittingTrees::stm_emits), using(sz_tree::proofs::RowLemmas::stm_of_block))]
 fn stm_emits<'t>(
@@ -233,7 +233,7 @@ fn stm_emits<'t>(
     tree: &'t Stmt,
 ) -> Result<bool, AllocError>
     ensures value { IfOk result (λ emits. emits ≡ stm_emits (emits_by (blocks_of known.now)) (hidden_of hidden.old.items) (stm_of tree.now)) }
-    ensures hidden { OnOk result (hidden_of hidden.new.items ≡ hidden_behind (hidden_of hidden.old.items) (stm_of tree.now)) }
+    ensures hidden { OnOk result (hidden_of hidden.new.items ≡ hidden_after (hidden_of hidden.old.items) (stm_of tree.now)) }
 {
     match tree {
         Stmt::Empty(_) | Stmt::Break(_) | Stmt::Continue(_) => Ok(false),
@@ -241,10 +241,10 @@ fn stm_emits<'t>(
         Stmt::Table(_, _) | Stmt::Function(_, _, _, _) => Ok(false),
         Stmt::Block(_, trees) => block_emits(known, hidden, trees.as_slice()),
         Stmt::Declare(name, _, value) => {
-            hide_behind(part_emits(known, hidden.as_slice(), value), hidden, name)
+            hide_after(part_emits(known, hidden.as_slice(), value), hidden, name)
         }
         Stmt::Define(name, value) => {
-            hide_behind(exp_emits(known, hidden.as_slice(), value), hidden, name)
+            hide_after(exp_emits(known, hidden.as_slice(), value), hidden, name)
         }
         Stmt::Simple(tree) => Ok(simple_emits(known, hidden.as_slice(), tree)),
         Stmt::If(_, test, body, None) | Stmt::While(_, test, body) => {
@@ -288,7 +288,7 @@ fn inside_emits<'t>(
     Ok(emits)
 }
 
-// Whether a test or the statement behind it can emit.
+// Whether a test or the statement after it can emit.
 #[cycle(stm_emits)]
 fn tested_emits<'t>(
     known: &Known,
@@ -367,7 +367,7 @@ fn when_emits<'t>(
     Ok(asked || body)
 }
 
-// Whether one of the statements can emit. The variables that they declare are hidden behind them.
+// Whether one of the statements can emit. The variables that they declare are hidden after them.
 #[cycle(stm_emits)]
 fn stms_emit<'t>(
     known: &Known,

@@ -11,11 +11,11 @@ use Rattle.sz_tree.specs.View.{tree_of, pair_of}
 use Rattle.sz_core.specs.Nodes.{Node, type_of, Nodes, no_nodes, with_node, nodes_of, Pairings, no_pairings, with_pairing, pairings_of}
 use Rattle.sz_check_rules.specs.Refusals.{Judged, ◌>>=◌}
 use Rattle.sz_check_rules.specs.Names.{Block}
-use Rattle.sz_check_rules.specs.Agreeing.{Asks, asked_first, asked_behind}
+use Rattle.sz_check_rules.specs.Agreeing.{Asks, asked_first, asked_after}
 use Rattle.sz_check_rules.specs.JudgingParts.{made_index, made_slice}
 use Rattle.sz_check_rules.specs.JudgingOperators.{operation_of, asked_of_right, made_binary}
 use Rattle.sz_check_rules.specs.JudgingExpressions.{literal_node, judge_exp, judge_exps, judge_pairs}
-use Rattle.sz_check_names.specs.Turns.{behind, put_all}
+use Rattle.sz_check_names.specs.Turns.{following, put_all}
 use Rattle.sz_check_expr.specs.Lists.{with_pair, judge_pair}
 use Rattle.sz_check_names.specs.Outcome.{Stops}
 use Rattle.sz_check_names.specs.declared.error.CheckError.{CheckError}
@@ -78,7 +78,7 @@ module _ (blocks : List Block) (may_emit : Bool) where
   -- the judgement of what is left begins with that of the first
   exps_turn : (asks : Asks) (es : List Expr) (i : ℕ) (e : Expr) → i < length es → e ≡ get_or es i e
       → exps_from asks es i
-      ≡ (judge_exp blocks may_emit (asked_first asks) (tree_of e) >>= λ n. exps_from (asked_behind asks) es (i + 1) >>= λ ns. Ok (with_node n ns))
+      ≡ (judge_exp blocks may_emit (asked_first asks) (tree_of e) >>= λ n. exps_from (asked_after asks) es (i + 1) >>= λ ns. Ok (with_node n ns))
   unfolding judge_exps
   exps_turn asks es i e within is = rw (rest_more tree_of es i e within is) refl
 
@@ -87,18 +87,18 @@ module _ (blocks : List Block) (may_emit : Bool) where
   exps_over asks es i over = rw (rest_none tree_of es i over) refl
 
   pub exps_fails : (front : List Node) (asks : Asks) (es : List Expr) (i : ℕ) (e : Expr) (r : CheckError) (whole : Judged Nodes) → i < length es
-      → e ≡ get_or es i e → Stops r (judge_exp blocks may_emit (asked_first asks) (tree_of e)) → behind with_node front (exps_from asks es i) ≡ whole
+      → e ≡ get_or es i e → Stops r (judge_exp blocks may_emit (asked_first asks) (tree_of e)) → following with_node front (exps_from asks es i) ≡ whole
       → Stops r whole
   exps_fails front asks es i e r whole within is h so_far = turn_fails with_node front r _ _ _ whole (exps_turn asks es i e within is) h so_far
 
   pub exps_goes : (front : List Node) (asks : Asks) (es : List Expr) (i : ℕ) (e : Expr) (n : Node) (whole : Judged Nodes) → i < length es
-      → e ≡ get_or es i e → judge_exp blocks may_emit (asked_first asks) (tree_of e) ≡ Ok n → behind with_node front (exps_from asks es i) ≡ whole
-      → behind with_node (front ++ n ∷ []) (exps_from (asked_behind asks) es (i + 1)) ≡ whole
+      → e ≡ get_or es i e → judge_exp blocks may_emit (asked_first asks) (tree_of e) ≡ Ok n → following with_node front (exps_from asks es i) ≡ whole
+      → following with_node (front ++ n ∷ []) (exps_from (asked_after asks) es (i + 1)) ≡ whole
   exps_goes front asks es i e n whole within is h so_far =
-      turn_goes with_node front n _ (λ _. exps_from (asked_behind asks) es (i + 1)) _ whole (exps_turn asks es i e within is) h so_far
+      turn_goes with_node front n _ (λ _. exps_from (asked_after asks) es (i + 1)) _ whole (exps_turn asks es i e within is) h so_far
 
   pub exps_ends : (front : List Node) (asks : Asks) (es : List Expr) (i : ℕ) (whole : Judged Nodes) → length es ≤ i
-      → behind with_node front (exps_from asks es i) ≡ whole → whole ≡ Ok (nodes_of front)
+      → following with_node front (exps_from asks es i) ≡ whole → whole ≡ Ok (nodes_of front)
   exps_ends front asks es i whole over so_far =
       turn_ends with_node front no_nodes _ whole (exps_over asks es i over) so_far ∙ ap (λ (ns : Nodes). Ok ns) (put_nodes front)
 
@@ -119,16 +119,16 @@ module _ (blocks : List Block) (may_emit : Bool) where
 
   pub pairs_fails : (front : List (Node × Node)) (k v : Option Shape) (ps : List Pair) (i : ℕ) (p : Pair) (r : CheckError) (whole : Judged Pairings)
       → i < length ps → p ≡ get_or ps i p → Stops r (judge_pair blocks may_emit k v (pair_of p))
-      → behind with_pair front (pairs_from k v ps i) ≡ whole → Stops r whole
+      → following with_pair front (pairs_from k v ps i) ≡ whole → Stops r whole
   pairs_fails front k v ps i p r whole within is h so_far = turn_fails with_pair front r _ _ _ whole (pairs_turn k v ps i p within is) h so_far
 
   pub pairs_goes : (front : List (Node × Node)) (k v : Option Shape) (ps : List Pair) (i : ℕ) (p : Pair) (b : Node × Node) (whole : Judged Pairings)
       → i < length ps → p ≡ get_or ps i p → judge_pair blocks may_emit k v (pair_of p) ≡ Ok b
-      → behind with_pair front (pairs_from k v ps i) ≡ whole → behind with_pair (front ++ b ∷ []) (pairs_from k v ps (i + 1)) ≡ whole
+      → following with_pair front (pairs_from k v ps i) ≡ whole → following with_pair (front ++ b ∷ []) (pairs_from k v ps (i + 1)) ≡ whole
   pairs_goes front k v ps i p b whole within is h so_far =
       turn_goes with_pair front b _ (λ _. pairs_from k v ps (i + 1)) _ whole (pairs_turn k v ps i p within is) h so_far
 
   pub pairs_ends : (front : List (Node × Node)) (k v : Option Shape) (ps : List Pair) (i : ℕ) (whole : Judged Pairings) → length ps ≤ i
-      → behind with_pair front (pairs_from k v ps i) ≡ whole → whole ≡ Ok (pairings_of front)
+      → following with_pair front (pairs_from k v ps i) ≡ whole → whole ≡ Ok (pairings_of front)
   pairs_ends front k v ps i whole over so_far =
       turn_ends with_pair front no_pairings _ whole (pairs_over k v ps i over) so_far ∙ ap (λ (ns : Pairings). Ok ns) (put_pairs front)

@@ -13,7 +13,7 @@ use Rattle.sz_core.specs.Nodes.{nodes_of, pairings_of}
 use Rattle.sz_core.specs.View.{node_of, pairing_of}
 use Rattle.sz_check_rules.specs.Refusals.{Judged, ◌>>=◌}
 use Rattle.sz_types.proofs.ForCallers.{rest_more}
-use Rattle.sz_check_rules.specs.Agreeing.{Asks, asked_first, asked_behind, agrees, agree, pairs_agree, count_of}
+use Rattle.sz_check_rules.specs.Agreeing.{Asks, asked_first, asked_after, agrees, agree, pairs_agree, count_of}
 
 -- whether the expressions from a place on agree, and so keys and values
 abbrev pub agree_from : Asks → List Expr → List CoreExpr → ℕ → Judged Unit
@@ -25,7 +25,7 @@ pairs_agree_from k v ps ns i = pairs_agree k v (pairs_of (map pair_of (drop i ps
 -- one turn of the loop over expressions that agree
 pub agree_turn : (asks : Asks) (es : List Expr) (ns : List CoreExpr) (i : ℕ) (e : Expr) (n : CoreExpr) → i < length es → i < length ns
     → e ≡ get_or es i e → n ≡ get_or ns i n
-    → agree_from asks es ns i ≡ (agrees (asked_first asks) (tree_of e) (node_of n) >>= λ _. agree_from (asked_behind asks) es ns (i + 1))
+    → agree_from asks es ns i ≡ (agrees (asked_first asks) (tree_of e) (node_of n) >>= λ _. agree_from (asked_after asks) es ns (i + 1))
 unfolding agree
 agree_turn asks es ns i e n le ln ise isn = rw (rest_more tree_of es i e le ise, rest_more node_of ns i n ln isn) refl
 

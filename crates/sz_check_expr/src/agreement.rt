@@ -48,7 +48,7 @@ pub fn agree(asks: Asks<'_>, trees: &[Expr], nodes: &[CoreExpr]) -> Result<(), C
     let mut asks = asks;
     for i in 0..trees.len().min(nodes.len()) {
         agrees(asks.first(), &trees[i], &nodes[i])?;
-        asks = asks.behind();
+        asks = asks.following();
     }
     Ok(())
 }

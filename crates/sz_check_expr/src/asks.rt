@@ -1,6 +1,6 @@
 //! What a place asks of the expressions that stand there.
 ghost use Rattle.std.specs.Prelude.{◌≡◌};
-ghost use Rattle.sz_check_rules.specs.Agreeing.{asked_first, asked_behind};
+ghost use Rattle.sz_check_rules.specs.Agreeing.{asked_first, asked_after};
 ghost use Rattle.sz_check_expr.specs.Asking.{asks_of, asked_of};
 
 use sz_types::{Field, Ty};
@@ -26,9 +26,9 @@ impl<'t> Asks<'t> {
         }
     }
 
-    /// What is asked of those behind it.
-    pub fn behind(self) -> Asks<'t>
-        ensures value { asks_of result ≡ asked_behind (asks_of self.entry) }
+    /// What is asked of those after it.
+    pub fn following(self) -> Asks<'t>
+        ensures value { asks_of result ≡ asked_after (asks_of self.entry) }
     {
         match self {
             Asks::Nothing | Asks::Types([]) | Asks::Fields([]) => Asks::Nothing,

@@ -249,7 +249,7 @@ pub fn judge_exps(
     for tree in trees {
         let node = judge_exp(alloc, known, site, asks.first(), tree)?;
         nodes.push(node)?;
-        asks = asks.behind();
+        asks = asks.following();
     }
     Ok(nodes)
 }

@@ -172,7 +172,7 @@ inside_bound locals a b g (v ∷ vs) blocks formed begins have rise below fit =
 
 -- ---- variables as they are declared
 
--- how variables were declared behind others, where their types are well formed if something holds
+-- how variables were declared after others, where their types are well formed if something holds
 pub record AreMade (P : Type 0) (d r : Declared) : Type 0 where
   pub news : List Variable
   pub variables : r.variables ≡ d.variables ++ news
@@ -297,7 +297,7 @@ inside_those (v ∷ vs) (q ∷ qs) h = by (is_seen_inside v.quantity) (is_for_al
 inside_those [] (q ∷ qs) h = absurd h
 inside_those (v ∷ vs) [] h = absurd h
 
--- no other variable stands behind one that speaks of all candidates
+-- no other variable stands after one that speaks of all candidates
 abbrev last_of : Bool → List core.Quantified → Bool
 last_of true qs = are_for_all qs
 last_of false qs = is_all_last qs

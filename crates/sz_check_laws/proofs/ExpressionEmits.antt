@@ -20,7 +20,7 @@ use Rattle.sz_check_rules.specs.Names.{Block, Meaning, meaning_of, look_up}
 use Rattle.sz_check_rules.specs.Names as names
 use Rattle.sz_types.specs.Conversions.{converts_to}
 use Rattle.sz_check_rules.specs.JudgingTypes.{shape_of}
-use Rattle.sz_check_rules.specs.Agreeing.{Asks, nothing, each, in_turn, agree, counted, pairs_agree, arguments_fit, asked_first, asked_behind}
+use Rattle.sz_check_rules.specs.Agreeing.{Asks, nothing, each, in_turn, agree, counted, pairs_agree, arguments_fit, asked_first, asked_after}
 use Rattle.sz_check_rules.specs.Agreeing.{field_types}
 use Rattle.sz_check_rules.specs.Agreeing.{fields_count, taken}
 use Rattle.sz_check_rules.specs.JudgingExpressions.{judge_exp, judge_exps, judge_pairs, literal_node, variable_node}
@@ -101,12 +101,12 @@ module _ (fs : List Signature) where
       option_holds {r = wrong_count n.place} (builtin_row b (types_of ns)) (λ none. err_holds _ _)
       (λ t row. gives (nodes_emit fs ns) n.place t (forms.builtin b ns) refl)))
 
-  -- one that emits nothing behind it
+  -- one that emits nothing after it
   or_none : (b : Bool) → b ≡ (b || false)
   or_none true = refl
   or_none false = refl
 
-  -- a refusal behind a conversion
+  -- a refusal after a conversion
   refused_then : (b : Bool) (n : Ident) (t : Shape) (e : Exp) (m : Node) → Holds (conversion_node n.place t e m >>= λ x. wrong_count n.place) (Gives b)
   refused_then b n t e m =
       bind_holds {f = λ x. wrong_count n.place} (known (conversion_node n.place t e m)) (λ x is. err_holds (Gives b) _)
@@ -241,7 +241,7 @@ module _ (fs : List Signature) where
       pub expressions_give : (asks : Asks) (es : Exps) → Holds (judge_exps blocks may_emit asks es) (AllGive (exps_emit emits h es))
       expressions_give asks end = ok_holds (AllGive false) no_nodes refl
       expressions_give asks (more e es) = bind_holds (expression_gives (asked_first asks) e) (λ n first.
-          bind_holds (expressions_give (asked_behind asks) es) (λ ns rest.
+          bind_holds (expressions_give (asked_after asks) es) (λ ns rest.
           ok_holds (AllGive (exps_emit emits h (more e es))) (with_node n ns) (λ i. first i || rest i)))
 
       pairs_give : (k v : Option Shape) (ps : Pairs) → Holds (judge_pairs blocks may_emit k v ps) (PairsGive (pairs_emit emits h ps))

@@ -11,7 +11,7 @@ use Rattle.sz_core.specs.Nodes as forms
 use Rattle.sz_core.specs.WellFormed.{is_well_formed, are_well_formed}
 use Rattle.sz_core.specs.Typing.{Sight, HasOwnType, IsNode, IsForm}
 use Rattle.sz_check_rules.specs.Names.{Block}
-use Rattle.sz_check_rules.specs.Agreeing.{Asks, nothing, each, in_turn, asked_first, asked_behind}
+use Rattle.sz_check_rules.specs.Agreeing.{Asks, nothing, each, in_turn, asked_first, asked_after}
 use Rattle.sz_check_rules.specs.JudgingTypes.{shape_of}
 use Rattle.sz_check_rules.specs.JudgingExpressions.{judge_exp, judge_exps, judge_pairs, literal_node}
 use Rattle.sz_check_rules.specs.JudgingCalls.{asks_of_callee}
@@ -28,18 +28,18 @@ use Rattle.sz_check_laws.proofs.NodeLemmas.{AskFormed, literal_typed, variable_t
 use Rattle.sz_check_laws.proofs.NodeLemmas.{list_asks, mapping_typed, keys_ask, values_ask, index_typed, slice_typed, field_typed, unary_typed, binary_typed}
 use Rattle.sz_check_laws.proofs.NodeLemmas.{right_asks}
 
--- what is asked of the first is well formed, and of those behind it
+-- what is asked of the first is well formed, and of those after it
 first_asked : (asks : Asks) → AskFormed asks → IfSome (asked_first asks) IsFormed
 first_asked nothing h = tt
 first_asked (each t) h = h
 first_asked (in_turn []) h = tt
 first_asked (in_turn (t ∷ ts)) h = first_so _ (are_well_formed ts) h
 
-behind_asked : (asks : Asks) → AskFormed asks → AskFormed (asked_behind asks)
-behind_asked nothing h = tt
-behind_asked (each t) h = h
-behind_asked (in_turn []) h = tt
-behind_asked (in_turn (t ∷ ts)) h = second_so (is_well_formed t) _ h
+after_asked : (asks : Asks) → AskFormed asks → AskFormed (asked_after asks)
+after_asked nothing h = tt
+after_asked (each t) h = h
+after_asked (in_turn []) h = tt
+after_asked (in_turn (t ∷ ts)) h = second_so (is_well_formed t) _ h
 
 module _ (g : Sight) (blocks : List Block) (fit : AllFit g blocks) where
   -- where no type is asked, what has its type has it by itself
@@ -80,7 +80,7 @@ module _ (g : Sight) (blocks : List Block) (fit : AllFit g blocks) where
     pub expressions_typed : (asks : Asks) (es : Exps) → AskFormed asks → Holds (judge_exps blocks g.may_emit asks es) (AreTyped g es)
     expressions_typed asks end ask = ok_holds (AreTyped g end) no_nodes tt
     expressions_typed asks (more e es) ask = bind_holds (expression_typed (asked_first asks) e (first_asked asks ask)) (λ n h.
-        bind_holds (expressions_typed (asked_behind asks) es (behind_asked asks ask)) (λ ns k. ok_holds (AreTyped g (more e es)) (with_node n ns) (h, k)))
+        bind_holds (expressions_typed (asked_after asks) es (after_asked asks ask)) (λ ns k. ok_holds (AreTyped g (more e es)) (with_node n ns) (h, k)))
 
     pairs_typed : (k v : Option Shape) (ps : Pairs) → IfSome k IsFormed → IfSome v IsFormed → Holds (judge_pairs blocks g.may_emit k v ps) (PairsTyped g ps)
     pairs_typed k v no_pairs key value = ok_holds (PairsTyped g no_pairs) no_pairings tt

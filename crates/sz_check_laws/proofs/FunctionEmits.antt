@@ -37,7 +37,7 @@ abbrev round : List Block → List Block
 round [] = []
 round (block ∷ blocks) = blocks
 
--- behind parameters there are variables alone in the innermost block, and round it is what was there
+-- after parameters there are variables alone in the innermost block, and round it is what was there
 pub record AreVariables (s after : Scene) : Type 0 where
   pub inside : MeansIn IsVariable (innermost s.blocks) → MeansIn IsVariable (innermost after.blocks)
   pub outside : (block : Block) (blocks : List Block) → s.blocks ≡ block ∷ blocks → after.blocks ≡ innermost after.blocks ∷ blocks

@@ -15,7 +15,7 @@ use Rattle.sz_check_rules.specs.Names.{Block, Meaning, only, is_seen_by_function
 use Rattle.sz_check_rules.specs.Names as names
 use Rattle.sz_check_rules.specs.JudgingTypes.{judge_type}
 use Rattle.sz_check_rules.specs.Scene.{Scene}
-use Rattle.sz_check_rules.specs.Scenes.{AllBehind}
+use Rattle.sz_check_rules.specs.Scenes.{AllAfter}
 use Rattle.sz_check_rules.specs.EmittingTrees.{emits_by, stms_emit}
 use Rattle.sz_check_rules.specs.JudgingStatements.{judge_stms}
 use Rattle.sz_check_rules.specs.JudgingPrograms.{TopScene, blocks_of, with_blocks, innermost_on, in_function, judge_function}
@@ -28,7 +28,7 @@ use Rattle.sz_check_laws.proofs.ItemLemmas.{IsKnown, AreParameters, parameters_h
 use Rattle.sz_check_laws.proofs.StatementSound.{statements_sound}
 use Rattle.sz_check_laws.proofs.StatementEmits.{statements_do}
 use Rattle.sz_check_laws.proofs.FunctionEmits.{AreVariables, parameters_stand, AllExact, all_exact, agree_inside}
-use Rattle.sz_check_laws.proofs.TopLemmas.{Knows, IsFoundBehind, with_function, more_functions, sees_on, last_is, declares}
+use Rattle.sz_check_laws.proofs.TopLemmas.{Knows, IsFoundAfter, with_function, more_functions, sees_on, last_is, declares}
 
 -- what is seen in a function with these variables, of which so many are parameters
 abbrev inside : Declared → Signature → List Shape → ℕ → Sight
@@ -80,7 +80,7 @@ abbrev within : Scene → List Block → Scene
 within front own = record { blocks = innermost_on front.blocks (only is_seen_by_functions own); locals = front.locals }
 
 -- how a function was judged
-record IsJudged (k : TopScene) (n : Ident) (t : Typ) (ss : Stms) (front : Scene) (u : Shape) (own : List Block) (body : AllBehind) : Type 0 where
+record IsJudged (k : TopScene) (n : Ident) (t : Typ) (ss : Stms) (front : Scene) (u : Shape) (own : List Block) (body : AllAfter) : Type 0 where
   parameters : AreParameters (start k) front
   stand : AreVariables (start k) front
   result : judge_type front.blocks t ≡ good u
@@ -92,7 +92,7 @@ record IsFormedFunction (front : Scene) (u : Shape) : Type 0 where
   takes : AreFormed front.locals
   gives : IsFormed u
 
-module _ (k : TopScene) (n : Ident) (t : Typ) (ss : Stms) (front : Scene) (u : Shape) (own : List Block) (body : AllBehind)
+module _ (k : TopScene) (n : Ident) (t : Typ) (ss : Stms) (front : Scene) (u : Shape) (own : List Block) (body : AllAfter)
     (is : IsJudged k n t ss front u own body) (locals : List Shape) (seen : List ℕ) (d : Declared) (knows : Knows locals seen d k) where
   abbrev sight : List Shape → Sight
   sight variables = inside d (signature_of n ss front u) variables (length front.locals)
@@ -141,8 +141,8 @@ module _ (k : TopScene) (n : Ident) (t : Typ) (ss : Stms) (front : Scene) (u : S
 
   function_is_sound : IsFunction d (record { signature = signature_of n ss front u; locals = body.scene.locals; body = body.stms })
   function_is_sound =
-      let behind = (statements_sound (in_function u) (within front own) ss function_formed.gives).holds body is.statements in
-      let known_front = front_known body.scene.locals behind.grows in
+      let following = (statements_sound (in_function u) (within front own) ss function_formed.gives).holds body is.statements in
+      let known_front = front_known body.scene.locals following.grows in
       let sees : Sees (sight body.scene.locals) (within front own) = record {
         fit = innermost_fit (sight body.scene.locals) front.blocks (only is_seen_by_functions own) known_front.fit (own_fits body.scene.locals);
         formed = known_front.formed;
@@ -150,16 +150,16 @@ module _ (k : TopScene) (n : Ident) (t : Typ) (ss : Stms) (front : Scene) (u : S
         numbers = first_are_below (length front.locals);
         fixed = tt;
       } in
-      let here = behind.are_sound (sight body.scene.locals) sees (begins_itself body.scene.locals) in
+      let here = following.are_sound (sight body.scene.locals) sees (begins_itself body.scene.locals) in
       record {
-        parameters = behind.grows;
+        parameters = following.grows;
         types = λ i. function_formed.gives i && here.formed i;
         emits = body_agrees ∙ ap (λ fs. body_emits fs body.stms) knows.functions;
         body = here.stms;
       }
 
 -- a function that is judged is sound
-pub function_sound : (k : TopScene) (n : Ident) (ps : Params) (t : Typ) (ss : Stms) → Holds (judge_function k n ps t ss) (IsFoundBehind k)
+pub function_sound : (k : TopScene) (n : Ident) (ps : Params) (t : Typ) (ss : Stms) → Holds (judge_function k n ps t ss) (IsFoundAfter k)
 unfolding AreItems
 function_sound k n ps t ss = bind_holds (both_hold (parameters_hold (start k) ps) (parameters_stand (start k) ps)) (λ front parameters.
     bind_holds (known (judge_type front.blocks t)) (λ u is_type.
@@ -167,8 +167,8 @@ function_sound k n ps t ss = bind_holds (both_hold (parameters_hold (start k) ps
     bind_holds (known (judge_stms (in_function u) (within front own) ss)) (λ body is_body.
     let signature = signature_of n ss front u in
     let item : Function = record { signature = signature; locals = body.scene.locals; body = body.stms } in
-    let behind : TopScene = record (with_blocks k own) { functions = k.functions ++ signature ∷ [] } in
-    ok_holds (IsFoundBehind k) (record { known = behind; items = items.function item ∷ [] }) (record {
+    let following : TopScene = record (with_blocks k own) { functions = k.functions ++ signature ∷ [] } in
+    ok_holds (IsFoundAfter k) (record { known = following; items = items.function item ∷ [] }) (record {
       grows = begins_itself k.scene.locals;
       carries = λ locals seen d knows final.
           let is : IsJudged k n t ss front u own body = record {

@@ -98,7 +98,7 @@ module _ (fs : List Signature) (emits : List ℕ → Bool) where
           (λ bs done. subst (λ l. Agrees fs emits l bs) (append_assoc h (v.name.text ∷ []) (inside_names vs)) done))
       by false rest = rest blocks h agrees
 
--- what the statement inside sees of variables behind others
+-- what the statement inside sees of variables after others
 inside_append : (vs ws : List Variable) → inside_names (vs ++ ws) ≡ inside_names vs ++ inside_names ws
 inside_append [] ws = refl
 inside_append (v ∷ vs) ws = by (is_seen_inside v.quantity) (inside_append vs ws)

@@ -69,7 +69,7 @@ pub record IsKnown (g : Sight) (s : Scene) : Type 0 where
 abbrev pub AreSeen : Sight → List Shape → Type 0
 AreSeen g ts = (n : ℕ) → n < length ts → Contains g.seen n
 
--- behind parameters that were judged, what is known is seen where they are the first variables
+-- after parameters that were judged, what is known is seen where they are the first variables
 pub record AreParameters (s after : Scene) : Type 0 where
   pub grows : BeginsWith s.locals after.locals
   pub seen : (g : Sight) → IsKnown g s → BeginsWith after.locals g.locals → AreSeen g after.locals → IsKnown g after

@@ -14,7 +14,7 @@ use Rattle.sz_core.specs.Statements as core
 use Rattle.sz_core.specs.Programs.{Signature, Function, Static, Item, Core}
 use Rattle.sz_core.specs.Programs as items
 use Rattle.sz_core.specs.Typing.{Sight}
-use Rattle.sz_core.specs.Sound.{seen_behind, Declared, record_sight, static_sight, IsTable, IsStatic, AreItems}
+use Rattle.sz_core.specs.Sound.{seen_after, Declared, record_sight, static_sight, IsTable, IsStatic, AreItems}
 use Rattle.sz_check_rules.specs.Names.{Block, Meaning, only, is_seen_by_functions, is_seen_by_statics}
 use Rattle.sz_check_rules.specs.Names as names
 use Rattle.sz_check_rules.specs.Agreeing.{converted}
@@ -33,7 +33,7 @@ use Rattle.sz_check_laws.proofs.ExpressionSound.{expression_typed}
 use Rattle.sz_check_laws.proofs.SceneLemmas.{Sees, begins_itself}
 use Rattle.sz_check_laws.proofs.ItemLemmas.{elems_formed, weight_formed, IsDeclared, declaration_holds}
 use Rattle.sz_check_laws.proofs.StatementSound.{statement_sound}
-use Rattle.sz_check_laws.proofs.TopLemmas.{IsFoundBehind, with_static, with_table, more_statics, more_tables, sees_on, last_is, declares}
+use Rattle.sz_check_laws.proofs.TopLemmas.{IsFoundAfter, with_static, with_table, more_statics, more_tables, sees_on, last_is, declares}
 
 -- ---- tables
 
@@ -59,7 +59,7 @@ table_formed g blocks f indexes element weight d fit is = record {
 }
 
 -- a table that is judged is sound
-pub table_sound : (k : TopScene) (n : Ident) (f : TableForm) → Holds (judge_table k n f) (IsFoundBehind k)
+pub table_sound : (k : TopScene) (n : Ident) (f : TableForm) → Holds (judge_table k n f) (IsFoundAfter k)
 unfolding AreItems
 table_sound k n f = bind_holds (known (kind_of f.kind)) (λ kind is_kind.
     bind_holds (known (judge_elems (blocks_of k) f.indexes)) (λ indexes is_indexes.
@@ -68,7 +68,7 @@ table_sound k n f = bind_holds (known (kind_of f.kind)) (λ kind is_kind.
     bind_holds (declaration_holds n f.kind kind (limit_of kind f.argument) indexes element weight) (λ d is.
     bind_holds (unless_holds (nat_lt k.tables most_tables) _) (λ u few.
     bind_holds (known (names.declare n (names.table k.tables d) (blocks_of k))) (λ blocks is_blocks.
-    ok_holds (IsFoundBehind k) (record { known = record (with_blocks k blocks) { tables = 1 + k.tables }; items = items.table d ∷ [] }) (record {
+    ok_holds (IsFoundAfter k) (record { known = record (with_blocks k blocks) { tables = 1 + k.tables }; items = items.table d ∷ [] }) (record {
       grows = begins_itself k.scene.locals;
       carries = λ locals seen e knows final.
           let h = record_sight locals seen (with_table d e) in
@@ -116,14 +116,14 @@ seen_by_static locals seen d (names.predeclared b) is f = tt
 seen_by_static locals seen d names.input is f = absurd (true≢false (sym is))
 
 -- a static that is judged is sound
-pub static_sound : (k : TopScene) (p : Place) (n : Ident) (t : Typ) (e : Exp) → Holds (judge_static k p n t e) (IsFoundBehind k)
+pub static_sound : (k : TopScene) (p : Place) (n : Ident) (t : Typ) (e : Exp) → Holds (judge_static k p n t e) (IsFoundAfter k)
 unfolding AreItems
 static_sound k p n t e = bind_holds (known (judge_type (blocks_of k) t)) (λ u is_type.
     bind_holds (known (judge_exp (only is_seen_by_statics (blocks_of k)) false (Some u) e)) (λ m is_value.
     bind_holds (known (converted u e m)) (λ value is_converted.
     bind_holds (known (names.declare n (names.static k.statics u) (blocks_of k))) (λ blocks is_blocks.
     let item : Static = record { place = p; type = u; value = value } in
-    ok_holds (IsFoundBehind k) (record { known = record (with_blocks k blocks) { statics = 1 + k.statics }; items = items.static item ∷ [] }) (record {
+    ok_holds (IsFoundAfter k) (record { known = record (with_blocks k blocks) { statics = 1 + k.statics }; items = items.static item ∷ [] }) (record {
       grows = begins_itself k.scene.locals;
       carries = λ locals seen d knows final.
           let g = record_sight locals seen d in
@@ -151,10 +151,10 @@ static_sound k p n t e = bind_holds (known (judge_type (blocks_of k) t)) (λ u i
 -- ---- names of types
 
 -- a name of a type adds no item
-pub typedef_sound : (k : TopScene) (n : Ident) (t : Typ) → Holds (judge_typedef k n t) (IsFoundBehind k)
+pub typedef_sound : (k : TopScene) (n : Ident) (t : Typ) → Holds (judge_typedef k n t) (IsFoundAfter k)
 typedef_sound k n t = bind_holds (known (judge_type (blocks_of k) t)) (λ u is_type.
     bind_holds (known (names.declare n (names.type_name u) (blocks_of k))) (λ blocks is_blocks.
-    ok_holds (IsFoundBehind k) (record { known = with_blocks k blocks; items = [] }) (record {
+    ok_holds (IsFoundAfter k) (record { known = with_blocks k blocks; items = [] }) (record {
       grows = begins_itself k.scene.locals;
       carries = λ locals seen d knows final.
           let g = record_sight locals seen d in
@@ -174,24 +174,24 @@ typedef_sound k n t = bind_holds (known (judge_type (blocks_of k) t)) (λ u is_t
 
 -- ---- statements for each record
 
--- what is seen behind a statement differs in the variables alone
+-- what is seen after a statement differs in the variables alone
 only_seen : (locals : List Shape) (seen : List ℕ) (d : Declared) (m : core.Stm)
-    → seen_behind (record_sight locals seen d) m ≡ record_sight locals (seen_behind (record_sight locals seen d) m).seen d
+    → seen_after (record_sight locals seen d) m ≡ record_sight locals (seen_after (record_sight locals seen d) m).seen d
 only_seen locals seen d (core.clear n) = refl
 only_seen locals seen d (core.keep p n e) = refl
 only_seen locals seen d _ = refl
 
 -- a statement at the top level that is judged is sound
-pub for_record_sound : (k : TopScene) (s : Stm) → Holds (judge_statement k s) (IsFoundBehind k)
+pub for_record_sound : (k : TopScene) (s : Stm) → Holds (judge_statement k s) (IsFoundAfter k)
 unfolding AreItems
 for_record_sound k s = bind_holds (statement_sound (record { result = None; loop = false }) k.scene s tt) (λ m is.
-    ok_holds (IsFoundBehind k) (record { known = record k { scene = m.scene }; items = items.statement m.stm ∷ [] }) (record {
+    ok_holds (IsFoundAfter k) (record { known = record k { scene = m.scene }; items = items.statement m.stm ∷ [] }) (record {
       grows = is.grows;
       carries = λ locals seen d knows final.
           let g = record_sight locals seen d in
           let here = is.is_sound g knows.sees final in
           record {
-            seen_there = (seen_behind g m.stm).seen;
+            seen_there = (seen_after g m.stm).seen;
             there = d;
             knows = record {
               sees = subst (λ h. Sees h m.scene) (only_seen locals seen d m.stm) here.sees;

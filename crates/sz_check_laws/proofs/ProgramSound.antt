@@ -7,25 +7,25 @@ use Rattle.sz_core.specs.Sound.{nothing_declared, AreItems, IsSound}
 use Rattle.sz_check_rules.specs.JudgingPrograms.{TopScene, judge_top, judge_all, known_at_first, judge_program}
 use Rattle.sz_check_rules.proofs.Holds.{Holds, ok_holds, bind_holds}
 use Rattle.sz_check_laws.proofs.SceneLemmas.{begins_itself, begins_on}
-use Rattle.sz_check_laws.proofs.TopLemmas.{Knows, IsFoundBehind}
+use Rattle.sz_check_laws.proofs.TopLemmas.{Knows, IsFoundAfter}
 use Rattle.sz_check_laws.proofs.ItemSound.{table_sound, static_sound, typedef_sound, for_record_sound}
 use Rattle.sz_check_laws.proofs.FunctionSound.{function_sound}
 
-top_sound : (k : TopScene) (s : Stm) → Holds (judge_top k s) (IsFoundBehind k)
+top_sound : (k : TopScene) (s : Stm) → Holds (judge_top k s) (IsFoundAfter k)
 top_sound k (static p n t e) = static_sound k p n t e
 top_sound k (typedef p n t) = typedef_sound k n t
 top_sound k (table n f) = table_sound k n f
 top_sound k (function n ps t ss) = function_sound k n ps t ss
 top_sound k s = for_record_sound k s
 
-all_sound : (k : TopScene) (ss : Stms) → Holds (judge_all k ss) (IsFoundBehind k)
+all_sound : (k : TopScene) (ss : Stms) → Holds (judge_all k ss) (IsFoundAfter k)
 unfolding judge_all
-all_sound k no_stms = ok_holds (IsFoundBehind k) (record { known = k; items = [] }) (record {
+all_sound k no_stms = ok_holds (IsFoundAfter k) (record { known = k; items = [] }) (record {
   grows = begins_itself k.scene.locals;
   carries = λ locals seen d knows final. record { seen_there = seen; there = d; knows = knows; items = λ rest are. are };
 })
 all_sound k (stm s ss) = bind_holds (top_sound k s) (λ first is. bind_holds (all_sound first.known ss) (λ rest are.
-    ok_holds (IsFoundBehind k) (record { known = rest.known; items = first.items ++ rest.items }) (record {
+    ok_holds (IsFoundAfter k) (record { known = rest.known; items = first.items ++ rest.items }) (record {
       grows = begins_on k.scene.locals first.known.scene.locals rest.known.scene.locals is.grows are.grows;
       carries = λ locals seen d knows final.
           let here = is.carries locals seen d knows (begins_on first.known.scene.locals rest.known.scene.locals locals are.grows final) in

@@ -9,9 +9,9 @@ use Rattle.sz_check_rules.specs.JudgingParts.{fields_in}
 
 -- where a field with this name is, if it is there
 record IsNamed (at : ℕ) (fs : FieldShapes) (x : Found) : Type 0 where
-  behind : ℕ
-  place : x.place ≡ at + behind
-  here : slice_get (field_types fs) behind ≡ Some x.type
+  following : ℕ
+  place : x.place ≡ at + following
+  here : slice_get (field_types fs) following ≡ Some x.type
 
 named_at : (name : List ℕ) (at : ℕ) (fs : FieldShapes) → IfSome (field_named name at fs) (IsNamed at fs)
 named_at name at no_fields = tt
@@ -22,10 +22,10 @@ named_at name at (with_field (field other t number code) fs) = next (bytes_eq na
 
     later : (o : Option Found) → IfSome o (IsNamed (1 + at) fs) → IfSome o (IsNamed at whole)
     later None h = tt
-    later (Some x) h = record { behind = suc h.behind; place = h.place ∙ omega arith; here = h.here }
+    later (Some x) h = record { following = suc h.following; place = h.place ∙ omega arith; here = h.here }
 
     next : (b : Bool) (o : Option Found) → IfSome o (IsNamed (1 + at) fs) → IfSome (if b then Some (record { place = at; type = t }) else o) (IsNamed at whole)
-    next true o h = record { behind = 0; place = omega arith; here = refl }
+    next true o h = record { following = 0; place = omega arith; here = refl }
     next false o h = later o h
 
 -- a field with its place and type
@@ -39,7 +39,7 @@ named_field name fs = from (field_named name 0 fs) (named_at name 0 fs)
     from : (o : Option Found) → IfSome o (IsNamed 0 fs) → IfSome o (IsFieldOf fs)
     from None h = tt
     from (Some x) h =
-        let same : x.place ≡ h.behind = omega (arith, h.place) in
+        let same : x.place ≡ h.following = omega (arith, h.place) in
         record { here = ap (λ k. slice_get (field_types fs) k) same ∙ h.here }
 
 -- the fields that are found are those of the type

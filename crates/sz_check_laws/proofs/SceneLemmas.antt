@@ -1,4 +1,4 @@
--- What is seen of what is known in front of a statement, and what stays so behind it.
+-- What is seen of what is known in front of a statement, and what stays so after it.
 use Rattle.std.proofs.Common.{◌≡◌, ℕ, zero, suc, ◌+◌, ◌≤◌, ◌<◌, true, List, [], ◌∷◌, ◌++◌, length, Option, Some, None, refl, sym, ap, ◌∙◌, subst, append_assoc}
 use Rattle.std.proofs.Common.{arith}
 use Rattle.std.specs.Prelude.{◌&&◌, slice_get, slice_index_or, IfSome}
@@ -12,11 +12,11 @@ use Rattle.sz_tree.specs.Expressions.{Exp}
 use Rattle.sz_core.specs.Statements.{Stm, clear, keep, block, store, evaluate, no_stms}
 use Rattle.sz_core.specs.WellFormed.{is_well_formed, are_well_formed}
 use Rattle.sz_core.specs.Typing.{Sight}
-use Rattle.sz_core.specs.Sound.{seen_behind, BeginsWith, Around, IsStm, AreStms, IsFree, IsBetweenTurns}
+use Rattle.sz_core.specs.Sound.{seen_after, BeginsWith, Around, IsStm, AreStms, IsFree, IsBetweenTurns}
 use Rattle.sz_check_rules.specs.Names.{variable, declare}
 use Rattle.sz_check_rules.specs.JudgingExpressions.{judge_exp}
 use Rattle.sz_check_rules.specs.Scene.{Scene, opened, with_variable}
-use Rattle.sz_check_rules.specs.Scenes.{Behind, AllBehind, judge, closed}
+use Rattle.sz_check_rules.specs.Scenes.{Later, AllAfter, judge, closed}
 use Rattle.sz_check_rules.proofs.Holds.{Holds, good, ok_holds, bind_holds, known}
 use Rattle.sz_check_laws.proofs.Meanings.{declared}
 use Rattle.sz_check_laws.proofs.Sights.{IsFormed, AreFormed, IsVariable, Fits, AllFit, IsWider, all_fit_wider}
@@ -38,10 +38,10 @@ begins_on a b c h k = (h.0 ++ k.0, k.1 ∙ ap (λ x. x ++ k.0) h.1 ∙ append_as
 none_is_some : {A : Type 0} {x : A} → ◌≡◌ {A = Option A} None (Some x) → ⊥
 none_is_some e = cc
 
--- what a list has behind its front, and in it
-pub get_behind : {A : Type 0} (ts rest : List A) (t : A) → slice_get (ts ++ t ∷ rest) (length ts) ≡ Some t
-get_behind [] rest t = refl
-get_behind (s ∷ ts) rest t = get_behind ts rest t
+-- what a list has after its front, and in it
+pub get_after : {A : Type 0} (ts rest : List A) (t : A) → slice_get (ts ++ t ∷ rest) (length ts) ≡ Some t
+get_after [] rest t = refl
+get_after (s ∷ ts) rest t = get_after ts rest t
 
 pub get_before : {A : Type 0} (ts rest : List A) (n : ℕ) (t : A) → slice_get ts n ≡ Some t → slice_get (ts ++ rest) n ≡ Some t
 get_before [] rest n t h = absurd (none_is_some h)
@@ -49,7 +49,7 @@ get_before (s ∷ ts) rest zero t h = h
 get_before (s ∷ ts) rest (suc n) t h = get_before ts rest n t h
 
 pub get_next : (ts whole : List Shape) (t : Shape) → BeginsWith (ts ++ t ∷ []) whole → slice_get whole (length ts) ≡ Some t
-get_next ts whole t h = ap (λ x. slice_get x (length ts)) (h.1 ∙ append_assoc ts (t ∷ []) h.0) ∙ get_behind ts h.0 t
+get_next ts whole t h = ap (λ x. slice_get x (length ts)) (h.1 ∙ append_assoc ts (t ∷ []) h.0) ∙ get_after ts h.0 t
 
 pub begins_length : (a b : List Shape) → BeginsWith a b → length a ≤ length b
 begins_length a b h = omega (arith, ap length h.1, length-append a h.0)
@@ -107,13 +107,13 @@ fits_more g n s h = all_fit_wider g (with_seen n g) s.blocks wider h
       free = λ k c f. f;
     }
 
--- the variables are the same behind a statement
-pub locals_behind : (g : Sight) (m : Stm) → (seen_behind g m).locals ≡ g.locals
-locals_behind g (clear n) = refl
-locals_behind g (keep p n e) = refl
-locals_behind g _ = refl
+-- the variables are the same after a statement
+pub locals_after : (g : Sight) (m : Stm) → (seen_after g m).locals ≡ g.locals
+locals_after g (clear n) = refl
+locals_after g (keep p n e) = refl
+locals_after g _ = refl
 
--- the same in a block, and behind it
+-- the same in a block, and after it
 pub sees_opened : (g : Sight) (s : Scene) → Sees g s → Sees g (opened s)
 sees_opened g s h = record { fit = (tt, h.fit); formed = h.formed; emits = h.emits; numbers = h.numbers; fixed = h.fixed }
 
@@ -141,13 +141,13 @@ pub variable_added : (n : Ident) (t : Shape) (s : Scene) → Holds (with_variabl
 variable_added n t s = bind_holds (known (declare n (variable (length s.locals) t) s.blocks))
     (λ blocks is. ok_holds (HasVariable n t s) (record { blocks = blocks; locals = s.locals ++ t ∷ [] }) (record { locals = refl; blocks = is }))
 
--- the variable has its type, and is seen behind the statement that declares it
+-- the variable has its type, and is seen after the statement that declares it
 pub record IsAdded (g : Sight) (t : Shape) (s after : Scene) : Type 0 where
   pub here : slice_get g.locals (length s.locals) ≡ Some t
   pub free : IsFree g (length s.locals)
   pub sees : Sees (with_seen (length s.locals) g) after
 
--- what is known with a variable more is seen behind its statement
+-- what is known with a variable more is seen after its statement
 pub added : (g : Sight) (n : Ident) (t : Shape) (s after : Scene) → HasVariable n t s after → Sees g s → IsFormed t → BeginsWith after.locals g.locals
     → IsAdded g t s after
 added g n t s after h sees formed final =
@@ -175,7 +175,7 @@ added g n t s after h sees formed final =
 -- the statement is sound, and declares nothing
 pub record IsDone (g : Sight) (a : Around) (m : Stm) : Type 0 where
   pub stm : IsStm g a m
-  pub same : seen_behind g m ≡ g
+  pub same : seen_after g m ≡ g
 
 -- the statement is sound, and can be done between the turns of a `for`
 pub record IsSimple (g : Sight) (a : Around) (m : Stm) : Type 0 where
@@ -186,38 +186,38 @@ pub record IsSimple (g : Sight) (a : Around) (m : Stm) : Type 0 where
 pub simple_done : (g : Sight) (a : Around) (m : Stm) → IsSimple g a m → IsDone g a m
 simple_done g a m h = record { stm = h.stm; same = same m h.between }
   where
-    same : (m : Stm) → IsBetweenTurns m → seen_behind g m ≡ g
+    same : (m : Stm) → IsBetweenTurns m → seen_after g m ≡ g
     same (store p n steps e) h = refl
     same (evaluate p e) h = refl
     same (block no_stms) h = refl
     same _ h = absurd h
 
--- the statement is sound wherever the variables go on as they do behind it, and what is known behind it is seen there
-pub record IsSoundHere (g : Sight) (a : Around) (b : Behind) : Type 0 where
+-- the statement is sound wherever the variables go on as they do after it, and what is known after it is seen there
+pub record IsSoundHere (g : Sight) (a : Around) (b : Later) : Type 0 where
   pub stm : IsStm g a b.stm
-  pub sees : Sees (seen_behind g b.stm) b.scene
+  pub sees : Sees (seen_after g b.stm) b.scene
 
--- what is known in front goes on behind the statement, which is sound
-pub record IsBehind (a : Around) (s : Scene) (b : Behind) : Type 0 where
+-- what is known in front goes on after the statement, which is sound
+pub record IsLater (a : Around) (s : Scene) (b : Later) : Type 0 where
   pub grows : BeginsWith s.locals b.scene.locals
   pub is_sound : (g : Sight) → Sees g s → BeginsWith b.scene.locals g.locals → IsSoundHere g a b
 
--- the same of a part statement, behind which nothing more is seen
-pub record IsSoundPart (g : Sight) (a : Around) (b : Behind) : Type 0 where
+-- the same of a part statement, after which nothing more is seen
+pub record IsSoundPart (g : Sight) (a : Around) (b : Later) : Type 0 where
   pub stm : IsStm g a b.stm
   pub sees : Sees g b.scene
 
 -- the same of a part
-pub record IsInside (a : Around) (s : Scene) (b : Behind) : Type 0 where
+pub record IsInside (a : Around) (s : Scene) (b : Later) : Type 0 where
   pub grows : BeginsWith s.locals b.scene.locals
   pub is_sound : (g : Sight) → Sees g s → BeginsWith b.scene.locals g.locals → IsSoundPart g a b
 
 -- the same of statements in order
-pub record AreSoundHere (g : Sight) (a : Around) (b : AllBehind) : Type 0 where
+pub record AreSoundHere (g : Sight) (a : Around) (b : AllAfter) : Type 0 where
   pub stms : AreStms g a b.stms
   pub formed : AreFormed b.scene.locals
 
 -- the same of all
-pub record AreBehind (a : Around) (s : Scene) (b : AllBehind) : Type 0 where
+pub record AreAfter (a : Around) (s : Scene) (b : AllAfter) : Type 0 where
   pub grows : BeginsWith s.locals b.scene.locals
   pub are_sound : (g : Sight) → Sees g s → BeginsWith b.scene.locals g.locals → AreSoundHere g a b

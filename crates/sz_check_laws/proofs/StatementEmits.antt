@@ -33,9 +33,9 @@ use Rattle.sz_check_rules.specs.Agreeing.{converted, in_turn, agree, agrees, cou
 use Rattle.sz_check_rules.specs.JudgingExpressions.{judge_exps}
 use Rattle.sz_check_rules.specs.JudgingParts.{whole, field_in}
 use Rattle.sz_check_rules.specs.JudgingOperators.{test}
-use Rattle.sz_check_rules.specs.Scenes.{Behind, AllBehind, judge, judge_if_some, closed}
-use Rattle.sz_check_rules.specs.EmittingTrees.{calls, exp_emits, exps_emit, part_emits, steps_emit, simple_emits, between_emits, first_emits, hidden_behind_first}
-use Rattle.sz_check_rules.specs.EmittingTrees.{hidden_behind, turns_emit, stm_emits, stms_emit, quantified_names}
+use Rattle.sz_check_rules.specs.Scenes.{Later, AllAfter, judge, judge_if_some, closed}
+use Rattle.sz_check_rules.specs.EmittingTrees.{calls, exp_emits, exps_emit, part_emits, steps_emit, simple_emits, between_emits, first_emits, hidden_after_first}
+use Rattle.sz_check_rules.specs.EmittingTrees.{hidden_after, turns_emit, stm_emits, stms_emit, quantified_names}
 use Rattle.sz_check_rules.specs.Quantifying.{Front, none_declared, quantify}
 use Rattle.sz_check_rules.specs.JudgingPaths.{Target, target_of, stepped, indexed, judge_steps, judge_path}
 use Rattle.sz_check_rules.specs.JudgingSimple.{judge_declaration, judge_initialised, judge_definition, judge_assignment, judge_change, judge_simple, judge_first}
@@ -46,7 +46,7 @@ use Rattle.sz_check_laws.proofs.ExpressionEmits.{Agrees, Gives, expression_gives
 use Rattle.sz_check_laws.proofs.HiddenLemmas.{inside_names, variable_hides, quantifiers_hide, bound_hide, variables_of}
 use Rattle.sz_check_rules.proofs.TruthLemmas.{or_false, or_assoc}
 
--- one that holds nowhere, behind two
+-- one that holds nowhere, after two
 or_only : (b c : Bool) → (b || c || false) ≡ (b || c)
 or_only true c = refl
 or_only false true = refl
@@ -57,13 +57,13 @@ module _ (fs : List Signature) (emits : List ℕ → Bool) where
   abbrev pub Does : Bool → core.Stm → Type 0
   Does b m = core_emits fs m ≡ b
 
-  -- so does the statement, and behind it names call as they are known, where these are hidden
-  pub record DoesBehind (b : Bool) (h : List (List ℕ)) (x : Behind) : Type 0 where
+  -- so does the statement, and after it names call as they are known, where these are hidden
+  pub record DoesAfter (b : Bool) (h : List (List ℕ)) (x : Later) : Type 0 where
     pub stm : core_emits fs x.stm ≡ b
     pub agrees : Agrees fs emits h x.scene.blocks
 
   -- the same of statements in order
-  pub record AllDo (b : Bool) (x : AllBehind) : Type 0 where
+  pub record AllDo (b : Bool) (x : AllAfter) : Type 0 where
     pub stms : all_emit fs x.stms ≡ b
 
   module _ (h : List (List ℕ)) (s : Scene) (same : Agrees fs emits h s.blocks) where
@@ -84,21 +84,21 @@ module _ (fs : List Signature) (emits : List ℕ → Bool) where
 
     -- ---- declarations
 
-    declaration_does : (n : Ident) (t : Typ) → Holds (judge_declaration s n t) (DoesBehind false (h ++ n.text ∷ []))
+    declaration_does : (n : Ident) (t : Typ) → Holds (judge_declaration s n t) (DoesAfter false (h ++ n.text ∷ []))
     unfolding core_emits
     declaration_does n t = bind_holds (known (judge_type s.blocks t)) (λ u typed. bind_holds (variable_hides fs emits h n u s same) (λ after more.
-        ok_holds (DoesBehind false (h ++ n.text ∷ [])) _ (record { stm = refl; agrees = more })))
+        ok_holds (DoesAfter false (h ++ n.text ∷ [])) _ (record { stm = refl; agrees = more })))
 
-    initialised_does : (n : Ident) (t : Typ) (e : Exp) → Holds (judge_initialised s n t e) (DoesBehind (exp_emits emits h e) (h ++ n.text ∷ []))
+    initialised_does : (n : Ident) (t : Typ) (e : Exp) → Holds (judge_initialised s n t e) (DoesAfter (exp_emits emits h e) (h ++ n.text ∷ []))
     unfolding core_emits
     initialised_does n t e = bind_holds (known (judge_type s.blocks t)) (λ u typed. bind_holds (judged_gives (Some u) e) (λ m is.
         bind_holds (converted_gives u e m) (λ value kept. bind_holds (variable_hides fs emits h n u s same) (λ after more.
-        ok_holds (DoesBehind (exp_emits emits h e) (h ++ n.text ∷ [])) _ (record { stm = kept ∙ is; agrees = more })))))
+        ok_holds (DoesAfter (exp_emits emits h e) (h ++ n.text ∷ [])) _ (record { stm = kept ∙ is; agrees = more })))))
 
-    definition_does : (n : Ident) (e : Exp) → Holds (judge_definition s n e) (DoesBehind (exp_emits emits h e) (h ++ n.text ∷ []))
+    definition_does : (n : Ident) (e : Exp) → Holds (judge_definition s n e) (DoesAfter (exp_emits emits h e) (h ++ n.text ∷ []))
     unfolding core_emits
     definition_does n e = bind_holds (judged_gives None e) (λ value is. bind_holds (variable_hides fs emits h n (type_of value) s same) (λ after more.
-        ok_holds (DoesBehind (exp_emits emits h e) (h ++ n.text ∷ [])) _ (record { stm = is; agrees = more })))
+        ok_holds (DoesAfter (exp_emits emits h e) (h ++ n.text ∷ [])) _ (record { stm = is; agrees = more })))
 
     -- ---- paths
 
@@ -194,12 +194,12 @@ module _ (fs : List Signature) (emits : List ℕ → Bool) where
     between_does (Some t) = simple_does t
 
     -- a statement that declares nothing
-    done_does : (b : Bool) (judging : Judged core.Stm) → Holds judging (Does b) → Holds (done s judging) (DoesBehind b h)
-    done_does b judging is = bind_holds is (λ m does. ok_holds (DoesBehind b h) (record { scene = s; stm = m }) (record { stm = does; agrees = same }))
+    done_does : (b : Bool) (judging : Judged core.Stm) → Holds judging (Does b) → Holds (done s judging) (DoesAfter b h)
+    done_does b judging is = bind_holds is (λ m does. ok_holds (DoesAfter b h) (record { scene = s; stm = m }) (record { stm = does; agrees = same }))
 
-    first_does : (f : Option FirstForm) → Holds (judge_first s f) (DoesBehind (first_emits emits h f) (hidden_behind_first h f))
+    first_does : (f : Option FirstForm) → Holds (judge_first s f) (DoesAfter (first_emits emits h f) (hidden_after_first h f))
     unfolding core_emits all_emit
-    first_does None = ok_holds (DoesBehind false h) (record { scene = s; stm = core.nothing }) (record { stm = refl; agrees = same })
+    first_does None = ok_holds (DoesAfter false h) (record { scene = s; stm = core.nothing }) (record { stm = refl; agrees = same })
     first_does (Some (first_declare n t e)) = initialised_does n t e
     first_does (Some (first_define n e)) = definition_does n e
     first_does (Some (first_simple t)) = done_does _ _ (simple_does t)
@@ -225,20 +225,20 @@ module _ (fs : List Signature) (emits : List ℕ → Bool) where
         ok_holds (Does true) (core.emit p t.number indexes value weight) refl))))))))))
 
   -- a part statement, in a block of its own
-  inside_does : (b : Bool) (h k : List (List ℕ)) (s : Scene) (judging : Judged Behind) → Agrees fs emits h s.blocks
-      → Holds judging (DoesBehind b k) → Holds (in_block s judging) (DoesBehind b h)
+  inside_does : (b : Bool) (h k : List (List ℕ)) (s : Scene) (judging : Judged Later) → Agrees fs emits h s.blocks
+      → Holds judging (DoesAfter b k) → Holds (in_block s judging) (DoesAfter b h)
   inside_does b h k s judging agrees is = bind_holds is (λ x does.
-      ok_holds (DoesBehind b h) (record { scene = closed s x.scene; stm = x.stm }) (record { stm = does.stm; agrees = agrees }))
+      ok_holds (DoesAfter b h) (record { scene = closed s x.scene; stm = x.stm }) (record { stm = does.stm; agrees = agrees }))
 
   mutual
     unfolding judge_stm judge_stms core_emits all_emit stm_emits stms_emit
 
     -- a statement that is judged emits as its tree does
     pub statement_does : (h : List (List ℕ)) (a : Around) (s : Scene) (t : Stm) → Agrees fs emits h s.blocks
-        → Holds (judge_stm a s t) (DoesBehind (stm_emits emits h t) (hidden_behind h t))
-    statement_does h a s (empty p) g = ok_holds (DoesBehind false h) (record { scene = s; stm = core.nothing }) (record { stm = refl; agrees = g })
+        → Holds (judge_stm a s t) (DoesAfter (stm_emits emits h t) (hidden_after h t))
+    statement_does h a s (empty p) g = ok_holds (DoesAfter false h) (record { scene = s; stm = core.nothing }) (record { stm = refl; agrees = g })
     statement_does h a s (trees.block p ss) g = bind_holds (statements_do h a (opened s) ss g) (λ b is.
-        ok_holds (DoesBehind (stms_emit emits h ss) h) (record { scene = closed s b.scene; stm = core.block b.stms }) (record { stm = is.stms; agrees = g }))
+        ok_holds (DoesAfter (stms_emit emits h ss) h) (record { scene = closed s b.scene; stm = core.block b.stms }) (record { stm = is.stms; agrees = g }))
     statement_does h a s (declare n t None) g = declaration_does h s g n t
     statement_does h a s (declare n t (Some e)) g = initialised_does h s g n t e
     statement_does h a s (define n e) g = definition_does h s g n e
@@ -249,31 +249,31 @@ module _ (fs : List Signature) (emits : List ℕ → Bool) where
     statement_does h a s (simple t) g = done_does h s g _ _ (simple_does h s g t)
     statement_does h a s (if_only p c t) g = bind_holds (judged_gives h s g None c) (λ n asked.
         bind_holds (inside_does _ h _ s _ g (statement_does h a (opened s) t g)) (λ taken is. bind_holds (known (test c n)) (λ u tested.
-        ok_holds (DoesBehind (exp_emits emits h c || stm_emits emits h t) h) (record { scene = taken.scene; stm = core.branch p n taken.stm core.nothing })
+        ok_holds (DoesAfter (exp_emits emits h c || stm_emits emits h t) h) (record { scene = taken.scene; stm = core.branch p n taken.stm core.nothing })
         (record { stm = or_only (node_emits fs n) (core_emits fs taken.stm) ∙ (λ i. asked i || is.stm i); agrees = is.agrees }))))
     statement_does h a s (if_else p c t e) g = bind_holds (judged_gives h s g None c) (λ n asked.
         bind_holds (inside_does _ h _ s _ g (statement_does h a (opened s) t g)) (λ taken is.
         bind_holds (inside_does _ h _ taken.scene _ is.agrees (statement_does h a (opened taken.scene) e is.agrees)) (λ other also.
         bind_holds (known (test c n)) (λ u tested.
-        ok_holds (DoesBehind (exp_emits emits h c || stm_emits emits h t || stm_emits emits h e) h)
+        ok_holds (DoesAfter (exp_emits emits h c || stm_emits emits h t || stm_emits emits h e) h)
         (record { scene = other.scene; stm = core.branch p n taken.stm other.stm })
         (record { stm = λ i. asked i || is.stm i || also.stm i; agrees = also.agrees })))))
     statement_does h a s (trees.while p c t) g = bind_holds (judged_gives h s g None c) (λ n asked.
         bind_holds (inside_does _ h _ s _ g (statement_does h (in_loop a) (opened s) t g)) (λ body is. bind_holds (known (test c n)) (λ u tested.
-        ok_holds (DoesBehind (exp_emits emits h c || stm_emits emits h t) h) (record { scene = body.scene; stm = core.while p n body.stm })
+        ok_holds (DoesAfter (exp_emits emits h c || stm_emits emits h t) h) (record { scene = body.scene; stm = core.while p n body.stm })
         (record { stm = λ i. asked i || is.stm i; agrees = is.agrees }))))
     statement_does h a s (trees.do_while p t c) g = bind_holds (inside_does _ h _ s _ g (statement_does h (in_loop a) (opened s) t g)) (λ body is.
         bind_holds (judged_gives h body.scene is.agrees None c) (λ n asked. bind_holds (known (test c n)) (λ u tested.
-        ok_holds (DoesBehind (stm_emits emits h t || exp_emits emits h c) h) (record { scene = body.scene; stm = core.do_while p body.stm n })
+        ok_holds (DoesAfter (stm_emits emits h t || exp_emits emits h c) h) (record { scene = body.scene; stm = core.do_while p body.stm n })
         (record { stm = λ i. is.stm i || asked i; agrees = is.agrees }))))
     statement_does h a s (trees.for_loop p f c between t) g = bind_holds (first_does h (opened s) g f) (λ first start.
-        bind_holds (part_gives (hidden_behind_first h f) first.scene start.agrees None c) (λ n asked.
-        bind_holds (between_does (hidden_behind_first h f) first.scene start.agrees between) (λ step turn.
-        bind_holds (inside_does _ (hidden_behind_first h f) _ first.scene _ start.agrees
-        (statement_does (hidden_behind_first h f) (in_loop a) (opened first.scene) t start.agrees)) (λ body is.
+        bind_holds (part_gives (hidden_after_first h f) first.scene start.agrees None c) (λ n asked.
+        bind_holds (between_does (hidden_after_first h f) first.scene start.agrees between) (λ step turn.
+        bind_holds (inside_does _ (hidden_after_first h f) _ first.scene _ start.agrees
+        (statement_does (hidden_after_first h f) (in_loop a) (opened first.scene) t start.agrees)) (λ body is.
         bind_holds (known (test_if_some c n)) (λ u tested.
-        ok_holds (DoesBehind (first_emits emits h f
-        || turns_emit emits (hidden_behind_first h f) c between (stm_emits emits (hidden_behind_first h f) t)) h)
+        ok_holds (DoesAfter (first_emits emits h f
+        || turns_emit emits (hidden_after_first h f) c between (stm_emits emits (hidden_after_first h f) t)) h)
         (record { scene = closed s body.scene; stm = core.block (core.stms_of (first.stm ∷ core.for_loop p n step body.stm ∷ [])) })
         (record { stm = (λ i. start.stm i || (asked i || turn i || is.stm i || false)) ∙ ap (λ b. first_emits emits h f || b) (or_false _); agrees = g }))))))
     statement_does h a s (trees.break p) g = done_does h s g _ _ (if_holds a.loop (λ loop. ok_holds (Does false) core.break refl) (λ none. err_holds _ _))
@@ -292,10 +292,10 @@ module _ (fs : List Signature) (emits : List ℕ → Bool) where
         (subst (λ l. Agrees fs emits (h ++ l) blocks) is.1 more))) (λ inner more.
         bind_holds (inside_does _ (h ++ quantified_names true qs) _ inner _ more
         (statement_does (h ++ quantified_names true qs) (out_of_loops a) (opened inner) t more)) (λ body does.
-        ok_holds (DoesBehind (stm_emits emits (h ++ quantified_names true qs) t) h)
+        ok_holds (DoesAfter (stm_emits emits (h ++ quantified_names true qs) t) h)
         (record { scene = closed front.scene body.scene; stm = body.stm }) (record { stm = does.stm; agrees = here })))) (λ body does.
         bind_holds (known (test c front.condition)) (λ u tested. bind_holds (known (quantify body.scene front.variables c)) (λ vs quantified.
-        ok_holds (DoesBehind (exp_emits emits (h ++ quantified_names false qs) c || stm_emits emits (h ++ quantified_names true qs) t) h)
+        ok_holds (DoesAfter (exp_emits emits (h ++ quantified_names false qs) c || stm_emits emits (h ++ quantified_names true qs) t) h)
         (record { scene = body.scene; stm = core.when p vs front.condition body.stm })
         (record { stm = λ i. is.0 i || does.stm i; agrees = does.agrees })))))
 
@@ -304,7 +304,7 @@ module _ (fs : List Signature) (emits : List ℕ → Bool) where
         → Holds (judge_stms a s ts) (AllDo (stms_emit emits h ts))
     statements_do h a s trees.no_stms g = ok_holds (AllDo false) (record { scene = s; stms = core.no_stms }) (record { stms = refl })
     statements_do h a s (trees.stm t ts) g = bind_holds (statement_does h a s t g) (λ first is.
-        bind_holds (statements_do (hidden_behind h t) a first.scene ts is.agrees) (λ rest are.
-        ok_holds (AllDo (stm_emits emits h t || stms_emit emits (hidden_behind h t) ts))
+        bind_holds (statements_do (hidden_after h t) a first.scene ts is.agrees) (λ rest are.
+        ok_holds (AllDo (stm_emits emits h t || stms_emit emits (hidden_after h t) ts))
         (record { scene = rest.scene; stms = core.with_stm first.stm rest.stms })
         (record { stms = λ i. is.stm i || are.stms i })))

@@ -35,7 +35,7 @@ use Rattle.sz_check_laws.proofs.AgreeLemmas.{IsTyped, AreTyped, HasType, all_nod
 use Rattle.sz_check_laws.proofs.NodeLemmas.{test_holds}
 use Rattle.sz_check_laws.proofs.OwnTypes.{own_or_asked, call_is_made}
 use Rattle.sz_check_laws.proofs.ExpressionSound.{expressions_typed}
-use Rattle.sz_check_laws.proofs.SceneLemmas.{Sees, judged, begins_itself, begins_more, HasVariable, variable_added, added, IsSoundHere, IsBehind, IsDone, IsSimple}
+use Rattle.sz_check_laws.proofs.SceneLemmas.{Sees, judged, begins_itself, begins_more, HasVariable, variable_added, added, IsSoundHere, IsLater, IsDone, IsSimple}
 use Rattle.sz_check_laws.proofs.SceneLemmas.{simple_done}
 use Rattle.sz_check_laws.proofs.PathLemmas.{assignment_sound, change_sound}
 
@@ -45,10 +45,10 @@ grown : (n : Ident) (t : Shape) (s after : Scene) → HasVariable n t s after �
 grown n t s after h = subst (BeginsWith s.locals) (sym h.locals) (begins_more s.locals t)
 
 -- a declaration without a value
-pub declaration_sound : (a : Around) (s : Scene) (n : Ident) (t : Typ) → Holds (judge_declaration s n t) (IsBehind a s)
+pub declaration_sound : (a : Around) (s : Scene) (n : Ident) (t : Typ) → Holds (judge_declaration s n t) (IsLater a s)
 unfolding IsStm
 declaration_sound a s n t = bind_holds (known (judge_type s.blocks t)) (λ u judged_type. bind_holds (variable_added n u s) (λ after h.
-    ok_holds (IsBehind a s) (record { scene = after; stm = core.clear (length s.locals) }) (record {
+    ok_holds (IsLater a s) (record { scene = after; stm = core.clear (length s.locals) }) (record {
       grows = grown n u s after h;
       is_sound = λ g sees final.
           let is = added g n u s after h sees ((type_formed g s.blocks sees.fit t).holds u judged_type) final in
@@ -64,10 +64,10 @@ kept_sound a g s after n t value h sees formed k final =
     record { stm = (k.typed, is.here ∙ ap Some (sym k.is), is.free); sees = is.sees }
 
 -- a declaration with a value
-pub initialised_sound : (a : Around) (s : Scene) (n : Ident) (t : Typ) (e : Exp) → Holds (judge_initialised s n t e) (IsBehind a s)
+pub initialised_sound : (a : Around) (s : Scene) (n : Ident) (t : Typ) (e : Exp) → Holds (judge_initialised s n t e) (IsLater a s)
 initialised_sound a s n t e = bind_holds (known (judge_type s.blocks t)) (λ u judged_type. bind_holds (known (judge s (Some u) e)) (λ m judged_value.
     bind_holds (known (converted u e m)) (λ value judged_as. bind_holds (variable_added n u s) (λ after h.
-    ok_holds (IsBehind a s) (record { scene = after; stm = core.keep n.place (length s.locals) value }) (record {
+    ok_holds (IsLater a s) (record { scene = after; stm = core.keep n.place (length s.locals) value }) (record {
       grows = grown n u s after h;
       is_sound = λ g sees final.
           let formed = (type_formed g s.blocks sees.fit t).holds u judged_type in
@@ -77,9 +77,9 @@ initialised_sound a s n t e = bind_holds (known (judge_type s.blocks t)) (λ u j
     })))))
 
 -- a definition
-pub definition_sound : (a : Around) (s : Scene) (n : Ident) (e : Exp) → Holds (judge_definition s n e) (IsBehind a s)
+pub definition_sound : (a : Around) (s : Scene) (n : Ident) (e : Exp) → Holds (judge_definition s n e) (IsLater a s)
 definition_sound a s n e = bind_holds (known (judge s None e)) (λ value judged_value. bind_holds (variable_added n (type_of value) s) (λ after h.
-    ok_holds (IsBehind a s) (record { scene = after; stm = core.keep n.place (length s.locals) value }) (record {
+    ok_holds (IsLater a s) (record { scene = after; stm = core.keep n.place (length s.locals) value }) (record {
       grows = grown n (type_of value) s after h;
       is_sound = λ g sees final.
           let typed = (judged g s sees None e tt).holds value judged_value in
@@ -90,8 +90,8 @@ definition_sound a s n e = bind_holds (known (judge s None e)) (λ value judged_
 
 -- a statement that is sound where its scene is seen, and declares nothing
 pub done_sound : (a : Around) (s : Scene) (judging : Judged core.Stm) → ((g : Sight) → Sees g s → Holds judging (IsDone g a))
-    → Holds (done s judging) (IsBehind a s)
-done_sound a s judging h = bind_holds (known judging) (λ m is. ok_holds (IsBehind a s) (record { scene = s; stm = m }) (record {
+    → Holds (done s judging) (IsLater a s)
+done_sound a s judging h = bind_holds (known judging) (λ m is. ok_holds (IsLater a s) (record { scene = s; stm = m }) (record {
   grows = begins_itself s.locals;
   is_sound = λ g sees final.
       let done = (h g sees).holds m is in
@@ -184,16 +184,16 @@ module _ (a : Around) (g : Sight) (s : Scene) (sees : Sees g s) where
           (expressions_typed g s.blocks sees.fit (in_turn t.declaration.indexes) es table.indexes)
 
 -- an assignment, a change or a call declares nothing
-pub simple_behind : (a : Around) (s : Scene) (t : SimpleForm) → Holds (done s (judge_simple s t)) (IsBehind a s)
-simple_behind a s t = done_sound a s (judge_simple s t) (λ g sees. weaker (simple_sound a g s sees t) (λ m h. simple_done g a m h))
+pub simple_after : (a : Around) (s : Scene) (t : SimpleForm) → Holds (done s (judge_simple s t)) (IsLater a s)
+simple_after a s t = done_sound a s (judge_simple s t) (λ g sees. weaker (simple_sound a g s sees t) (λ m h. simple_done g a m h))
 
 -- the first part of a `for`
-pub first_sound : (a : Around) (s : Scene) (f : Option FirstForm) → Holds (judge_first s f) (IsBehind a s)
+pub first_sound : (a : Around) (s : Scene) (f : Option FirstForm) → Holds (judge_first s f) (IsLater a s)
 unfolding IsStm AreStms
-first_sound a s None = ok_holds (IsBehind a s) (record { scene = s; stm = core.nothing }) (record {
+first_sound a s None = ok_holds (IsLater a s) (record { scene = s; stm = core.nothing }) (record {
   grows = begins_itself s.locals;
   is_sound = λ g sees final. record { stm = tt; sees = sees };
 })
 first_sound a s (Some (first_declare n t e)) = initialised_sound a s n t e
 first_sound a s (Some (first_define n e)) = definition_sound a s n e
-first_sound a s (Some (first_simple t)) = simple_behind a s t
+first_sound a s (Some (first_simple t)) = simple_after a s t

@@ -7,23 +7,23 @@ use Rattle.sz_tree.specs.Expressions.{Exp}
 use Rattle.sz_core.specs.Nodes.{Node}
 use Rattle.sz_core.specs.Statements as core
 use Rattle.sz_core.specs.Typing.{Sight}
-use Rattle.sz_core.specs.Sound.{BeginsWith, IsStm, AreStms, IsTest, seen_behind}
+use Rattle.sz_core.specs.Sound.{BeginsWith, IsStm, AreStms, IsTest, seen_after}
 use Rattle.sz_check_rules.specs.Refusals.{Judged}
 use Rattle.sz_check_rules.specs.JudgingOperators.{test}
 use Rattle.sz_check_rules.specs.Scene.{Scene, opened}
-use Rattle.sz_check_rules.specs.Scenes.{Behind, judge, judge_if_some, closed}
+use Rattle.sz_check_rules.specs.Scenes.{Later, judge, judge_if_some, closed}
 use Rattle.sz_check_rules.specs.JudgingStatements.{Around, in_loop, out_of_loops, in_block, judge_stm, judge_stms}
 use Rattle.sz_check_rules.specs.JudgingSimple.{judge_between, judge_return, judge_emit, test_if_some}
 use Rattle.sz_check_rules.proofs.Holds.{Holds, good, ok_holds, err_holds, bind_holds, known, if_holds}
 use Rattle.sz_check_laws.proofs.Sights.{IsFormed}
 use Rattle.sz_check_laws.proofs.NodeLemmas.{test_holds}
-use Rattle.sz_check_laws.proofs.SceneLemmas.{Sees, sees_opened, sees_closed, locals_behind, judged, begins_itself, begins_on, IsDone, IsBehind, IsInside, AreBehind}
+use Rattle.sz_check_laws.proofs.SceneLemmas.{Sees, sees_opened, sees_closed, locals_after, judged, begins_itself, begins_on, IsDone, IsLater, IsInside, AreAfter}
 use Rattle.sz_check_laws.proofs.WhenSound.{when_sound}
-use Rattle.sz_check_laws.proofs.StatementLemmas.{declaration_sound, initialised_sound, definition_sound, done_sound, simple_behind, between_sound, maybe_judged}
+use Rattle.sz_check_laws.proofs.StatementLemmas.{declaration_sound, initialised_sound, definition_sound, done_sound, simple_after, between_sound, maybe_judged}
 use Rattle.sz_check_laws.proofs.StatementLemmas.{maybe_test, return_sound, emit_sound, first_sound}
 
 -- a part statement that was judged in a block of its own
-inside_sound : (a : Around) (s : Scene) (judging : Judged Behind) → Holds judging (IsBehind a (opened s)) → Holds (in_block s judging) (IsInside a s)
+inside_sound : (a : Around) (s : Scene) (judging : Judged Later) → Holds judging (IsLater a (opened s)) → Holds (in_block s judging) (IsInside a s)
 inside_sound a s judging h = bind_holds h (λ b is. ok_holds (IsInside a s) (record { scene = closed s b.scene; stm = b.stm }) (record {
   grows = is.grows;
   is_sound = λ g sees final.
@@ -39,13 +39,13 @@ mutual
   unfolding judge_stm judge_stms IsStm AreStms
 
   -- a statement that is judged is sound, whose result, if it is in a function, is well formed
-  pub statement_sound : (a : Around) (s : Scene) (t : Stm) → IfSome a.result IsFormed → Holds (judge_stm a s t) (IsBehind a s)
-  statement_sound a s (empty p) r = ok_holds (IsBehind a s) (record { scene = s; stm = core.nothing }) (record {
+  pub statement_sound : (a : Around) (s : Scene) (t : Stm) → IfSome a.result IsFormed → Holds (judge_stm a s t) (IsLater a s)
+  statement_sound a s (empty p) r = ok_holds (IsLater a s) (record { scene = s; stm = core.nothing }) (record {
     grows = begins_itself s.locals;
     is_sound = λ g sees final. record { stm = tt; sees = sees };
   })
   statement_sound a s (trees.block p ss) r = bind_holds (statements_sound a (opened s) ss r) (λ b is.
-      ok_holds (IsBehind a s) (record { scene = closed s b.scene; stm = core.block b.stms }) (record {
+      ok_holds (IsLater a s) (record { scene = closed s b.scene; stm = core.block b.stms }) (record {
         grows = is.grows;
         is_sound = λ g sees final.
             let here = is.are_sound g (sees_opened g s sees) final in
@@ -58,11 +58,11 @@ mutual
   statement_sound a s (typedef p n t) r = err_holds _ _
   statement_sound a s (table n t) r = err_holds _ _
   statement_sound a s (function n ps t ss) r = err_holds _ _
-  statement_sound a s (simple t) r = simple_behind a s t
+  statement_sound a s (simple t) r = simple_after a s t
   statement_sound a s (if_only p c t) r = bind_holds (known (judge s None c)) (λ n is_n.
       bind_holds (inside_sound a s _ (statement_sound a (opened s) t r)) (λ taken is.
       bind_holds (known (test c n)) (λ u is_test.
-      ok_holds (IsBehind a s) (record { scene = taken.scene; stm = core.branch p n taken.stm core.nothing }) (record {
+      ok_holds (IsLater a s) (record { scene = taken.scene; stm = core.branch p n taken.stm core.nothing }) (record {
         grows = is.grows;
         is_sound = λ g sees final.
             let here = is.is_sound g sees final in
@@ -71,7 +71,7 @@ mutual
   statement_sound a s (if_else p c t e) r = bind_holds (known (judge s None c)) (λ n is_n.
       bind_holds (inside_sound a s _ (statement_sound a (opened s) t r)) (λ taken is.
       bind_holds (inside_sound a taken.scene _ (statement_sound a (opened taken.scene) e r)) (λ other also.
-      bind_holds (known (test c n)) (λ u is_test. ok_holds (IsBehind a s) (record { scene = other.scene; stm = core.branch p n taken.stm other.stm }) (record {
+      bind_holds (known (test c n)) (λ u is_test. ok_holds (IsLater a s) (record { scene = other.scene; stm = core.branch p n taken.stm other.stm }) (record {
         grows = begins_on s.locals taken.scene.locals other.scene.locals is.grows also.grows;
         is_sound = λ g sees final.
             let here = is.is_sound g sees (begins_on taken.scene.locals other.scene.locals g.locals also.grows final) in
@@ -80,7 +80,7 @@ mutual
       })))))
   statement_sound a s (trees.while p c t) r = bind_holds (known (judge s None c)) (λ n is_n.
       bind_holds (inside_sound (in_loop a) s _ (statement_sound (in_loop a) (opened s) t r)) (λ body is.
-      bind_holds (known (test c n)) (λ u is_test. ok_holds (IsBehind a s) (record { scene = body.scene; stm = core.while p n body.stm }) (record {
+      bind_holds (known (test c n)) (λ u is_test. ok_holds (IsLater a s) (record { scene = body.scene; stm = core.while p n body.stm }) (record {
         grows = is.grows;
         is_sound = λ g sees final.
             let here = is.is_sound g sees final in
@@ -88,7 +88,7 @@ mutual
       }))))
   statement_sound a s (trees.do_while p t c) r = bind_holds (inside_sound (in_loop a) s _ (statement_sound (in_loop a) (opened s) t r)) (λ body is.
       bind_holds (known (judge body.scene None c)) (λ n is_n.
-      bind_holds (known (test c n)) (λ u is_test. ok_holds (IsBehind a s) (record { scene = body.scene; stm = core.do_while p body.stm n }) (record {
+      bind_holds (known (test c n)) (λ u is_test. ok_holds (IsLater a s) (record { scene = body.scene; stm = core.do_while p body.stm n }) (record {
         grows = is.grows;
         is_sound = λ g sees final.
             let here = is.is_sound g sees final in
@@ -97,13 +97,13 @@ mutual
   statement_sound a s (trees.for_loop p f c between t) r = bind_holds (first_sound a (opened s) f) (λ first is.
       bind_holds (known (judge_if_some first.scene None c)) (λ n is_n. bind_holds (known (judge_between first.scene between)) (λ step is_step.
       bind_holds (inside_sound (in_loop a) first.scene _ (statement_sound (in_loop a) (opened first.scene) t r)) (λ body also.
-      bind_holds (known (test_if_some c n)) (λ u is_test. ok_holds (IsBehind a s)
+      bind_holds (known (test_if_some c n)) (λ u is_test. ok_holds (IsLater a s)
       (record { scene = closed s body.scene; stm = core.block (core.stms_of (first.stm ∷ core.for_loop p n step body.stm ∷ [])) }) (record {
         grows = begins_on s.locals first.scene.locals body.scene.locals is.grows also.grows;
         is_sound = λ g sees final.
             let here = is.is_sound g (sees_opened g s sees) (begins_on first.scene.locals body.scene.locals g.locals also.grows final) in
-            let more = seen_behind g first.stm in
-            let inner = also.is_sound more here.sees (subst (BeginsWith body.scene.locals) (sym (locals_behind g first.stm)) final) in
+            let more = seen_after g first.stm in
+            let inner = also.is_sound more here.sees (subst (BeginsWith body.scene.locals) (sym (locals_after g first.stm)) final) in
             let value = (maybe_judged a more first.scene here.sees None c tt).holds n is_n in
             let is_tested = (maybe_test a more first.scene here.sees c n value).holds u is_test in
             let between_turns = (between_sound a more first.scene here.sees between).holds step is_step in
@@ -123,16 +123,16 @@ mutual
       (λ inner. inside_sound (out_of_loops a) inner _ (statement_sound (out_of_loops a) (opened inner) t r))
 
   -- so is each of several
-  pub statements_sound : (a : Around) (s : Scene) (ts : Stms) → IfSome a.result IsFormed → Holds (judge_stms a s ts) (AreBehind a s)
-  statements_sound a s trees.no_stms r = ok_holds (AreBehind a s) (record { scene = s; stms = core.no_stms }) (record {
+  pub statements_sound : (a : Around) (s : Scene) (ts : Stms) → IfSome a.result IsFormed → Holds (judge_stms a s ts) (AreAfter a s)
+  statements_sound a s trees.no_stms r = ok_holds (AreAfter a s) (record { scene = s; stms = core.no_stms }) (record {
     grows = begins_itself s.locals;
     are_sound = λ g sees final. record { stms = tt; formed = sees.formed };
   })
   statements_sound a s (trees.stm t ts) r = bind_holds (statement_sound a s t r) (λ first is. bind_holds (statements_sound a first.scene ts r) (λ rest are.
-      ok_holds (AreBehind a s) (record { scene = rest.scene; stms = core.with_stm first.stm rest.stms }) (record {
+      ok_holds (AreAfter a s) (record { scene = rest.scene; stms = core.with_stm first.stm rest.stms }) (record {
         grows = begins_on s.locals first.scene.locals rest.scene.locals is.grows are.grows;
         are_sound = λ g sees final.
             let here = is.is_sound g sees (begins_on first.scene.locals rest.scene.locals g.locals are.grows final) in
-            let behind = are.are_sound (seen_behind g first.stm) here.sees (subst (BeginsWith rest.scene.locals) (sym (locals_behind g first.stm)) final) in
-            record { stms = (here.stm, behind.stms); formed = behind.formed };
+            let following = are.are_sound (seen_after g first.stm) here.sees (subst (BeginsWith rest.scene.locals) (sym (locals_after g first.stm)) final) in
+            record { stms = (here.stm, following.stms); formed = following.formed };
       })))

@@ -1,4 +1,4 @@
--- What is known in front of a statement at the top level, and what stays so behind it.
+-- What is known in front of a statement at the top level, and what stays so after it.
 use Rattle.std.proofs.Common.{◌≡◌, ℕ, List, [], ◌∷◌, ◌++◌, length, Some, refl, ap, ◌∙◌}
 use Rattle.std.specs.Prelude.{slice_get}
 use Rattle.sz_types.specs.Data.{Shape}
@@ -14,7 +14,7 @@ use Rattle.sz_check_rules.specs.JudgingPrograms.{TopScene, Found, blocks_of, wit
 use Rattle.sz_check_rules.proofs.Holds.{good}
 use Rattle.sz_check_laws.proofs.Meanings.{declared}
 use Rattle.sz_check_laws.proofs.Sights.{Fits, IsWider, all_fit_wider}
-use Rattle.sz_check_laws.proofs.SceneLemmas.{Sees, get_behind, get_before}
+use Rattle.sz_check_laws.proofs.SceneLemmas.{Sees, get_after, get_before}
 
 -- what is known in front of a statement at the top level is true of what is declared before it, and of what is seen there
 pub record Knows (locals : List Shape) (seen : List ℕ) (d : Declared) (k : TopScene) : Type 0 where
@@ -23,15 +23,15 @@ pub record Knows (locals : List Shape) (seen : List ℕ) (d : Declared) (k : Top
   pub statics : k.statics ≡ length d.statics
   pub functions : k.functions ≡ d.functions
 
--- behind items that are sound, others are sound, and what is known there is true
+-- after items that are sound, others are sound, and what is known there is true
 pub record Carries (locals : List Shape) (seen : List ℕ) (d : Declared) (found : Found) : Type 0 where
   pub seen_there : List ℕ
   pub there : Declared
   pub knows : Knows locals seen_there there found.known
   pub items : (rest : List Item) → AreItems locals seen_there there rest → AreItems locals seen d (found.items ++ rest)
 
--- what is known in front goes on behind the statement, and its items are sound
-pub record IsFoundBehind (k : TopScene) (found : Found) : Type 0 where
+-- what is known in front goes on after the statement, and its items are sound
+pub record IsFoundAfter (k : TopScene) (found : Found) : Type 0 where
   pub grows : BeginsWith k.scene.locals found.known.scene.locals
   pub carries : (locals : List Shape) (seen : List ℕ) (d : Declared) → Knows locals seen d k → BeginsWith found.known.scene.locals locals
       → Carries locals seen d found
@@ -64,7 +64,7 @@ more_functions d f = record { statics = λ n t h. h; functions = λ n e h. get_b
 pub more_tables : (d : Declared) (t : Declaration) → IsMore d (with_table t d)
 more_tables d t = record { statics = λ n u h. h; functions = λ n f h. h; tables = λ n u h. get_before d.tables (t ∷ []) n u h }
 
--- what is true of what is seen in front of a declaration is so behind it
+-- what is true of what is seen in front of a declaration is so after it
 pub sees_on : (locals : List Shape) (seen : List ℕ) (d e : Declared) (s : Scene) → IsMore d e → Sees (record_sight locals seen d) s
     → Sees (record_sight locals seen e) s
 sees_on locals seen d e s more is =
@@ -89,7 +89,7 @@ sees_on locals seen d e s more is =
 
 -- what is last in a list of so many
 pub last_is : {A : Type 0} (xs : List A) (x : A) (n : ℕ) → n ≡ length xs → slice_get (xs ++ x ∷ []) n ≡ Some x
-last_is xs x n is = ap (λ k. slice_get (xs ++ x ∷ []) k) is ∙ get_behind xs [] x
+last_is xs x n is = ap (λ k. slice_get (xs ++ x ∷ []) k) is ∙ get_after xs [] x
 
 -- a name more at the top level
 pub declares : (g : Sight) (n : Ident) (m : Meaning) (k : TopScene) (blocks : List Block) → names.declare n m (blocks_of k) ≡ good blocks → Fits g m

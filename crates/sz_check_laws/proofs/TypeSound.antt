@@ -43,13 +43,13 @@ named_formed g n (names.function k s) h = err_holds _ _
 named_formed g n (names.predeclared b) h = err_holds _ _
 named_formed g n names.input h = err_holds _ _
 
--- the parts of a tuple, behind parts with these names
+-- the parts of a tuple, after parts with these names
 record AreParts (taken : List (List ℕ)) (fs : FieldShapes) : Type 0 where
   fresh : AreFresh bytes_eq taken (names_of fs)
   distinct : are_distinct_texts (names_of fs) ≡ true
   parts : are_parts fs ≡ true
 
--- the fields of a message, behind fields with these names and numbers
+-- the fields of a message, after fields with these names and numbers
 record AreFields (taken : List (List ℕ)) (used : List ℕ) (fs : FieldShapes) : Type 0 where
   fresh : AreFresh bytes_eq taken (names_of fs)
   distinct : are_distinct_texts (names_of fs) ≡ true

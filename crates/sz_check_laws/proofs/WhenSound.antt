@@ -13,7 +13,7 @@ use Rattle.sz_check_rules.specs.Names.{Block}
 use Rattle.sz_check_rules.specs.Scene.{Scene}
 use Rattle.sz_check_rules.specs.JudgingExpressions.{judge_exp}
 use Rattle.sz_check_rules.specs.JudgingOperators.{test}
-use Rattle.sz_check_rules.specs.Scenes.{Behind, closed}
+use Rattle.sz_check_rules.specs.Scenes.{Later, closed}
 use Rattle.sz_check_rules.specs.Quantifying.{Variable, Declared, Front, none_declared, judge_front, bind_inside, in_bound, names_of}
 use Rattle.sz_check_rules.specs.Quantifying.{all_bounded, all_last, judge_bases, quantify}
 use Rattle.sz_check_rules.proofs.Holds.{Holds, good, ok_holds, bind_holds, known, weaker}
@@ -21,7 +21,7 @@ use Rattle.sz_check_laws.proofs.Sights.{AreFormed, AllFit, IsWider, all_fit_wide
 use Rattle.sz_check_laws.proofs.AgreeLemmas.{IsTyped}
 use Rattle.sz_check_laws.proofs.NodeLemmas.{test_holds}
 use Rattle.sz_check_laws.proofs.ExpressionSound.{expression_typed}
-use Rattle.sz_check_laws.proofs.SceneLemmas.{Sees, sees_closed, begins_on, begins_length, below_more, IsBehind, IsInside, IsSoundPart}
+use Rattle.sz_check_laws.proofs.SceneLemmas.{Sees, sees_closed, begins_on, begins_length, below_more, IsLater, IsInside, IsSoundPart}
 use Rattle.sz_check_laws.proofs.BoundLemmas.{bound, Rise, bound_locals, bound_emits, inside, rise_inside, bound_below, bound_fixed, inside_bound}
 use Rattle.sz_check_laws.proofs.BoundLemmas.{AreMade}
 use Rattle.sz_check_laws.proofs.BoundLemmas.{quantifiers_made, bound_those, inside_those, last_those, AreBased, bases_sound}
@@ -63,7 +63,7 @@ condition_wider g = record {
 }
 
 -- a `when` whose parts are judged
-module _ (a : Around) (s : Scene) (p : Place) (c : Exp) (front : Front) (blocks : List Block) (body : Behind) (u : Unit {0}) (qs : List core.Quantified)
+module _ (a : Around) (s : Scene) (p : Place) (c : Exp) (front : Front) (blocks : List Block) (body : Later) (u : Unit {0}) (qs : List core.Quantified)
     (is : IsFrontOf s c front)
     (seen : bind_inside front.variables ([] ∷ front.scene.blocks) ≡ good blocks)
     (body_is : IsInside (out_of_loops a) (record { blocks = blocks; locals = front.scene.locals }) body)
@@ -155,18 +155,18 @@ module _ (a : Around) (s : Scene) (p : Place) (c : Exp) (front : Front) (blocks 
     when_sees : Sees g (closed front.scene body.scene)
     when_sees = subst (λ (x : Scene). Sees g (closed x body.scene)) (sym is.scene) (sees_closed g s body.scene sees grows here.sees.formed)
 
-  pub when_behind : IsBehind a s (record { scene = closed front.scene body.scene; stm = core.when p qs front.condition body.stm })
-  when_behind = record { grows = grows; is_sound = λ g sees final. record { stm = when_here g sees final; sees = when_sees g sees final } }
+  pub when_after : IsLater a s (record { scene = closed front.scene body.scene; stm = core.when p qs front.condition body.stm })
+  when_after = record { grows = grows; is_sound = λ g sees final. record { stm = when_here g sees final; sees = when_sees g sees final } }
 
 -- how the statement inside was judged
-record IsBody (a : Around) (front : Front) (x : Behind) : Type 0 where
+record IsBody (a : Around) (front : Front) (x : Later) : Type 0 where
   blocks : List Block
   seen : bind_inside front.variables ([] ∷ front.scene.blocks) ≡ good blocks
-  inner : Behind
+  inner : Later
   body : IsInside (out_of_loops a) (record { blocks = blocks; locals = front.scene.locals }) inner
   is : x ≡ record { scene = closed front.scene inner.scene; stm = inner.stm }
 
-body_known : (a : Around) (front : Front) (judging : Scene → Judged Behind) → ((inner : Scene) → Holds (judging inner) (IsInside (out_of_loops a) inner))
+body_known : (a : Around) (front : Front) (judging : Scene → Judged Later) → ((inner : Scene) → Holds (judging inner) (IsInside (out_of_loops a) inner))
     → Holds (in_bound front.scene front.variables judging) (IsBody a front)
 body_known a front judging h =
     bind_holds (bind_holds (known (bind_inside front.variables ([] ∷ front.scene.blocks))) (λ blocks seen.
@@ -181,14 +181,14 @@ body_known a front judging h =
     })))
 
 -- a `when`, over the judgement of the statement inside
-pub when_sound : (a : Around) (s : Scene) (p : Place) (qs : List QuantifierForm) (c : Exp) (judging : Scene → Judged Behind)
+pub when_sound : (a : Around) (s : Scene) (p : Place) (qs : List QuantifierForm) (c : Exp) (judging : Scene → Judged Later)
     → ((inner : Scene) → Holds (judging inner) (IsInside (out_of_loops a) inner))
     → Holds (judge_front s qs c >>= λ front. in_bound front.scene front.variables judging >>= λ body. test c front.condition
     >>= λ _. quantify body.scene front.variables c
-    >>= λ vs. Ok (record { scene = body.scene; stm = core.when p vs front.condition body.stm })) (IsBehind a s)
+    >>= λ vs. Ok (record { scene = body.scene; stm = core.when p vs front.condition body.stm })) (IsLater a s)
 when_sound a s p qs c judging h = bind_holds (front_sound s qs c) (λ front is. bind_holds (body_known a front judging h) (λ body made.
     bind_holds (known (test c front.condition)) (λ u tested. bind_holds (quantified_as body.scene front.variables c) (λ vs quantified.
-    ok_holds (IsBehind a s) (record { scene = body.scene; stm = core.when p vs front.condition body.stm })
-    (subst (λ (x : Behind). IsBehind a s (record { scene = x.scene; stm = core.when p vs front.condition x.stm })) (sym made.is)
-    (when_behind a s p c front made.blocks made.inner u vs is made.seen made.body tested
-    (subst (λ (x : Behind). IsQuantified x.scene front.variables c vs) made.is quantified)))))))
+    ok_holds (IsLater a s) (record { scene = body.scene; stm = core.when p vs front.condition body.stm })
+    (subst (λ (x : Later). IsLater a s (record { scene = x.scene; stm = core.when p vs front.condition x.stm })) (sym made.is)
+    (when_after a s p c front made.blocks made.inner u vs is made.seen made.body tested
+    (subst (λ (x : Later). IsQuantified x.scene front.variables c vs) made.is quantified)))))))

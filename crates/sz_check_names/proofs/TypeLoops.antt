@@ -11,7 +11,7 @@ use Rattle.sz_tree.specs.View.{param_of, field_of, type_of}
 use Rattle.sz_check_rules.specs.Refusals.{Judged, ◌>>=◌, bad_field, has_name}
 use Rattle.sz_check_rules.specs.Names.{Block}
 use Rattle.sz_check_rules.specs.JudgingTypes.{judge_type, judge_parts, judge_fields, Coding, coded, coding_of, field_number, encoding_of}
-use Rattle.sz_check_names.specs.Turns.{behind, put_all}
+use Rattle.sz_check_names.specs.Turns.{following, put_all}
 use Rattle.sz_check_names.specs.Parts.{name_of, number_of, free_name, free_coding, judge_part, judge_field}
 use Rattle.sz_check_names.specs.Outcome.{Stops}
 use Rattle.sz_check_names.specs.declared.error.CheckError.{CheckError}
@@ -51,7 +51,7 @@ field_then n taken (Ok part) code rest = coded_then (code part)
         named false = refl
 
 module _ (blocks : List Block) (ps : List Param) where
-  -- the parts from a place on, behind parts with these names
+  -- the parts from a place on, after parts with these names
   abbrev pub parts_from : List (List ℕ) → ℕ → Judged FieldShapes
   parts_from taken i = judge_parts blocks taken (params_of (map param_of (drop i ps)))
 
@@ -64,24 +64,24 @@ module _ (blocks : List Block) (ps : List Param) where
 
   pub parts_fails : (front : List FieldShape) (taken : List (List ℕ)) (i : ℕ) (p : Param) (r : CheckError) (whole : Judged FieldShapes)
       → i < length ps → p ≡ get_or ps i p → Stops r (judge_part blocks taken p.name (type_of p.of))
-      → behind with_field front (parts_from taken i) ≡ whole → Stops r whole
+      → following with_field front (parts_from taken i) ≡ whole → Stops r whole
   parts_fails front taken i p r whole within is h so_far = turn_fails with_field front r _ _ _ whole (parts_turn taken i p within is) h so_far
 
   pub parts_goes : (front : List FieldShape) (taken more : List (List ℕ)) (i : ℕ) (p : Param) (f : FieldShape) (whole : Judged FieldShapes)
       → i < length ps → p ≡ get_or ps i p → judge_part blocks taken p.name (type_of p.of) ≡ Ok f → more ≡ name_of f ∷ taken
-      → behind with_field front (parts_from taken i) ≡ whole → behind with_field (front ++ f ∷ []) (parts_from more (i + 1)) ≡ whole
+      → following with_field front (parts_from taken i) ≡ whole → following with_field (front ++ f ∷ []) (parts_from more (i + 1)) ≡ whole
   parts_goes front taken more i p f whole within is h added so_far =
-      ap (λ (names : List (List ℕ)). behind with_field (front ++ f ∷ []) (parts_from names (i + 1))) added
+      ap (λ (names : List (List ℕ)). following with_field (front ++ f ∷ []) (parts_from names (i + 1))) added
       ∙ turn_goes with_field front f _ (λ g. parts_from (name_of g ∷ taken) (i + 1)) _ whole (parts_turn taken i p within is) h so_far
 
   pub parts_ends : (front : List FieldShape) (taken : List (List ℕ)) (i : ℕ) (whole : Judged FieldShapes) → length ps ≤ i
-      → behind with_field front (parts_from taken i) ≡ whole → whole ≡ Ok (shapes_of front)
+      → following with_field front (parts_from taken i) ≡ whole → whole ≡ Ok (shapes_of front)
   unfolding judge_parts
   parts_ends front taken i whole over so_far =
       turn_ends with_field front no_fields _ whole (rw (rest_none param_of ps i over) refl) so_far ∙ ap (λ (fs : FieldShapes). Ok fs) (put_fields front)
 
 module _ (blocks : List Block) (ps : List ProtoField) where
-  -- the fields from a place on, behind fields with these names and numbers
+  -- the fields from a place on, after fields with these names and numbers
   abbrev pub fields_from : List (List ℕ) → List ℕ → ℕ → Judged FieldShapes
   fields_from taken used i = judge_fields blocks taken used (fields_of (map field_of (drop i ps)))
 
@@ -96,20 +96,20 @@ module _ (blocks : List Block) (ps : List ProtoField) where
 
   pub fields_fails : (front : List FieldShape) (taken : List (List ℕ)) (used : List ℕ) (i : ℕ) (p : ProtoField) (r : CheckError) (whole : Judged FieldShapes)
       → i < length ps → p ≡ get_or ps i p → Stops r (judge_field blocks taken used (field_of p))
-      → behind with_field front (fields_from taken used i) ≡ whole → Stops r whole
+      → following with_field front (fields_from taken used i) ≡ whole → Stops r whole
   fields_fails front taken used i p r whole within is h so_far = turn_fails with_field front r _ _ _ whole (fields_turn taken used i p within is) h so_far
 
   pub fields_goes : (front : List FieldShape) (taken more : List (List ℕ)) (used others : List ℕ) (i : ℕ) (p : ProtoField) (f : FieldShape)
       (whole : Judged FieldShapes) → i < length ps → p ≡ get_or ps i p → judge_field blocks taken used (field_of p) ≡ Ok f
       → more ≡ name_of f ∷ taken → others ≡ number_of f ∷ used
-      → behind with_field front (fields_from taken used i) ≡ whole → behind with_field (front ++ f ∷ []) (fields_from more others (i + 1)) ≡ whole
+      → following with_field front (fields_from taken used i) ≡ whole → following with_field (front ++ f ∷ []) (fields_from more others (i + 1)) ≡ whole
   fields_goes front taken more used others i p f whole within is h added counted so_far =
-      (λ i'. behind with_field (front ++ f ∷ []) (fields_from (added i') (counted i') (i + 1)))
+      (λ i'. following with_field (front ++ f ∷ []) (fields_from (added i') (counted i') (i + 1)))
       ∙ turn_goes with_field front f _ (λ g. fields_from (name_of g ∷ taken) (number_of g ∷ used) (i + 1)) _ whole
       (fields_turn taken used i p within is) h so_far
 
   pub fields_ends : (front : List FieldShape) (taken : List (List ℕ)) (used : List ℕ) (i : ℕ) (whole : Judged FieldShapes) → length ps ≤ i
-      → behind with_field front (fields_from taken used i) ≡ whole → whole ≡ Ok (shapes_of front)
+      → following with_field front (fields_from taken used i) ≡ whole → whole ≡ Ok (shapes_of front)
   unfolding judge_fields
   fields_ends front taken used i whole over so_far =
       turn_ends with_field front no_fields _ whole (rw (rest_none field_of ps i over) refl) so_far ∙ ap (λ (fs : FieldShapes). Ok fs) (put_fields front)

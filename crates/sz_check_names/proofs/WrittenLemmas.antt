@@ -10,24 +10,24 @@ use Rattle.sz_check_names.specs.declared.written.Written.{items-the_row-WrittenF
 use Rattle.sz_check_names.specs.declared.written.Written.TheBlock.{hidden-the_row-WrittenField-0, items_hidden-the_row-WrittenField-0}
 use Rattle.sz_check_names.specs.declared.written.Written.TheVariants as written
 use Rattle.sz_check_names.specs.declared.written.WrittenField.{WrittenField}
-use Rattle.sz_check_names.specs.Written.{shape_in, field_in, fields_in_row, type_at, shapes_behind, shapes_of}
+use Rattle.sz_check_names.specs.Written.{shape_in, field_in, fields_in_row, type_at, shapes_after, shapes_of}
 
-behind_more : (types : List Shape) (ws : List Written) (w : Written)
-    → shapes_behind types (ws ++ w ∷ []) ≡ shapes_behind types ws ++ shape_in (shapes_behind types ws) w ∷ []
-behind_more types [] w = refl
-behind_more types (v ∷ ws) w = behind_more (types ++ shape_in types v ∷ []) ws w
+after_more : (types : List Shape) (ws : List Written) (w : Written)
+    → shapes_after types (ws ++ w ∷ []) ≡ shapes_after types ws ++ shape_in (shapes_after types ws) w ∷ []
+after_more types [] w = refl
+after_more types (v ∷ ws) w = after_more (types ++ shape_in types v ∷ []) ws w
 
 -- a type more is written with all before it
 pub shapes_more : (ws : List Written) (w : Written) → shapes_of (ws ++ w ∷ []) ≡ shapes_of ws ++ shape_in (shapes_of ws) w ∷ []
-shapes_more ws w = behind_more [] ws w
+shapes_more ws w = after_more [] ws w
 
-length_behind : (types : List Shape) (ws : List Written) → length (shapes_behind types ws) ≡ length types + length ws
-length_behind types [] = omega arith
-length_behind types (w ∷ ws) = omega (arith, length_behind (types ++ shape_in types w ∷ []) ws, length_push types (shape_in types w))
+length_after : (types : List Shape) (ws : List Written) → length (shapes_after types ws) ≡ length types + length ws
+length_after types [] = omega arith
+length_after types (w ∷ ws) = omega (arith, length_after (types ++ shape_in types w ∷ []) ws, length_push types (shape_in types w))
 
 -- there are as many types as are written
 pub length_shapes : (ws : List Written) → length (shapes_of ws) ≡ length ws
-length_shapes ws = omega (arith, length_behind [] ws)
+length_shapes ws = omega (arith, length_after [] ws)
 
 -- a tuple and a message by the list of their fields
 module _ (types : List Shape) where
@@ -55,23 +55,23 @@ get_last [] y = refl
 get_last (x ∷ xs) y = get_last xs y
 
 -- a type stays at its place
-stays_behind : (types : List Shape) (ws : List Written) (x : Shape) (i : ℕ) → slice_get types i ≡ Some x → slice_get (shapes_behind types ws) i ≡ Some x
-stays_behind types [] x i p = p
-stays_behind types (w ∷ ws) x i p = stays_behind (types ++ shape_in types w ∷ []) ws x i (get_stays types (shape_in types w) x i p)
+stays_after : (types : List Shape) (ws : List Written) (x : Shape) (i : ℕ) → slice_get types i ≡ Some x → slice_get (shapes_after types ws) i ≡ Some x
+stays_after types [] x i p = p
+stays_after types (w ∷ ws) x i p = stays_after (types ++ shape_in types w ∷ []) ws x i (get_stays types (shape_in types w) x i p)
 
 -- a type is written with those before it
 at_place : (types : List Shape) (ws : List Written) (k : ℕ) (w : Written) → slice_get ws k ≡ Some w
-    → slice_get (shapes_behind types ws) (length types + k) ≡ Some (shape_in (shapes_behind types (take k ws)) w)
+    → slice_get (shapes_after types ws) (length types + k) ≡ Some (shape_in (shapes_after types (take k ws)) w)
 at_place types [] k w p = absurd (none-some w p)
 at_place types (v ∷ ws) zero w p =
-    subst (λ u. slice_get (shapes_behind types (v ∷ ws)) (length types + 0) ≡ Some (shape_in types u)) (same_Some v w p)
-    (subst (λ n. slice_get (shapes_behind (types ++ shape_in types v ∷ []) ws) n ≡ Some (shape_in types v)) here
-    (stays_behind (types ++ shape_in types v ∷ []) ws (shape_in types v) (length types) (get_last types (shape_in types v))))
+    subst (λ u. slice_get (shapes_after types (v ∷ ws)) (length types + 0) ≡ Some (shape_in types u)) (same_Some v w p)
+    (subst (λ n. slice_get (shapes_after (types ++ shape_in types v ∷ []) ws) n ≡ Some (shape_in types v)) here
+    (stays_after (types ++ shape_in types v ∷ []) ws (shape_in types v) (length types) (get_last types (shape_in types v))))
   where
     here : length types ≡ length types + 0
     here = omega arith
 at_place types (v ∷ ws) (suc k) w p =
-    subst (λ n. slice_get (shapes_behind types (v ∷ ws)) n ≡ Some (shape_in (shapes_behind (types ++ shape_in types v ∷ []) (take k ws)) w)) here
+    subst (λ n. slice_get (shapes_after types (v ∷ ws)) n ≡ Some (shape_in (shapes_after (types ++ shape_in types v ∷ []) (take k ws)) w)) here
     (at_place (types ++ shape_in types v ∷ []) ws k w p)
   where
     here : length (types ++ shape_in types v ∷ []) + k ≡ length types + suc k

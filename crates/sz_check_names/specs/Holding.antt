@@ -98,7 +98,7 @@ in_function k = record {
   locals = [];
 }
 
--- what is behind a function as it was in front of it: the two know of the same blocks and types
+-- what is after a function as it was in front of it: the two know of the same blocks and types
 pub record IsRoundFunction (outside : Held) (inside : Held) : Type 0 where
   pub blocks : inside.outside.all ≡ outside.innermost ∷ outside.outside.all
   pub types : inside.outside.types ≡ outside.outside.types

@@ -40,14 +40,14 @@ abbrev pub free_coding : Ident → Option Coding → Judged Coding
 free_coding n None = bad_field n
 free_coding n (Some c) = Ok c
 
--- the next part of a tuple, behind parts with these names
+-- the next part of a tuple, after parts with these names
 abbrev pub judge_part : List Block → List (List ℕ) → Ident → Typ → Judged FieldShape
 judge_part blocks taken n t = do
   part ← judge_type blocks t
   name ← free_name n taken
   Ok (field name part 0 Plain)
 
--- the next field of a message, behind fields with these names and numbers
+-- the next field of a message, after fields with these names and numbers
 abbrev pub judge_field : List Block → List (List ℕ) → List ℕ → FieldForm → Judged FieldShape
 judge_field blocks taken used f = do
   part ← judge_type blocks f.of

@@ -36,6 +36,6 @@ has_numbers Number = true
 has_numbers Numbers = true
 has_numbers _ = false
 
--- whether the encoding word may stand behind such a field
+-- whether the encoding word may stand after such a field
 abbrev pub encodes : Encoding → Sort → Bool
 encodes code sort = is_plain code || has_numbers sort

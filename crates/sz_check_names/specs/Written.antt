@@ -30,11 +30,11 @@ module _ (types : List Shape) where
 abbrev pub field_in : List Shape → WrittenField → FieldShape
 field_in types f = field f.name (shape_in types f.ty) f.number f.code
 
--- the types behind these, each written with those in front of it
-abbrev pub shapes_behind : List Shape → List Written → List Shape
-shapes_behind types [] = types
-shapes_behind types (w ∷ ws) = shapes_behind (types ++ shape_in types w ∷ []) ws
+-- the types after these, each written with those in front of it
+abbrev pub shapes_after : List Shape → List Written → List Shape
+shapes_after types [] = types
+shapes_after types (w ∷ ws) = shapes_after (types ++ shape_in types w ∷ []) ws
 
 -- types in the order in which they were named
 abbrev pub shapes_of : List Written → List Shape
-shapes_of ws = shapes_behind [] ws
+shapes_of ws = shapes_after [] ws

@@ -38,7 +38,7 @@ pub struct Known {
     locals: Tys,
 }
 
-/// What a function leaves aside of what is known outside it, to be put back behind it.
+/// What a function leaves aside of what is known outside it, to be put back after it.
 #[derive(Drop)]
 pub struct Aside {
     sight: Sight,
@@ -336,7 +336,7 @@ impl Known {
         close_innermost(&mut self.scopes, outside);
     }
 
-    /// The block of a function inside the innermost one, with no variables yet; and what is to be put back behind the function.
+    /// The block of a function inside the innermost one, with no variables yet; and what is to be put back after the function.
     pub fn enter_function(&mut self, alloc: Global) -> Result<Aside, AllocError>
         ensures value { IfOk result (λ _. self.new ≡ in_function self.old) }
         ensures aside { IfOk result (λ aside. (aside.sight ≡ self.old.outside.sight) × (aside.locals ≡ self.old.locals)) }

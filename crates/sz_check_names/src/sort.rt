@@ -38,7 +38,7 @@ impl Sort {
         !matches!(self, Sort::Neither)
     }
 
-    // Whether the encoding word may stand behind such a field.
+    // Whether the encoding word may stand after such a field.
     pub fn takes(self, code: Encoding) -> bool
         ensures value { result ≡ encodes code self }
     {

@@ -25,12 +25,12 @@ asked_first (each t) = Some t
 asked_first (in_turn []) = None
 asked_first (in_turn (t ∷ ts)) = Some t
 
--- what is asked of those behind it
-abbrev pub asked_behind : Asks → Asks
-asked_behind nothing = nothing
-asked_behind (each t) = each t
-asked_behind (in_turn []) = nothing
-asked_behind (in_turn (t ∷ ts)) = in_turn ts
+-- what is asked of those after it
+abbrev pub asked_after : Asks → Asks
+asked_after nothing = nothing
+asked_after (each t) = each t
+asked_after (in_turn []) = nothing
+asked_after (in_turn (t ∷ ts)) = in_turn ts
 
 -- the expression has the type that is asked, if one is; else it is the wrong one
 abbrev pub agrees : Option Shape → Exp → Node → Judged Unit
@@ -41,7 +41,7 @@ agrees (Some t) e n = unless (alike (type_of n) t) (wrong_type (place_of e))
 unfoldable pub agree : Asks → Exps → Nodes → Judged Unit
 agree asks (more e es) (with_node n ns) = do
   _ ← agrees (asked_first asks) e n
-  agree (asked_behind asks) es ns
+  agree (asked_after asks) es ns
 agree asks _ _ = Ok tt
 
 -- the same of keys and values

@@ -36,17 +36,17 @@ abbrev pub quantified_names : (inside : Bool) → List QuantifierForm → List (
 quantified_names inside [] = []
 quantified_names inside (q ∷ qs) = (if not inside || is_seen_inside q.quantity then texts_of q.names else []) ++ quantified_names inside qs
 
--- the names that are hidden behind the first part of a `for`
-abbrev pub hidden_behind_first : List (List ℕ) → Option FirstForm → List (List ℕ)
-hidden_behind_first h (Some (first_declare n t e)) = h ++ n.text ∷ []
-hidden_behind_first h (Some (first_define n e)) = h ++ n.text ∷ []
-hidden_behind_first h _ = h
+-- the names that are hidden after the first part of a `for`
+abbrev pub hidden_after_first : List (List ℕ) → Option FirstForm → List (List ℕ)
+hidden_after_first h (Some (first_declare n t e)) = h ++ n.text ∷ []
+hidden_after_first h (Some (first_define n e)) = h ++ n.text ∷ []
+hidden_after_first h _ = h
 
--- the names that are hidden behind a statement
-abbrev pub hidden_behind : List (List ℕ) → Stm → List (List ℕ)
-hidden_behind h (declare n t e) = h ++ n.text ∷ []
-hidden_behind h (define n e) = h ++ n.text ∷ []
-hidden_behind h _ = h
+-- the names that are hidden after a statement
+abbrev pub hidden_after : List (List ℕ) → Stm → List (List ℕ)
+hidden_after h (declare n t e) = h ++ n.text ∷ []
+hidden_after h (define n e) = h ++ n.text ∷ []
+hidden_after h _ = h
 
 -- which names call what emits
 module _ (emits : List ℕ → Bool) where
@@ -123,7 +123,7 @@ module _ (emits : List ℕ → Bool) where
     stm_emits h (if_else p c s t) = exp_emits h c || stm_emits h s || stm_emits h t
     stm_emits h (while p c s) = exp_emits h c || stm_emits h s
     stm_emits h (do_while p s c) = stm_emits h s || exp_emits h c
-    stm_emits h (for_loop p f c between s) = first_emits h f || turns_emit (hidden_behind_first h f) c between (stm_emits (hidden_behind_first h f) s)
+    stm_emits h (for_loop p f c between s) = first_emits h f || turns_emit (hidden_after_first h f) c between (stm_emits (hidden_after_first h f) s)
     stm_emits h (return p e) = part_emits h e
     stm_emits h (emit p n es e w) = true
     stm_emits h (when p qs c s) = exp_emits (h ++ quantified_names false qs) c || stm_emits (h ++ quantified_names true qs) s
@@ -131,11 +131,11 @@ module _ (emits : List ℕ → Bool) where
 
     pub stms_emit : List (List ℕ) → Stms → Bool
     stms_emit h no_stms = false
-    stms_emit h (stm s ss) = stm_emits h s || stms_emit (hidden_behind h s) ss
+    stms_emit h (stm s ss) = stm_emits h s || stms_emit (hidden_after h s) ss
 
   -- a `for`, and a `when`
   abbrev pub for_emits : List (List ℕ) → Option FirstForm → Option Exp → Option SimpleForm → Stm → Bool
-  for_emits h f c between s = first_emits h f || turns_emit (hidden_behind_first h f) c between (stm_emits (hidden_behind_first h f) s)
+  for_emits h f c between s = first_emits h f || turns_emit (hidden_after_first h f) c between (stm_emits (hidden_after_first h f) s)
 
   abbrev pub when_emits : List (List ℕ) → List QuantifierForm → Exp → Stm → Bool
   when_emits h qs c s = exp_emits (h ++ quantified_names false qs) c || stm_emits (h ++ quantified_names true qs) s

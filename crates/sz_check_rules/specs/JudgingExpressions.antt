@@ -14,7 +14,7 @@ use Rattle.sz_check_rules.specs.Refusals.{Judged, ◌>>=◌, wrong_kind}
 use Rattle.sz_check_rules.specs.Names.{Block, Meaning, look_up}
 use Rattle.sz_check_rules.specs.Names as names
 use Rattle.sz_check_rules.specs.JudgingTypes.{shape_of}
-use Rattle.sz_check_rules.specs.Agreeing.{Asks, asked_first, asked_behind}
+use Rattle.sz_check_rules.specs.Agreeing.{Asks, asked_first, asked_after}
 use Rattle.sz_check_rules.specs.JudgingCalls.{callee_of, asks_of_callee, conversion_node, made_call}
 use Rattle.sz_check_rules.specs.JudgingComposites.{asks_of_list, made_list, asked_of_keys, asked_of_values, made_mapping}
 use Rattle.sz_check_rules.specs.JudgingParts.{made_index, made_slice, made_field}
@@ -88,7 +88,7 @@ module _ (blocks : List Block) (may_emit : Bool) where
     judge_exps asks end = Ok no_nodes
     judge_exps asks (more e es) = do
       n ← judge_exp (asked_first asks) e
-      ns ← judge_exps (asked_behind asks) es
+      ns ← judge_exps (asked_after asks) es
       Ok (with_node n ns)
 
     -- keys and values in order, of which these two types are asked

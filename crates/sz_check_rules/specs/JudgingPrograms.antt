@@ -30,7 +30,7 @@ pub record TopScene : Type 0 where
   pub statics : ℕ
   pub functions : List Signature
 
--- the items that a statement at the top level is, and what is known behind it
+-- the items that a statement at the top level is, and what is known after it
 pub record Found : Type 0 where
   pub known : TopScene
   pub items : List Item
@@ -58,7 +58,7 @@ has_limit Sum = false
 has_limit Collection = false
 has_limit _ = true
 
--- the limit of a table by the number behind its kind: 0 where the kind has none, and none where the number is missing, is
+-- the limit of a table by the number after its kind: 0 where the kind has none, and none where the number is missing, is
 -- one too many, or can be no limit
 abbrev pub limit_of : TableKind → Option ℤ → Option ℕ
 limit_of kind None = if has_limit kind then None else Some 0

@@ -23,18 +23,18 @@ use Rattle.sz_check_rules.specs.Agreeing.{in_turn, agree, agrees, counted, conve
 use Rattle.sz_check_rules.specs.JudgingExpressions.{judge_exps}
 use Rattle.sz_check_rules.specs.JudgingOperators.{test}
 use Rattle.sz_check_rules.specs.Scene.{Scene, with_variable}
-use Rattle.sz_check_rules.specs.Scenes.{Behind, judge, judge_if_some}
+use Rattle.sz_check_rules.specs.Scenes.{Later, judge, judge_if_some}
 use Rattle.sz_check_rules.specs.JudgingPaths.{judge_path}
 
 -- `name: type;`
-abbrev pub judge_declaration : Scene → Ident → Typ → Judged Behind
+abbrev pub judge_declaration : Scene → Ident → Typ → Judged Later
 judge_declaration s n t = do
   u ← judge_type s.blocks t
   after ← with_variable n u s
   Ok (record { scene = after; stm = core.clear (length s.locals) })
 
 -- `name: type = e;`
-abbrev pub judge_initialised : Scene → Ident → Typ → Exp → Judged Behind
+abbrev pub judge_initialised : Scene → Ident → Typ → Exp → Judged Later
 judge_initialised s n t e = do
   u ← judge_type s.blocks t
   m ← judge s (Some u) e
@@ -43,7 +43,7 @@ judge_initialised s n t e = do
   Ok (record { scene = after; stm = core.keep n.place (length s.locals) value })
 
 -- `name := e;`
-abbrev pub judge_definition : Scene → Ident → Exp → Judged Behind
+abbrev pub judge_definition : Scene → Ident → Exp → Judged Later
 judge_definition s n e = do
   value ← judge s None e
   after ← with_variable n (type_of value) s
@@ -79,7 +79,7 @@ judge_simple s (call_of n es) = do
   Ok (core.evaluate n.place m)
 
 -- the first part of a `for`
-abbrev pub judge_first : Scene → Option FirstForm → Judged Behind
+abbrev pub judge_first : Scene → Option FirstForm → Judged Later
 judge_first s None = Ok (record { scene = s; stm = core.nothing })
 judge_first s (Some (first_declare n t e)) = judge_initialised s n t e
 judge_first s (Some (first_define n e)) = judge_definition s n e
@@ -141,8 +141,8 @@ judge_emit s p n es e w = do
   _ ← unless (same_presence (is_some t.declaration.weight) (is_some w)) (wrong_weight p)
   Ok (core.emit p t.number indexes value weight)
 
--- a statement that declares nothing for those behind it
-abbrev pub done : Scene → Judged core.Stm → Judged Behind
+-- a statement that declares nothing for those after it
+abbrev pub done : Scene → Judged core.Stm → Judged Later
 done s judged = do
   m ← judged
   Ok (record { scene = s; stm = m })

@@ -1,4 +1,4 @@
--- The checked statement that a statement's tree is, with what is declared behind it, or its first refusal.
+-- The checked statement that a statement's tree is, with what is declared after it, or its first refusal.
 use Rattle.std.specs.Prelude.{[], ◌∷◌, if◌then◌else◌, Some, None, Ok}
 use Rattle.sz_tree.specs.Statements.{Stm, empty, declare, define, static, typedef, table, function, simple, if_only, if_else, return, when, Stms}
 use Rattle.sz_tree.specs.Statements as trees
@@ -7,20 +7,20 @@ pub use Rattle.sz_core.specs.Sound.{Around, in_loop, out_of_loops}
 use Rattle.sz_check_rules.specs.Refusals.{Judged, ◌>>=◌, misplaced}
 use Rattle.sz_check_rules.specs.JudgingOperators.{test}
 use Rattle.sz_check_rules.specs.Scene.{Scene, opened}
-use Rattle.sz_check_rules.specs.Scenes.{Behind, AllBehind, judge, judge_if_some, closed}
+use Rattle.sz_check_rules.specs.Scenes.{Later, AllAfter, judge, judge_if_some, closed}
 use Rattle.sz_check_rules.specs.JudgingSimple.{judge_declaration, judge_initialised, judge_definition, judge_simple, judge_first, judge_between, test_if_some}
 use Rattle.sz_check_rules.specs.JudgingSimple.{judge_return, judge_emit, done}
 use Rattle.sz_check_rules.specs.Quantifying.{judge_front, in_bound, quantify}
 
 -- a part statement, which was judged in a block of its own
-abbrev pub in_block : Scene → Judged Behind → Judged Behind
+abbrev pub in_block : Scene → Judged Later → Judged Later
 in_block s judged = do
   inside ← judged
   Ok (record { scene = closed s inside.scene; stm = inside.stm })
 
 unfoldable mutual
   -- the statement
-  pub judge_stm : Around → Scene → Stm → Judged Behind
+  pub judge_stm : Around → Scene → Stm → Judged Later
   judge_stm a s (empty p) = Ok (record { scene = s; stm = core.nothing })
   judge_stm a s (trees.block p ss) = do
     inside ← judge_stms a (opened s) ss
@@ -76,7 +76,7 @@ unfoldable mutual
     Ok (record { scene = body.scene; stm = core.when p vs front.condition body.stm })
 
   -- statements in order
-  pub judge_stms : Around → Scene → Stms → Judged AllBehind
+  pub judge_stms : Around → Scene → Stms → Judged AllAfter
   judge_stms a s trees.no_stms = Ok (record { scene = s; stms = core.no_stms })
   judge_stms a s (trees.stm t ts) = do
     first ← judge_stm a s t

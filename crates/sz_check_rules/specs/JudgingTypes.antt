@@ -78,7 +78,7 @@ module _ (blocks : List Block) where
       fields ← judge_fields [] [] fs
       Ok (Shape.proto fields)
 
-    -- the parts of a tuple, behind parts with these names: each is judged whole before the next
+    -- the parts of a tuple, after parts with these names: each is judged whole before the next
     pub judge_parts : List (List ℕ) → Params → Judged FieldShapes
     judge_parts taken no_params = Ok no_fields
     judge_parts taken (param n t ps) = do
@@ -87,7 +87,7 @@ module _ (blocks : List Block) where
         fields ← judge_parts (n.text ∷ taken) ps
         Ok (with_field (field n.text part 0 Plain) fields))
 
-    -- the fields of a message, behind fields with these names and numbers
+    -- the fields of a message, after fields with these names and numbers
     pub judge_fields : List (List ℕ) → List ℕ → Fields → Judged FieldShapes
     judge_fields taken used trees.no_fields = Ok no_fields
     judge_fields taken used (proto_field n t k word fs) = do

@@ -19,13 +19,13 @@ use Rattle.sz_check_rules.specs.JudgingTypes.{judge_type}
 use Rattle.sz_check_rules.specs.Scene.{Scene, opened, with_quantified}
 use Rattle.sz_check_rules.specs.JudgingExpressions.{judge_exp}
 use Rattle.sz_check_rules.specs.EmittingTrees.{is_seen_inside}
-use Rattle.sz_check_rules.specs.Scenes.{Behind, closed}
+use Rattle.sz_check_rules.specs.Scenes.{Later, closed}
 
 -- no part of the condition fits the variable
 abbrev pub unbounded : {A : Type 0} → Ident → Judged A
 unbounded n = refused_for 19 n
 
--- a variable of another kind stands behind one that speaks of all candidates
+-- a variable of another kind stands after one that speaks of all candidates
 abbrev pub all_must_be_last : {A : Type 0} → Place → Judged A
 all_must_be_last p = refused_at 20 p
 
@@ -36,12 +36,12 @@ pub record Variable : Type 0 where
   pub local : ℕ
   pub type : Shape
 
--- the variables that are declared by now, and what is known behind them
+-- the variables that are declared by now, and what is known after them
 pub record Declared : Type 0 where
   pub scene : Scene
   pub variables : List Variable
 
--- these names as variables of one kind and type, behind those that are declared by now
+-- these names as variables of one kind and type, after those that are declared by now
 unfoldable pub judge_names : Quantity → Shape → List Ident → Declared → Judged Declared
 judge_names q t [] d = Ok d
 judge_names q t (n ∷ ns) d = do
@@ -68,7 +68,7 @@ judge_quantifiers (q ∷ qs) d = do
 abbrev pub none_declared : Scene → Declared
 none_declared s = record { scene = opened s; variables = [] }
 
--- what is known behind the condition of a `when`, its variables, and the condition
+-- what is known after the condition of a `when`, its variables, and the condition
 pub record Front : Type 0 where
   pub scene : Scene
   pub variables : List Variable
@@ -97,7 +97,7 @@ judge_bound s vs = do
   Ok (record s { blocks = blocks })
 
 -- the statement inside, which is judged where it sees these variables
-abbrev pub in_bound : Scene → List Variable → (Scene → Judged Behind) → Judged Behind
+abbrev pub in_bound : Scene → List Variable → (Scene → Judged Later) → Judged Later
 in_bound s vs judging = do
   inner ← judge_bound s vs
   body ← judging inner
@@ -115,11 +115,11 @@ all_bounded (v ∷ vs) (Some b ∷ bs) = do
   Ok (b ∷ rest)
 all_bounded vs bs = Ok []
 
--- whether a variable speaks of all candidates, behind one that does or doesn't; one that doesn't may not stand behind one that does
+-- whether a variable speaks of all candidates, after one that does or doesn't; one that doesn't may not stand after one that does
 abbrev pub may_follow : Variable → Bool → Judged Bool
 may_follow v after = if is_seen_inside v.quantity then (if after then all_must_be_last v.name.place else Ok false) else Ok true
 
--- no variable of another kind stands behind one that speaks of all candidates; whether the last one does
+-- no variable of another kind stands after one that speaks of all candidates; whether the last one does
 unfoldable pub all_last : List Variable → Bool → Judged Bool
 all_last [] after = Ok after
 all_last (v ∷ vs) after = may_follow v after >>= all_last vs

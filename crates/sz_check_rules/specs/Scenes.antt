@@ -1,4 +1,4 @@
--- What is known behind a statement, and the expressions in one, while a program is judged.
+-- What is known after a statement, and the expressions in one, while a program is judged.
 use Rattle.std.specs.Prelude.{true, Option, Some, None, Ok}
 use Rattle.sz_types.specs.Data.{Shape}
 use Rattle.sz_tree.specs.Expressions.{Exp}
@@ -8,17 +8,17 @@ use Rattle.sz_check_rules.specs.Refusals.{Judged, ◌>>=◌}
 use Rattle.sz_check_rules.specs.Scene.{Scene}
 use Rattle.sz_check_rules.specs.JudgingExpressions.{judge_exp}
 
--- a checked statement, and what is known behind it
-pub record Behind : Type 0 where
+-- a checked statement, and what is known after it
+pub record Later : Type 0 where
   pub scene : Scene
   pub stm : core.Stm
 
--- checked statements, and what is known behind them
-pub record AllBehind : Type 0 where
+-- checked statements, and what is known after them
+pub record AllAfter : Type 0 where
   pub scene : Scene
   pub stms : core.Stms
 
--- the scene behind a block that was opened in the first: the variables inside keep their numbers, and are seen no more
+-- the scene after a block that was opened in the first: the variables inside keep their numbers, and are seen no more
 abbrev pub closed : Scene → Scene → Scene
 closed outside inside = record { blocks = outside.blocks; locals = inside.locals }
 

@@ -16,7 +16,7 @@ use Rattle.sz_check_rules.specs.Refusals.{Judged, ◌>>=◌, bad_table}
 use Rattle.sz_check_rules.specs.Names.{Block}
 use Rattle.sz_check_rules.specs.JudgingTypes.{judge_type}
 use Rattle.sz_check_rules.specs.JudgingPrograms.{kind_of, limit_of, judge_elems, judge_weight, declaration_of}
-use Rattle.sz_check_names.specs.Turns.{behind, put_all}
+use Rattle.sz_check_names.specs.Turns.{following, put_all}
 use Rattle.sz_check_table.specs.Tables.{judge_table_declaration}
 use Rattle.sz_check_table.specs.Tabling.{with_type, Types, judge_types, IsLimit}
 use Rattle.sz_check_names.specs.Outcome.{Stops}
@@ -59,17 +59,17 @@ module _ (blocks : List Block) where
   elems_turn es i e within is = rw (rest_more elem_of es i e within is) refl
 
   pub elems_fail : (front : List Shape) (es : List Elem) (i : ℕ) (e : Elem) (r : CheckError) (whole : Judged (List Shape)) → i < length es → e ≡ get_or es i e
-      → Stops r (judge_type blocks (type_of e.of)) → behind with_type front (judge_elems blocks (map elem_of (drop i es))) ≡ whole → Stops r whole
+      → Stops r (judge_type blocks (type_of e.of)) → following with_type front (judge_elems blocks (map elem_of (drop i es))) ≡ whole → Stops r whole
   elems_fail front es i e r whole within is h so_far = turn_fails with_type front r _ _ _ whole (elems_turn es i e within is) h so_far
 
   pub elems_go : (front : List Shape) (es : List Elem) (i : ℕ) (e : Elem) (t : Shape) (whole : Judged (List Shape)) → i < length es → e ≡ get_or es i e
-      → judge_type blocks (type_of e.of) ≡ Ok t → behind with_type front (judge_elems blocks (map elem_of (drop i es))) ≡ whole
-      → behind with_type (front ++ t ∷ []) (judge_elems blocks (map elem_of (drop (i + 1) es))) ≡ whole
+      → judge_type blocks (type_of e.of) ≡ Ok t → following with_type front (judge_elems blocks (map elem_of (drop i es))) ≡ whole
+      → following with_type (front ++ t ∷ []) (judge_elems blocks (map elem_of (drop (i + 1) es))) ≡ whole
   elems_go front es i e t whole within is h so_far =
       turn_goes with_type front t _ (λ _. judge_elems blocks (map elem_of (drop (i + 1) es))) _ whole (elems_turn es i e within is) h so_far
 
   pub elems_end : (front : List Shape) (es : List Elem) (i : ℕ) (whole : Judged (List Shape)) → length es ≤ i
-      → behind with_type front (judge_elems blocks (map elem_of (drop i es))) ≡ whole → whole ≡ Ok front
+      → following with_type front (judge_elems blocks (map elem_of (drop i es))) ≡ whole → whole ≡ Ok front
   unfolding judge_elems
   elems_end front es i whole over so_far =
       turn_ends with_type front [] _ whole (ap (judge_elems blocks) (rest_none elem_of es i over)) so_far ∙ ap (λ (ts : List Shape). Ok ts) (put_types front)

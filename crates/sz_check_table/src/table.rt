@@ -69,7 +69,7 @@ fn has_limit(kind: TableKind) -> bool
     }
 }
 
-// The limit of a table by the number behind its kind: 0 where the kind has none, and none where the number is missing, is one
+// The limit of a table by the number after its kind: 0 where the kind has none, and none where the number is missing, is one
 // too many, or can be no limit.
 fn limit_of(kind: TableKind, argument: Option<i64>) -> Option<u64>
     ensures value { result ≡ limit_of kind argument }

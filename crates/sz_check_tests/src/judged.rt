@@ -12,7 +12,7 @@ use sz_lex::lex;
 use sz_parse::parse;
 use sz_tree::Tree;
 
-// In each line a program stands before `=>`, where `$` is the end of a line, and behind it what `check` says of it.
+// In each line a program stands before `=>`, where `$` is the end of a line, and after it what `check` says of it.
 const ROWS: &[&str] = &[
     PROGRAMS,
     STATEMENTS,

@@ -1,4 +1,4 @@
-//! Whole programs, and each form of statement and of expression. In each line a program stands before `=>`, where `$` is the end of a line, and behind it what `check` says of it.
+//! Whole programs, and each form of statement and of expression. In each line a program stands before `=>`, where `$` is the end of a line, and after it what `check` says of it.
 
 /// Whole programs.
 pub const PROGRAMS: &str =

@@ -1,4 +1,4 @@
-//! The statement `when`. In each line a program stands before `=>`, where `$` is the end of a line, and behind it what `check` says of it.
+//! The statement `when`. In each line a program stands before `=>`, where `$` is the end of a line, and after it what `check` says of it.
 
 /// Its variables, its condition and the statement inside, and the refusals that are its own.
 pub const WHENS: &str = "a: array of int; when (i: some int; a[i] == 1) i = 2; => 14 at 1:48: i

@@ -173,11 +173,11 @@ pub may_give : (w : PassData) (i : ℕ) (lane longer : LaneData) (shards : List 
     → longer.plan ≡ lane.plan → longer.shards ≡ lane.shards ++ shards → AreInHand shards w.mine → MayGive w i longer
 may_give w i lane longer shards held lent of same more hand =
     let all : longer.shards ≡ w.lent ++ shards = more ∙ ap (λ (l : List ℕ). l ++ shards) (sym lent) in
-    let behind : further_in w longer ≡ shards = ap (drop (length w.lent)) all ∙ drop-append_seam w.lent shards in record {
+    let later : further_in w longer ≡ shards = ap (drop (length w.lent)) all ∙ drop-append_seam w.lent shards in record {
       held = held;
       plan = same ∙ sym of;
-      longer = all ∙ ap (λ (l : List ℕ). w.lent ++ l) (sym behind);
-      further = subst (λ (l : List ℕ). AreInHand l w.mine) (sym behind) hand;
+      longer = all ∙ ap (λ (l : List ℕ). w.lent ++ l) (sym later);
+      further = subst (λ (l : List ℕ). AreInHand l w.mine) (sym later) hand;
     }
 
 -- no shard is always in hand

@@ -267,7 +267,7 @@ pub asked_some : (i : ℕ) (v w u : Me Slot View) (list : List ℕ) (result : Sl
     → u ≡ (w.0, (i, None) ∷ rest w.1) → IsAsked i v result u
 asked_some i v w u list result call seen held same after' =
     let is : Some (lane_data v.0.plan list) ≡ result = ap first_of (sym held ∙ same) in
-    let behind : rest w.1 ≡ v.1 = ap rest held in
+    let later : rest w.1 ≡ v.1 = ap rest held in
     subst (λ (r : Slot). IsAsked i v r u) is
     (subst (λ (x : Me Slot View). IsAsked i v (Some (lane_data v.0.plan list)) x) (sym after')
-    (call, ap (lane_data v.0.plan) seen, ap (λ (l : List (ℕ × Slot)). (i, None) ∷ l) behind))
+    (call, ap (lane_data v.0.plan) seen, ap (λ (l : List (ℕ × Slot)). (i, None) ∷ l) later))

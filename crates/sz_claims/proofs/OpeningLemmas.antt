@@ -262,8 +262,8 @@ same_lanes [] (k ∷ ks) e = absurd (let long = ap length e in omega arith)
 same_lanes (l ∷ ls) [] e = absurd (let long = ap length e in omega arith)
 same_lanes (l ∷ ls) (k ∷ ks) e =
     let first : l ≡ k = cc e in
-    let behind : map (λ (x : LaneData). Some x) ls ≡ map (λ (x : LaneData). Some x) ks = cc e in
-    let rest : ls ≡ ks = same_lanes ls ks behind in
+    let later : map (λ (x : LaneData). Some x) ls ≡ map (λ (x : LaneData). Some x) ks = cc e in
+    let rest : ls ≡ ks = same_lanes ls ks later in
     λ i. first i ∷ rest i
 
 -- what was read of the words and taken from the slots is what the state has

@@ -48,7 +48,7 @@ same_placed p x y w u h = record {
   won = λ s some. subst (λ (l : List ℕ). 0 < slice_index l s) (sym w) (h.won s (subst (λ (l : List ℕ). 0 < slice_index l s) u some));
 }
 
--- a write behind the end is none
+-- a write after the end is none
 past_end : (l : List ℕ) (i n : ℕ) → length l ≤ i → slice_index (set l i n) i ≡ 0
 past_end [] i n h = refl
 past_end (x ∷ xs) zero n h = absurd (omega arith)
@@ -135,7 +135,7 @@ one_stays p n x s m (LaneOut i) ss fit h is away =
 one_stays p n x s m (LaneBack i) ss fit h is away = placing_keeps n m s x.unplaced ss fit.brought is away
 one_stays p n x s m (Bad b) ss fit h is away = is
 
--- the calls of caller n behind a call of it, and behind one of another
+-- the calls of caller n after a call of it, and after one of another
 own_first : (n : ℕ) (e : Entry) (es : List Entry) → e.by ≡ n → calls_by n (e ∷ es) ≡ e ∷ calls_by n es
 own_first n e es is = ap (λ (b : Bool). cond b (e ∷ calls_by n es) (calls_by n es)) (eq-eqb e.by n is)
 

@@ -61,7 +61,7 @@ first_pass ledger limit = record { ledger = ledger; number = 0; made = 1; limit 
 abbrev pub ends_in : PassData → List Entry → LedgerState
 ends_in v log = state_after v.ledger.plan (opening v.ledger.plan v.ledger.lanes) log
 
--- the pass after a call that came behind this history: the call is the last of what is seen, and of the pass's own calls. Then the
+-- the pass after a call that came after this history: the call is the last of what is seen, and of the pass's own calls. Then the
 -- pass holds this lane, with these shards when it was lent
 abbrev pub calling_as : PassData → List Entry → Entry → ℕ → List ℕ → PassData
 calling_as v log e lane lent = record v { seen = log ++ e ∷ []; mine = v.mine ++ e ∷ []; lane = lane; lent = lent }
@@ -88,11 +88,11 @@ pub record AreInHand (shards : List ℕ) (mine : List Entry) : Type 0 where
   pub won : (s : ℕ) → IsAmong s shards → HasWon s mine
   pub fresh : (s : ℕ) → IsAmong s shards → ¬ HasGiven s mine
 
--- the shards that a lane has behind those that it had when it was lent
+-- the shards that a lane has after those that it had when it was lent
 abbrev pub further_in : PassData → LaneData → List ℕ
 further_in v lane = drop (length v.lent) lane.shards
 
--- The pass holds lane i. The lane that it brings has the ledger's plan, the shards that it had when it was lent, and behind them
+-- The pass holds lane i. The lane that it brings has the ledger's plan, the shards that it had when it was lent, and after them
 -- further ones that the pass won and has not brought yet
 pub record MayGive (v : PassData) (i : ℕ) (lane : LaneData) : Type 0 where
   pub held : v.lane ≡ i + 1

@@ -182,7 +182,7 @@ newcomer p lanes = view 1 0 1 p lanes []
 abbrev pub looking : View → List Entry → View
 looking v log = record v { seen = log; told = [] }
 
--- the view after a call that became this entry behind this history, with the lane that it then has, and that lane's list
+-- the view after a call that became this entry after this history, with the lane that it then has, and that lane's list
 abbrev pub calling : View → List Entry → Entry → ℕ → List ℕ → View
 calling v log e lane lent = record v { seen = log ++ e ∷ []; told = []; mine = v.mine ++ e ∷ []; lane = lane; lent = lent }
 

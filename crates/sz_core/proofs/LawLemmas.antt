@@ -10,7 +10,7 @@ use Rattle.sz_core.specs.Nodes.{unary, binary, both, either, Nodes, no_nodes, wi
 use Rattle.sz_core.specs.Programs.{Signature, Function, Static, Item, Core, tables_of, statics_of, core_of}
 use Rattle.sz_core.specs.Programs as items
 use Rattle.sz_core.specs.Emitting.{node_emits, form_emits, nodes_emit, pairings_emit, is_emitting}
-use Rattle.sz_core.specs.Sound.{IsSound, AreItems, Declared, declared_by, nothing_declared, seen_behind, record_sight, IsStatic, static_sight, BeginsWith}
+use Rattle.sz_core.specs.Sound.{IsSound, AreItems, Declared, declared_by, nothing_declared, seen_after, record_sight, IsStatic, static_sight, BeginsWith}
 use Rattle.sz_core.specs.Typing.{Sight, IsNode, IsForm, AreNodes, ArePairings}
 
 pub empty_is_sound : IsSound (core_of [] [])
@@ -31,20 +31,20 @@ tables_are_few locals seen d (items.function f ∷ rest) few sound =
 tables_are_few locals seen d (items.static s ∷ rest) few sound =
     tables_are_few locals seen (record d { statics = d.statics ++ s.type ∷ [] }) rest few sound.1
 tables_are_few locals seen d (items.statement s ∷ rest) few sound =
-    tables_are_few locals (seen_behind (record_sight locals seen d) s).seen d rest few sound.1
+    tables_are_few locals (seen_after (record_sight locals seen d) s).seen d rest few sound.1
 
 pub at_most_64_tables : (program : Core) → IsSound program → length (tables_of program.items) ≤ 64
 at_most_64_tables program sound =
     let few = tables_are_few program.locals [] nothing_declared program.items (omega arith) sound.items in
     omega (arith, few)
 
--- what two lists of items declare, one behind the other
+-- what two lists of items declare, one after the other
 abbrev both_declared : Declared → Declared → Declared
 both_declared d e = record { statics = d.statics ++ e.statics; functions = d.functions ++ e.functions; tables = d.tables ++ e.tables }
 
--- the items behind a front are sound behind what is declared before them
+-- the items after a front are sound after what is declared before them
 front_declares : (locals : List Shape) (seen : List ℕ) (d : Declared) (front rest : List Item) → AreItems locals seen d (front ++ rest)
-    → (behind : List ℕ) × AreItems locals behind (both_declared d (declared_by front)) rest
+    → (after : List ℕ) × AreItems locals after (both_declared d (declared_by front)) rest
 unfolding AreItems
 front_declares locals seen d [] rest sound =
     let same : d ≡ both_declared d nothing_declared =
@@ -72,11 +72,11 @@ front_declares locals seen d (items.static s ∷ front) rest sound =
           (append_assoc d.statics (s.type ∷ []) e.statics) h.1,
     )
 front_declares locals seen d (items.statement s ∷ front) rest sound =
-    front_declares locals (seen_behind (record_sight locals seen d) s).seen d front rest sound.1
+    front_declares locals (seen_after (record_sight locals seen d) s).seen d front rest sound.1
 
-pub sound_behind_front : (program : Core) (front rest : List Item) → IsSound program → program.items ≡ front ++ rest
+pub sound_after_front : (program : Core) (front rest : List Item) → IsSound program → program.items ≡ front ++ rest
     → (seen : List ℕ) × AreItems program.locals seen (declared_by front) rest
-sound_behind_front program front rest sound is =
+sound_after_front program front rest sound is =
     front_declares program.locals [] nothing_declared front rest (subst (λ xs. AreItems program.locals [] nothing_declared xs) is sound.items)
 
 -- what more items declare
@@ -155,7 +155,7 @@ get_in_front [] rest n s h = absurd (let some = ap is_some h in true≢false (sy
 get_in_front (f ∷ front) rest zero s h = h
 get_in_front (f ∷ front) rest (suc n) s h = get_in_front front rest n s h
 
--- a static's value emits nothing, among the functions before it and any behind it
+-- a static's value emits nothing, among the functions before it and any after it
 static_is_quiet : (d : Declared) (rest : List Signature) (s : Static) → IsStatic d s → node_emits (d.functions ++ rest) s.value ≡ false
 static_is_quiet d rest s sound =
     node_is_quiet (static_sight d) (d.functions ++ rest) refl (get_in_front d.functions rest) s.value sound.value
@@ -176,7 +176,7 @@ quiet_items locals seen d (items.static s ∷ rest) sound =
     let fs = (declared_by rest).functions in
     All-cons (λ (x : Static). node_emits (d.functions ++ fs) x.value ≡ false) s (statics_of rest) (static_is_quiet d fs s sound.0)
     (quiet_items locals seen (record d { statics = d.statics ++ s.type ∷ [] }) rest sound.1)
-quiet_items locals seen d (items.statement s ∷ rest) sound = quiet_items locals (seen_behind (record_sight locals seen d) s).seen d rest sound.1
+quiet_items locals seen d (items.statement s ∷ rest) sound = quiet_items locals (seen_after (record_sight locals seen d) s).seen d rest sound.1
 
 pub statics_are_quiet : (program : Core) → IsSound program → AreQuiet (declared_by program.items).functions (statics_of program.items)
 statics_are_quiet program sound = quiet_items program.locals [] nothing_declared program.items sound.items

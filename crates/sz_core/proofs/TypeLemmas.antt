@@ -10,8 +10,8 @@ use Rattle.sz_core.specs.Programs.{Signature, Function, Item, Core}
 use Rattle.sz_core.specs.Programs as items
 use Rattle.sz_core.specs.WellFormed.{is_well_formed, are_well_formed}
 use Rattle.sz_core.specs.Typing.{Sight, HasLiteralType, field_types, results_of, HasFormedTypes, IsNode, IsForm, AreNodes}
-use Rattle.sz_core.specs.Sound.{IsSound, AreItems, Declared, declared_by, nothing_declared, seen_behind, record_sight, static_sight, function_sight}
-use Rattle.sz_core.proofs.LawLemmas.{declared_more, sound_behind_front}
+use Rattle.sz_core.specs.Sound.{IsSound, AreItems, Declared, declared_by, nothing_declared, seen_after, record_sight, static_sight, function_sight}
+use Rattle.sz_core.proofs.LawLemmas.{declared_more, sound_after_front}
 use Rattle.sz_core.proofs.FormedLemmas.{some_has, IsFormed, AreFormed, fields_formed, formed_at, truth_formed, int_formed, bytes_formed, unary_formed, binary_formed}
 use Rattle.sz_core.proofs.FormedLemmas.{index_formed, slice_formed, builtin_formed}
 
@@ -75,10 +75,10 @@ statics_formed locals seen d (items.table t ∷ front) rest sound = statics_form
 statics_formed locals seen d (items.function f ∷ front) rest sound =
     statics_formed locals seen (record d { functions = d.functions ++ f.signature ∷ [] }) front rest sound.1
 statics_formed locals seen d (items.static s ∷ front) rest sound =
-    let behind = statics_formed locals seen (record d { statics = d.statics ++ s.type ∷ [] }) front rest sound.1 in
-    λ i. sound.0.well_formed i && behind i
+    let after = statics_formed locals seen (record d { statics = d.statics ++ s.type ∷ [] }) front rest sound.1 in
+    λ i. sound.0.well_formed i && after i
 statics_formed locals seen d (items.statement s ∷ front) rest sound =
-    statics_formed locals (seen_behind (record_sight locals seen d) s).seen d front rest sound.1
+    statics_formed locals (seen_after (record_sight locals seen d) s).seen d front rest sound.1
 
 results_formed : (locals : List Shape) (seen : List ℕ) (d : Declared) (front rest : List Item) → AreItems locals seen d (front ++ rest)
     → AreFormed (results_of (declared_by front).functions)
@@ -86,12 +86,12 @@ unfolding AreItems
 results_formed locals seen d [] rest sound = refl
 results_formed locals seen d (items.table t ∷ front) rest sound = results_formed locals seen (record d { tables = d.tables ++ t ∷ [] }) front rest sound.1
 results_formed locals seen d (items.function f ∷ front) rest sound =
-    let behind = results_formed locals seen (record d { functions = d.functions ++ f.signature ∷ [] }) front rest sound.1 in
-    λ i. first_so _ (are_well_formed f.locals) sound.0.types i && behind i
+    let after = results_formed locals seen (record d { functions = d.functions ++ f.signature ∷ [] }) front rest sound.1 in
+    λ i. first_so _ (are_well_formed f.locals) sound.0.types i && after i
 results_formed locals seen d (items.static s ∷ front) rest sound =
     results_formed locals seen (record d { statics = d.statics ++ s.type ∷ [] }) front rest sound.1
 results_formed locals seen d (items.statement s ∷ front) rest sound =
-    results_formed locals (seen_behind (record_sight locals seen d) s).seen d front rest sound.1
+    results_formed locals (seen_after (record_sight locals seen d) s).seen d front rest sound.1
 
 -- the items of a sound program, as a front and a rest
 split_items : (program : Core) (front rest : List Item) → IsSound program → program.items ≡ front ++ rest
@@ -119,7 +119,7 @@ pub function_formed : (program : Core) (front rest : List Item) (f : Function) �
 unfolding AreItems
 function_formed program front rest f sound is =
     let h = record_formed program front (items.function f ∷ rest) [] sound is in
-    let here = (sound_behind_front program front (items.function f ∷ rest) sound is).1.0 in
+    let here = (sound_after_front program front (items.function f ∷ rest) sound is).1.0 in
     let with_it = record_formed program (front ++ items.function f ∷ []) rest [] sound (is ∙ sym (append_assoc front (items.function f ∷ []) rest)) in
     record {
       locals = second_so (is_well_formed f.signature.result) _ here.types;

@@ -37,11 +37,11 @@ in_loop a = record a { loop = true }
 abbrev pub out_of_loops : Around → Around
 out_of_loops a = record a { loop = false }
 
--- what is seen behind a statement
-abbrev pub seen_behind : Sight → Stm → Sight
-seen_behind g (clear n) = record g { seen = n ∷ g.seen }
-seen_behind g (keep p n e) = record g { seen = n ∷ g.seen }
-seen_behind g _ = g
+-- what is seen after a statement
+abbrev pub seen_after : Sight → Stm → Sight
+seen_after g (clear n) = record g { seen = n ∷ g.seen }
+seen_after g (keep p n e) = record g { seen = n ∷ g.seen }
+seen_after g _ = g
 
 -- the expression is a test
 abbrev pub IsTest : Sight → Node → Type 0
@@ -102,7 +102,7 @@ abbrev pub are_for_all : List Quantified → Bool
 are_for_all [] = true
 are_for_all (v ∷ vs) = is_for_all v && are_for_all vs
 
--- whether no other variable stands behind one that speaks of all candidates
+-- whether no other variable stands after one that speaks of all candidates
 abbrev pub is_all_last : List Quantified → Bool
 is_all_last [] = true
 is_all_last (v ∷ vs) = if is_for_all v then are_for_all vs else is_all_last vs
@@ -143,7 +143,7 @@ unfoldable mutual
   -- each statement is sound, and sees what those before it declare
   pub AreStms : Sight → Around → Stms → Type 0
   AreStms g a no_stms = Unit {0}
-  AreStms g a (with_stm s ss) = IsStm g a s × AreStms (seen_behind g s) a ss
+  AreStms g a (with_stm s ss) = IsStm g a s × AreStms (seen_after g s) a ss
 
 -- the numbers of the first so many variables
 abbrev pub first_numbers : ℕ → List ℕ
@@ -227,7 +227,7 @@ record_sight locals seen d = record {
   may_emit = true;
 }
 
--- each item is sound, behind what the items before it declare
+-- each item is sound, after what the items before it declare
 unfoldable pub AreItems : List Shape → List ℕ → Declared → List Item → Type 0
 AreItems locals seen d [] = Unit {0}
 AreItems locals seen d (items.table t ∷ rest) = IsTable d t × AreItems locals seen (record d { tables = d.tables ++ t ∷ [] }) rest
@@ -235,7 +235,7 @@ AreItems locals seen d (items.function f ∷ rest) = IsFunction d f × AreItems 
 AreItems locals seen d (items.static s ∷ rest) = IsStatic d s × AreItems locals seen (record d { statics = d.statics ++ s.type ∷ [] }) rest
 AreItems locals seen d (items.statement s ∷ rest) =
     let g = record_sight locals seen d in
-    IsStm g (record { result = None; loop = false }) s × AreItems locals (seen_behind g s).seen d rest
+    IsStm g (record { result = None; loop = false }) s × AreItems locals (seen_after g s).seen d rest
 
 -- nothing is declared
 abbrev pub nothing_declared : Declared

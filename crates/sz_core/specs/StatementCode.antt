@@ -74,7 +74,7 @@ abbrev mutual
   stms_tree no_stms = gnil
   stms_tree (with_stm s ss) = gcons (stm_tree s) (stms_tree ss)
 
--- the parts of a tree behind its kind
+-- the parts of a tree after its kind
 abbrev first : Gv → Gv
 first g = head (tail g)
 

@@ -58,7 +58,7 @@ abbrev pub is_field_type : Shape → Bool
 is_field_type (Shape.array t) = is_single_field_type t
 is_field_type t = is_single_field_type t
 
--- whether the encoding word may stand behind a field of this type
+-- whether the encoding word may stand after a field of this type
 abbrev pub takes_encoding : Encoding → Shape → Bool
 takes_encoding code (Shape.array t) = is_plain code || encodes_number t
 takes_encoding code t = is_plain code || encodes_number t

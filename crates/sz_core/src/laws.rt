@@ -24,8 +24,8 @@ pub fn there_are_at_most_64_tables()
     ensures value { (program : Core) → IsSound program → length (tables_of program.items) ≤ 64 }
 {}
 
-/// The items behind any front of a sound program are sound behind what the front declares.
-pub fn items_are_sound_behind_their_front()
+/// The items after any front of a sound program are sound after what the front declares.
+pub fn items_are_sound_after_their_front()
     ensures value { (program : Core) (front rest : List Item) → IsSound program → program.items ≡ front ++ rest
         → (seen : List ℕ) × AreItems program.locals seen (declared_by front) rest }
 {}

@@ -8,7 +8,7 @@ mod stmt;
 
 pub use expr::{CoreExpr, CorePair, Form};
 pub use laws::{
-    a_small_program_is_sound, items_are_sound_behind_their_front, statics_emit_nothing,
+    a_small_program_is_sound, items_are_sound_after_their_front, statics_emit_nothing,
     the_empty_program_is_sound, there_are_at_most_64_tables, types_are_well_formed,
     what_is_declared_before_is_a_front,
 };

@@ -76,12 +76,12 @@ module _ (old new : Extremes) (same : new.table ≡ old.table) where
   extreme_joins other one_table counted kept = record {
     same_table = same;
     both_counts = counted;
-    joined = λ front behind stands beside. record {
+    joined = λ front after stands beside. record {
       rows =
           ap (λ t. rows_of t new.kept) same ∙ kept
-          ∙ rows_join old.table old.kept front other.kept behind stands.rows (subst (λ t. rows_of t other.kept ≡ rows_of t behind) one_table beside.rows)
-          ∙ ap (λ t. rows_of t (front ++ behind)) (sym same);
-      counted = counted ∙ (λ i. stands.counted i + beside.counted i) ∙ sym (length-append front behind);
+          ∙ rows_join old.table old.kept front other.kept after stands.rows (subst (λ t. rows_of t other.kept ≡ rows_of t after) one_table beside.rows)
+          ∙ ap (λ t. rows_of t (front ++ after)) (sym same);
+      counted = counted ∙ (λ i. stands.counted i + beside.counted i) ∙ sym (length-append front after);
     };
   }
 

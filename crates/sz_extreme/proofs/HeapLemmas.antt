@@ -20,7 +20,7 @@ pub worst_seen : (p : ℤ × Value) (ps : List (ℤ × Value)) → IsUpperBound 
 worst_seen p [] all = tt
 worst_seen p (q ∷ ps) all = (all.0, worst_seen p ps all.1)
 
--- one behind others is one in front of them
+-- one after others is one in front of them
 front : (r : Ranked) (rs : List Ranked) → sorted by_rank (rs ++ r ∷ []) ≡ sorted by_rank (r ∷ rs)
 front r rs = sorted_in_any_order rank_total rank_ties (rs ++ r ∷ []) (r ∷ rs) (IsPermutation-append_comm rs (r ∷ []))
 

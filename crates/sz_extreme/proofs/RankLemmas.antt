@@ -64,18 +64,18 @@ module _ {X : Type 0} {cmp : X → X → Ordering} (total : IsTotalOrder cmp) (s
   in_front x [] all = refl
   in_front x (y ∷ ys) all = ap (λ b. cond b (y ∷ inserted cmp x ys) (x ∷ y ∷ ys)) all.0
 
-  -- the worst goes behind all
+  -- the worst goes after all
   goes_last : (worst : X) (ys : List X) → IsWorst worst ys → Ascends total ys → inserted cmp worst ys ≡ ys ++ worst ∷ []
   goes_last worst [] all up = refl
   goes_last worst (y ∷ ys) all up = by_found (cmp worst y) refl (goes_last worst ys all.1 up.1)
     where
       by_found : (found : Ordering) → cmp worst y ≡ found → inserted cmp worst ys ≡ ys ++ worst ∷ [] → inserted cmp worst (y ∷ ys) ≡ (y ∷ ys) ++ worst ∷ []
-      by_found Less is behind = absurd (true≢false (sym (ap is_lt is) ∙ all.0))
-      by_found Greater is behind = ap (λ o. cond (is_gt o) (y ∷ inserted cmp worst ys) (worst ∷ y ∷ ys)) is ∙ ap (λ l. y ∷ l) behind
-      by_found Equal is behind =
+      by_found Less is after = absurd (true≢false (sym (ap is_lt is) ∙ all.0))
+      by_found Greater is after = ap (λ o. cond (is_gt o) (y ∷ inserted cmp worst ys) (worst ∷ y ∷ ys)) is ∙ ap (λ l. y ∷ l) after
+      by_found Equal is after =
           let twin = same worst y is in
           let front = in_front worst ys (subst (λ z. AllByRecursion (λ v. is_gt (cmp z v) ≡ false) ys) (sym twin) up.0) in
-          ap (λ o. cond (is_gt o) (y ∷ inserted cmp worst ys) (worst ∷ y ∷ ys)) is ∙ (λ i. twin i ∷ sym twin i ∷ ys) ∙ ap (λ l. y ∷ l) (sym front ∙ behind)
+          ap (λ o. cond (is_gt o) (y ∷ inserted cmp worst ys) (worst ∷ y ∷ ys)) is ∙ (λ i. twin i ∷ sym twin i ∷ ys) ∙ ap (λ l. y ∷ l) (sym front ∙ after)
 
   -- the first n of one more than n are those without the worst
   pub worst_left_out : (n : ℕ) (xs : List X) (worst : X) → n ≤ length xs → IsWorst worst xs → take n (sorted cmp (worst ∷ xs)) ≡ take n (sorted cmp xs)

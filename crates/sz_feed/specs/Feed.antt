@@ -27,14 +27,14 @@ abbrev pub framed : List ℕ → List ℕ
 framed bytes = varint (length bytes) ++ bytes
 
 -- this many records from the draws that follow one
-abbrev pub records_behind : ℕ → ℕ → List ℕ
-records_behind x zero = []
-records_behind x (suc n) =
+abbrev pub records_after : ℕ → ℕ → List ℕ
+records_after x zero = []
+records_after x (suc n) =
     let a = next x in
     let b = next a in
     let c = next b in
-    framed (record_of a b c) ++ records_behind c n
+    framed (record_of a b c) ++ records_after c n
 
 -- the file of a seed, of this many records
 abbrev pub file_of : ℕ → ℕ → List ℕ
-file_of seed records = records_behind (seed % 65536) records
+file_of seed records = records_after (seed % 65536) records

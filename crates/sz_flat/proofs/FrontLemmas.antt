@@ -81,8 +81,8 @@ module _ {Y : Type 0} (language : Language Y) where
     all_unique (y ∷ ys) (z ∷ zs) r s h k long e =
         let first = unique y z (spelled_all language.spelled ys ++ r) (spelled_all language.spelled zs ++ s) h.0 k.0
         (sym (append_assoc (language.spelled y) (spelled_all language.spelled ys) r) ∙ e ∙ append_assoc (language.spelled z) (spelled_all language.spelled zs) s) in
-        let behind = all_unique ys zs r s h.1 k.1 (omega (arith, long)) first.1 in
-        (λ i. first.0 i ∷ behind.0 i, behind.1)
+        let later = all_unique ys zs r s h.1 k.1 (omega (arith, long)) first.1 in
+        (λ i. first.0 i ∷ later.0 i, later.1)
 
 -- parts and pairs as lists, and back
 pub parts_again : (ds : List Datum) → parts_of (data_of ds) ≡ ds

@@ -93,23 +93,23 @@ all_read flat rest done none h = record {
 }
 
 -- what follows values that were read is spelled by the others
-nothing_behind : (done : List Datum) (rest : List ℕ) → HaveSpellings (data_of done) → Lacks values rest → 1 ≤ length rest → (ds : List Datum)
+nothing_after : (done : List Datum) (rest : List ℕ) → HaveSpellings (data_of done) → Lacks values rest → 1 ≤ length rest → (ds : List Datum)
     → HaveSpellings (data_of ds) → spelled_parts (data_of done) ++ rest ≡ spelled_parts (data_of ds) → ⊥
-nothing_behind [] rest has lacks some [] k e = let long = ap length e in omega (arith, long, some)
-nothing_behind [] rest has lacks some (d ∷ ds) k e = lacks d (spelled_parts (data_of ds)) (record { has = k.0; is = e })
-nothing_behind (x ∷ xs) rest has lacks some [] k e =
+nothing_after [] rest has lacks some [] k e = let long = ap length e in omega (arith, long, some)
+nothing_after [] rest has lacks some (d ∷ ds) k e = lacks d (spelled_parts (data_of ds)) (record { has = k.0; is = e })
+nothing_after (x ∷ xs) rest has lacks some [] k e =
     let long = ap length e in let front = some_bytes x in
     omega (arith, long, front, length-append (spelling x ++ spelled_parts (data_of xs)) rest, length-append (spelling x) (spelled_parts (data_of xs)))
-nothing_behind (x ∷ xs) rest has lacks some (d ∷ ds) k e =
-    nothing_behind xs rest has.1 lacks some ds k.1
+nothing_after (x ∷ xs) rest has lacks some (d ∷ ds) k e =
+    nothing_after xs rest has.1 lacks some ds k.1
     (one_spelling x d (spelled_parts (data_of xs) ++ rest) (spelled_parts (data_of ds)) has.0 k.0
     (sym (append_assoc (spelling x) (spelled_parts (data_of xs)) rest) ∙ e)).1
 
--- where no value stands behind those that were read, no list is spelled
+-- where no value stands after those that were read, no list is spelled
 pub none_read : (flat rest : List ℕ) (done : List Datum) (e : FlatError) → IsReadUpTo flat done rest → 1 ≤ length rest → Stops values rest e
     → e ≡ NotFlat → SpellNone flat
 none_read flat rest done NotFlat h some stop is = λ ds k.
-    nothing_behind done rest (parts_have done h.1.has.1) stop some ds k.spelled
+    nothing_after done rest (parts_have done h.1.has.1) stop some ds k.spelled
     (sym (h.1.is ∙ ap (λ l. l ++ rest) (parts_spelled done)) ∙ k.is)
 none_read flat rest done NoMemory h some stop is = absurd (cc)
 

@@ -65,7 +65,7 @@ pub no_octets : (flat : List ℕ) → Lacks strings flat → Lacks values (5 ∷
 no_octets flat lacks (bytes s) rest h = lacks s rest (record { has = h.has; is = ap tail h.is })
 no_octets flat lacks d rest h = absurd (let e = ap head h.is in omega (arith, e))
 
--- behind the byte of a list stands its length, and behind that so many parts
+-- after the byte of a list stands its length, and after that so many parts
 module _ (flat : List ℕ) (ds : Data) (rest : List ℕ) (few : IsShort (length (parts_of ds))) (has : HaveSpellings ds)
     (is : flat ≡ (length_bytes (length (parts_of ds)) ++ spelled_parts ds) ++ rest) where
   list_counted : Stands lengths flat (length (parts_of ds)) (spelled_parts ds ++ rest)
@@ -154,7 +154,7 @@ module _ (flat : List ℕ) (count : ℕ) (more : List ℕ) (ps : List (Datum × 
             ∙ sym (append_assoc (length_bytes (length (pairs_of (entries_of ps)))) (spelled_pairs (entries_of ps)) rest));
       }
 
--- a value behind a key
+-- a value after a key
 pub no_value : (flat : List ℕ) (k : Datum) (more : List ℕ) → Stands values flat k more → Lacks values more → Lacks pair flat
 no_value flat k more h lacks p rest g =
     let same = one_spelling k p.0 more (spelling p.1 ++ rest) h.has g.has.0 (sym h.is ∙ g.is ∙ append_assoc (spelling p.0) (spelling p.1) rest) in

@@ -1,4 +1,4 @@
--- Keys that rise: when one more stands behind, and that a map made of rising keys has just those.
+-- Keys that rise: when one more stands after, and that a map made of rising keys has just those.
 use Rattle.std.proofs.Common.{◌≡◌, ◌∙◌, ℕ, zero, suc, ◌+◌, ◌-◌, ◌<◌, ◌≤◌, List, [], ◌∷◌, ◌++◌, length, map, get_or, take, true, true≢false, refl, sym, ap, subst, append_assoc, arith}
 use Rattle.std.specs.List.{AllByRecursion}
 use Rattle.std.specs.List.Sorted.{IsStrictlySortedBy}
@@ -26,7 +26,7 @@ less_than_last (a ∷ acc) p ps rise = (first acc rise.0, less_than_last acc p p
     first [] all = all.0
     first (b ∷ bs) all = first bs all.1
 
--- a pair whose key is above all goes behind them
+-- a pair whose key is above all goes after them
 put_last : (acc : Pairs) (p : Datum × Datum) → AllByRecursion (λ k. compare k p.0 ≡ Less) (keys_of acc) → with_pair p.0 p.1 acc ≡ acc ++ p ∷ []
 put_last [] p all = refl
 put_last (a ∷ acc) p all =

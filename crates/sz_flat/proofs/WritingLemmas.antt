@@ -34,7 +34,7 @@ short_pair_by_pair (p ∷ ps) all = ((all.0, all.1), short_pair_by_pair ps all.2
 pub short_pairs : (ps : List Pair) (ds : List (Datum × Datum)) → seen_pairs ps ≡ ds → PairsHaveShortLengths (entries_of ds) → All ShortPair ps
 short_pairs ps ds are all = All-from_recursion ShortPair ps (short_pair_by_pair ps (subst (λ l. PairsHaveShortLengths (entries_of l)) (sym are) all))
 
--- what was appended behind the byte of a kind
+-- what was appended after the byte of a kind
 module _ (old now new : List ℕ) (kind : ℕ) where
   pub list_added : (count : ℕ) (ds : List Datum) → now ≡ old ++ kind ∷ length_bytes count → Adds (all_of values count) now new ds
       → new ≡ old ++ (kind ∷ length_bytes count ++ spelled_parts (data_of ds))

@@ -35,8 +35,8 @@ same_fronts (datum d ds) no_data h k e =
     absurd (let long = ap length e in let some = some_bytes d in omega (arith, long, some, length-append (spelling d) (spelled_parts ds)))
 same_fronts (datum d ds) (datum f fs) h k e =
     let front = one_spelling d f (spelled_parts ds) (spelled_parts fs) h.0 k.0 e in
-    let behind = same_fronts ds fs h.1 k.1 front.1 in
-    λ i. datum (front.0 i) (behind i)
+    let later = same_fronts ds fs h.1 k.1 front.1 in
+    λ i. datum (front.0 i) (later i)
 
 listed_again : (ds : List Datum) → parts_of (data_of ds) ≡ ds
 listed_again [] = refl

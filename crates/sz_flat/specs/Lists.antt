@@ -1,4 +1,4 @@
--- A list of values that is kept flat: the bytes that spell its values, one behind the other.
+-- A list of values that is kept flat: the bytes that spell its values, one after the other.
 use Rattle.std.specs.Prelude.{◌≡◌, ℕ, Bool, List, [], ◌∷◌}
 use Rattle.std.specs.Cmp.Lexicographic.{slice_cmp}
 use Rattle.std.specs.Hash.{HashWrites}
@@ -7,7 +7,7 @@ use Rattle.sz_value.specs.Data.{Datum, data_of}
 use Rattle.sz_value.specs.Order.{compare}
 use Rattle.sz_flat.specs.Spelling.{spelled_parts, HaveSpellings}
 
--- the bytes spell the values, one behind the other
+-- the bytes spell the values, one after the other
 pub record SpellsAll (flat : List ℕ) (values : List Datum) : Type 0 where
   pub spelled : HaveSpellings (data_of values)
   pub is : flat ≡ spelled_parts (data_of values)

@@ -88,8 +88,8 @@ mutual
   same_parts (datum d ds) no_data r s h k long e = absurd (omega (arith, long))
   same_parts (datum d ds) (datum f fs) r s h k long e =
       let front = one_spelling d f (spelled_parts ds ++ r) (spelled_parts fs ++ s) h.0 k.0 (regrouped (spelling d) (spelled_parts ds) r (spelling f) (spelled_parts fs) s e) in
-      let behind = same_parts ds fs r s h.1 k.1 (omega (arith, long)) front.1 in
-      (λ i. datum (front.0 i) (behind.0 i), behind.1)
+      let later = same_parts ds fs r s h.1 k.1 (omega (arith, long)) front.1 in
+      (λ i. datum (front.0 i) (later.0 i), later.1)
 
   pub same_pairs : (ps qs : Entries) (r s : List ℕ) → PairsHaveSpellings ps → PairsHaveSpellings qs → length (pairs_of ps) ≡ length (pairs_of qs)
       → spelled_pairs ps ++ r ≡ spelled_pairs qs ++ s → (ps ≡ qs) × (r ≡ s)
@@ -101,5 +101,5 @@ mutual
       (regrouped (spelling k) (spelling v ++ spelled_pairs ps) r (spelling l) (spelling w ++ spelled_pairs qs) s e) in
       let value = one_spelling v w (spelled_pairs ps ++ r) (spelled_pairs qs ++ s) h.1 m.1
       (regrouped (spelling v) (spelled_pairs ps) r (spelling w) (spelled_pairs qs) s key.1) in
-      let behind = same_pairs ps qs r s h.2 m.2 (omega (arith, long)) value.1 in
-      (λ i. entry (key.0 i) (value.0 i) (behind.0 i), behind.1)
+      let later = same_pairs ps qs r s h.2 m.2 (omega (arith, long)) value.1 in
+      (λ i. entry (key.0 i) (value.0 i) (later.0 i), later.1)

@@ -29,11 +29,11 @@ lengths = record { Has = IsShort; spelled = length_bytes }
 abbrev pub numbers : Language ℤ
 numbers = record { Has = FitsSigned w64; spelled = number_bytes }
 
--- bytes behind their number
+-- bytes after their number
 abbrev pub strings : Language (List ℕ)
 strings = record { Has = λ s. IsShort (length s); spelled = counted_bytes }
 
--- the spellings of all in a list, one behind the other
+-- the spellings of all in a list, one after the other
 abbrev pub spelled_all : {Y : Type 0} → (Y → List ℕ) → List Y → List ℕ
 spelled_all spelled [] = []
 spelled_all spelled (y ∷ ys) = spelled y ++ spelled_all spelled ys

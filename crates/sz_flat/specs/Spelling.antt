@@ -1,4 +1,4 @@
--- The bytes that spell a value: one for its kind, and behind it its number, its bytes, or its parts.
+-- The bytes that spell a value: one for its kind, and after it its number, its bytes, or its parts.
 use Rattle.std.specs.Prelude.{◌≡◌, ◌<◌, ◌^◌, ℕ, ℤ, if◌then◌else◌, List, [], ◌∷◌, ◌++◌, length, IsUtf8}
 use Rattle.std.specs.Int.{w32, w64, cast_unsigned, to_be_bytes}
 use Rattle.std.specs.Int.RustNames.{FitsSigned}
@@ -29,12 +29,12 @@ abbrev mutual
   spelling (tuple ds) = 7 ∷ length_bytes (length (parts_of ds)) ++ spelled_parts ds
   spelling (mapping es) = 8 ∷ length_bytes (length (pairs_of es)) ++ spelled_pairs es
 
-  -- the spellings of parts, one behind the other
+  -- the spellings of parts, one after the other
   pub spelled_parts : Data → List ℕ
   spelled_parts no_data = []
   spelled_parts (datum d ds) = spelling d ++ spelled_parts ds
 
-  -- the spellings of keys, each with that of its value behind it
+  -- the spellings of keys, each with that of its value after it
   pub spelled_pairs : Entries → List ℕ
   spelled_pairs no_entries = []
   spelled_pairs (entry k v es) = spelling k ++ (spelling v ++ spelled_pairs es)

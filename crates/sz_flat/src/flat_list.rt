@@ -14,7 +14,7 @@ use std::hash::{Hash, Hasher};
 use std::marker::Model;
 use sz_value::List;
 
-/// A list of values, kept as the bytes that spell them, one behind the other. Two lists are equal exactly where their bytes are, so it
+/// A list of values, kept as the bytes that spell them, one after the other. Two lists are equal exactly where their bytes are, so it
 /// is compared and hashed by its bytes.
 ///
 /// Contracts see the list of the values as plain data.

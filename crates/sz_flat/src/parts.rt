@@ -1,4 +1,4 @@
-//! What values are made of, read from the front of bytes: lengths, numbers, and bytes behind their number.
+//! What values are made of, read from the front of bytes: lengths, numbers, and bytes after their number.
 ghost use Rattle.std.specs.Prelude.{◌≡◌, IsTrue, ◌↔◌, length, take};
 ghost use Rattle.std.specs.Int.{w32, w64, cast_signed, from_be_bytes};
 ghost use Rattle.sz_value.specs.Order.{KeysRise};
@@ -48,7 +48,7 @@ fn number_of(front: &[u8]) -> i64
     ])
 }
 
-// The bytes in front, behind their number.
+// The bytes in front, after their number.
 pub(crate) fn read_string(flat: &[u8]) -> Result<(&[u8], &[u8]), FlatError>
     ensures value { Reads strings (λ r. r.0.now) (λ r. r.1.now) flat.now result }
 {
@@ -60,7 +60,7 @@ pub(crate) fn read_string(flat: &[u8]) -> Result<(&[u8], &[u8]), FlatError>
     Ok(rest.split_at(length))
 }
 
-// Whether each key is less than the one behind it.
+// Whether each key is less than the one after it.
 pub(crate) fn keys_rise(pairs: &[Pair]) -> bool
     ensures value { IsTrue result ↔ KeysRise (seen_pairs pairs.now) }
 {

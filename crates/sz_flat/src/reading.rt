@@ -24,7 +24,7 @@ pub fn from_flat(alloc: Global, flat: &[u8]) -> Result<Value, FlatError>
     Ok(value)
 }
 
-// The values that the bytes spell, one behind the other.
+// The values that the bytes spell, one after the other.
 pub(crate) fn read_all(alloc: Global, flat: &[u8]) -> Result<List, FlatError>
     ensures value { IfOk result (λ list. SpellsAll flat.now list) }
     ensures not_flat { IsErrOf result errors.NotFlat → SpellNone flat.now }
@@ -61,7 +61,7 @@ fn read_value(alloc: Global, flat: &[u8]) -> Result<(Value, &[u8]), FlatError>
     }
 }
 
-// A truth value, behind the byte of its kind.
+// A truth value, after the byte of its kind.
 #[tactic(auto, using(crate::proofs::ReadingLemmas::no_truth, crate::proofs::ReadingLemmas::other_truth))]
 fn read_truth(flat: &[u8]) -> Result<(Value, &[u8]), FlatError>
     ensures value { Reads values (λ r. seen r.0) (λ r. r.1.now) (1 ∷ flat.now) result }
@@ -76,7 +76,7 @@ fn read_truth(flat: &[u8]) -> Result<(Value, &[u8]), FlatError>
     }
 }
 
-// A number, behind the byte of its kind.
+// A number, after the byte of its kind.
 fn read_int(flat: &[u8]) -> Result<(Value, &[u8]), FlatError>
     ensures value { Reads values (λ r. seen r.0) (λ r. r.1.now) (2 ∷ flat.now) result }
 {
@@ -84,7 +84,7 @@ fn read_int(flat: &[u8]) -> Result<(Value, &[u8]), FlatError>
     Ok((Value::Int(number), rest))
 }
 
-// A time, behind the byte of its kind.
+// A time, after the byte of its kind.
 fn read_time(flat: &[u8]) -> Result<(Value, &[u8]), FlatError>
     ensures value { Reads values (λ r. seen r.0) (λ r. r.1.now) (3 ∷ flat.now) result }
 {
@@ -92,7 +92,7 @@ fn read_time(flat: &[u8]) -> Result<(Value, &[u8]), FlatError>
     Ok((Value::Time(number), rest))
 }
 
-// A text, behind the byte of its kind.
+// A text, after the byte of its kind.
 fn read_text(alloc: Global, flat: &[u8]) -> Result<(Value, &[u8]), FlatError>
     ensures value { Reads values (λ r. seen r.0) (λ r. r.1.now) (4 ∷ flat.now) result }
 {
@@ -103,7 +103,7 @@ fn read_text(alloc: Global, flat: &[u8]) -> Result<(Value, &[u8]), FlatError>
     }
 }
 
-// Bytes, behind the byte of their kind.
+// Bytes, after the byte of their kind.
 fn read_octets(alloc: Global, flat: &[u8]) -> Result<(Value, &[u8]), FlatError>
     ensures value { Reads values (λ r. seen r.0) (λ r. r.1.now) (5 ∷ flat.now) result }
 {
@@ -111,7 +111,7 @@ fn read_octets(alloc: Global, flat: &[u8]) -> Result<(Value, &[u8]), FlatError>
     Ok((Value::Bytes(Octets::from_slice(alloc, string)?), rest))
 }
 
-// An array, behind the byte of its kind.
+// An array, after the byte of its kind.
 #[cycle(read)]
 fn read_array(alloc: Global, flat: &[u8]) -> Result<(Value, &[u8]), FlatError>
     ensures value { Reads values (λ r. seen r.0) (λ r. r.1.now) (6 ∷ flat.now) result }
@@ -121,7 +121,7 @@ fn read_array(alloc: Global, flat: &[u8]) -> Result<(Value, &[u8]), FlatError>
     Ok((Value::Array(List::from_vec(parts)), rest))
 }
 
-// A tuple, behind the byte of its kind.
+// A tuple, after the byte of its kind.
 #[cycle(read)]
 fn read_tuple(alloc: Global, flat: &[u8]) -> Result<(Value, &[u8]), FlatError>
     ensures value { Reads values (λ r. seen r.0) (λ r. r.1.now) (7 ∷ flat.now) result }
@@ -131,7 +131,7 @@ fn read_tuple(alloc: Global, flat: &[u8]) -> Result<(Value, &[u8]), FlatError>
     Ok((Value::Tuple(List::from_vec(parts)), rest))
 }
 
-// A map, behind the byte of its kind.
+// A map, after the byte of its kind.
 #[cycle(read)]
 fn read_map(alloc: Global, flat: &[u8]) -> Result<(Value, &[u8]), FlatError>
     ensures value { Reads values (λ r. seen r.0) (λ r. r.1.now) (8 ∷ flat.now) result }

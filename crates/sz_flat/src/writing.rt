@@ -11,7 +11,7 @@ use crate::NoMemory;
 use std::alloc::Global;
 use sz_value::{List, Octets, Pair, Pairs, Value};
 
-/// The bytes that spell the value: one for its kind, and behind it its number, its bytes or its parts. Numbers and lengths have
+/// The bytes that spell the value: one for its kind, and after it its number, its bytes or its parts. Numbers and lengths have
 /// their high byte first.
 pub fn to_flat(alloc: Global, value: &Value) -> Result<Octets, NoMemory>
     requires short { HasShortLengths (seen value.now) }

@@ -58,11 +58,11 @@ pushed old new i charge place lines functions statics constants types = record {
   statics = statics;
 }
 
--- one piece behind another
-pub behind : {old between new : Builder} {first second : Tables → ℕ → List Line} {names names2 : Tables → Type 0}
+-- one piece after another
+pub after : {old between new : Builder} {first second : Tables → ℕ → List Line} {names names2 : Tables → Type 0}
     → Appends old between first names → Appends between new second names2
     → Appends old new (λ tables at. followed at (first tables at) (second tables)) (λ tables. names tables × names2 tables)
-behind {old} {between} {new} {first} {second} {names} {names2} h k = record {
+after {old} {between} {new} {first} {second} {names} {names2} h k = record {
   grows = grows_on h.grows k.grows;
   lines = λ tables grows.
       let one = h.lines tables (grows_on k.grows grows) in
@@ -137,7 +137,7 @@ kept_pushed old new from to place same h = record {
 pub closes : {old between new : Builder} {code : Tables → ℕ → List Line} {i : Tables → Instr} {place : Place} {named named2 : Tables → Type 0}
     → Appends old between code named → AppendsLine between new i 1 place named2
     → Appends old new (λ tables at. closed (code tables at) (i tables) place) (λ tables. named tables × named2 tables)
-closes h k = behind h k
+closes h k = after h k
 
 -- the last name counts for nothing
 pub no_more : {old new : Builder} {code : Tables → ℕ → List Line} {named : Tables → Type 0}
@@ -188,12 +188,12 @@ pub closed_by : {old between new : Builder} {code : Tables → ℕ → List Line
     → Appends old new (λ tables at. closed (code tables at) (i tables) place) named
 closed_by h k = no_more (closes h k)
 
--- code, and an expression behind it with the line that closes both
-pub closed_behind : {old between new : Builder} {first : Tables → ℕ → List Line} {named : Tables → Type 0} (e : Node) (i : Instr) (place : Place)
+-- code, and an expression after it with the line that closes both
+pub closed_after : {old between new : Builder} {first : Tables → ℕ → List Line} {named : Tables → Type 0} (e : Node) (i : Instr) (place : Place)
     → Appends old between first named → AppendsClosed between new e i place
     → Appends old new (λ tables at. closed (followed at (first tables at) (expression_code tables e)) i place) (λ tables. named tables × HasNames tables e)
-closed_behind {old} {between} {new} {first} e i place h k =
-    let whole = behind h k in
+closed_after {old} {between} {new} {first} e i place h k =
+    let whole = after h k in
     record {
       grows = whole.grows;
       lines = λ tables grows.
@@ -205,12 +205,12 @@ closed_behind {old} {between} {new} {first} e i place h k =
       statics = whole.statics;
     }
 
--- three pieces, one behind the other
-pub three_behind : {old m1 m2 new : Builder} {first second third : Tables → ℕ → List Line} {named1 named2 named3 : Tables → Type 0}
+-- three pieces, one after the other
+pub three_after : {old m1 m2 new : Builder} {first second third : Tables → ℕ → List Line} {named1 named2 named3 : Tables → Type 0}
     → Appends old m1 first named1 → Appends m1 m2 second named2 → Appends m2 new third named3
     → Appends old new (λ tables at. followed at (followed at (first tables at) (second tables)) (third tables))
     (λ tables. named1 tables × named2 tables × named3 tables)
-three_behind h k l = renamed (λ tables n. (n.0.0, n.0.1, n.1)) (behind (behind h k) l)
+three_after h k l = renamed (λ tables n. (n.0.0, n.0.1, n.1)) (after (after h k) l)
 
 -- an expression of a form
 pub of_form : {old new : Builder} (e : CoreExpr) (form : Form) → form_of e.form ≡ form

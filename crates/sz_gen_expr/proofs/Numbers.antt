@@ -1,4 +1,4 @@
--- The numbers of constants and types: each is that of the first that is the same, and it stays when others come behind.
+-- The numbers of constants and types: each is that of the first that is the same, and it stays when others come after.
 use Rattle.std.proofs.Common.{◌≡◌, ◌∙◌, ℕ, zero, suc, ◌+◌, List, [], ◌∷◌, ◌++◌, map, length, Bool, true, false, not, ◌||◌, cond, Some, refl, sym, ap, subst, arith, if◌then◌else◌, append-nil, drop, ◌≤◌, ◌↔◌, IsTrue}
 use Rattle.std.specs.Prelude.{slice_get}
 use Rattle.std.specs.List.{position_or_len, list_any}
@@ -40,7 +40,7 @@ module _ {K X : Type 0} (view : K → X) (test : X → Bool) where
 -- ---- numbers stay
 
 module _ {X : Type 0} (test : X → Bool) where
-  -- what is found keeps its number when others come behind
+  -- what is found keeps its number when others come after
   pub number_stays : (xs ys : List X) (x : X) → slice_get xs (first_passing test xs) ≡ Some x → first_passing test (xs ++ ys) ≡ first_passing test xs
   number_stays [] ys x found = absurd cc
   number_stays (z ∷ xs) ys x found = by (test z) (number_stays xs ys x) found

@@ -25,10 +25,10 @@ patched_none (k ∷ lines) zero to l found is =
     ap (λ (m : Line). with_instr (with_target m.instr to) m ∷ lines) same ∙ ap (λ o. with_instr o l ∷ lines) is ∙ ap (λ m. m ∷ lines) (sym same)
 patched_none (k ∷ lines) (suc at) to l found is = ap (λ ls. k ∷ ls) (patched_none lines at to l found is)
 
--- the line behind others
-pub patched_behind : (a b : List Line) (to : ℕ) → patched (a ++ b) (length a) to ≡ a ++ patched b 0 to
-patched_behind [] b to = refl
-patched_behind (l ∷ a) b to = ap (λ ls. l ∷ ls) (patched_behind a b to)
+-- the line after others
+pub patched_after : (a b : List Line) (to : ℕ) → patched (a ++ b) (length a) to ≡ a ++ patched b 0 to
+patched_after [] b to = refl
+patched_after (l ∷ a) b to = ap (λ ls. l ∷ ls) (patched_after a b to)
 
 aimed_line : (i : Instr) (to charge : ℕ) (place : Place) → with_instr (with_target i to) (line i charge place) ≡ line (aimed i to) charge place
 aimed_line i to charge place = by (with_target i to)
@@ -49,6 +49,6 @@ decided_lines l0 l1 l2 l3 l4 right test place at is_at e1 e2 e3 e4 =
     let f2 : l2 ≡ l0 ++ (front ∷ code) = e2 ∙ (λ j. e1 j ++ right (n1 j)) ∙ append_assoc l0 (front ∷ []) code in
     let n2 : length l2 ≡ start + length code = omega (arith, ap length f2, length-append l0 (front ∷ code)) in
     let tested = line (aimed test (start + length code)) 0 place in
-    let f3 : l3 ≡ l0 ++ (tested ∷ code) = e3 ∙ (λ j. patched (f2 j) (is_at j) (n2 j)) ∙ patched_behind l0 (front ∷ code) (start + length code)
+    let f3 : l3 ≡ l0 ++ (tested ∷ code) = e3 ∙ (λ j. patched (f2 j) (is_at j) (n2 j)) ∙ patched_after l0 (front ∷ code) (start + length code)
     ∙ ap (λ l. l0 ++ (l ∷ code)) (aimed_line test (start + length code) 0 place) in
     e4 ∙ ap (λ l. l ++ line Tick 1 place ∷ []) f3 ∙ append_assoc l0 (tested ∷ code) (line Tick 1 place ∷ [])

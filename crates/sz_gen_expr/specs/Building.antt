@@ -1,4 +1,4 @@
--- Code in the making: what it has so far stays, and more comes behind it.
+-- Code in the making: what it has so far stays, and more comes after it.
 use Rattle.std.specs.Prelude.{◌≡◌, ℕ, zero, suc, List, [], ◌∷◌, ◌++◌, length, Option, Some, None, unwrap_or, if◌then◌else◌}
 use Rattle.std.specs.List.{list_any}
 use Rattle.std.specs.Ordering.{is_eq}
@@ -60,7 +60,7 @@ pub record Grows (before after : Tables) : Type 0 where
   pub constants : BeginsWith before.constants after.constants
   pub types : BeginsWith before.types after.types
 
--- behind the lines there is code that begins where they ended. It names what it names by the numbers of all tables that the new ones grow
+-- after the lines there is code that begins where they ended. It names what it names by the numbers of all tables that the new ones grow
 -- to, and these have what it names.
 pub record Appends (old new : Builder) (code : Tables → ℕ → List Line) (named : Tables → Type 0) : Type 0 where
   pub grows : Grows (tables_made old) (tables_made new)

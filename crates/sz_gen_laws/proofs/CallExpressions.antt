@@ -21,7 +21,7 @@ use Rattle.sz_machine_rules.specs.Runs.{ComesTo}
 use Rattle.sz_gen_rules.specs.Tables.{line}
 use Rattle.sz_gen_rules.specs.ExpressionCode.{closed}
 use Rattle.sz_gen_rules.specs.Runs.{with_all, NextComes, AfterEval, AfterAll, CallsBelow, HasAt}
-use Rattle.sz_gen_laws.proofs.Steps.{at_line, after_all, after_pay, line_behind, end_behind}
+use Rattle.sz_gen_laws.proofs.Steps.{at_line, after_all, after_pay, line_after, end_after}
 use Rattle.sz_gen_laws.proofs.Stacks.{length-all_fit, enough, pops, leaves_below}
 use Rattle.sz_gen_laws.proofs.Types.{defined_have, have_all_fit}
 
@@ -70,11 +70,11 @@ module _ (code : Code) (signatures : List Signature) (statics : List Slot) (room
       run (after_all code t ts s s end at1 x (λ ys w. and_then (paid place (spend 1 w)) (λ _. called calls f place (all_defined ys))) (λ ys w kept h1.
       let s1 : State = record s { at = at1; stack = with_all ys s.stack; world = w } in
       let many : length ys ≡ r.params = length-all_fit ys ts kept.typed ∙ ap length takes ∙ sym known.2 in
-      at_line code s1 l x (line_behind code s.at ca (Call f) place has)
+      at_line code s1 l x (line_after code s.at ca (Call f) place has)
       (subst (λ o. HasArguments o s1.stack) (sym known.1) (enough r.params ys s.stack many))
       (after_pay code t s s1 end x l (called calls f place (all_defined ys)) 1 (spend 1 w) refl (λ w1 left h2.
       call_row f r place (record s { at = at1; world = w1 }) ys s.stack x known.1 many
       (made_or_not f g r place s at1 end (with_all ys s.stack) w1 x of known.1 same deep (omega (arith, left, kept.left, low))
-      (omega (arith, left, kept.left)) (end_behind s.at end ca (Call f) place ends) (all_defined ys)
+      (omega (arith, left, kept.left)) (end_after s.at end ca (Call f) place ends) (all_defined ys)
       (defined_have ys g.parameters (subst (AllFit ys) takes kept.typed))
       (subst (λ u. AfterEval code u s end x (called calls f place (all_defined ys) w1)) gives h2))) h1)) (a s.world) h)

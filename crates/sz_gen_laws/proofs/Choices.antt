@@ -19,9 +19,9 @@ use Rattle.sz_machine_rules.specs.Runs.{charge_of, charged, does, ComesTo}
 use Rattle.sz_gen_rules.specs.Tables.{line}
 use Rattle.sz_gen_rules.specs.ExpressionCode.{decided}
 use Rattle.sz_gen_rules.specs.Runs.{NextComes, AfterEval, HasAt}
-use Rattle.sz_gen_laws.proofs.Steps.{has_back, at_line, after_first, line_behind, last_line}
+use Rattle.sz_gen_laws.proofs.Steps.{has_back, at_line, after_first, line_after, last_line}
 
--- what a test does with the left operand: what holds of the meaning, which has the right operand or the left one, goes on behind the test
+-- what a test does with the left operand: what holds of the meaning, which has the right operand or the left one, goes on after the test
 -- without the left operand, or where the test leads to with it
 pub record Chooses (code : Code) (test : ℕ → Instr) (choice : Slot → Doing Slot → Doing Slot) : Type 1 where
   pub covers : (to : ℕ) (y : Slot) (s : State) → Fits y Shape.truth → Covers code (test to) (record s { stack = y ∷ s.stack })
@@ -70,7 +70,7 @@ module _ (code : Code) where
       let tick : (y : Slot) (w : World) → Fits y t → w.left ≤ s.world.left → AfterEval code t s end x (results place no_weight y w)
       → ComesTo code (record s { at = to; stack = y ∷ s.stack; world = w }) x =
       (λ y w fits less h1. last_line code t s to (y ∷ s.stack) w end x Tick place no_weight y
-      (line_behind code (suc at1) right Tick place has1.1)
+      (line_after code (suc at1) right Tick place has1.1)
       (record { covered = tt; charge = refl; acts = λ w1 p. refl; typed = fits }) len less h1) in
       run_a (after_first code t u s s end at1 x (λ y w. and_then (choice y b w) (λ z. results place no_weight z)) (λ y w kept h1.
       let s1 : State = record s { at = at1; world = w } in

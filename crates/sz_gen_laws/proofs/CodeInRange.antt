@@ -12,7 +12,7 @@ use Rattle.sz_builtin.proofs.TypeLemmas.{both_in}
 use Rattle.sz_core.specs.Programs.{Signature, Function, Static, Item, Core, functions_of, statics_of, statements_of}
 use Rattle.sz_core.specs.Programs as items
 use Rattle.sz_core.specs.Statements.{stms_of}
-use Rattle.sz_core.specs.Sound.{Declared, IsSound, AreItems, BeginsWith, function_sight, static_sight, record_sight, seen_behind, nothing_declared}
+use Rattle.sz_core.specs.Sound.{Declared, IsSound, AreItems, BeginsWith, function_sight, static_sight, record_sight, seen_after, nothing_declared}
 use Rattle.sz_core.specs.Typing.{Sight}
 use Rattle.sz_instr.specs.WellFormed.{most_of, most_locals, is_in_range, is_routine, is_well_formed}
 use Rattle.sz_instr.proofs.ForCallers.{well_formed_by_list, most_locals_by_list}
@@ -27,7 +27,7 @@ use Rattle.sz_gen_rules.specs.StatementCode.{no_exits, statement_code, statement
 use Rattle.sz_gen_rules.specs.FreeLines.{free}
 use Rattle.sz_gen_rules.specs.NamedStatements.{StmsHaveNames, FunctionsHaveNames, StaticsHaveNames}
 use Rattle.sz_gen_rules.specs.ProgramCode.{IsCodeOf, returns_undefined, function_code, functions_code, function_routines, static_code, statics_code, static_routines, record_code}
-use Rattle.sz_gen_laws.proofs.Declared.{IsFrontOf, IsWhole, is_before, behind_table, behind_function, behind_static}
+use Rattle.sz_gen_laws.proofs.Declared.{IsFrontOf, IsWhole, is_before, after_table, after_function, after_static}
 use Rattle.sz_gen_laws.proofs.Statics.{type_at}
 use Rattle.sz_gen_laws.proofs.Records.{top}
 use Rattle.sz_gen_laws.proofs.ExpressionsInRange.{AreInRange, both_in_range, IsRoomFor, front_fits, back_fits, node_in_range}
@@ -59,7 +59,7 @@ params_first front whole b = omega (arith, ap length b.1, length-append front b.
 module _ (code : Code) (whole : Declared) (statics_there : (n : ℕ) (t : Shape) → slice_get whole.statics n ≡ Some t → n < length code.statics)
     (functions_there : (n : ℕ) (f : Signature) → slice_get whole.functions n ≡ Some f → n < length code.functions)
     (tables_there : (n : ℕ) (d : Declaration) → slice_get whole.tables n ≡ Some d → n < length code.tables) where
-  -- what is seen behind declarations is in the code
+  -- what is seen after declarations is in the code
   room_for : (g : Sight) → length g.locals ≤ most_locals code → IsFrontOf g.statics whole.statics → IsFrontOf g.functions whole.functions
       → IsFrontOf g.tables whole.tables → IsRoomFor code g
   room_for g most statics functions tables = record {
@@ -82,15 +82,15 @@ module _ (code : Code) (whole : Declared) (statics_there : (n : ℕ) (t : Shape)
   unfolding AreItems
   functions_in_range locals [] seen d at sound is names fits most = (tt, tt)
   functions_in_range locals (items.table t ∷ rest) seen d at sound is names fits most =
-      functions_in_range locals rest seen (record d { tables = d.tables ++ t ∷ [] }) at sound.1 (behind_table d t rest whole is) names fits most
+      functions_in_range locals rest seen (record d { tables = d.tables ++ t ∷ [] }) at sound.1 (after_table d t rest whole is) names fits most
   functions_in_range locals (items.static s ∷ rest) seen d at sound is names fits most =
-      functions_in_range locals rest seen (record d { statics = d.statics ++ s.type ∷ [] }) at sound.1 (behind_static d s rest whole is) names fits most
+      functions_in_range locals rest seen (record d { statics = d.statics ++ s.type ∷ [] }) at sound.1 (after_static d s rest whole is) names fits most
   functions_in_range locals (items.statement c ∷ rest) seen d at sound is names fits most =
-      functions_in_range locals rest (seen_behind (record_sight locals seen d) c).seen d at sound.1
+      functions_in_range locals rest (seen_after (record_sight locals seen d) c).seen d at sound.1
       (record { statics = is.statics; functions = is.functions; tables = is.tables }) names fits most
   functions_in_range locals (items.function f ∷ rest) seen d at sound is names fits most =
       let d1 : Declared = record d { functions = d.functions ++ f.signature ∷ [] } in
-      let is1 = behind_function d f rest whole is in
+      let is1 = after_function d f rest whole is in
       let before = is_before d1 rest whole is1 in
       let own = function_code (tables_in code) f at in
       let body = statements_code (tables_in code) f.body no_exits at in
@@ -117,12 +117,12 @@ module _ (code : Code) (whole : Declared) (statics_there : (n : ℕ) (t : Shape)
   unfolding AreItems
   statics_in_range locals [] seen d n at sound is count names fits = (tt, tt)
   statics_in_range locals (items.table t ∷ rest) seen d n at sound is count names fits =
-      statics_in_range locals rest seen (record d { tables = d.tables ++ t ∷ [] }) n at sound.1 (behind_table d t rest whole is) count names fits
+      statics_in_range locals rest seen (record d { tables = d.tables ++ t ∷ [] }) n at sound.1 (after_table d t rest whole is) count names fits
   statics_in_range locals (items.function f ∷ rest) seen d n at sound is count names fits =
       statics_in_range locals rest seen (record d { functions = d.functions ++ f.signature ∷ [] }) n at sound.1
-      (behind_function d f rest whole is) count names fits
+      (after_function d f rest whole is) count names fits
   statics_in_range locals (items.statement c ∷ rest) seen d n at sound is count names fits =
-      statics_in_range locals rest (seen_behind (record_sight locals seen d) c).seen d n at sound.1
+      statics_in_range locals rest (seen_after (record_sight locals seen d) c).seen d n at sound.1
       (record { statics = is.statics; functions = is.functions; tables = is.tables }) count names fits
   statics_in_range locals (items.static v ∷ rest) seen d n at sound is count names fits =
       let before = is_before d (items.static v ∷ rest) whole is in
@@ -139,7 +139,7 @@ module _ (code : Code) (whole : Declared) (statics_there : (n : ℕ) (t : Shape)
       subst (λ l. slice_get l n ≡ Some v.type) (sym is.statics)
       (subst (λ k. slice_get (d.statics ++ v.type ∷ map (λ (s : Static). s.type) (statics_of rest)) k ≡ Some v.type) (sym count)
       (type_at d.statics _ v.type)) in
-      let next = statics_in_range locals rest seen d1 (suc n) (at + length own) sound.1 (behind_static d v rest whole is)
+      let next = statics_in_range locals rest seen d1 (suc n) (at + length own) sound.1 (after_static d v rest whole is)
       (omega (arith, count, length-append d.statics (v.type ∷ []))) names.1 (back_fits code own later at fits) in
       let first : AreInRange code own =
       both_in_range code ce last (node_in_range code (static_sight d) room (static_sight d) v.value at sound.0.value names.0 (omega (arith, low)))
@@ -154,11 +154,11 @@ module _ (code : Code) (whole : Declared) (statics_there : (n : ℕ) (t : Shape)
   unfolding AreItems
   body_in_range locals most [] seen d at sound is names fits = tt
   body_in_range locals most (items.table t ∷ rest) seen d at sound is names fits =
-      body_in_range locals most rest seen (record d { tables = d.tables ++ t ∷ [] }) at sound.1 (behind_table d t rest whole is) names fits
+      body_in_range locals most rest seen (record d { tables = d.tables ++ t ∷ [] }) at sound.1 (after_table d t rest whole is) names fits
   body_in_range locals most (items.function f ∷ rest) seen d at sound is names fits =
-      body_in_range locals most rest seen (record d { functions = d.functions ++ f.signature ∷ [] }) at sound.1 (behind_function d f rest whole is) names fits
+      body_in_range locals most rest seen (record d { functions = d.functions ++ f.signature ∷ [] }) at sound.1 (after_function d f rest whole is) names fits
   body_in_range locals most (items.static v ∷ rest) seen d at sound is names fits =
-      body_in_range locals most rest seen (record d { statics = d.statics ++ v.type ∷ [] }) at sound.1 (behind_static d v rest whole is) names fits
+      body_in_range locals most rest seen (record d { statics = d.statics ++ v.type ∷ [] }) at sound.1 (after_static d v rest whole is) names fits
   body_in_range locals most (items.statement c ∷ rest) seen d at sound is names fits =
       let g = record_sight locals seen d in
       let before = is_before d (items.statement c ∷ rest) whole is in
@@ -168,7 +168,7 @@ module _ (code : Code) (whole : Declared) (statics_there : (n : ℕ) (t : Shape)
       let a1 = length-append front later in
       both_in_range code front later (stm_in_range code g room c g top no_exits at sound.0 names.0 (omega (arith, fits)) (omega (arith, fits))
       (omega (arith, fits, a1)))
-      (body_in_range locals most rest (seen_behind g c).seen d (at + length front) sound.1
+      (body_in_range locals most rest (seen_after g c).seen d (at + length front) sound.1
       (record { statics = is.statics; functions = is.functions; tables = is.tables }) names.1 (omega (arith, fits, a1)))
 
 signatures_counted : (tables : _) (fs : List Function) (at : ℕ) → length (function_routines tables fs at) ≡ length fs

@@ -22,7 +22,7 @@ use Rattle.sz_machine_rules.specs.Covering.{HasBuiltinRow, Covers}
 use Rattle.sz_machine_rules.specs.Runs.{charge_of, ComesTo}
 use Rattle.sz_gen_rules.specs.ExpressionCode.{closed, count_of}
 use Rattle.sz_gen_rules.specs.Runs.{Kept, with_all, AfterEval, AfterAll, HasAt}
-use Rattle.sz_gen_laws.proofs.Steps.{after_all, LeavesSlot, line_behind, end_behind, last_line}
+use Rattle.sz_gen_laws.proofs.Steps.{after_all, LeavesSlot, line_after, end_after, last_line}
 use Rattle.sz_gen_laws.proofs.Stacks.{length-all_fit, enough, pops, leaves_below}
 use Rattle.sz_gen_laws.proofs.Types.{applied_fits, arity_is, array_fits, tuple_fits, pair_types, length-pair_types, map_fits}
 
@@ -42,8 +42,8 @@ module _ (code : Code) where
   many_runs t i place s end x ts added f ca a row has ends run h =
       let at1 = s.at + length ca in
       run (after_all code t ts s s end at1 x (λ ys. results place added (f ys)) (λ ys w kept h1.
-      last_line code t s at1 (with_all ys s.stack) w end x i place added (f ys) (line_behind code s.at ca i place has)
-      (row ys (record s { at = at1; world = w }) kept.typed) (end_behind s.at end ca i place ends) kept.left h1) (a s.world) h)
+      last_line code t s at1 (with_all ys s.stack) w end x i place added (f ys) (line_after code s.at ca i place has)
+      (row ys (record s { at = at1; world = w }) kept.typed) (end_after s.at end ca i place ends) kept.left h1) (a s.world) h)
 
   -- no part leaves the stack as it is
   pub none_run : (s : State) (end : ℕ) (x : After) → s.at + 0 ≡ end → AfterAll code [] s end x (give [] s.world) → ComesTo code s x

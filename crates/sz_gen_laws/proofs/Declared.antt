@@ -6,7 +6,7 @@ use Rattle.sz_types.specs.Tables.{Declaration}
 use Rattle.sz_value.specs.Data.{Datum}
 use Rattle.sz_core.specs.Programs.{Signature, Function, Static, Item, functions_of, statics_of, tables_of}
 use Rattle.sz_core.specs.Programs as items
-use Rattle.sz_core.specs.Sound.{Declared, IsFunction, AreItems, record_sight, seen_behind}
+use Rattle.sz_core.specs.Sound.{Declared, IsFunction, AreItems, record_sight, seen_after}
 use Rattle.sz_instr.specs.declared.line.Line.{Line}
 use Rattle.sz_instr.specs.declared.routine.Routine.{Routine}
 use Rattle.sz_gen_rules.specs.Tables.{Tables, HasConstant}
@@ -46,25 +46,25 @@ is_before d rest whole w = record {
   tables = is_front d.tables _ whole.tables w.tables;
 }
 
-pub behind_table : (d : Declared) (t : Declaration) (rest : List Item) (whole : Declared) → IsWhole d (items.table t ∷ rest) whole
+pub after_table : (d : Declared) (t : Declaration) (rest : List Item) (whole : Declared) → IsWhole d (items.table t ∷ rest) whole
     → IsWhole (record d { tables = d.tables ++ t ∷ [] }) rest whole
-behind_table d t rest whole w = record {
+after_table d t rest whole w = record {
   statics = w.statics;
   functions = w.functions;
   tables = w.tables ∙ sym (append_assoc d.tables (t ∷ []) (tables_of rest));
 }
 
-pub behind_function : (d : Declared) (f : Function) (rest : List Item) (whole : Declared) → IsWhole d (items.function f ∷ rest) whole
+pub after_function : (d : Declared) (f : Function) (rest : List Item) (whole : Declared) → IsWhole d (items.function f ∷ rest) whole
     → IsWhole (record d { functions = d.functions ++ f.signature ∷ [] }) rest whole
-behind_function d f rest whole w = record {
+after_function d f rest whole w = record {
   statics = w.statics;
   functions = w.functions ∙ sym (append_assoc d.functions (f.signature ∷ []) (map (λ (g : Function). g.signature) (functions_of rest)));
   tables = w.tables;
 }
 
-pub behind_static : (d : Declared) (s : Static) (rest : List Item) (whole : Declared) → IsWhole d (items.static s ∷ rest) whole
+pub after_static : (d : Declared) (s : Static) (rest : List Item) (whole : Declared) → IsWhole d (items.static s ∷ rest) whole
     → IsWhole (record d { statics = d.statics ++ s.type ∷ [] }) rest whole
-behind_static d s rest whole w = record {
+after_static d s rest whole w = record {
   statics = w.statics ∙ sym (append_assoc d.statics (s.type ∷ []) (map (λ (t : Static). t.type) (statics_of rest)));
   functions = w.functions;
   tables = w.tables;
@@ -78,7 +78,7 @@ signed (h ∷ fs) zero g e = (h, refl, cc)
 signed (h ∷ fs) (suc f) g e = signed fs f g e
 
 module _ (tables : Tables) where
-  -- the code of a function stands in lines, with its routine among routines; the function is sound behind what is declared before it
+  -- the code of a function stands in lines, with its routine among routines; the function is sound after what is declared before it
   pub record Stands (lines : List Line) (routines : List Routine) (whole : Declared) (f : ℕ) (h : Function) : Type 0 where
     pub entry : ℕ
     pub known : slice_get routines f ≡ Some (record { entry = entry; params = length h.signature.parameters; locals = length h.locals })
@@ -95,11 +95,11 @@ module _ (tables : Tables) where
   unfolding AreItems
   stands lines whole locals seen d [] sound w of at has f h is = absurd cc
   stands lines whole locals seen d (items.table t ∷ rest) sound w of at has f h is =
-      stands lines whole locals seen (record d { tables = d.tables ++ t ∷ [] }) rest sound.1 (behind_table d t rest whole w) of at has f h is
+      stands lines whole locals seen (record d { tables = d.tables ++ t ∷ [] }) rest sound.1 (after_table d t rest whole w) of at has f h is
   stands lines whole locals seen d (items.static s ∷ rest) sound w of at has f h is =
-      stands lines whole locals seen (record d { statics = d.statics ++ s.type ∷ [] }) rest sound.1 (behind_static d s rest whole w) of at has f h is
+      stands lines whole locals seen (record d { statics = d.statics ++ s.type ∷ [] }) rest sound.1 (after_static d s rest whole w) of at has f h is
   stands lines whole locals seen d (items.statement c ∷ rest) sound w of at has f h is =
-      stands lines whole locals (seen_behind (record_sight locals seen d) c).seen d rest sound.1
+      stands lines whole locals (seen_after (record_sight locals seen d) c).seen d rest sound.1
       (record { statics = w.statics; functions = w.functions; tables = w.tables }) of at has f h is
   stands lines whole locals seen d (items.function g ∷ rest) sound w of at has zero h is =
       let same : g ≡ h = cc in
@@ -109,12 +109,12 @@ module _ (tables : Tables) where
         has = has_front lines at (function_code tables g at) _ has;
         declared = d;
         sound = sound.0;
-        before = is_before (record d { functions = d.functions ++ g.signature ∷ [] }) rest whole (behind_function d g rest whole w);
+        before = is_before (record d { functions = d.functions ++ g.signature ∷ [] }) rest whole (after_function d g rest whole w);
         zero = of.0;
         names = of.1;
       })
   stands lines whole locals seen d (items.function g ∷ rest) sound w of at has (suc f) h is =
-      let next = stands lines whole locals seen (record d { functions = d.functions ++ g.signature ∷ [] }) rest sound.1 (behind_function d g rest whole w) of.2
+      let next = stands lines whole locals seen (record d { functions = d.functions ++ g.signature ∷ [] }) rest sound.1 (after_function d g rest whole w) of.2
       (at + length (function_code tables g at)) (has_back lines at (function_code tables g at) _ has) f h is in
       record {
         entry = next.entry;

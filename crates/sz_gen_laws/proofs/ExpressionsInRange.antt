@@ -56,7 +56,7 @@ pub back_fits : (code : Code) (front rest : List Line) (at : ℕ) → at + lengt
 back_fits code front rest at h = omega (arith, h, length-append front rest)
 
 module _ (code : Code) (g : Sight) (room : IsRoomFor code g) (seen : Sight) where
-  -- the code of `&&` or `||` behind that of the left operand
+  -- the code of `&&` or `||` after that of the left operand
   decided_in_range : (test : ℕ → Instr) (p : Place) (right : ℕ → List Line) (at : ℕ) → ((to : ℕ) → to < length code.lines → is_in_range code (test to) ≡ true)
       → at + length (decided test p right at) ≤ length code.lines → AreInRange code (right (suc at)) → AreInRange code (decided test p right at)
   decided_in_range test p right at tests fits h =

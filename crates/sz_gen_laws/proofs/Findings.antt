@@ -1,4 +1,4 @@
--- What has to hold behind each way in which a search ends, and what goes on from there.
+-- What has to hold after each way in which a search ends, and what goes on from there.
 use Rattle.std.proofs.Common.{◌≡◌, ℕ, ◌+◌, ◌≤◌, List, ◌∷◌, true, false, Option, Some, None, sym, subst, arith}
 use Rattle.sz_types.specs.Data.{Shape}
 use Rattle.sz_value.specs.Data.{truth, int, time, str, bytes, array, tuple, mapping}
@@ -46,7 +46,7 @@ module _ (code : Code) (result : Option Shape) (types : List Shape) (x : After) 
     after_slot t s1 end1 go next (Gives v w) h = λ k. next v w k h
     after_slot t s1 end1 go next (Stops fault) h = h
 
-    -- the tick of a candidate, and then the search with it and what comes behind
+    -- the tick of a candidate, and then the search with it and what comes after
     pub pays_to_try : (s1 : State) (l : Line) (first : Doing Finding) (go : Finding → Doing Finding) (m : Option World) → spend 1 s1.world ≡ m
         → ((w : World) → w.left + 1 ≡ s1.world.left → AfterFinding code result types flags s end fail x (and_then (first w) go)
         → NextComes code (act code l.instr l.place (record s1 { world = w })) x)
@@ -86,7 +86,7 @@ module _ (code : Code) (result : Option Shape) (types : List Shape) (x : After) 
     refuted_by w first second one other f g (Some (tuple ds)) h = g h
     refuted_by w first second one other f g (Some (mapping es)) h = g h
 
-    -- behind a part of a search that succeeded another part follows; where it failed, the whole has
+    -- after a part of a search that succeeded another part follows; where it failed, the whole has
     pub after_part : (end1 at : ℕ) (next : Searching)
         → ((l : List Slot) (w : World) → AllKept s.world types l w → AfterFinding code result types flags s end fail x (next l w)
         → ComesTo code (record s { at = end1; locals = l; world = w }) x)

@@ -1,4 +1,4 @@
--- The last line of a statement, behind the code of its expressions, does what the statement means with their slots.
+-- The last line of a statement, after the code of its expressions, does what the statement means with their slots.
 use Rattle.std.proofs.Common.{◌≡◌, ◌∙◌, ℕ, suc, ◌+◌, ◌≤◌, List, ◌∷◌, length, map, Option, Some, None, refl, sym, ap, subst, arith, drop}
 use Rattle.std.specs.Prelude.{slice_get, slice_set, is_some}
 use Rattle.sz_types.specs.Data.{Shape}

@@ -11,7 +11,7 @@ mod CallExpressions
 mod Expressions
 mod Forward
 mod Indexes
--- what has to hold behind an end of a statement, and what is known of slots
+-- what has to hold after an end of a statement, and what is known of slots
 mod Outcomes
 mod Slots
 mod Stores

@@ -14,7 +14,7 @@ use Rattle.sz_world_rules.specs.World.{World}
 use Rattle.sz_world_rules.specs.Slots.{Slot}
 use Rattle.sz_world_rules.specs.Typed.{AllFit}
 use Rattle.sz_mean.specs.Expressions.{Setting}
-use Rattle.sz_mean.specs.Endings.{Running, turns, turns_behind}
+use Rattle.sz_mean.specs.Endings.{Running, turns, turns_after}
 use Rattle.sz_mean.specs.Statements.{test_of, while_ticks}
 use Rattle.sz_machine_rules.specs.States.{State, After}
 use Rattle.sz_machine_rules.specs.Runs.{ComesTo}
@@ -23,9 +23,9 @@ use Rattle.sz_gen_rules.specs.Named.{HasNames}
 use Rattle.sz_gen_rules.specs.Runs.{CallsBelow, HasAt}
 use Rattle.sz_gen_laws.proofs.Steps.{has_front, has_back, at_line}
 use Rattle.sz_gen_rules.specs.FreeLines.{goes}
-use Rattle.sz_gen_rules.specs.StatementCode.{Exits, in_loop, test_code, loop_code, loop_behind_code}
+use Rattle.sz_gen_rules.specs.StatementCode.{Exits, in_loop, test_code, loop_code, loop_after_code}
 use Rattle.sz_gen_rules.specs.Backward.{seeing, AfterExec, IsFixed}
-use Rattle.sz_gen_laws.proofs.Loops.{test_runs, loop_turns, behind_turns}
+use Rattle.sz_gen_laws.proofs.Loops.{test_runs, loop_turns, after_turns}
 
 -- code does what this means with locals of their types, wherever it stands in a routine
 abbrev pub BodyRuns : Code → Around → List Shape → Exits → State → After → (ℕ → List Line) → Running → Type 0
@@ -84,12 +84,12 @@ module _ (code : Code) (g : Sight) (set : Setting) (room : ℕ) (below : (limit 
       (λ l w fit1 h1. body_runs at1 at2 l w fit1 (has_front lines at1 turn (back ∷ []) has4) refl h1)
       (suc s.world.left) s.locals s.world (omega arith) (omega arith) fit h)
 
-  pub loop_behind_runs : (body_code : ℕ → List Line) (body : Running)
-      → HasAt code.lines s.at (loop_behind_code p body_code (test_code (tables_in code) p e (s.at + 1)) s.at)
-      → s.at + length (loop_behind_code p body_code (test_code (tables_in code) p e (s.at + 1)) s.at) ≡ end
+  pub loop_after_runs : (body_code : ℕ → List Line) (body : Running)
+      → HasAt code.lines s.at (loop_after_code p body_code (test_code (tables_in code) p e (s.at + 1)) s.at)
+      → s.at + length (loop_after_code p body_code (test_code (tables_in code) p e (s.at + 1)) s.at) ≡ end
       → BodyRuns code (inner a) g.locals (in_loop out (s.at + 1) (s.at + 2)) s x body_code body
-      → AfterExec code a g.locals out s end x (while_ticks (turns_behind p body (test_of set e)) s.locals s.world) → ComesTo code s x
-  loop_behind_runs body_code body has en body_runs h =
+      → AfterExec code a g.locals out s end x (while_ticks (turns_after p body (test_of set e)) s.locals s.world) → ComesTo code s x
+  loop_after_runs body_code body has en body_runs h =
       let lines = code.lines in
       let at0 = s.at in
       let turn = body_code (at0 + 3) in
@@ -110,7 +110,7 @@ module _ (code : Code) (g : Sight) (set : Setting) (room : ℕ) (below : (limit 
       let has4 = has_back lines (at0 + 3) turn (asked ++ tick ∷ back ∷ []) has3 in
       let has5 = has_back lines start asked (tick ∷ back ∷ []) has4 in
       at_line code s (goes (at0 + 3)) x has.0 tt
-      (behind_turns code g.locals x a out s p at0 end f1 start at1 body (test_of set e) f2 has5.0 has5.1.0
+      (after_turns code g.locals x a out s p at0 end f1 start at1 body (test_of set e) f2 has5.0 has5.1.0
       (test_runs code g set room below seen x a out e p s end start at1 (at0 + 1) sound of fixed
       (has_front lines start asked (tick ∷ back ∷ []) has4) refl)
       (λ l w fit1 h1. body_runs (at0 + 3) start l w fit1 (has_front lines (at0 + 3) turn (asked ++ tick ∷ back ∷ []) has3) refl h1)

@@ -13,7 +13,7 @@ use Rattle.sz_world_rules.specs.World.{World, Doing, ◌>>◌, and_then, give, p
 use Rattle.sz_world_rules.specs.Slots.{Slot}
 use Rattle.sz_world_rules.specs.Typed.{Fits, AllFit}
 use Rattle.sz_mean.specs.Expressions.{Setting, eval}
-use Rattle.sz_mean.specs.Endings.{Ending, Normal, Running, then_run, chosen, turns, turns_behind}
+use Rattle.sz_mean.specs.Endings.{Ending, Normal, Running, then_run, chosen, turns, turns_after}
 use Rattle.sz_mean.specs.Statements.{test_of}
 use Rattle.sz_machine_rules.specs.States.{State, After, Goes}
 use Rattle.sz_machine_rules.specs.Runs.{ComesTo}
@@ -111,8 +111,8 @@ module _ (code : Code) (types : List Shape) (x : After) (a : Around) (out : Exit
           at_line code s4 (line Tick 1 p) x ticks tt (pays_for code types x a out s s4 end (line Tick 1 p) 1 _ (spend 1 w4) refl
           (λ w5 e5 h5. next l4 w5 (omega arith) k4.typed h5) h4)) (between l3 w3) h3)
 
-  -- the turns of a loop that is tested behind each, from its body on
-  pub behind_turns : (start at1 : ℕ) (body : Running) (test : List Slot → Doing Slot)
+  -- the turns of a loop that is tested after each, from its body on
+  pub after_turns : (start at1 : ℕ) (body : Running) (test : List Slot → Doing Slot)
       → slice_get code.lines (at0 + 2) ≡ Some (goes start) → slice_get code.lines at1 ≡ Some (line Tick 1 p)
       → slice_get code.lines (suc at1) ≡ Some (goes (at0 + 3))
       → Asks code a types out s x end start at1 (at0 + 1) p test
@@ -120,22 +120,22 @@ module _ (code : Code) (types : List Shape) (x : After) (a : Around) (out : Exit
       (record s { at = at0 + 3; locals = l; world = w }) start x (body l w)
       → ComesTo code (record s { at = at0 + 3; locals = l; world = w }) x)
       → (n : ℕ) (l : List Slot) (w : World) → w.left < n → w.left ≤ s.world.left → AllFit l types
-      → AfterExec code a types out s end x (turns_behind p body test n l w) → ComesTo code (record s { at = at0 + 3; locals = l; world = w }) x
-  behind_turns start at1 body test continues ticks returns asks body_runs zero l w lt le fit h = absurd (omega arith)
-  behind_turns start at1 body test continues ticks returns asks body_runs (suc n) l w lt le fit h =
+      → AfterExec code a types out s end x (turns_after p body test n l w) → ComesTo code (record s { at = at0 + 3; locals = l; world = w }) x
+  after_turns start at1 body test continues ticks returns asks body_runs zero l w lt le fit h = absurd (omega arith)
+  after_turns start at1 body test continues ticks returns asks body_runs (suc n) l w lt le fit h =
       body_runs l w fit (after_body code types x a out s end start (at0 + 3) (at0 + 1) (at0 + 2) l w _ le
-      (tested (λ l5 w5 le5 fit5 h5. behind_turns start at1 body test continues ticks returns asks body_runs n l5 w5 (omega arith) (omega arith) fit5 h5))
+      (tested (λ l5 w5 le5 fit5 h5. after_turns start at1 body test continues ticks returns asks body_runs n l5 w5 (omega arith) (omega arith) fit5 h5))
       breaks
       (λ l3 w3 k3 h3. at_line code (record s { at = at0 + 2; locals = l3; world = w3 }) (goes start) x continues tt
-      (tested (λ l5 w5 le5 fit5 h5. behind_turns start at1 body test continues ticks returns asks body_runs n l5 w5 (omega arith)
+      (tested (λ l5 w5 le5 fit5 h5. after_turns start at1 body test continues ticks returns asks body_runs n l5 w5 (omega arith)
       (omega arith) fit5 h5) l3 w3 k3 h3))
       (body l w) h)
     where
       -- the test and the loop return
-      tested : ((l5 : List Slot) (w5 : World) → w5.left + 1 ≤ w.left → AllFit l5 types → AfterExec code a types out s end x (turns_behind p body test n l5 w5)
+      tested : ((l5 : List Slot) (w5 : World) → w5.left + 1 ≤ w.left → AllFit l5 types → AfterExec code a types out s end x (turns_after p body test n l5 w5)
           → ComesTo code (record s { at = at0 + 3; locals = l5; world = w5 }) x)
           → (l3 : List Slot) (w3 : World) → AllKept w types l3 w3
-          → AfterExec code a types out s end x (and_then (test l3 w3) (λ v. pay 1 p >> chosen v p (pay 1 p >> turns_behind p body test n l3)
+          → AfterExec code a types out s end x (and_then (test l3 w3) (λ v. pay 1 p >> chosen v p (pay 1 p >> turns_after p body test n l3)
           (give (Normal l3))))
           → ComesTo code (record s { at = start; locals = l3; world = w3 }) x
       tested next l3 w3 k3 h3 =

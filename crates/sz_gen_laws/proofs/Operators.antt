@@ -21,7 +21,7 @@ use Rattle.sz_machine_rules.specs.States.{State, After}
 use Rattle.sz_machine_rules.specs.Runs.{ComesTo}
 use Rattle.sz_gen_rules.specs.ExpressionCode.{closed}
 use Rattle.sz_gen_rules.specs.Runs.{AfterEval, HasAt}
-use Rattle.sz_gen_laws.proofs.Steps.{after_first, LeavesSlot, line_behind, end_behind, last_line}
+use Rattle.sz_gen_laws.proofs.Steps.{after_first, LeavesSlot, line_after, end_after, last_line}
 use Rattle.sz_gen_laws.proofs.Types.{unary_fits, binary_fits, element_fits, slice_fits, has_part, part_fits}
 
 module _ (code : Code) (t : Shape) (i : Instr) (place : Place) (s : State) (end : ℕ) (x : After) where
@@ -34,8 +34,8 @@ module _ (code : Code) (t : Shape) (i : Instr) (place : Place) (s : State) (end 
   one_runs u added f ca a row has ends run h =
       let at1 = s.at + length ca in
       run (after_first code t u s s end at1 x (λ y. results place (added y) (f y)) (λ y w kept h1.
-      last_line code t s at1 (y ∷ s.stack) w end x i place (added y) (f y) (line_behind code s.at ca i place has)
-      (row y (record s { at = at1; world = w }) kept.typed) (end_behind s.at end ca i place ends) kept.left h1) (a s.world) h)
+      last_line code t s at1 (y ∷ s.stack) w end x i place (added y) (f y) (line_after code s.at ca i place has)
+      (row y (record s { at = at1; world = w }) kept.typed) (end_after s.at end ca i place ends) kept.left h1) (a s.world) h)
 
   -- two parts
   pub two_runs : (u v : Shape) (added : Slot → ℕ) (f : Slot → Slot → Slot) (ca cb : List Line) (a b : Doing Slot)
@@ -52,9 +52,9 @@ module _ (code : Code) (t : Shape) (i : Instr) (place : Place) (s : State) (end 
       run_a (after_first code t u s s end at1 x (λ y w. and_then (b w) (λ z. results place added (f y z))) (λ y w kept h1.
       let s1 : State = record s { at = at1; stack = y ∷ s.stack; world = w } in
       run_b y w kept.left (after_first code t v s s1 end at2 x (λ z. results place added (f y z)) (λ z w2 kept2 h2.
-      last_line code t s at2 (z ∷ y ∷ s.stack) w2 end x i place added (f y z) (line_behind code s.at (ca ++ cb) i place has)
+      last_line code t s at2 (z ∷ y ∷ s.stack) w2 end x i place added (f y z) (line_after code s.at (ca ++ cb) i place has)
       (row y z (record s { at = at2; world = w2 }) kept.typed kept2.typed)
-      (end_behind s.at end (ca ++ cb) i place ends) (omega (arith, kept.left, kept2.left)) h2) (b w) h1)) (a s.world) h)
+      (end_after s.at end (ca ++ cb) i place ends) (omega (arith, kept.left, kept2.left)) h2) (b w) h1)) (a s.world) h)
 
   -- three parts
   pub three_runs : (u v u3 : Shape) (added : Slot → ℕ) (f : Slot → Slot → Slot → Slot) (ca cb cc : List Line) (a b c : Doing Slot)
@@ -79,9 +79,9 @@ module _ (code : Code) (t : Shape) (i : Instr) (place : Place) (s : State) (end 
       run_b y w kept.left (after_first code t v s s1 end at2 x _ (λ z w2 kept2 h2.
       let s2 : State = record s { at = at2; stack = z ∷ y ∷ s.stack; world = w2 } in
       run_c y z w2 (omega (arith, kept.left, kept2.left)) (after_first code t u3 s s2 end at3 x (λ z3. results place added (f y z z3)) (λ z3 w3 kept3 h3.
-      last_line code t s at3 (z3 ∷ z ∷ y ∷ s.stack) w3 end x i place added (f y z z3) (line_behind code s.at ((ca ++ cb) ++ cc) i place has)
+      last_line code t s at3 (z3 ∷ z ∷ y ∷ s.stack) w3 end x i place added (f y z z3) (line_after code s.at ((ca ++ cb) ++ cc) i place has)
       (row y z z3 (record s { at = at3; world = w3 }) kept.typed kept2.typed kept3.typed)
-      (end_behind s.at end ((ca ++ cb) ++ cc) i place ends) (omega (arith, kept.left, kept2.left, kept3.left)) h3) (c w2) h2)) (b w) h1)) (a s.world) h)
+      (end_after s.at end ((ca ++ cb) ++ cc) i place ends) (omega (arith, kept.left, kept2.left, kept3.left)) h3) (c w2) h2)) (b w) h1)) (a s.world) h)
 
 -- ---- the lines
 

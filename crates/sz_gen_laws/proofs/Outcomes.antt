@@ -1,4 +1,4 @@
--- What has to hold behind each way in which a statement ends, seen from before and from later.
+-- What has to hold after each way in which a statement ends, seen from before and from later.
 use Rattle.std.proofs.Common.{◌≡◌, ℕ, zero, suc, ◌+◌, ◌≤◌, List, [], ◌∷◌, length, Bool, true, false, Option, Some, None, subst, arith, drop}
 use Rattle.sz_types.specs.Data.{Shape}
 use Rattle.sz_types.specs.declared.place.Place.{Place}

@@ -6,7 +6,7 @@ use Rattle.sz_value.specs.Data.{bytes}
 use Rattle.sz_core.specs.Statements.{stms_of}
 use Rattle.sz_core.specs.Programs.{Function, Item, statements_of}
 use Rattle.sz_core.specs.Programs as items
-use Rattle.sz_core.specs.Sound.{Declared, AreItems, Around, record_sight, seen_behind}
+use Rattle.sz_core.specs.Sound.{Declared, AreItems, Around, record_sight, seen_after}
 use Rattle.sz_instr.specs.declared.code.Code.{Code}
 use Rattle.sz_world_rules.specs.World.{Given, Gives, Stops, most_open_calls}
 use Rattle.sz_world_rules.specs.Slots.{Slot}
@@ -27,7 +27,7 @@ use Rattle.sz_gen_rules.specs.NamedStatements.{StmsHaveNames}
 use Rattle.sz_gen_laws.proofs.Outcomes.{from_later, after_then}
 use Rattle.sz_gen_laws.proofs.Slots.{fit_at}
 use Rattle.sz_gen_laws.proofs.Statements.{exec_runs}
-use Rattle.sz_gen_laws.proofs.Declared.{IsWhole, behind_table, behind_function, behind_static, is_before}
+use Rattle.sz_gen_laws.proofs.Declared.{IsWhole, after_table, after_function, after_static, is_before}
 use Rattle.sz_gen_laws.proofs.Calls.{calls_front}
 use Rattle.sz_instr.specs.declared.instr.Instr.TheVariants.{EndRecord}
 
@@ -44,7 +44,7 @@ pub ends_record : (slots : List Slot) (r : Given Ending) → EndsRecord (record_
 ends_record slots (Gives ending w) = refl
 ends_record slots (Stops fault) = refl
 
--- behind the statements the run is at its end
+-- after the statements the run is at its end
 pub record_ends : (code : Code) (types : List Shape) (s : State) (end : ℕ) → slice_get code.lines end ≡ Some (free EndRecord)
     → (r : Given Ending) → AfterExec code top types no_exits s end (record_end s.statics r) r
 record_ends code types s end last (Gives (Normal l) w) =
@@ -70,12 +70,12 @@ module _ (code : Code) (functions : List Function) (whole : Declared)
       let e : s.at ≡ end = omega (arith, en) in
       subst (λ k. ComesTo code (record s { at = k }) x) (sym e) (h (record { left = omega arith; typed = fit }))
   body_runs (items.table t ∷ rest) seen d s end sound is of fit same there room has en h =
-      body_runs rest seen (record d { tables = d.tables ++ t ∷ [] }) s end sound.1 (behind_table d t rest whole is) of fit same there room has en h
+      body_runs rest seen (record d { tables = d.tables ++ t ∷ [] }) s end sound.1 (after_table d t rest whole is) of fit same there room has en h
   body_runs (items.function f ∷ rest) seen d s end sound is of fit same there room has en h =
       body_runs rest seen (record d { functions = d.functions ++ f.signature ∷ [] }) s end sound.1
-      (behind_function d f rest whole is) of fit same there room has en h
+      (after_function d f rest whole is) of fit same there room has en h
   body_runs (items.static v ∷ rest) seen d s end sound is of fit same there room has en h =
-      body_runs rest seen (record d { statics = d.statics ++ v.type ∷ [] }) s end sound.1 (behind_static d v rest whole is) of fit same there room has en h
+      body_runs rest seen (record d { statics = d.statics ++ v.type ∷ [] }) s end sound.1 (after_static d v rest whole is) of fit same there room has en h
   body_runs (items.statement c ∷ rest) seen d s end sound is of fit same there room has en h =
       let lines = code.lines in
       let tables = tables_in code in
@@ -84,8 +84,8 @@ module _ (code : Code) (functions : List Function) (whole : Declared)
       let before = is_before d (items.statement c ∷ rest) whole is in
       let front = statement_code tables c no_exits s.at in
       let at1 = s.at + length front in
-      let behind = stms_of (statements_of rest) in
-      let later = statements_code tables behind no_exits at1 in
+      let after = stms_of (statements_of rest) in
+      let later = statements_code tables after no_exits at1 in
       let len : at1 + length later ≡ end = omega (arith, en, length-append front later) in
       let below : (limit : ℕ) → CallsBelow code g.functions slots most_open_calls limit set.calls =
       λ limit. calls_front code g.functions whole.functions slots most_open_calls limit set.calls before.functions
@@ -98,10 +98,10 @@ module _ (code : Code) (functions : List Function) (whole : Declared)
       } in
       exec_runs code g set most_open_calls below (λ n t e. subst (λ l. slice_get l n ≡ Some t) (sym tables_same) (before.tables n t e)) x
       c g top no_exits s at1 sound.0 of.0 fit fixed tt tt (has_front lines s.at front later has) refl
-      (after_then code locals x top no_exits s end at1 s.at s.locals s.world (exec_all set behind) (omega arith)
+      (after_then code locals x top no_exits s end at1 s.at s.locals s.world (exec_all set after) (omega arith)
       (λ l w k h1. (let le = k.left in
-      body_runs rest (seen_behind g c).seen d (record s { at = at1; locals = l; world = w }) end sound.1
+      body_runs rest (seen_after g c).seen d (record s { at = at1; locals = l; world = w }) end sound.1
       (record { statics = is.statics; functions = is.functions; tables = is.tables })
       of.1 k.typed same there room (has_back lines s.at front later has) len (from_later code locals x top no_exits s end at1 l w le
-      (exec_all set behind l w) h1)))
+      (exec_all set after l w) h1)))
       (exec set c s.locals s.world) h)

@@ -187,12 +187,12 @@ module _ (code : Code) (result : Option Shape) (types : List Shape) (x : After) 
       ends_list (Some (truth found) ∷ b.stack) l w (suc (suc (suc last))) f1 fit (flag_met flags (suc (suc (suc last))) found l w en f5 fit le h)
   each_runs flags has_true en f1 f2 f3 f4 f5 rest_runs (c ∷ cs) are found l w fit le h =
       tries flags (Some (truth found) ∷ b.stack) l w (suc (suc (suc last))) c cs _ f1 fit are.0 (λ w1 le1 fit1 h1.
-      rest_runs found cs (with_local n (Some c) l) w1 fit1 (behind w1 (omega (arith, le, le1))
+      rest_runs found cs (with_local n (Some c) l) w1 fit1 (after w1 (omega (arith, le, le1))
       (λ f l2 w2 k2 h2. (let le2 = k2.left in
       each_runs flags has_true en f1 f2 f3 f4 f5 rest_runs cs are.1 f l2 w2 k2.typed (omega (arith, le, le1, le2)) h2))
       (rest (with_local n (Some c) l) w1) h1)) h
     where
-      behind : (w1 : World) → w1.left ≤ b.world.left
+      after : (w1 : World) → w1.left ≤ b.world.left
           → ((f : Bool) (l2 : List Slot) (w2 : World) → AllKept w1 types l2 w2
           → AfterFinding code result types flags b end fail x (each_of place condition body n rest cs f l2 w2)
           → ComesTo code (record b { at = top; stack = Some (truth f) ∷ b.stack; locals = l2; lists = cs ∷ b.lists; world = w2 }) x)
@@ -200,14 +200,14 @@ module _ (code : Code) (result : Option Shape) (types : List Shape) (x : After) 
           → AfterFinding code result types flags b end fail x (and_then r (λ f. and_each f found (each_of place condition body n rest cs)))
           → AfterFinding code result types (suc flags)
           (record b { at = suc top; stack = Some (truth found) ∷ b.stack; locals = with_local n (Some c) l; lists = cs ∷ b.lists; world = w1 }) last top x r
-      behind w1 le1 next (Gives (Succeeds l2) w2) h2 = λ k.
+      after w1 le1 next (Gives (Succeeds l2) w2) h2 = λ k.
           let m = constant_number (tables_in code) (truth true) in
           let s2 : ℕ → List Slot → State = λ at stack. record b { at = at; stack = stack; locals = l2; lists = cs ∷ b.lists; world = w2 } in
           at_line code (s2 last (Some (truth found) ∷ b.stack)) (free Discard) x f2 tt
           (at_line code (s2 (suc last) b.stack) (free (Push m)) x f3 (slice_get_within code.constants m (truth true) has_true)
           (subst (λ v. ComesTo code (s2 (suc (suc last)) (v ∷ b.stack)) x) (sym has_true)
           (at_line code (s2 (suc (suc last)) (Some (truth true) ∷ b.stack)) (goes top) x f4 tt (next true l2 w2 k h2))))
-      behind w1 le1 next (Gives (Misses l2) w2) h2 = λ k. next found l2 w2 k h2
-      behind w1 le1 next (Gives (Leaves y) w2) h2 =
+      after w1 le1 next (Gives (Misses l2) w2) h2 = λ k. next found l2 w2 k h2
+      after w1 le1 next (Gives (Leaves y) w2) h2 =
           returns_below code result flags b (suc top) (Some (truth found)) (with_local n (Some c) l) (cs ∷ b.lists) w1 x le1 y w2 h2
-      behind w1 le1 next (Stops fault) h2 = h2
+      after w1 le1 next (Stops fault) h2 = h2

@@ -21,7 +21,7 @@ use Rattle.sz_gen_laws.proofs.ExpressionsInRange.{AreInRange, both_in_range}
 abbrev pub EndsInRange : Code → (ℕ → List Line) → Type 0
 EndsInRange code lines = (at : ℕ) → at + length (lines at) ≤ length code.lines → AreInRange code (lines at)
 
--- the same of a part of a search, which goes to a line where it fails, and of which a line is behind
+-- the same of a part of a search, which goes to a line where it fails, and of which a line is after
 abbrev pub FailsInRange : Code → (ℕ → ℕ → List Line) → Type 0
 FailsInRange code lines =
     (fail at : ℕ) → fail < length code.lines → at + length (lines fail at) < length code.lines → AreInRange code (lines fail at)

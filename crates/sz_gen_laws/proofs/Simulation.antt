@@ -32,7 +32,7 @@ got : (front rest : List Line) (l : Line) → slice_get (front ++ l ∷ rest) (l
 got [] rest l = refl
 got (k ∷ front) rest l = got front rest l
 
--- lines that stand behind others
+-- lines that stand after others
 has_all : (lines front rest : List Line) → HasAt (front ++ (lines ++ rest)) (length front) lines
 has_all [] front rest = tt
 has_all (l ∷ lines) front rest =
@@ -75,15 +75,15 @@ module _ (core : Core) (code : Code) (sound : IsSound core) (is : IsCodeOf core 
   pub has : HasAt code.lines 0 (function_lines ++ (static_lines ++ record_lines))
   has = subst (λ l. HasAt code.lines 0 l) is.lines (has_whole code.lines)
 
-  pub has_behind : HasAt code.lines (length function_lines) (static_lines ++ record_lines)
-  has_behind =
+  pub has_after : HasAt code.lines (length function_lines) (static_lines ++ record_lines)
+  has_after =
       let e : 0 + length function_lines ≡ length function_lines = omega arith in
       subst (λ n. HasAt code.lines n (static_lines ++ record_lines)) e (has_back code.lines 0 function_lines (static_lines ++ record_lines) has)
 
   pub has_record : HasAt code.lines code.main.entry record_lines
   has_record =
       subst (λ n. HasAt code.lines n record_lines) (sym (ap (λ (r : Routine). r.entry) is.main))
-      (has_back code.lines (length function_lines) static_lines record_lines has_behind)
+      (has_back code.lines (length function_lines) static_lines record_lines has_after)
 
   pub all_stand : (f : ℕ) (h : Function) → slice_get fs f ≡ Some h → Stands tables code.lines code.functions whole f h
   all_stand f h e =
@@ -103,7 +103,7 @@ module _ (core : Core) (code : Code) (sound : IsSound core) (is : IsCodeOf core 
       × SlotsFit (statics core budget) whole.statics
   statics_both budget =
       statics_run code fs whole all_calls core.locals core.items [] nothing_declared 0 (length function_lines) (undefined_slots (length ss)) (new_world budget)
-      sound.items all_whole refl is.names.statics undefined_fit (has_front code.lines (length function_lines) static_lines record_lines has_behind)
+      sound.items all_whole refl is.names.statics undefined_fit (has_front code.lines (length function_lines) static_lines record_lines has_after)
 
   statics_end : (budget : ℕ) → StaticsRunTo code budget (statics core budget)
   statics_end budget =

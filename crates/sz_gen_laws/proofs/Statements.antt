@@ -8,7 +8,7 @@ use Rattle.sz_core.specs.Nodes.{Node, type_of, types_of}
 use Rattle.sz_core.specs.Statements.{Stm, block, clear, keep, store, evaluate, branch, while, do_while, for_loop, break, continue}
 use Rattle.sz_core.specs.Statements.{return_value, end_record, emit, Quantified, when, Stms, no_stms, with_stm}
 use Rattle.sz_core.specs.Typing.{Sight, IsNode}
-use Rattle.sz_core.specs.Sound.{Around, IsTest, IsWeightOf, seen_behind, out_of_loops, in_condition, with_bound, with_all_bound, bound_inside, AreQuantified, IsStm, AreStms}
+use Rattle.sz_core.specs.Sound.{Around, IsTest, IsWeightOf, seen_after, out_of_loops, in_condition, with_bound, with_all_bound, bound_inside, AreQuantified, IsStm, AreStms}
 use Rattle.sz_instr.specs.declared.instr.Instr.TheVariants.{Keep, Clear, Store, Test, Return, EndRecord, Discard, Emit}
 use Rattle.sz_instr.specs.declared.code.Code.{Code}
 use Rattle.sz_world_rules.specs.World.{World, and_then, spend}
@@ -35,12 +35,12 @@ use Rattle.sz_gen_laws.proofs.Indexes.{index_types, indexes_of_path}
 use Rattle.sz_gen_laws.proofs.Slots.{fit_set, fit_clear, fit_at}
 use Rattle.sz_gen_laws.proofs.LastLines.{store_runs, discard_runs, emit_runs}
 use Rattle.sz_gen_laws.proofs.Loops.{test_runs}
-use Rattle.sz_gen_laws.proofs.LoopCode.{loop_runs, loop_behind_runs}
+use Rattle.sz_gen_laws.proofs.LoopCode.{loop_runs, loop_after_runs}
 use Rattle.sz_gen_laws.proofs.Searches.{elsewhere, VariableRuns}
 use Rattle.sz_gen_laws.proofs.SearchesInOrder.{AllRun, when_runs}
 
--- behind a statement the routine is the same
-pub seen_more : (g seen : Sight) (c : Stm) → seen_behind (seeing g seen) c ≡ seeing g (seen_behind (seeing g seen) c)
+-- after a statement the routine is the same
+pub seen_more : (g seen : Sight) (c : Stm) → seen_after (seeing g seen) c ≡ seeing g (seen_after (seeing g seen) c)
 seen_more g seen (clear n) = refl
 seen_more g seen (keep p n e) = refl
 seen_more g seen c = refl
@@ -195,7 +195,7 @@ module _ (code : Code) (g : Sight) (set : Setting) (room : ℕ) (below : (limit 
         (λ at end1 l w fit1 has1 en1 h1. exec_runs c seen _ (in_loop out (s.at + 1) (s.at + 2))
         (record s { at = at; locals = l; world = w }) end1 sound.1 of.1 fit1 fixed may flags has1 en1 h1) h
     exec_runs (do_while p c e) seen a out s end sound of fit fixed may flags has en h =
-        loop_behind_runs code g set room below seen x a out s end p (Some e) sound.1 of.1 fit fixed
+        loop_after_runs code g set room below seen x a out s end p (Some e) sound.1 of.1 fit fixed
         (statement_code (tables_in code) c (in_loop out (s.at + 1) (s.at + 2))) (exec set c) has en
         (λ at end1 l w fit1 has1 en1 h1. exec_runs c seen _ (in_loop out (s.at + 1) (s.at + 2))
         (record s { at = at; locals = l; world = w }) end1 sound.0 of.0 fit1 fixed may flags has1 en1 h1) h
@@ -294,7 +294,7 @@ module _ (code : Code) (g : Sight) (set : Setting) (room : ℕ) (below : (limit 
         let at1 = s.at + length front in
         let rest = statements_code (tables_in code) cs out at1 in
         let len : at1 + length rest ≡ end = omega (arith, en, length-append front rest) in
-        let more = seen_behind (seeing g seen) c in
+        let more = seen_after (seeing g seen) c in
         let sound1 : AreStms (seeing g more) a cs = subst (λ v. AreStms v a cs) (seen_more g seen c) sound.1 in
         exec_runs c seen a out s at1 sound.0 of.0 fit fixed may flags (has_front code.lines s.at front rest has) refl
         (after_then code g.locals x a out s end at1 s.at s.locals s.world (exec_all set cs) (omega arith)

@@ -8,7 +8,7 @@ use Rattle.sz_core.specs.Nodes.{Node, type_of}
 use Rattle.sz_core.specs.Statements.{Stm, block, clear, keep, store, evaluate, branch, while, do_while, for_loop, break, continue}
 use Rattle.sz_core.specs.Statements.{return_value, end_record, emit, Quantified, when, Stms, no_stms, with_stm}
 use Rattle.sz_core.specs.Typing.{Sight, IsNode}
-use Rattle.sz_core.specs.Sound.{Around, IsTest, IsWeightOf, seen_behind, out_of_loops, in_condition, with_bound, with_all_bound, bound_inside, AreQuantified, IsStm, AreStms}
+use Rattle.sz_core.specs.Sound.{Around, IsTest, IsWeightOf, seen_after, out_of_loops, in_condition, with_bound, with_all_bound, bound_inside, AreQuantified, IsStm, AreStms}
 use Rattle.sz_core.specs.Sound.{in_loop as inner}
 use Rattle.sz_instr.specs.WellFormed.{most_locals}
 use Rattle.sz_instr.specs.declared.instr.Instr.TheVariants.{Keep, Store, Tick, Test, Return, Discard, Emit}
@@ -19,7 +19,7 @@ use Rattle.sz_gen_rules.specs.ExpressionCode.{expression_code, expressions_code,
 use Rattle.sz_gen_rules.specs.Named.{HasNames}
 use Rattle.sz_gen_laws.proofs.Indexes.{indexes_of_path}
 use Rattle.sz_gen_rules.specs.FreeLines.{goes}
-use Rattle.sz_gen_rules.specs.StatementCode.{Exits, in_loop, in_search, discards, bare_step, test_code, loop_code, loop_behind_code, statement_code, statements_code}
+use Rattle.sz_gen_rules.specs.StatementCode.{Exits, in_loop, in_search, discards, bare_step, test_code, loop_code, loop_after_code, statement_code, statements_code}
 use Rattle.sz_gen_rules.specs.NamedStatements.{BasesHaveNames, StmHasNames, StmsHaveNames}
 use Rattle.sz_gen_laws.proofs.Statements.{seen_more, bound_more}
 use Rattle.sz_gen_laws.proofs.ExpressionsInRange.{AreInRange, both_in_range, IsRoomFor, local_in_range, closed_in_range, front_fits, back_fits}
@@ -71,14 +71,14 @@ module _ (code : Code) where
       → at + 2 < length code.lines
   begins_low p between test body at fits = omega (arith, fits)
 
-  begins_low_behind : (p : Place) (body test : ℕ → List Line) (at : ℕ) → at + length (loop_behind_code p body test at) < length code.lines
+  begins_low_after : (p : Place) (body test : ℕ → List Line) (at : ℕ) → at + length (loop_after_code p body test at) < length code.lines
       → at + 2 < length code.lines
-  begins_low_behind p body test at fits = omega (arith, fits)
+  begins_low_after p body test at fits = omega (arith, fits)
 
-  loop_behind_in_range : (p : Place) (body test : ℕ → List Line) (at : ℕ) → at + length (loop_behind_code p body test at) < length code.lines
+  loop_after_in_range : (p : Place) (body test : ℕ → List Line) (at : ℕ) → at + length (loop_after_code p body test at) < length code.lines
       → ((k : ℕ) → k + length (test k) ≤ length code.lines → AreInRange code (test k))
-      → ((k : ℕ) → k + length (body k) < length code.lines → AreInRange code (body k)) → AreInRange code (loop_behind_code p body test at)
-  loop_behind_in_range p body test at fits test_in body_in =
+      → ((k : ℕ) → k + length (body k) < length code.lines → AreInRange code (body k)) → AreInRange code (loop_after_code p body test at)
+  loop_after_in_range p body test at fits test_in body_in =
       let turn = body (at + 3) in
       let start = at + 3 + length turn in
       let asked = test start in
@@ -173,9 +173,9 @@ module _ (code : Code) (g : Sight) (room : IsRoomFor code g) where
         (λ n h. test_in_range seen (Some e) p (at + 1) n sound.0 names.0 (omega (arith, few)) h)
         (λ n h. stm_in_range c seen (inner a) (in_loop out (at + 1) (at + 2)) n sound.1 names.1 (omega (arith, few)) few h)
     stm_in_range (do_while p c e) seen a out at sound names b k fits =
-        let few : at + 2 < length code.lines = begins_low_behind code p (statement_code (tables_in code) c (in_loop out (at + 1) (at + 2)))
+        let few : at + 2 < length code.lines = begins_low_after code p (statement_code (tables_in code) c (in_loop out (at + 1) (at + 2)))
         (test_code (tables_in code) p (Some e) (at + 1)) at fits in
-        loop_behind_in_range code p (statement_code (tables_in code) c (in_loop out (at + 1) (at + 2))) (test_code (tables_in code) p (Some e) (at + 1)) at fits
+        loop_after_in_range code p (statement_code (tables_in code) c (in_loop out (at + 1) (at + 2))) (test_code (tables_in code) p (Some e) (at + 1)) at fits
         (λ n h. test_in_range seen (Some e) p (at + 1) n sound.1 names.1 (omega (arith, few)) h)
         (λ n h. stm_in_range c seen (inner a) (in_loop out (at + 1) (at + 2)) n sound.0 names.0 (omega (arith, few)) few h)
     stm_in_range (for_loop p e t c) seen a out at sound names b k fits =
@@ -230,7 +230,7 @@ module _ (code : Code) (g : Sight) (room : IsRoomFor code g) where
     stms_in_range (with_stm c cs) seen a out at sound names b k fits =
         let front = statement_code (tables_in code) c out at in
         let rest = statements_code (tables_in code) cs out (at + length front) in
-        let more = seen_behind (seeing g seen) c in
+        let more = seen_after (seeing g seen) c in
         let sound1 : AreStms (seeing g more) a cs = subst (λ v. AreStms v a cs) (seen_more g seen c) sound.1 in
         let a1 = length-append front rest in
         both_in_range code front rest (stm_in_range c seen a out at sound.0 names.0 b k (omega (arith, fits, a1)))

@@ -7,7 +7,7 @@ use Rattle.sz_typing_rules.specs.Types.{has_type}
 use Rattle.sz_core.specs.Nodes.{type_of}
 use Rattle.sz_core.specs.Programs.{Function, Static, Item, statics_of}
 use Rattle.sz_core.specs.Programs as items
-use Rattle.sz_core.specs.Sound.{Declared, AreItems, static_sight, record_sight, seen_behind}
+use Rattle.sz_core.specs.Sound.{Declared, AreItems, static_sight, record_sight, seen_after}
 use Rattle.sz_instr.specs.declared.instr.Instr.TheVariants.{KeepStatic, EndRecord}
 use Rattle.sz_instr.specs.declared.routine.Routine.{Routine}
 use Rattle.sz_instr.specs.declared.code.Code.{Code}
@@ -27,11 +27,11 @@ use Rattle.sz_gen_rules.specs.NamedStatements.{StaticsHaveNames}
 use Rattle.sz_gen_rules.specs.Backward.{IsFixed}
 use Rattle.sz_gen_rules.specs.ProgramCode.{static_code, statics_code, static_routines}
 use Rattle.sz_gen_laws.proofs.Slots.{fit_at, fit_set}
-use Rattle.sz_gen_laws.proofs.Declared.{IsWhole, behind_table, behind_function, behind_static, is_before}
+use Rattle.sz_gen_laws.proofs.Declared.{IsWhole, after_table, after_function, after_static, is_before}
 use Rattle.sz_gen_laws.proofs.Calls.{calls_front}
 use Rattle.sz_gen_laws.proofs.Parts.{expression_runs}
 
--- ---- what is known of a slot behind an expression
+-- ---- what is known of a slot after an expression
 
 -- no run comes to nothing at all
 goes_on_somewhere : (code : Code) (n : ℕ) → ((s : State) → RunsFor code n s Stuck → ⊥) → (y : After) → GoesOn y (λ next. RunsFor code n next Stuck) Stuck → ⊥
@@ -49,7 +49,7 @@ abbrev pub GivesTyped : Given Slot → Shape → Type 0
 GivesTyped (Gives v w) t = Fits v t
 GivesTyped (Stops fault) t = Unit {0}
 
--- so it is where the run from its code comes to whatever it comes to from behind it
+-- so it is where the run from its code comes to whatever it comes to from after it
 gives_typed : (code : Code) (t : Shape) (s : State) (end : ℕ) (r : Given Slot) → ((x : After) → AfterEval code t s end x r → ComesTo code s x) → GivesTyped r t
 gives_typed code t s end (Gives None w) runs = tt
 gives_typed code t s end (Gives (Some d) w) runs = by (has_type d t) refl
@@ -81,9 +81,9 @@ module _ (place : Place) (slots : List Slot) (n : ℕ) where
   module _ (code : Code) (s : State) (at1 : ℕ) (t : Shape) (same : s.statics ≡ slots) (no_record : IsNone s.input) (within : n < length slots)
       (keeps : slice_get code.lines at1 ≡ Some (line (KeepStatic n) 1 place)) (ends : slice_get code.lines (suc at1) ≡ Some (free EndRecord)) where
     -- the line that keeps it and the line that ends the run
-    behind_static_value : (r : Given Slot) → AfterEval code t s at1 (static_end r) r
-    behind_static_value (Stops fault) = refl
-    behind_static_value (Gives v w) = λ k.
+    after_static_value : (r : Given Slot) → AfterEval code t s at1 (static_end r) r
+    after_static_value (Stops fault) = refl
+    after_static_value (Gives v w) = λ k.
         at_line code (record s { at = at1; stack = v ∷ s.stack; world = w }) (line (KeepStatic n) 1 place) (paid_end v (spend 1 w)) keeps
         (subst (λ l. n < length l) (sym same) within, tt, no_record) (by (spend 1 w))
       where
@@ -94,11 +94,11 @@ module _ (place : Place) (slots : List Slot) (n : ℕ) where
             at_line code (record s { at = suc at1; statics = slice_set s.statics n v; world = w2 }) (free EndRecord) (Halts w2 (slice_set slots n v)) ends tt
             (ap (λ l. Halts w2 (slice_set l n v)) same)
 
-  -- the runs of a static and of those behind it, with what is known of the slots
+  -- the runs of a static and of those after it, with what is known of the slots
   module _ (code : Code) (types : List Shape) (t : Shape) (s : State) (more : List Routine) (rest : Slot → World → Given (List Slot))
       (next : (v : Slot) (w : World) → Fits v t → RoutinesRunTo code more w (slice_set slots n v) (slots_given (rest v w)) × SlotsFit
       (slots_given (rest v w)) types) where
-    -- the run of the static comes to what it means, and so do those behind it
+    -- the run of the static comes to what it means, and so do those after it
     abbrev Follows : Outcome (List Slot) → Type 0
     Follows r = ((end : After) × ComesTo code s end × EndsStatic end (λ w statics. RoutinesRunTo code more w statics r) r) × SlotsFit r types
 
@@ -130,11 +130,11 @@ module _ (code : Code) (functions : List Function) (whole : Declared)
   unfolding AreItems
   statics_run [] seen d n at slots w sound is count of fit has = (refl, fit)
   statics_run (items.table t ∷ rest) seen d n at slots w sound is count of fit has =
-      statics_run rest seen (record d { tables = d.tables ++ t ∷ [] }) n at slots w sound.1 (behind_table d t rest whole is) count of fit has
+      statics_run rest seen (record d { tables = d.tables ++ t ∷ [] }) n at slots w sound.1 (after_table d t rest whole is) count of fit has
   statics_run (items.function f ∷ rest) seen d n at slots w sound is count of fit has =
-      statics_run rest seen (record d { functions = d.functions ++ f.signature ∷ [] }) n at slots w sound.1 (behind_function d f rest whole is) count of fit has
+      statics_run rest seen (record d { functions = d.functions ++ f.signature ∷ [] }) n at slots w sound.1 (after_function d f rest whole is) count of fit has
   statics_run (items.statement c ∷ rest) seen d n at slots w sound is count of fit has =
-      statics_run rest (seen_behind (record_sight locals seen d) c).seen d n at slots w sound.1
+      statics_run rest (seen_after (record_sight locals seen d) c).seen d n at slots w sound.1
       (record { statics = is.statics; functions = is.functions; tables = is.tables }) count of fit has
   statics_run (items.static v ∷ rest) seen d n at slots w sound is count of fit has =
       let lines = code.lines in
@@ -170,10 +170,10 @@ module _ (code : Code) (functions : List Function) (whole : Declared)
       static_follows v.place slots n code whole.statics v.type s0 (static_routines tables (suc n) (statics_of rest) later)
       (λ x w2. initialised functions (statics_of rest) (suc n) (slice_set slots n x) w2)
       (λ x w2 f. statics_run rest seen (record d { statics = d.statics ++ v.type ∷ [] }) (suc n) later (slice_set slots n x) w2 sound.1
-      (behind_static d v rest whole is)
+      (after_static d v rest whole is)
       (omega (arith, count, length-append d.statics (v.type ∷ []))) of.1 (fit_set slots whole.statics n x v.type fit typed f)
       (has_back lines at own (statics_code tables (suc n) (statics_of rest) later) has))
       (eval set [] v.value w) (subst (λ u. GivesTyped (eval set [] v.value w) u) sound.0.type fits)
       (comes (static_end v.place slots n (eval set [] v.value w))
-      (behind_static_value v.place slots n code s0 at1 (type_of v.value) refl refl (fit_at slots whole.statics n v.type fit typed).0 last.0 last.1.0
+      (after_static_value v.place slots n code s0 at1 (type_of v.value) refl refl (fit_at slots whole.statics n v.type fit typed).0 last.0 last.1.0
       (eval set [] v.value w)))

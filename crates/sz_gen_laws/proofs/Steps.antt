@@ -79,7 +79,7 @@ module _ (code : Code) where
   after_pay t s s1 end x l go n None e next h = h
   after_pay t s s1 end x l go n (Some w) e next h = next w (spend_left n s1.world w e) h
 
-  -- the same behind several expressions
+  -- the same after several expressions
   pub after_all : (t : Shape) (ts : List Shape) (s s1 : State) (end end1 : ℕ) (x : After) (go : List Slot → Doing Slot)
       → ((xs : List Slot) (w : World) → AllKept s1.world ts xs w → AfterEval code t s end x (go xs w)
       → ComesTo code (record s1 { at = end1; stack = with_all xs s1.stack; world = w }) x)
@@ -101,12 +101,12 @@ pub record LeavesSlot (code : Code) (i : Instr) (s : State) (stack : List Slot) 
   pub typed : Fits v t
 
 -- the line that closes the code of an expression
-pub line_behind : (code : Code) (at : ℕ) (ca : List Line) (i : Instr) (place : Place) → HasAt code.lines at (closed ca i place)
+pub line_after : (code : Code) (at : ℕ) (ca : List Line) (i : Instr) (place : Place) → HasAt code.lines at (closed ca i place)
     → slice_get code.lines (at + length ca) ≡ Some (line i 1 place)
-line_behind code at ca i place has = (has_back code.lines at ca (line i 1 place ∷ []) has).0
+line_after code at ca i place has = (has_back code.lines at ca (line i 1 place ∷ []) has).0
 
-pub end_behind : (at end : ℕ) (ca : List Line) (i : Instr) (place : Place) → at + length (closed ca i place) ≡ end → suc (at + length ca) ≡ end
-end_behind at end ca i place e = omega (arith, e, length-append ca (line i 1 place ∷ []))
+pub end_after : (at end : ℕ) (ca : List Line) (i : Instr) (place : Place) → at + length (closed ca i place) ≡ end → suc (at + length ca) ≡ end
+end_after at end ca i place e = omega (arith, e, length-append ca (line i 1 place ∷ []))
 
 -- that line takes its ticks and leaves the slot of the expression
 pub last_line : (code : Code) (t : Shape) (s : State) (at : ℕ) (stack : List Slot) (w : World) (end : ℕ) (x : After) (i : Instr) (place : Place)

@@ -17,11 +17,11 @@ use Rattle.sz_gen_rules.specs.Tables.{Tables, constant_number, type_number, line
 abbrev pub followed : ℕ → List Line → (ℕ → List Line) → List Line
 followed at code next = code ++ next (at + length code)
 
--- code and one line behind it
+-- code and one line after it
 abbrev pub closed : List Line → Instr → Place → List Line
 closed code instr place = code ++ line instr 1 place ∷ []
 
--- the code of `&&` or `||` behind that of the left operand: the test passes over the right operand to the tick of the whole
+-- the code of `&&` or `||` after that of the left operand: the test passes over the right operand to the tick of the whole
 abbrev pub decided : (ℕ → Instr) → Place → (ℕ → List Line) → ℕ → List Line
 decided test place right at =
     let code = right (suc at) in

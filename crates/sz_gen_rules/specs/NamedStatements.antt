@@ -9,7 +9,7 @@ use Rattle.sz_gen_rules.specs.Tables.{Tables, HasConstant}
 use Rattle.sz_gen_rules.specs.Named.{HasNames, HaveNames, StepsHaveNames}
 
 module _ (tables : Tables) where
-  -- a variable for each candidate has flags, which are truth values. Behind one for all candidates there are none.
+  -- a variable for each candidate has flags, which are truth values. Later one for all candidates there are none.
   abbrev pub QuantityHasNames : Quantity → (rest : Type 0) → Type 0
   QuantityHasNames some rest = rest
   QuantityHasNames each rest = HasConstant tables (Datum.truth false) × HasConstant tables (Datum.truth true) × rest

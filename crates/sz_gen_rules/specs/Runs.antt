@@ -21,12 +21,12 @@ use Rattle.sz_gen_rules.specs.Tables.{tables_in}
 use Rattle.sz_gen_rules.specs.ExpressionCode.{expression_code}
 use Rattle.sz_gen_rules.specs.Named.{HasNames}
 
--- what is known behind an expression of a type: no ticks came back, and its slot has the type
+-- what is known after an expression of a type: no ticks came back, and its slot has the type
 pub record Kept (before : World) (t : Shape) (x : Slot) (after : World) : Type 0 where
   pub left : after.left ≤ before.left
   pub typed : Fits x t
 
--- the same behind expressions of types
+-- the same after expressions of types
 pub record AllKept (before : World) (ts : List Shape) (xs : List Slot) (after : World) : Type 0 where
   pub left : after.left ≤ before.left
   pub typed : AllFit xs ts
@@ -84,12 +84,12 @@ abbrev pub HasAt : List Line → ℕ → List Line → Type 0
 HasAt lines at [] = Unit {0}
 HasAt lines at (l ∷ rest) = (slice_get lines at ≡ Some l) × HasAt lines (suc at) rest
 
--- the run comes behind code that ends at this line with what an expression gives, its slot on the stack, or to its fault
+-- the run comes after code that ends at this line with what an expression gives, its slot on the stack, or to its fault
 abbrev pub Leaves : Code → State → ℕ → Given Slot → Type 0
 Leaves code s end (Gives slot w) = ComesTo code s (Goes (record s { at = end; stack = slot ∷ s.stack; world = w }))
 Leaves code s end (Stops fault) = ComesTo code s (Faults fault)
 
--- wherever the code of an expression that has its type stands in code with what it names, the run comes behind it with the slot, the ticks
+-- wherever the code of an expression that has its type stands in code with what it names, the run comes after it with the slot, the ticks
 -- and the emits that the expression gives, or to the expression's fault, in each state where what the expression sees is there. The premise
 -- is that the calls of the machine do what those of the meaning do with fewer ticks left.
 pub record CodeDoesWhatIsMeant : Type 0 where

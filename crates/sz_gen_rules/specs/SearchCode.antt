@@ -62,7 +62,7 @@ module _ (tables : Tables) (place : Place) (condition : ℕ → List Line) (body
   variable_code each v rest flagged whole flags fail at = each_code place tables v flagged fail at
   variable_code all v rest flagged whole flags fail at = whole fail at ++ body flags (at + length (whole fail at))
 
-  -- the search over these variables in order: it goes on behind its code, or to a line where it fails
+  -- the search over these variables in order: it goes on after its code, or to a line where it fails
   abbrev pub search_code : List VariableCode → (flags fail : ℕ) → ℕ → List Line
   search_code [] flags fail at =
       let asked = condition at in

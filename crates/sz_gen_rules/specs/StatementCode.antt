@@ -67,10 +67,10 @@ loop_code place between test body at =
     goes start ∷ goes (start + length asked + length turn + 1)
     ∷ (stepped ++ line Tick 1 place ∷ (asked ++ (turn ++ goes (at + 2) ∷ [])))
 
--- a loop that is tested behind each turn: a jump to the body; a jump past the loop, to which `break` and the test go; a jump to the
+-- a loop that is tested after each turn: a jump to the body; a jump past the loop, to which `break` and the test go; a jump to the
 -- test, to which `continue` goes; the body; the test, the loop return, and a jump to the body
-abbrev pub loop_behind_code : Place → (body test : ℕ → List Line) → ℕ → List Line
-loop_behind_code place body test at =
+abbrev pub loop_after_code : Place → (body test : ℕ → List Line) → ℕ → List Line
+loop_after_code place body test at =
     let turn = body (at + 3) in
     let start = at + 3 + length turn in
     let asked = test start in
@@ -102,7 +102,7 @@ module _ (tables : Tables) where
     statement_code (while place e body) out at =
         loop_code place (λ _. []) (test_code tables place (Some e) (at + 1)) (statement_code body (in_loop out (at + 1) (at + 2))) at
     statement_code (do_while place body e) out at =
-        loop_behind_code place (statement_code body (in_loop out (at + 1) (at + 2))) (test_code tables place (Some e) (at + 1)) at
+        loop_after_code place (statement_code body (in_loop out (at + 1) (at + 2))) (test_code tables place (Some e) (at + 1)) at
     statement_code (for_loop place e between body) out at =
         loop_code place (statement_code between out) (test_code tables place e (at + 1)) (statement_code body (in_loop out (at + 1) (at + 2))) at
     statement_code break out at = goes out.on_break ∷ []

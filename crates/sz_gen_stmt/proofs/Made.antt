@@ -23,14 +23,14 @@ use Rattle.sz_gen_expr.specs.declared.builder.Builder.{Builder}
 use Rattle.sz_gen_rules.specs.Tables.{Tables, HasConstant, line}
 use Rattle.sz_gen_rules.specs.ExpressionCode.{followed, expression_code}
 use Rattle.sz_gen_expr.specs.Building.{tables_made, Grows, Appends, AppendsLine, AppendsClosed, Lands, Nothing}
-use Rattle.sz_gen_expr.proofs.Builds.{grows_itself, grows_on, grows_same, landed_grows, behind}
+use Rattle.sz_gen_expr.proofs.Builds.{grows_itself, grows_on, grows_same, landed_grows, after}
 use Rattle.sz_gen_rules.specs.StatementCode as codes
 use Rattle.sz_gen_rules.specs.FreeLines.{no_place}
-use Rattle.sz_gen_rules.specs.StatementCode.{no_exits, branch_code, loop_code, loop_behind_code}
+use Rattle.sz_gen_rules.specs.StatementCode.{no_exits, branch_code, loop_code, loop_after_code}
 use Rattle.sz_gen_rules.specs.ProgramCode.{IsCodeOf, returns_undefined, function_code, functions_code, function_routines, static_code, statics_code, static_routines, record_code}
 use Rattle.sz_gen_rules.specs.NamedStatements.{StmsHaveNames}
 use Rattle.sz_gen_stmt.specs.Making.{AppendsStm, AppendsStms, Extends, ExtendsFunction, ExtendsFunctions, ExtendsStatic, ExtendsStatics}
-use Rattle.sz_gen_stmt.proofs.Patches.{length-patched, branch_lines, loop_lines, loop_behind_lines}
+use Rattle.sz_gen_stmt.proofs.Patches.{length-patched, branch_lines, loop_lines, loop_after_lines}
 
 -- a statement of this form
 pub of_stm : {old new : Builder} (out : codes.Exits) (s : CoreStmt) (x : Stm) → stm_of s ≡ x → AppendsStm old new x out → AppendsStm old new (stm_of s) out
@@ -101,7 +101,7 @@ loop_made {old} {m1} {m2} {m3} {m4} {m5} {m6} {m7} {m8} {new} {between} test bod
       statics = l2.statics ∙ h7.statics ∙ h6.statics ∙ h5.statics ∙ l1.statics ∙ h4.statics ∙ h3.statics ∙ h2.statics ∙ h1.statics;
     }
 
-pub loop_behind_made : {old m1 m2 m3 m4 m5 m6 m7 m8 m9 new : Builder} {named1 named2 : Tables → Type 0}
+pub loop_after_made : {old m1 m2 m3 m4 m5 m6 m7 m8 m9 new : Builder} {named1 named2 : Tables → Type 0}
     (test : Tables → ℕ → ℕ → List Line) (body : Tables → ℕ → ℕ → ℕ → List Line) (place : Place) (to_body past to_test again : ℕ)
     → to_body ≡ length old.lines → AppendsLine old m1 (λ tables. Jump 0) 0 no_place Nothing
     → past ≡ length m1.lines → AppendsLine m1 m2 (λ tables. Jump 0) 0 no_place Nothing
@@ -109,9 +109,9 @@ pub loop_behind_made : {old m1 m2 m3 m4 m5 m6 m7 m8 m9 new : Builder} {named1 na
     → again ≡ length m3.lines → Lands m3 m4 to_body → Appends m4 m5 (λ tables at. body tables past to_test at) named2 → Lands m5 m6 to_test
     → Appends m6 m7 (λ tables at. test tables past at) named1 → AppendsLine m7 m8 (λ tables. Tick) 1 place Nothing
     → AppendsLine m8 m9 (λ tables. Jump again) 0 no_place Nothing → Lands m9 new past
-    → Appends old new (λ tables at. loop_behind_code place (body tables (at + 1) (at + 2)) (test tables (at + 1)) at)
+    → Appends old new (λ tables at. loop_after_code place (body tables (at + 1) (at + 2)) (test tables (at + 1)) at)
     (λ tables. named2 tables × named1 tables)
-loop_behind_made {old} {m1} {m2} {m3} {m4} {m5} {m6} {m7} {m8} {m9} {new} test body place to_body past to_test again
+loop_after_made {old} {m1} {m2} {m3} {m4} {m5} {m6} {m7} {m8} {m9} {new} test body place to_body past to_test again
     k0 h1 k1 h2 k2 h3 k3 l1 h4 l2 h5 h6 h7 l3 =
     let g9 = landed_grows l3 in
     let g8 = grows_on h7.grows g9 in
@@ -122,7 +122,7 @@ loop_behind_made {old} {m1} {m2} {m3} {m4} {m5} {m6} {m7} {m8} {m9} {new} test b
     let g1 = grows_on h2.grows g2 in
     record {
       grows = grows_on h1.grows g1;
-      lines = λ tables g. loop_behind_lines old.lines (test tables) (body tables)
+      lines = λ tables g. loop_after_lines old.lines (test tables) (body tables)
           m1.lines m2.lines m3.lines m4.lines m5.lines m6.lines m7.lines m8.lines m9.lines new.lines place to_body past to_test again
           k0 (h1.lines tables (grows_on g1 g)) k1 (h2.lines tables (grows_on g2 g)) k2 (h3.lines tables (grows_on g3 g)) k3 l1.lines
           (h4.lines tables (grows_on g5 g)) l2.lines (h5.lines tables (grows_on g7 g)) (h6.lines tables (grows_on g8 g)) (h7.lines tables (grows_on g9 g)) l3.lines;
@@ -144,12 +144,12 @@ extends_none b named = record {
   names = λ tables g. named tables;
 }
 
--- one piece behind another
-pub extends_behind : {old m new : Builder} {c1 c2 : Tables → ℕ → List Line} {f1 f2 s1 s2 : Tables → ℕ → List Routine} {n1 n2 : Tables → Type 0}
+-- one piece after another
+pub extends_after : {old m new : Builder} {c1 c2 : Tables → ℕ → List Line} {f1 f2 s1 s2 : Tables → ℕ → List Routine} {n1 n2 : Tables → Type 0}
     → Extends old m c1 f1 s1 n1 → Extends m new c2 f2 s2 n2
     → Extends old new (λ tables at. followed at (c1 tables at) (c2 tables)) (λ tables at. f1 tables at ++ f2 tables (at + length (c1 tables at)))
     (λ tables at. s1 tables at ++ s2 tables (at + length (c1 tables at))) (λ tables. n1 tables × n2 tables)
-extends_behind {old} {m} {new} {c1} {c2} {f1} {f2} {s1} {s2} h k =
+extends_after {old} {m} {new} {c1} {c2} {f1} {f2} {s1} {s2} h k =
     let first : (tables : Tables) → Grows (tables_made new) tables → Grows (tables_made m) tables = λ tables g. grows_on k.grows g in
     let place : (tables : Tables) → Grows (tables_made new) tables → length m.lines ≡ length old.lines + length (c1 tables (length old.lines)) =
     λ tables g. ap length (h.lines tables (first tables g)) ∙ length-append old.lines (c1 tables (length old.lines)) in
@@ -174,7 +174,7 @@ extends_behind {old} {m} {new} {c1} {c2} {f1} {f2} {s1} {s2} h k =
 pub function_before : {old m new : Builder} (f : Function) (fs : List Function)
     → ExtendsFunction old m f → ExtendsFunctions m new fs → ExtendsFunctions old new (f ∷ fs)
 function_before f fs h k =
-    let whole = extends_behind h k in
+    let whole = extends_after h k in
     record {
       grows = whole.grows;
       lines = whole.lines;
@@ -191,7 +191,7 @@ static_before {old} {m} {new} s ss h k =
     let r : Routine = record { entry = length old.lines; params = 0; locals = 0 } in
     let next : length m.statics ≡ suc (length old.statics) =
     omega (arith, ap length (h.statics now (grows_itself now)), length-append old.statics (r ∷ [])) in
-    extends_behind h (subst (λ n. ExtendsStatics m new n ss) next k)
+    extends_after h (subst (λ n. ExtendsStatics m new n ss) next k)
 
 -- a function: where it begins, its statements, and the return of undefined
 pub function_made : (old m1 m2 new : Builder) (f : Function) (params locals : ℕ)
@@ -202,7 +202,7 @@ pub function_made : (old m1 m2 new : Builder) (f : Function) (params locals : �
     → Appends m2 new (λ tables at. returns_undefined tables) (λ tables. HasConstant tables (Datum.int (pos 0)))
     → ExtendsFunction old new f
 function_made old m1 m2 new f params locals is_params is_locals functions lines statics constants types h k =
-    let whole = behind h k in
+    let whole = after h k in
     record {
       grows = grows_on (grows_same (tables_made old) (tables_made m1) constants types) whole.grows;
       lines = λ tables g. whole.lines tables g ∙ ap (λ l. l ++ function_code tables f (length l)) lines;
@@ -220,7 +220,7 @@ pub static_made : (old m1 m2 new : Builder) (s : Static) (n : ℕ) → n ≡ len
     → AppendsLine m2 new (λ tables. EndRecord) 0 no_place Nothing
     → ExtendsStatic old new (length old.statics) s
 static_made old m1 m2 new s n is statics lines functions constants types h k =
-    let whole = behind h k in
+    let whole = after h k in
     subst (λ i. ExtendsStatic old new i s) is record {
       grows = grows_on (grows_same (tables_made old) (tables_made m1) constants types) whole.grows;
       lines = λ tables g. whole.lines tables g

@@ -5,9 +5,9 @@ use Rattle.sz_instr.specs.declared.line.Line.{Line}
 use Rattle.sz_types.specs.declared.place.Place.{Place}
 use Rattle.sz_gen_rules.specs.Tables.{line}
 use Rattle.sz_gen_expr.specs.Building.{patched}
-use Rattle.sz_gen_expr.proofs.Patches.{patched_behind}
+use Rattle.sz_gen_expr.proofs.Patches.{patched_after}
 use Rattle.sz_gen_rules.specs.FreeLines.{goes}
-use Rattle.sz_gen_rules.specs.StatementCode.{branch_code, loop_code, loop_behind_code}
+use Rattle.sz_gen_rules.specs.StatementCode.{branch_code, loop_code, loop_after_code}
 
 pub length-patched : (lines : List Line) (at to : ℕ) → length (patched lines at to) ≡ length lines
 length-patched [] at to = refl
@@ -33,7 +33,7 @@ pub suc_plus : (m n : ℕ) → suc m + n ≡ suc (m + n)
 suc_plus m n = omega arith
 
 -- what brings code in the making and its definition to one form
-pub ruleset patches = (append_assoc, length-append, add_assoc, patched-append, patched_behind, one_add, two_add, three_add, suc_plus, length-patched)
+pub ruleset patches = (append_assoc, length-append, add_assoc, patched-append, patched_after, one_add, two_add, three_add, suc_plus, length-patched)
 
 pub branch_lines : (base ce : List Line) (ca cb : ℕ → List Line) (c1 c2 c3 c4 c5 c6 c7 : List Line) (p : Place) (skip over : ℕ)
     → c1 ≡ base ++ ce → skip ≡ length c1 → c2 ≡ c1 ++ line (Test 0) 1 p ∷ [] → c3 ≡ c2 ++ ca (length c2) → over ≡ length c3 → c4 ≡ c3 ++ goes 0 ∷ []
@@ -51,13 +51,13 @@ pub loop_lines : (base : List Line) (cn : ℕ → List Line) (ce : ℕ → ℕ �
 loop_lines base cn ce cs c1 c2 c3 c4 c5 c6 c7 c8 c9 p to_test past again m0 e1 m1 e2 m2 e3 e4 e5 e6 e7 e8 e9 =
     simp (e9, e8, e7, e6, e5, e4, e3, m2, e2, m1, e1, m0, patches)
 
-pub loop_behind_lines : (base : List Line) (ce : ℕ → ℕ → List Line) (cs : ℕ → ℕ → ℕ → List Line)
+pub loop_after_lines : (base : List Line) (ce : ℕ → ℕ → List Line) (cs : ℕ → ℕ → ℕ → List Line)
     (c1 c2 c3 c4 c5 c6 c7 c8 c9 c10 : List Line) (p : Place) (to_body past to_test again : ℕ)
     → to_body ≡ length base → c1 ≡ base ++ goes 0 ∷ [] → past ≡ length c1 → c2 ≡ c1 ++ goes 0 ∷ [] → to_test ≡ length c2 → c3 ≡ c2 ++ goes 0 ∷ []
     → again ≡ length c3 → c4 ≡ patched c3 to_body (length c3) → c5 ≡ c4 ++ cs past to_test (length c4) → c6 ≡ patched c5 to_test (length c5)
     → c7 ≡ c6 ++ ce past (length c6) → c8 ≡ c7 ++ line Tick 1 p ∷ [] → c9 ≡ c8 ++ goes again ∷ [] → c10 ≡ patched c9 past (length c9)
-    → c10 ≡ base ++ loop_behind_code p (cs (length base + 1) (length base + 2)) (ce (length base + 1)) (length base)
-loop_behind_lines base ce cs c1 c2 c3 c4 c5 c6 c7 c8 c9 c10 p to_body past to_test again m0 e1 m1 e2 m2 e3 m3 e4 e5 e6 e7 e8 e9 e10 =
+    → c10 ≡ base ++ loop_after_code p (cs (length base + 1) (length base + 2)) (ce (length base + 1)) (length base)
+loop_after_lines base ce cs c1 c2 c3 c4 c5 c6 c7 c8 c9 c10 p to_body past to_test again m0 e1 m1 e2 m2 e3 m3 e4 e5 e6 e7 e8 e9 e10 =
     let n1 : past ≡ length base + 1 = omega (arith, m1, ap length e1, length-append base (goes 0 ∷ [])) in
     let n2 : to_test ≡ length base + 2 = omega (arith, m2, ap length e2, length-append c1 (goes 0 ∷ []), m1, n1) in
     let n3 : again ≡ length base + 3 = omega (arith, m3, ap length e3, length-append c2 (goes 0 ∷ []), m2, n2) in

@@ -11,7 +11,7 @@ use Rattle.sz_gen_rules.specs.Tables.{Tables, HasConstant, constant_number}
 use Rattle.sz_gen_rules.specs.ExpressionCode.{expression_code}
 use Rattle.sz_gen_rules.specs.Named.{HasNames}
 use Rattle.sz_gen_expr.specs.Building.{Appends, AppendsLine, AppendsNode, Lands, Nothing}
-use Rattle.sz_gen_expr.proofs.Builds.{grows_on, landed_grows, behind, renamed}
+use Rattle.sz_gen_expr.proofs.Builds.{grows_on, landed_grows, after, renamed}
 use Rattle.sz_gen_rules.specs.FreeLines.{no_place, free, goes}
 use Rattle.sz_gen_rules.specs.StatementCode as codes
 use Rattle.sz_gen_rules.specs.StatementCode.{in_search, discards, variable_code_of, statement_code}
@@ -126,7 +126,7 @@ module _ (place : Place) (condition : Node) (body : Stm) (out : codes.Exits) (fa
   -- no variable is left: the condition, and the statement inside
   pub none_searched : {old m1 m2 new : Builder} → AppendsNode old m1 condition → AppendsLine m1 m2 (λ tables. Meets fail) 0 no_place Nothing
       → AppendsStm m2 new body out → AppendsSearch old new place [] condition body out fail
-  none_searched h1 h2 h3 = renamed (λ tables n. (tt, tt, n.0, n.1.1)) (behind h1 (behind h2 h3))
+  none_searched h1 h2 h3 = renamed (λ tables n. (tt, tt, n.0, n.1.1)) (after h1 (after h2 h3))
 
   -- a variable that is quantified so
   of_quantity : {old new : Builder} (v : Quantified) (more : List Quantified) (q : Quantity) → v.quantity ≡ q
@@ -181,16 +181,16 @@ module _ (place : Place) (condition : Node) (body : Stm) (out : codes.Exits) (fa
   pub all_searched : {old m1 new : Builder} (v : Quantified) (more : List Quantified) → v.quantity ≡ all
       → AppendsHolds old m1 place (v ∷ more) condition fail → AppendsStm m1 new body out
       → AppendsSearch old new place (v ∷ more) condition body out fail
-  all_searched v more is h1 h2 = of_quantity v more all is (renamed (λ tables n. (n.0.0, tt, n.0.1, n.1)) (behind h1 h2))
+  all_searched v more is h1 h2 = of_quantity v more all is (renamed (λ tables n. (n.0.0, tt, n.0.1, n.1)) (after h1 h2))
 
 -- ---- flags that are taken off the stack
 
-discards_behind : (n : ℕ) → discards n ++ free Discard ∷ [] ≡ discards (suc n)
-discards_behind zero = refl
-discards_behind (suc n) = ap (λ l. free Discard ∷ l) (discards_behind n)
+discards_after : (n : ℕ) → discards n ++ free Discard ∷ [] ≡ discards (suc n)
+discards_after zero = refl
+discards_after (suc n) = ap (λ l. free Discard ∷ l) (discards_after n)
 
 pub discards_more : {old m new : Builder} (n : ℕ) → Appends old m (λ tables at. discards n) Nothing
     → AppendsLine m new (λ tables. Discard) 0 no_place Nothing → Appends old new (λ tables at. discards (n + 1)) Nothing
 discards_more {old} {m} {new} n h k =
     let one : suc n ≡ n + 1 = omega arith in
-    renamed (λ tables u. tt) (subst (λ l. Appends old new (λ tables at. l) (λ tables. Nothing tables × Nothing tables)) (discards_behind n ∙ ap discards one) (behind h k))
+    renamed (λ tables u. tt) (subst (λ l. Appends old new (λ tables at. l) (λ tables. Nothing tables × Nothing tables)) (discards_after n ∙ ap discards one) (after h k))

@@ -1,4 +1,4 @@
--- Code in the making, with the code of statements and routines behind what it has.
+-- Code in the making, with the code of statements and routines after what it has.
 use Rattle.std.specs.Prelude.{◌≡◌, ℕ, ◌+◌, pos, List, [], ◌∷◌, ◌++◌, length, map, Option, None, Some, IfSome}
 use Rattle.std.specs.Option.{option_map}
 use Rattle.std.specs.Borrow.{Bor}

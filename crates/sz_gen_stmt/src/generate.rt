@@ -128,7 +128,7 @@ fn gen_if_any(s: Option<&CoreStmt>, out: Exits, into: &mut Builder) -> Result<()
     }
 }
 
-// Appends the code of a loop that is tested behind each turn.
+// Appends the code of a loop that is tested after each turn.
 #[cycle(statements)]
 fn gen_do_while(
     place: Place,

@@ -36,7 +36,7 @@ fn outcome(alloc: Global, text: &[u8]) -> String {
     out
 }
 
-// The code of a row, ` | ` behind each of its lines.
+// The code of a row, ` | ` after each of its lines.
 fn joined(alloc: Global, lines: &str) -> String {
     let mut text = String::new(alloc);
     for line in lines.lines() {
@@ -45,7 +45,7 @@ fn joined(alloc: Global, lines: &str) -> String {
     text
 }
 
-// Whether the program of a row has the code behind it.
+// Whether the program of a row has the code after it.
 fn holds(alloc: Global, row: &str) -> bool {
     let (program, lines) = row.split_once("=> ").unwrap_or((row, "no code"));
     let wanted = joined(alloc, lines);

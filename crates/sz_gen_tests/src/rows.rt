@@ -1,4 +1,4 @@
-//! Programs, each with its code as text behind `=>`: the constants and types that lines name by numbers from 0; the functions, each with
+//! Programs, each with its code as text after `=>`: the constants and types that lines name by numbers from 0; the functions, each with
 //! its first line, its parameters and its locals; the first line of each static; that of the record, with its locals; and the lines, each
 //! with its place, its instruction, its ticks, and the place in the program that a fault at it has. Blank lines part the programs.
 

@@ -118,7 +118,7 @@ fn line(out: &mut String, at: usize, line: &Line) {
     let _ = write!(out, " +{charge} {}:{} | ", place.line, place.column);
 }
 
-/// The code: each name, routine and line of it, with ` | ` behind it.
+/// The code: each name, routine and line of it, with ` | ` after it.
 pub fn code(out: &mut String, code: &Code) {
     names(out, code);
     routines(out, code);

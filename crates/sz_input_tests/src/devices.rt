@@ -181,7 +181,7 @@ fn a_real_stream_takes_a_text(rt: HostRuntime) {
     NoGate.at(0, 0, 0);
 }
 
-// Whether a sink over the stream takes a text, behind which a mark is then written by another way while the sink is still there.
+// Whether a sink over the stream takes a text, after which a mark is then written by another way while the sink is still there.
 fn writes_and_marks<W: Write + Drop>(stream: W, mark: &mut impl Write) -> bool {
     let mut sink = OsSink::new(stream);
     let written = write_whole(&mut sink, b"a text") == Ok(());

@@ -3,7 +3,7 @@ use std::alloc::{AllocError, Global};
 use sz_wire::WireKind::{Eight, Four, Group, Span, Varint};
 use sz_wire::{Bad, WireField, next_field, read_key, read_varint};
 
-// Bytes, and the varint at their front with the place behind it.
+// Bytes, and the varint at their front with the place after it.
 const VARINTS: &[(&[u8], Result<(u64, usize), Bad>)] = &[
     (&[0x00], Ok((0, 1))),
     (&[0xac, 0x02], Ok((300, 2))),
@@ -22,7 +22,7 @@ const VARINTS: &[(&[u8], Result<(u64, usize), Bad>)] = &[
     (b"\xff\xff\xff\xff\xff\xff\xff\xff\xff\xff\x01", Err(Bad)),
 ];
 
-// Bytes, and the key at their front with the place behind it.
+// Bytes, and the key at their front with the place after it.
 const KEYS: &[(&[u8], Result<(u32, u8, usize), Bad>)] = &[
     (b"\x0a", Ok((1, 2, 1))),
     (b"\x02", Err(Bad)),
@@ -32,7 +32,7 @@ const KEYS: &[(&[u8], Result<(u32, u8, usize), Bad>)] = &[
     (b"\x8d\x80\x80\x80\x80\x80\x80\x80\x80\x02", Ok((1, 5, 10))),
 ];
 
-// Bytes, and the field at their front, with the place behind it.
+// Bytes, and the field at their front, with the place after it.
 type FieldRow = (&'static [u8], Result<Option<WireField>, Bad>);
 
 const FIELDS: &[FieldRow] = &[

@@ -71,13 +71,13 @@ counted files i file new there fits called =
       faults_now = rw next (omega (arith, moved, count, after));
     }
 
--- a file found behind the first i is found there
-pub found_behind : (files : List HeldFile) (name : List ℕ) (i k : ℕ) → place_in (drop i files) name ≡ Some k
+-- a file found after the first i is found there
+pub found_after : (files : List HeldFile) (name : List ℕ) (i k : ℕ) → place_in (drop i files) name ≡ Some k
     → place_in files name ≡ Some (i + k)
-found_behind files name zero k found = let e : 0 + k ≡ k = omega arith in rw e found
-found_behind [] name (suc i) k found = cc
-found_behind (f ∷ fs) name (suc i) k found =
-    let rest : place_in fs name ≡ Some (i + k) = found_behind fs name i k found in
+found_after files name zero k found = let e : 0 + k ≡ k = omega arith in rw e found
+found_after [] name (suc i) k found = cc
+found_after (f ∷ fs) name (suc i) k found =
+    let rest : place_in fs name ≡ Some (i + k) = found_after fs name i k found in
     let e : i + k + 1 ≡ suc i + k = omega arith in
     rw rest (ap Some e)
 
@@ -86,10 +86,10 @@ pub found_at : (files : List HeldFile) (name : List ℕ) (i n : ℕ) (d : HeldFi
     → place_in (drop n files) name ≡ None → bytes_eq (string_bytes (get_or files i d).name) name ≡ true → Some i ≡ place_in files name
 found_at files name i n d next in_range later here =
     let inside : i < length files = omega arith in
-    let behind : suc i ≡ n = omega arith in
+    let following : suc i ≡ n = omega arith in
     let front : drop i files ≡ get_or files i d ∷ drop n files =
-    drop-cons files i d inside ∙ ap (λ k. get_or files i d ∷ drop k files) behind in
+    drop-cons files i d inside ∙ ap (λ k. get_or files i d ∷ drop k files) following in
     let first : place_in (drop i files) name ≡ Some 0 = rw (front, later, here) refl in
-    let all = found_behind files name i 0 first in
+    let all = found_after files name i 0 first in
     let e : i + 0 ≡ i = omega arith in
     sym (all ∙ ap Some e)

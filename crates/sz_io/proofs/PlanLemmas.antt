@@ -19,7 +19,7 @@ plan_at-push_old files file i inside = ap (option_map file_plan) (slice_get-push
 pub plan_at-push_new : (files : List HeldFile) (file : HeldFile) → plan_at (files ++ file ∷ []) (length files) ≡ Some (file_plan file)
 plan_at-push_new files file = ap (option_map file_plan) (slice_get-push_new files file)
 
--- there is no plan behind the files
+-- there is no plan after the files
 pub plan_at-end : (files : List HeldFile) → plan_at files (length files) ≡ None
 plan_at-end [] = refl
 plan_at-end (f ∷ fs) = plan_at-end fs
@@ -70,10 +70,10 @@ module _ (old new : List HeldFile) (i : ℕ) (file : Option ℕ) (found : Some i
   file_others other apart = called.others_same other (λ e. apart (ap Some e ∙ found))
 
 -- one file more was opened: the next number stands for it, and every other number for what it stood for
-pub behind-push : (opened : List Place) (place : Place) (number next : ℕ) (file : Option ℕ) → Some place.file ≡ file → next ≡ length opened
+pub following-push : (opened : List Place) (place : Place) (number next : ℕ) (file : Option ℕ) → Some place.file ≡ file → next ≡ length opened
     → option_map (λ p. p.file) (slice_get (opened ++ place ∷ []) number)
     ≡ (if number == next then file else option_map (λ p. p.file) (slice_get opened number))
-behind-push opened place number next file same end = at (number == next) refl where
+following-push opened place number next file same end = at (number == next) refl where
   at : (b : Bool) → (number == next) ≡ b → option_map (λ p. p.file) (slice_get (opened ++ place ∷ []) number)
       ≡ (if number == next then file else option_map (λ p. p.file) (slice_get opened number))
   at true here =
@@ -87,13 +87,13 @@ behind-push opened place number next file same end = at (number == next) refl wh
       rw (apart, got) refl
 
 -- a place that moved in its file: every number stands for the file that it stood for
-pub behind-set : (opened : List Place) (k number : ℕ) (place moved : Place) → slice_get opened k ≡ Some place → moved.file ≡ place.file
+pub following-set : (opened : List Place) (k number : ℕ) (place moved : Place) → slice_get opened k ≡ Some place → moved.file ≡ place.file
     → option_map (λ p. p.file) (slice_get (set opened k moved) number) ≡ option_map (λ p. p.file) (slice_get opened number)
-behind-set [] k number place moved there same = refl
-behind-set (p ∷ ps) zero zero place moved there same = let e : p ≡ place = cc in ap Some (same ∙ ap (λ q. q.file) (sym e))
-behind-set (p ∷ ps) zero (suc number) place moved there same = refl
-behind-set (p ∷ ps) (suc k) zero place moved there same = refl
-behind-set (p ∷ ps) (suc k) (suc number) place moved there same = behind-set ps k number place moved there same
+following-set [] k number place moved there same = refl
+following-set (p ∷ ps) zero zero place moved there same = let e : p ≡ place = cc in ap Some (same ∙ ap (λ q. q.file) (sym e))
+following-set (p ∷ ps) zero (suc number) place moved there same = refl
+following-set (p ∷ ps) (suc k) zero place moved there same = refl
+following-set (p ∷ ps) (suc k) (suc number) place moved there same = following-set ps k number place moved there same
 
 -- an answer that fails exactly where a test holds tells the test
 pub listed_so : {T E : Type 0} (result : Result T E) (b : Bool) → (IsErr result ↔ IsTrue b) → is_err result ≡ b

@@ -27,7 +27,7 @@ bytes_at files i = option_map_or (λ file. file.bytes.items) (slice_get files i)
 abbrev pub held_in : List HeldFile → List ℕ → Option (List ℕ)
 held_in files name = option_map (bytes_at files) (place_in files name)
 
--- the bytes behind a place
+-- the bytes after a place
 abbrev pub rest_of : List HeldFile → Place → Option (List ℕ)
 rest_of files place = Some (drop place.at (bytes_at files place.file))
 

@@ -34,8 +34,8 @@ abbrev pub file_of : MemFiles → List ℕ → Option ℕ
 file_of files name = place_in files.files.items name
 
 -- the file that was opened under a number
-abbrev pub file_behind : MemFiles → ℕ → Option ℕ
-file_behind files number = option_map (λ place. place.file) (slice_get files.opened.items number)
+abbrev pub file_after : MemFiles → ℕ → Option ℕ
+file_after files number = option_map (λ place. place.file) (slice_get files.opened.items number)
 
 -- the plan of a file, if there is one
 abbrev pub plan_of : MemFiles → Option ℕ → Option Plan
@@ -64,14 +64,14 @@ CallsByName old new name (Err Failed) = CallsFile old new (file_of old name) tru
 CallsByName old new name (Err NoMemory) = CallsNone old new
 
 -- the file under a number after a call of `open_file` on this one: the number answered has it, and the others what they had
-abbrev pub behind_after : (ℕ → Option ℕ) → Option ℕ → Result ℕ OutsideError → ℕ → Option ℕ
-behind_after behind file (Ok answered) number = if number == answered then file else behind number
-behind_after behind file (Err error) number = behind number
+abbrev pub after_after : (ℕ → Option ℕ) → Option ℕ → Result ℕ OutsideError → ℕ → Option ℕ
+after_after following file (Ok answered) number = if number == answered then file else following number
+after_after following file (Err error) number = following number
 
 -- a call of `open_file` goes by the plan of the file of its name, and the number answered stands for this file
 pub record OpensByPlan (old new : MemFiles) (name : List ℕ) (result : Result ℕ OutsideError) : Type 0 where
   pub calls : CallsByName old new name result
-  pub behind : (number : ℕ) → file_behind new number ≡ behind_after (file_behind old) (file_of old name) result number
+  pub following : (number : ℕ) → file_after new number ≡ after_after (file_after old) (file_of old name) result number
 
 -- no file is there, and none was opened
 pub record IsEmpty (files : MemFiles) : Type 0 where
@@ -83,8 +83,8 @@ pub record IsEmpty (files : MemFiles) : Type 0 where
 -- every number stands for the same file with the same bytes left, and the names opened and the count of faults are the same
 pub record SameOpened (old new : MemFiles) : Type 0 where
   pub left_same : (number : ℕ) → left_bytes new number ≡ left_bytes old number
-  pub behind_same : (number : ℕ) → file_behind new number ≡ file_behind old number
-  pub plans_same : (number : ℕ) → plan_of new (file_behind new number) ≡ plan_of old (file_behind old number)
+  pub after_same : (number : ℕ) → file_after new number ≡ file_after old number
+  pub plans_same : (number : ℕ) → plan_of new (file_after new number) ≡ plan_of old (file_after old number)
   pub given_same : (number : ℕ) → is_given new number ≡ is_given old number
   pub names_same : names_opened new ≡ names_opened old
   pub faults_same : files_faults new ≡ files_faults old

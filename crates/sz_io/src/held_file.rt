@@ -74,7 +74,7 @@ pub fn copy_front(from: &[u8], into: &mut [u8]) -> usize
     count
 }
 
-/// Counts a read at the place, and moves the place behind the bytes that it gives.
+/// Counts a read at the place, and moves the place after the bytes that it gives.
 pub fn read_at(files: &mut [HeldFile], place: &mut Place, into: &mut [u8]) -> Result<usize, Failed>
     requires { IsPlaced files.old place.old }
 

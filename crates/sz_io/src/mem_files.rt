@@ -72,7 +72,7 @@ impl MemFiles {
 
 impl Files for MemFiles {
     ghost use Rattle.sz_io.specs.MemFiles.{held_bytes, left_bytes, is_given, names_opened, files_faults};
-    ghost use Rattle.sz_io.specs.MemFiles.{file_behind, CallsFile, OpensByPlan};
+    ghost use Rattle.sz_io.specs.MemFiles.{file_after, CallsFile, OpensByPlan};
 
     ghost held = { held_bytes };
 
@@ -126,8 +126,8 @@ impl Files for MemFiles {
         ensures failed { OnErr result (Rose (files_faults self.old) (files_faults self.new)) }
         ensures kept { KeepsOtherFiles held_bytes left_bytes is_given names_opened files_faults file self.old self.new }
 
-        ensures plan { CallsFile self.old self.new (file_behind self.old file) (is_err result) }
-        ensures behind { (number : ℕ) → file_behind self.new number ≡ file_behind self.old number }
+        ensures plan { CallsFile self.old self.new (file_after self.old file) (is_err result) }
+        ensures following { (number : ℕ) → file_after self.new number ≡ file_after self.old number }
         ensures moves { IfOk result (λ n. IfSome (left_bytes self.old file) (λ left. n ≡ min (length left) (length into.new))) }
     {
         read_at(&mut self.files, &mut self.opened[file as usize], into)

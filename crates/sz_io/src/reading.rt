@@ -63,7 +63,7 @@ fn read_to_end<F: Files>(
         if filled == bytes.len() {
             make_room(&mut bytes, limit)?;
         }
-        match read_behind(files, file, &mut bytes, filled) {
+        match read_after(files, file, &mut bytes, filled) {
             Ok(0) => {
                 bytes.truncate(filled);
                 return Ok(bytes);
@@ -75,8 +75,8 @@ fn read_to_end<F: Files>(
     Err(ReadError::TooLong)
 }
 
-/// Reads a piece of an opened file into the room behind the first `filled` bytes.
-fn read_behind<F: Files>(
+/// Reads a piece of an opened file into the room after the first `filled` bytes.
+fn read_after<F: Files>(
     files: &mut F,
     file: u32,
     bytes: &mut [u8],

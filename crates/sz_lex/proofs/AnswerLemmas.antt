@@ -8,7 +8,7 @@ use Rattle.sz_types.specs.declared.place.Place.{Place}
 use Rattle.sz_lex.specs.declared.token.Token.{Token}
 use Rattle.sz_lex.specs.declared.error.LexError.{LexError}
 use Rattle.sz_lex.specs.declared.error.LexError.TheVariants as errors
-use Rattle.sz_lex.specs.Tokens.{HasTokens, HasBadChar, HasBadLiteral, HasNotUtf8, IsRefused, behind, first_place}
+use Rattle.sz_lex.specs.Tokens.{HasTokens, HasBadChar, HasBadLiteral, HasNotUtf8, IsRefused, later, first_place}
 use Rattle.sz_lex.specs.Reading.{lexed, Gives}
 use Rattle.sz_lex.proofs.WholeLemmas.{tokens_given, char_given, literal_given, given_tokens, given_char, given_literal}
 
@@ -73,5 +73,5 @@ pub only_not_utf8 : (text : List ℕ) (p : Place) → HasNotUtf8 text p → (e :
 only_not_utf8 text p h (errors.BadChar q) k = absurd (not_whole text h.len h.front k.utf8)
 only_not_utf8 text p h (errors.BadLiteral q) k = absurd (not_whole text h.len h.front k.utf8)
 only_not_utf8 text p h (errors.NotUtf8 q) k = inr (ap (λ (x : Place). errors.NotUtf8 x) (h.place
-    ∙ ap (λ (n : ℕ). behind (take n text) first_place) (one_front text h.len k.len h.front k.front) ∙ sym k.place))
+    ∙ ap (λ (n : ℕ). later (take n text) first_place) (one_front text h.len k.len h.front k.front) ∙ sym k.place))
 only_not_utf8 text p h errors.NoMemory k = absurd k

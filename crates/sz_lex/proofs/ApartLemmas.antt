@@ -11,12 +11,12 @@ use Rattle.sz_lex.specs.declared.sign.Sign.{Sign}
 use Rattle.sz_lex.specs.declared.sign.Sign.TheVariants as signs
 use Rattle.sz_lex.specs.Classes.{is_blank, is_word}
 use Rattle.sz_lex.specs.Signs.{sign_text}
-use Rattle.sz_lex.specs.Tokens.{all_word, IsName, IsLexeme, IsLongest, behind, first_place, TokensThen, Nothing, HasTokens}
+use Rattle.sz_lex.specs.Tokens.{all_word, IsName, IsLexeme, IsLongest, later, first_place, TokensThen, Nothing, HasTokens}
 use Rattle.sz_lex.specs.Laws.{Spelled, BeginsApart, IsWrittenApart, spelled_in, WrittenApartIsRead, BlanksMeanNothing}
 use Rattle.sz_lex.proofs.WordLemmas.{apart, heads, nil_cons, and_parts, letter_word, digit_word, Stops, word_is_name, begins_sign}
 use Rattle.sz_lex.proofs.FormLemmas.{words_longest, sign_form, quoted_is_longest, character_is_longest}
 use Rattle.sz_lex.proofs.ItemLemmas.{no_empty}
-use Rattle.sz_lex.proofs.LawLemmas.{behind-append, one_list}
+use Rattle.sz_lex.proofs.LawLemmas.{later-append, one_list}
 
 -- ---- a token before a blank or a comment is the longest
 
@@ -96,7 +96,7 @@ lexeme_apart k (b ∷ l) rest h begins = longest_apart k b l rest h begins
 
 record Read (whole before text : List ℕ) (ss : List Spelled) : Type 0 where
   ts : List Token
-  tokens : TokensThen Nothing ts false (length before) (behind before first_place) text
+  tokens : TokensThen Nothing ts false (length before) (later before first_place) text
   same : map (spelled_in whole) ts ≡ ss
 
 read : (ss : List Spelled) (before text whole : List ℕ) → whole ≡ before ++ text → IsWrittenApart ss text → Read whole before text ss
@@ -110,8 +110,8 @@ read (s ∷ ss) before text whole e h =
     let more = read ss (front ++ s.text) rest whole (parts ∙ sym (append_assoc front s.text rest)) h.6 in
     let index : length (front ++ s.text) ≡ length before + length gap + length s.text =
     omega (arith, length-append front s.text, length-append before gap) in
-    let place : behind (front ++ s.text) first_place ≡ behind s.text (behind gap (behind before first_place)) =
-    behind-append front s.text first_place ∙ ap (behind s.text) (behind-append before gap first_place) in
+    let place : later (front ++ s.text) first_place ≡ later s.text (later gap (later before first_place)) =
+    later-append front s.text first_place ∙ ap (later s.text) (later-append before gap first_place) in
     let lexeme : take (length s.text) (drop (length before + length gap) whole) ≡ s.text =
     ap (λ (x : List ℕ). take (length s.text) (drop (length before + length gap) x)) parts
     ∙ ap (take (length s.text)) (drop_at front (s.text ++ rest) (length before + length gap) (length-append before gap))
@@ -119,7 +119,7 @@ read (s ∷ ss) before text whole e h =
     record {
       ts = record {
         kind = s.kind;
-        place = behind gap (behind before first_place);
+        place = later gap (later before first_place);
         start = length before + length gap;
         len =
             length s.text;
@@ -138,7 +138,7 @@ read (s ∷ ss) before text whole e h =
           longest = lexeme_apart s.kind s.text rest h.4 h.5;
         },
         subst (λ (p : Place). TokensThen Nothing more.ts false (length before + length gap + length s.text) p rest) place (subst (λ
-            (i : ℕ). TokensThen Nothing more.ts false i (behind (front ++ s.text) first_place) rest) index more.tokens),
+            (i : ℕ). TokensThen Nothing more.ts false i (later (front ++ s.text) first_place) rest) index more.tokens),
       );
       same = ap (λ (x : List ℕ). record { kind = s.kind; text = x } ∷ map (spelled_in whole) more.ts) lexeme
           ∙ ap (λ (xs : List Spelled). s ∷ xs) more.same;

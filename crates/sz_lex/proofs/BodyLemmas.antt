@@ -12,7 +12,7 @@ use Rattle.sz_lex.specs.Reading.{whole_value, Body, longer, body_at, escape_at, 
 use Rattle.sz_lex.proofs.LiteralLemmas.{none_some, at_quote, at_escape, at_plain, at_newline, ahead, skipped, EscapeAt, escape_is}
 use Rattle.sz_lex.proofs.SearchLemmas.{no_test}
 
--- a body behind so many bytes more, which stand for these
+-- a body after so many bytes more, which stand for these
 abbrev pub shift : ℕ → List ℕ → Option Body → Option Body
 shift n v o = option_map (λ (b : Body). record { len = n + b.len; value = v ++ b.value }) o
 
@@ -99,7 +99,7 @@ bad_escape : (q : Quoted) (bs : List ℕ) → option_and_then (escape_bytes q) (
 unfolding body_at
 bad_escape q bs h = ap (option_and_then (λ (v : List ℕ). longer v (body_at q (escape_size (first bs)) bs))) h
 
--- one that may stand there, and what stands behind it
+-- one that may stand there, and what stands after it
 record Stands (q : Quoted) (bs v : List ℕ) : Type 0 where
   within : escape_size (first bs) ≤ length bs
   body : body_at q 0 (92 ∷ bs) ≡ shift (1 + escape_size (first bs)) v (body_at q 0 (drop (escape_size (first bs)) bs))
@@ -201,7 +201,7 @@ rest_from : (text : List ℕ) (at k : ℕ) → take (length text - (at + k + 1))
 rest_from text at k = let n : at + k + 1 ≡ at + (k + 1) = omega arith in take_rest text (at + k + 1) ∙ ap (λ (m : ℕ). drop m text) n
     ∙ sym (drop-drop (k + 1) at text)
 
--- what is left of the body, behind the bytes up to at, is as long as the body of the text without them
+-- what is left of the body, after the bytes up to at, is as long as the body of the text without them
 abbrev pub IsLeft : Quoted → List ℕ → ℕ → Type 0
 IsLeft q text at = option_map (λ (b : Body). at + b.len) (body_at q 0 (drop at text)) ≡ len_of (body_at q 0 text)
 
@@ -254,7 +254,7 @@ escape_goes_on q text at k n left h is e =
 
 -- ---- the loop that decodes
 
--- what is left of the body, behind the bytes up to at, which stand for this value, is the body of the text
+-- what is left of the body, after the bytes up to at, which stand for this value, is the body of the text
 abbrev pub IsDecoded : Quoted → List ℕ → ℕ → List ℕ → Type 0
 IsDecoded q text at value = shift at value (body_at q 0 (drop at text)) ≡ body_at q 0 text
 

@@ -95,7 +95,7 @@ closed_read o n rest c e = ap (λ (x : Option ℕ). quoted_character x n (39 ∷
 
 -- ---- the literal
 
--- a character behind an opening quote, and what follows the closing one
+-- a character after an opening quote, and what follows the closing one
 pub record CharacterAt (bs : List ℕ) (c n : ℕ) : Type 0 where
   pub body : List ℕ
   pub rest : List ℕ

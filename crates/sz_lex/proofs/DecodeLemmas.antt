@@ -51,7 +51,7 @@ whole_none q body v h is =
     let read : body_at q 0 body ≡ Some (record { len = length o.body; value = v }) = ap (body_at q 0) (same ∙ sym (append-nil o.body)) ∙ o.read [] in
     none_some {x = v} (h ∙ ap (whole_value (length body)) read ∙ rw len refl)
 
--- ---- behind the opening
+-- ---- after the opening
 
 pub stripped : (q : Quoted) (literal p rest : List ℕ) → p ≡ opening q → bytes_eq (take (length p) literal) p ≡ true
     → rest ≡ drop (length p) literal → literal ≡ opening q ++ rest

@@ -9,7 +9,7 @@ use Rattle.sz_lex.specs.declared.error.LexError.{LexError}
 use Rattle.sz_lex.specs.declared.item.Item.{Item}
 use Rattle.sz_lex.specs.declared.item.Item.TheVariants.{Gap}
 use Rattle.sz_lex.specs.Classes.{is_blank}
-use Rattle.sz_lex.specs.Tokens.{gap_from, after, behind}
+use Rattle.sz_lex.specs.Tokens.{gap_from, after, later}
 use Rattle.sz_lex.specs.Reading.{not_newline, item_of, act, lexed}
 use Rattle.sz_lex.proofs.LiteralLemmas.{none_some}
 
@@ -17,11 +17,11 @@ abbrev pub Answer : Type 0
 Answer = Result (List Token) LexError
 
 -- bytes that belong to what came before are passed
-pub passed : (l rest : List ℕ) (at : ℕ) (p : Place) → lexed (length l) at p (l ++ rest) ≡ lexed 0 (at + length l) (behind l p) rest
+pub passed : (l rest : List ℕ) (at : ℕ) (p : Place) → lexed (length l) at p (l ++ rest) ≡ lexed 0 (at + length l) (later l p) rest
 unfolding lexed
 passed [] rest at p = let e : at + 0 ≡ at = omega arith in rw e refl
 passed (b ∷ l) rest at p = let e : at + 1 + length l ≡ at + suc (length l) = omega arith in passed l rest (at + 1) (after b p)
-    ∙ ap (λ n. lexed 0 n (behind l (after b p)) rest) e
+    ∙ ap (λ n. lexed 0 n (later l (after b p)) rest) e
 
 -- how many bytes of the text belong to the comment that it begins in
 abbrev pub left_of : Bool → List ℕ → ℕ
@@ -98,12 +98,12 @@ gap_turn false b g rest at p d r h k = go (is_blank b) (eqb b 35) refl refl
 
 -- a gap is passed
 pub gap_passed : (c : Bool) (g rest : List ℕ) (at : ℕ) (p : Place) → gap_from c g ≡ Some false
-    → lexed (left_of c (g ++ rest)) at p (g ++ rest) ≡ lexed 0 (at + length g) (behind g p) rest
+    → lexed (left_of c (g ++ rest)) at p (g ++ rest) ≡ lexed 0 (at + length g) (later g p) rest
 gap_passed true [] rest at p h = absurd cc
 gap_passed false [] rest at p h = let e : at + 0 ≡ at = omega arith in rw e refl
 gap_passed c (b ∷ g) rest at p h =
     let n : at + 1 + length g ≡ at + suc (length g) = omega arith in
-    gap_turn c b g rest at p false _ h (λ d k. gap_passed d g rest (at + 1) (after b p) k) ∙ ap (λ n. lexed 0 n (behind g (after b p)) rest) n
+    gap_turn c b g rest at p false _ h (λ d k. gap_passed d g rest (at + 1) (after b p) k) ∙ ap (λ n. lexed 0 n (later g (after b p)) rest) n
 
 pub last_gap : (c d : Bool) (g : List ℕ) (at : ℕ) (p : Place) → gap_from c g ≡ Some d → lexed (left_of c (g ++ [])) at p (g ++ []) ≡ Ok []
 unfolding lexed

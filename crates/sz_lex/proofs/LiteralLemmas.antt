@@ -97,7 +97,7 @@ escape_is (k ∷ bs) e h =
 
 -- ---- bodies
 
--- a body behind so many bytes more
+-- a body after so many bytes more
 abbrev pub ahead : ℕ → Option Body → Option Body
 ahead n o = option_map (λ (b : Body). record { len = n + b.len; value = b.value }) o
 
@@ -146,7 +146,7 @@ value_step : (q : Quoted) (p : Part) (ps : List Part) (v vs : List ℕ) → part
     → parts_value q (p ∷ ps) ≡ Some (v ++ vs)
 value_step q p ps v vs e f = rw e (rw f refl)
 
--- the values of a part and of those behind it
+-- the values of a part and of those after it
 pub record Values (q : Quoted) (p : Part) (ps : List Part) (value : List ℕ) : Type 0 where
   pub v : List ℕ
   pub vs : List ℕ

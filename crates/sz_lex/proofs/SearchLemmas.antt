@@ -1,4 +1,4 @@
--- The first byte that passes a test stands behind the bytes that do not.
+-- The first byte that passes a test stands after the bytes that do not.
 use Rattle.std.proofs.Common.{◌≡◌, ℕ, ◌+◌, ◌<◌, Bool, [], ◌∷◌, take, drop, true, false, not, List, length, get_or, Option, Some, None, refl}
 use Rattle.std.proofs.Common.{sym, ap, ◌∙◌, arith}
 use Rattle.std.specs.Prelude.{unwrap_or}

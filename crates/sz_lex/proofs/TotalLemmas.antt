@@ -41,7 +41,7 @@ longest_front : (text : List ℕ) (m : ℕ) → LongestFront text m
 longest_front text zero = record { len = 0; within = omega arith; front = IsUtf8-nil; longest = λ k above within u. absurd (omega arith) }
 longest_front text (suc m) = front_more text m (longest_front text m)
 
--- a text is UTF-8, or the longest front that is has more behind it
+-- a text is UTF-8, or the longest front that is has more after it
 valid_cases : (text : List ℕ) → IsUtf8 text ⊎ ((n : ℕ) × IsValidUpTo text n)
 valid_cases text = go (longest_front text (length text))
   where

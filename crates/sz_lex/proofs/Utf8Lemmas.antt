@@ -154,11 +154,11 @@ ends k (b ∷ l) h = ends_of k b l h
 lexemes : (ts : List Token) (at : ℕ) (text : List ℕ) → IsUtf8 text → LieInOrder text at ts → All (λ (t : Token). IsUtf8 (lexeme_of text t)) ts
 lexemes [] at text utf8 h = All-nil (λ (t : Token). IsUtf8 (lexeme_of text t))
 lexemes (t ∷ ts) at text utf8 h =
-    let behind_start = drop t.start text in
-    let parts : text ≡ take t.start text ++ (lexeme_of text t ++ drop t.len behind_start) =
-    sym (take-append-drop t.start text) ∙ ap (λ (x : List ℕ). take t.start text ++ x) (sym (take-append-drop t.len behind_start)) in
+    let after_start = drop t.start text in
+    let parts : text ≡ take t.start text ++ (lexeme_of text t ++ drop t.len after_start) =
+    sym (take-append-drop t.start text) ∙ ap (λ (x : List ℕ). take t.start text ++ x) (sym (take-append-drop t.len after_start)) in
     All-cons (λ (t : Token). IsUtf8 (lexeme_of text t)) t ts
-    (cut (take t.start text) (lexeme_of text t) (drop t.len behind_start) text (ends t.kind (lexeme_of text t) h.4) parts utf8)
+    (cut (take t.start text) (lexeme_of text t) (drop t.len after_start) text (ends t.kind (lexeme_of text t) h.4) parts utf8)
     (lexemes ts (t.start + t.len) text utf8 h.5)
 
 pub lexemes_are_utf8 : LexemesAreUtf8
@@ -166,7 +166,7 @@ lexemes_are_utf8 text ts h = lexemes ts 0 text h.utf8 (spans_in_order text ts h)
 
 -- ---- strings
 
--- a text before and behind an ASCII byte
+-- a text before and after an ASCII byte
 before_low : (run : List ℕ) (b : ℕ) (rest : List ℕ) → b < 128 → IsUtf8 (run ++ (b ∷ rest)) → IsUtf8 run
 before_low run b rest low utf8 =
     let n = length run in
@@ -181,12 +181,12 @@ from_low run b rest low utf8 =
     let boundary = IsCharBoundary-before_ascii (run ++ (b ∷ rest)) n (omega (arith, length-append run (b ∷ rest))) (omega (arith, at, low)) in
     subst IsUtf8 (drop_at run (b ∷ rest) n refl) (IsUtf8-drop (run ++ (b ∷ rest)) n utf8 boundary)
 
-behind_low : (b : ℕ) (rest : List ℕ) → b < 128 → IsUtf8 (b ∷ rest) → IsUtf8 rest
-behind_low b rest low utf8 = IsUtf8-past_char (b ∷ rest) rest b utf8 (ap (λ (t : List ℕ). t ++ rest) (sym (encode_ascii b low)))
+after_low : (b : ℕ) (rest : List ℕ) → b < 128 → IsUtf8 (b ∷ rest) → IsUtf8 rest
+after_low b rest low utf8 = IsUtf8-past_char (b ∷ rest) rest b utf8 (ap (λ (t : List ℕ). t ++ rest) (sym (encode_ascii b low)))
 
-behind_lows : (l rest : List ℕ) → all_low l ≡ true → IsUtf8 (l ++ rest) → IsUtf8 rest
-behind_lows [] rest h utf8 = utf8
-behind_lows (b ∷ l) rest h utf8 = let p = and_parts (nat_lt b 128) (all_low l) h in behind_lows l rest p.1 (behind_low b (l ++ rest)
+after_lows : (l rest : List ℕ) → all_low l ≡ true → IsUtf8 (l ++ rest) → IsUtf8 rest
+after_lows [] rest h utf8 = utf8
+after_lows (b ∷ l) rest h utf8 = let p = and_parts (nat_lt b 128) (all_low l) h in after_lows l rest p.1 (after_low b (l ++ rest)
     (ltb-true b 128 p.0) utf8)
 
 -- an escape is written in ASCII, and its character is one
@@ -332,12 +332,12 @@ parts_utf8 (escape text ∷ ps) run value utf8 h =
     let es = escaped_of quoteds.Str text vs.v vs.one in
     let a = ascii_escape text es.e es.is in
     let front = before_low run 92 _ (omega arith) utf8 in
-    let rest = behind_low 92 _ (omega arith) (from_low run 92 _ (omega arith) utf8) in
-    let left = behind_lows text (parts_text ps ++ (34 ∷ [])) a.low (subst IsUtf8 (append_assoc text (parts_text ps) (34 ∷ [])) rest) in
+    let rest = after_low 92 _ (omega arith) (from_low run 92 _ (omega arith) utf8) in
+    let left = after_lows text (parts_text ps ++ (34 ∷ [])) a.low (subst IsUtf8 (append_assoc text (parts_text ps) (34 ∷ [])) rest) in
     let more = parts_utf8 ps [] vs.vs left vs.more in
     let whole = IsUtf8-append run (vs.v ++ vs.vs) front (IsUtf8-append vs.v vs.vs (value_utf8 es.e vs.v a.scalar es.bytes) more) in
     subst (λ (v : List ℕ). IsUtf8 (run ++ v)) (sym vs.joined) whole
 
 pub strings_are_utf8 : StringsAreUtf8
-strings_are_utf8 literal value utf8 h = parts_utf8 h.parts [] value (behind_low 34 (parts_text h.parts ++ (34 ∷ [])) (omega arith)
+strings_are_utf8 literal value utf8 h = parts_utf8 h.parts [] value (after_low 34 (parts_text h.parts ++ (34 ∷ [])) (omega arith)
     (subst IsUtf8 h.spelled utf8)) h.stands

@@ -8,7 +8,7 @@ use Rattle.sz_lex.specs.declared.token.Kind.{Kind}
 use Rattle.sz_lex.specs.declared.error.LexError.TheVariants as errors
 use Rattle.sz_lex.specs.declared.item.Item.{Item}
 use Rattle.sz_lex.specs.declared.item.Item.TheVariants.{BadChar, BadLiteral}
-use Rattle.sz_lex.specs.Tokens.{IsLexeme, IsLongest, gap_from, after, behind, first_place, Tail, TokensThen, Nothing, BadCharAt}
+use Rattle.sz_lex.specs.Tokens.{IsLexeme, IsLongest, gap_from, after, later, first_place, Tail, TokensThen, Nothing, BadCharAt}
 use Rattle.sz_lex.specs.Tokens.{begins_literal, BadLiteralAt}
 use Rattle.sz_lex.specs.Reading.{item_of, act, bind, lexed}
 use Rattle.sz_lex.proofs.GapLemmas.{Answer, passed, left_of, gap_end, gap_more, gap_blank, gap_hash, gap_passed, last_gap}
@@ -23,7 +23,7 @@ unfolding lexed
 head_item b bs at p = refl
 
 token_found : (k : Kind) (l rest : List ℕ) (at : ℕ) (p : Place) → IsLexeme k l → IsLongest l rest
-    → lexed 0 at p (l ++ rest) ≡ bind (lexed 0 (at + length l) (behind l p) rest) (λ ts. Ok (record {
+    → lexed 0 at p (l ++ rest) ≡ bind (lexed 0 (at + length l) (later l p) rest) (λ ts. Ok (record {
       kind = k;
       place = p;
       start =
@@ -43,44 +43,44 @@ token_found k (b ∷ l) rest at p h longest =
       start = at;
       len =
           suc (length l);
-    } ∷ ts))) (passed l rest (at + 1) (after b p) ∙ ap (λ x. lexed 0 x (behind l (after b p)) rest) m)
+    } ∷ ts))) (passed l rest (at + 1) (after b p) ∙ ap (λ x. lexed 0 x (later l (after b p)) rest) m)
 
 -- ---- what the text has is what reading gives
 
-behind_tokens : List Token → Answer → Answer
-behind_tokens ts r = bind r (λ us. Ok (ts ++ us))
+after_tokens : List Token → Answer → Answer
+after_tokens ts r = bind r (λ us. Ok (ts ++ us))
 
-bind_bind : (t : Token) (ts : List Token) (r : Answer) → bind (behind_tokens ts r) (λ us. Ok (t ∷ us)) ≡ behind_tokens (t ∷ ts) r
-unfolding bind behind_tokens
+bind_bind : (t : Token) (ts : List Token) (r : Answer) → bind (after_tokens ts r) (λ us. Ok (t ∷ us)) ≡ after_tokens (t ∷ ts) r
+unfolding bind after_tokens
 bind_bind t ts (Ok us) = refl
 bind_bind t ts (Err e) = refl
 
-none_behind : (r : Answer) → behind_tokens [] r ≡ r
-unfolding bind behind_tokens
-none_behind (Ok us) = refl
-none_behind (Err e) = refl
+none_after : (r : Answer) → after_tokens [] r ≡ r
+unfolding bind after_tokens
+none_after (Ok us) = refl
+none_after (Err e) = refl
 
 complete : (P : Tail) (r : Answer) → ((c : Bool) (at : ℕ) (p : Place) (text : List ℕ) → P c at p text → lexed (left_of c text) at p text ≡ r)
     → (ts : List Token) (c : Bool) (at : ℕ) (p : Place) (text : List ℕ) → TokensThen P ts c at p text
-    → lexed (left_of c text) at p text ≡ behind_tokens ts r
+    → lexed (left_of c text) at p text ≡ after_tokens ts r
 unfolding TokensThen
-complete P r k [] c at p text h = k c at p text h ∙ sym (none_behind r)
+complete P r k [] c at p text h = k c at p text h ∙ sym (none_after r)
 complete P r k (t ∷ ts) c at p text h =
     let n = h.0 in
-    let same : record { kind = t.kind; place = behind n.gap p; start = at + length n.gap; len = length n.lexeme } ≡ t =
+    let same : record { kind = t.kind; place = later n.gap p; start = at + length n.gap; len = length n.lexeme } ≡ t =
     rw (← n.start, ← n.place, ← n.len) refl in
     ap (λ (x : List ℕ). lexed (left_of c x) at p x) n.parts
     ∙ gap_passed c n.gap (n.lexeme ++ n.rest) at p n.closed
-    ∙ token_found t.kind n.lexeme n.rest (at + length n.gap) (behind n.gap p) n.spelled n.longest
+    ∙ token_found t.kind n.lexeme n.rest (at + length n.gap) (later n.gap p) n.spelled n.longest
     ∙ ap (λ (x : Answer). bind x (λ us. Ok (record {
       kind = t.kind;
-      place = behind n.gap p;
+      place = later n.gap p;
       start = at + length n.gap;
       len =
           length n.lexeme;
-    } ∷ us))) (complete P r k ts false (at + length n.gap + length n.lexeme) (behind n.lexeme (behind n.gap p)) n.rest h.1)
+    } ∷ us))) (complete P r k ts false (at + length n.gap + length n.lexeme) (later n.lexeme (later n.gap p)) n.rest h.1)
     ∙ bind_bind _ ts r
-    ∙ ap (λ (x : Token). behind_tokens (x ∷ ts) r) same
+    ∙ ap (λ (x : Token). after_tokens (x ∷ ts) r) same
 
 nothing_left : (c : Bool) (at : ℕ) (p : Place) (text : List ℕ) → Nothing c at p text → lexed (left_of c text) at p text ≡ Ok []
 nothing_left c at p text h = ap (λ (x : List ℕ). lexed (left_of c x) at p x) (sym (append-nil text)) ∙ last_gap c h.0 text at p h.1
@@ -113,17 +113,17 @@ no_literal q c at p text h =
     ∙ ap (λ (x : Place). Err (errors.BadLiteral x)) (sym h.place)
 
 pub tokens_given : (text : List ℕ) (ts : List Token) → TokensThen Nothing ts false 0 first_place text → lexed 0 0 first_place text ≡ Ok ts
-unfolding behind_tokens bind
+unfolding after_tokens bind
 tokens_given text ts h = complete Nothing (Ok []) nothing_left ts false 0 first_place text h ∙ ap (λ (x : List Token). Ok x) (append-nil ts)
 
 pub char_given : (text : List ℕ) (q : Place) (ts : List Token) → TokensThen (BadCharAt q) ts false 0 first_place text
     → lexed 0 0 first_place text ≡ Err (errors.BadChar q)
-unfolding behind_tokens bind
+unfolding after_tokens bind
 char_given text q ts h = complete (BadCharAt q) (Err (errors.BadChar q)) (no_token q) ts false 0 first_place text h
 
 pub literal_given : (text : List ℕ) (q : Place) (ts : List Token) → TokensThen (BadLiteralAt q) ts false 0 first_place text
     → lexed 0 0 first_place text ≡ Err (errors.BadLiteral q)
-unfolding behind_tokens bind
+unfolding after_tokens bind
 literal_given text q ts h = complete (BadLiteralAt q) (Err (errors.BadLiteral q)) (no_literal q) ts false 0 first_place text h
 
 -- ---- every text has tokens or a refusal
@@ -180,18 +180,18 @@ tokens_grow P grows (t ∷ ts) c d b at p bs step h =
         spelled = n.spelled;
         longest = n.longest;
       },
-      subst (λ (m : ℕ). TokensThen P ts false (m + length n.lexeme) (behind n.lexeme (behind n.gap (after b p))) n.rest) m h.1,
+      subst (λ (m : ℕ). TokensThen P ts false (m + length n.lexeme) (later n.lexeme (later n.gap (after b p))) n.rest) m h.1,
     )
 
 -- a token at the front
 token_front : (P : Tail) (k : Kind) (l rest : List ℕ) (ts : List Token) (at : ℕ) (p : Place) → IsLexeme k l → IsLongest l rest
-    → TokensThen P ts false (at + length l) (behind l p) rest
+    → TokensThen P ts false (at + length l) (later l p) rest
     → TokensThen P (record { kind = k; place = p; start = at; len = length l } ∷ ts) false at p (l ++ rest)
 unfolding TokensThen
 token_front P k l rest ts at p h longest others =
     let n : at ≡ at + 0 = omega arith in (
       record { gap = []; lexeme = l; rest = rest; parts = refl; closed = refl; start = n; place = refl; len = refl; spelled = h; longest = longest },
-      subst (λ (m : ℕ). TokensThen P ts false (m + length l) (behind l p) rest) n others,
+      subst (λ (m : ℕ). TokensThen P ts false (m + length l) (later l p) rest) n others,
     )
 
 -- one of the three
@@ -207,7 +207,7 @@ grown c d b at p bs step (has_bad_char q ts h) = has_bad_char q ts (tokens_grow 
 grown c d b at p bs step (has_bad_literal q ts h) = has_bad_literal q ts (tokens_grow (BadLiteralAt q) (literal_grows q) ts c d b at p bs step h)
 
 with_token : (k : Kind) (l rest : List ℕ) (at : ℕ) (p : Place) → IsLexeme k l → IsLongest l rest
-    → Outcome false (at + length l) (behind l p) rest → Outcome false at p (l ++ rest)
+    → Outcome false (at + length l) (later l p) rest → Outcome false at p (l ++ rest)
 with_token k l rest at p h longest (has_tokens ts o) = has_tokens (_ ∷ ts) (token_front Nothing k l rest ts at p h longest o)
 with_token k l rest at p h longest (has_bad_char q ts o) = has_bad_char q (_ ∷ ts) (token_front (BadCharAt q) k l rest ts at p h longest o)
 with_token k l rest at p h longest (has_bad_literal q ts o) = has_bad_literal q (_ ∷ ts) (token_front (BadLiteralAt q) k l rest ts at p h longest o)
@@ -290,7 +290,7 @@ given_tokens text ts h = go (outcome text)
     go (has_bad_char q us o) = let both = sym (char_given text q us o) ∙ h in absurd cc
     go (has_bad_literal q us o) = let both = sym (literal_given text q us o) ∙ h in absurd cc
 
--- tokens, and behind them the refusal
+-- tokens, and after them the refusal
 pub record Refused (P : Place → Tail) (text : List ℕ) (q : Place) : Type 0 where
   pub before : List Token
   pub tokens : TokensThen (P q) before false 0 first_place text

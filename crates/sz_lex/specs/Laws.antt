@@ -9,7 +9,7 @@ use Rattle.sz_lex.specs.declared.escape.Quoted.{Quoted}
 use Rattle.sz_lex.specs.declared.escape.Quoted.TheVariants as quoteds
 use Rattle.sz_lex.specs.Classes.{is_blank}
 use Rattle.sz_lex.specs.Literals.{IsQuoted}
-use Rattle.sz_lex.specs.Tokens.{IsLexeme, gap_from, behind, first_place, HasTokens, IsRefused}
+use Rattle.sz_lex.specs.Tokens.{IsLexeme, gap_from, later, first_place, HasTokens, IsRefused}
 use Rattle.sz_lex.specs.Lexed.{lexeme_of}
 
 -- nothing but blanks and comments, of which the last may be ended by the end of the text
@@ -17,11 +17,11 @@ abbrev pub IsGap : List ℕ → Type 0
 IsGap bytes = (comment : _) × (gap_from false bytes ≡ Some comment)
 
 -- from this index on the spans of the tokens lie one after another in the text, with nothing but blanks and comments
--- before, between and behind them, and each has its place and spells its kind
+-- before, between and after them, and each has its place and spells its kind
 abbrev pub LieInOrder : List ℕ → ℕ → List Token → Type 0
 LieInOrder text at [] = IsGap (drop at text)
 LieInOrder text at (t ∷ ts) = (at ≤ t.start) × (t.start + t.len ≤ length text) × IsGap (take (t.start - at) (drop at text))
-    × (t.place ≡ behind (take t.start text) first_place) × IsLexeme t.kind (lexeme_of text t) × LieInOrder text (t.start + t.len) ts
+    × (t.place ≡ later (take t.start text) first_place) × IsLexeme t.kind (lexeme_of text t) × LieInOrder text (t.start + t.len) ts
 
 -- the spans of a text's tokens lie one after another
 abbrev pub SpansLieInOrder : Type 0
@@ -52,7 +52,7 @@ place_of errors.NoMemory = first_place
 -- a refused place is that of a byte of the text
 abbrev pub RefusedPlaceIsInText : Type 0
 RefusedPlaceIsInText = (text : List ℕ) (e : LexError) → IsRefused text e → (at : ℕ) × (at < length text)
-    × (place_of e ≡ behind (take at text) first_place)
+    × (place_of e ≡ later (take at text) first_place)
 
 -- a literal between double quotes stands for one value
 abbrev pub HasOneValue : Type 0
@@ -68,7 +68,7 @@ abbrev pub BeginsApart : List ℕ → Type 0
 BeginsApart [] = Unit {0}
 BeginsApart (b ∷ bs) = (is_blank b || b == 35) ≡ true
 
--- the text is the bytes of these tokens, with blanks and comments before and behind them, and some between any two
+-- the text is the bytes of these tokens, with blanks and comments before and after them, and some between any two
 abbrev pub IsWrittenApart : List Spelled → List ℕ → Type 0
 IsWrittenApart [] text = IsGap text
 IsWrittenApart (s ∷ ss) text = (gap rest : List ℕ) × (text ≡ gap ++ (s.text ++ rest)) × (gap_from false gap ≡ Some false)

@@ -4,7 +4,7 @@ use Rattle.std.specs.Char.{digit_value}
 use Rattle.std.specs.Int.{w64, cast_signed}
 use Rattle.std.specs.Option.{option_map}
 
--- the number that n becomes when these digits to this base are written behind it, if each is such a digit
+-- the number that n becomes when these digits to this base are written after it, if each is such a digit
 abbrev pub digits_from : ℕ → ℕ → List ℕ → Option ℕ
 digits_from base n [] = Some n
 digits_from base n (b ∷ bs) = if nat_lt (digit_value b) base then digits_from base (n * base + digit_value b) bs else None

@@ -27,17 +27,17 @@ use Rattle.sz_lex.specs.Lookup.{word_of, sign_at}
 
 -- ---- numbers
 
--- the number with one more digit behind it, if the byte is a digit to the base and 64 bits hold the number
+-- the number with one more digit after it, if the byte is a digit to the base and 64 bits hold the number
 abbrev pub push_digit : ℕ → ℕ → ℕ → Option ℕ
 push_digit base n b = if nat_lt (digit_value b) base then below (2 ^ 64) (Some (n * base + digit_value b)) else None
 
 -- ---- literals
 
--- how many bytes an escape takes behind its backslash, if its first byte is this
+-- how many bytes an escape takes after its backslash, if its first byte is this
 abbrev pub escape_size : ℕ → ℕ
 escape_size b = if b == 120 then 3 else (if b == 117 then 5 else 1)
 
--- the escape at the front, behind its backslash
+-- the escape at the front, after its backslash
 abbrev pub escape_at : List ℕ → Option Escape
 escape_at [] = None
 escape_at (b ∷ bs) = escape_of (take (escape_size b) (b ∷ bs))
@@ -93,12 +93,12 @@ plain_character bytes = if is_utf8 bytes then only_plain (chars bytes) else None
 abbrev pub not_quote : ℕ → Bool
 not_quote b = not (b == 39)
 
--- a character and the number of its bytes, if the closing quote stands behind them
+-- a character and the number of its bytes, if the closing quote stands after them
 abbrev pub quoted_character : Option ℕ → ℕ → List ℕ → Option (ℕ × ℕ)
 quoted_character None n rest = None
 quoted_character (Some c) n rest = if first rest == 39 then Some (c, n + 1) else None
 
--- an escaped character behind its backslash, and the number of bytes from there on with the backslash and the closing quote
+-- an escaped character after its backslash, and the number of bytes from there on with the backslash and the closing quote
 abbrev pub escaped_at : List ℕ → Option (ℕ × ℕ)
 escaped_at bs = quoted_character (option_and_then escape_code (escape_at bs)) (1 + escape_size (first bs)) (drop (escape_size (first bs)) bs)
 
@@ -106,7 +106,7 @@ escaped_at bs = quoted_character (option_and_then escape_code (escape_at bs)) (1
 abbrev pub unescaped_at : List ℕ → Option (ℕ × ℕ)
 unescaped_at bs = let n = prefix_len not_quote bs in quoted_character (plain_character (take n bs)) n (drop n bs)
 
--- the character behind an opening quote, and the number of bytes with the closing one
+-- the character after an opening quote, and the number of bytes with the closing one
 abbrev pub character_at : List ℕ → Option (ℕ × ℕ)
 character_at [] = None
 character_at (b ∷ bs) = if b == 92 then escaped_at bs else unescaped_at (b ∷ bs)
@@ -181,7 +181,7 @@ unfoldable pub bind : {A B : Type 0} → Result A LexError → (A → Result B L
 bind (Ok x) f = f x
 bind (Err e) f = Err e
 
--- goes on behind the item at this index, with the number of its bytes that are still to pass
+-- goes on after the item at this index, with the number of its bytes that are still to pass
 abbrev pub act : ℕ → Place → Item → (ℕ → Result (List Token) LexError) → Result (List Token) LexError
 act at p (Gap n) go = go (n - 1)
 act at p (Lexeme k n) go = bind (go (n - 1)) (λ ts. Ok (record { kind = k; place = p; start = at; len = n } ∷ ts))

@@ -52,27 +52,27 @@ pub data HasForm (l : List ℕ) : Type 0 where
 abbrev pub IsLongest : List ℕ → List ℕ → Type 0
 IsLongest lexeme rest = (extra others : List ℕ) → rest ≡ extra ++ others → HasForm (lexeme ++ extra) → extra ≡ []
 
--- whether a comment is open behind bytes that are blanks and comments, where one is open before them or not;
+-- whether a comment is open after bytes that are blanks and comments, where one is open before them or not;
 -- a comment begins with # and ends before a newline
 abbrev pub gap_from : Bool → List ℕ → Option Bool
 gap_from comment [] = Some comment
 gap_from false (b ∷ bs) = if is_blank b then gap_from false bs else (if b == 35 then gap_from true bs else None)
 gap_from true (b ∷ bs) = if b == 10 then gap_from false bs else gap_from true bs
 
--- the place behind a byte
+-- the place after a byte
 abbrev pub after : ℕ → Place → Place
 after b p = if b == 10 then record { line = p.line + 1; column = 1 } else record { line = p.line; column = p.column + 1 }
 
--- the place behind bytes
-abbrev pub behind : List ℕ → Place → Place
-behind [] p = p
-behind (b ∷ bs) p = behind bs (after b p)
+-- the place after bytes
+abbrev pub later : List ℕ → Place → Place
+later [] p = p
+later (b ∷ bs) p = later bs (after b p)
 
 -- the place of a text's first byte
 abbrev pub first_place : Place
 first_place = record { line = 1; column = 1 }
 
--- behind blanks and comments the text goes on with this token, and with rest behind it
+-- after blanks and comments the text goes on with this token, and with rest after it
 pub record Next (t : Token) (comment : Bool) (at : ℕ) (p : Place) (text : List ℕ) : Type 0 where
   pub gap : List ℕ
   pub lexeme : List ℕ
@@ -80,33 +80,33 @@ pub record Next (t : Token) (comment : Bool) (at : ℕ) (p : Place) (text : List
   pub parts : text ≡ gap ++ (lexeme ++ rest)
   pub closed : gap_from comment gap ≡ Some false
   pub start : t.start ≡ at + length gap
-  pub place : t.place ≡ behind gap p
+  pub place : t.place ≡ later gap p
   pub len : t.len ≡ length lexeme
   pub spelled : IsLexeme t.kind lexeme
   pub longest : IsLongest lexeme rest
 
--- what may stand behind tokens: whether a comment is open, an index, its place, and the bytes from there on
+-- what may stand after tokens: whether a comment is open, an index, its place, and the bytes from there on
 abbrev pub Tail : Type 1
 Tail = Bool → ℕ → Place → List ℕ → Type 0
 
--- from this index and place on the text has these tokens one after another, and behind them such a tail
+-- from this index and place on the text has these tokens one after another, and after them such a tail
 unfoldable pub TokensThen : Tail → List Token → Bool → ℕ → Place → List ℕ → Type 0
 TokensThen P [] comment at p text = P comment at p text
 TokensThen P (t ∷ ts) comment at p text = (n : Next t comment at p text)
-    × TokensThen P ts false (at + length n.gap + length n.lexeme) (behind n.lexeme (behind n.gap p)) n.rest
+    × TokensThen P ts false (at + length n.gap + length n.lexeme) (later n.lexeme (later n.gap p)) n.rest
 
 -- nothing but blanks and comments
 abbrev pub Nothing : Tail
 Nothing comment at p text = (end : Bool) × (gap_from comment text ≡ Some end)
 
--- behind blanks and comments, at the place q, a byte with which no token begins
+-- after blanks and comments, at the place q, a byte with which no token begins
 pub record NoToken (q : Place) (comment : Bool) (p : Place) (text : List ℕ) : Type 0 where
   pub gap : List ℕ
   pub byte : ℕ
   pub rest : List ℕ
   pub parts : text ≡ gap ++ (byte ∷ rest)
   pub closed : gap_from comment gap ≡ Some false
-  pub place : q ≡ behind gap p
+  pub place : q ≡ later gap p
   pub blank : is_blank byte ≡ false
   pub hash : (byte == 35) ≡ false
   pub none : (k : Kind) (l : List ℕ) → IsLexeme k (byte ∷ l) → ⊥
@@ -121,13 +121,13 @@ begins_literal [] = false
 begins_literal (b ∷ []) = is_digit b || b == 34 || b == 39
 begins_literal (b ∷ c ∷ bs) = is_digit b || b == 34 || b == 39 || (b == 66 && c == 34)
 
--- behind blanks and comments, at the place q, the beginning of a literal where no token is
+-- after blanks and comments, at the place q, the beginning of a literal where no token is
 pub record NoLiteral (q : Place) (comment : Bool) (p : Place) (text : List ℕ) : Type 0 where
   pub gap : List ℕ
   pub rest : List ℕ
   pub parts : text ≡ gap ++ rest
   pub closed : gap_from comment gap ≡ Some false
-  pub place : q ≡ behind gap p
+  pub place : q ≡ later gap p
   pub begins : begins_literal rest ≡ true
   pub none : (k : Kind) (l others : List ℕ) → rest ≡ l ++ others → IsLexeme k l → IsLongest l others → ⊥
 
@@ -140,13 +140,13 @@ pub record HasTokens (text : List ℕ) (ts : List Token) : Type 0 where
   pub utf8 : IsUtf8 text
   pub tokens : TokensThen Nothing ts false 0 first_place text
 
--- the text is UTF-8, and behind some tokens the place q has a byte that begins none
+-- the text is UTF-8, and after some tokens the place q has a byte that begins none
 pub record HasBadChar (text : List ℕ) (q : Place) : Type 0 where
   pub utf8 : IsUtf8 text
   pub before : List Token
   pub tokens : TokensThen (BadCharAt q) before false 0 first_place text
 
--- the text is UTF-8, and behind some tokens the place q has a literal that is not of its form
+-- the text is UTF-8, and after some tokens the place q has a literal that is not of its form
 pub record HasBadLiteral (text : List ℕ) (q : Place) : Type 0 where
   pub utf8 : IsUtf8 text
   pub before : List Token
@@ -156,7 +156,7 @@ pub record HasBadLiteral (text : List ℕ) (q : Place) : Type 0 where
 pub record HasNotUtf8 (text : List ℕ) (q : Place) : Type 0 where
   pub len : ℕ
   pub front : IsValidUpTo text len
-  pub place : q ≡ behind (take len text) first_place
+  pub place : q ≡ later (take len text) first_place
 
 -- the text is refused for this reason; want of memory is no reason of the text's
 abbrev pub IsRefused : List ℕ → LexError → Type 0

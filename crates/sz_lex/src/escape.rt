@@ -66,7 +66,7 @@ fn escape_of(text: &[u8]) -> Option<Escape>
     }
 }
 
-// How many bytes an escape takes behind its backslash, if its first byte is this.
+// How many bytes an escape takes after its backslash, if its first byte is this.
 pub fn escape_size(first: u8) -> usize
     ensures { result ≡ escape_size first }
 {
@@ -77,7 +77,7 @@ pub fn escape_size(first: u8) -> usize
     }
 }
 
-// The escape at the front, behind its backslash.
+// The escape at the front, after its backslash.
 pub fn escape_at(text: &[u8]) -> Option<Escape>
     ensures { result ≡ escape_at text.now }
 {

@@ -87,7 +87,7 @@ fn begins_literal(text: &[u8]) -> bool
     }
 }
 
-// The string or bytes literal at the front, behind its opening.
+// The string or bytes literal at the front, after its opening.
 fn quoted_item(quoted: Quoted, text: &[u8]) -> Item
     ensures { result ≡ quoted_item quoted (body_at quoted 0 text.now) }
 {

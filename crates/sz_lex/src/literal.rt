@@ -19,7 +19,7 @@ fn may_stand(quoted: Quoted, escape: Escape) -> bool
     }
 }
 
-// The escape at the front, behind its backslash, if it may stand in such a literal.
+// The escape at the front, after its backslash, if it may stand in such a literal.
 fn escape_in(quoted: Quoted, text: &[u8]) -> Option<Escape>
     ensures value { option_map escape_value result ≡ option_and_then (escape_bytes quoted) (escape_at text.now) }
     ensures within { IfSome result (λ _. escape_size (first text.now) ≤ length text.now) }
@@ -33,7 +33,7 @@ fn escape_in(quoted: Quoted, text: &[u8]) -> Option<Escape>
     }
 }
 
-// The length of the escape at the front, behind its backslash, if it may stand in such a literal.
+// The length of the escape at the front, after its backslash, if it may stand in such a literal.
 fn escape_len(quoted: Quoted, text: &[u8]) -> Option<usize>
     ensures value { result ≡ option_map (λ _. escape_size (first text.now)) (option_and_then (escape_bytes quoted) (escape_at text.now)) }
     ensures within { IfSome result (λ n. n ≤ length text.now) }
@@ -106,7 +106,7 @@ fn plain_character(bytes: &[u8]) -> Option<char>
     }
 }
 
-// The character and its length with the closing quote, where no backslash stands behind the opening one.
+// The character and its length with the closing quote, where no backslash stands after the opening one.
 fn unescaped_at(text: &[u8]) -> Option<(char, usize)>
     ensures value { result ≡ unescaped_at text.now }
     ensures within { IfSome result (λ r. r.1 ≤ length text.now) }
@@ -116,7 +116,7 @@ fn unescaped_at(text: &[u8]) -> Option<(char, usize)>
     Some((character, end + 1))
 }
 
-// The same, where an escape stands behind the opening quote, from behind its backslash on.
+// The same, where an escape stands after the opening quote, from after its backslash on.
 fn escaped_at(text: &[u8]) -> Option<(char, usize)>
     ensures value { result ≡ escaped_at text.now }
     ensures within { IfSome result (λ r. r.1 ≤ length text.now + 1) }
@@ -130,7 +130,7 @@ fn escaped_at(text: &[u8]) -> Option<(char, usize)>
     }
 }
 
-// The character behind an opening quote, and the number of bytes with the closing one.
+// The character after an opening quote, and the number of bytes with the closing one.
 pub fn character_at(text: &[u8]) -> Option<(char, usize)>
     ensures value { result ≡ character_at text.now }
     ensures within { IfSome result (λ r. r.1 ≤ length text.now) }
@@ -142,7 +142,7 @@ pub fn character_at(text: &[u8]) -> Option<(char, usize)>
     }
 }
 
-// Writes what an escape stands for behind the value.
+// Writes what an escape stands for after the value.
 fn push_escape(value: &mut Vec<u8>, escape: Escape) -> Result<(), AllocError>
     ensures { OnOk result (value.new.items ≡ value.old.items ++ escape_value escape) }
 {

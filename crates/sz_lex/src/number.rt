@@ -3,7 +3,7 @@ ghost use Rattle.std.specs.Prelude.{◌≡◌, ◌^◌, ◌≤◌};
 ghost use Rattle.sz_lex.specs.Numbers.{digits_from, below, decimal, hexadecimal, number_of};
 ghost use Rattle.sz_lex.specs.Reading.{push_digit};
 
-// The number with one more digit behind it, if this is a digit to the base and 64 bits hold the number.
+// The number with one more digit after it, if this is a digit to the base and 64 bits hold the number.
 fn push_digit(base: u32, number: u64, byte: u8) -> Option<u64>
     requires low { 2 ≤ base }
     requires high { base ≤ 16 }

@@ -3,7 +3,7 @@ ghost use Rattle.std.specs.Prelude.{◌≡◌, ◌-◌, ◌<◌, ◌≤◌, ◌^
 ghost use Rattle.std.specs.Prelude.{IfOk, IfErr, OnOk, IsErrOf, MatchResult};
 ghost use Rattle.sz_lex.specs.declared.token.Token.{Token as Tok};
 ghost use Rattle.sz_lex.specs.declared.error.LexError.{LexError as Reason};
-ghost use Rattle.sz_lex.specs.Tokens.{after, behind, first_place, HasTokens, IsRefused};
+ghost use Rattle.sz_lex.specs.Tokens.{after, later, first_place, HasTokens, IsRefused};
 ghost use Rattle.sz_lex.specs.Reading.{lexed, Gives};
 
 use crate::error::LexError;
@@ -13,7 +13,7 @@ use crate::tokens::Tokens;
 use std::alloc::Global;
 use sz_types::Place;
 
-// The place behind a byte.
+// The place after a byte.
 fn after(byte: u8, place: Place) -> Place
     requires line { place.line < 2 ^ 32 - 1 }
     requires column { place.column < 2 ^ 32 - 1 }
@@ -32,10 +32,10 @@ fn after(byte: u8, place: Place) -> Place
     }
 }
 
-// The place behind the front of a text.
-fn place_behind(front: &[u8]) -> Place
+// The place after the front of a text.
+fn place_after(front: &[u8]) -> Place
     requires { length front.now ≤ 1048576 }
-    ensures { result ≡ behind front.now first_place }
+    ensures { result ≡ later front.now first_place }
 {
     let mut place = Place { line: 1, column: 1 };
     for byte in front {
@@ -110,6 +110,6 @@ pub fn lex(alloc: Global, text: &[u8]) -> Result<Tokens, LexError>
 {
     match simdutf8::compat::from_utf8(text) {
         Ok(_) => tokens_of(alloc, text),
-        Err(error) => Err(LexError::NotUtf8(place_behind(&text[..error.valid_up_to()]))),
+        Err(error) => Err(LexError::NotUtf8(place_after(&text[..error.valid_up_to()]))),
     }
 }

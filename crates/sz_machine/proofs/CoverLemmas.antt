@@ -66,7 +66,7 @@ drop_found [] n x e = absurd (cc)
 drop_found (y ∷ xs) zero x e = ap (λ o. unwrap_or o x ∷ xs) e
 drop_found (y ∷ xs) (suc n) x e = drop_found xs n x e
 
--- behind the last one there are none
+-- after the last one there are none
 pub drop_past : {X : Type 0} → (xs : List X) (n : ℕ) → length xs ≤ n → drop n xs ≡ []
 drop_past [] zero h = refl
 drop_past [] (suc n) h = refl

@@ -101,10 +101,10 @@ module _ (code : Code) where
   is_last start s line y is e over_y way x over comes = last_line s line y is e over_y x over (way x over comes)
 
 module _ (code : Code) (start : State) (a b : Around) (old new : Held) (line : Line) where
-  -- the run goes on behind the line
-  pub goes_on_behind : (at : ℕ) → slice_get code.lines a.at ≡ Some line → LineDoes code a b old On new → at ≡ suc b.at
+  -- the run goes on after the line
+  pub goes_on_after : (at : ℕ) → slice_get code.lines a.at ≡ Some line → LineDoes code a b old On new → at ≡ suc b.at
       → IsOnTheWay code start (state_of old a) → IsOnTheWay code start (state_of new (record b { at = at }))
-  goes_on_behind at is does_so e way =
+  goes_on_after at is does_so e way =
       subst (λ k. IsOnTheWay code start (state_of new (record b { at = k }))) (sym e)
       (goes_further code start (state_of old a) (state_of new (record b { at = suc b.at })) line is (does_so line is) way)
 
@@ -195,7 +195,7 @@ module _ (code : Code) (r : Routine) (rest : List Routine) (w : World) (statics 
   statics_fault fault new slots ends =
       sym (subst (λ end. EndsStatic end (λ next left. RoutinesRunTo code rest next left o) o) (sym (ends runs.0 static_over_here static_begins_so)) runs.2)
 
--- the routine at a place, and those behind it
+-- the routine at a place, and those after it
 pub at_routine : (code : Code) (i m : ℕ) (r : Routine) (w : World) (statics : List Slot) (o : Outcome (List Slot))
     → slice_get code.statics i ≡ Some r → m ≡ suc i → RoutinesRunTo code (drop i code.statics) w statics o
     → RoutinesRunTo code (r ∷ drop m code.statics) w statics o

@@ -50,7 +50,7 @@ abbrev pub weighs_and_acts : Code → Instr → Place → State → After
 weighs_and_acts code instr place s =
     when_paid place (spend (weight_added code instr s.stack) s.world) (λ w. act code instr place (record s { world = w }))
 
--- what a run in place leads to: it goes on behind the line or at a place, it ends, or it faults
+-- what a run in place leads to: it goes on after the line or at a place, it ends, or it faults
 abbrev pub leads : Next → Place → Around → Held → After
 leads On place a h = Goes (state_of h (record a { at = suc a.at }))
 leads (To at) place a h = Goes (state_of h (record a { at = at }))

@@ -88,7 +88,7 @@ impl Held {
         }
     }
 
-    // Emits a whole number, which weighs one tick. The vector behind the list is taken out for the push, which then stands in line: the
+    // Emits a whole number, which weighs one tick. The vector after the list is taken out for the push, which then stands in line: the
     // emit is written where it stays, and not copied there.
     #[inline(always)]
     fn emit_number(&mut self, alloc: Global, table: u32, number: i64) -> Result<Next, NoMemory>

@@ -27,7 +27,7 @@ impl Drop for Held {
     }
 }
 
-/// Where a run goes: on behind the line, to a place, to its end, or to a fault of this kind.
+/// Where a run goes: on after the line, to a place, to its end, or to a fault of this kind.
 #[derive(Clone, Copy)]
 pub enum Next {
     On,

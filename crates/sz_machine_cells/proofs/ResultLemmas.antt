@@ -17,7 +17,7 @@ no_end (Some d) None = refl
 no_end (Some d) (Some (int n)) = refl
 no_end (Some d) (Some e) = refl
 
--- a part of a part is one of the whole, behind the bytes before both
+-- a part of a part is one of the whole, after the bytes before both
 pub part_in_part : (xs : List ℕ) (before count more few : ℕ) → more + few ≤ length (take count (drop before xs))
     → take few (drop more (take count (drop before xs))) ≡ take few (drop (before + more) xs)
 part_in_part xs before count more few h =
@@ -27,9 +27,9 @@ part_in_part xs before count more few h =
     let cut : drop more (take count rest) ≡ take (count - more) (drop more rest) = ap (drop more) all ∙ drop-take more (count - more) rest in
     ap (take few) cut ∙ take-take few (count - more) (drop more rest) (omega (arith, long, h)) ∙ ap (take few) (drop-drop more before xs)
 
--- behind the end there is nothing
-pub nothing_behind : (xs : List ℕ) (n : ℕ) → length xs < n → drop n xs ≡ []
-nothing_behind xs n h = drop_all n xs (omega (arith, h))
+-- after the end there is nothing
+pub nothing_after : (xs : List ℕ) (n : ℕ) → length xs < n → drop n xs ≡ []
+nothing_after xs n h = drop_all n xs (omega (arith, h))
 
 -- the first elements of a list that has fewer are all that it has
 pub all_in_front : (xs : List ℕ) (n : ℕ) → length xs < n → take n xs ≡ xs

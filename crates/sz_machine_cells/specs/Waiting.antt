@@ -1,4 +1,4 @@
--- The routines that wait, whose locals and candidate lists lie one behind the other.
+-- The routines that wait, whose locals and candidate lists lie one after the other.
 use Rattle.std.specs.Prelude.{ℕ, ◌≤◌, List, [], ◌∷◌, length, take, drop, reverse}
 use Rattle.sz_value.specs.Data.{Datum}
 use Rattle.sz_world_rules.specs.Slots.{Slot}
@@ -13,7 +13,7 @@ callers_of (w ∷ ws) cells lists =
     record { locals = drop w.locals cells; back = w.back; lists = reverse (drop w.lists lists) }
     ∷ callers_of ws (take w.locals cells) (take w.lists lists)
 
--- the parts of the routines that wait, the innermost first, lie one behind the other up to these places
+-- the parts of the routines that wait, the innermost first, lie one after the other up to these places
 abbrev pub AreWithin : List Waiting → ℕ → ℕ → Type 0
 AreWithin [] cells lists = Unit {0}
 AreWithin (w ∷ ws) cells lists = (w.locals ≤ cells) × (w.lists ≤ lists) × AreWithin ws w.locals w.lists
@@ -27,7 +27,7 @@ open_calls waiting cells lists cells_from lists_from = record {
   callers = callers_of (reverse waiting) (take cells_from cells) (take lists_from lists);
 }
 
--- the parts of the routines lie one behind the other
+-- the parts of the routines lie one after the other
 abbrev pub AreStacked : List Waiting → List Slot → List (List Datum) → ℕ → ℕ → Type 0
 AreStacked waiting cells lists cells_from lists_from =
     AreWithin (reverse waiting) cells_from lists_from × (cells_from ≤ length cells) × (lists_from ≤ length lists)

@@ -31,7 +31,7 @@ pub enum Form {
     Shared(Rc<Value>),
     /// All bytes of a buffer.
     Buffer(Rc<Vec<u8>>),
-    /// So many bytes of a buffer, behind so many others. Their number stands first, so that a cell has 16 bytes.
+    /// So many bytes of a buffer, after so many others. Their number stands first, so that a cell has 16 bytes.
     Part(u16, u32, Rc<Vec<u8>>),
 }
 
@@ -281,7 +281,7 @@ impl Cell {
         })
     }
 
-    /// A cell of so many bytes of the buffer, behind so many others. They lie where they are, unless they are more than a part has.
+    /// A cell of so many bytes of the buffer, after so many others. They lie where they are, unless they are more than a part has.
     pub(crate) fn of_part(
         alloc: Global,
         buffer: &Rc<Vec<u8>>,
@@ -329,18 +329,18 @@ pub(crate) fn part_held(count: u16, before: u32, buffer: &Rc<Vec<u8>>) -> &[u8]
     lying(buffer.as_ref().as_slice(), before as usize, count as usize)
 }
 
-// So many bytes behind so many others, or as many as there are.
+// So many bytes after so many others, or as many as there are.
 #[inline(always)]
 pub(crate) fn lying(octets: &[u8], before: usize, count: usize) -> &[u8]
     ensures value { result.now ≡ take count (drop before octets.now) }
 {
-    front(behind(octets, before), count)
+    front(after(octets, before), count)
 }
 
-// The bytes behind so many others.
+// The bytes after so many others.
 #[inline(always)]
-#[tactic(auto, using(crate::proofs::ResultLemmas::nothing_behind))]
-fn behind(octets: &[u8], before: usize) -> &[u8]
+#[tactic(auto, using(crate::proofs::ResultLemmas::nothing_after))]
+fn after(octets: &[u8], before: usize) -> &[u8]
     ensures value { result.now ≡ drop before octets.now }
 {
     if before <= octets.len() {

@@ -133,7 +133,7 @@ impl Operands {
         all_defined(&self.held[from..])
     }
 
-    /// Moves so many topmost operands behind the cells, the upmost one last.
+    /// Moves so many topmost operands after the cells, the upmost one last.
     pub fn move_to(&mut self, count: usize, cells: &mut Vec<Cell>) -> Result<(), NoMemory>
         requires within { count ≤ length self.old }
         ensures rest { OnOk result (self.new ≡ drop count self.old) }

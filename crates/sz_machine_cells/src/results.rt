@@ -217,7 +217,7 @@ fn part_of_buffer(alloc: Global, buffer: &Rc<Vec<u8>>, from: i64, to: i64) -> Re
     }
 }
 
-// The part between two places of so many bytes of a buffer, behind so many others.
+// The part between two places of so many bytes of a buffer, after so many others.
 #[tactic(auto, using(crate::proofs::ResultLemmas::part_in_part))]
 fn part_of_part(
     alloc: Global,

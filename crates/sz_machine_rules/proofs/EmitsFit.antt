@@ -235,13 +235,13 @@ module _ (code : Code) where
   leads_fits None s x leads all = absurd leads
   leads_fits (Some line) s x leads all = subst FitsAfter leads.1 (line_fits line s leads.0 all)
 
-  -- what goes on behind a line
+  -- what goes on after a line
   fits_on : (y x : After) (next : State → Type 0) → ((s : State) → next s → AllFitTables s.world.emits → FitsAfter x) → GoesOn y next x → FitsAfter y
       → FitsAfter x
-  fits_on (Goes s) x next behind goes fits = behind s goes fits
-  fits_on (Halts w statics) x next behind goes fits = subst FitsAfter goes fits
-  fits_on (Faults fault) x next behind goes fits = subst FitsAfter goes fits
-  fits_on Stuck x next behind goes fits = absurd goes
+  fits_on (Goes s) x next after goes fits = after s goes fits
+  fits_on (Halts w statics) x next after goes fits = subst FitsAfter goes fits
+  fits_on (Faults fault) x next after goes fits = subst FitsAfter goes fits
+  fits_on Stuck x next after goes fits = absurd goes
 
   -- whatever a run comes to
   runs_fit : (n : ℕ) (s : State) (x : After) → RunsFor code n s x → AllFitTables s.world.emits → FitsAfter x

@@ -18,7 +18,7 @@ module _ (code : Code) where
   no_end : (s : State) (x : After) → IsOver x → Goes s ≡ x → ⊥
   no_end s x end e = subst IsOver (sym e) end
 
-  -- what a run goes on to ends in one way, if the runs behind it do
+  -- what a run goes on to ends in one way, if the runs after it do
   goes_on : (z x y : After) (P Q : State → Type 0) → ((s : State) → P s → Q s → x ≡ y) → GoesOn z P x → GoesOn z Q y → x ≡ y
   goes_on (Goes s) x y P Q same h k = same s h k
   goes_on (Halts w statics) x y P Q same h k = sym h ∙ k

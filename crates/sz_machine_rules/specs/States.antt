@@ -54,7 +54,7 @@ entered routine statics input world = record {
 abbrev pub goes_to : State → ℕ → List Slot → After
 goes_to s at stack = Goes (record s { at = at; stack = stack })
 
--- the run goes on behind the line with these operands
+-- the run goes on after the line with these operands
 abbrev pub goes_on : State → List Slot → After
 goes_on s stack = goes_to s (suc s.at) stack
 

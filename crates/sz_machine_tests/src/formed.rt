@@ -1,4 +1,4 @@
-//! Which code is well formed: an example, each instruction with numbers up to the last and behind it, and routines.
+//! Which code is well formed: an example, each instruction with numbers up to the last and after it, and routines.
 ghost use Rattle.std.specs.Prelude.{◌≡◌, ◌++◌, ◌∷◌, [], IfOk, OnOk};
 ghost use Rattle.sz_types.specs.SeenTables.{seen_table};
 ghost use Rattle.sz_instr.specs.Example.{example_lines, sum_named, example};
@@ -256,7 +256,7 @@ fn up_to_the_last(alloc: Global) -> Result<Vec<Instr>, NoMemory> {
 }
 
 // Instructions with numbers that are out of range.
-fn behind_the_last(alloc: Global) -> Result<Vec<Instr>, NoMemory> {
+fn after_the_last(alloc: Global) -> Result<Vec<Instr>, NoMemory> {
     let path = path(alloc)?;
     Ok(vec![in alloc;
         Instr::Push(1),
@@ -286,7 +286,7 @@ fn behind_the_last(alloc: Global) -> Result<Vec<Instr>, NoMemory> {
 fn numbers_are_in_range_up_to_the_last(rt: HostRuntime) {
     let alloc = rt.alloc();
     assert_eq!(rt; first_other(alloc, up_to_the_last(alloc), true), Ok(None));
-    assert_eq!(rt; first_other(alloc, behind_the_last(alloc), false), Ok(None));
+    assert_eq!(rt; first_other(alloc, after_the_last(alloc), false), Ok(None));
 }
 
 // The locals of the function, of the static and of the record's routine, a local, and whether it is in range.

@@ -19,7 +19,7 @@ use Rattle.sz_world_rules.specs.Ticks.{no_weight, result_weight, binary_weight, 
 use Rattle.sz_world_rules.specs.Emits.{EmitParts, emit_weight, emit_of, with_emit}
 use Rattle.sz_world_rules.specs.Stores.{Stored, Holds, Undefined, Outside}
 use Rattle.sz_mean.specs.Expressions.{Setting, results, called, if_true, if_false, eval, eval_form, eval_all, eval_pairings, eval_indexes, eval_if_some}
-use Rattle.sz_mean.specs.Endings.{Ending, Normal, Breaks, Continues, Returns, Running, then_run, then_loop, chosen, turns, turns_behind}
+use Rattle.sz_mean.specs.Endings.{Ending, Normal, Breaks, Continues, Returns, Running, then_run, then_loop, chosen, turns, turns_after}
 use Rattle.sz_mean.specs.Search.{Variable, Finding, Succeeds, Misses, Leaves, Searching, or_else, and_also, and_each, found_one, if_met, if_refuted, succeeded}
 use Rattle.sz_mean.specs.Search.{ending_of, tried, any_of, each_of, all_of, holds, search_by, search, exec_when}
 use Rattle.sz_mean.specs.Statements.{assigned, if_defined, emits, test_of, idle, variable_of, exec, exec_all}
@@ -197,12 +197,12 @@ turns_pay place test between body t b d (suc n) locals =
     (λ stepped. then_run_pays stepped _ (λ l. then_pays (pay 1 place) (λ _. next l) (ticks 1 place) (λ _. again l))))))
     (given (Normal locals))))
 
-turns_behind_pay : (place : Place) (body : Running) (test : List Slot → Doing Slot) → RunPays body → ((locals : List Slot) → Paying (test locals))
-    → (n : ℕ) → RunPays (turns_behind place body test n)
-turns_behind_pay place body test d t zero locals = failed _ place
-turns_behind_pay place body test d t (suc n) locals =
-    let next = turns_behind place body test n in
-    let again = turns_behind_pay place body test d t n in
+turns_after_pay : (place : Place) (body : Running) (test : List Slot → Doing Slot) → RunPays body → ((locals : List Slot) → Paying (test locals))
+    → (n : ℕ) → RunPays (turns_after place body test n)
+turns_after_pay place body test d t zero locals = failed _ place
+turns_after_pay place body test d t (suc n) locals =
+    let next = turns_after place body test n in
+    let again = turns_after_pay place body test d t n in
     then_pays (body locals) _ (d locals)
     (λ ending. then_loop_pays ending _
     (λ after. then_pays (test after) _ (t after)
@@ -378,7 +378,7 @@ module _ (s : Setting) (calls : CallsPay s) where
     exec_pays (while place e body) locals =
         record { pays = λ w. (turns_pay place (λ l. eval s l e) idle (exec s body) (λ l. eval_pays s calls l e) (λ l. given (Normal l)) (exec_pays body) (suc w.left) locals).pays w }
     exec_pays (do_while place body e) locals =
-        record { pays = λ w. (turns_behind_pay place (exec s body) (λ l. eval s l e) (exec_pays body) (λ l. eval_pays s calls l e) (suc w.left) locals).pays w }
+        record { pays = λ w. (turns_after_pay place (exec s body) (λ l. eval s l e) (exec_pays body) (λ l. eval_pays s calls l e) (suc w.left) locals).pays w }
     exec_pays (for_loop place e between body) locals =
         record { pays = λ w. (turns_pay place (test_of s e) (exec s between) (exec s body) (test_pays s calls e) (exec_pays between) (exec_pays body) (suc w.left) locals).pays w }
     exec_pays break locals = given _

@@ -66,7 +66,7 @@ left_less : ends undefined_left 2 [] ≡ fault budget_passed (at 2 1)
 unfolding ends fault
 left_less = refl
 
--- an emit with an undefined weight is ignored, and takes one tick behind those of its parts
+-- an emit with an undefined weight is ignored, and takes one tick after those of its parts
 weight_enough : ends emits_without_weight 5 [] ≡ Done []
 unfolding ends int_wrap
 weight_enough = refl
@@ -110,7 +110,7 @@ second_enough : ends (searches some (number (at 3 28) 5) emits_place) 23 [] ≡ 
 unfolding ends of_number int_wrap
 second_enough = refl
 
--- each candidate is tried, also behind one with which the condition is true
+-- each candidate is tried, also after one with which the condition is true
 each_enough : ends (searches each (number (at 3 28) 3) emits_place) 23 [] ≡ Done (of_number 0 ∷ [])
 unfolding ends of_number int_wrap
 each_enough = refl

@@ -1,4 +1,4 @@
--- How statements end, and what runs on from there: one statement behind another, and the turns of loops.
+-- How statements end, and what runs on from there: one statement after another, and the turns of loops.
 use Rattle.std.specs.Prelude.{ℕ, zero, suc, List, slice_set, true, Some, None}
 use Rattle.sz_types.specs.declared.place.Place.{Place}
 use Rattle.sz_value.specs.Data.{truth}
@@ -20,14 +20,14 @@ Running = List Slot → Doing Ending
 abbrev pub with_local : ℕ → Slot → List Slot → List Slot
 with_local n x locals = slice_set locals n x
 
--- behind a statement the run goes on where it came to its end
+-- after a statement the run goes on where it came to its end
 abbrev pub then_run : Ending → Running → Doing Ending
 then_run (Normal locals) next = next locals
 then_run (Breaks locals) next = give (Breaks locals)
 then_run (Continues locals) next = give (Continues locals)
 then_run (Returns result) next = give (Returns result)
 
--- behind the body of a loop the loop goes on, unless the body left it by `break` or `return`
+-- after the body of a loop the loop goes on, unless the body left it by `break` or `return`
 abbrev pub then_loop : Ending → Running → Doing Ending
 then_loop (Normal locals) next = next locals
 then_loop (Breaks locals) next = give (Normal locals)
@@ -59,13 +59,13 @@ module _ (place : Place) (test : List Slot → Doing Slot) (between body : Runni
             pay 1 place
             next stepped_locals))
 
--- a loop that is tested behind each turn. Each return to the body takes a tick.
+-- a loop that is tested after each turn. Each return to the body takes a tick.
 module _ (place : Place) (body : Running) (test : List Slot → Doing Slot) where
-  abbrev pub turns_behind : ℕ → Running
-  turns_behind zero locals = fails budget_passed place
-  turns_behind (suc n) locals = do
+  abbrev pub turns_after : ℕ → Running
+  turns_after zero locals = fails budget_passed place
+  turns_after (suc n) locals = do
     ending ← body locals
-    then_loop ending (tested (turns_behind n))
+    then_loop ending (tested (turns_after n))
     where
       tested : Running → Running
       tested next locals = do

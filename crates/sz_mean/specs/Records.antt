@@ -12,13 +12,13 @@ pub data Records : Type 0 where
   FaultedAt : (number : ℕ) (fault : Fault) → Records
 
 -- the emits in front of what comes of the further records
-abbrev pub behind_emits : List EmitDatum → Records → Records
-behind_emits front (Emitted emits) = Emitted (front ++ emits)
-behind_emits front (FaultedAt number fault) = FaultedAt number fault
+abbrev pub after_emits : List EmitDatum → Records → Records
+after_emits front (Emitted emits) = Emitted (front ++ emits)
+after_emits front (FaultedAt number fault) = FaultedAt number fault
 
--- what comes of the record with this number and of those behind it
+-- what comes of the record with this number and of those after it
 abbrev pub then_records : ℕ → Outcome (List EmitDatum) → Records → Records
-then_records number (Done emits) rest = behind_emits emits rest
+then_records number (Done emits) rest = after_emits emits rest
 then_records number (Faulted fault) rest = FaultedAt number fault
 
 -- what a program means for records with these statics, of which the first has this number

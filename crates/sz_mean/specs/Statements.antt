@@ -11,7 +11,7 @@ use Rattle.sz_world_rules.specs.Emits.{EmitParts, emit_of, emit_weight, with_emi
 use Rattle.sz_world_rules.specs.Stores.{by_index, by_field, Stored, Holds, Undefined, Outside, stored}
 use Rattle.sz_world_rules.specs.Stores as stores
 use Rattle.sz_mean.specs.Expressions.{Setting, eval, eval_all, eval_indexes, eval_if_some}
-use Rattle.sz_mean.specs.Endings.{Ending, Normal, Breaks, Continues, Returns, Running, with_local, then_run, chosen, turns, turns_behind}
+use Rattle.sz_mean.specs.Endings.{Ending, Normal, Breaks, Continues, Returns, Running, with_local, then_run, chosen, turns, turns_after}
 use Rattle.sz_mean.specs.Search.{Variable, exec_when}
 
 -- a step without its index
@@ -76,7 +76,7 @@ module _ (s : Setting) where
       pay 1 place
       chosen x place (exec first locals) (exec second locals)
     exec (while place e body) locals = while_ticks (turns place (λ l. eval s l e) idle (exec body)) locals
-    exec (do_while place body e) locals = while_ticks (turns_behind place (exec body) (λ l. eval s l e)) locals
+    exec (do_while place body e) locals = while_ticks (turns_after place (exec body) (λ l. eval s l e)) locals
     exec (for_loop place e between body) locals = while_ticks (turns place (test_of s e) (exec between) (exec body)) locals
     exec break locals = give (Breaks locals)
     exec continue locals = give (Continues locals)

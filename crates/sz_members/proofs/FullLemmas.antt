@@ -39,15 +39,15 @@ module _ {X : Type 0} (cmp : X → X → Ordering) where
 
       by_found : (found : Ordering) → cmp x y ≡ found → insert_key cmp (insert_key cmp ys x) x ≡ insert_key cmp ys x
           → insert_key cmp (insert_key cmp (y ∷ ys) x) x ≡ insert_key cmp (y ∷ ys) x
-      by_found Less is behind =
+      by_found Less is after =
           ap (λ l. insert_key cmp l x) (again Less is)
           ∙ ap (λ o. match_ordering o (x ∷ x ∷ y ∷ ys) (x ∷ y ∷ ys) (x ∷ insert_key cmp (y ∷ ys) x)) same ∙ sym (again Less is)
-      by_found Equal is behind = ap (λ l. insert_key cmp l x) (again Equal is)
-      by_found Greater is behind =
+      by_found Equal is after = ap (λ l. insert_key cmp l x) (again Equal is)
+      by_found Greater is after =
           let rest = insert_key cmp ys x in
           ap (λ l. insert_key cmp l x) (again Greater is)
           ∙ ap (λ o. match_ordering o (x ∷ y ∷ rest) (y ∷ rest) (y ∷ insert_key cmp rest x)) is
-          ∙ ap (λ l. y ∷ l) behind ∙ sym (again Greater is)
+          ∙ ap (λ l. y ∷ l) after ∙ sym (again Greater is)
 
   -- the same element entered more than once
   pub times_entered : (n : ℕ) (ys : List X) (x : X) → cmp x x ≡ Equal → all_entered cmp (replicate (suc n) x) ys ≡ insert_key cmp ys x
@@ -63,8 +63,8 @@ module _ {X : Type 0} (cmp : X → X → Ordering) where
   apart_inserted x y (z ∷ zs) first rest = by_test (is_gt (cmp y z)) (apart_inserted x y zs first rest.1)
     where
       by_test : (b : Bool) → IsApart x (inserted cmp y zs) → IsApart x (cond b (z ∷ inserted cmp y zs) (y ∷ z ∷ zs))
-      by_test true behind = (rest.0, behind)
-      by_test false behind = (first, rest)
+      by_test true after = (rest.0, after)
+      by_test false after = (first, rest)
 
   pub apart_sorted : (x : X) (ys : List X) → IsApart x ys → IsApart x (sorted cmp ys)
   apart_sorted x [] apart = tt
@@ -77,9 +77,9 @@ module _ {X : Type 0} (cmp : X → X → Ordering) where
     where
       by_found : (found : Ordering) → is_eq found ≡ false → insert_key cmp ys x ≡ inserted cmp x ys
           → match_ordering found (x ∷ y ∷ ys) (y ∷ ys) (y ∷ insert_key cmp ys x) ≡ cond (is_gt found) (y ∷ inserted cmp x ys) (x ∷ y ∷ ys)
-      by_found Less is behind = refl
-      by_found Equal is behind = absurd (true≢false is)
-      by_found Greater is behind = ap (λ l. y ∷ l) behind
+      by_found Less is after = refl
+      by_found Equal is after = absurd (true≢false is)
+      by_found Greater is after = ap (λ l. y ∷ l) after
 
   longer_entered : (ys : List X) (x : X) → length ys ≤ length (insert_key cmp ys x)
   longer_entered [] x = omega arith
@@ -87,9 +87,9 @@ module _ {X : Type 0} (cmp : X → X → Ordering) where
     where
       by_found : (found : Ordering) → length ys ≤ length (insert_key cmp ys x)
           → length (y ∷ ys) ≤ length (match_ordering found (x ∷ y ∷ ys) (y ∷ ys) (y ∷ insert_key cmp ys x))
-      by_found Less behind = omega arith
-      by_found Equal behind = omega arith
-      by_found Greater behind = omega arith
+      by_found Less after = omega arith
+      by_found Equal after = omega arith
+      by_found Greater after = omega arith
 
   pub longer_with_all : (xs ys : List X) → length ys ≤ length (all_entered cmp xs ys)
   longer_with_all [] ys = omega arith
@@ -121,13 +121,13 @@ distinct_held (e ∷ es) unique came =
     by_times : (n : ℕ) → 0 < n → distinct compare (values_of (emits_held es)) ≡ sorted compare (data_held es)
         → IsApart compare (seen e.0) (sorted compare (data_held es))
         → distinct compare (values_of (times n (seen e.0) ++ emits_held es)) ≡ inserted compare (seen e.0) (sorted compare (data_held es))
-    by_times zero some behind apart = absurd (omega (arith, some))
-    by_times (suc n) some behind apart =
+    by_times zero some after apart = absurd (omega (arith, some))
+    by_times (suc n) some after apart =
         ap (distinct compare)
         (values_of_both (times (suc n) (seen e.0)) (emits_held es) ∙ ap (λ l. l ++ values_of (emits_held es)) (values_of_times (suc n) (seen e.0)))
         ∙ distinct_of_both compare_total compare_ties (replicate (suc n) (seen e.0)) (values_of (emits_held es))
         ∙ times_entered compare n (distinct compare (values_of (emits_held es))) (seen e.0) (compare_itself (seen e.0) (seen e.0) refl)
-        ∙ ap (λ l. insert_key compare l (seen e.0)) behind
+        ∙ ap (λ l. insert_key compare l (seen e.0)) after
         ∙ entered_apart compare (seen e.0) (sorted compare (data_held es)) apart
 
 length_sorted : (es : List (Value × ℕ)) → length (sorted compare (data_held es)) ≡ length es

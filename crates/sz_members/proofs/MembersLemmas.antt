@@ -19,7 +19,7 @@ use Rattle.sz_tabs.proofs.ForCallers.{rows_decide, rows_join, rows_in_any_order}
 use Rattle.sz_members.specs.Data.{Counted, times, emits_of, rows_of_members}
 use Rattle.sz_members.specs.Repeats.{value_eq, emits_held, AllCame, AreFew, full_by, is_full, CountsAgain, Gains}
 use Rattle.sz_members.specs.Kept.{IsOfMembers}
-use Rattle.sz_members.proofs.RepeatsLemmas.{emits_behind, came_behind}
+use Rattle.sz_members.proofs.RepeatsLemmas.{emits_after, came_after}
 use Rattle.sz_members.proofs.FullLemmas.{full_shows, values_of_both}
 
 -- counted again, kept as new, and passed over by a full set
@@ -48,12 +48,12 @@ not_long table values few set = ltb-false table.limit values (sym (ap (λ k. ful
 
 pub gains_new : (table : Declaration) (v : Value) (n : ℕ) (old new : List (Value × ℕ)) → 0 < n → is_full table (length old) ≡ false
     → new ≡ old ++ (v, n) ∷ [] → Gains table (seen v) n old new
-gains_new table v n old new some few behind = subst (λ es. Gains table (seen v) n old es) (sym behind) (record {
-  rows = λ came. ap (rows_of table) (emits_behind old v n);
-  came = came_behind old v n some;
+gains_new table v n old new some few after = subst (λ es. Gains table (seen v) n old es) (sym after) (record {
+  rows = λ came. ap (rows_of table) (emits_after old v n);
+  came = came_after old v n some;
   few = λ before set. omega (arith, not_long table (length old) few set, length-append old ((v, n) ∷ []));
   count =
-      omega (arith, ap length (emits_behind old v n), length-append (emits_held old) (times n (seen v)), length-replicate n (weighted (seen v) None));
+      omega (arith, ap length (emits_after old v n), length-append (emits_held old) (times n (seen v)), length-replicate n (weighted (seen v) None));
 })
 
 -- the emits of the first values and of all others are those of what is held now and of what is left
@@ -128,12 +128,12 @@ members_joined mine yours old other is your_is new room same kept =
     (subst (λ o. Joins declaration_of count_of rows_of_members mine o joined) your_is (record {
       same_table = refl;
       both_counts = refl;
-      joined = λ front behind stands beside. record {
+      joined = λ front after stands beside. record {
         rows =
             kept
-            ∙ rows_join mine.table (emits_of mine.kept) front (emits_of yours.kept) behind stands.rows
-            (subst (λ t. rows_of t (emits_of yours.kept) ≡ rows_of t behind) one_table beside.rows);
-        counted = (λ i. stands.counted i + beside.counted i) ∙ sym (length-append front behind);
+            ∙ rows_join mine.table (emits_of mine.kept) front (emits_of yours.kept) after stands.rows
+            (subst (λ t. rows_of t (emits_of yours.kept) ≡ rows_of t after) one_table beside.rows);
+        counted = (λ i. stands.counted i + beside.counted i) ∙ sym (length-append front after);
       };
     }))
   where

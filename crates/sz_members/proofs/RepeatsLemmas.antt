@@ -27,20 +27,20 @@ equal_data v w equal = compare_ties (seen v) (seen w) (by_found (compare (seen v
     by_found Equal e = refl
     by_found Greater e = absurd (true≢false (sym e))
 
--- emits of values behind others
+-- emits of values after others
 pub emits_append : (ps qs : List (Datum × ℕ)) → emits_of (ps ++ qs) ≡ emits_of ps ++ emits_of qs
 emits_append [] qs = refl
 emits_append (p ∷ ps) qs = ap (λ l. times p.1 p.0 ++ l) (emits_append ps qs) ∙ sym (append_assoc (times p.1 p.0) (emits_of ps) (emits_of qs))
 
 -- a value at the end
-pub emits_behind : (es : List (Value × ℕ)) (v : Value) (n : ℕ) → emits_held (es ++ (v, n) ∷ []) ≡ emits_held es ++ times n (seen v)
-emits_behind es v n =
+pub emits_after : (es : List (Value × ℕ)) (v : Value) (n : ℕ) → emits_held (es ++ (v, n) ∷ []) ≡ emits_held es ++ times n (seen v)
+emits_after es v n =
     ap emits_of (map-append seen_repeated es ((v, n) ∷ [])) ∙ emits_append (map seen_repeated es) ((seen v, n) ∷ [])
     ∙ ap (λ l. emits_held es ++ l) (append-nil (times n (seen v)))
 
-pub came_behind : (es : List (Value × ℕ)) (v : Value) (n : ℕ) → 0 < n → AllCame es → AllCame (es ++ (v, n) ∷ [])
-came_behind [] v n some all = (some, tt)
-came_behind (e ∷ es) v n some all = (all.0, came_behind es v n some all.1)
+pub came_after : (es : List (Value × ℕ)) (v : Value) (n : ℕ) → 0 < n → AllCame es → AllCame (es ++ (v, n) ∷ [])
+came_after [] v n some all = (some, tt)
+came_after (e ∷ es) v n some all = (all.0, came_after es v n some all.1)
 
 -- the last two parts change places
 last_two : (xs ys zs : List Weighted) → IsPermutation ((xs ++ ys) ++ zs) ((xs ++ zs) ++ ys)

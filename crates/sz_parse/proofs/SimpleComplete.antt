@@ -19,13 +19,13 @@ use Rattle.sz_tree.specs.Statements.{part_height, step_height, simple_height}
 use Rattle.sz_tree.specs.Statements.{first_height}
 use Rattle.sz_parse_expr.specs.Tokens.{Spelling, token, IsSign, IsWord, AtName, Many}
 use Rattle.sz_parse_expr.specs.Expressions.{Reads}
-use Rattle.sz_parse.specs.Statements.{Perhaps, NotElse, ReadsBehind, ReadsWeight, ReadsIndex, ReadsStep, ReadsSimple}
+use Rattle.sz_parse.specs.Statements.{Perhaps, NotElse, ReadsAfter, ReadsWeight, ReadsIndex, ReadsStep, ReadsSimple}
 use Rattle.sz_parse.specs.Statements.{ReadsFirst}
 use Rattle.sz_parse_expr.specs.Reading.{Read, after_sign, word_here, after_word}
 use Rattle.sz_parse_expr.specs.ReadingExpressions.{Sub, expr_at}
 use Rattle.sz_parse_expr.specs.ReadingTypes.{SubType, type_at}
-use Rattle.sz_parse.specs.ReadingStatements.{init_at, weight_at, index_at, index_step, path_step, assign_at, simple_behind}
-use Rattle.sz_parse.specs.ReadingStatements.{simple_at, first_behind, first_at}
+use Rattle.sz_parse.specs.ReadingStatements.{init_at, weight_at, index_at, index_step, path_step, assign_at, simple_after}
+use Rattle.sz_parse.specs.ReadingStatements.{simple_at, first_after, first_at}
 use Rattle.sz_parse_expr.proofs.Steps.{bind_step, choose_some, choose_none, guard_step}
 use Rattle.sz_parse_expr.proofs.Items.{IsFound, Low, all_complete, many_join}
 use Rattle.sz_parse_expr.proofs.TokenLemmas.{after_sign_is, other_sign, after_word_is, name_is}
@@ -79,7 +79,7 @@ no_else (t ∷ ts) h = no_else_here t t.kind ts refl h
 -- ---- parts that may be left out
 
 module _ (text : Spelling) (sub : Sub) (d : ℕ) (s : IsSound text sub d) (h : IsComplete text sub d) where
-  pub init_complete : (e : Option Exp) (ts rest after : List Token) → Perhaps (ReadsBehind text signs.Assign) e ts rest → part_height height e ≤ d
+  pub init_complete : (e : Option Exp) (ts rest after : List Token) → Perhaps (ReadsAfter text signs.Assign) e ts rest → part_height height e ≤ d
       → IsSign signs.Semicolon rest after → init_at sub ts ≡ Some (e, rest)
   unfolding init_at
   init_complete None ts rest after p low c = rw p (choose_none _ _ _ _ (other_sign signs.Assign signs.Semicolon rest after c refl) refl)
@@ -130,7 +130,7 @@ module _ (text : Spelling) (sub : Sub) (d : ℕ) (s : IsSound text sub d) (h : I
   unfolding path_step
   no_step r ts rest c e f = choose_none _ _ _ _ (other_sign signs.OpenBracket r ts rest c e) (choose_none _ _ _ _ (other_sign signs.Dot r ts rest c f) refl)
 
-  -- what stands behind the name of an assignment is no sign of another statement
+  -- what stands after the name of an assignment is no sign of another statement
   path_other : (z : Sign) (xs : List StepForm) (a b c : List Token) → Many (ReadsStep text) xs a b → IsSign signs.Assign b c
       → sameb sign_type signs.OpenBracket z ≡ false → sameb sign_type signs.Dot z ≡ false → sameb sign_type signs.Assign z ≡ false → after_sign z a ≡ None
   unfolding Many
@@ -138,11 +138,11 @@ module _ (text : Spelling) (sub : Sub) (d : ℕ) (s : IsSound text sub d) (h : I
   path_other z (at_index x ∷ xs) a b c m e p q r = other_sign z signs.OpenBracket a _ m.1.2 p
   path_other z (at_field x ∷ xs) a b c m e p q r = other_sign z signs.Dot a _ m.1.1 q
 
-  -- behind its name, before what ends an expression
+  -- after its name, before what ends an expression
   pub simple_complete : (x : SimpleForm) (ts rest : List Token) → ReadsSimple text x ts rest → simple_height x ≤ suc d → 5 < grip rest
-      → (n : Ident) × (a : List Token) × AtName text n ts a × (simple_behind text sub d n a ≡ Some (x, rest)) × (after_sign signs.Colon a ≡ None)
+      → (n : Ident) × (a : List Token) × AtName text n ts a × (simple_after text sub d n a ≡ Some (x, rest)) × (after_sign signs.Colon a ≡ None)
       × (after_sign signs.Define a ≡ None)
-  unfolding simple_behind assign_at ReadsSimple simple_height
+  unfolding simple_after assign_at ReadsSimple simple_height
   simple_complete (assign p e) ts rest re low g =
       let m = all_complete (path_item text sub d s) path_found p.steps re.0 re.1
       (many_join (ReadsStep text) step_height d p.steps re.0 re.1 re.4 (omega arith)) tt (no_step signs.Assign re.1 re.2 re.5 refl refl) in (
@@ -206,8 +206,8 @@ simple_at_complete text (suc d) x ts rest re low g =
 
 first_complete : (text : Spelling) (sub : Sub) (ty : SubType) (d : ℕ) → IsSound text sub d → IsComplete text sub d → IsCompleteType text ty d
     → (x : FirstForm) (ts rest : List Token) → ReadsFirst text x ts rest → first_height x ≤ suc d → 5 < grip rest
-    → (n : Ident) × (a : List Token) × AtName text n ts a × (first_behind text sub ty d n a ≡ Some (x, rest))
-unfolding first_behind ReadsFirst first_height
+    → (n : Ident) × (a : List Token) × AtName text n ts a × (first_after text sub ty d n a ≡ Some (x, rest))
+unfolding first_after ReadsFirst first_height
 first_complete text sub ty d s h ht (first_declare n t e) ts rest re low g = (
   n,
   re.0,

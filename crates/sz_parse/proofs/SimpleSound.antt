@@ -16,14 +16,14 @@ use Rattle.sz_tree.specs.Statements as forms
 use Rattle.sz_parse_expr.specs.Tokens.{Spelling, IsSign, AtName}
 use Rattle.sz_parse_expr.specs.Expressions.{Reads}
 use Rattle.sz_parse_expr.specs.Types.{ReadsElem}
-use Rattle.sz_parse.specs.Statements.{Perhaps, ReadsBehind, ReadsWeight, ReadsIndex, ReadsStep, ReadsSimple}
+use Rattle.sz_parse.specs.Statements.{Perhaps, ReadsAfter, ReadsWeight, ReadsIndex, ReadsStep, ReadsSimple}
 use Rattle.sz_parse.specs.Statements.{ReadsFirst, ReadsTableIndex, ReadsTableWeight, ReadsArgument, ReadsTable, ReadsNextName, ReadsNames}
 use Rattle.sz_parse.specs.Statements.{ReadsQuantifier, ReadsQuantifiers, ReadsDeclared, ReadsCondition, ReadsStm, ReadsStms}
 use Rattle.sz_parse_expr.specs.Reading.{Read}
 use Rattle.sz_parse_expr.specs.ReadingExpressions.{Sub, expr_at}
 use Rattle.sz_parse_expr.specs.ReadingTypes.{SubType, type_at}
-use Rattle.sz_parse.specs.ReadingStatements.{unless_at, init_at, weight_at, index_at, index_step, path_step, assign_at, simple_behind}
-use Rattle.sz_parse.specs.ReadingStatements.{simple_at, first_behind, first_at}
+use Rattle.sz_parse.specs.ReadingStatements.{unless_at, init_at, weight_at, index_at, index_step, path_step, assign_at, simple_after}
+use Rattle.sz_parse.specs.ReadingStatements.{simple_at, first_after, first_at}
 use Rattle.sz_parse_expr.proofs.Holds.{Holds, some_holds, none_holds, bind_holds, choose_holds, guard_holds, weaker}
 use Rattle.sz_parse_expr.proofs.Items.{IsItem, Low, all_sound, many_split, many_fewer}
 use Rattle.sz_parse_expr.proofs.TokenLemmas.{after_sign_sound, after_word_sound, name_sound, at_length, is_length, name_length}
@@ -114,7 +114,7 @@ module _ (text : Spelling) where
           name_length h.4,
           is_length h.5,
           type_shorter text t _ _ h.6,
-          perhaps_shorter (ReadsBehind text signs.Assign) (λ x ts rest r. omega (arith, is_length r.1, shorter text x _ _ r.2)) e _ _ h.7,
+          perhaps_shorter (ReadsAfter text signs.Assign) (λ x ts rest r. omega (arith, is_length r.1, shorter text x _ _ r.2)) e _ _ h.7,
           is_length h.8,
         )
     stm_shorter (forms.define n e) ts rest h = omega (arith, name_length h.3, is_length h.4, shorter text e _ _ h.5, is_length h.6)
@@ -209,13 +209,13 @@ StepItem text d = Low (ReadsStep text) step_height d
 
 -- an expression and a closing bracket
 record ParsedIndex (text : Spelling) (d : ℕ) (ts : List Token) (x : Exp × List Token) : Type 0 where
-  behind : List Token
-  reads : Reads text x.0 ts behind
-  closes : IsSign signs.CloseBracket behind x.1
+  later : List Token
+  reads : Reads text x.0 ts later
+  closes : IsSign signs.CloseBracket later x.1
   low : height x.0 ≤ d
 
 module _ (text : Spelling) (sub : Sub) (d : ℕ) (h : IsSound text sub d) where
-  pub init_sound : (ts : List Token) → Holds (init_at sub ts) (ParsedPart (ReadsBehind text signs.Assign) height d ts)
+  pub init_sound : (ts : List Token) → Holds (init_at sub ts) (ParsedPart (ReadsAfter text signs.Assign) height d ts)
   unfolding init_at
   init_sound ts = choose_holds (after_sign_sound signs.Assign ts) (some_holds _ _ (refl, omega arith))
       (λ a c. bind_holds (h 5 a) (λ x g. some_holds _ _ ((a, c, g.reads), g.low)))
@@ -228,13 +228,13 @@ module _ (text : Spelling) (sub : Sub) (d : ℕ) (h : IsSound text sub d) where
   index_sound : (ts : List Token) → Holds (index_at sub ts) (ParsedIndex text d ts)
   unfolding index_at
   index_sound ts = bind_holds (h 5 ts)
-      (λ x g. bind_holds (after_sign_sound signs.CloseBracket x.1) (λ r c. some_holds _ _ (record { behind = x.1; reads = g.reads; closes = c; low = g.low })))
+      (λ x g. bind_holds (after_sign_sound signs.CloseBracket x.1) (λ r c. some_holds _ _ (record { later = x.1; reads = g.reads; closes = c; low = g.low })))
 
   index_step_sound : (ts : List Token) → Holds (index_step sub ts) (λ r. Holds r (λ x. IndexItem text d x.0 ts x.1))
   unfolding index_step
   index_step_sound ts =
       choose_holds (after_sign_sound signs.OpenBracket ts) (none_holds _)
-      (λ a c. some_holds _ _ (weaker (index_sound a) (λ x g. ((a, g.behind, c, g.reads, g.closes), g.low))))
+      (λ a c. some_holds _ _ (weaker (index_sound a) (λ x g. ((a, g.later, c, g.reads, g.closes), g.low))))
 
   pub index_item : IsItem (index_step sub) (IndexItem text d)
   index_item = record {
@@ -248,7 +248,7 @@ module _ (text : Spelling) (sub : Sub) (d : ℕ) (h : IsSound text sub d) where
       choose_holds (after_sign_sound signs.OpenBracket ts)
       (choose_holds (after_sign_sound signs.Dot ts) (none_holds _)
       (λ a c. some_holds _ _ (bind_holds (name_sound text a) (λ n at. some_holds _ _ ((a, c, at), omega arith)))))
-      (λ a c. some_holds _ _ (bind_holds (index_sound a) (λ x g. some_holds _ _ ((a, g.behind, c, g.reads, g.closes), g.low))))
+      (λ a c. some_holds _ _ (bind_holds (index_sound a) (λ x g. some_holds _ _ ((a, g.later, c, g.reads, g.closes), g.low))))
 
   pub path_item : IsItem (path_step text sub) (StepItem text d)
   path_item = record { sound = λ ts r e. (path_step_sound ts).holds r e; shorter = λ x ts rest i. path_shorter text x ts rest i.0 }
@@ -260,14 +260,14 @@ module _ (text : Spelling) (sub : Sub) (d : ℕ) (h : IsSound text sub d) where
       some_holds _ _ ((ts, y.1, a, at, l.0, c, g.reads), omega (arith, l.1, g.low)))))
 
   pub simple_sound : (ts0 : List Token) (n : Ident) (ts : List Token) → AtName text n ts0 ts
-      → Holds (simple_behind text sub d n ts) (ParsedSimple text (suc d) ts0)
-  unfolding simple_behind ReadsSimple simple_height
+      → Holds (simple_after text sub d n ts) (ParsedSimple text (suc d) ts0)
+  unfolding simple_after ReadsSimple simple_height
   simple_sound ts0 n ts at =
       choose_holds (after_sign_sound signs.Increment ts) (choose_holds (after_sign_sound signs.Decrement ts) (choose_holds (after_sign_sound signs.OpenParen ts)
       (assign_sound ts0 n ts at)
       (λ a o. guard_holds (λ t. bind_holds (call_sound text sub d h a) (λ y m.
       let some : 1 ≤ d = leb-true _ _ t in
-      some_holds _ _ ((ts, a, m.behind, at, o, m.reads, m.closes), omega (arith, m.low))))))
+      some_holds _ _ ((ts, a, m.later, at, o, m.reads, m.closes), omega (arith, m.low))))))
       (λ r c. guard_holds (λ t. let some : 2 ≤ d = leb-true _ _ t in some_holds _ _ ((ts, at, c), omega arith))))
       (λ r c. guard_holds (λ t. let some : 2 ≤ d = leb-true _ _ t in some_holds _ _ ((ts, at, c), omega arith)))
 
@@ -277,8 +277,8 @@ simple_at_sound text zero ts = none_holds _
 simple_at_sound text (suc d) ts = bind_holds (name_sound text ts) (λ n at. simple_sound text (expr_at text d) d (expr_sound text d) ts n.0 n.1 at)
 
 module _ (text : Spelling) (sub : Sub) (ty : SubType) (d : ℕ) (h : IsSound text sub d) (hty : IsSoundType text ty d) where
-  first_sound : (ts0 : List Token) (n : Ident) (ts : List Token) → AtName text n ts0 ts → Holds (first_behind text sub ty d n ts) (ParsedFirst text (suc d) ts0)
-  unfolding first_behind ReadsFirst first_height
+  first_sound : (ts0 : List Token) (n : Ident) (ts : List Token) → AtName text n ts0 ts → Holds (first_after text sub ty d n ts) (ParsedFirst text (suc d) ts0)
+  unfolding first_after ReadsFirst first_height
   first_sound ts0 n ts at =
       choose_holds (after_sign_sound signs.Colon ts) (choose_holds (after_sign_sound signs.Define ts)
       (bind_holds (simple_sound text sub d h ts0 n ts at) (λ s g. some_holds _ _ g))

@@ -8,7 +8,7 @@ use Rattle.sz_tree.specs.Statements.{Stm, empty, block, declare, define, static,
 use Rattle.sz_tree.specs.Statements.{do_while, for_loop, break, continue, return, emit, when, Stms, no_stms, stm}
 use Rattle.sz_parse_expr.specs.Tokens.{Spelling, Many}
 use Rattle.sz_parse_expr.specs.Expressions.{Reads}
-use Rattle.sz_parse.specs.Statements.{Perhaps, ReadsArgument, ReadsBehind, ReadsWeight, ReadsIndex, ReadsStep, ReadsSimple, ReadsFirst, ReadsTableIndex}
+use Rattle.sz_parse.specs.Statements.{Perhaps, ReadsArgument, ReadsAfter, ReadsWeight, ReadsIndex, ReadsStep, ReadsSimple, ReadsFirst, ReadsTableIndex}
 use Rattle.sz_parse.specs.Statements.{ReadsTableWeight, ReadsTable, ReadsNextName, ReadsNames, ReadsQuantifier, ReadsQuantifiers}
 use Rattle.sz_parse.specs.Statements.{ReadsDeclared, ReadsCondition, ReadsStm, ReadsStms}
 use Rattle.sz_parse.specs.ReadingStatements.{stm_at}
@@ -33,8 +33,8 @@ module _ (f g : Spelling) where
   argument_alike : Alike f g ReadsArgument ReadsArgument
   argument_alike n ts rest h a = (h, on_is f g h.4 (on_is f g h.3 (on_is f g h.2 a)))
 
-  behind_alike : (s : Sign) → Alike f g (ReadsBehind f s) (ReadsBehind g s)
-  behind_alike s e ts rest h a =
+  after_alike : (s : Sign) → Alike f g (ReadsAfter f s) (ReadsAfter g s)
+  after_alike s e ts rest h a =
       let x = exp_alike f g e _ _ h.2 (on_is f g h.1 a) in
       ((h.0, h.1, x.0), x.1)
 
@@ -151,7 +151,7 @@ module _ (f g : Spelling) where
     stm_alike (declare n t e) ts rest h a =
         let m = on_name f g h.4 a in
         let x = type_alike f g t _ _ h.6 (on_is f g h.5 m.1) in
-        let y = perhaps_alike (ReadsBehind f _) (ReadsBehind g _) (behind_alike _) e _ _ h.7 x.1 in
+        let y = perhaps_alike (ReadsAfter f _) (ReadsAfter g _) (after_alike _) e _ _ h.7 x.1 in
         ((h.0, h.1, h.2, h.3, m.0, h.5, x.0, y.0, h.8), on_is f g h.8 y.1)
     stm_alike (define n e) ts rest h a =
         let m = on_name f g h.3 a in

@@ -155,7 +155,7 @@ module _ (text : Spelling) (r : Readers) (d : ℕ) (s : AreSound text r d) (h : 
       choose_none _ _ _ _ (simple_no_sign text signs.CloseParen x ts rest p)
       (bind_step _ _ _ _ (h.simple x ts rest p low (ends_at signs.CloseParen rest after refl c)) refl)
 
-  -- behind its name a statement is read
+  -- after its name a statement is read
   after_name : (n : Ident) (ts a rest : List Token) (x : Stm) → AtName text n ts a → named_stm_at text r d n a ≡ Some (x, rest)
       → step_at text r d ts ≡ Some (x, rest)
   unfolding step_at

@@ -51,9 +51,9 @@ exps_heights (e ∷ es) = ap (max (height e)) (exps_heights es)
 
 -- statements, and the closing brace
 pub record ParsedBody (text : Spelling) (d : ℕ) (ts : List Token) (y : List Stm × List Token) : Type 0 where
-  pub behind : List Token
-  pub reads : ReadsStms text (stms_of y.0) ts behind
-  pub closes : IsSign signs.CloseBrace behind y.1
+  pub later : List Token
+  pub reads : ReadsStms text (stms_of y.0) ts later
+  pub closes : IsSign signs.CloseBrace later y.1
   pub low : stm_heights (stms_of y.0) ≤ d
 
 module _ (text : Spelling) (r : Readers) (d : ℕ) (h : AreSound text r d) where
@@ -82,12 +82,12 @@ module _ (text : Spelling) (r : Readers) (d : ℕ) (h : AreSound text r d) where
   unfolding body_at
   body_sound ts = bind_holds (all_sound stm_item ts) (λ y m. bind_holds (after_sign_sound signs.CloseBrace y.1) (λ z c.
       let l = stms_of_items y.0 ts y.1 m in
-      some_holds _ _ (record { behind = y.1; reads = l.0; closes = c; low = l.1 })))
+      some_holds _ _ (record { later = y.1; reads = l.0; closes = c; low = l.1 })))
 
   block_sound : (ts0 : List Token) (p : Place) (ts : List Token) → At p (kinds.Sign signs.OpenBrace) ts0 ts
       → Holds (block_at r.stm p ts) (ParsedStm text (suc d) ts0)
   unfolding block_at ReadsStm stm_height
-  block_sound ts0 p ts at = bind_holds (body_sound ts) (λ y m. some_holds _ _ ((ts, m.behind, at, m.reads, m.closes), omega (arith, m.low)))
+  block_sound ts0 p ts at = bind_holds (body_sound ts) (λ y m. some_holds _ _ ((ts, m.later, at, m.reads, m.closes), omega (arith, m.low)))
 
   declare_sound : (ts0 ts a : List Token) (n : Ident) → AtName text n ts0 ts → IsSign signs.Colon ts a → Holds (declare_at r n a) (ParsedStm text (suc d) ts0)
   unfolding declare_at ReadsStm stm_height
@@ -104,7 +104,7 @@ module _ (text : Spelling) (r : Readers) (d : ℕ) (h : AreSound text r d) where
       (λ ps gp. bind_holds (after_sign_sound signs.CloseParen ps.1) (λ i cl. bind_holds (after_sign_sound signs.Colon i) (λ j m.
       bind_holds (h.type j) (λ t g. bind_holds (after_sign_sound signs.OpenBrace t.1) (λ k ob. bind_holds (body_sound k) (λ y gb.
       some_holds _ _ (
-        (ts, a, b, f, ps.1, i, j, t.1, k, gb.behind, at, c, w, o, gp.0, cl, m, g.reads, ob, gb.reads, gb.closes),
+        (ts, a, b, f, ps.1, i, j, t.1, k, gb.later, at, c, w, o, gp.0, cl, m, g.reads, ob, gb.reads, gb.closes),
         omega (arith, gp.1, g.low, gb.low),
       ))))))))
 
@@ -146,7 +146,7 @@ module _ (text : Spelling) (r : Readers) (d : ℕ) (h : AreSound text r d) where
       bind_holds (label_sound text ts)
       (λ n l. bind_holds (h.type n.1)
       (λ t g. bind_holds (after_sign_sound signs.Assign t.1) (λ a e. bind_holds (h.expr 5 a) (λ x gx. bind_holds (after_sign_sound signs.Semicolon x.1) (λ z s.
-      some_holds _ _ ((ts, l.behind, n.1, t.1, a, x.1, at, l.name, l.colon, g.reads, e, gx.reads, s), omega (arith, g.low, gx.low)))))))
+      some_holds _ _ ((ts, l.later, n.1, t.1, a, x.1, at, l.name, l.colon, g.reads, e, gx.reads, s), omega (arith, g.low, gx.low)))))))
 
   typedef_sound : (ts0 : List Token) (p : Place) (ts : List Token) → At p (kinds.Word words.Type) ts0 ts
       → Holds (typedef_at text r p ts) (ParsedStm text (suc d) ts0)
@@ -164,17 +164,17 @@ module _ (text : Spelling) (r : Readers) (d : ℕ) (h : AreSound text r d) where
   if_sound ts0 p ts at =
       bind_holds (condition_sound text r.expr d h.expr ts) (λ c gc. bind_holds (h.stm c.1) (λ s gs. chosen_holds (after_word_sound words.Else s.1)
       (λ e. some_holds _ _
-      ((ts, c.1, at, (gc.inner, gc.closed.behind, gc.opens, gc.closed.reads, gc.closed.closes), gs.0, not_else s.1 e), omega (arith, gc.closed.low, gs.1)))
+      ((ts, c.1, at, (gc.inner, gc.closed.later, gc.opens, gc.closed.reads, gc.closed.closes), gs.0, not_else s.1 e), omega (arith, gc.closed.low, gs.1)))
       (λ g el. bind_holds (h.stm g)
       (λ t gt. some_holds _ _ (
-        (ts, c.1, s.1, g, at, (gc.inner, gc.closed.behind, gc.opens, gc.closed.reads, gc.closed.closes), gs.0, el, gt.0),
+        (ts, c.1, s.1, g, at, (gc.inner, gc.closed.later, gc.opens, gc.closed.reads, gc.closed.closes), gs.0, el, gt.0),
         omega (arith, gc.closed.low, gs.1, gt.1),
       )))))
 
   while_sound : (ts0 : List Token) (p : Place) (ts : List Token) → At p (kinds.Word words.While) ts0 ts → Holds (while_at r p ts) (ParsedStm text (suc d) ts0)
   unfolding while_at ReadsStm stm_height
   while_sound ts0 p ts at = bind_holds (condition_sound text r.expr d h.expr ts) (λ c gc. bind_holds (h.stm c.1) (λ s gs.
-      some_holds _ _ ((ts, c.1, at, (gc.inner, gc.closed.behind, gc.opens, gc.closed.reads, gc.closed.closes), gs.0), omega (arith, gc.closed.low, gs.1))))
+      some_holds _ _ ((ts, c.1, at, (gc.inner, gc.closed.later, gc.opens, gc.closed.reads, gc.closed.closes), gs.0), omega (arith, gc.closed.low, gs.1))))
 
   do_sound : (ts0 : List Token) (p : Place) (ts : List Token) → At p (kinds.Word words.Do) ts0 ts → Holds (do_at r p ts) (ParsedStm text (suc d) ts0)
   unfolding do_at ReadsStm stm_height
@@ -183,7 +183,7 @@ module _ (text : Spelling) (r : Readers) (d : ℕ) (h : AreSound text r d) where
       (λ s gs. bind_holds (after_word_sound words.While s.1)
       (λ a w. bind_holds (condition_sound text r.expr d h.expr a) (λ c gc. bind_holds (after_sign_sound signs.Semicolon c.1) (λ z e.
       some_holds _ _ (
-        (ts, s.1, a, c.1, at, gs.0, w, (gc.inner, gc.closed.behind, gc.opens, gc.closed.reads, gc.closed.closes), e),
+        (ts, s.1, a, c.1, at, gs.0, w, (gc.inner, gc.closed.later, gc.opens, gc.closed.reads, gc.closed.closes), e),
         omega (arith, gc.closed.low, gs.1),
       )))))
 

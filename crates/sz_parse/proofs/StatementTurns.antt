@@ -10,7 +10,7 @@ use Rattle.sz_parse_expr.specs.ReadingExpressions.{Sub}
 use Rattle.sz_parse_expr.specs.ReadingTypes.{SubType}
 use Rattle.sz_parse.specs.ReadingTables.{table_index_at, table_index_step}
 use Rattle.sz_parse.specs.ReadingStatements.{index_at, index_step, begins_step, step_item, path_step}
-use Rattle.sz_parse.specs.ReadingTables.{name_step, names_behind, begins_quantifier, quantifier_at, quantifier_step, quantifiers_behind}
+use Rattle.sz_parse.specs.ReadingTables.{name_step, names_later, begins_quantifier, quantifier_at, quantifier_step, quantifiers_after}
 use Rattle.sz_parse.specs.ReadingStatements.{begins_stm, stm_step}
 use Rattle.sz_parse_expr.proofs.Steps.{choose_some, choose_none}
 
@@ -24,7 +24,7 @@ pub all_start : {A : Type 0} (step : List Token → Option (Read A)) (ts : List 
 unfolding with_items
 all_start step ts = same_read (all_at step ts)
 
--- what stands behind one of two tokens
+-- what stands after one of two tokens
 pick_here : {A : Type 0} (f g : List Token → Option A) (o p : Option (List Token)) (r : List Token) → choose o p (λ r. Some r) ≡ Some r
     → choose o (choose p None (λ a. Some (f a))) (λ a. Some (g a)) ≡ Some (choose o (bind p f) g)
 unfolding choose bind
@@ -96,8 +96,8 @@ module _ (text : Spelling) (ty : SubType) where
   unfolding quantifier_step begins_quantifier name_at choose bind
   no_quantifier_at_end = refl
 
-  pub quantifiers_start : (q : QuantifierForm) (ts : List Token) → with_items (q ∷ []) (all_at (quantifier_step text ty) ts) ≡ quantifiers_behind text ty q ts
-  unfolding with_items quantifiers_behind
+  pub quantifiers_start : (q : QuantifierForm) (ts : List Token) → with_items (q ∷ []) (all_at (quantifier_step text ty) ts) ≡ quantifiers_after text ty q ts
+  unfolding with_items quantifiers_after
   quantifiers_start q ts = refl
 
 module _ (text : Spelling) where
@@ -113,8 +113,8 @@ module _ (text : Spelling) where
   unfolding name_step after_sign choose
   no_name_at_end = refl
 
-  pub names_start : (n : Ident) (ts : List Token) → with_items (n ∷ []) (all_at (name_step text) ts) ≡ names_behind text n ts
-  unfolding with_items names_behind
+  pub names_start : (n : Ident) (ts : List Token) → with_items (n ∷ []) (all_at (name_step text) ts) ≡ names_later text n ts
+  unfolding with_items names_later
   names_start n ts = refl
 
 pub stm_begun : (ts b : List Token) → begins_stm ts ≡ Some b → b ≡ ts

@@ -27,8 +27,8 @@ use Rattle.sz_parse.specs.Statements.{ReadsQuantifier, ReadsQuantifiers, ReadsDe
 use Rattle.sz_parse_expr.specs.Reading.{Read, after_sign, after_word, name_here, name_at}
 use Rattle.sz_parse_expr.specs.ReadingTypes.{SubType, elem_at}
 use Rattle.sz_parse.specs.ReadingTables.{argument_at, table_index_at, table_index_step}
-use Rattle.sz_parse.specs.ReadingTables.{table_weight_at, table_at, name_step, names_behind, names_at, quantity_at, quantifier_at}
-use Rattle.sz_parse.specs.ReadingTables.{begins_quantifier, quantifier_step, quantifiers_behind, quantifiers_at}
+use Rattle.sz_parse.specs.ReadingTables.{table_weight_at, table_at, name_step, names_later, names_at, quantity_at, quantifier_at}
+use Rattle.sz_parse.specs.ReadingTables.{begins_quantifier, quantifier_step, quantifiers_after, quantifiers_at}
 use Rattle.sz_parse.specs.ReadingStatements.{declared_at}
 use Rattle.sz_parse_expr.proofs.Steps.{bind_step, bind_none, choose_some, choose_none}
 use Rattle.sz_parse_expr.proofs.Items.{IsFound, Low, all_complete, many_join}
@@ -146,7 +146,7 @@ module _ (text : Spelling) (ty : SubType) (d : ℕ) (s : IsSoundType text ty d) 
     sign_at_word signs.Colon words.Weight ts p.0 p.1,
   )
 
-  -- what stands behind the argument of a table is no parenthesis
+  -- what stands after the argument of a table is no parenthesis
   table_no_paren : (xs : List ElemForm) (ts a b : List Token) → Many (ReadsTableIndex text) xs ts a → IsWord words.Of a b → after_sign signs.OpenParen ts ≡ None
   unfolding Many
   table_no_paren [] ts a b m w = rw m (sign_at_word signs.OpenParen words.Of a b w)
@@ -176,7 +176,7 @@ module _ (text : Spelling) (ty : SubType) (d : ℕ) (s : IsSoundType text ty d) 
 
   names_complete : (ns : List Ident) (ts rest after : List Token) → ReadsNames text ns ts rest → IsSign signs.Colon rest after
       → names_at text ts ≡ Some (ns, rest)
-  unfolding names_at names_behind
+  unfolding names_at names_later
   names_complete [] ts rest after re c = absurd re
   names_complete (n ∷ ns) ts rest after re c =
       bind_step _ _ _ _ (name_is text n ts re.0 re.1)
@@ -217,7 +217,7 @@ module _ (text : Spelling) (ty : SubType) (d : ℕ) (s : IsSoundType text ty d) 
 
   pub quantifiers_complete : (qs : List QuantifierForm) (ts rest : List Token) → ReadsQuantifiers text qs ts rest → greatest quantifier_height qs ≤ d
       → begins_quantifier text rest ≡ None → quantifiers_at text ty ts ≡ Some (qs, rest)
-  unfolding quantifiers_at quantifiers_behind quantifier_step
+  unfolding quantifiers_at quantifiers_after quantifier_step
   quantifiers_complete [] ts rest re low none = absurd re
   quantifiers_complete (q ∷ qs) ts rest re low none =
       let m = all_complete (quantifier_item text ty d s) quantifier_found qs re.0 rest

@@ -16,8 +16,8 @@ use Rattle.sz_parse.specs.Statements.{ReadsTableIndex, ReadsTableWeight, ReadsAr
 use Rattle.sz_parse.specs.Statements.{ReadsQuantifier, ReadsQuantifiers, ReadsDeclared}
 use Rattle.sz_parse_expr.specs.ReadingTypes.{SubType}
 use Rattle.sz_parse.specs.ReadingTables.{argument_at, table_index_at, table_index_step}
-use Rattle.sz_parse.specs.ReadingTables.{table_weight_at, table_at, name_step, names_behind, names_at, quantity_of, quantity_here}
-use Rattle.sz_parse.specs.ReadingTables.{quantity_at, quantifier_at, begins_quantifier, quantifier_step, quantifiers_behind}
+use Rattle.sz_parse.specs.ReadingTables.{table_weight_at, table_at, name_step, names_later, names_at, quantity_of, quantity_here}
+use Rattle.sz_parse.specs.ReadingTables.{quantity_at, quantifier_at, begins_quantifier, quantifier_step, quantifiers_after}
 use Rattle.sz_parse.specs.ReadingTables.{quantifiers_at}
 use Rattle.sz_parse.specs.ReadingStatements.{declared_at}
 use Rattle.sz_parse_expr.proofs.Holds.{Holds, some_holds, none_holds, bind_holds, choose_holds, chosen_holds, weaker}
@@ -39,7 +39,7 @@ module _ (text : Spelling) (ty : SubType) (d : ℕ) (h : IsSoundType text ty d) 
   table_index_sound ts =
       choose_holds (after_sign_sound signs.OpenBracket ts) (none_holds _)
       (λ a o. some_holds _ _ (bind_holds (elem_sound text ty d h a) (λ e g. bind_holds (after_sign_sound signs.CloseBracket e.1) (λ r c.
-      some_holds _ _ ((a, e.1, o, (g.behind, g.label, g.reads), c), g.low)))))
+      some_holds _ _ ((a, e.1, o, (g.later, g.label, g.reads), c), g.low)))))
 
   pub table_index_item : IsItem (table_index_step text ty) (Low (ReadsTableIndex text) elem_height d)
   table_index_item = record {
@@ -51,7 +51,7 @@ module _ (text : Spelling) (ty : SubType) (d : ℕ) (h : IsSoundType text ty d) 
   unfolding table_weight_at ReadsElem
   table_weight_sound ts =
       choose_holds (after_word_sound words.Weight ts) (some_holds _ _ (refl, omega arith))
-      (λ a w. bind_holds (elem_sound text ty d h a) (λ e g. some_holds _ _ ((a, w, (g.behind, g.label, g.reads)), g.low)))
+      (λ a w. bind_holds (elem_sound text ty d h a) (λ e g. some_holds _ _ ((a, w, (g.later, g.label, g.reads)), g.low)))
 
   pub table_sound : (ts : List Token) → Holds (table_at text ty ts) (λ x. Low (ReadsTable text) table_height d x.0 ts x.1)
   unfolding table_at ReadsTable ReadsElem
@@ -59,7 +59,7 @@ module _ (text : Spelling) (ty : SubType) (d : ℕ) (h : IsSoundType text ty d) 
       (λ k at. bind_holds (argument_sound k.1) (λ a ga. bind_holds (all_sound table_index_item a.1) (λ i m. bind_holds (after_word_sound words.Of i.1) (λ o w.
       bind_holds (elem_sound text ty d h o) (λ e g. bind_holds (table_weight_sound e.1) (λ x gx. bind_holds (after_sign_sound signs.Semicolon x.1) (λ r c.
       let l = many_split (ReadsTableIndex text) elem_height d i.0 a.1 i.1 m in
-      some_holds _ _ ((k.1, a.1, i.1, o, e.1, x.1, at, ga, l.0, w, (g.behind, g.label, g.reads), gx.0, c), omega (arith, l.1, g.low, gx.1)))))))))
+      some_holds _ _ ((k.1, a.1, i.1, o, e.1, x.1, at, ga, l.0, w, (g.later, g.label, g.reads), gx.0, c), omega (arith, l.1, g.low, gx.1)))))))))
 
   name_step_sound : (ts : List Token) → Holds (name_step text ts) (λ r. Holds r (λ x. ReadsNextName text x.0 ts x.1))
   unfolding name_step
@@ -69,7 +69,7 @@ module _ (text : Spelling) (ty : SubType) (d : ℕ) (h : IsSoundType text ty d) 
   name_item = record { sound = λ ts r e. (name_step_sound ts).holds r e; shorter = λ x ts rest i. omega (arith, is_length i.1, name_length i.2) }
 
   names_sound : (ts : List Token) → Holds (names_at text ts) (λ x. ReadsNames text x.0 ts x.1)
-  unfolding names_at names_behind
+  unfolding names_at names_later
   names_sound ts = bind_holds (name_sound text ts) (λ n at. bind_holds (all_sound name_item n.1) (λ y m. some_holds _ _ (n.1, at, m)))
 
   quantity_of_sound : (w : Word) → Holds (quantity_of w) (λ q. w ≡ quantity_word q)
@@ -106,7 +106,7 @@ module _ (text : Spelling) (ty : SubType) (d : ℕ) (h : IsSoundType text ty d) 
   quantifier_item = record { sound = λ ts r e. (quantifier_step_sound ts).holds r e; shorter = λ x ts rest i. one_quantifier_shorter text x ts rest i.0 }
 
   pub quantifiers_sound : (ts : List Token) → Holds (quantifiers_at text ty ts) (λ x. Low (ReadsQuantifiers text) (greatest quantifier_height) d x.0 ts x.1)
-  unfolding quantifiers_at quantifiers_behind
+  unfolding quantifiers_at quantifiers_after
   quantifiers_sound ts = bind_holds (quantifier_sound ts) (λ q g. bind_holds (all_sound quantifier_item q.1) (λ y m.
       let l = many_split (ReadsQuantifier text) quantifier_height d y.0 q.1 y.1 m in
       some_holds _ _ ((q.1, g.0, l.0), omega (arith, g.1, l.1))))

@@ -27,7 +27,7 @@ module _ (tokens : Lexed) where
       let g = goes (lexeme_of tokens.text) tokens.tokens (t ∷ ts) x.1 front x.0 f.0 f.1 e in
       on (front ++ x.0 ∷ []) x.1 (omega (arith, g.fewer)) (g.reads, g.low)
 
-  -- behind the statements read so far, the rest is read too
+  -- after the statements read so far, the rest is read too
   read_on : (n : ℕ) (front : List Stm) (rest : List Token) → length rest < n → Front front rest → IsRead tokens
   read_on zero front rest less f = absurd (omega arith)
   read_on (suc n) front [] less f = inl (stms_of front, record { reads = f.0; low = f.1 })

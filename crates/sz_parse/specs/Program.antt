@@ -20,7 +20,7 @@ abbrev pub count_of : Stms → ℕ
 count_of no_stms = 0
 count_of (stm s ss) = 1 + count_of ss
 
--- whole statements stand at the front, no list of them is longer, and the token behind them is at this place
+-- whole statements stand at the front, no list of them is longer, and the token after them is at this place
 pub record IsStuck (tokens : Lexed) (p : Place) : Type 0 where
   pub front : Stms
   pub here : Token

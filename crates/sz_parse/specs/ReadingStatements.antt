@@ -21,7 +21,7 @@ use Rattle.sz_parse_expr.specs.ReadingExpressions.{Sub, call_at, condition_at, e
 use Rattle.sz_parse_expr.specs.ReadingTypes.{SubType, label_at, params_at, type_at}
 use Rattle.sz_parse.specs.ReadingTables.{table_at, quantifiers_at}
 
--- what was read, with this sign behind it
+-- what was read, with this sign after it
 unfoldable pub closed_by : {A : Type 0} → Sign → Read A → Read A
 closed_by s read = read >>= λ x. after_sign s x.1 >>= λ r. Some (x.0, r)
 
@@ -29,16 +29,16 @@ closed_by s read = read >>= λ x. after_sign s x.1 >>= λ r. Some (x.0, r)
 unfoldable pub unless_at : {A : Type 0} → Sign → (List Token → Read A) → List Token → Read (Option A)
 unless_at s read ts = choose (after_sign s ts) (read ts >>= λ x. Some (Some x.0, x.1)) (λ _. Some (None, ts))
 
--- an expression behind an equals sign, and behind `weight`, if one is there
+-- an expression after an equals sign, and after `weight`, if one is there
 unfoldable pub init_at : Sub → List Token → Read (Option Exp)
 init_at sub ts = choose (after_sign signs.Assign ts) (Some (None, ts)) (λ a. sub 5 a >>= λ x. Some (Some x.0, x.1))
 
 unfoldable pub weight_at : Sub → List Token → Read (Option Exp)
 weight_at sub ts = choose (after_word words.Weight ts) (Some (None, ts)) (λ a. sub 5 a >>= λ x. Some (Some x.0, x.1))
 
--- the expression behind a sign
-unfoldable pub behind_at : Sub → Sign → List Token → Read Exp
-behind_at sub s ts = after_sign s ts >>= λ a. sub 5 a
+-- the expression after a sign
+unfoldable pub after_at : Sub → Sign → List Token → Read Exp
+after_at sub s ts = after_sign s ts >>= λ a. sub 5 a
 
 -- an expression and a closing bracket
 unfoldable pub index_at : Sub → List Token → Read Exp
@@ -63,13 +63,13 @@ step_item text sub ts =
     choose (after_sign signs.OpenBracket ts) (after_sign signs.Dot ts >>= λ a. name_at text a >>= λ n. Some (at_field n.0, n.1))
     (λ a. index_at sub a >>= λ x. Some (at_index x.0, x.1))
 
--- an assignment, a step up or down, or a call, behind its name; d is how high its parts may be
+-- an assignment, a step up or down, or a call, after its name; d is how high its parts may be
 unfoldable pub assign_at : Spelling → Sub → Ident → List Token → Read SimpleForm
 assign_at text sub n ts =
     all_at (path_step text sub) ts >>= λ y. after_sign signs.Assign y.1 >>= λ a. sub 5 a >>= λ x. Some (assign (record { name = n; steps = y.0 }) x.0, x.1)
 
-unfoldable pub simple_behind : Spelling → Sub → ℕ → Ident → List Token → Read SimpleForm
-simple_behind text sub d n ts =
+unfoldable pub simple_after : Spelling → Sub → ℕ → Ident → List Token → Read SimpleForm
+simple_after text sub d n ts =
     choose (after_sign signs.Increment ts) (choose (after_sign signs.Decrement ts) (choose (after_sign signs.OpenParen ts)
     (assign_at text sub n ts)
     (λ a. guard (nat_le 1 d) (call_at sub a >>= λ y. Some (call_of n y.0, y.1))))
@@ -79,19 +79,19 @@ simple_behind text sub d n ts =
 -- a statement of at most this height that may stand as a step of a `for`
 unfoldable pub simple_at : Spelling → ℕ → List Token → Read SimpleForm
 simple_at text zero ts = None
-simple_at text (suc d) ts = name_at text ts >>= λ n. simple_behind text (expr_at text d) d n.0 n.1
+simple_at text (suc d) ts = name_at text ts >>= λ n. simple_after text (expr_at text d) d n.0 n.1
 
--- the first part of a `for`, behind its name
-unfoldable pub first_behind : Spelling → Sub → SubType → ℕ → Ident → List Token → Read FirstForm
-first_behind text sub ty d n ts =
+-- the first part of a `for`, after its name
+unfoldable pub first_after : Spelling → Sub → SubType → ℕ → Ident → List Token → Read FirstForm
+first_after text sub ty d n ts =
     choose (after_sign signs.Colon ts) (choose (after_sign signs.Define ts)
-    (simple_behind text sub d n ts >>= λ s. Some (first_simple s.0, s.1))
+    (simple_after text sub d n ts >>= λ s. Some (first_simple s.0, s.1))
     (λ a. sub 5 a >>= λ x. Some (first_define n x.0, x.1)))
     (λ a. ty a >>= λ t. after_sign signs.Assign t.1 >>= λ b. sub 5 b >>= λ x. Some (first_declare n t.0 x.0, x.1))
 
 unfoldable pub first_at : Spelling → ℕ → List Token → Read FirstForm
 first_at text zero ts = None
-first_at text (suc d) ts = name_at text ts >>= λ n. first_behind text (expr_at text d) (type_at text d) d n.0 n.1
+first_at text (suc d) ts = name_at text ts >>= λ n. first_after text (expr_at text d) (type_at text d) d n.0 n.1
 
 -- readers of the parts of a statement
 pub record Readers : Type 0 where
@@ -117,7 +117,7 @@ body_at st ts = all_at (stm_step st) ts >>= λ y. after_sign signs.CloseBrace y.
 unfoldable pub block_at : (List Token → Read Stm) → Place → List Token → Read Stm
 block_at st p ts = body_at st ts >>= λ y. Some (block p (stms_of y.0), y.1)
 
--- a statement with a semicolon behind it
+-- a statement with a semicolon after it
 abbrev pub ended_at : Stm → List Token → Read Stm
 ended_at s ts = after_sign signs.Semicolon ts >>= λ z. Some (s, z)
 
@@ -150,14 +150,14 @@ unfoldable pub define_at : Readers → Ident → List Token → Read Stm
 define_at r n ts = r.expr 5 ts >>= λ x. after_sign signs.Semicolon x.1 >>= λ z. Some (define n x.0, z)
 
 unfoldable pub simple_stm_at : Spelling → Readers → ℕ → Ident → List Token → Read Stm
-simple_stm_at text r d n ts = simple_behind text r.expr d n ts >>= λ s. after_sign signs.Semicolon s.1 >>= λ z. Some (simple s.0, z)
+simple_stm_at text r d n ts = simple_after text r.expr d n ts >>= λ s. after_sign signs.Semicolon s.1 >>= λ z. Some (simple s.0, z)
 
 -- what a name begins
 unfoldable pub named_stm_at : Spelling → Readers → ℕ → Ident → List Token → Read Stm
 named_stm_at text r d n ts =
     choose (after_sign signs.Colon ts) (choose (after_sign signs.Define ts) (simple_stm_at text r d n ts) (λ a. define_at r n a)) (λ a. colon_at text r n a)
 
--- the statements behind their first word
+-- the statements after their first word
 unfoldable pub static_at : Spelling → Readers → Place → List Token → Read Stm
 static_at text r p ts =
     label_at text ts >>= λ n. r.type n.1 >>= λ t. after_sign signs.Assign t.1 >>= λ a. r.expr 5 a >>= λ x. after_sign signs.Semicolon x.1

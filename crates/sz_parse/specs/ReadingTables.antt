@@ -32,7 +32,7 @@ table_weight_at text ty ts = choose (after_word words.Weight ts) (Some (None, ts
 unfoldable pub table_parts_at : Spelling → SubType → List Token → Read (ElemForm × Option ElemForm)
 table_parts_at text ty ts = after_word words.Of ts >>= λ o. elem_at text ty o >>= λ e. table_weight_at text ty e.1 >>= λ w. Some ((e.0, w.0), w.1)
 
--- what stands behind `table`, up to the semicolon
+-- what stands after `table`, up to the semicolon
 unfoldable pub table_at : Spelling → SubType → List Token → Read TableForm
 table_at text ty ts =
     name_at text ts >>= λ k. argument_at k.1 >>= λ a. all_at (table_index_step text ty) a.1 >>= λ i. after_word words.Of i.1 >>= λ o.
@@ -43,11 +43,11 @@ table_at text ty ts =
 unfoldable pub name_step : Spelling → List Token → Option (Read Ident)
 name_step text ts = choose (after_sign signs.Comma ts) None (λ a. Some (name_at text a))
 
-unfoldable pub names_behind : Spelling → Ident → List Token → Read (List Ident)
-names_behind text n ts = all_at (name_step text) ts >>= λ y. Some (n ∷ y.0, y.1)
+unfoldable pub names_later : Spelling → Ident → List Token → Read (List Ident)
+names_later text n ts = all_at (name_step text) ts >>= λ y. Some (n ∷ y.0, y.1)
 
 unfoldable pub names_at : Spelling → List Token → Read (List Ident)
-names_at text ts = name_at text ts >>= λ n. names_behind text n.0 n.1
+names_at text ts = name_at text ts >>= λ n. names_later text n.0 n.1
 
 abbrev pub quantity_of : Word → Option Quantity
 quantity_of words.Some = Some quantities.Some
@@ -70,15 +70,15 @@ quantifier_at text ty ts =
     names_at text ts >>= λ n. after_sign signs.Colon n.1 >>= λ a. quantity_at a >>= λ q. ty q.1 >>= λ t. after_sign signs.Semicolon t.1 >>= λ r.
     Some (record { names = n.0; quantity = q.0; of = t.0 }, r)
 
--- a name and a comma or a colon behind it
+-- a name and a comma or a colon after it
 unfoldable pub begins_quantifier : Spelling → List Token → Option (List Token)
 begins_quantifier text ts = name_at text ts >>= λ n. choose (after_sign signs.Comma n.1) (after_sign signs.Colon n.1) (λ r. Some r)
 
 unfoldable pub quantifier_step : Spelling → SubType → List Token → Option (Read QuantifierForm)
 quantifier_step text ty ts = choose (begins_quantifier text ts) None (λ _. Some (quantifier_at text ty ts))
 
-unfoldable pub quantifiers_behind : Spelling → SubType → QuantifierForm → List Token → Read (List QuantifierForm)
-quantifiers_behind text ty q ts = all_at (quantifier_step text ty) ts >>= λ y. Some (q ∷ y.0, y.1)
+unfoldable pub quantifiers_after : Spelling → SubType → QuantifierForm → List Token → Read (List QuantifierForm)
+quantifiers_after text ty q ts = all_at (quantifier_step text ty) ts >>= λ y. Some (q ∷ y.0, y.1)
 
 unfoldable pub quantifiers_at : Spelling → SubType → List Token → Read (List QuantifierForm)
-quantifiers_at text ty ts = quantifier_at text ty ts >>= λ q. quantifiers_behind text ty q.0 q.1
+quantifiers_at text ty ts = quantifier_at text ty ts >>= λ q. quantifiers_after text ty q.0 q.1

@@ -39,9 +39,9 @@ abbrev pub ReadsArgument : ℤ → List Token → List Token → Type 0
 ReadsArgument n ts rest = (a b : List Token) × IsSign signs.OpenParen ts a × Is (kinds.Number n) a b × IsSign signs.CloseParen b rest
 
 module _ (text : Spelling) where
-  -- a sign or a word and an expression behind it
-  abbrev pub ReadsBehind : Sign → Exp → List Token → List Token → Type 0
-  ReadsBehind s e ts rest = (a : List Token) × IsSign s ts a × Reads text e a rest
+  -- a sign or a word and an expression after it
+  abbrev pub ReadsAfter : Sign → Exp → List Token → List Token → Type 0
+  ReadsAfter s e ts rest = (a : List Token) × IsSign s ts a × Reads text e a rest
 
   abbrev pub ReadsWeight : Exp → List Token → List Token → Type 0
   ReadsWeight e ts rest = (a : List Token) × IsWord words.Weight ts a × Reads text e a rest
@@ -70,14 +70,14 @@ module _ (text : Spelling) where
   ReadsFirst (first_define n e) ts rest = (a b : List Token) × AtName text n ts a × IsSign signs.Define a b × Reads text e b rest
   ReadsFirst (first_simple s) ts rest = ReadsSimple s ts rest
 
-  -- an index of a table in brackets, and the part behind `weight`
+  -- an index of a table in brackets, and the part after `weight`
   abbrev pub ReadsTableIndex : ElemForm → List Token → List Token → Type 0
   ReadsTableIndex e ts rest = (a b : List Token) × IsSign signs.OpenBracket ts a × ReadsElem text e a b × IsSign signs.CloseBracket b rest
 
   abbrev pub ReadsTableWeight : ElemForm → List Token → List Token → Type 0
   ReadsTableWeight e ts rest = (a : List Token) × IsWord words.Weight ts a × ReadsElem text e a rest
 
-  -- what stands behind `table`, up to the semicolon
+  -- what stands after `table`, up to the semicolon
   unfoldable pub ReadsTable : TableForm → List Token → List Token → Type 0
   ReadsTable t ts rest =
       (a b c d f g : List Token) × AtName text t.kind ts a × Perhaps ReadsArgument t.argument a b × Many ReadsTableIndex t.indexes b c × IsWord words.Of c d
@@ -117,7 +117,7 @@ module _ (text : Spelling) where
     ReadsStm (empty p) ts rest = At p (kinds.Sign signs.Semicolon) ts rest
     ReadsStm (block p ss) ts rest = (a b : List Token) × At p (kinds.Sign signs.OpenBrace) ts a × ReadsStms ss a b × IsSign signs.CloseBrace b rest
     ReadsStm (declare n t e) ts rest = (a b c d : List Token) × AtName text n ts a × IsSign signs.Colon a b × ReadsType text t b c
-        × Perhaps (ReadsBehind signs.Assign) e c d × IsSign signs.Semicolon d rest
+        × Perhaps (ReadsAfter signs.Assign) e c d × IsSign signs.Semicolon d rest
     ReadsStm (define n e) ts rest = (a b c : List Token) × AtName text n ts a × IsSign signs.Define a b × Reads text e b c × IsSign signs.Semicolon c rest
     ReadsStm (static p n t e) ts rest = (a b c d f g : List Token) × At p (kinds.Word words.Static) ts a × AtName text n a b × IsSign signs.Colon b c
         × ReadsType text t c d × IsSign signs.Assign d f × Reads text e f g × IsSign signs.Semicolon g rest

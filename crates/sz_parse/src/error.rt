@@ -5,7 +5,7 @@ use sz_types::Place;
 /// Why `parse` gives no tree.
 #[derive(Debug, Drop)]
 pub enum ParseError {
-    /// At this place stands the first token behind the longest list of whole statements at the front.
+    /// At this place stands the first token after the longest list of whole statements at the front.
     Syntax(Place),
     /// Memory ran out.
     NoMemory,

@@ -9,8 +9,8 @@ ghost use Rattle.sz_parse_expr.specs.ReadingTypes.{type_at};
 ghost use Rattle.sz_parse.specs.ReadingStatements.{unless_at, init_at, weight_at, simple_at, first_at, declare_at, declared_at, parameters_at, table_stm_at, define_at, simple_stm_at, static_at, typedef_at, return_at, emit_at, closed_by, readers_at};
 ghost use Rattle.sz_parse_expr.specs.Outcome.{Gives};
 
-use crate::signs::{before, behind, ended};
-use crate::simple::{first, indexes, simple, simple_behind};
+use crate::signs::{before, ended, later};
+use crate::simple::{first, indexes, simple, simple_after};
 use crate::table::table;
 use std::alloc::Global;
 use sz_lex::{Sign, Token, Word};
@@ -75,7 +75,7 @@ pub fn maybe_simple<'t>(
     before(Some(part), Sign::CloseParen, rest)
 }
 
-// The expression behind an equals sign, if one stands there.
+// The expression after an equals sign, if one stands there.
 #[tactic(auto, unfolding(crate::specs::ReadingStatements::init_at, sz_parse_expr::specs::Reading::bind, sz_parse_expr::specs::Reading::choose))]
 fn init<'t>(
     alloc: Global,
@@ -95,7 +95,7 @@ fn init<'t>(
     }
 }
 
-// The expression behind `weight`, if one stands there.
+// The expression after `weight`, if one stands there.
 #[tactic(auto, unfolding(crate::specs::ReadingStatements::weight_at, sz_parse_expr::specs::Reading::bind, sz_parse_expr::specs::Reading::choose))]
 fn weight<'t>(
     alloc: Global,
@@ -115,7 +115,7 @@ fn weight<'t>(
     }
 }
 
-// A declaration, behind its name and colon.
+// A declaration, after its name and colon.
 #[tactic(auto, unfolding(crate::specs::ReadingStatements::declare_at, sz_parse_expr::specs::Reading::bind))]
 pub fn declare<'t>(
     alloc: Global,
@@ -182,7 +182,7 @@ pub fn returned<'t>(
     before(of, Sign::OpenBrace, rest)
 }
 
-// A declaration without a type, behind its name and `:=`.
+// A declaration without a type, after its name and `:=`.
 #[tactic(auto, unfolding(crate::specs::ReadingStatements::define_at, sz_parse_expr::specs::Reading::bind))]
 pub fn define<'t>(
     alloc: Global,
@@ -198,7 +198,7 @@ pub fn define<'t>(
     ended(Stmt::Define(name, value), rest)
 }
 
-// An assignment, a change by one or a call, behind its first name.
+// An assignment, a change by one or a call, after its first name.
 #[tactic(auto, unfolding(crate::specs::ReadingStatements::simple_stm_at, sz_parse_expr::specs::Reading::bind))]
 pub fn simple_statement<'t>(
     alloc: Global,
@@ -210,11 +210,11 @@ pub fn simple_statement<'t>(
     requires depth { inner < MAX_HEIGHT }
     ensures read { Gives (λ x. (stm_of x.0, x.1.now)) result (simple_stm_at (utf8_in text.now) (readers_at (utf8_in text.now) inner) inner name tokens.now) }
 {
-    let (part, rest) = simple_behind(alloc, text, inner, name, tokens)?;
+    let (part, rest) = simple_after(alloc, text, inner, name, tokens)?;
     ended(Stmt::Simple(part), rest)
 }
 
-// The declaration of a table, behind its name, colon and `table`.
+// The declaration of a table, after its name, colon and `table`.
 #[tactic(auto, unfolding(crate::specs::ReadingStatements::table_stm_at, sz_parse_expr::specs::Reading::bind))]
 pub fn table_statement<'t>(
     alloc: Global,
@@ -230,8 +230,8 @@ pub fn table_statement<'t>(
     Ok((Stmt::Table(name, part), rest))
 }
 
-// The declaration of a static, behind its first word.
-#[tactic(auto, unfolding(crate::specs::ReadingStatements::static_at, crate::specs::ReadingStatements::behind_at, sz_parse_expr::specs::Reading::bind))]
+// The declaration of a static, after its first word.
+#[tactic(auto, unfolding(crate::specs::ReadingStatements::static_at, crate::specs::ReadingStatements::after_at, sz_parse_expr::specs::Reading::bind))]
 pub fn static_statement<'t>(
     alloc: Global,
     text: &[u8],
@@ -244,11 +244,11 @@ pub fn static_statement<'t>(
 {
     let (name, rest) = label(alloc, text, tokens)?;
     let (of, rest) = type_tree(alloc, text, inner, rest)?;
-    let (value, rest) = behind(alloc, text, inner, Sign::Assign, rest)?;
+    let (value, rest) = later(alloc, text, inner, Sign::Assign, rest)?;
     ended(Stmt::Static(place, name, of, value), rest)
 }
 
-// The declaration of a type by its name, behind its first word.
+// The declaration of a type by its name, after its first word.
 #[tactic(auto, unfolding(crate::specs::ReadingStatements::typedef_at, sz_parse_expr::specs::Reading::bind))]
 pub fn type_statement<'t>(
     alloc: Global,
@@ -266,7 +266,7 @@ pub fn type_statement<'t>(
     ended(Stmt::Type(place, name, of), rest)
 }
 
-// A `return`, behind its first word.
+// A `return`, after its first word.
 #[tactic(auto, unfolding(crate::specs::ReadingStatements::return_at, crate::specs::ReadingStatements::closed_by, sz_parse_expr::specs::Reading::bind))]
 pub fn return_statement<'t>(
     alloc: Global,
@@ -282,8 +282,8 @@ pub fn return_statement<'t>(
     Ok((Stmt::Return(place, value), rest))
 }
 
-// An `emit`, behind its first word.
-#[tactic(auto, unfolding(crate::specs::ReadingStatements::emit_at, crate::specs::ReadingStatements::behind_at, sz_parse_expr::specs::Reading::bind))]
+// An `emit`, after its first word.
+#[tactic(auto, unfolding(crate::specs::ReadingStatements::emit_at, crate::specs::ReadingStatements::after_at, sz_parse_expr::specs::Reading::bind))]
 pub fn emit<'t>(
     alloc: Global,
     text: &[u8],
@@ -296,7 +296,7 @@ pub fn emit<'t>(
 {
     let (table, rest) = name(alloc, text, tokens)?;
     let (indexes, rest) = indexes(alloc, text, inner, rest)?;
-    let (value, rest) = behind(alloc, text, inner, Sign::Arrow, rest)?;
+    let (value, rest) = later(alloc, text, inner, Sign::Arrow, rest)?;
     let (weight, rest) = weight(alloc, text, inner, rest)?;
     ended(Stmt::Emit(place, table, indexes, value, weight), rest)
 }

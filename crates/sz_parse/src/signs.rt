@@ -1,9 +1,9 @@
-//! Parts with a sign or another part before or behind them.
+//! Parts with a sign or another part before or after them.
 ghost use Rattle.std.specs.Prelude.{◌≡◌, ◌<◌, IfOk, IfErr, MatchResult};
 ghost use Rattle.sz_tree.specs.View.{tree_of, stm_of};
 ghost use Rattle.sz_parse_expr.specs.Reading.{utf8_in, after_sign};
 ghost use Rattle.sz_parse_expr.specs.ReadingExpressions.{expr_at};
-ghost use Rattle.sz_parse.specs.ReadingStatements.{ended_at, behind_at};
+ghost use Rattle.sz_parse.specs.ReadingStatements.{ended_at, after_at};
 ghost use Rattle.sz_parse_expr.specs.Outcome.{Gives};
 
 use std::alloc::Global;
@@ -11,7 +11,7 @@ use sz_lex::{Sign, Token};
 use sz_parse_expr::{Failed, MAX_HEIGHT, expect, expr};
 use sz_tree::{Expr, Stmt};
 
-// The same value, and what follows the sign behind it.
+// The same value, and what follows the sign after it.
 pub fn before<T: Drop>(value: T, sign: Sign, tokens: &[Token]) -> Result<(T, &[Token]), Failed>
     ensures same { IfOk result (λ x. x.0 ≡ value) }
     ensures read { Gives (λ x. x.1.now) result (after_sign sign tokens.now) }
@@ -20,7 +20,7 @@ pub fn before<T: Drop>(value: T, sign: Sign, tokens: &[Token]) -> Result<(T, &[T
     Ok((value, rest))
 }
 
-// The value, and what was read behind it.
+// The value, and what was read after it.
 pub fn beside<'t, T: Drop, U: Drop>(
     value: T,
     read: Result<(U, &'t [Token]), Failed>,
@@ -35,7 +35,7 @@ pub fn beside<'t, T: Drop, U: Drop>(
     }
 }
 
-// The same statement, and what follows the semicolon behind it.
+// The same statement, and what follows the semicolon after it.
 #[tactic(auto, unfolding(sz_parse_expr::specs::Reading::bind))]
 pub fn ended(tree: Stmt, tokens: &[Token]) -> Result<(Stmt, &[Token]), Failed>
     ensures read { Gives (λ x. (stm_of x.0, x.1.now)) result (ended_at (stm_of tree) tokens.now) }
@@ -43,9 +43,9 @@ pub fn ended(tree: Stmt, tokens: &[Token]) -> Result<(Stmt, &[Token]), Failed>
     before(tree, Sign::Semicolon, tokens)
 }
 
-// The expression behind this sign.
-#[tactic(auto, unfolding(crate::specs::ReadingStatements::behind_at, sz_parse_expr::specs::Reading::bind))]
-pub fn behind<'t>(
+// The expression after this sign.
+#[tactic(auto, unfolding(crate::specs::ReadingStatements::after_at, sz_parse_expr::specs::Reading::bind))]
+pub fn later<'t>(
     alloc: Global,
     text: &[u8],
     inner: u32,
@@ -53,7 +53,7 @@ pub fn behind<'t>(
     tokens: &'t [Token],
 ) -> Result<(Expr, &'t [Token]), Failed>
     requires depth { inner < MAX_HEIGHT }
-    ensures read { Gives (λ x. (tree_of x.0, x.1.now)) result (behind_at (expr_at (utf8_in text.now) inner) sign tokens.now) }
+    ensures read { Gives (λ x. (tree_of x.0, x.1.now)) result (after_at (expr_at (utf8_in text.now) inner) sign tokens.now) }
 {
     let rest = expect(sign, tokens)?;
     let (tree, _, rest) = expr(alloc, text, inner, 5, rest)?;

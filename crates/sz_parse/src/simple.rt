@@ -4,10 +4,10 @@ ghost use Rattle.sz_tree.specs.View.{tree_of, step_of, simple_of, first_of};
 ghost use Rattle.sz_parse_expr.specs.Reading.{utf8_in, all_at};
 ghost use Rattle.sz_parse_expr.specs.ReadingExpressions.{expr_at};
 ghost use Rattle.sz_parse_expr.specs.ReadingTypes.{type_at};
-ghost use Rattle.sz_parse.specs.ReadingStatements.{index_at, index_step, begins_step, step_item, path_step, assign_at, simple_behind, simple_at, first_behind, first_at};
+ghost use Rattle.sz_parse.specs.ReadingStatements.{index_at, index_step, begins_step, step_item, path_step, assign_at, simple_after, simple_at, first_after, first_at};
 ghost use Rattle.sz_parse_expr.specs.Outcome.{Gives, Sees};
 
-use crate::signs::{before, behind};
+use crate::signs::{before, later};
 use std::alloc::Global;
 use sz_lex::{Sign, Token};
 use sz_parse_expr::{Failed, MAX_HEIGHT, call, expect, expr, name, skip, type_tree};
@@ -103,8 +103,8 @@ fn steps<'t>(
     Ok((items, rest))
 }
 
-// An assignment, behind the name of its variable.
-#[tactic(auto, unfolding(crate::specs::ReadingStatements::assign_at, crate::specs::ReadingStatements::behind_at, sz_parse_expr::specs::Reading::bind))]
+// An assignment, after the name of its variable.
+#[tactic(auto, unfolding(crate::specs::ReadingStatements::assign_at, crate::specs::ReadingStatements::after_at, sz_parse_expr::specs::Reading::bind))]
 fn assign<'t>(
     alloc: Global,
     text: &[u8],
@@ -116,13 +116,13 @@ fn assign<'t>(
     ensures read { Gives (λ x. (simple_of x.0, x.1.now)) result (assign_at (utf8_in text.now) (expr_at (utf8_in text.now) inner) name tokens.now) }
 {
     let (steps, rest) = steps(alloc, text, inner, tokens)?;
-    let (value, rest) = behind(alloc, text, inner, Sign::Assign, rest)?;
+    let (value, rest) = later(alloc, text, inner, Sign::Assign, rest)?;
     Ok((Simple::Assign(Path { name, steps }, value), rest))
 }
 
 // What a name begins; a step counts as an assignment of a sum, which is 3 high, and a call is at least 2 high.
-#[tactic(auto, unfolding(crate::specs::ReadingStatements::simple_behind, sz_parse_expr::specs::Reading::bind, sz_parse_expr::specs::Reading::choose, sz_parse_expr::specs::Reading::guard))]
-pub fn simple_behind<'t>(
+#[tactic(auto, unfolding(crate::specs::ReadingStatements::simple_after, sz_parse_expr::specs::Reading::bind, sz_parse_expr::specs::Reading::choose, sz_parse_expr::specs::Reading::guard))]
+pub fn simple_after<'t>(
     alloc: Global,
     text: &[u8],
     inner: u32,
@@ -130,7 +130,7 @@ pub fn simple_behind<'t>(
     tokens: &'t [Token],
 ) -> Result<(Simple, &'t [Token]), Failed>
     requires depth { inner < MAX_HEIGHT }
-    ensures read { Gives (λ x. (simple_of x.0, x.1.now)) result (simple_behind (utf8_in text.now) (expr_at (utf8_in text.now) inner) inner name tokens.now) }
+    ensures read { Gives (λ x. (simple_of x.0, x.1.now)) result (simple_after (utf8_in text.now) (expr_at (utf8_in text.now) inner) inner name tokens.now) }
 {
     if let Some(rest) = skip(Sign::Increment, tokens) {
         if inner < 2 {
@@ -171,12 +171,12 @@ pub fn simple<'t>(
         return Err(Failed::Syntax);
     }
     let (name, rest) = name(alloc, text, tokens)?;
-    simple_behind(alloc, text, depth - 1, name, rest)
+    simple_after(alloc, text, depth - 1, name, rest)
 }
 
-// The first part of a `for`, behind its name.
-#[tactic(auto, unfolding(crate::specs::ReadingStatements::first_behind, crate::specs::ReadingStatements::behind_at, sz_parse_expr::specs::Reading::bind, sz_parse_expr::specs::Reading::choose))]
-fn first_behind<'t>(
+// The first part of a `for`, after its name.
+#[tactic(auto, unfolding(crate::specs::ReadingStatements::first_after, crate::specs::ReadingStatements::after_at, sz_parse_expr::specs::Reading::bind, sz_parse_expr::specs::Reading::choose))]
+fn first_after<'t>(
     alloc: Global,
     text: &[u8],
     inner: u32,
@@ -185,18 +185,18 @@ fn first_behind<'t>(
 ) -> Result<(First, &'t [Token]), Failed>
     requires depth { inner < MAX_HEIGHT }
     ensures read { Gives (λ x. (first_of x.0, x.1.now)) result
-        (first_behind (utf8_in text.now) (expr_at (utf8_in text.now) inner) (type_at (utf8_in text.now) inner) inner name tokens.now) }
+        (first_after (utf8_in text.now) (expr_at (utf8_in text.now) inner) (type_at (utf8_in text.now) inner) inner name tokens.now) }
 {
     if let Some(rest) = skip(Sign::Colon, tokens) {
         let (of, rest) = type_tree(alloc, text, inner, rest)?;
-        let (value, rest) = behind(alloc, text, inner, Sign::Assign, rest)?;
+        let (value, rest) = later(alloc, text, inner, Sign::Assign, rest)?;
         return Ok((First::Declare(name, of, value), rest));
     }
     if let Some(rest) = skip(Sign::Define, tokens) {
         let (value, _, rest) = expr(alloc, text, inner, 5, rest)?;
         return Ok((First::Define(name, value), rest));
     }
-    let (simple, rest) = simple_behind(alloc, text, inner, name, tokens)?;
+    let (simple, rest) = simple_after(alloc, text, inner, name, tokens)?;
     Ok((First::Simple(simple), rest))
 }
 
@@ -215,5 +215,5 @@ pub fn first<'t>(
         return Err(Failed::Syntax);
     }
     let (name, rest) = name(alloc, text, tokens)?;
-    first_behind(alloc, text, depth - 1, name, rest)
+    first_after(alloc, text, depth - 1, name, rest)
 }

@@ -138,7 +138,7 @@ fn colon<'t>(
     }
 }
 
-// A function, behind its first word.
+// A function, after its first word.
 #[cycle(statement)]
 #[tactic(auto, unfolding(crate::specs::ReadingStatements::function_at, crate::specs::ReadingStatements::parameters_at, crate::specs::ReadingStatements::closed_by, sz_parse_expr::specs::Reading::bind))]
 fn function<'t>(

@@ -4,7 +4,7 @@ ghost use Rattle.sz_tree.specs.View.{elem_of, table_of, quantifier_of};
 ghost use Rattle.std.specs.Option.{option_map};
 ghost use Rattle.sz_parse_expr.specs.Reading.{utf8_in, all_at};
 ghost use Rattle.sz_parse_expr.specs.ReadingTypes.{type_at};
-ghost use Rattle.sz_parse.specs.ReadingTables.{argument_at, table_index_at, table_index_step, table_weight_at, table_parts_at, table_at, name_step, names_behind, names_at, quantity_of, quantity_at, quantifier_at, begins_quantifier, quantifier_step, quantifiers_behind, quantifiers_at};
+ghost use Rattle.sz_parse.specs.ReadingTables.{argument_at, table_index_at, table_index_step, table_weight_at, table_parts_at, table_at, name_step, names_later, names_at, quantity_of, quantity_at, quantifier_at, begins_quantifier, quantifier_step, quantifiers_after, quantifiers_at};
 ghost use Rattle.sz_parse_expr.specs.Outcome.{Gives, Sees};
 
 use crate::signs::before;
@@ -30,7 +30,7 @@ fn argument(tokens: &[Token]) -> Result<(Option<i64>, &[Token]), Failed>
     }
 }
 
-// An index of a table, behind its opening bracket.
+// An index of a table, after its opening bracket.
 #[tactic(auto, unfolding(crate::specs::ReadingTables::table_index_at, sz_parse_expr::specs::Reading::bind))]
 fn table_index<'t>(
     alloc: Global,
@@ -104,7 +104,7 @@ fn table_parts<'t>(
     Ok((of, weight, rest))
 }
 
-// What stands behind `table`, up to the semicolon.
+// What stands after `table`, up to the semicolon.
 #[tactic(auto, unfolding(crate::specs::ReadingTables::table_at, crate::specs::ReadingTables::table_parts_at, sz_parse_expr::specs::Reading::bind))]
 pub fn table<'t>(
     alloc: Global,
@@ -139,16 +139,16 @@ fn names<'t>(
     ensures read { Gives (λ x. (x.0.items, x.1.now)) result (names_at (utf8_in text.now) tokens.now) }
 {
     let (first, rest) = name(alloc, text, tokens)?;
-    names_behind(alloc, text, first, rest)
+    names_later(alloc, text, first, rest)
 }
 
-fn names_behind<'t>(
+fn names_later<'t>(
     alloc: Global,
     text: &[u8],
     first: Name,
     tokens: &'t [Token],
 ) -> Result<(Vec<Name>, &'t [Token]), Failed>
-    ensures read { Gives (λ x. (x.0.items, x.1.now)) result (names_behind (utf8_in text.now) first tokens.now) }
+    ensures read { Gives (λ x. (x.0.items, x.1.now)) result (names_later (utf8_in text.now) first tokens.now) }
 {
     let mut items = Vec::new(alloc);
     items.push(first)?;
@@ -252,10 +252,10 @@ pub fn quantifiers<'t>(
         (quantifiers_at (utf8_in text.now) (type_at (utf8_in text.now) inner) tokens.now) }
 {
     let (first, rest) = quantifier(alloc, text, inner, tokens)?;
-    quantifiers_behind(alloc, text, inner, first, rest)
+    quantifiers_after(alloc, text, inner, first, rest)
 }
 
-fn quantifiers_behind<'t>(
+fn quantifiers_after<'t>(
     alloc: Global,
     text: &[u8],
     inner: u32,
@@ -264,7 +264,7 @@ fn quantifiers_behind<'t>(
 ) -> Result<(Vec<Quantifier>, &'t [Token]), Failed>
     requires depth { inner < MAX_HEIGHT }
     ensures read { Gives (λ x. (each quantifier_of x.0.items, x.1.now)) result
-        (quantifiers_behind (utf8_in text.now) (type_at (utf8_in text.now) inner) (quantifier_of first) tokens.now) }
+        (quantifiers_after (utf8_in text.now) (type_at (utf8_in text.now) inner) (quantifier_of first) tokens.now) }
 {
     let mut items = Vec::new(alloc);
     items.push(first)?;

@@ -24,21 +24,21 @@ module _ (f g : Spelling) where
 
   -- ---- one token
 
-  behind : (ts : List Token) (t : Token) (rest : List Token) → ts ≡ t ∷ rest → Agree ts → (f t ≡ g t) × Agree rest
-  behind ts t rest e a = subst Agree e a
+  later : (ts : List Token) (t : Token) (rest : List Token) → ts ≡ t ∷ rest → Agree ts → (f t ≡ g t) × Agree rest
+  later ts t rest e a = subst Agree e a
 
   pub on_end : (ts rest : List Token) → ts ≡ rest → Agree ts → Agree rest
   on_end ts rest e a = subst Agree e a
 
   pub on_at : {p : Place} {k : Kind} {ts rest : List Token} → At p k ts rest → Agree ts → Agree rest
-  on_at h a = (behind _ _ _ h.is a).1
+  on_at h a = (later _ _ _ h.is a).1
 
   pub on_is : {k : Kind} {ts rest : List Token} → Is k ts rest → Agree ts → Agree rest
-  on_is h a = (behind _ _ _ h.is a).1
+  on_is h a = (later _ _ _ h.is a).1
 
   pub on_name : {n : Ident} {ts rest : List Token} → AtName f n ts rest → Agree ts → AtName g n ts rest × Agree rest
   on_name h a =
-      let b = behind _ _ _ h.is a in
+      let b = later _ _ _ h.is a in
       (record { start = h.start; len = h.len; is = h.is; spelled = h.spelled ∙ b.0 }, b.1)
 
   literal_alike : (l : Lit) (t : Token) → f t ≡ g t → IsLiteral f l t → IsLiteral g l t
@@ -51,7 +51,7 @@ module _ (f g : Spelling) where
 
   on_literal : {p : Place} (l : Lit) {ts rest : List Token} → AtLiteral f p l ts rest → Agree ts → AtLiteral g p l ts rest × Agree rest
   on_literal l h a =
-      let b = behind _ _ _ h.is a in
+      let b = later _ _ _ h.is a in
       (record { here = h.here; place = h.place; means = literal_alike l h.here b.0 h.means; is = h.is }, b.1)
 
   -- ---- expressions

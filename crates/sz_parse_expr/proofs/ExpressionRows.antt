@@ -7,7 +7,7 @@ use Rattle.sz_tree.specs.declared.expr.Pair.{Pair}
 use Rattle.sz_tree.specs.Expressions.{Exp, height, heights, pair_heights, exps_of, pairs_of}
 use Rattle.sz_tree.specs.View.{tree_of, pair_of}
 use Rattle.sz_parse_expr.specs.Reading.{all_at, with_items}
-use Rattle.sz_parse_expr.specs.ReadingExpressions.{Sub, comma_step, pair_step, items_behind, pairs_behind}
+use Rattle.sz_parse_expr.specs.ReadingExpressions.{Sub, comma_step, pair_step, items_after, pairs_after}
 
 abbrev pub just : {A : Type 0} → A → Option A
 just x = Some x
@@ -33,10 +33,10 @@ unfolding height
 pair_heights_push [] x = omega arith
 pair_heights_push (y ∷ xs) x = omega (arith, pair_heights_push xs x)
 
-pub items_start : (sub : Sub) (e : Exp) (ts : List Token) → with_items (e ∷ []) (all_at (comma_step sub) ts) ≡ items_behind sub e ts
-unfolding with_items items_behind
+pub items_start : (sub : Sub) (e : Exp) (ts : List Token) → with_items (e ∷ []) (all_at (comma_step sub) ts) ≡ items_after sub e ts
+unfolding with_items items_after
 items_start sub e ts = refl
 
-pub pairs_start : (sub : Sub) (p : Exp × Exp) (ts : List Token) → with_items (p ∷ []) (all_at (pair_step sub) ts) ≡ pairs_behind sub p ts
-unfolding with_items pairs_behind
+pub pairs_start : (sub : Sub) (p : Exp × Exp) (ts : List Token) → with_items (p ∷ []) (all_at (pair_step sub) ts) ≡ pairs_after sub p ts
+unfolding with_items pairs_after
 pairs_start sub p ts = refl

@@ -21,7 +21,7 @@ use Rattle.sz_parse_expr.specs.Tokens.{Spelling, token, At, IsSign, AtName, IsLi
 use Rattle.sz_parse_expr.specs.Expressions.{basic_word, Converts, Reads, ReadsArgs, ReadsMore, ReadsEntries, ReadsPairs}
 use Rattle.sz_parse_expr.specs.Reading.{Read, after_sign, ident_of, all_at}
 use Rattle.sz_parse_expr.specs.ReadingExpressions.{Sub}
-use Rattle.sz_parse_expr.specs.ReadingExpressions.{comma_step, pair_at, pair_step, items_behind, pairs_behind, args_at, call_at, named_at}
+use Rattle.sz_parse_expr.specs.ReadingExpressions.{comma_step, pair_at, pair_step, items_after, pairs_after, args_at, call_at, named_at}
 use Rattle.sz_parse_expr.specs.ReadingExpressions.{closed_at, condition_at, paren_at, def_at, convert_at, list_at, map_at, composite_at}
 use Rattle.sz_parse_expr.specs.ReadingExpressions.{primary_here, bracket_at, field_at, part_step, tail_at}
 use Rattle.sz_parse_expr.specs.ReadingExpressions.{postfix_at}
@@ -64,9 +64,9 @@ module _ (text : Spelling) (sub : Sub) (d : ℕ) (s : IsSound text sub d) (h : I
   comma_found : IsFound (comma_step sub) (CommaItem text d) (λ ts. 5 < grip ts)
   unfolding comma_step
   comma_found = record {
-    found = λ x ts rest i g. choose_some _ _ _ _ _ (after_sign_is signs.Comma ts i.behind i.comma)
-        (ap (λ (r : Read Exp). Some r) (whole x i.behind rest i.reads i.low g));
-    begins = λ x ts rest i. ends_at signs.Comma ts i.behind refl i.comma;
+    found = λ x ts rest i g. choose_some _ _ _ _ _ (after_sign_is signs.Comma ts i.later i.comma)
+        (ap (λ (r : Read Exp). Some r) (whole x i.later rest i.reads i.low g));
+    begins = λ x ts rest i. ends_at signs.Comma ts i.later refl i.comma;
   }
 
   pair_found : IsFound (pair_step sub) (PairItem text d) (λ ts. 5 < grip ts)
@@ -83,7 +83,7 @@ module _ (text : Spelling) (sub : Sub) (d : ℕ) (s : IsSound text sub d) (h : I
   unfolding Many Reads height
   comma_items end ts rest re low = re
   comma_items (more e es) ts rest re low =
-      (re.1, record { behind = re.0; comma = re.2; reads = re.3; low = omega arith }, comma_items es re.1 rest re.4 (omega arith))
+      (re.1, record { later = re.0; comma = re.2; reads = re.3; low = omega arith }, comma_items es re.1 rest re.4 (omega arith))
 
   pair_items : (ps : Pairs) (ts rest : List Token) → ReadsPairs text ps ts rest → pair_heights ps ≤ d → Many (PairItem text d) (pair_list ps) ts rest
   unfolding Many Reads height
@@ -134,7 +134,7 @@ module _ (text : Spelling) (sub : Sub) (d : ℕ) (s : IsSound text sub d) (h : I
 
   args_complete : (es : Exps) (ts rest after : List Token) → ReadsArgs text es ts rest → heights es ≤ d → IsSign signs.CloseParen rest after
       → args_at sub ts ≡ Some (list_of es, rest)
-  unfolding args_at items_behind Reads height
+  unfolding args_at items_after Reads height
   args_complete end ts rest after re low c = rw re (choose_some _ _ _ _ _ (after_sign_is signs.CloseParen rest after c) refl)
   args_complete (more e es) ts rest after re low c =
       let m = more_complete signs.CloseParen es re.0 rest after re.2 (omega arith) c refl refl in
@@ -167,14 +167,14 @@ module _ (text : Spelling) (sub : Sub) (d : ℕ) (s : IsSound text sub d) (h : I
 
   list_complete : (p : Place) (e : Exp) (es : Exps) (b c rest : List Token) → all_at (comma_step sub) b ≡ Some (list_of es, c)
       → IsSign signs.CloseBrace c rest → list_at sub p e b ≡ Some (list p (more e es), rest)
-  unfolding list_at items_behind
+  unfolding list_at items_after
   list_complete p e es b c rest m cl =
       bind_step _ _ _ _ (bind_step _ _ _ _ m refl)
       (bind_step _ _ _ _ (after_sign_is signs.CloseBrace c rest cl) (ap (λ (es : Exps). Some (list p (more e es), rest)) (exps_list es)))
 
   map_complete : (p : Place) (k v : Exp) (ps : Pairs) (f g rest : List Token) → all_at (pair_step sub) f ≡ Some (pair_list ps, g)
       → IsSign signs.CloseBrace g rest → map_at sub p (k, v) f ≡ Some (mapping p (pair k v ps), rest)
-  unfolding map_at pairs_behind
+  unfolding map_at pairs_after
   map_complete p k v ps f g rest m cl =
       bind_step _ _ _ _ (bind_step _ _ _ _ m refl)
       (bind_step _ _ _ _ (after_sign_is signs.CloseBrace g rest cl) (ap (λ (ps : Pairs). Some (mapping p (pair k v ps), rest)) (pairs_list ps)))
@@ -212,7 +212,7 @@ module _ (text : Spelling) (sub : Sub) (d : ℕ) (s : IsSound text sub d) (h : I
       (bind_step _ _ _ _ (whole v re.1 re.2 re.5 (omega arith) m.1)
       (map_complete p k v ps re.2 b rest m.0 cl)))))
 
--- ---- what an index may stand behind
+-- ---- what an index may stand after
 
 -- the expression and what follows, at some number of turns that is enough for what is left
 pub record Reached (text : Spelling) (sub : Sub) (d : ℕ) (ts rest : List Token) (e : Exp) : Type 0 where
@@ -302,7 +302,7 @@ module _ (text : Spelling) (sub : Sub) (d : ℕ) (s : IsSound text sub d) (h : I
   convert_is p basics.Time e ts a b c rest con at o re low cl =
       at_once text sub d _ ts a rest _ at.is (bind_step _ _ _ _ (condition_complete text sub d s h e a b c rest o re low cl) refl)
 
-  -- an expression that an index may stand behind is reached, before what can't make a call of a name
+  -- an expression that an index may stand after is reached, before what can't make a call of a name
   pub postfix_complete : (e : Exp) (ts rest : List Token) → IsPostfix e → Reads text e ts rest → height e ≤ suc d → after_sign signs.OpenParen rest ≡ None
       → Reached text sub d ts rest e
   unfolding Reads height paren_at def_at

@@ -20,7 +20,7 @@ use Rattle.sz_parse_expr.specs.Tokens.{Spelling, token, At, IsSign, AtName, Many
 use Rattle.sz_parse_expr.specs.Expressions.{basic_word, Converts, Reads, ReadsArgs, ReadsMore, ReadsEntries, ReadsPairs}
 use Rattle.sz_parse_expr.specs.Reading.{ident_of}
 use Rattle.sz_parse_expr.specs.ReadingExpressions.{Sub}
-use Rattle.sz_parse_expr.specs.ReadingExpressions.{comma_step, pair_at, pair_step, items_behind, pairs_behind, args_at, call_at, named_at}
+use Rattle.sz_parse_expr.specs.ReadingExpressions.{comma_step, pair_at, pair_step, items_after, pairs_after, args_at, call_at, named_at}
 use Rattle.sz_parse_expr.specs.ReadingExpressions.{closed_at, condition_at, paren_at, def_at, convert_at, list_at, map_at, composite_at}
 use Rattle.sz_parse_expr.specs.ReadingExpressions.{bracketed, worded, primary_here, bracket_at, field_at, part_step, tail_at}
 use Rattle.sz_parse_expr.proofs.Holds.{Holds, some, some_holds, none_holds, bind_holds, choose_holds, guard_holds, weaker}
@@ -75,7 +75,7 @@ pub record Parsed (text : Spelling) (d l : ℕ) (ts : List Token) (x : Exp × Li
 abbrev pub IsSound : Spelling → Sub → ℕ → Type 0
 IsSound text sub d = (l : ℕ) (ts : List Token) → Holds (sub l ts) (Parsed text d l ts)
 
--- x is such an expression that an index may stand behind
+-- x is such an expression that an index may stand after
 pub record ParsedTight (text : Spelling) (d : ℕ) (ts : List Token) (x : Exp × List Token) : Type 0 where
   pub reads : Reads text x.0 ts x.1
   pub low : height x.0 ≤ d
@@ -83,9 +83,9 @@ pub record ParsedTight (text : Spelling) (d : ℕ) (ts : List Token) (x : Exp ×
 
 -- a comma and an expression
 pub record CommaItem (text : Spelling) (d : ℕ) (e : Exp) (ts rest : List Token) : Type 0 where
-  pub behind : List Token
-  pub comma : IsSign signs.Comma ts behind
-  pub reads : Reads text e behind rest
+  pub later : List Token
+  pub comma : IsSign signs.Comma ts later
+  pub reads : Reads text e later rest
   pub low : height e ≤ d
 
 -- a comma, a key and its value
@@ -104,12 +104,12 @@ module _ (text : Spelling) (sub : Sub) (d : ℕ) (h : IsSound text sub d) where
   comma_step_sound : (ts : List Token) → Holds (comma_step sub ts) (λ r. Holds r (λ x. CommaItem text d x.0 ts x.1))
   unfolding comma_step
   comma_step_sound ts = choose_holds (after_sign_sound signs.Comma ts) (none_holds _) (λ a c.
-      some_holds _ _ (weaker (h 5 a) (λ x g. record { behind = a; comma = c; reads = g.reads; low = g.low })))
+      some_holds _ _ (weaker (h 5 a) (λ x g. record { later = a; comma = c; reads = g.reads; low = g.low })))
 
   pub comma_item : IsItem (comma_step sub) (CommaItem text d)
   comma_item = record {
     sound = λ ts r e. (comma_step_sound ts).holds r e;
-    shorter = λ x ts rest i. omega (arith, is_length i.comma, shorter text x i.behind rest i.reads);
+    shorter = λ x ts rest i. omega (arith, is_length i.comma, shorter text x i.later rest i.reads);
   }
 
   pair_step_sound : (ts : List Token) → Holds (pair_step sub ts) (λ r. Holds r (λ x. PairItem text d x.0 ts x.1))
@@ -130,7 +130,7 @@ module _ (text : Spelling) (sub : Sub) (d : ℕ) (h : IsSound text sub d) where
   more_of_items (e ∷ es) ts rest m =
       let i = m.1 in
       let l = more_of_items es m.0 rest m.2 in
-      ((i.behind, m.0, i.comma, i.reads, l.0), omega (arith, i.low, l.1))
+      ((i.later, m.0, i.comma, i.reads, l.0), omega (arith, i.low, l.1))
 
   pairs_of_items : (ps : List (Exp × Exp)) (ts rest : List Token) → Many (PairItem text d) ps ts rest → ReadsPairs text (pairs_of ps) ts rest
       × (pair_heights (pairs_of ps) ≤ d)
@@ -153,16 +153,16 @@ pub record ParsedEntries (text : Spelling) (d : ℕ) (ts : List Token) (y : List
 
 -- the arguments of a call and the closing parenthesis
 pub record ParsedCall (text : Spelling) (d : ℕ) (ts : List Token) (y : Exps × List Token) : Type 0 where
-  pub behind : List Token
-  pub reads : ReadsArgs text y.0 ts behind
-  pub closes : IsSign signs.CloseParen behind y.1
+  pub later : List Token
+  pub reads : ReadsArgs text y.0 ts later
+  pub closes : IsSign signs.CloseParen later y.1
   pub low : heights y.0 ≤ d
 
 -- an expression and the closing parenthesis
 pub record ParsedClosed (text : Spelling) (d : ℕ) (ts : List Token) (x : Exp × List Token) : Type 0 where
-  pub behind : List Token
-  pub reads : Reads text x.0 ts behind
-  pub closes : IsSign signs.CloseParen behind x.1
+  pub later : List Token
+  pub reads : Reads text x.0 ts later
+  pub closes : IsSign signs.CloseParen later x.1
   pub low : height x.0 ≤ d
 
 -- an expression in parentheses
@@ -172,8 +172,8 @@ pub record ParsedCondition (text : Spelling) (d : ℕ) (ts : List Token) (x : Ex
   pub closed : ParsedClosed text d inner x
 
 module _ (text : Spelling) (sub : Sub) (d : ℕ) (h : IsSound text sub d) where
-  items_sound : (ts a : List Token) (e : Exp) → Parsed text d 5 ts (e, a) → Holds (items_behind sub e a) (ParsedArgs text d ts)
-  unfolding items_behind Reads height
+  items_sound : (ts a : List Token) (e : Exp) → Parsed text d 5 ts (e, a) → Holds (items_after sub e a) (ParsedArgs text d ts)
+  unfolding items_after Reads height
   items_sound ts a e g = bind_holds (all_sound (comma_item text sub d h) a) (λ y m.
       let l = more_of_items text sub d h y.0 a y.1 m in
       some_holds _ _ (record { reads = (a, g.reads, l.0); low = omega (arith, g.low, l.1) }))
@@ -188,12 +188,12 @@ module _ (text : Spelling) (sub : Sub) (d : ℕ) (h : IsSound text sub d) where
   pub call_sound : (ts : List Token) → Holds (call_at sub ts) (ParsedCall text d ts)
   unfolding call_at
   call_sound ts = bind_holds (args_sound ts) (λ y m. bind_holds (after_sign_sound signs.CloseParen y.1) (λ r c.
-      some_holds _ _ (record { behind = y.1; reads = m.reads; closes = c; low = m.low })))
+      some_holds _ _ (record { later = y.1; reads = m.reads; closes = c; low = m.low })))
 
   pub closed_sound : (ts : List Token) → Holds (closed_at sub ts) (ParsedClosed text d ts)
   unfolding closed_at
   closed_sound ts = bind_holds (h 5 ts) (λ x g. bind_holds (after_sign_sound signs.CloseParen x.1) (λ r c.
-      some_holds _ _ (record { behind = x.1; reads = g.reads; closes = c; low = g.low })))
+      some_holds _ _ (record { later = x.1; reads = g.reads; closes = c; low = g.low })))
 
   pub condition_sound : (ts : List Token) → Holds (condition_at sub ts) (ParsedCondition text d ts)
   unfolding condition_at
@@ -206,19 +206,19 @@ module _ (text : Spelling) (sub : Sub) (d : ℕ) (h : IsSound text sub d) where
       (some_holds _ _ (record { reads = at; low = omega arith; postfix = tt }))
       (λ a o. guard_holds (λ t. bind_holds (call_sound a) (λ y m.
       let some : 1 ≤ d = leb-true _ _ t in
-      some_holds _ _ (record { reads = (ts, a, m.behind, at, o, m.reads, m.closes); low = omega (arith, m.low); postfix = tt }))))
+      some_holds _ _ (record { reads = (ts, a, m.later, at, o, m.reads, m.closes); low = omega (arith, m.low); postfix = tt }))))
 
   paren_sound : (ts0 : List Token) (p : Place) (ts : List Token) → At p (kinds.Sign signs.OpenParen) ts0 ts
       → Holds (paren_at sub p ts) (ParsedTight text (suc d) ts0)
   unfolding paren_at Reads height
   paren_sound ts0 p ts at = bind_holds (closed_sound ts) (λ x g.
-      some_holds _ _ (record { reads = (ts, g.behind, at, g.reads, g.closes); low = omega (arith, g.low); postfix = tt }))
+      some_holds _ _ (record { reads = (ts, g.later, at, g.reads, g.closes); low = omega (arith, g.low); postfix = tt }))
 
   def_sound : (ts0 : List Token) (p : Place) (ts : List Token) → At p (kinds.Word words.Def) ts0 ts → Holds (def_at sub p ts) (ParsedTight text (suc d) ts0)
   unfolding def_at Reads height
   def_sound ts0 p ts at = bind_holds (condition_sound ts) (λ x g.
       some_holds _ _ (record {
-        reads = (ts, g.inner, g.closed.behind, at, g.opens, g.closed.reads, g.closed.closes);
+        reads = (ts, g.inner, g.closed.later, at, g.opens, g.closed.reads, g.closed.closes);
         low = omega
             (arith, g.closed.low);
         postfix = tt;
@@ -229,7 +229,7 @@ module _ (text : Spelling) (sub : Sub) (d : ℕ) (h : IsSound text sub d) where
   unfolding convert_at Reads height
   convert_sound ts0 p b ts c at = bind_holds (condition_sound ts) (λ x g.
       some_holds _ _ (record {
-        reads = (ts, g.inner, g.closed.behind, c, at, g.opens, g.closed.reads, g.closed.closes);
+        reads = (ts, g.inner, g.closed.later, c, at, g.opens, g.closed.reads, g.closed.closes);
         low = omega
             (arith, g.closed.low);
         postfix = tt;
@@ -243,8 +243,8 @@ module _ (text : Spelling) (sub : Sub) (d : ℕ) (h : IsSound text sub d) where
       some_holds _ _ (record { reads = (ts, y.1, at, m.reads, c); low = omega (arith, m.low); postfix = tt })))
 
   pairs_sound : (ts a b c : List Token) (k v : Exp) → Parsed text d 5 ts (k, a) → IsSign signs.Colon a b → Parsed text d 5 b (v, c)
-      → Holds (pairs_behind sub (k, v) c) (ParsedEntries text d ts)
-  unfolding pairs_behind Reads height
+      → Holds (pairs_after sub (k, v) c) (ParsedEntries text d ts)
+  unfolding pairs_after Reads height
   pairs_sound ts a b c k v gk m gv = bind_holds (all_sound (pair_item text sub d h) c) (λ y ps.
       let l = pairs_of_items text sub d h y.0 c y.1 ps in
       some_holds _ _ (record { reads = (a, b, c, gk.reads, m, gv.reads, l.0); low = omega (arith, gk.low, gv.low, l.1) }))

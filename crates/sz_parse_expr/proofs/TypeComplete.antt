@@ -18,8 +18,8 @@ use Rattle.sz_parse_expr.specs.Tokens.{Spelling, At, Is, IsSign, AtName, Many}
 use Rattle.sz_parse_expr.specs.Expressions.{basic_word}
 use Rattle.sz_parse_expr.specs.Types.{ReadsLabel, ReadsName, ReadsType, ReadsParams, ReadsMoreParams, ReadsFields, ReadsMoreFields}
 use Rattle.sz_parse_expr.specs.Reading.{Read, after_sign, name_here, name_at, ident_of}
-use Rattle.sz_parse_expr.specs.ReadingTypes.{SubType, number_at, label_at, maybe_name_at, elem_at, param_at, param_step, params_behind}
-use Rattle.sz_parse_expr.specs.ReadingTypes.{params_at, proto_field_at, proto_field_step, proto_fields_behind, proto_fields_at, array_at}
+use Rattle.sz_parse_expr.specs.ReadingTypes.{SubType, number_at, label_at, maybe_name_at, elem_at, param_at, param_step, params_after}
+use Rattle.sz_parse_expr.specs.ReadingTypes.{params_at, proto_field_at, proto_field_step, proto_fields_after, proto_fields_at, array_at}
 use Rattle.sz_parse_expr.specs.ReadingTypes.{map_type_at, tuple_at, proto_at, type_step, type_at}
 use Rattle.sz_parse_expr.proofs.Steps.{bind_step, choose_some, choose_none, bind_none}
 use Rattle.sz_parse_expr.proofs.Items.{IsFound, all_complete}
@@ -58,7 +58,7 @@ unfolding maybe_name_at
 maybe_name_is text None ts rest h = choose_none _ _ _ _ (no_name text ts h.1) (ap (λ (r : List Token). Some (None, r)) h.0)
 maybe_name_is text (Some n) ts rest h = choose_some _ _ _ _ _ (name_is text n ts rest h) refl
 
--- where a type begins and no colon follows it, no name with a colon behind it begins
+-- where a type begins and no colon follows it, no name with a colon after it begins
 no_label : (text : Spelling) (t : Typ) (ts rest : List Token) → ReadsType text t ts rest → after_sign signs.Colon rest ≡ None → label_at text ts ≡ None
 unfolding label_at ReadsType name_at
 no_label text (basic p b) ts rest re none = bind_none _ _ (rw re.is refl)
@@ -106,16 +106,16 @@ module _ (text : Spelling) (sub : SubType) (d : ℕ) (s : IsSoundType text sub d
   param_found : IsFound (param_step text sub) (ParamItem text d) (λ ts. Unit {0})
   unfolding param_step
   param_found = record {
-    found = λ x ts rest i g. choose_some _ _ _ _ _ (after_sign_is signs.Comma ts i.behind i.comma)
-        (ap (λ (r : Read (Ident × Typ)). Some r) (param_complete x i.behind rest i.item));
+    found = λ x ts rest i g. choose_some _ _ _ _ _ (after_sign_is signs.Comma ts i.later i.comma)
+        (ap (λ (r : Read (Ident × Typ)). Some r) (param_complete x i.later rest i.item));
     begins = λ x ts rest i. tt;
   }
 
   field_found : IsFound (proto_field_step text sub) (FieldItem text d) (λ ts. Unit {0})
   unfolding proto_field_step
   field_found = record {
-    found = λ x ts rest i g. choose_some _ _ _ _ _ (after_sign_is signs.Comma ts i.behind i.comma)
-        (ap (λ (r : Read FieldForm). Some r) (field_complete x i.behind rest i.item));
+    found = λ x ts rest i g. choose_some _ _ _ _ _ (after_sign_is signs.Comma ts i.later i.comma)
+        (ap (λ (r : Read FieldForm). Some r) (field_complete x i.later rest i.item));
     begins = λ x ts rest i. tt;
   }
 
@@ -124,7 +124,7 @@ module _ (text : Spelling) (sub : SubType) (d : ℕ) (s : IsSoundType text sub d
   param_items no_params ts rest re low = re
   param_items (param n t ps) ts rest re low = (
     re.3,
-    record { behind = re.0; comma = re.4; item = record { a = re.1; b = re.2; name = re.5; colon = re.6; reads = re.7; low = omega arith } },
+    record { later = re.0; comma = re.4; item = record { a = re.1; b = re.2; name = re.5; colon = re.6; reads = re.7; low = omega arith } },
     param_items ps re.3 rest re.8 (omega arith),
   )
 
@@ -134,7 +134,7 @@ module _ (text : Spelling) (sub : SubType) (d : ℕ) (s : IsSoundType text sub d
   field_items (proto_field n t k l fs) ts rest re low = (
     re.6,
     record {
-      behind = re.0;
+      later = re.0;
       comma = re.7;
       item = record {
         a = re.3;
@@ -162,7 +162,7 @@ module _ (text : Spelling) (sub : SubType) (d : ℕ) (s : IsSoundType text sub d
   pub params_complete : (r : Sign) (ps : Params) (ts rest after : List Token) → ReadsParams text ps ts rest → param_heights ps ≤ d
       → IsSign r rest after → sameb sign_type r signs.Comma ≡ false
       → (x : List (Ident × Typ)) × (params_at text sub ts ≡ Some (x, rest)) × (params_of x ≡ ps)
-  unfolding params_at params_behind ReadsType type_height
+  unfolding params_at params_after ReadsType type_height
   params_complete r no_params ts rest after re low c other = absurd re
   params_complete r (param n t ps) ts rest after re low c other =
       let first = param_complete (n, t) ts re.2 (record { a = re.0; b = re.1; name = re.3; colon = re.4; reads = re.5; low = omega arith }) in
@@ -172,7 +172,7 @@ module _ (text : Spelling) (sub : SubType) (d : ℕ) (s : IsSoundType text sub d
 
   fields_complete : (fs : Fields) (ts rest after : List Token) → ReadsFields text fs ts rest → field_heights fs ≤ d → IsSign signs.CloseBrace rest after
       → (x : List FieldForm) × (proto_fields_at text sub ts ≡ Some (x, rest)) × (fields_of x ≡ fs)
-  unfolding proto_fields_at proto_fields_behind ReadsType type_height
+  unfolding proto_fields_at proto_fields_after ReadsType type_height
   fields_complete no_fields ts rest after re low c = absurd re
   fields_complete (proto_field n t k l fs) ts rest after re low c =
       let first = field_complete (record { name = n; of = t; number = k; label = l }) ts re.5

@@ -16,7 +16,7 @@ use Rattle.sz_parse_expr.specs.Tokens.{Spelling, token, At, Is, IsSign, AtName, 
 use Rattle.sz_parse_expr.specs.Types.{ReadsLabel, ReadsName, ReadsType, ReadsParams, ReadsMoreParams, ReadsFields, ReadsMoreFields}
 use Rattle.sz_parse_expr.specs.Reading.{name_at}
 use Rattle.sz_parse_expr.specs.ReadingTypes.{SubType, number_here, number_at, label_at, maybe_name_at, elem_at, param_at, param_step}
-use Rattle.sz_parse_expr.specs.ReadingTypes.{params_behind, params_at, proto_field_at, proto_field_step, proto_fields_behind, proto_fields_at}
+use Rattle.sz_parse_expr.specs.ReadingTypes.{params_after, params_at, proto_field_at, proto_field_step, proto_fields_after, proto_fields_at}
 use Rattle.sz_parse_expr.specs.ReadingTypes.{array_at, map_type_at, tuple_at, proto_at, type_worded, type_bracketed, type_here, type_step}
 use Rattle.sz_parse_expr.specs.ReadingTypes.{type_at}
 use Rattle.sz_parse_expr.proofs.Holds.{Holds, some_holds, none_holds, bind_holds, choose_holds, chosen_holds, weaker}
@@ -104,9 +104,9 @@ pub record ReadsParam (text : Spelling) (d : ℕ) (p : Ident × Typ) (ts rest : 
   pub low : type_height p.1 ≤ d
 
 pub record ParamItem (text : Spelling) (d : ℕ) (p : Ident × Typ) (ts rest : List Token) : Type 0 where
-  pub behind : List Token
-  pub comma : IsSign signs.Comma ts behind
-  pub item : ReadsParam text d p behind rest
+  pub later : List Token
+  pub comma : IsSign signs.Comma ts later
+  pub item : ReadsParam text d p later rest
 
 -- a field of a message
 pub record ReadsField (text : Spelling) (d : ℕ) (f : FieldForm) (ts rest : List Token) : Type 0 where
@@ -119,28 +119,28 @@ pub record ReadsField (text : Spelling) (d : ℕ) (f : FieldForm) (ts rest : Lis
   pub label : ReadsName text f.label c rest
 
 pub record FieldItem (text : Spelling) (d : ℕ) (f : FieldForm) (ts rest : List Token) : Type 0 where
-  pub behind : List Token
-  pub comma : IsSign signs.Comma ts behind
-  pub item : ReadsField text d f behind rest
+  pub later : List Token
+  pub comma : IsSign signs.Comma ts later
+  pub item : ReadsField text d f later rest
 
 -- an index or a part of a table, or the key of a map
 pub record ParsedElem (text : Spelling) (d : ℕ) (ts : List Token) (x : ElemForm × List Token) : Type 0 where
-  pub behind : List Token
-  pub label : ReadsLabel text x.0.name ts behind
-  pub reads : ReadsType text x.0.of behind x.1
+  pub later : List Token
+  pub label : ReadsLabel text x.0.name ts later
+  pub reads : ReadsType text x.0.of later x.1
   pub low : type_height x.0.of ≤ d
 
--- a name with a colon behind it
+-- a name with a colon after it
 pub record ParsedLabel (text : Spelling) (ts : List Token) (x : Ident × List Token) : Type 0 where
-  pub behind : List Token
-  pub name : AtName text x.0 ts behind
-  pub colon : IsSign signs.Colon behind x.1
+  pub later : List Token
+  pub name : AtName text x.0 ts later
+  pub colon : IsSign signs.Colon later x.1
 
 pub label_sound : (text : Spelling) (ts : List Token) → Holds (label_at text ts) (ParsedLabel text ts)
 unfolding label_at
 label_sound text ts =
     bind_holds (name_sound text ts)
-    (λ n at. bind_holds (after_sign_sound signs.Colon n.1) (λ r c. some_holds _ _ (record { behind = n.1; name = at; colon = c })))
+    (λ n at. bind_holds (after_sign_sound signs.Colon n.1) (λ r c. some_holds _ _ (record { later = n.1; name = at; colon = c })))
 
 number_here_sound : (t : Token) (k : Kind) (ts : List Token) → t.kind ≡ k → Holds (number_here k ts) (λ r. Is (kinds.Number r.0) (t ∷ ts) r.1)
 number_here_sound t (kinds.Number n) ts e =
@@ -163,18 +163,18 @@ module _ (text : Spelling) (sub : SubType) (d : ℕ) (h : IsSoundType text sub d
   unfolding elem_at
   elem_sound ts =
       choose_holds (label_sound text ts)
-      (bind_holds (h ts) (λ t g. some_holds _ _ (record { behind = ts; label = refl; reads = g.reads; low = g.low })))
-      (λ n l. bind_holds (h n.1) (λ t g. some_holds _ _ (record { behind = n.1; label = (l.behind, l.name, l.colon); reads = g.reads; low = g.low })))
+      (bind_holds (h ts) (λ t g. some_holds _ _ (record { later = ts; label = refl; reads = g.reads; low = g.low })))
+      (λ n l. bind_holds (h n.1) (λ t g. some_holds _ _ (record { later = n.1; label = (l.later, l.name, l.colon); reads = g.reads; low = g.low })))
 
   pub param_sound : (ts : List Token) → Holds (param_at text sub ts) (λ x. ReadsParam text d x.0 ts x.1)
   unfolding param_at
   param_sound ts = bind_holds (label_sound text ts) (λ n l. bind_holds (h n.1) (λ t g.
-      some_holds _ _ (record { a = l.behind; b = n.1; name = l.name; colon = l.colon; reads = g.reads; low = g.low })))
+      some_holds _ _ (record { a = l.later; b = n.1; name = l.name; colon = l.colon; reads = g.reads; low = g.low })))
 
   param_step_sound : (ts : List Token) → Holds (param_step text sub ts) (λ r. Holds r (λ x. ParamItem text d x.0 ts x.1))
   unfolding param_step
   param_step_sound ts = choose_holds (after_sign_sound signs.Comma ts) (none_holds _) (λ a c.
-      some_holds _ _ (weaker (param_sound a) (λ x g. record { behind = a; comma = c; item = g })))
+      some_holds _ _ (weaker (param_sound a) (λ x g. record { later = a; comma = c; item = g })))
 
   pub param_item : IsItem (param_step text sub) (ParamItem text d)
   param_item = record {
@@ -192,7 +192,7 @@ module _ (text : Spelling) (sub : SubType) (d : ℕ) (h : IsSoundType text sub d
   field_step_sound : (ts : List Token) → Holds (proto_field_step text sub ts) (λ r. Holds r (λ x. FieldItem text d x.0 ts x.1))
   unfolding proto_field_step
   field_step_sound ts = choose_holds (after_sign_sound signs.Comma ts) (none_holds _) (λ a c.
-      some_holds _ _ (weaker (field_sound a) (λ x g. record { behind = a; comma = c; item = g })))
+      some_holds _ _ (weaker (field_sound a) (λ x g. record { later = a; comma = c; item = g })))
 
   pub field_item : IsItem (proto_field_step text sub) (FieldItem text d)
   field_item = record {
@@ -217,7 +217,7 @@ module _ (text : Spelling) (sub : SubType) (d : ℕ) (h : IsSoundType text sub d
   more_params_of (p ∷ ps) ts rest m =
       let i = m.1 in
       let l = more_params_of ps m.0 rest m.2 in
-      ((i.behind, i.item.a, i.item.b, m.0, i.comma, i.item.name, i.item.colon, i.item.reads, l.0), omega (arith, i.item.low, l.1))
+      ((i.later, i.item.a, i.item.b, m.0, i.comma, i.item.name, i.item.colon, i.item.reads, l.0), omega (arith, i.item.low, l.1))
 
   more_fields_of : (fs : List FieldForm) (ts rest : List Token) → Many (FieldItem text d) fs ts rest → ReadsMoreFields text (fields_of fs) ts rest
       × (field_heights (fields_of fs) ≤ d)
@@ -227,7 +227,7 @@ module _ (text : Spelling) (sub : SubType) (d : ℕ) (h : IsSoundType text sub d
       let i = m.1 in
       let p = i.item.param in
       let l = more_fields_of fs m.0 rest m.2 in (
-        (i.behind, p.a, p.b, i.item.a, i.item.b, i.item.c, m.0, i.comma, p.name, p.colon, p.reads, i.item.at, i.item.number, i.item.label, l.0),
+        (i.later, p.a, p.b, i.item.a, i.item.b, i.item.c, m.0, i.comma, p.name, p.colon, p.reads, i.item.at, i.item.number, i.item.label, l.0),
         omega (arith, p.low, l.1),
       )
 
@@ -243,13 +243,13 @@ pub record ParsedFields (text : Spelling) (d : ℕ) (ts : List Token) (y : List 
 
 module _ (text : Spelling) (sub : SubType) (d : ℕ) (h : IsSoundType text sub d) where
   pub params_sound : (ts : List Token) → Holds (params_at text sub ts) (ParsedParams text d ts)
-  unfolding params_at params_behind ReadsType type_height
+  unfolding params_at params_after ReadsType type_height
   params_sound ts = bind_holds (param_sound text sub d h ts) (λ p g. bind_holds (all_sound (param_item text sub d h) p.1) (λ y m.
       let l = more_params_of text sub d h y.0 p.1 y.1 m in
       some_holds _ _ (record { reads = (g.a, g.b, p.1, g.name, g.colon, g.reads, l.0); low = omega (arith, g.low, l.1) })))
 
   fields_sound : (ts : List Token) → Holds (proto_fields_at text sub ts) (ParsedFields text d ts)
-  unfolding proto_fields_at proto_fields_behind ReadsType type_height
+  unfolding proto_fields_at proto_fields_after ReadsType type_height
   fields_sound ts = bind_holds (field_sound text sub d h ts) (λ f g. bind_holds (all_sound (field_item text sub d h) f.1) (λ y m.
       let l = more_fields_of text sub d h y.0 f.1 y.1 m in
       let p = g.param in
@@ -272,7 +272,7 @@ module _ (text : Spelling) (sub : SubType) (d : ℕ) (h : IsSoundType text sub d
       bind_holds (after_sign_sound signs.OpenBracket ts)
       (λ a o. bind_holds (elem_sound text sub d h a) (λ e ge. bind_holds (after_sign_sound signs.CloseBracket e.1) (λ b c.
       bind_holds (after_word_sound words.Of b) (λ f w. bind_holds (h f) (λ t g.
-      some_holds _ _ (record { reads = (ts, a, ge.behind, e.1, b, f, at, o, ge.label, ge.reads, c, w, g.reads); low = omega (arith, ge.low, g.low) }))))))
+      some_holds _ _ (record { reads = (ts, a, ge.later, e.1, b, f, at, o, ge.label, ge.reads, c, w, g.reads); low = omega (arith, ge.low, g.low) }))))))
 
   tuple_sound : (ts0 : List Token) (p : Place) (ts : List Token) → At p (kinds.Sign signs.OpenBrace) ts0 ts
       → Holds (tuple_at text sub p ts) (ParsedType text (suc d) ts0)

@@ -55,7 +55,7 @@ abbrev pub word_here : Word → Kind → List Token → Option (List Token)
 word_here w (kinds.Word v) ts = if sameb word_type v w then Some ts else None
 word_here w _ ts = None
 
--- what stands behind the reserved word, if it stands first
+-- what stands after the reserved word, if it stands first
 unfoldable pub after_word : Word → List Token → Option (List Token)
 after_word w [] = None
 after_word w (t ∷ ts) = word_here w t.kind ts
@@ -68,7 +68,7 @@ utf8_in text t = if is_utf8 (lexeme_of text t) then lexeme_of text t else []
 abbrev pub ident_of : Spelling → Token → Ident
 ident_of text t = record { place = t.place; text = text t }
 
--- the name that a token of this kind is, and what stands behind it
+-- the name that a token of this kind is, and what stands after it
 abbrev pub name_here : Spelling → Token → Kind → List Token → Read Ident
 name_here text t kinds.Name ts = Some (ident_of text t, ts)
 name_here text t _ ts = None

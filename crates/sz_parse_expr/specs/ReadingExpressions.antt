@@ -92,17 +92,17 @@ pair_at sub ts = sub 5 ts >>= λ k. after_sign signs.Colon k.1 >>= λ b. sub 5 b
 unfoldable pub pair_step : Sub → List Token → Option (Read (Exp × Exp))
 pair_step sub ts = choose (after_sign signs.Comma ts) None (λ a. Some (pair_at sub a))
 
--- e and the expressions behind it
-unfoldable pub items_behind : Sub → Exp → List Token → Read (List Exp)
-items_behind sub e ts = all_at (comma_step sub) ts >>= λ y. Some (e ∷ y.0, y.1)
+-- e and the expressions after it
+unfoldable pub items_after : Sub → Exp → List Token → Read (List Exp)
+items_after sub e ts = all_at (comma_step sub) ts >>= λ y. Some (e ∷ y.0, y.1)
 
--- a pair and those behind it
-unfoldable pub pairs_behind : Sub → Exp × Exp → List Token → Read (List (Exp × Exp))
-pairs_behind sub p ts = all_at (pair_step sub) ts >>= λ y. Some (p ∷ y.0, y.1)
+-- a pair and those after it
+unfoldable pub pairs_after : Sub → Exp × Exp → List Token → Read (List (Exp × Exp))
+pairs_after sub p ts = all_at (pair_step sub) ts >>= λ y. Some (p ∷ y.0, y.1)
 
 -- the arguments of a call, up to the closing parenthesis
 unfoldable pub args_at : Sub → List Token → Read (List Exp)
-args_at sub ts = choose (after_sign signs.CloseParen ts) (sub 5 ts >>= λ x. items_behind sub x.0 x.1) (λ _. Some ([], ts))
+args_at sub ts = choose (after_sign signs.CloseParen ts) (sub 5 ts >>= λ x. items_after sub x.0 x.1) (λ _. Some ([], ts))
 
 -- the same with the closing parenthesis
 unfoldable pub call_at : Sub → List Token → Read Exps
@@ -131,12 +131,12 @@ convert_at sub p b ts = condition_at sub ts >>= λ x. Some (convert p b x.0, x.1
 
 -- the rest of a list, and of a map
 unfoldable pub list_at : Sub → Place → Exp → List Token → Read Exp
-list_at sub p e ts = items_behind sub e ts >>= λ y. after_sign signs.CloseBrace y.1 >>= λ r. Some (list p (exps_of y.0), r)
+list_at sub p e ts = items_after sub e ts >>= λ y. after_sign signs.CloseBrace y.1 >>= λ r. Some (list p (exps_of y.0), r)
 
 unfoldable pub map_at : Sub → Place → Exp × Exp → List Token → Read Exp
-map_at sub p kv ts = pairs_behind sub kv ts >>= λ y. after_sign signs.CloseBrace y.1 >>= λ r. Some (mapping p (pairs_of y.0), r)
+map_at sub p kv ts = pairs_after sub kv ts >>= λ y. after_sign signs.CloseBrace y.1 >>= λ r. Some (mapping p (pairs_of y.0), r)
 
--- a list or a map, behind its opening brace
+-- a list or a map, after its opening brace
 unfoldable pub composite_at : Sub → Place → List Token → Read Exp
 composite_at sub p ts =
     choose (after_sign signs.CloseBrace ts)
@@ -172,14 +172,14 @@ primary_here text sub d t kinds.Name ts = named_at sub d (ident_of text t) ts
 primary_here text sub d t (kinds.Sign s) ts = bracketed sub t.place s ts
 primary_here text sub d t (kinds.Word w) ts = worded sub t.place w ts
 
--- an index or a slice, behind its opening bracket
+-- an index or a slice, after its opening bracket
 unfoldable pub bracket_at : Sub → Exp → List Token → Read Exp
 bracket_at sub e ts =
     sub 5 ts >>= λ i. choose (after_sign signs.Colon i.1)
     (after_sign signs.CloseBracket i.1 >>= λ r. Some (index (place_of e) e i.0, r))
     (λ b. sub 5 b >>= λ j. after_sign signs.CloseBracket j.1 >>= λ r. Some (slice (place_of e) e i.0 j.0, r))
 
--- a field, behind its dot
+-- a field, after its dot
 unfoldable pub field_at : Spelling → Exp → List Token → Read Exp
 field_at text e ts = name_at text ts >>= λ n. Some (field (place_of e) e n.0, n.1)
 
@@ -192,7 +192,7 @@ part_step text sub e ts =
 unfoldable pub part_at : Spelling → Sub → ℕ → Exp → List Token → Read (Exp × Bool)
 part_at text sub d e ts = choose (part_step text sub e ts) (Some ((e, false), ts)) (λ r. guard (nat_le (height e) d) (r >>= λ x. Some ((x.0, true), x.1)))
 
--- what stands behind e, in so many turns at most
+-- what stands after e, in so many turns at most
 unfoldable pub tail_at : Spelling → Sub → ℕ → ℕ → Exp → List Token → Read Exp
 tail_at text sub d zero e ts = Some (e, ts)
 tail_at text sub d (suc k) e ts = choose (part_step text sub e ts) (Some (e, ts)) (λ r. guard (nat_le (height e) d) (r >>= λ x. tail_at text sub d k x.0 x.1))
@@ -208,7 +208,7 @@ unfoldable pub prefix_at : Spelling → Sub → ℕ → List Token → Read Exp
 prefix_at text sub d [] = None
 prefix_at text sub d (t ∷ ts) = choose (unary_of t.kind) (postfix_at text sub d (t ∷ ts)) (λ o. unary_at sub t.place o ts)
 
--- the operators of one level behind e, in so many turns at most
+-- the operators of one level after e, in so many turns at most
 unfoldable pub chain_at : Sub → ℕ → ℕ → ℕ → Exp → List Token → Read Exp
 chain_at sub d l zero e ts = Some (e, ts)
 chain_at sub d l (suc k) e ts =

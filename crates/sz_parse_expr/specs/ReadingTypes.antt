@@ -29,7 +29,7 @@ unfoldable pub number_at : List Token → Read ℤ
 number_at [] = None
 number_at (t ∷ ts) = number_here t.kind ts
 
--- a name with a colon behind it
+-- a name with a colon after it
 unfoldable pub label_at : Spelling → List Token → Read Ident
 label_at text ts = name_at text ts >>= λ n. after_sign signs.Colon n.1 >>= λ r. Some (n.0, r)
 
@@ -50,12 +50,12 @@ param_at text sub ts = label_at text ts >>= λ n. sub n.1 >>= λ t. Some ((n.0, 
 unfoldable pub param_step : Spelling → SubType → List Token → Option (Read (Ident × Typ))
 param_step text sub ts = choose (after_sign signs.Comma ts) None (λ a. Some (param_at text sub a))
 
--- a name with its type, and those behind it
-unfoldable pub params_behind : Spelling → SubType → Ident × Typ → List Token → Read (List (Ident × Typ))
-params_behind text sub p ts = all_at (param_step text sub) ts >>= λ y. Some (p ∷ y.0, y.1)
+-- a name with its type, and those after it
+unfoldable pub params_after : Spelling → SubType → Ident × Typ → List Token → Read (List (Ident × Typ))
+params_after text sub p ts = all_at (param_step text sub) ts >>= λ y. Some (p ∷ y.0, y.1)
 
 unfoldable pub params_at : Spelling → SubType → List Token → Read (List (Ident × Typ))
-params_at text sub ts = param_at text sub ts >>= λ p. params_behind text sub p.0 p.1
+params_at text sub ts = param_at text sub ts >>= λ p. params_after text sub p.0 p.1
 
 -- a field of a message
 unfoldable pub proto_field_at : Spelling → SubType → List Token → Read FieldForm
@@ -66,13 +66,13 @@ proto_field_at text sub ts =
 unfoldable pub proto_field_step : Spelling → SubType → List Token → Option (Read FieldForm)
 proto_field_step text sub ts = choose (after_sign signs.Comma ts) None (λ a. Some (proto_field_at text sub a))
 
-unfoldable pub proto_fields_behind : Spelling → SubType → FieldForm → List Token → Read (List FieldForm)
-proto_fields_behind text sub f ts = all_at (proto_field_step text sub) ts >>= λ y. Some (f ∷ y.0, y.1)
+unfoldable pub proto_fields_after : Spelling → SubType → FieldForm → List Token → Read (List FieldForm)
+proto_fields_after text sub f ts = all_at (proto_field_step text sub) ts >>= λ y. Some (f ∷ y.0, y.1)
 
 unfoldable pub proto_fields_at : Spelling → SubType → List Token → Read (List FieldForm)
-proto_fields_at text sub ts = proto_field_at text sub ts >>= λ f. proto_fields_behind text sub f.0 f.1
+proto_fields_at text sub ts = proto_field_at text sub ts >>= λ f. proto_fields_after text sub f.0 f.1
 
--- the types behind their first token
+-- the types after their first token
 unfoldable pub array_at : SubType → Place → List Token → Read Typ
 array_at sub p ts = after_word words.Of ts >>= λ a. sub a >>= λ t. Some (array p t.0, t.1)
 

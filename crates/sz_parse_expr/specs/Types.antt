@@ -11,7 +11,7 @@ use Rattle.sz_parse_expr.specs.Tokens.{Spelling, At, Is, IsSign, IsWord, AtName}
 use Rattle.sz_parse_expr.specs.Expressions.{basic_word}
 
 module _ (text : Spelling) where
-  -- a name with a colon behind it, or nothing
+  -- a name with a colon after it, or nothing
   abbrev pub ReadsLabel : Option Ident → List Token → List Token → Type 0
   ReadsLabel None ts rest = ts ≡ rest
   ReadsLabel (Some n) ts rest = (a : List Token) × AtName text n ts a × IsSign signs.Colon a rest

@@ -3,7 +3,7 @@ ghost use Rattle.std.specs.Prelude.{◌≡◌, ◌+◌, ◌<◌, ◌≤◌, [], 
 ghost use Rattle.sz_tree.specs.Expressions.{exps_of, pairs_of, height, heights, pair_heights};
 ghost use Rattle.sz_tree.specs.View.{tree_of, pair_of};
 ghost use Rattle.sz_parse_expr.specs.Reading.{utf8_in};
-ghost use Rattle.sz_parse_expr.specs.ReadingExpressions.{pair_at, items_behind, pairs_behind, args_at, call_at, named_at, closed_at, condition_at, paren_at, list_at, map_at, composite_at, worded, primary_here, bracket_at, part_at, tail_at, prefix_at, postfix_at, chain_at, level_at, expr_at};
+ghost use Rattle.sz_parse_expr.specs.ReadingExpressions.{pair_at, items_after, pairs_after, args_at, call_at, named_at, closed_at, condition_at, paren_at, list_at, map_at, composite_at, worded, primary_here, bracket_at, part_at, tail_at, prefix_at, postfix_at, chain_at, level_at, expr_at};
 ghost use Rattle.sz_parse_expr.specs.ReadingParts.{slice_at};
 ghost use Rattle.sz_parse_expr.specs.Outcome.{Gives};
 
@@ -63,7 +63,7 @@ fn at_level<'t>(
     chain(alloc, text, inner, level - 1, left, height, rest)
 }
 
-// The operators of one level behind an expression.
+// The operators of one level after an expression.
 #[cycle(expr)]
 fn chain<'t>(
     alloc: Global,
@@ -101,7 +101,7 @@ fn chain<'t>(
     Ok((left, height, rest))
 }
 
-// A unary operator with its operand, or an expression that an index may stand behind.
+// A unary operator with its operand, or an expression that an index may stand after.
 #[cycle(expr)]
 #[tactic(auto, unfolding(crate::specs::ReadingExpressions::prefix_at, crate::specs::ReadingExpressions::unary_at, crate::specs::Reading::bind, crate::specs::Reading::choose, sz_tree::specs::Expressions::height))]
 fn prefix<'t>(
@@ -148,7 +148,7 @@ fn postfix<'t>(
     parts(alloc, text, inner, first, height, rest)
 }
 
-// The indices, slices and fields behind an expression.
+// The indices, slices and fields after an expression.
 #[cycle(expr)]
 fn parts<'t>(
     alloc: Global,
@@ -218,7 +218,7 @@ fn part<'t>(
     }
 }
 
-// An index or a slice, behind its opening bracket.
+// An index or a slice, after its opening bracket.
 #[cycle(expr)]
 #[tactic(auto, unfolding(crate::specs::ReadingExpressions::bracket_at, crate::specs::Reading::bind, crate::specs::Reading::choose, sz_tree::specs::Expressions::height))]
 fn bracket<'t>(
@@ -250,7 +250,7 @@ fn bracket<'t>(
     }
 }
 
-// A slice, behind its colon.
+// A slice, after its colon.
 #[cycle(expr)]
 #[tactic(auto, unfolding(crate::specs::Reading::bind, sz_tree::specs::Expressions::height))]
 fn slice<'t>(
@@ -480,7 +480,7 @@ fn items<'t>(
     requires depth { inner < MAX_HEIGHT }
     requires low { first_height ≤ inner }
     requires measured { first_height ≡ height (tree_of first) }
-    ensures read { Gives (λ x. (each tree_of x.0.items, x.2.now)) result (items_behind (expr_at (utf8_in text.now) inner) (tree_of first) tokens.now) }
+    ensures read { Gives (λ x. (each tree_of x.0.items, x.2.now)) result (items_after (expr_at (utf8_in text.now) inner) (tree_of first) tokens.now) }
     ensures measured { IfOk result (λ x. x.1 ≡ heights (exps_of (each tree_of x.0.items))) }
     ensures low { IfOk result (λ x. x.1 ≤ inner) }
 {
@@ -497,7 +497,7 @@ fn items<'t>(
     Ok((items, height, rest))
 }
 
-// A list or a map, behind its opening brace.
+// A list or a map, after its opening brace.
 #[cycle(expr)]
 #[tactic(auto, unfolding(crate::specs::ReadingExpressions::composite_at, crate::specs::Reading::bind, crate::specs::Reading::choose, sz_tree::specs::Expressions::height))]
 fn composite<'t>(
@@ -610,7 +610,7 @@ fn pairs<'t>(
     requires depth { inner < MAX_HEIGHT }
     requires low { first_height ≤ inner }
     requires measured { first_height ≡ pair_heights (pairs_of (pair_of first ∷ [])) }
-    ensures read { Gives (λ x. (each pair_of x.0.items, x.2.now)) result (pairs_behind (expr_at (utf8_in text.now) inner) (pair_of first) tokens.now) }
+    ensures read { Gives (λ x. (each pair_of x.0.items, x.2.now)) result (pairs_after (expr_at (utf8_in text.now) inner) (pair_of first) tokens.now) }
     ensures measured { IfOk result (λ x. x.1 ≡ pair_heights (pairs_of (each pair_of x.0.items))) }
     ensures low { IfOk result (λ x. x.1 ≤ inner) }
 {

@@ -3,7 +3,7 @@ ghost use Rattle.std.specs.Prelude.{◌≡◌, ◌≤◌, ◌<◌, Some as Just,
 ghost use Rattle.sz_tree.specs.Types.{map_type, params_of, fields_of};
 ghost use Rattle.sz_tree.specs.View.{type_of, param_of, field_of, elem_of};
 ghost use Rattle.sz_parse_expr.specs.Reading.{utf8_in};
-ghost use Rattle.sz_parse_expr.specs.ReadingTypes.{number_at, label_at, maybe_name_at, elem_at, param_at, params_behind, params_at, proto_field_at, proto_fields_behind, proto_fields_at, array_at, map_type_at, tuple_at, proto_at, basic_of, type_worded, type_step, type_at};
+ghost use Rattle.sz_parse_expr.specs.ReadingTypes.{number_at, label_at, maybe_name_at, elem_at, param_at, params_after, params_at, proto_field_at, proto_fields_after, proto_fields_at, array_at, map_type_at, tuple_at, proto_at, basic_of, type_worded, type_step, type_at};
 ghost use Rattle.sz_parse_expr.specs.Outcome.{Gives};
 
 use crate::failed::Failed;
@@ -29,7 +29,7 @@ pub fn number(tokens: &[Token]) -> Result<(i64, &[Token]), Failed>
     }
 }
 
-/// A name with a colon behind it.
+/// A name with a colon after it.
 #[tactic(auto, unfolding(crate::specs::ReadingTypes::label_at, crate::specs::Reading::bind))]
 pub fn label<'t>(
     alloc: Global,
@@ -280,11 +280,11 @@ pub fn params<'t>(
     ensures read { Gives (λ x. (each param_of x.0.items, x.1.now)) result (params_at (utf8_in text.now) (type_at (utf8_in text.now) inner) tokens.now) }
 {
     let (first, rest) = param(alloc, text, inner, tokens)?;
-    params_behind(alloc, text, inner, first, rest)
+    params_after(alloc, text, inner, first, rest)
 }
 
 #[cycle(types)]
-fn params_behind<'t>(
+fn params_after<'t>(
     alloc: Global,
     text: &[u8],
     inner: u32,
@@ -293,7 +293,7 @@ fn params_behind<'t>(
 ) -> Result<(Vec<Param>, &'t [Token]), Failed>
     requires depth { inner < MAX_HEIGHT }
     ensures read { Gives (λ x. (each param_of x.0.items, x.1.now)) result
-        (params_behind (utf8_in text.now) (type_at (utf8_in text.now) inner) (param_of first) tokens.now) }
+        (params_after (utf8_in text.now) (type_at (utf8_in text.now) inner) (param_of first) tokens.now) }
 {
     let mut params = Vec::new(alloc);
     params.push(first)?;
@@ -344,11 +344,11 @@ fn fields<'t>(
     ensures read { Gives (λ x. (each field_of x.0.items, x.1.now)) result (proto_fields_at (utf8_in text.now) (type_at (utf8_in text.now) inner) tokens.now) }
 {
     let (first, rest) = field(alloc, text, inner, tokens)?;
-    fields_behind(alloc, text, inner, first, rest)
+    fields_after(alloc, text, inner, first, rest)
 }
 
 #[cycle(types)]
-fn fields_behind<'t>(
+fn fields_after<'t>(
     alloc: Global,
     text: &[u8],
     inner: u32,
@@ -357,7 +357,7 @@ fn fields_behind<'t>(
 ) -> Result<(Vec<ProtoField>, &'t [Token]), Failed>
     requires depth { inner < MAX_HEIGHT }
     ensures read { Gives (λ x. (each field_of x.0.items, x.1.now)) result
-        (proto_fields_behind (utf8_in text.now) (type_at (utf8_in text.now) inner) (field_of first) tokens.now) }
+        (proto_fields_after (utf8_in text.now) (type_at (utf8_in text.now) inner) (field_of first) tokens.now) }
 {
     let mut fields = Vec::new(alloc);
     fields.push(first)?;

@@ -1,4 +1,4 @@
-//! Values that wait for what is read behind them. Where nothing is, they are dropped here and in no other place.
+//! Values that wait for what is read after them. Where nothing is, they are dropped here and in no other place.
 ghost use Rattle.std.specs.Prelude.{◌≡◌, ◌≤◌, ◌<◌, Ok, Err, IfOk, IfErr};
 ghost use Rattle.sz_parse_expr.specs.declared.failed.Failed.TheVariants.{Syntax};
 

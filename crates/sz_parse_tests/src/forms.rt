@@ -90,7 +90,7 @@ if (a) ; ; else ; => 1:12
 if (a) ; else => 1:1
 if (a) ; else ; else ; => 1:17";
 
-/// Behind `at` stand the column of each statement; of a declaration the columns of its name, its type and its value; of the value
+/// Later `at` stand the column of each statement; of a declaration the columns of its name, its type and its value; of the value
 /// its level, and of an operator how loosely it binds and how loose its left operand may be; and the column of a step.
 pub const TREES_KNOW_THEIR_PLACES: &str = "\
 x: t = {:}; => at 1 1 4 8 0

@@ -18,7 +18,7 @@ pub enum Shown {
     Count,
 }
 
-// The tables behind a call, so that no proof sees what stands in them.
+// The tables after a call, so that no proof sees what stands in them.
 fn tables() -> [&'static str; 19] {
     [
         forms::EACH_FORM_OF_EXPRESSION_IS_READ,
@@ -91,7 +91,7 @@ pub fn comes_to(alloc: Global, how: Shown, text: &str, expected: &str) -> bool {
     found.as_str() == expected
 }
 
-// Whether a line holds: a text stands before `=>`, and behind it its tree, or `at` and the places in it.
+// Whether a line holds: a text stands before `=>`, and after it its tree, or `at` and the places in it.
 fn holds(alloc: Global, line: &str) -> bool {
     let (text, expected) = line.split_once(" =>").unwrap_or((line, "no arrow"));
     let how = if expected.starts_with(" at") {

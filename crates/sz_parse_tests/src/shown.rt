@@ -1,4 +1,4 @@
-//! A tree as text: a space before each part, and each node in parentheses behind its kind. Where memory runs out the text is
+//! A tree as text: a space before each part, and each node in parentheses after its kind. Where memory runs out the text is
 //! another one than it should be.
 use std::fmt::{Debug, Write};
 use sz_tree::{

@@ -7,9 +7,9 @@ use Rattle.std.proofs.lemmas.List.Concat.{flat_map-append}
 use Rattle.sz_print.specs.Joined.{comma_before, joined}
 
 -- one text more at the end
-joined_behind : {X : Type 0} (text : X → List ℕ) (xs : List X) (x : X) → joined text (xs ++ x ∷ []) ≡ joined text xs ++ (comma_before (length xs) ++ text x)
-joined_behind text [] x = append-nil (text x)
-joined_behind text (y ∷ ys) x =
+joined_after : {X : Type 0} (text : X → List ℕ) (xs : List X) (x : X) → joined text (xs ++ x ∷ []) ≡ joined text xs ++ (comma_before (length xs) ++ text x)
+joined_after text [] x = append-nil (text x)
+joined_after text (y ∷ ys) x =
     ap (λ l. text y ++ l)
     (flat_map-append (λ z. codes ", " ++ text z) ys (x ∷ []) ∙ ap (λ l. flat_map (λ z. codes ", " ++ text z) ys ++ l) (append-nil (codes ", " ++ text x)))
     ∙ sym (append_assoc (text y) (flat_map (λ z. codes ", " ++ text z) ys) (codes ", " ++ text x))
@@ -23,7 +23,7 @@ one_more text xs i x first now comma next within is so_far with_comma with_text 
     let taken : take (i + 1) xs ≡ take i xs ++ x ∷ [] = take_more xs i x within ∙ ap (λ y. take i xs ++ y ∷ []) (sym is) in
     with_text ∙ ap (λ l. l ++ text x) (with_comma ∙ ap (λ l. l ++ comma_before i) so_far)
     ∙ append_assoc (first ++ front) (comma_before i) (text x) ∙ append_assoc first front (comma_before i ++ text x)
-    ∙ ap (λ l. first ++ l) (ap (λ n. front ++ (comma_before n ++ text x)) (sym long) ∙ sym (joined_behind text (take i xs) x) ∙ ap (joined text) (sym taken))
+    ∙ ap (λ l. first ++ l) (ap (λ n. front ++ (comma_before n ++ text x)) (sym long) ∙ sym (joined_after text (take i xs) x) ∙ ap (joined text) (sym taken))
 
 -- a text between braces
 pub in_braces : (old opened inside new text : List ℕ) → opened ≡ old ++ 123 ∷ [] → inside ≡ opened ++ text → new ≡ inside ++ 125 ∷ []

@@ -12,7 +12,7 @@ truth_text b = if b then codes "true" else codes "false"
 abbrev pub hex_digit : ℕ → ℕ
 hex_digit n = if nat_lt n 10 then 48 + n else 97 + (n - 10)
 
--- a byte as two hexadecimal digits behind a backslash and an x
+-- a byte as two hexadecimal digits after a backslash and an x
 abbrev pub hex_text : ℕ → List ℕ
 hex_text b = 92 ∷ 120 ∷ hex_digit (b / 16) ∷ hex_digit (b % 16) ∷ []
 
@@ -55,7 +55,7 @@ abbrev mutual
   parts_text no_data = codes "{}"
   parts_text (datum d ds) = 123 ∷ (value_text d ++ further_text ds) ++ 125 ∷ []
 
-  -- each part behind a comma
+  -- each part after a comma
   pub further_text : Data → List ℕ
   further_text no_data = []
   further_text (datum d ds) = (codes ", " ++ value_text d) ++ further_text ds
@@ -65,7 +65,7 @@ abbrev mutual
   map_text no_entries = codes "{:}"
   map_text (entry k v es) = 123 ∷ ((value_text k ++ codes ": " ++ value_text v) ++ further_pairs_text es) ++ 125 ∷ []
 
-  -- each pair behind a comma
+  -- each pair after a comma
   pub further_pairs_text : Entries → List ℕ
   further_pairs_text no_entries = []
   further_pairs_text (entry k v es) = (codes ", " ++ (value_text k ++ codes ": " ++ value_text v)) ++ further_pairs_text es

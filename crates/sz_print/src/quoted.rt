@@ -41,7 +41,7 @@ fn push_byte(byte: u8, is_string: bool, out: &mut Vec<u8>) -> Result<(), NoMemor
     Ok(())
 }
 
-// Appends a byte as two hexadecimal digits behind `\x`.
+// Appends a byte as two hexadecimal digits after `\x`.
 fn push_hex(byte: u8, out: &mut Vec<u8>) -> Result<(), NoMemory>
     ensures value { OnOk result (out.new.items ≡ out.old.items ++ hex_text byte) }
 {

@@ -7,7 +7,7 @@ use Rattle.sz_wire.specs.Field.{Content, content_in}
 use Rattle.sz_proto.specs.Elements.{in_all}
 use Rattle.sz_proto.specs.Found.{contents, Takes}
 
--- the whole is this front, and behind it the rest, if that is there
+-- the whole is this front, and after it the rest, if that is there
 abbrev pub Goes : {A : Type 0} → Option (List A) → List A → Option (List A) → Type 0
 Goes whole got rest = whole ≡ option_map (λ more. got ++ more) rest
 

@@ -14,26 +14,26 @@ use Rattle.sz_proto.specs.Found.{with_number}
 filtered : {X : Type 0} (p : X → Bool) (xs : List X) (a b : ℕ) → a ≤ b → b ≤ length xs → ((k : ℕ) (d : X) → k < a → p (get_or xs k d) ≡ false)
     → ((k : ℕ) (d : X) → a ≤ k → k < b → p (get_or xs k d) ≡ true) → ((k : ℕ) (d : X) → b ≤ k → k < length xs → p (get_or xs k d) ≡ false)
     → filter p xs ≡ slice_range xs a b
-filtered p [] zero zero le high before here behind = refl
-filtered p [] a (suc b) le high before here behind = absurd (omega (arith, high))
-filtered p [] (suc a) zero le high before here behind = absurd (omega (arith, le))
-filtered p (x ∷ xs) (suc a) zero le high before here behind = absurd (omega (arith, le))
-filtered p (x ∷ xs) zero zero le high before here behind =
-    let head : p x ≡ false = behind 0 x (omega arith) (omega arith) in
+filtered p [] zero zero le high before here after = refl
+filtered p [] a (suc b) le high before here after = absurd (omega (arith, high))
+filtered p [] (suc a) zero le high before here after = absurd (omega (arith, le))
+filtered p (x ∷ xs) (suc a) zero le high before here after = absurd (omega (arith, le))
+filtered p (x ∷ xs) zero zero le high before here after =
+    let head : p x ≡ false = after 0 x (omega arith) (omega arith) in
     let rest = filtered p xs 0 0 (omega arith) (omega arith) (λ k d h. absurd (omega (arith, h))) (λ k d l h. absurd (omega (arith, h)))
-    (λ k d l h. behind (suc k) d (omega arith) (omega (arith, h))) in
+    (λ k d l h. after (suc k) d (omega arith) (omega (arith, h))) in
     rw head rest
-filtered {X} p (x ∷ xs) zero (suc b) le high before here behind =
+filtered {X} p (x ∷ xs) zero (suc b) le high before here after =
     let head : p x ≡ true = here 0 x (omega arith) (omega arith) in
     let rest = filtered p xs 0 b (omega arith) (omega (arith, high)) (λ k d h. absurd (omega (arith, h)))
-    (λ k d l h. here (suc k) d (omega arith) (omega (arith, h))) (λ k d l h. behind (suc k) d (omega (arith, l)) (omega (arith, h))) in
+    (λ k d l h. here (suc k) d (omega arith) (omega (arith, h))) (λ k d l h. after (suc k) d (omega (arith, l)) (omega (arith, h))) in
     let size : suc b - 0 ≡ suc b = omega arith in
     let same : b - 0 ≡ b = omega arith in
     rw (head, size) (ap (λ (ys : List X). x ∷ ys) (rest ∙ ap (λ (n : ℕ). take n xs) same))
-filtered p (x ∷ xs) (suc a) (suc b) le high before here behind =
+filtered p (x ∷ xs) (suc a) (suc b) le high before here after =
     let head : p x ≡ false = before 0 x (omega arith) in
     let rest = filtered p xs a b (omega (arith, le)) (omega (arith, high)) (λ k d h. before (suc k) d (omega (arith, h)))
-    (λ k d l h. here (suc k) d (omega (arith, l)) (omega (arith, h))) (λ k d l h. behind (suc k) d (omega (arith, l)) (omega (arith, h))) in
+    (λ k d l h. here (suc k) d (omega (arith, l)) (omega (arith, h))) (λ k d l h. after (suc k) d (omega (arith, l)) (omega (arith, h))) in
     let size : suc b - suc a ≡ b - a = omega arith in
     rw (head, size) rest
 

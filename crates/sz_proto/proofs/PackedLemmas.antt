@@ -70,6 +70,6 @@ pub fixed_element : (w : Width) (bytes front : List ℕ) (at n size : ℕ) (r : 
     → r ≡ cast_signed w n → option_map (signed w) (fixed_at w (drop at bytes)) ≡ Some (r, drop (at + size) bytes)
 fixed_element w bytes front at n size r same found is =
     let number : Some (signed w (n, drop size front)) ≡ Some (r, drop size front) = rw is refl in
-    let behind : drop size front ≡ drop (at + size) bytes = ap (drop size) same ∙ drop-drop size at bytes in
-    let rest : Some (r, drop size front) ≡ Some (r, drop (at + size) bytes) = rw behind refl in
+    let after : drop size front ≡ drop (at + size) bytes = ap (drop size) same ∙ drop-drop size at bytes in
+    let rest : Some (r, drop size front) ≡ Some (r, drop (at + size) bytes) = rw after refl in
     ap (λ (l : List ℕ). option_map (signed w) (fixed_at w l)) (sym same) ∙ ap (option_map (signed w)) found ∙ number ∙ rest

@@ -35,7 +35,7 @@ lies_further low high (kinds.Eight n) le h = tt
 lies_further low high (kinds.Four n) le h = tt
 lies_further low high kinds.Group le h = tt
 
--- the fields of a payload are read up to a place, behind those that were there
+-- the fields of a payload are read up to a place, after those that were there
 pub record IsReading (bytes : List ℕ) (depth from to at : ℕ) (before now : List WireField) : Type 0 where
   pub added : List WireField
   pub appended : now ≡ before ++ added

@@ -75,7 +75,7 @@ message_each value_of (eight n) = Some []
 message_each value_of (four n) = Some []
 message_each value_of group = Some []
 
--- what was found is added behind what there was, or there is none
+-- what was found is added after what there was, or there is none
 abbrev pub Takes : {A : Type 0} → Option (List A) → List A → List A → Bool → Type 0
 Takes {A} found before after true = (first : List A) × (found ≡ Some first) × (after ≡ before ++ first)
 Takes found before after false = found ≡ None

@@ -17,7 +17,7 @@ fn rest(bytes: &[u8], at: usize) -> &[u8]
     &bytes[at..]
 }
 
-/// The packed element at a place, and the place behind it, if one is there.
+/// The packed element at a place, and the place after it, if one is there.
 fn packed_at(code: Encoding, bytes: &[u8], at: usize) -> Option<(i64, usize)>
     requires place { at ≤ length bytes.now }
     ensures some { IfSome result (λ r. packed_at code (drop at bytes.now) ≡ Some (r.0, drop r.1 bytes.now)) }

@@ -8,7 +8,7 @@ use std::process::Abort;
 use std::test::Fail;
 use sz_proto::decode;
 
-// Bytes, and behind `=>` the value that they have by the type of the nearest line `type` above. A line behind `#` says what the
+// Bytes, and after `=>` the value that they have by the type of the nearest line `type` above. A line after `#` says what the
 // next lines show.
 const ROWS: &str = "\
 # single fields
@@ -106,7 +106,7 @@ fn holds(rt: &impl Abort, alloc: Global, rows: &str) -> Result<(), Fail> {
     Ok(())
 }
 
-// The tables behind a call, so that no proof sees what stands in them.
+// The tables after a call, so that no proof sees what stands in them.
 fn tables() -> [&'static str; 2] {
     [ROWS, written::ROWS]
 }

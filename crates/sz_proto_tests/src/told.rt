@@ -1,4 +1,4 @@
-//! Values as rows write them: numbers in decimal, a time behind `@`, a text in quotes, bytes as hexadecimal digits behind `x`, an
+//! Values as rows write them: numbers in decimal, a time after `@`, a text in quotes, bytes as hexadecimal digits after `x`, an
 //! array in brackets, and a message in braces.
 use std::alloc::{AllocError, Global};
 use std::fmt::Write;

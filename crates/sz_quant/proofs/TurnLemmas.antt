@@ -74,7 +74,7 @@ pub copied_map : (made tree : Expr) (p : Place) (v w : Vec Pair) → tree_of mad
 copied_map made tree p v w first items is =
     first ∙ ap (λ (ps : List (Exp × Exp)). mapping p (pairs_of ps)) items ∙ sym (ap tree_of is ∙ tree_of_map p w)
 
--- itself, and the parts behind it, are its parts
+-- itself, and the parts after it, are its parts
 pub added : (before pushed after inner : List Exp) (tree : Expr) (e : Exp) → pushed ≡ before ++ tree_of tree ∷ [] → after ≡ pushed ++ inner
     → tree_of tree ≡ e → parts e ≡ e ∷ inner → after ≡ before ++ parts (tree_of tree)
 added before pushed after inner tree e first more is all =
@@ -99,11 +99,11 @@ longer : {A : Type 0} (xs : List A) (rest : List (Option A)) → length xs < len
 longer [] rest = omega arith
 longer (x ∷ xs) rest = let more = longer xs rest in omega arith
 
--- behind those that have a bound stands the first that has none
+-- after those that have a bound stands the first that has none
 pub first_lack : {A : Type 0} (xs : List A) (rest : List (Option A)) → position is_none (map (λ x. Some x) xs ++ None ∷ rest) ≡ Some (length xs)
 first_lack xs rest = rw (prefix_found xs rest, lt-ltb _ _ (longer xs rest)) refl
 
--- the bound of the variable at a place, and those of the variables behind it
+-- the bound of the variable at a place, and those of the variables after it
 bounds_turn : (names : List (List ℕ)) (c : Exp) (i : ℕ) → i < length names
     → bounds_of (drop i names) c ≡ first_fit (drop i names) (parts c) ∷ bounds_of (drop (i + 1) names) c
 bounds_turn names c i within =

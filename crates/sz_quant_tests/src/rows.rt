@@ -1,7 +1,7 @@
 //! Statements `when`, and the bounds of their variables.
 use crate::told::told;
 
-// A row is a statement, ` => `, and the bound of each variable in order: its base, and `[]` behind that for an index and `[:]` for a
+// A row is a statement, ` => `, and the bound of each variable in order: its base, and `[]` after that for an index and `[:]` for a
 // slice; or the variable that has none.
 const ROWS: &str = "\
 when (i, j: some int; a[i] == b[j]) ; => a[] b[]

@@ -34,19 +34,19 @@ record_counted frame limits p n bytes r size stood =
     not_both : record_of r size ≡ stopped (Limit p) → ⊥
     not_both e = cc
 
--- the rest is cut in some way, if it is behind each record that may stand here
+-- the rest is cut in some way, if it is after each record that may stand here
 cut_by : (frame : Frame) (limits : FrameLimits) (p n : ℕ) (bytes : List ℕ)
     → ((size : ℕ) → n < limits.records → HasCut frame limits (p + size) (n + 1) (drop size bytes))
     → (s : Standing) → standing frame limits p n bytes ≡ s → HasCut frame limits p n bytes
-cut_by frame limits p n bytes behind (record_of r size) stood =
-    let rest = behind size (record_counted frame limits p n bytes r size stood) in
+cut_by frame limits p n bytes later (record_of r size) stood =
+    let rest = later size (record_counted frame limits p n bytes r size stood) in
     record { records = r ∷ rest.records; ending = rest.ending; cut = cut_record frame limits p n bytes r size rest.records rest.ending stood rest.cut }
-cut_by frame limits p n bytes behind (stopped why) stood = record { records = []; ending = why; cut = cut_stopped frame limits p n bytes why stood }
-cut_by frame limits p n bytes behind unfinished stood =
+cut_by frame limits p n bytes later (stopped why) stood = record { records = []; ending = why; cut = cut_stopped frame limits p n bytes why stood }
+cut_by frame limits p n bytes later unfinished stood =
     let end = at_end frame p bytes in
     record { records = end.0; ending = end.1; cut = cut_end frame limits p n bytes end.0 end.1 stood refl }
 
--- behind some records, the rest of a file is cut in some way
+-- after some records, the rest of a file is cut in some way
 pub some_cut : (left : ℕ) (frame : Frame) (limits : FrameLimits) (p n : ℕ) (bytes : List ℕ) → limits.records ≤ n + left → HasCut frame limits p n bytes
 some_cut zero frame limits p n bytes few =
     cut_by frame limits p n bytes (λ size counted. absurd (omega (arith, few, counted))) (standing frame limits p n bytes) refl
@@ -91,9 +91,9 @@ cut_once frame limits p n bytes (r ∷ rs) (q ∷ qs) e why h k =
         → AreSame rs qs e why)
         → BeginsWith frame p bytes (λ size. IsCut frame limits (p + size) (n + 1) (drop size bytes) rs e) r rs e s
         → BeginsWith frame p bytes (λ size. IsCut frame limits (p + size) (n + 1) (drop size bytes) qs why) q qs why s → AreSame (r ∷ rs) (q ∷ qs) e why
-    by (record_of t size) behind h k = let rest = behind size h.1 k.1 in (cc, rest.1)
-    by (stopped w) behind h k = absurd h
-    by unfinished behind h k = let one = sym h ∙ k in (ap (λ (x : List (List ℕ) × Ending). x.0) one, ap (λ (x : List (List ℕ) × Ending). x.1) one)
+    by (record_of t size) later h k = let rest = later size h.1 k.1 in (cc, rest.1)
+    by (stopped w) later h k = absurd h
+    by unfinished later h k = let one = sym h ∙ k in (ap (λ (x : List (List ℕ) × Ending). x.0) one, ap (λ (x : List (List ℕ) × Ending). x.1) one)
 
 -- no file has more records than there may be
 pub records_are_few : (frame : Frame) (limits : FrameLimits) (p n : ℕ) (bytes : List ℕ) (rs : List (List ℕ)) (e : Ending) → n ≤ limits.records
@@ -106,11 +106,11 @@ records_are_few frame limits p n bytes (r ∷ rs) e few h =
     by : ((size : ℕ) → n + 1 ≤ limits.records → IsCut frame limits (p + size) (n + 1) (drop size bytes) rs e → n + 1 + length rs ≤ limits.records)
         → (s : Standing) → standing frame limits p n bytes ≡ s
         → BeginsWith frame p bytes (λ size. IsCut frame limits (p + size) (n + 1) (drop size bytes) rs e) r rs e s → n + length (r ∷ rs) ≤ limits.records
-    by behind (record_of t size) stood h =
+    by later (record_of t size) stood h =
         let counted = record_counted frame limits p n bytes t size stood in
-        let rest = behind size (omega (arith, counted)) h.1 in omega (arith, rest)
-    by behind (stopped w) stood h = absurd h
-    by behind unfinished stood h = last frame bytes (λ some. is_counted frame limits p n bytes some (λ over. not_both (sym stood ∙ over))) h
+        let rest = later size (omega (arith, counted)) h.1 in omega (arith, rest)
+    by later (stopped w) stood h = absurd h
+    by later unfinished stood h = last frame bytes (λ some. is_counted frame limits p n bytes some (λ over. not_both (sym stood ∙ over))) h
       where
         not_both : unfinished ≡ stopped (Limit p) → ⊥
         not_both e = cc

@@ -41,9 +41,9 @@ passes_on {old} {now} {new} {bytes} at size {before} {mid} {after} s p = record 
       let left = drop at bytes in
       let stood : standing now.frame now.limits now.place now.count (left ++ more) ≡ record_of p.kept size =
       record_stays now.frame now.limits now.place now.count left more p.kept size p.stood in
-      let behind : drop (at + size) bytes ++ more ≡ drop size (left ++ more) =
+      let later : drop (at + size) bytes ++ more ≡ drop size (left ++ more) =
       ap (λ (x : List ℕ). x ++ more) (sym (drop-drop size at bytes)) ∙ sym (drop-append-le size left more p.within) in
-      let h' = rw (p.of.frame, p.of.limits, p.place, p.count, behind) at h in
+      let h' = rw (p.of.frame, p.of.limits, p.place, p.count, later) at h in
       let one : IsCutOn now (left ++ more) (p.kept ∷ rs) e = cut_record now.frame now.limits now.place now.count (left ++ more) p.kept size rs e stood h' in
       let all : IsCutOn old (bytes ++ more) (s.given ++ p.kept ∷ rs) e = s.goes_on more (p.kept ∷ rs) e one in
       rw (append_assoc s.given (p.kept ∷ []) rs) all);

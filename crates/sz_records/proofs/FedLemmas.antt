@@ -11,7 +11,7 @@ use Rattle.sz_records.specs.declared.ending.Ending.{Ending}
 use Rattle.sz_records.specs.declared.limits.FrameLimits.{FrameLimits}
 use Rattle.sz_records.specs.Cutting.{stopped, unfinished, at_end, standing, IsCut}
 use Rattle.sz_records.specs.Steps.{stands, IsCutOn, IsLeft, CutsOff}
-use Rattle.sz_records.specs.Fed.{FramerData, IsCutBehind, IsCutBy, IsOpen, HasRead, Feeds, Finishes, CutsHeld}
+use Rattle.sz_records.specs.Fed.{FramerData, IsCutAfter, IsCutBy, IsOpen, HasRead, Feeds, Finishes, CutsHeld}
 use Rattle.sz_records.proofs.CutLemmas.{cut_stopped, cut_end}
 use Rattle.sz_records.proofs.StayLemmas.{ending_stays}
 use Rattle.sz_records.proofs.StandingLemmas.{never_whole, begun_within}
@@ -19,7 +19,7 @@ use Rattle.sz_records.proofs.StandingLemmas.{never_whole, begun_within}
 -- what was cut off, with the ending that is known or the bytes that are held back, goes on what was there
 cut_goes_on : (old new : Cutter) (held taken left kept : List ℕ) (before after : List (List ℕ)) (ending : Option Ending)
     (s : CutsOff old new (held ++ taken) left before after ending)
-    → (ending ≡ None → kept ≡ left) → (more : List ℕ) (rs : List (List ℕ)) (e : Ending) → IsCutBehind new kept ending more rs e
+    → (ending ≡ None → kept ≡ left) → (more : List ℕ) (rs : List (List ℕ)) (e : Ending) → IsCutAfter new kept ending more rs e
     → IsCutOn old (held ++ (taken ++ more)) (s.front.given ++ rs) e
 cut_goes_on old new held taken left kept before after None s is more rs e h =
     let here : IsCutOn new (left ++ more) rs e = rw (is refl) at h in
@@ -69,7 +69,7 @@ takes_in old new taken left before after s none is = record {
 
 -- where the ending is known, it doesn't matter what comes
 whatever_comes : (cutter : Cutter) (held : List ℕ) (ended : Option Ending) (e : Ending) → ended ≡ Some e → (more : List ℕ)
-    → IsCutBehind cutter held ended more [] e
+    → IsCutAfter cutter held ended more [] e
 whatever_comes cutter held None e is more = absurd cc
 whatever_comes cutter held (Some why) e is more = (refl, grind arith)
 

@@ -8,8 +8,8 @@ use Rattle.std.proofs.lemmas.List.Edits.{take-paste}
 use Rattle.sz_records.specs.Held.{records_at, AreEnds}
 
 -- what is left of a list whose rest was moved to its front
-pub left_behind : {X : Type 0} (xs : List X) (k n : ℕ) → n ≡ length xs - k → k ≤ length xs → take n (copy_within xs k (length xs) 0) ≡ drop k xs
-left_behind xs k n e le =
+pub left_later : {X : Type 0} (xs : List X) (k n : ℕ) → n ≡ length xs - k → k ≤ length xs → take n (copy_within xs k (length xs) 0) ≡ drop k xs
+left_later xs k n e le =
     let rest = length-drop k xs in
     let pasted : take (length xs - k) (copy_within xs k (length xs) 0) ≡ take (length xs - k) (drop k xs) =
     ap (λ (m : ℕ). take m (copy_within xs k (length xs) 0)) (let none : length xs - k ≡ 0 + (length xs - k) = omega arith in none)
@@ -34,7 +34,7 @@ held_at from [] bytes i lt = absurd (omega (arith, lt))
 held_at from (end ∷ ends) bytes zero lt = refl
 held_at from (end ∷ ends) bytes (suc i) lt = held_at end ends bytes i (omega (arith, lt))
 
--- no end is behind the last one
+-- no end is after the last one
 pub ends_rise : (from : ℕ) (ends : List ℕ) (len : ℕ) → AreEnds from ends len → from ≤ len
 ends_rise from [] len h = omega (arith, h)
 ends_rise from (end ∷ ends) len h = let more = ends_rise end ends len h.1 in let low = h.0 in omega (arith, low, more)
@@ -50,7 +50,7 @@ place_within from ends len zero h le = ends_rise from ends len h
 place_within from [] len (suc i) h le = absurd (omega (arith, le))
 place_within from (end ∷ ends) len (suc i) h le = place_within end ends len i h.1 (omega (arith, le))
 
--- the first records, and those behind them
+-- the first records, and those after them
 pub first_held : (from : ℕ) (ends bytes : List ℕ) (n : ℕ) → take n (records_at from ends bytes) ≡ records_at from (take n ends) bytes
 first_held from ends bytes zero = refl
 first_held from [] bytes (suc n) = refl
@@ -72,18 +72,18 @@ later_ends from ends len zero h le = h
 later_ends from [] len (suc n) h le = absurd (omega (arith, le))
 later_ends from (end ∷ ends) len (suc n) h le = later_ends end ends len n h.1 (omega (arith, le))
 
--- what lies between two places is the same with more bytes behind
+-- what lies between two places is the same with more bytes after
 same_range : (from end : ℕ) (bytes more : List ℕ) → from ≤ end → end ≤ length bytes → slice_range (bytes ++ more) from end ≡ slice_range bytes from end
 same_range from end bytes more low high =
     let rest = length-drop from bytes in
     ap (take (end - from)) (drop-append-le from bytes more (omega (arith, low, high)))
     ∙ take-append-le (end - from) (drop from bytes) more (omega (arith, low, high, rest))
 
--- bytes behind the last record change none
-pub more_behind : (from : ℕ) (ends bytes more : List ℕ) → AreEnds from ends (length bytes) → records_at from ends (bytes ++ more) ≡ records_at from ends bytes
-more_behind from [] bytes more h = refl
-more_behind from (end ∷ ends) bytes more h =
-    rw (same_range from end bytes more h.0 (ends_rise end ends (length bytes) h.1), more_behind end ends bytes more h.1) refl
+-- bytes after the last record change none
+pub more_after : (from : ℕ) (ends bytes more : List ℕ) → AreEnds from ends (length bytes) → records_at from ends (bytes ++ more) ≡ records_at from ends bytes
+more_after from [] bytes more h = refl
+more_after from (end ∷ ends) bytes more h =
+    rw (same_range from end bytes more h.0 (ends_rise end ends (length bytes) h.1), more_after end ends bytes more h.1) refl
 
 -- one record more
 pub one_more : (from : ℕ) (ends bytes more : List ℕ) (len : ℕ) → AreEnds from ends (length bytes) → len ≡ length bytes + length more
@@ -147,7 +147,7 @@ kept_ends ends bytes n place h le is =
 pub kept : (ends bytes : List ℕ) (n place : ℕ) → AreEnds 0 ends (length bytes) → n ≤ length ends → place ≡ get_or (0 ∷ ends) n 0
     → records_at 0 (take n ends) (take place bytes) ≡ take n (records_at 0 ends bytes)
 kept ends bytes n place h le is =
-    sym (more_behind 0 (take n ends) (take place bytes) (drop place bytes) (kept_ends ends bytes n place h le is))
+    sym (more_after 0 (take n ends) (take place bytes) (drop place bytes) (kept_ends ends bytes n place h le is))
     ∙ ap (records_at 0 (take n ends)) (take-append-drop place bytes) ∙ sym (first_held 0 ends bytes n)
 
 -- the places in front of one are lowered, and the others are still to be

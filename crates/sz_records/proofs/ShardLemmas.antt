@@ -47,7 +47,7 @@ read_none rs from most some low = record {
   none : from - from ≡ 0
   none = omega arith
 
--- the record at a place is so far behind the first one
+-- the record at a place is so far after the first one
 at_place : (rs : List (List ℕ)) (from last : ℕ) (r : List ℕ) → from ≤ last → slice_get rs last ≡ Some r → get_or (drop from rs) (last - from) [] ≡ r
 at_place rs from last r begun is = get_or-drop from rs (last - from) [] ∙ ap (λ (n : ℕ). get_or rs n []) (let e : from + (last - from) ≡ last = omega arith in e) ∙ get_or_from_slice_get rs last r [] is
 
@@ -86,8 +86,8 @@ shard_full rs from most last bytes r at_end h is full = record {
   next : n + 1 ≡ last + 1 - from
   next = let b = h.begun in omega (arith, b)
 
-  behind : (more : List (List ℕ)) → drop from (rs ++ more) ≡ rest ++ more
-  behind more = drop-append-le from rs more (let b = h.begun in let l = low in omega (arith, b, l))
+  later : (more : List (List ℕ)) → drop from (rs ++ more) ≡ rest ++ more
+  later more = drop-append-le from rs more (let b = h.begun in let l = low in omega (arith, b, l))
 
   same : (more : List (List ℕ)) (m : ℕ) → m ≤ length rest → take m (rest ++ more) ≡ take m rest
   same more m le = take-append-le m rest more le
@@ -97,7 +97,7 @@ shard_full rs from most last bytes r at_end h is full = record {
       (λ (heavy : 2 ^ 24 ≤ bytes + length r). inr (let s = sum_by_more length rest n [] inside in let g = h.grows.sum in let e = ap length (at_place rs from last r h.begun is) in omega (arith, s, g, e, heavy))) full
 
   shard : (more : List (List ℕ)) → IsShard most (drop from (rs ++ more)) (last + 1 - from)
-  shard more = subst (λ (l : List (List ℕ)). IsShard most l (last + 1 - from)) (sym (behind more)) (subst (IsShard most (rest ++ more)) next record {
+  shard more = subst (λ (l : List (List ℕ)). IsShard most l (last + 1 - from)) (sym (later more)) (subst (IsShard most (rest ++ more)) next record {
     some = omega arith;
     within = (let l = length-append rest more in let i = inside in omega (arith, l, i));
     shortest = λ m less full. not_full most rest n bytes h.grows m (omega arith) (subst (IsFull most) (same more m (let i = inside in omega (arith, i, less))) full);

@@ -66,11 +66,11 @@ limits_never_whole false true there p r size e = cc
 limits_never_whole false false true p r size e = cc
 limits_never_whole false false false p r size e = cc
 
-sized_never_whole : (limits : FrameLimits) (p used size : ℕ) (behind : List ℕ) → sized_standing limits p used size behind ≡ stopped Whole → ⊥
+sized_never_whole : (limits : FrameLimits) (p used size : ℕ) (later : List ℕ) → sized_standing limits p used size later ≡ stopped Whole → ⊥
 unfolding sized_standing
-sized_never_whole limits p used size behind e =
-    limits_never_whole (nat_lt limits.record_bytes size) (nat_lt limits.input_bytes (p + (used + size))) (nat_le size (length behind)) p
-    (take size behind) (used + size) e
+sized_never_whole limits p used size later e =
+    limits_never_whole (nat_lt limits.record_bytes size) (nat_lt limits.input_bytes (p + (used + size))) (nat_le size (length later)) p
+    (take size later) (used + size) e
 
 length_never_whole : (limits : FrameLimits) (p : ℕ) (bytes : List ℕ) (read : Option (ℕ × List ℕ)) → length_standing limits p bytes read ≡ stopped Whole → ⊥
 unfolding length_standing
@@ -117,14 +117,14 @@ line_within limits p bytes e =
     let open_still : length bytes ≤ line_len bytes = ltb-false _ _ o.more in
     omega (arith, within, open_still)
 
-sized_within : (limits : FrameLimits) (p used size : ℕ) (behind : List ℕ) → sized_standing limits p used size behind ≡ unfinished
-    → p + (used + length behind) ≤ limits.input_bytes
+sized_within : (limits : FrameLimits) (p used size : ℕ) (later : List ℕ) → sized_standing limits p used size later ≡ unfinished
+    → p + (used + length later) ≤ limits.input_bytes
 unfolding sized_standing
-sized_within limits p used size behind e =
-    let o = only_begun (nat_lt limits.record_bytes size) (nat_lt limits.input_bytes (p + (used + size))) (nat_le size (length behind)) p
-    (take size behind) (used + size) e in
+sized_within limits p used size later e =
+    let o = only_begun (nat_lt limits.record_bytes size) (nat_lt limits.input_bytes (p + (used + size))) (nat_le size (length later)) p
+    (take size later) (used + size) e in
     let within : p + (used + size) ≤ limits.input_bytes = ltb-false _ _ o.within in
-    let more : length behind < size = leb-false _ _ o.more in
+    let more : length later < size = leb-false _ _ o.more in
     omega (arith, within, more)
 
 length_within : (limits : FrameLimits) (p : ℕ) (bytes : List ℕ) (read : Option (ℕ × List ℕ)) → p ≤ limits.input_bytes

@@ -104,7 +104,7 @@ unfolding frame_standing
 frame_stays Lines limits p a b settled = line_stays limits p a b settled
 frame_stays Delimited limits p a b settled = length_stays limits p a b (varint_at a) refl settled
 
--- a record or an ending stays, whatever comes behind
+-- a record or an ending stays, whatever comes after
 stays : (frame : Frame) (limits : FrameLimits) (p n : ℕ) (a b : List ℕ) → IsSettled (standing frame limits p n a)
     → standing frame limits p n (a ++ b) ≡ standing frame limits p n a
 unfolding standing

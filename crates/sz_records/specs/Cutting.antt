@@ -32,13 +32,13 @@ line_standing limits p bytes = by_limits
     (nat_lt (line_len bytes) (length bytes))
     p (record_of (take (line_len bytes) bytes) (line_len bytes + 1))
 
--- what stands at byte p where so many bytes have told a record's length, and these are behind them
+-- what stands at byte p where so many bytes have told a record's length, and these are after them
 unfoldable pub sized_standing : FrameLimits → ℕ → ℕ → ℕ → List ℕ → Standing
-sized_standing limits p used size behind = by_limits
+sized_standing limits p used size later = by_limits
     (nat_lt limits.record_bytes size)
     (nat_lt limits.input_bytes (p + (used + size)))
-    (nat_le size (length behind))
-    p (record_of (take size behind) (used + size))
+    (nat_le size (length later))
+    p (record_of (take size later) (used + size))
 
 -- with the length that was read: none is there so far, or none can be there, or one of so many bytes
 unfoldable pub length_standing : FrameLimits → ℕ → List ℕ → Option (ℕ × List ℕ) → Standing
@@ -50,12 +50,12 @@ unfoldable pub frame_standing : Frame → FrameLimits → ℕ → List ℕ → S
 frame_standing Lines limits p bytes = line_standing limits p bytes
 frame_standing Delimited limits p bytes = length_standing limits p bytes (varint_at bytes)
 
--- what stands at byte p behind n records
+-- what stands at byte p after n records
 unfoldable pub standing : Frame → FrameLimits → ℕ → ℕ → List ℕ → Standing
 standing frame limits p n [] = unfinished
 standing frame limits p n (b ∷ bytes) = if nat_lt n limits.records then frame_standing frame limits p (b ∷ bytes) else stopped (Limit p)
 
--- the records and the ending of a file that ends behind these bytes, which are the beginning of a record
+-- the records and the ending of a file that ends after these bytes, which are the beginning of a record
 abbrev pub at_end : Frame → ℕ → List ℕ → List (List ℕ) × Ending
 at_end frame p [] = ([], Whole)
 at_end Lines p (b ∷ bytes) = ((b ∷ bytes) ∷ [], Whole)
@@ -73,7 +73,7 @@ BeginsWith frame p bytes goes_on first others e (record_of r size) = (first ≡ 
 BeginsWith frame p bytes goes_on first others e (stopped why) = ⊥
 BeginsWith frame p bytes goes_on first others e unfinished = at_end frame p bytes ≡ (first ∷ others, e)
 
--- from byte p on, behind n records, the rest of a file is cut into these records with this ending
+-- from byte p on, after n records, the rest of a file is cut into these records with this ending
 unfoldable pub IsCut : Frame → FrameLimits → ℕ → ℕ → List ℕ → List (List ℕ) → Ending → Type 0
 IsCut frame limits p n bytes [] e = EndsHere frame p bytes e (standing frame limits p n bytes)
 IsCut frame limits p n bytes (first ∷ others) e =

@@ -14,21 +14,21 @@ pub record FramerData : Type 0 where
   pub held : List ℕ
   pub ended : Option Ending
 
--- these are the bytes of the rest of the file: behind those that are held back they are cut so, or nothing is cut any more
-abbrev pub IsCutBehind : Cutter → List ℕ → Option Ending → List ℕ → List (List ℕ) → Ending → Type 0
-IsCutBehind cutter held None more rs e = IsCutOn cutter (held ++ more) rs e
-IsCutBehind cutter held (Some why) more rs e = (rs ≡ []) × (e ≡ why)
+-- these are the bytes of the rest of the file: after those that are held back they are cut so, or nothing is cut any more
+abbrev pub IsCutAfter : Cutter → List ℕ → Option Ending → List ℕ → List (List ℕ) → Ending → Type 0
+IsCutAfter cutter held None more rs e = IsCutOn cutter (held ++ more) rs e
+IsCutAfter cutter held (Some why) more rs e = (rs ≡ []) × (e ≡ why)
 
 -- the rest of the file is cut so by this framer
 abbrev pub IsCutBy : FramerData → List ℕ → List (List ℕ) → Ending → Type 0
-IsCutBy framer more rs e = IsCutBehind framer.cutter framer.held framer.ended more rs e
+IsCutBy framer more rs e = IsCutAfter framer.cutter framer.held framer.ended more rs e
 
 -- no whole record is held back
 abbrev pub IsOpen : FramerData → Type 0
 IsOpen framer = framer.ended ≡ None → stands framer.cutter framer.held ≡ unfinished
 
 -- The framer was fed these bytes and gave these records: however the file goes on, what is still cut of it goes on that. Until the ending is
--- known, the bytes that are held back are those behind the place where the next record begins; a file isn't whole before its end
+-- known, the bytes that are held back are those after the place where the next record begins; a file isn't whole before its end
 pub record HasRead (frame : Frame) (limits : FrameLimits) (framer : FramerData) (fed : List ℕ) (given : List (List ℕ)) : Type 0 where
   pub goes_on : (more : List ℕ) (rs : List (List ℕ)) (e : Ending) → IsCutBy framer more rs e → IsCut frame limits 0 0 (fed ++ more) (given ++ rs) e
   pub nothing_whole : IsOpen framer

@@ -57,7 +57,7 @@ abbrev pub IsLeft : Cutter → List ℕ → Option Ending → Type 0
 IsLeft cutter left None = stands cutter left ≡ unfinished
 IsLeft cutter left (Some e) = stands cutter left ≡ stopped e
 
--- Records were cut off the front of these bytes, and this is left: whatever comes behind, the cut of what is left goes on that of all. The
+-- Records were cut off the front of these bytes, and this is left: whatever comes after, the cut of what is left goes on that of all. The
 -- bytes that are cut off are those between the places
 pub record CutsFront (old new : Cutter) (bytes left : List ℕ) (before after : List (List ℕ)) : Type 0 where
   pub of : IsOf old new

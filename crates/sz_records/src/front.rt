@@ -15,7 +15,7 @@ use sz_wire::read_varint;
 /// What stands where a record begins.
 #[derive(Clone, Copy, Debug)]
 pub(crate) enum Front {
-    /// A record: the place of its first byte, the place behind its last, and how many bytes it takes, with its length or newline.
+    /// A record: the place of its first byte, the place after its last, and how many bytes it takes, with its length or newline.
     Record(usize, usize, usize),
     /// The ending.
     Stopped(Ending),
@@ -93,7 +93,7 @@ fn delimited_front(limits: FrameLimits, place: u64, bytes: &[u8]) -> Front
     Front::Record(from, to, to)
 }
 
-/// What stands at a place of the file, behind so many records. Where records are lines, the first `scanned` bytes are no newlines.
+/// What stands at a place of the file, after so many records. Where records are lines, the first `scanned` bytes are no newlines.
 #[tactic(auto, unfolding(crate::specs::Cutting::frame_standing), using(crate::proofs::StandingLemmas::counted, crate::proofs::StandingLemmas::nothing_stands, crate::proofs::StandingLemmas::too_many, crate::proofs::StandingLemmas::by_frame))]
 pub(crate) fn found_at(
     frame: Frame,

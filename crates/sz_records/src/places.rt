@@ -1,7 +1,7 @@
 //! Places in a buffer that loses its front.
 ghost use Rattle.std.specs.Prelude.{◌≡◌, ◌-◌, ◌≤◌, ◌∷◌, map, drop, length, get_or, slice_range};
 
-/// The place behind so many pieces, which end at these places of a buffer.
+/// The place after so many pieces, which end at these places of a buffer.
 pub(crate) fn place_before(ends: &[usize], count: usize) -> usize
     requires within { count ≤ length ends.now }
     ensures value { result ≡ get_or (0 ∷ ends.now) count 0 }
@@ -18,7 +18,7 @@ pub(crate) fn between(bytes: &[u8], from: usize, to: usize) -> &[u8]
     &bytes[from..to]
 }
 
-#[tactic(auto, using(crate::proofs::HeldLemmas::left_behind))]
+#[tactic(auto, using(crate::proofs::HeldLemmas::left_later))]
 /// Drops so many items from the front. It moves those that stay.
 pub(crate) fn drop_front<T: Copy>(list: &mut Vec<T>, count: usize)
     requires within { count ≤ length list.old.items }

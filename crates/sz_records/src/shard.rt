@@ -7,7 +7,7 @@ use crate::records::Records;
 /// A shard ends with the record by which its records hold as many bytes.
 const SHARD_BYTES: usize = 16_777_216;
 
-/// The place behind the last record of the shard that begins at `from`. A shard has at most `most` records. `at_end` says that no
+/// The place after the last record of the shard that begins at `from`. A shard has at most `most` records. `at_end` says that no
 /// more records come.
 pub fn shard_end(records: &Records, from: usize, most: u32, at_end: bool) -> Option<usize>
     requires most { 1 ≤ most }

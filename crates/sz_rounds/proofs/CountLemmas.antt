@@ -53,7 +53,7 @@ fewer_records (s ∷ shards) (suc n) =
     let rest = fewer_records shards n in
     omega (arith, rest, length-append s.records (all_records (take n shards)), length-append s.records (all_records shards))
 
--- shards behind each other have few records
+-- shards after each other have few records
 records_from : (records : List (List ℕ)) (shards : List Shard) (n place first : ℕ) → All (IsShardIn records) shards → AreNext place first shards
     → (first ≤ 2 ^ 31 + 1) → first + length (all_records (numbered n records shards)) ≤ 2 ^ 31 + 1
 records_from records [] n place first within next low = omega (arith, low)

@@ -27,11 +27,11 @@ module _ (job : Job) where
   more_first s shards shard not h =
       record { front = s ∷ h.front; back = h.back; there = ap (λ l. s ∷ l) h.there; none = (not, h.none) }
 
-  behind_one : (s : ShardData) (shards : List ShardData) (fs : List EmitDatum) (e : ShardsEnd) → ¬ Decides job s → IsOutcome job shards e
+  after_one : (s : ShardData) (shards : List ShardData) (fs : List EmitDatum) (e : ShardsEnd) → ¬ Decides job s → IsOutcome job shards e
       → IsOutcome job (s ∷ shards) (then_shards (Emitted fs) e)
-  behind_one s shards fs (emitted gs) not h = (not, h)
-  behind_one s shards fs (faulted n f) not h = (h.0, more_first s shards h.0 not h.1, h.2, h.3)
-  behind_one s shards fs (lost n) not h = (h.0, more_first s shards h.0 not h.1, h.2, h.3)
+  after_one s shards fs (emitted gs) not h = (not, h)
+  after_one s shards fs (faulted n f) not h = (h.0, more_first s shards h.0 not h.1, h.2, h.3)
+  after_one s shards fs (lost n) not h = (h.0, more_first s shards h.0 not h.1, h.2, h.3)
 
   pub is_outcome : (shards : List ShardData) → IsOutcome job shards (outcome_of job shards)
   is_outcome [] = tt
@@ -43,7 +43,7 @@ module _ (job : Job) where
       by : (b : Bool) (r : Records) → is_lost job s ≡ b → shard_means job s ≡ r → IsOutcome job shards (outcome_of job shards)
           → IsOutcome job (s ∷ shards) (if b then lost s.number else then_shards r (outcome_of job shards))
       by true r dead is rest = (s, this, (is_lost_where job s).0 dead, refl)
-      by false (Emitted fs) alive is rest = behind_one s shards fs (outcome_of job shards) (none_decides s fs alive is) rest
+      by false (Emitted fs) alive is rest = after_one s shards fs (outcome_of job shards) (none_decides s fs alive is) rest
       by false (FaultedAt n f) alive is rest = (s, this, is_not_lost s alive, is)
 
   pub all_emits : (first : ℕ) (shards : List ShardData) (es : List EmitDatum) → FollowFrom first shards → outcome_of job shards ≡ emitted es

@@ -8,22 +8,22 @@ use Rattle.sz_mean.specs.Records.{Records, Emitted, FaultedAt}
 use Rattle.sz_attempt.specs.declared.job.Job.{Job}
 use Rattle.sz_attempt.specs.Shards.{ShardData}
 use Rattle.sz_attempt.specs.Attempts.{gives, faults, dies, least_of, end_by, shard_means, deaths_of, end_of, dies_at, all_die, is_lost}
-use Rattle.sz_rounds.specs.Outcomes.{ShardsEnd, emitted, faulted, lost, behind_front, then_shards, outcome_of, then_outcome}
+use Rattle.sz_rounds.specs.Outcomes.{ShardsEnd, emitted, faulted, lost, after_front, then_shards, outcome_of, then_outcome}
 
-behind_nothing : (e : ShardsEnd) → e ≡ behind_front [] e
-behind_nothing (emitted es) = refl
-behind_nothing (faulted n f) = refl
-behind_nothing (lost s) = refl
+after_nothing : (e : ShardsEnd) → e ≡ after_front [] e
+after_nothing (emitted es) = refl
+after_nothing (faulted n f) = refl
+after_nothing (lost s) = refl
 
-behind_then : (es : List EmitDatum) (a b : ShardsEnd) → behind_front es (then_outcome a b) ≡ then_outcome (behind_front es a) b
-behind_then es (emitted fs) (emitted gs) = ap emitted (sym (append_assoc es fs gs))
-behind_then es (emitted fs) (faulted n f) = refl
-behind_then es (emitted fs) (lost s) = refl
-behind_then es (faulted n f) b = refl
-behind_then es (lost s) b = refl
+later_then : (es : List EmitDatum) (a b : ShardsEnd) → after_front es (then_outcome a b) ≡ then_outcome (after_front es a) b
+later_then es (emitted fs) (emitted gs) = ap emitted (sym (append_assoc es fs gs))
+later_then es (emitted fs) (faulted n f) = refl
+later_then es (emitted fs) (lost s) = refl
+later_then es (faulted n f) b = refl
+later_then es (lost s) b = refl
 
 shards_then : (r : Records) (a b : ShardsEnd) → then_shards r (then_outcome a b) ≡ then_outcome (then_shards r a) b
-shards_then (Emitted es) a b = behind_then es a b
+shards_then (Emitted es) a b = later_then es a b
 shards_then (FaultedAt n f) a b = refl
 
 -- a list at one of its places
@@ -40,7 +40,7 @@ take_suc (y ∷ xs) (suc i) x there = ap (λ zs. y ∷ zs) (take_suc xs i x ther
 module _ (job : Job) where
   -- rounds follow each other
   pub outcome-append : (xs ys : List ShardData) → outcome_of job (xs ++ ys) ≡ then_outcome (outcome_of job xs) (outcome_of job ys)
-  outcome-append [] ys = behind_nothing (outcome_of job ys)
+  outcome-append [] ys = after_nothing (outcome_of job ys)
   outcome-append (x ∷ xs) ys = by (is_lost job x) (outcome-append xs ys)
     where
       by : (b : Bool) → outcome_of job (xs ++ ys) ≡ then_outcome (outcome_of job xs) (outcome_of job ys)
@@ -52,20 +52,20 @@ module _ (job : Job) where
   -- the shards in front of one give these emits
   module _ (shards : List ShardData) (i : ℕ) (shard : ShardData) (there : slice_get shards i ≡ Some shard) (es : List EmitDatum)
       (front : outcome_of job (take i shards) ≡ emitted es) where
-    decided : outcome_of job shards ≡ behind_front es (outcome_of job (shard ∷ drop (suc i) shards))
+    decided : outcome_of job shards ≡ after_front es (outcome_of job (shard ∷ drop (suc i) shards))
     decided =
         ap (outcome_of job) (split_at shards i shard there) ∙ outcome-append (take i shards) (shard ∷ drop (suc i) shards)
         ∙ ap (λ e. then_outcome e (outcome_of job (shard ∷ drop (suc i) shards))) front
 
     rest_by : Bool → ShardsEnd
-    rest_by b = behind_front es (if b then lost shard.number else then_shards (shard_means job shard) (outcome_of job (drop (suc i) shards)))
+    rest_by b = after_front es (if b then lost shard.number else then_shards (shard_means job shard) (outcome_of job (drop (suc i) shards)))
 
     -- it is lost
     pub lost_at : is_lost job shard ≡ true → outcome_of job shards ≡ lost shard.number
     lost_at is = decided ∙ by (is_lost job shard) is
       where
         by : (b : Bool) → b ≡ true
-            → behind_front es (if b then lost shard.number else then_shards (shard_means job shard) (outcome_of job (drop (suc i) shards))) ≡ lost shard.number
+            → after_front es (if b then lost shard.number else then_shards (shard_means job shard) (outcome_of job (drop (suc i) shards))) ≡ lost shard.number
         by true e = refl
         by false e = absurd (cc)
 
@@ -74,10 +74,10 @@ module _ (job : Job) where
     faulted_at n f alive means = decided ∙ by (is_lost job shard) (shard_means job shard) alive means
       where
         by : (b : Bool) (r : Records) → b ≡ false → r ≡ FaultedAt n f
-            → behind_front es (if b then lost shard.number else then_shards r (outcome_of job (drop (suc i) shards))) ≡ faulted n f
+            → after_front es (if b then lost shard.number else then_shards r (outcome_of job (drop (suc i) shards))) ≡ faulted n f
         by true r e g = absurd (cc)
         by false (Emitted fs) e g = absurd (cc)
-        by false (FaultedAt m h) e g = ap (λ q. behind_front es (then_shards q (outcome_of job (drop (suc i) shards)))) g
+        by false (FaultedAt m h) e g = ap (λ q. after_front es (then_shards q (outcome_of job (drop (suc i) shards)))) g
 
     -- it gives its emits
     pub more_at : (fs : List EmitDatum) → is_lost job shard ≡ false → shard_means job shard ≡ Emitted fs
@@ -89,9 +89,9 @@ module _ (job : Job) where
         ∙ by (is_lost job shard) (shard_means job shard) alive means
       where
         by : (b : Bool) (r : Records) → b ≡ false → r ≡ Emitted fs
-            → behind_front es (if b then lost shard.number else then_shards r (emitted [])) ≡ emitted (es ++ fs)
+            → after_front es (if b then lost shard.number else then_shards r (emitted [])) ≡ emitted (es ++ fs)
         by true r e g = absurd (cc)
-        by false r e g = ap (λ q. behind_front es (then_shards q (emitted []))) g ∙ ap (λ gs. emitted (es ++ gs)) (nothing fs)
+        by false r e g = ap (λ q. after_front es (then_shards q (emitted []))) g ∙ ap (λ gs. emitted (es ++ gs)) (nothing fs)
           where
             nothing : (gs : List EmitDatum) → gs ++ [] ≡ gs
             nothing [] = refl

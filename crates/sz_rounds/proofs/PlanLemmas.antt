@@ -10,7 +10,7 @@ use Rattle.sz_rounds.specs.declared.round.Round.{Round}
 use Rattle.sz_rounds.specs.Rounds.{IsRound}
 use Rattle.sz_rounds.specs.Tickets.{AllBelow, AreTickets, IsPlanOf, tickets_for, tickets_upto}
 
--- a list with one item behind it, at its places
+-- a list with one item after it, at its places
 push_front : (ts : List ℕ) (x i : ℕ) → i < length ts → slice_index (ts ++ x ∷ []) i ≡ slice_index ts i
 push_front [] x i less = absurd (omega arith)
 push_front (t ∷ ts) x zero less = refl

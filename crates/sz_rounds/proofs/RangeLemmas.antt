@@ -31,12 +31,12 @@ both_parts zero xs = refl
 both_parts (suc n) [] = refl
 both_parts (suc n) (x ∷ xs) = ap (λ ys. x ∷ ys) (both_parts n xs)
 
-left_behind : {A : Type 0} (xs : List A) (n : ℕ) → n ≤ length xs → length (drop n xs) + n ≡ length xs
-left_behind xs zero le = omega arith
-left_behind [] (suc n) le = absurd (omega arith)
-left_behind (x ∷ xs) (suc n) le = let rest = left_behind xs n (omega arith) in omega (arith, rest)
+left_later : {A : Type 0} (xs : List A) (n : ℕ) → n ≤ length xs → length (drop n xs) + n ≡ length xs
+left_later xs zero le = omega arith
+left_later [] (suc n) le = absurd (omega arith)
+left_later (x ∷ xs) (suc n) le = let rest = left_later xs n (omega arith) in omega (arith, rest)
 
--- the shards lie among the records, one behind the other
+-- the shards lie among the records, one after the other
 record Lie (records : List (List ℕ)) (place first : ℕ) (shards : List Shard) : Type 0 where
   within : All (IsShardIn records) shards
   next : AreNext place first shards
@@ -45,9 +45,9 @@ lie : (most : ℕ) (records : List (List ℕ)) (place first : ℕ) (sizes : List
     → 1 ≤ first → first + length (drop place records) ≤ 2 ^ 31 + 1 → Lie records place first (ranges_of place first sizes)
 lie most records place first [] are le low few = record { within = All-nil (IsShardIn records); next = tt }
 lie most records place first (n ∷ sizes) are le low few =
-    let long = left_behind records place le in
+    let long = left_later records place le in
     let fits : place + n ≤ length records = omega (arith, are.0.within, long) in
-    let after = left_behind records (place + n) fits in
+    let after = left_later records (place + n) fits in
     let rest = lie most records (place + n) (first + n) sizes (subst (λ rs. AreShards most rs sizes) (drop_more place n records) are.1) fits
     (omega (arith, low)) (omega (arith, few, long, after, are.0.within)) in
     let same : first + n ≡ first + (place + n - place) = omega arith in

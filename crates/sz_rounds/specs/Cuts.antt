@@ -24,8 +24,8 @@ pub record AreCut (most : ℕ) (records : List (List ℕ)) (shards : List Shard)
   pub are : AreShards most records sizes
   pub lie : shards ≡ ranges_of 0 1 sizes
 
--- The shards that records are cut into lie behind each other among them, as those of a round do. Numbered, from any number on, they are
--- the records cut at these sizes; each begins behind the one before it, and together they have all the records
+-- The shards that records are cut into lie after each other among them, as those of a round do. Numbered, from any number on, they are
+-- the records cut at these sizes; each begins after the one before it, and together they have all the records
 pub record MakesRounds (records : List (List ℕ)) (shards : List Shard) (sizes : List ℕ) : Type 0 where
   pub within : All (IsShardIn records) shards
   pub next : AreNext 0 1 shards

@@ -14,14 +14,14 @@ pub data ShardsEnd : Type 0 where
   lost : (shard : ℕ) → ShardsEnd
 
 -- emits in front of what comes of further shards
-abbrev pub behind_front : List EmitDatum → ShardsEnd → ShardsEnd
-behind_front front (emitted emits) = emitted (front ++ emits)
-behind_front front (faulted number fault) = faulted number fault
-behind_front front (lost shard) = lost shard
+abbrev pub after_front : List EmitDatum → ShardsEnd → ShardsEnd
+after_front front (emitted emits) = emitted (front ++ emits)
+after_front front (faulted number fault) = faulted number fault
+after_front front (lost shard) = lost shard
 
--- what comes of a shard that isn't lost, by what its records mean, and of those behind it
+-- what comes of a shard that isn't lost, by what its records mean, and of those after it
 abbrev pub then_shards : Records → ShardsEnd → ShardsEnd
-then_shards (Emitted emits) rest = behind_front emits rest
+then_shards (Emitted emits) rest = after_front emits rest
 then_shards (FaultedAt number fault) rest = faulted number fault
 
 -- what comes of shards in order
@@ -30,9 +30,9 @@ outcome_of job [] = emitted []
 outcome_of job (shard ∷ shards) =
     if is_lost job shard then lost shard.number else then_shards (shard_means job shard) (outcome_of job shards)
 
--- what comes of shards in front, and of those behind them where none of the first decides
+-- what comes of shards in front, and of those after them where none of the first decides
 abbrev pub then_outcome : ShardsEnd → ShardsEnd → ShardsEnd
-then_outcome (emitted emits) rest = behind_front emits rest
+then_outcome (emitted emits) rest = after_front emits rest
 then_outcome (faulted number fault) rest = faulted number fault
 then_outcome (lost shard) rest = lost shard
 
@@ -64,7 +64,7 @@ abbrev pub of_records : Records → ShardsEnd
 of_records (Emitted emits) = emitted emits
 of_records (FaultedAt number fault) = faulted number fault
 
--- the shards lie behind each other: each begins with the record behind those of the one before it, and the first with this number
+-- the shards lie after each other: each begins with the record after those of the one before it, and the first with this number
 abbrev pub FollowFrom : ℕ → List ShardData → Type 0
 FollowFrom first [] = Unit {0}
 FollowFrom first (shard ∷ shards) = (shard.first ≡ first) × FollowFrom (first + length shard.records) shards

@@ -26,7 +26,7 @@ AreNext place first [] = Unit {0}
 AreNext place first (shard ∷ shards) =
     (shard.start ≡ place) × (shard.first ≡ first) × AreNext shard.end (first + (shard.end - shard.start)) shards
 
--- a round has at most 4,096 shards, which lie behind each other among its records, and no shard's number is above 2^31
+-- a round has at most 4,096 shards, which lie after each other among its records, and no shard's number is above 2^31
 pub record IsRound (round : Round) : Type 0 where
   pub few : length round.shards ≤ 4096
   pub numbers : round.first_shard + length round.shards ≤ 2 ^ 31 + 1

@@ -14,7 +14,7 @@ pub fn the_first_shard_decides()
     ensures first { (job : Job) (shards : List ShardData) → IsOutcome job shards (outcome_of job shards) }
 {}
 
-/// What comes of shards in front and of those behind them is what comes of them all: so rounds may be run one after the other.
+/// What comes of shards in front and of those after them is what comes of them all: so rounds may be run one after the other.
 pub fn rounds_follow_each_other()
     ensures joined { (job : Job) (front back : List ShardData) → outcome_of job (front ++ back) ≡ then_outcome (outcome_of job front) (outcome_of job back) }
 {}
@@ -25,7 +25,7 @@ pub fn emits_of_shards_are_those_of_all_records()
         → outcome_of job shards ≡ emitted emits → means job first (all_records shards) ≡ Emitted emits }
 {}
 
-/// The shards that records are cut into are those of rounds, one behind the other, and have all the records.
+/// The shards that records are cut into are those of rounds, one after the other, and have all the records.
 pub fn cuts_make_rounds()
     ensures rounds { CutsMakeRounds }
 {}

@@ -9,7 +9,7 @@ use Rattle.sz_scope.specs.declared.entry.Entry.{Entry}
 use Rattle.sz_scope.specs.Chain.{latest, first_where, oldest, IsLinked}
 use Rattle.sz_scope.proofs.ChainLemmas.{latest_within, first_none, oldest_whole, oldest_less, oldest_all, oldest_oldest, get_oldest, linked_oldest}
 
--- the newest entry of a name, with the older ones behind it
+-- the newest entry of a name, with the older ones after it
 pub record IsNewest (name : ℕ) (entries : List Entry) (at : ℕ) : Type 0 where
   pub entry : Entry
   pub here : oldest (suc at) entries ≡ entry ∷ oldest at entries

@@ -24,7 +24,7 @@ cuts_rest framer none more =
     let rest = some_cut c.limits.records c.frame c.limits c.place c.count (framer.held ++ more) (omega arith) in
     record { records = rest.records; ending = rest.ending; cut = rw none rest.cut }
 
--- an input that begins with what was read has the records that were given, and perhaps more behind them
+-- an input that begins with what was read has the records that were given, and perhaps more after them
 pub record Begins (given records : List (List ℕ)) (known : Option Ending) (ending : Ending) : Type 0 where
   pub more : List (List ℕ)
   pub same : records ≡ given ++ more

@@ -96,7 +96,7 @@ module _ (job : Job) (frame : Frame) (most : ℕ) (total : TotalState) where
       nothing None = tt
       nothing (Some bytes) = refl
 
-  -- the answer behind the last round
+  -- the answer after the last round
   module _ (intake : Intake) (start left : Option (List ℕ)) (r : Reaches job frame most intake total start left) (ready : IsReady intake) (e : Ending)
       (is : end_of intake ≡ Some e) where
     none_left : (shards : ℕ) → (if shards == 0 then intake.ending else None) ≡ Some e → shards ≡ 0

@@ -19,7 +19,7 @@ use Rattle.sz_attempt.specs.declared.job.Shard.{Shard}
 use Rattle.sz_attempt.specs.Shards.{IsJob, IsShardIn, ShardData}
 use Rattle.sz_attempt.specs.Ends.{StandForEmits}
 use Rattle.sz_rounds.specs.declared.round.Round.{Round}
-use Rattle.sz_rounds.specs.Outcomes.{ShardsEnd, emitted, faulted, lost, behind_front, then_outcome, outcome_of, all_records}
+use Rattle.sz_rounds.specs.Outcomes.{ShardsEnd, emitted, faulted, lost, after_front, then_outcome, outcome_of, all_records}
 use Rattle.sz_rounds.specs.Rounds.{shards_of, numbered, AreNext, IsRound}
 use Rattle.sz_rounds.specs.Cuts.{ranges_of, cut_into}
 use Rattle.sz_rounds.proofs.OutcomeLemmas.{outcome-append}
@@ -34,15 +34,15 @@ use Rattle.sz_stream.specs.InputRuns.{RunsOn, HasRun, IsRunning, ended_so}
 use Rattle.sz_stream.proofs.ShardLemmas.{are_longer, are_more, sum_within, fewer_shards, split, cut_append, lie, ranges_append, length-ranges, sum-append}
 use Rattle.sz_stream.proofs.FedLemmas.{begins, few_given, whole_is_over}
 
-behind_nothing : (o : ShardsEnd) → o ≡ behind_front [] o
-behind_nothing (emitted es) = refl
-behind_nothing (faulted n f) = refl
-behind_nothing (lost n) = refl
+after_nothing : (o : ShardsEnd) → o ≡ after_front [] o
+after_nothing (emitted es) = refl
+after_nothing (faulted n f) = refl
+after_nothing (lost n) = refl
 
-behind_both : (front more : List EmitDatum) (o : ShardsEnd) → behind_front front (behind_front more o) ≡ behind_front (front ++ more) o
-behind_both front more (emitted es) = ap emitted (sym (append_assoc front more es))
-behind_both front more (faulted n f) = refl
-behind_both front more (lost n) = refl
+later_both : (front more : List EmitDatum) (o : ShardsEnd) → after_front front (after_front more o) ≡ after_front (front ++ more) o
+later_both front more (emitted es) = ap emitted (sym (append_assoc front more es))
+later_both front more (faulted n f) = refl
+later_both front more (lost n) = refl
 
 -- the records of so many shards at the front
 length_cut : (most : ℕ) (at_end : Bool) (number first : ℕ) (records : List (List ℕ)) (ns : List ℕ) → AreClosed most at_end records ns
@@ -84,9 +84,9 @@ module _ (job : Job) (frame : Frame) (most : ℕ) (intake : Intake) (total : Tot
         sizes = all;
         are = subst (λ (r : Round). AreShards most (r.records ++ more) all) (sym empty.round) are;
         goes_on =
-            behind_nothing (outcome_of job (cut_into 0 1 more all))
-            ∙ ap (λ (r : Round). behind_front [] (outcome_of job (cut_into r.first_shard 1 (r.records ++ more) all))) (sym empty.round)
-            ∙ ap (λ n. behind_front [] (outcome_of job (cut_into intake.round.first_shard n (intake.round.records ++ more) all))) (sym empty.first);
+            after_nothing (outcome_of job (cut_into 0 1 more all))
+            ∙ ap (λ (r : Round). after_front [] (outcome_of job (cut_into r.first_shard 1 (r.records ++ more) all))) (sym empty.round)
+            ∙ ap (λ n. after_front [] (outcome_of job (cut_into intake.round.first_shard n (intake.round.records ++ more) all))) (sym empty.first);
       };
     };
   }
@@ -148,9 +148,9 @@ module _ (job : Job) (frame : Frame) (most : ℕ) (old : Intake) (total : TotalS
             goes_on =
                 ap (λ rs. outcome_of job (cut_into 0 1 rs all)) (append_assoc h.given has.added more)
                 ∙ before.goes_on
-                ∙ ap (λ rs. behind_front h.run.emits (outcome_of job (cut_into old.round.first_shard old.first rs before.sizes))) records
-                ∙ ap (λ n. behind_front h.run.emits (outcome_of job (cut_into n old.first (new.round.records ++ more) before.sizes))) (sym kept.first_shard)
-                ∙ ap (λ n. behind_front h.run.emits (outcome_of job (cut_into new.round.first_shard n (new.round.records ++ more) before.sizes)))
+                ∙ ap (λ rs. after_front h.run.emits (outcome_of job (cut_into old.round.first_shard old.first rs before.sizes))) records
+                ∙ ap (λ n. after_front h.run.emits (outcome_of job (cut_into n old.first (new.round.records ++ more) before.sizes))) (sym kept.first_shard)
+                ∙ ap (λ n. after_front h.run.emits (outcome_of job (cut_into new.round.first_shard n (new.round.records ++ more) before.sizes)))
                 (sym kept.first);
           });
     }
@@ -211,9 +211,9 @@ module _ (job : Job) (frame : Frame) (most : ℕ) (old : Intake) (total : TotalS
             are = subst (λ rs. AreShards most (rs ++ more) before.sizes) (sym c.records) before.are;
             goes_on =
                 before.goes_on
-                ∙ ap (λ rs. behind_front h.run.emits (outcome_of job (cut_into old.round.first_shard old.first (rs ++ more) before.sizes))) (sym c.records)
-                ∙ ap (λ n. behind_front h.run.emits (outcome_of job (cut_into n old.first (new.round.records ++ more) before.sizes))) (sym c.first_shard)
-                ∙ ap (λ n. behind_front h.run.emits (outcome_of job (cut_into new.round.first_shard n (new.round.records ++ more) before.sizes)))
+                ∙ ap (λ rs. after_front h.run.emits (outcome_of job (cut_into old.round.first_shard old.first (rs ++ more) before.sizes))) (sym c.records)
+                ∙ ap (λ n. after_front h.run.emits (outcome_of job (cut_into n old.first (new.round.records ++ more) before.sizes))) (sym c.first_shard)
+                ∙ ap (λ n. after_front h.run.emits (outcome_of job (cut_into new.round.first_shard n (new.round.records ++ more) before.sizes)))
                 (sym c.first);
           });
     };
@@ -246,7 +246,7 @@ module _ (job : Job) (frame : Frame) (most : ℕ) (old : Intake) (total : TotalS
   record Follows (more : List (List ℕ)) (all : List ℕ) : Type 0 where
     sizes : List ℕ
     are : AreShards most (drop old.closed old.round.records ++ more) sizes
-    goes_on : outcome_of job (cut_into 0 1 (h.given ++ more) all) ≡ behind_front h.run.emits (then_outcome (outcome_of job (shards_of old.round))
+    goes_on : outcome_of job (cut_into 0 1 (h.given ++ more) all) ≡ after_front h.run.emits (then_outcome (outcome_of job (shards_of old.round))
         (outcome_of job (cut_into (old.round.first_shard + length old.round.shards) (old.first + old.closed) (drop old.closed old.round.records ++ more) sizes)))
 
   follows : (more : List (List ℕ)) → (is_some old.ending ≡ true → more ≡ []) → (all : List ℕ) → AreShards most (h.given ++ more) all → Follows more all
@@ -254,26 +254,26 @@ module _ (job : Job) (frame : Frame) (most : ℕ) (old : Intake) (total : TotalS
       let before = h.run.runs more ends all are in
       let s = split most (is_some old.ending) old.round.records more h.sizes before.sizes ends h.are before.are in
       let n = old.round.first_shard in
-      let rest = λ (k : ℕ) (f : ℕ) (c : ℕ). outcome_of job (cut_into k f (drop c old.round.records ++ more) s.behind) in
+      let rest = λ (k : ℕ) (f : ℕ) (c : ℕ). outcome_of job (cut_into k f (drop c old.round.records ++ more) s.later) in
       record {
-        sizes = s.behind;
-        are = subst (λ c. AreShards most (drop c old.round.records ++ more) s.behind) (sym h.closed) s.are;
+        sizes = s.later;
+        are = subst (λ c. AreShards most (drop c old.round.records ++ more) s.later) (sym h.closed) s.are;
         goes_on =
             before.goes_on
-            ∙ ap (λ sizes. behind_front h.run.emits (outcome_of job (cut_into n old.first (old.round.records ++ more) sizes))) s.same
-            ∙ ap (λ shards. behind_front h.run.emits (outcome_of job shards))
-            (cut_append most (is_some old.ending) n old.first old.round.records more h.sizes s.behind h.are)
-            ∙ ap (behind_front h.run.emits) (outcome-append job (cut_into n old.first old.round.records h.sizes)
-            (cut_into (n + length h.sizes) (old.first + sum_of h.sizes) (drop (sum_of h.sizes) old.round.records ++ more) s.behind))
-            ∙ ap (λ shards. behind_front h.run.emits (then_outcome (outcome_of job shards)
+            ∙ ap (λ sizes. after_front h.run.emits (outcome_of job (cut_into n old.first (old.round.records ++ more) sizes))) s.same
+            ∙ ap (λ shards. after_front h.run.emits (outcome_of job shards))
+            (cut_append most (is_some old.ending) n old.first old.round.records more h.sizes s.later h.are)
+            ∙ ap (after_front h.run.emits) (outcome-append job (cut_into n old.first old.round.records h.sizes)
+            (cut_into (n + length h.sizes) (old.first + sum_of h.sizes) (drop (sum_of h.sizes) old.round.records ++ more) s.later))
+            ∙ ap (λ shards. after_front h.run.emits (then_outcome (outcome_of job shards)
             (rest (n + length h.sizes) (old.first + sum_of h.sizes) (sum_of h.sizes)))) (sym of_round)
-            ∙ ap (λ c. behind_front h.run.emits (then_outcome (outcome_of job (shards_of old.round)) (rest (n + length h.sizes) (old.first + c) c))) (sym h.closed)
-            ∙ ap (λ k. behind_front h.run.emits (then_outcome (outcome_of job (shards_of old.round)) (rest (n + k) (old.first + old.closed) old.closed)))
+            ∙ ap (λ c. after_front h.run.emits (then_outcome (outcome_of job (shards_of old.round)) (rest (n + length h.sizes) (old.first + c) c))) (sym h.closed)
+            ∙ ap (λ k. after_front h.run.emits (then_outcome (outcome_of job (shards_of old.round)) (rest (n + k) (old.first + old.closed) old.closed)))
             (sym (ap length h.shards ∙ length-ranges 0 old.first h.sizes));
       }
 
   -- a shard of the round decides
-  decides : (o : ShardsEnd) → ((front : List EmitDatum) (rest : ShardsEnd) → behind_front front (then_outcome o rest) ≡ o)
+  decides : (o : ShardsEnd) → ((front : List EmitDatum) (rest : ShardsEnd) → after_front front (then_outcome o rest) ≡ o)
       → outcome_of job (shards_of old.round) ≡ o → (input : List ℕ) → GoesOn read over input
       → (records : List (List ℕ)) (ending : Ending) (sizes : List ℕ) → IsCut frame full 0 0 input records ending → AreShards most records sizes
       → outcome_of job (cut_into 0 1 records sizes) ≡ o
@@ -281,7 +281,7 @@ module _ (job : Job) (frame : Frame) (most : ℕ) (old : Intake) (total : TotalS
       let b = begins frame old.framer read over h.given old.ending h.fed input on records ending cut in
       let f = follows b.more b.ends sizes (subst (λ rs. AreShards most rs sizes) b.same are) in
       ap (λ rs. outcome_of job (cut_into 0 1 rs sizes)) b.same ∙ f.goes_on
-      ∙ ap (λ p. behind_front h.run.emits (then_outcome p (outcome_of job (cut_into (old.round.first_shard + length old.round.shards)
+      ∙ ap (λ p. after_front h.run.emits (then_outcome p (outcome_of job (cut_into (old.round.first_shard + length old.round.shards)
       (old.first + old.closed) (drop old.closed old.round.records ++ b.more) f.sizes)))) is
       ∙ stays h.run.emits _
 
@@ -319,7 +319,7 @@ module _ (job : Job) (frame : Frame) (most : ℕ) (old : Intake) (total : TotalS
         bound : (b m n : ℕ) → n ≤ b * m → b ≤ 2 ^ 32 → m ≤ 2 ^ 31 → n ≤ 2 ^ 63
         bound b m n le few less = grind arith
 
-    -- the round was run, and the records behind it are at hand
+    -- the round was run, and the records after it are at hand
     pub moves_on : (merged : TotalState) → Joins declarations emit_count shown total part merged
         → IsRunning job frame most (moved_on old) merged read over
     moves_on merged joins = record {
@@ -352,9 +352,9 @@ module _ (job : Job) (frame : Frame) (most : ℕ) (old : Intake) (total : TotalS
               are = f.are;
               goes_on =
                   f.goes_on
-                  ∙ ap (λ p. behind_front h.run.emits (then_outcome p (outcome_of job (cut_into (old.round.first_shard + length old.round.shards)
+                  ∙ ap (λ p. after_front h.run.emits (then_outcome p (outcome_of job (cut_into (old.round.first_shard + length old.round.shards)
                   (old.first + old.closed) (drop old.closed old.round.records ++ more) f.sizes)))) is
-                  ∙ behind_both h.run.emits es (outcome_of job (cut_into (old.round.first_shard + length old.round.shards)
+                  ∙ later_both h.run.emits es (outcome_of job (cut_into (old.round.first_shard + length old.round.shards)
                   (old.first + old.closed) (drop old.closed old.round.records ++ more) f.sizes));
             });
       };
@@ -371,7 +371,7 @@ module _ (job : Job) (frame : Frame) (most : ℕ) (old : Intake) (total : TotalS
       let no_sizes : r.sizes ≡ [] = without r.sizes (subst (λ rs. AreShards most rs r.sizes) no_rest r.are) in
       let outcome : outcome_of job (cut_into 0 1 records sizes) ≡ emitted h.run.emits =
       ap (λ rs. outcome_of job (cut_into 0 1 rs sizes)) b.same ∙ r.goes_on
-      ∙ ap (λ l. behind_front h.run.emits (outcome_of job (cut_into old.round.first_shard old.first (old.round.records ++ b.more) l))) no_sizes
+      ∙ ap (λ l. after_front h.run.emits (outcome_of job (cut_into old.round.first_shard old.first (old.round.records ++ b.more) l))) no_sizes
       ∙ ap emitted (append-nil h.run.emits) in
       by e (b.ending_is e known) outcome
     where

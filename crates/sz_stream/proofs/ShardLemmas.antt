@@ -22,7 +22,7 @@ module _ (most : ℕ) where
         subst (λ rs. IsShard most rs (end - from)) (drop-append-le from records more (omega (arith, e.within.0, e.within.1))) (e.shard more ends);
   }
 
-  -- more records come behind
+  -- more records come after
   closed_longer : (at_end : Bool) (records added : List (List ℕ)) (n : ℕ) → IsClosed most false records n → IsClosed most at_end (records ++ added) n
   closed_longer at_end records added n c = record {
     some = c.some;
@@ -38,7 +38,7 @@ module _ (most : ℕ) where
     subst (λ rs. AreClosed most at_end rs ns) (sym (drop-append-le n records added a.0.within)) (are_longer at_end (drop n records) added ns a.1),
   )
 
-  -- more shards come behind
+  -- more shards come after
   pub are_more : (at_end : Bool) (records : List (List ℕ)) (ns ms : List ℕ) → AreClosed most at_end records ns
       → AreClosed most at_end (drop (sum_of ns) records) ms → AreClosed most at_end records (ns ++ ms)
   are_more at_end records [] ms a more = more
@@ -56,15 +56,15 @@ module _ (most : ℕ) where
   fewer_shards at_end records [] a = omega arith
   fewer_shards at_end records (n ∷ ns) a = let rest = fewer_shards at_end (drop n records) ns a.1 in omega (arith, rest, a.0.some)
 
-  -- however the records go on, they are cut into these shards and others behind them
+  -- however the records go on, they are cut into these shards and others after them
   pub record Splits (rest : List (List ℕ)) (ns sizes : List ℕ) : Type 0 where
-    pub behind : List ℕ
-    pub same : sizes ≡ ns ++ behind
-    pub are : AreShards most rest behind
+    pub later : List ℕ
+    pub same : sizes ≡ ns ++ later
+    pub are : AreShards most rest later
 
   pub split : (at_end : Bool) (records more : List (List ℕ)) (ns sizes : List ℕ) → (at_end ≡ true → more ≡ []) → AreClosed most at_end records ns
       → AreShards most (records ++ more) sizes → Splits (drop (sum_of ns) records ++ more) ns sizes
-  split at_end records more [] sizes ends a are = record { behind = sizes; same = refl; are = are }
+  split at_end records more [] sizes ends a are = record { later = sizes; same = refl; are = are }
   split at_end records more (n ∷ ns) [] ends a are =
       absurd (let none = ap length are in omega (arith, none, length-append records more, a.0.some, a.0.within))
   split at_end records more (n ∷ ns) (m ∷ ms) ends a are =
@@ -73,12 +73,12 @@ module _ (most : ℕ) where
       ap (λ k. drop k (records ++ more)) same ∙ drop-append-le n records more a.0.within in
       let rest = split at_end (drop n records) more ns ms ends a.1 (subst (λ rs. AreShards most rs ms) left are.1) in
       record {
-        behind = rest.behind;
+        later = rest.later;
         same = ap (λ k. k ∷ ms) same ∙ ap (λ ks. n ∷ ks) rest.same;
-        are = subst (λ rs. AreShards most (rs ++ more) rest.behind) (drop-drop (sum_of ns) n records) rest.are;
+        are = subst (λ rs. AreShards most (rs ++ more) rest.later) (drop-drop (sum_of ns) n records) rest.are;
       }
 
-  -- the records of these shards and of those behind them, as data
+  -- the records of these shards and of those after them, as data
   pub cut_append : (at_end : Bool) (number first : ℕ) (records more : List (List ℕ)) (ns ms : List ℕ) → AreClosed most at_end records ns
       → cut_into number first (records ++ more) (ns ++ ms)
       ≡ cut_into number first records ns ++ cut_into (number + length ns) (first + sum_of ns) (drop (sum_of ns) records ++ more) ms
@@ -100,7 +100,7 @@ module _ (most : ℕ) where
       ∙ ap (λ rs. cut_into (suc number) (first + n) (drop n records) ns
       ++ cut_into (number + suc (length ns)) (first + (n + sum_of ns)) (rs ++ more) ms) (drop-drop (sum_of ns) n records))
 
-  -- the shards lie among the records, one behind the other
+  -- the shards lie among the records, one after the other
   pub record Lie (records : List (List ℕ)) (place first : ℕ) (shards : List Shard) : Type 0 where
     pub within : All (IsShardIn records) shards
     pub next : AreNext place first shards
@@ -121,7 +121,7 @@ module _ (most : ℕ) where
         next = (refl, refl, subst (λ m. AreNext (place + n) m (ranges_of (place + n) (first + n) ns)) same rest.next);
       }
 
--- where shards lie, and those behind them
+-- where shards lie, and those after them
 pub ranges_append : (place first : ℕ) (ns ms : List ℕ)
     → ranges_of place first (ns ++ ms) ≡ ranges_of place first ns ++ ranges_of (place + sum_of ns) (first + sum_of ns) ms
 ranges_append place first [] ms =

@@ -13,7 +13,7 @@ use Rattle.sz_records.specs.Fed.{FramerData}
 use Rattle.sz_records.specs.Shards.{AreShards}
 use Rattle.sz_attempt.specs.declared.job.Job.{Job}
 use Rattle.sz_attempt.specs.Ends.{StandForEmits}
-use Rattle.sz_rounds.specs.Outcomes.{ShardsEnd, behind_front, outcome_of}
+use Rattle.sz_rounds.specs.Outcomes.{ShardsEnd, after_front, outcome_of}
 use Rattle.sz_rounds.specs.Cuts.{ranges_of, cut_into}
 use Rattle.sz_stream.specs.declared.intake.Intake.{Intake}
 use Rattle.sz_stream.specs.declared.stop.Stop.{Stop}
@@ -21,12 +21,12 @@ use Rattle.sz_stream.specs.declared.stop.Stop.TheVariants.{ReadFailed, NoMemory,
 use Rattle.sz_stream.specs.Inputs.{GoesOn, RunsInput}
 use Rattle.sz_stream.specs.Intakes.{AreClosed, sum_of, IsFed}
 
--- shards in front gave these emits, and what comes of all shards is what comes of those behind them, which begin with the shard of this number
+-- shards in front gave these emits, and what comes of all shards is what comes of those after them, which begin with the shard of this number
 -- and the record of this one
 pub record RunsOn (job : Job) (most number first : ℕ) (emits : List EmitDatum) (rest : List (List ℕ)) (outcome : ShardsEnd) : Type 0 where
   pub sizes : List ℕ
   pub are : AreShards most rest sizes
-  pub goes_on : outcome ≡ behind_front emits (outcome_of job (cut_into number first rest sizes))
+  pub goes_on : outcome ≡ after_front emits (outcome_of job (cut_into number first rest sizes))
 
 -- Of the records that were given, all but those at hand were run, shard by shard, and no shard decided. The tables stand for their emits
 pub record HasRun (job : Job) (most : ℕ) (at_end : Bool) (given records : List (List ℕ)) (number first : ℕ) (total : TotalState) : Type 0 where

@@ -50,7 +50,7 @@ pub record KeepsRound (old new : Intake) : Type 0 where
   pub closed : new.closed ≡ old.closed
   pub limit : new.most ≡ old.most
 
--- a piece was read, and records came behind those at hand
+-- a piece was read, and records came after those at hand
 pub record HasTaken (frame : Frame) (framer : FramerData) (ending : Option Ending) (before after : List (List ℕ)) (read : List ℕ) (over : Bool)
     (given : List (List ℕ)) : Type 0 where
   pub added : List (List ℕ)
@@ -69,7 +69,7 @@ IsAnswered intake true = intake.ending ≡ None
 IsAnswered intake false =
     (0 < length intake.round.shards) ⊎ ((is_some intake.ending ≡ true) × (length intake.round.records ≤ intake.closed))
 
--- shards behind those of the round were closed, and all else is as before
+-- shards after those of the round were closed, and all else is as before
 pub record Closes (old new : Intake) : Type 0 where
   pub sizes : List ℕ
   pub are : AreClosed old.most (is_some old.ending) (drop old.closed old.round.records) sizes
@@ -83,7 +83,7 @@ pub record Closes (old new : Intake) : Type 0 where
   pub ending : new.ending ≡ old.ending
   pub limit : new.most ≡ old.most
 
--- behind the shards that are closed
+-- after the shards that are closed
 abbrev pub moved_on : Intake → Intake
 moved_on intake = record {
   framer = intake.framer;

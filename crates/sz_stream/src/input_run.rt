@@ -165,7 +165,7 @@ fn read_piece<F: Files>(
     }
 }
 
-/// Runs the next round by so many workers, merges its tables into the total, and moves on behind it.
+/// Runs the next round by so many workers, merges its tables into the total, and moves on after it.
 fn run_next<'a, R: Threads + Wait + Sync, G: Gate + Sync>(
     rt: &R,
     alloc: Global,
@@ -204,7 +204,7 @@ fn merge<'a>(total: &mut Total<'a>, part: Total<'a>) -> Result<(), NoMemory>
     }
 }
 
-/// The tables of an input that ends so, behind its last round.
+/// The tables of an input that ends so, after its last round.
 fn ended<'a>(total: Total<'a>, ending: Ending) -> Result<Total<'a>, Stop>
     ensures value { result ≡ ended_so total.entry ending }
 {

@@ -134,9 +134,9 @@ sum_gains old new e h same one_more wide added = record {
   };
 }
 
-behind_nothing : {X : Type 0} (xs : List X) → xs ++ [] ≡ xs
-behind_nothing [] = refl
-behind_nothing (x ∷ xs) = ap (λ l. x ∷ l) (behind_nothing xs)
+after_nothing : {X : Type 0} (xs : List X) → xs ++ [] ≡ xs
+after_nothing [] = refl
+after_nothing (x ∷ xs) = ap (λ l. x ∷ l) (after_nothing xs)
 
 -- the rows of the emits of both sides
 rows_of_both : (old other new : Summed) (front back : List Weighted) → IsKept old.table old.count old.numbers
@@ -152,7 +152,7 @@ rows_of_both old other new (f ∷ fs) [] h k wide counts added stands beside =
     shown_after new (length fs) (counts ∙ (λ i. stands.counted i + beside.counted i) ∙ omega arith) ∙ ap row (added
     ∙ plus_comm old.numbers other.numbers
     ∙ from_nothing other.numbers old.numbers (fresh other.count other.numbers beside.counted k.within) (sym wide) ∙ summed_up old f fs h.kind stands)
-    ∙ ap (λ l. sum_rows (values_of l)) (sym (behind_nothing (f ∷ fs)))
+    ∙ ap (λ l. sum_rows (values_of l)) (sym (after_nothing (f ∷ fs)))
 rows_of_both old other new (f ∷ fs) (b ∷ bs) h k wide counts added stands beside =
     shown_after new (length fs + length (b ∷ bs)) (counts ∙ (λ i. stands.counted i + beside.counted i) ∙ omega arith) ∙ ap row (added
     ∙ (λ i. plus (summed_up old f fs h.kind stands i) (summed_up other b bs k.kind beside i))

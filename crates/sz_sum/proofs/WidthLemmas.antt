@@ -6,16 +6,16 @@ use Rattle.sz_typing_rules.specs.Types.{has_type, parts_fit}
 use Rattle.sz_tabs.specs.Rows.{number_of, components_of}
 use Rattle.sz_sum.specs.Data.{width, field_count}
 
-behind : (a b : Bool) → a && b ≡ true → b ≡ true
-behind true b h = h
-behind false b h = absurd cc
+after : (a b : Bool) → a && b ≡ true → b ≡ true
+after true b h = h
+after false b h = absurd cc
 
 parts_wide : (ds : Data) (fs : FieldShapes) → parts_fit ds fs ≡ true → length (map number_of (parts_of ds)) ≡ field_count fs
 parts_wide no_data no_fields h = refl
 parts_wide no_data (with_field f fs) h = absurd cc
 parts_wide (datum d ds) no_fields h = absurd cc
 parts_wide (datum d ds) (with_field (field name s number code) fs) h =
-    let more = parts_wide ds fs (behind (has_type d s) (parts_fit ds fs) h) in omega (arith, more)
+    let more = parts_wide ds fs (after (has_type d s) (parts_fit ds fs) h) in omega (arith, more)
 
 -- a value of a type has as many components as the type says
 pub components_wide : (d : Datum) (s : Shape) → has_type d s ≡ true → length (components_of d) ≡ width s

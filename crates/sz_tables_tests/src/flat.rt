@@ -56,7 +56,7 @@ const UNSPELLED: &[&[u8]] = &[
     &[8, 0, 0, 0, 2, 1, 1, 1, 1, 1, 1, 1, 0],
 ];
 
-// The tables behind calls, so that no proof sees what stands in them.
+// The tables after calls, so that no proof sees what stands in them.
 fn spelled() -> &'static [(&'static [u8], u64)] {
     SPELLED
 }

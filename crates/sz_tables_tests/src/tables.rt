@@ -68,7 +68,7 @@ fn weights_of(kind: TableKind) -> Option<Ty>
     }
 }
 
-/// The numbers of the rows: sums, or values, each with its weight behind it if it has one, and -1000 for a full set.
+/// The numbers of the rows: sums, or values, each with its weight after it if it has one, and -1000 for a full set.
 pub(crate) fn numbers_in(alloc: Global, rows: &Rows) -> Result<Vec<i128>, NoMemory> {
     let mut numbers = Vec::new(alloc);
     for row in rows.as_slice() {

@@ -57,16 +57,16 @@ within_there a [] at sum there is h = absurd (omega arith)
 within_there a (n ∷ ns) zero sum there is h = subst (IsWithin a) (sym is) h.0
 within_there a (n ∷ ns) (suc at) sum there is h = within_there a ns at sum (omega arith) is h.1
 
--- a number that is added at a place that is there, and one that is put behind the last
+-- a number that is added at a place that is there, and one that is put after the last
 pub added_there : (ns : List ℤ) (at : ℕ) (sum more n : ℤ) → at < length ns → sum ≡ get_or ns at sum → more ≡ sum +ℤ n → set ns at more ≡ added_at at n ns
 added_there [] at sum more n there is added = absurd (omega arith)
 added_there (m ∷ ns) zero sum more n there is added = ap (λ k. k ∷ ns) (added ∙ ap (λ k. k +ℤ n) is)
 added_there (m ∷ ns) (suc at) sum more n there is added = ap (λ l. m ∷ l) (added_there ns at sum more n (omega arith) is added)
 
-pub added_behind : (ns : List ℤ) (at : ℕ) (n : ℤ) → length ns ≤ at → ns ++ n ∷ [] ≡ added_at at n ns
-added_behind [] at n behind = refl
-added_behind (m ∷ ns) zero n behind = absurd (omega arith)
-added_behind (m ∷ ns) (suc at) n behind = ap (λ l. m ∷ l) (added_behind ns at n (omega arith))
+pub added_after : (ns : List ℤ) (at : ℕ) (n : ℤ) → length ns ≤ at → ns ++ n ∷ [] ≡ added_at at n ns
+added_after [] at n later = refl
+added_after (m ∷ ns) zero n later = absurd (omega arith)
+added_after (m ∷ ns) (suc at) n later = ap (λ l. m ∷ l) (added_after ns at n (omega arith))
 
 length_plus : (ms ns : List ℤ) → length ns ≤ length (plus ms ns)
 length_plus [] ns = omega arith
@@ -75,7 +75,7 @@ length_plus (m ∷ ms) (n ∷ ns) = omega (arith, length_plus ms ns)
 
 -- the next component
 added_next : (ms ns : List ℤ) (n : ℤ) → added_at (length ns) n (plus ms ns) ≡ plus ms (ns ++ n ∷ [])
-added_next [] ns n = sym (added_behind ns (length ns) n (omega arith))
+added_next [] ns n = sym (added_after ns (length ns) n (omega arith))
 added_next (m ∷ ms) [] n = ap (λ l. (m +ℤ n) ∷ l) (sym (plus_nothing ms))
 added_next (m ∷ ms) (k ∷ ns) n = ap (λ l. (m +ℤ k) ∷ l) (added_next ms ns n)
 
@@ -131,7 +131,7 @@ length_numbers : (parts : List Value) (count : ℕ) → count ≤ length parts �
 length_numbers parts count upto =
     omega (arith, length-map (map seen (take count parts)) number_of, length-map (take count parts) seen, length-take count parts)
 
--- the next number has its place, or comes behind the last one
+-- the next number has its place, or comes after the last one
 pub added_place : (first now : List ℤ) (parts : List Value) (count : ℕ) → IsAdded first now parts count → count ≤ length now
 added_place first now parts count h =
     omega (arith, ap length h.is, length_plus first (numbers_of (take count parts)), length_numbers parts count h.upto)
@@ -145,10 +145,10 @@ pub added_more : (first now next : List ℤ) (parts : List Value) (count : ℕ) 
     → n ≡ number_of (seen part) → IsWithin (2 ^ 63) n → next ≡ added_at count n now → IsAdded first now parts count → IsAdded first next parts (count + 1)
 added_more first now next parts count part n there is number fits added h =
     let so_far = numbers_of (take count parts) in
-    let behind : numbers_of (take (count + 1) parts) ≡ so_far ++ n ∷ [] = numbers_more parts count part there is ∙ ap (λ k. so_far ++ k ∷ []) (sym number) in
+    let later : numbers_of (take (count + 1) parts) ≡ so_far ++ n ∷ [] = numbers_more parts count part there is ∙ ap (λ k. so_far ++ k ∷ []) (sym number) in
     record {
-      is = added ∙ (λ i. added_at (sym (length_numbers parts count h.upto) i) n (h.is i)) ∙ added_next first so_far n ∙ ap (plus first) (sym behind);
-      fit = subst (AreWithin (2 ^ 63)) (sym behind) (within_one_more (2 ^ 63) so_far n h.fit fits);
+      is = added ∙ (λ i. added_at (sym (length_numbers parts count h.upto) i) n (h.is i)) ∙ added_next first so_far n ∙ ap (plus first) (sym later);
+      fit = subst (AreWithin (2 ^ 63)) (sym later) (within_one_more (2 ^ 63) so_far n h.fit fits);
       upto = omega arith;
     }
 
@@ -170,13 +170,13 @@ pub summed_more : (sums next : List ℤ) (kept : List Kept) (count : ℕ) (one :
     → IsSummed next kept (count + 1)
 summed_more sums next kept count one there is added fits h =
     let so_far = take count kept in
-    let behind : values_of (map seen_kept (take (count + 1) kept)) ≡ values_of (map seen_kept so_far) ++ seen one.value ∷ [] =
+    let later : values_of (map seen_kept (take (count + 1) kept)) ≡ values_of (map seen_kept so_far) ++ seen one.value ∷ [] =
     ap (λ l. values_of (map seen_kept l)) (take_more kept count one there ∙ ap (λ k. so_far ++ k ∷ []) (sym is))
     ∙ ap values_of (map-append seen_kept so_far (one ∷ [])) ∙ map-append (λ w. w.value) (map seen_kept so_far) (seen_kept one ∷ []) in
     let wide : 2 ^ 63 * count + 2 ^ 63 ≡ 2 ^ 63 * (count + 1) = omega arith in
     let within = within_plus (2 ^ 63 * count) (2 ^ 63) sums (components_of (seen one.value)) h.within fits in
     record {
       is = added ∙ ap (λ l. plus l (components_of (seen one.value))) h.is
-          ∙ sym (sums_of_one_more (values_of (map seen_kept so_far)) (seen one.value)) ∙ ap sums_of (sym behind);
+          ∙ sym (sums_of_one_more (values_of (map seen_kept so_far)) (seen one.value)) ∙ ap sums_of (sym later);
       within = subst (λ most. AreWithin most next) wide (subst (AreWithin (2 ^ 63 * count + 2 ^ 63)) (sym added) within);
     }

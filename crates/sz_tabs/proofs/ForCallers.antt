@@ -10,5 +10,5 @@ pub use Rattle.sz_tabs.proofs.RowsLemmas.{plus_comm, plus_assoc, sums_in_any_ord
 pub use Rattle.sz_tabs.proofs.JoiningLemmas.{all_inserted, sorted_of_both, sorted_of_either, taken_of_inserted, taken_of_all, first_of_either}
 pub use Rattle.sz_tabs.proofs.JoiningLemmas.{all_entered, distinct_of_both, distinct_of_either, sums_of_both, rows_decide, rows_join}
 pub use Rattle.sz_tabs.proofs.AddingLemmas.{parts_again, plus_nothing, passed, within_further, sum_within, within_plus, within_there}
-pub use Rattle.sz_tabs.proofs.AddingLemmas.{added_there, added_behind, number_added, components_of_tuple, no_components, sums_of_one_more}
+pub use Rattle.sz_tabs.proofs.AddingLemmas.{added_there, added_after, number_added, components_of_tuple, no_components, sums_of_one_more}
 pub use Rattle.sz_tabs.proofs.CallLemmas.{surely}

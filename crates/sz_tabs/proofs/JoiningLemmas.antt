@@ -36,9 +36,9 @@ module _ {X : Type 0} (cmp : X → X → Ordering) where
   take_of_one_more (suc n) [] = refl
   take_of_one_more (suc n) (y ∷ ys) = ap (λ l. y ∷ l) (take_of_one_more n ys)
 
-  take_behind : (n : ℕ) (y : X) (ys : List X) → take n (y ∷ ys) ≡ take n (y ∷ take n ys)
-  take_behind zero y ys = refl
-  take_behind (suc n) y ys = ap (λ l. y ∷ l) (sym (take_of_one_more n ys))
+  take_after : (n : ℕ) (y : X) (ys : List X) → take n (y ∷ ys) ≡ take n (y ∷ take n ys)
+  take_after zero y ys = refl
+  take_after (suc n) y ys = ap (λ l. y ∷ l) (sym (take_of_one_more n ys))
 
   -- the first n after an insertion need only the first n before it
   pub taken_of_inserted : (n : ℕ) (x : X) (ys : List X) → take n (inserted cmp x ys) ≡ take n (inserted cmp x (take n ys))
@@ -48,8 +48,8 @@ module _ {X : Type 0} (cmp : X → X → Ordering) where
     where
       by_test : (b : Bool) → take n (inserted cmp x ys) ≡ take n (inserted cmp x (take n ys))
           → take (suc n) (cond b (y ∷ inserted cmp x ys) (x ∷ y ∷ ys)) ≡ take (suc n) (cond b (y ∷ inserted cmp x (take n ys)) (x ∷ y ∷ take n ys))
-      by_test true behind = ap (λ l. y ∷ l) behind
-      by_test false behind = ap (λ l. x ∷ l) (take_behind n y ys)
+      by_test true later = ap (λ l. y ∷ l) later
+      by_test false later = ap (λ l. x ∷ l) (take_after n y ys)
 
   pub taken_of_all : (n : ℕ) (xs ys zs : List X) → take n ys ≡ take n zs → take n (all_inserted xs ys) ≡ take n (all_inserted xs zs)
   taken_of_all n [] ys zs alike = alike
@@ -68,9 +68,9 @@ module _ {X : Type 0} (cmp : X → X → Ordering) where
     where
       by_found : (found : Ordering) → length ys ≤ length (insert_key cmp ys x)
           → length (y ∷ ys) ≤ length (match_ordering found (x ∷ y ∷ ys) (y ∷ ys) (y ∷ insert_key cmp ys x))
-      by_found Less behind = omega arith
-      by_found Equal behind = omega arith
-      by_found Greater behind = omega arith
+      by_found Less later = omega arith
+      by_found Equal later = omega arith
+      by_found Greater later = omega arith
 
   length_of_all_entered : (xs ys : List X) → length ys ≤ length (all_entered xs ys)
   length_of_all_entered [] ys = omega arith
@@ -102,8 +102,8 @@ module _ {X : Type 0} {cmp : X → X → Ordering} (total : IsTotalOrder cmp) (s
   first_kept k (y ∷ ys) = by_test (eq_by_cmp cmp y k) (first_kept k ys)
     where
       by_test : (b : Bool) → (rest : List X) × (once_from k ys ≡ k ∷ rest) → (rest : List X) × (cond b (once_from k ys) (k ∷ once_from y ys) ≡ k ∷ rest)
-      by_test true behind = behind
-      by_test false behind = (once_from y ys, refl)
+      by_test true later = later
+      by_test false later = (once_from y ys, refl)
 
   entered_before : (x k : X) (ys : List X) → cmp x k ≡ Less → insert_key cmp (once_from k ys) x ≡ x ∷ once_from k ys
   entered_before x k ys below =
@@ -129,13 +129,13 @@ module _ {X : Type 0} {cmp : X → X → Ordering} (total : IsTotalOrder cmp) (s
       dropped x y ys (turned x y Equal is) ∙ ap (λ k. once_from k ys) (same x y is) ∙ sym (entered_again x y ys is)
   in_front x y ys Greater is below = absurd (true≢false below)
 
-  -- what lies behind y, where y is above k
+  -- what lies after y, where y is above k
   still_above : (k x y : X) (found : Ordering) → cmp x k ≡ Greater → cmp x y ≡ found → is_gt found ≡ false → cmp y k ≡ Greater
   still_above k x y Less above is below = turned k y Less (total.trans k x y (turned x k Greater above) is)
   still_above k x y Equal above is below = sym (total.congr x y k is) ∙ above
   still_above k x y Greater above is below = absurd (true≢false below)
 
-  -- an element above k is inserted behind k's run as it is entered there
+  -- an element above k is inserted after k's run as it is entered there
   entered_above : (k x : X) (ys : List X) → cmp x k ≡ Greater → Ascends total (k ∷ ys) → once_from k (inserted cmp x ys) ≡ insert_key cmp (once_from k ys) x
   entered_above k x [] above up = kept k x [] (ap is_eq above) ∙ sym (entered_past x k [] above)
   entered_above k x (y ∷ ys) above up =
@@ -144,8 +144,8 @@ module _ {X : Type 0} {cmp : X → X → Ordering} (total : IsTotalOrder cmp) (s
       in_run : (b : Bool) → once_from k (inserted cmp x ys) ≡ insert_key cmp (once_from k ys) x
           → once_from y (inserted cmp x ys) ≡ insert_key cmp (once_from y ys) x
           → cond b (once_from k (inserted cmp x ys)) (k ∷ once_from y (inserted cmp x ys)) ≡ insert_key cmp (cond b (once_from k ys) (k ∷ once_from y ys)) x
-      in_run true behind_k behind_y = behind_k
-      in_run false behind_k behind_y = ap (λ l. k ∷ l) behind_y ∙ sym (entered_past x k (once_from y ys) above)
+      in_run true after_k after_y = after_k
+      in_run false after_k after_y = ap (λ l. k ∷ l) after_y ∙ sym (entered_past x k (once_from y ys) above)
 
       ahead : (found : Ordering) → cmp x y ≡ found → is_gt found ≡ false → once_from k (inserted cmp x (y ∷ ys)) ≡ insert_key cmp (once_from k (y ∷ ys)) x
       ahead found is below =
@@ -157,10 +157,10 @@ module _ {X : Type 0} {cmp : X → X → Ordering} (total : IsTotalOrder cmp) (s
       by_found : (found : Ordering) → cmp x y ≡ found → once_from k (inserted cmp x ys) ≡ insert_key cmp (once_from k ys) x
           → (cmp x y ≡ Greater → once_from y (inserted cmp x ys) ≡ insert_key cmp (once_from y ys) x)
           → once_from k (inserted cmp x (y ∷ ys)) ≡ insert_key cmp (once_from k (y ∷ ys)) x
-      by_found Less is behind_k behind_y = ahead Less is refl
-      by_found Equal is behind_k behind_y = ahead Equal is refl
-      by_found Greater is behind_k behind_y =
-          ap (once_from k) (goes_past x y ys is) ∙ in_run (eq_by_cmp cmp y k) behind_k (behind_y is)
+      by_found Less is after_k after_y = ahead Less is refl
+      by_found Equal is after_k after_y = ahead Equal is refl
+      by_found Greater is after_k after_y =
+          ap (once_from k) (goes_past x y ys is) ∙ in_run (eq_by_cmp cmp y k) after_k (after_y is)
 
   distinct_of_inserted : (x : X) (ys : List X) → Ascends total ys → dedup (eq_by_cmp cmp) (inserted cmp x ys) ≡ insert_key cmp (dedup (eq_by_cmp cmp) ys) x
   distinct_of_inserted x [] up = refl
@@ -201,8 +201,8 @@ values_told [] (e ∷ es) h = absurd (cc)
 values_told (d ∷ ds) [] h = absurd (cc)
 values_told (d ∷ ds) (e ∷ es) h =
     let first : value_row d ≡ value_row e = cc in
-    let behind : map value_row ds ≡ map value_row es = cc in
-    λ i. value_told d e first i ∷ values_told ds es behind i
+    let later : map value_row ds ≡ map value_row es = cc in
+    λ i. value_told d e first i ∷ values_told ds es later i
 
 weighted_told : (v w : Weighted) → weighted_row v ≡ weighted_row w → v ≡ w
 weighted_told v w h =
@@ -216,8 +216,8 @@ all_told [] (w ∷ ws) h = absurd (cc)
 all_told (v ∷ vs) [] h = absurd (cc)
 all_told (v ∷ vs) (w ∷ ws) h =
     let first : weighted_row v ≡ weighted_row w = cc in
-    let behind : map weighted_row vs ≡ map weighted_row ws = cc in
-    λ i. weighted_told v w first i ∷ all_told vs ws behind i
+    let later : map weighted_row vs ≡ map weighted_row ws = cc in
+    λ i. weighted_told v w first i ∷ all_told vs ws later i
 
 -- the sums of joined lists
 pub sums_of_both : (us vs : List Datum) → sums_of (us ++ vs) ≡ plus (sums_of us) (sums_of vs)
@@ -265,34 +265,34 @@ set_decided limit ds es more h = by_tests (nat_lt limit (length ds)) (nat_lt lim
 values_of_both : (vs ws : List Weighted) → values_of (vs ++ ws) ≡ values_of vs ++ values_of ws
 values_of_both vs ws = map-append (λ (w : Weighted). w.value) vs ws
 
-decided_by : (kind : TableKind) (limit : ℕ) (front other behind : List Weighted) → rows_by kind limit front ≡ rows_by kind limit other
-    → rows_by kind limit (front ++ behind) ≡ rows_by kind limit (other ++ behind)
-decided_by Sum limit front other behind h =
-    ap sum_rows (values_of_both front behind) ∙ sums_decided (values_of front) (values_of other) (values_of behind) h
-    ∙ sym (ap sum_rows (values_of_both other behind))
-decided_by Maximum limit front other behind h = ap (map weighted_row) (first_of_either greatest_total greatest_ties limit front other behind (all_told _ _ h))
-decided_by Minimum limit front other behind h = ap (map weighted_row) (first_of_either least_total least_ties limit front other behind (all_told _ _ h))
-decided_by Set limit front other behind h =
-    let either : (ws : List Weighted) → distinct compare (values_of (ws ++ behind)) ≡ all_entered compare (values_of behind) (distinct compare (values_of ws)) =
-    λ ws. ap (distinct compare) (values_of_both ws behind) ∙ distinct_of_either compare_total compare_ties (values_of ws) (values_of behind) in
+decided_by : (kind : TableKind) (limit : ℕ) (front other later : List Weighted) → rows_by kind limit front ≡ rows_by kind limit other
+    → rows_by kind limit (front ++ later) ≡ rows_by kind limit (other ++ later)
+decided_by Sum limit front other later h =
+    ap sum_rows (values_of_both front later) ∙ sums_decided (values_of front) (values_of other) (values_of later) h
+    ∙ sym (ap sum_rows (values_of_both other later))
+decided_by Maximum limit front other later h = ap (map weighted_row) (first_of_either greatest_total greatest_ties limit front other later (all_told _ _ h))
+decided_by Minimum limit front other later h = ap (map weighted_row) (first_of_either least_total least_ties limit front other later (all_told _ _ h))
+decided_by Set limit front other later h =
+    let either : (ws : List Weighted) → distinct compare (values_of (ws ++ later)) ≡ all_entered compare (values_of later) (distinct compare (values_of ws)) =
+    λ ws. ap (distinct compare) (values_of_both ws later) ∙ distinct_of_either compare_total compare_ties (values_of ws) (values_of later) in
     ap (set_rows limit) (either front)
-    ∙ set_decided limit (distinct compare (values_of front)) (distinct compare (values_of other)) (values_of behind) h
+    ∙ set_decided limit (distinct compare (values_of front)) (distinct compare (values_of other)) (values_of later) h
     ∙ sym (ap (set_rows limit) (either other))
-decided_by Collection limit front other behind h =
-    let either : (ws : List Weighted) → sorted compare (values_of (ws ++ behind)) ≡ all_inserted compare (values_of behind) (sorted compare (values_of ws)) =
-    λ ws. ap (sorted compare) (values_of_both ws behind) ∙ sorted_of_either compare_total compare_ties (values_of ws) (values_of behind) in
+decided_by Collection limit front other later h =
+    let either : (ws : List Weighted) → sorted compare (values_of (ws ++ later)) ≡ all_inserted compare (values_of later) (sorted compare (values_of ws)) =
+    λ ws. ap (sorted compare) (values_of_both ws later) ∙ sorted_of_either compare_total compare_ties (values_of ws) (values_of later) in
     ap (map value_row)
-    (either front ∙ ap (all_inserted compare (values_of behind)) (values_told (sorted compare (values_of front)) (sorted compare (values_of other)) h)
+    (either front ∙ ap (all_inserted compare (values_of later)) (values_told (sorted compare (values_of front)) (sorted compare (values_of other)) h)
     ∙ sym (either other))
 
 pub rows_decide : DecidedByRows
-rows_decide table front other behind h = decided_by table.kind table.limit front other behind h
+rows_decide table front other later h = decided_by table.kind table.limit front other later h
 
--- what stands behind may be put in front
-turned_round : (table : Declaration) (front behind : List Weighted) → rows_of table (front ++ behind) ≡ rows_of table (behind ++ front)
-turned_round table front behind = rows_in_any_order table (front ++ behind) (behind ++ front) (IsPermutation-append_comm front behind)
+-- what stands after may be put in front
+turned_round : (table : Declaration) (front later : List Weighted) → rows_of table (front ++ later) ≡ rows_of table (later ++ front)
+turned_round table front later = rows_in_any_order table (front ++ later) (later ++ front) (IsPermutation-append_comm front later)
 
 pub rows_join : JoinedByRows
-rows_join table front other behind beyond h k =
-    rows_decide table front other behind h ∙ turned_round table other behind
-    ∙ rows_decide table behind beyond other k ∙ turned_round table beyond other
+rows_join table front other later beyond h k =
+    rows_decide table front other later h ∙ turned_round table other later
+    ∙ rows_decide table later beyond other k ∙ turned_round table beyond other

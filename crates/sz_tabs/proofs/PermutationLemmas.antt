@@ -13,8 +13,8 @@ module _ {X : Type 0} (Alike : List X → List X → Type 0)
   to_place [] i x d within = absurd (omega arith)
   to_place (y ∷ xs) zero x d within = turned x y xs
   to_place (y ∷ xs) (suc i) x d within =
-      let behind = under y _ _ (to_place xs i x d (omega arith)) in
-      chained _ _ _ (turned x y xs) (chained _ _ _ behind (turned y (get_or xs i d) (set xs i x)))
+      let later = under y _ _ (to_place xs i x d (omega arith)) in
+      chained _ _ _ (turned x y xs) (chained _ _ _ later (turned y (get_or xs i d) (set xs i x)))
 
   exchanged : (xs : List X) (i j : ℕ) (d : X) → i < length xs → j < length xs → Alike xs (set (set xs i (get_or xs j d)) j (get_or xs i d))
   exchanged [] i j d first second = absurd (omega arith)

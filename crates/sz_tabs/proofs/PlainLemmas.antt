@@ -108,12 +108,12 @@ module _ (old new : Listing) (same : new.table ≡ old.table) where
   plain_joins other one_table kept = record {
     same_table = same;
     both_counts = ap length kept ∙ length-append old.emits other.emits;
-    joined = λ front behind stands beside. record {
+    joined = λ front later stands beside. record {
       rows =
           (λ i. rows_of (same i) (kept i))
-          ∙ rows_join old.table old.emits front other.emits behind stands.rows
-          (subst (λ t. rows_of t other.emits ≡ rows_of t behind) one_table beside.rows)
-          ∙ ap (λ t. rows_of t (front ++ behind)) (sym same);
-      counted = ap length kept ∙ length-append old.emits other.emits ∙ (λ i. stands.counted i + beside.counted i) ∙ sym (length-append front behind);
+          ∙ rows_join old.table old.emits front other.emits later stands.rows
+          (subst (λ t. rows_of t other.emits ≡ rows_of t later) one_table beside.rows)
+          ∙ ap (λ t. rows_of t (front ++ later)) (sym same);
+      counted = ap length kept ∙ length-append old.emits other.emits ∙ (λ i. stands.counted i + beside.counted i) ∙ sym (length-append front later);
     };
   }

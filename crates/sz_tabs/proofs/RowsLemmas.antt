@@ -77,10 +77,10 @@ none_of Collection limit = refl
 pub no_rows : (table : Declaration) → rows_of table [] ≡ []
 no_rows table = none_of table.kind table.limit
 
-pub brought_by_both : (table : ℕ) (indexes : List Datum) (front behind : List EmitDatum)
-    → brought_to table indexes (front ++ behind) ≡ brought_to table indexes front ++ brought_to table indexes behind
-brought_by_both table indexes front behind =
-    ap (map brought_by) (filter-append (went_to table indexes) front behind) ∙ map-append brought_by _ _
+pub brought_by_both : (table : ℕ) (indexes : List Datum) (front later : List EmitDatum)
+    → brought_to table indexes (front ++ later) ≡ brought_to table indexes front ++ brought_to table indexes later
+brought_by_both table indexes front later =
+    ap (map brought_by) (filter-append (went_to table indexes) front later) ∙ map-append brought_by _ _
 
 -- one emit more, to the table under the index list, and to another
 module _ (table : ℕ) (indexes : List Datum) (emits : List EmitDatum) (emit : EmitDatum) where

@@ -18,7 +18,7 @@ module _ {X : Type 0} {cmp : X → X → Ordering} (total : IsTotalOrder cmp) wh
   abbrev AtMost : X → X → Type 0
   AtMost x y = is_gt (cmp x y) ≡ false
 
-  -- each element is at most each one behind it
+  -- each element is at most each one after it
   abbrev pub Ascends : List X → Type 0
   Ascends [] = Unit {0}
   Ascends (x ∷ xs) = AllByRecursion (AtMost x) xs × Ascends xs
@@ -89,8 +89,8 @@ module _ {X : Type 0} {cmp : X → X → Ordering} (total : IsTotalOrder cmp) wh
   pub ascends : (xs : List X) → IsSorted cmp xs → Ascends xs
   ascends [] in_order = tt
   ascends (x ∷ xs) in_order =
-      let behind : IsSorted cmp xs = λ k d low within. rw add-one (rw add-one at (in_order (suc k) d (omega arith) (omega arith))) in
-      let up = ascends xs behind in
+      let later : IsSorted cmp xs = λ k d low within. rw add-one (rw add-one at (in_order (suc k) d (omega arith) (omega arith))) in
+      let up = ascends xs later in
       (at_most_all x xs in_order up, up)
 
   -- no two elements of which the first is above the other pass the test
@@ -110,8 +110,8 @@ module _ {X : Type 0} {cmp : X → X → Ordering} (total : IsTotalOrder cmp) wh
 
       by_test : (above : Bool) → is_gt (cmp x y) ≡ above → filter t (inserted cmp x ys) ≡ filter t (x ∷ ys)
           → filter t (cond above (y ∷ inserted cmp x ys) (x ∷ y ∷ ys)) ≡ filter t (x ∷ y ∷ ys)
-      by_test true above behind = ap (λ kept. cond (t y) (y ∷ kept) kept) behind ∙ either_order above (t x) (t y) refl refl (filter t ys)
-      by_test false above behind = refl
+      by_test true above later = ap (λ kept. cond (t y) (y ∷ kept) kept) later ∙ either_order above (t x) (t y) refl refl (filter t ys)
+      by_test false above later = refl
 
   filter_of_sorted : (t : X → Bool) → Apart t → (xs : List X) → filter t (sorted cmp xs) ≡ filter t xs
   filter_of_sorted t apart [] = refl
@@ -129,8 +129,8 @@ module _ {X : Type 0} {cmp : X → X → Ordering} (total : IsTotalOrder cmp) wh
       let level = sym (total.congr v x y (equal (cmp v x) a)) ∙ equal (cmp v y) b in
       absurd (true≢false (sym above ∙ ap is_gt level))
 
-  less_than_behind : (x y z : X) → cmp x y ≡ Less → AtMost y z → cmp x z ≡ Less
-  less_than_behind x y z less h = by_found (cmp y z) refl h
+  less_than_after : (x y z : X) → cmp x y ≡ Less → AtMost y z → cmp x z ≡ Less
+  less_than_after x y z less h = by_found (cmp y z) refl h
     where
       by_found : (found : Ordering) → cmp y z ≡ found → is_gt found ≡ false → cmp x z ≡ Less
       by_found Less is h = total.trans x y z less is
@@ -143,7 +143,7 @@ module _ {X : Type 0} {cmp : X → X → Ordering} (total : IsTotalOrder cmp) wh
 
   -- what is below the head of an ascending list ties with none of it
   below_all : (v y : X) (ys : List X) → cmp v y ≡ Less → AllByRecursion (AtMost y) ys → filter (eq_by_cmp cmp v) (y ∷ ys) ≡ []
-  below_all v y ys less up = none_tie v (y ∷ ys) (less, all_weaker (AtMost y) (λ z. cmp v z ≡ Less) (λ z. less_than_behind v y z less) ys up)
+  below_all v y ys less up = none_tie v (y ∷ ys) (less, all_weaker (AtMost y) (λ z. cmp v z ≡ Less) (λ z. less_than_after v y z less) ys up)
 
   first_ties : (v y : X) (ys : List X) → cmp v y ≡ Equal → filter (eq_by_cmp cmp v) (y ∷ ys) ≡ y ∷ filter (eq_by_cmp cmp v) ys
   first_ties v y ys tie = rw tie
@@ -178,8 +178,8 @@ module _ {X : Type 0} {cmp : X → X → Ordering} (total : IsTotalOrder cmp) wh
   one_order (y ∷ ys) [] left right alike = let kept = sym (alike y) ∙ first_ties y y ys (tied_itself total y) in cc
   one_order (y ∷ ys) (z ∷ zs) left right alike =
       let same = same_head y z ys zs left right alike in
-      let behind = tails_alike y ys zs (subst (λ w. TieAlike (y ∷ ys) (w ∷ zs)) (sym same) alike) in
-      λ i. same i ∷ one_order ys zs left.1 right.1 behind i
+      let later = tails_alike y ys zs (subst (λ w. TieAlike (y ∷ ys) (w ∷ zs)) (sym same) alike) in
+      λ i. same i ∷ one_order ys zs left.1 right.1 later i
 
   neither_less : (x y : X) → (not (is_lt (cmp x y)) && not (is_lt (cmp y x))) ≡ eq_by_cmp cmp x y
   neither_less x y = by_found (cmp x y) refl
@@ -236,10 +236,10 @@ module _ {X : Type 0} {cmp : X → X → Ordering} (total : IsTotalOrder cmp) wh
       where
         by_tests : (p q : Bool) → is_gt (cmp x z) ≡ p → is_gt (cmp y z) ≡ q → inserted cmp x (inserted cmp y zs) ≡ inserted cmp y (inserted cmp x zs)
             → inserted cmp x (inserted cmp y (z ∷ zs)) ≡ inserted cmp y (inserted cmp x (z ∷ zs))
-        by_tests true true p q behind = simp (p, q) (ap (λ l. z ∷ l) behind)
-        by_tests true false p q behind = simp (p, q, above_both x y z p q)
-        by_tests false true p q behind = simp (p, q, above_both y x z q p)
-        by_tests false false p q behind = simp (p, q) (front x y (z ∷ zs))
+        by_tests true true p q later = simp (p, q) (ap (λ l. z ∷ l) later)
+        by_tests true false p q later = simp (p, q, above_both x y z p q)
+        by_tests false true p q later = simp (p, q, above_both y x z q p)
+        by_tests false false p q later = simp (p, q) (front x y (z ∷ zs))
 
     -- the order of the elements can't be seen
     pub sorted_in_any_order : (xs ys : List X) → IsPermutation xs ys → sorted cmp xs ≡ sorted cmp ys
@@ -270,8 +270,8 @@ inserted_mapped cmp f x (y ∷ ys) = by_test (is_gt (cmp (f x) (f y))) (inserted
   where
     by_test : (b : Bool) → inserted cmp (f x) (map f ys) ≡ map f (inserted (on f cmp) x ys)
         → cond b (f y ∷ inserted cmp (f x) (map f ys)) (f x ∷ f y ∷ map f ys) ≡ map f (cond b (y ∷ inserted (on f cmp) x ys) (x ∷ y ∷ ys))
-    by_test true behind = ap (λ l. f y ∷ l) behind
-    by_test false behind = refl
+    by_test true later = ap (λ l. f y ∷ l) later
+    by_test false later = refl
 
 -- what is sorted by what a function gives, is sorted after the function
 pub sorted_mapped : {X Y : Type 0} (cmp : Y → Y → Ordering) (f : X → Y) (xs : List X) → sorted cmp (map f xs) ≡ map f (sorted (on f cmp) xs)

@@ -21,7 +21,7 @@ module _ {S : Type 0} (declaration : S → Declaration) (count : S → ℕ) (sho
     pub declared : declaration s ≡ table
     pub empty : StandsFor s []
 
-  -- The new aggregator stands for each list that the old one stands for, with this emit behind it.
+  -- The new aggregator stands for each list that the old one stands for, with this emit after it.
   pub record Gains (old new : S) (emit : Weighted) : Type 0 where
     pub same_table : declaration new ≡ declaration old
     pub one_more : count new ≡ count old + 1
@@ -31,4 +31,4 @@ module _ {S : Type 0} (declaration : S → Declaration) (count : S → ℕ) (sho
   pub record Joins (old other new : S) : Type 0 where
     pub same_table : declaration new ≡ declaration old
     pub both_counts : count new ≡ count old + count other
-    pub joined : (front behind : List Weighted) → StandsFor old front → StandsFor other behind → StandsFor new (front ++ behind)
+    pub joined : (front later : List Weighted) → StandsFor old front → StandsFor other later → StandsFor new (front ++ later)

@@ -11,7 +11,7 @@ abbrev pub AreWithin : ℕ → List ℤ → Type 0
 AreWithin most [] = Unit {0}
 AreWithin most (n ∷ ns) = IsWithin most n × AreWithin most ns
 
--- the numbers with one more added to that at a place, or behind the last one
+-- the numbers with one more added to that at a place, or after the last one
 abbrev pub added_at : ℕ → ℤ → List ℤ → List ℤ
 added_at at n [] = n ∷ []
 added_at zero n (m ∷ ms) = (m +ℤ n) ∷ ms

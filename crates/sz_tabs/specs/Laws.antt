@@ -27,11 +27,11 @@ ForgetsOrder = (table : Declaration) (first second : List Weighted) → IsPermut
 -- lists with the same rows still have the same rows after the same further emits
 abbrev pub DecidedByRows : Type 0
 DecidedByRows =
-    (table : Declaration) (front other behind : List Weighted) → rows_of table front ≡ rows_of table other
-    → rows_of table (front ++ behind) ≡ rows_of table (other ++ behind)
+    (table : Declaration) (front other later : List Weighted) → rows_of table front ≡ rows_of table other
+    → rows_of table (front ++ later) ≡ rows_of table (other ++ later)
 
 -- joined lists have the rows that lists with the same rows have, joined
 abbrev pub JoinedByRows : Type 0
 JoinedByRows =
-    (table : Declaration) (front other behind beyond : List Weighted) → rows_of table front ≡ rows_of table other
-    → rows_of table behind ≡ rows_of table beyond → rows_of table (front ++ behind) ≡ rows_of table (other ++ beyond)
+    (table : Declaration) (front other later beyond : List Weighted) → rows_of table front ≡ rows_of table other
+    → rows_of table later ≡ rows_of table beyond → rows_of table (front ++ later) ≡ rows_of table (other ++ beyond)

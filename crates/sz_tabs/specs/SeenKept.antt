@@ -10,10 +10,10 @@ use Rattle.sz_tabs.specs.declared.plain.Kept.{Kept}
 abbrev pub seen_kept : Kept → Weighted
 seen_kept kept = record { value = seen kept.value; weight = kept.weight }
 
--- the same of a value behind its weight
+-- the same of a value after its weight
 abbrev pub seen_least : Option ℤ × Value → Weighted
 seen_least p = record { value = seen p.1; weight = p.0 }
 
--- the same of a value behind its weight turned round
+-- the same of a value after its weight turned round
 abbrev pub seen_greatest : Reverse (Option ℤ) × Value → Weighted
 seen_greatest p = record { value = seen p.1; weight = p.0.0 }

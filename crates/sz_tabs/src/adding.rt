@@ -48,7 +48,7 @@ fn add_parts(sums: &mut Vec<i128>, parts: &[Value]) -> Result<(), NoMemory>
     Ok(())
 }
 
-// Adds a number to the sum at a place, or puts it behind the last one.
+// Adds a number to the sum at a place, or puts it after the last one.
 fn add_at(sums: &mut Vec<i128>, at: usize, number: i128) -> Result<(), NoMemory>
     requires place { at ≤ vec_len sums.old }
     requires within { AreWithin (2 ^ 126 + 2 ^ 63) sums.old.items }

@@ -29,8 +29,8 @@ pub fn nothing_has_no_rows()
 /// What two lists of emits bring to a table under an index list is what the one brings and then what the other brings.
 #[tactic(auto, using(crate::proofs::RowsLemmas::brought_by_both))]
 pub fn emits_join()
-    ensures joined { (table : ℕ) (indexes : List Datum) (front behind : List EmitDatum)
-        → brought_to table indexes (front ++ behind) ≡ brought_to table indexes front ++ brought_to table indexes behind }
+    ensures joined { (table : ℕ) (indexes : List Datum) (front later : List EmitDatum)
+        → brought_to table indexes (front ++ later) ≡ brought_to table indexes front ++ brought_to table indexes later }
 {}
 
 /// The rows are the same in whatever order the emits came.

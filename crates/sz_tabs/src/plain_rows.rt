@@ -139,7 +139,7 @@ fn by_greatest(alloc: Global, kept: &[Kept]) -> Result<Vec<(Reverse<Option<i64>>
     Ok(falling)
 }
 
-// A copy of each value behind its weight turned round.
+// A copy of each value after its weight turned round.
 fn copied_for_greatest(
     alloc: Global,
     kept: &[Kept],
@@ -180,7 +180,7 @@ fn by_least(alloc: Global, kept: &[Kept]) -> Result<Vec<(Option<i64>, Value)>, N
     Ok(rising)
 }
 
-// A copy of each value behind its weight.
+// A copy of each value after its weight.
 fn copied_for_least(alloc: Global, kept: &[Kept]) -> Result<Vec<(Option<i64>, Value)>, NoMemory>
     ensures value { IfOk result (λ copied. map seen_least copied.items ≡ map seen_kept kept.now) }
 {

@@ -182,10 +182,10 @@ found_last test (h ∷ hs) k a same none = by_test (test h.0) none (found_last t
   where
     by_test : (b : Bool) → cond b (Some h.1) (lookup test hs) ≡ None → (lookup test hs ≡ None → lookup test (hs ++ (k, a) ∷ []) ≡ Some a)
         → cond b (Some h.1) (lookup test (hs ++ (k, a) ∷ [])) ≡ Some a
-    by_test true none behind = absurd (cc)
-    by_test false none behind = behind none
+    by_test true none later = absurd (cc)
+    by_test false none later = later none
 
--- a new aggregator takes the emit, and stands behind the others
+-- a new aggregator takes the emit, and stands after the others
 module _ (table : Declaration) (emit : EmitDatum) (held : Held) (old new : Aggregate) (none : lookup (same_indexes emit.indexes) held ≡ None)
     (is_new : IsNew declaration_of count_of shown_of table old) (is_of : family_of old ≡ family_for table.kind)
     (gains : Gains declaration_of count_of shown_of old new (brought_by emit)) (family : family_of new ≡ family_of old)

@@ -181,8 +181,8 @@ are_ready table mine yours count few own (o ∷ os) are beside room = (
 -- what taking one aggregator of the other side does to those of a table
 record IsTakenAt (table : Declaration) (count : ℕ) (indexes : List Datum) (other : Aggregate) (old new : Held) : Type 0 where
   lists : (rest : List (List Datum)) → distinct compare_indexes (keys_of new ++ rest) ≡ distinct compare_indexes (keys_of old ++ indexes ∷ rest)
-  here : (front behind : List Weighted) → rows_held old indexes ≡ rows_of table front → shown_of other ≡ rows_of table behind
-      → rows_held new indexes ≡ rows_of table (front ++ behind)
+  here : (front later : List Weighted) → rows_held old indexes ≡ rows_of table front → shown_of other ≡ rows_of table later
+      → rows_held new indexes ≡ rows_of table (front ++ later)
   elsewhere : (others : List Datum) → same_indexes indexes others ≡ false → lookup (same_indexes others) new ≡ lookup (same_indexes others) old
   held : AreHeld table count new
 
@@ -194,11 +194,11 @@ module _ (table : Declaration) (count : ℕ) (indexes : List Datum) (other : Agg
     lists = λ rest.
         ap (λ l. distinct compare_indexes (l ++ rest)) (map-append (λ (p : List Datum × Aggregate). p.0) held ((indexes, other) ∷ []))
         ∙ ap (distinct compare_indexes) (append_assoc (keys_of held) (indexes ∷ []) rest);
-    here = λ front behind before beside.
+    here = λ front later before beside.
         ap (λ found. option_map_or shown_of found []) (found_last (same_indexes indexes) held indexes other (same_laws.refl indexes) none)
         ∙ beside
         ∙ sym
-        (rows_decide table front [] behind
+        (rows_decide table front [] later
         (sym before ∙ ap (λ found. option_map_or shown_of found []) none ∙ sym (no_rows table)));
     elsewhere = λ others apart. found_in_front (same_indexes others) held indexes other (same_laws.symm others indexes ∙ apart);
     held =
@@ -223,12 +223,12 @@ module _ (table : Declaration) (count : ℕ) (indexes : List Datum) (other : Agg
     short = All-append (λ (w : Weighted). HasShortLengths w.value) mine.emits is.emits mine.short is.short;
   }
 
-  rows_joined : (front behind : List Weighted) → rows_held held indexes ≡ rows_of table front → shown_of other ≡ rows_of table behind
-      → shown_of now ≡ rows_of table (front ++ behind)
+  rows_joined : (front later : List Weighted) → rows_held held indexes ≡ rows_of table front → shown_of other ≡ rows_of table later
+      → shown_of now ≡ rows_of table (front ++ later)
   unfolding held_joined
-  rows_joined front behind before beside =
+  rows_joined front later before beside =
       held_joined.stands.rows ∙ ap (λ d. rows_of d (mine.emits ++ is.emits)) held_joined.declared
-      ∙ rows_join table mine.emits front is.emits behind
+      ∙ rows_join table mine.emits front is.emits later
       (ap (λ d. rows_of d mine.emits) (sym mine.declared) ∙ sym mine.stands.rows ∙ ap (λ found. option_map_or shown_of found []) (sym there) ∙ before)
       (ap (λ d. rows_of d is.emits) (sym is.declared) ∙ sym is.stands.rows ∙ beside)
 
@@ -242,11 +242,11 @@ module _ (table : Declaration) (count : ℕ) (indexes : List Datum) (other : Agg
         ∙ sym (distinct_of_more (keys_of held) indexes))
         ∙ sym (distinct_of_either indexes_total indexes_tie (keys_of held ++ indexes ∷ []) rest)
         ∙ ap (distinct compare_indexes) (append_assoc (keys_of held) (indexes ∷ []) rest);
-    here = λ front behind before beside.
+    here = λ front later before beside.
         ap (λ found. option_map_or shown_of found [])
         (found_replaced indexes indexes held own now there
         ∙ ap (λ b. cond b (Some now) (lookup (same_indexes indexes) held)) (same_laws.refl indexes))
-        ∙ rows_joined front behind before beside;
+        ∙ rows_joined front later before beside;
     elsewhere = λ others apart.
         found_replaced indexes others held own now there ∙ ap (λ b. cond b (Some now) (lookup (same_indexes others) held)) apart;
     held = All-values-set_value (same_indexes indexes) (IsHeld table count) held now are held_joined;
@@ -297,21 +297,21 @@ IsTaken (o ∷ os) old new = (mid : Held) × TakesOne o.0 o.1 old mid × IsTaken
 module _ (table : Declaration) (count : ℕ) (indexes : List Datum) (other : Aggregate) (os old mid new : Held)
     (apart : AllByRecursion (λ l. same_indexes indexes l ≡ false) (keys_of os)) (step : IsTakenAt table count indexes other old mid)
     (rest : TakesAll table count os mid new) where
-  rows_taken : (others : List Datum) (front behind : List Weighted) → rows_held old others ≡ rows_of table front
-      → rows_held ((indexes, other) ∷ os) others ≡ rows_of table behind → rows_held new others ≡ rows_of table (front ++ behind)
-  rows_taken others front behind before beside = by_test (same_indexes others indexes) refl beside
+  rows_taken : (others : List Datum) (front later : List Weighted) → rows_held old others ≡ rows_of table front
+      → rows_held ((indexes, other) ∷ os) others ≡ rows_of table later → rows_held new others ≡ rows_of table (front ++ later)
+  rows_taken others front later before beside = by_test (same_indexes others indexes) refl beside
     where
       by_test : (b : Bool) → same_indexes others indexes ≡ b
-          → option_map_or shown_of (cond b (Some other) (lookup (same_indexes others) os)) [] ≡ rows_of table behind
-          → rows_held new others ≡ rows_of table (front ++ behind)
+          → option_map_or shown_of (cond b (Some other) (lookup (same_indexes others) os)) [] ≡ rows_of table later
+          → rows_held new others ≡ rows_of table (front ++ later)
       by_test true same beside =
           let is = same_is others indexes same in
-          rest.rows others (front ++ behind) []
-          (ap (rows_held mid) is ∙ step.here front behind (ap (rows_held old) (sym is) ∙ before) beside)
+          rest.rows others (front ++ later) []
+          (ap (rows_held mid) is ∙ step.here front later (ap (rows_held old) (sym is) ∙ before) beside)
           (ap (rows_held os) is ∙ ap (λ found. option_map_or shown_of found []) (absent indexes os apart) ∙ sym (no_rows table))
-          ∙ ap (rows_of table) (append-nil (front ++ behind))
+          ∙ ap (rows_of table) (append-nil (front ++ later))
       by_test false same beside =
-          rest.rows others front behind
+          rest.rows others front later
           (ap (λ found. option_map_or shown_of found []) (step.elsewhere others (same_laws.symm indexes others ∙ same)) ∙ before) beside
 
   takes_more : TakesAll table count ((indexes, other) ∷ os) old new
@@ -320,9 +320,9 @@ module _ (table : Declaration) (count : ℕ) (indexes : List Datum) (other : Agg
 takes_none : (table : Declaration) (count : ℕ) (old new : Held) → new ≡ old → AreHeld table count old → TakesAll table count [] old new
 takes_none table count old new same are = record {
   indexes = ap (λ h. distinct compare_indexes (keys_of h)) same ∙ ap (distinct compare_indexes) (sym (append-nil (keys_of old)));
-  rows = λ indexes front behind before beside.
+  rows = λ indexes front later before beside.
       ap (λ h. rows_held h indexes) same ∙ before ∙ ap (rows_of table) (sym (append-nil front))
-      ∙ rows_join table front front [] behind refl (no_rows table ∙ beside);
+      ∙ rows_join table front front [] later refl (no_rows table ∙ beside);
   held = subst (AreHeld table count) (sym same) are;
 }
 
@@ -339,32 +339,32 @@ takes_all table count (o ∷ os) apart old new taken are beside ready =
 -- joined lists have the distinct elements of lists with the same ones
 distinct_joined : (xs us ys vs : List (List Datum)) → distinct compare_indexes xs ≡ distinct compare_indexes us
     → distinct compare_indexes ys ≡ distinct compare_indexes vs → distinct compare_indexes (xs ++ ys) ≡ distinct compare_indexes (us ++ vs)
-distinct_joined xs us ys vs front behind =
-    distinct_of_both indexes_total indexes_tie xs ys ∙ ap (all_entered compare_indexes xs) behind
+distinct_joined xs us ys vs front later =
+    distinct_of_both indexes_total indexes_tie xs ys ∙ ap (all_entered compare_indexes xs) later
     ∙ sym (distinct_of_both indexes_total indexes_tie xs vs) ∙ distinct_of_either indexes_total indexes_tie xs vs
     ∙ ap (all_entered compare_indexes vs) front ∙ sym (distinct_of_either indexes_total indexes_tie us vs)
 
 -- where all aggregators of the other side were taken, the rows are those of the emits of both
-module _ (number : ℕ) (table : Declaration) (front behind : List EmitDatum) (count : ℕ) (others old new : Held)
+module _ (number : ℕ) (table : Declaration) (front later : List EmitDatum) (count : ℕ) (others old new : Held)
     (takes : TakesAll table count others old new) (before : rows_in_order old ≡ table_rows number table front)
-    (beside : rows_in_order others ≡ table_rows number table behind) where
-  indexes_of_both : indexes_to number (front ++ behind) ≡ indexes_to number front ++ indexes_to number behind
+    (beside : rows_in_order others ≡ table_rows number table later) where
+  indexes_of_both : indexes_to number (front ++ later) ≡ indexes_to number front ++ indexes_to number later
   indexes_of_both =
-      ap (map (λ (e : EmitDatum). e.indexes)) (filter-append (λ (e : EmitDatum). nat_eq e.table number) front behind)
+      ap (map (λ (e : EmitDatum). e.indexes)) (filter-append (λ (e : EmitDatum). nat_eq e.table number) front later)
       ∙ map-append (λ (e : EmitDatum). e.indexes) (filter (λ (e : EmitDatum). nat_eq e.table number) front) _
 
-  lists : distinct compare_indexes (keys_of new) ≡ distinct compare_indexes (indexes_to number (front ++ behind))
+  lists : distinct compare_indexes (keys_of new) ≡ distinct compare_indexes (indexes_to number (front ++ later))
   lists =
       takes.indexes
-      ∙ distinct_joined (keys_of old) (indexes_to number front) (keys_of others) (indexes_to number behind)
-      (lists_stand number table front old before) (lists_stand number table behind others beside)
+      ∙ distinct_joined (keys_of old) (indexes_to number front) (keys_of others) (indexes_to number later)
+      (lists_stand number table front old before) (lists_stand number table later others beside)
       ∙ ap (distinct compare_indexes) (sym indexes_of_both)
 
-  under : (indexes : List Datum) → rows_held new indexes ≡ rows_of table (brought_to number indexes (front ++ behind))
+  under : (indexes : List Datum) → rows_held new indexes ≡ rows_of table (brought_to number indexes (front ++ later))
   under indexes =
-      takes.rows indexes (brought_to number indexes front) (brought_to number indexes behind) (rows_stand number table front old before indexes)
-      (rows_stand number table behind others beside indexes)
-      ∙ ap (rows_of table) (sym (brought_by_both number indexes front behind))
+      takes.rows indexes (brought_to number indexes front) (brought_to number indexes later) (rows_stand number table front old before indexes)
+      (rows_stand number table later others beside indexes)
+      ∙ ap (rows_of table) (sym (brought_by_both number indexes front later))
 
-  pub rows_of_both : rows_in_order new ≡ table_rows number table (front ++ behind)
+  pub rows_of_both : rows_in_order new ≡ table_rows number table (front ++ later)
   rows_of_both = (λ i. map (λ indexes. record { indexes = indexes; rows = under indexes i }) (lists i))

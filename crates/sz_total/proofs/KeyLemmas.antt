@@ -30,21 +30,21 @@ pub lists_compare : (xs ys : List Value) → slice_cmp (λ v w. compare (seen v)
 lists_compare xs ys = sym (lex_map seen compare xs ys)
 
 -- an index list in front has no rows under others
-rows_behind : (key : List Datum) (a : Aggregate) (held : Held) (ks : List (List Datum)) → AllByRecursion (λ l. same_indexes key l ≡ false) ks
+rows_later : (key : List Datum) (a : Aggregate) (held : Held) (ks : List (List Datum)) → AllByRecursion (λ l. same_indexes key l ≡ false) ks
     → map (indexed ((key, a) ∷ held)) ks ≡ map (indexed held) ks
-rows_behind key a held [] apart = refl
-rows_behind key a held (k ∷ ks) apart =
+rows_later key a held [] apart = refl
+rows_later key a held (k ∷ ks) apart =
     let other = same_laws.symm k key ∙ apart.0 in
-    λ i. record { indexes = k; rows = option_map_or shown_of (cond (other i) (Some a) (lookup (same_indexes k) held)) [] } ∷ rows_behind key a held ks apart.1 i
+    λ i. record { indexes = k; rows = option_map_or shown_of (cond (other i) (Some a) (lookup (same_indexes k) held)) [] } ∷ rows_later key a held ks apart.1 i
 
 -- what stands under each index list is what its aggregator shows, where no two index lists are the same
 pub entries_indexed : (held : Held) → IsDistinct same_indexes (keys_of held) → map entry_rows held ≡ map (indexed held) (keys_of held)
 entries_indexed [] apart = refl
 entries_indexed (h ∷ hs) apart =
     let same = same_laws.refl h.0 in
-    let behind = entries_indexed hs (IsDistinct-tail same_indexes h.0 (keys_of hs) apart)
-    ∙ sym (rows_behind h.0 h.1 hs (keys_of hs) (IsDistinct-head same_indexes h.0 (keys_of hs) apart)) in
-    λ i. record { indexes = h.0; rows = option_map_or shown_of (cond (sym same i) (Some h.1) (lookup (same_indexes h.0) hs)) [] } ∷ behind i
+    let later = entries_indexed hs (IsDistinct-tail same_indexes h.0 (keys_of hs) apart)
+    ∙ sym (rows_later h.0 h.1 hs (keys_of hs) (IsDistinct-head same_indexes h.0 (keys_of hs) apart)) in
+    λ i. record { indexes = h.0; rows = option_map_or shown_of (cond (sym same i) (Some h.1) (lookup (same_indexes h.0) hs)) [] } ∷ later i
 
 -- how rows compare by their index lists
 abbrev pub rows_order : Indexed → Indexed → Ordering

@@ -52,12 +52,12 @@ among_entered indexes (l ∷ ls) more = by_found (compare_indexes more l) refl (
         → is_among indexes (insert_key compare_indexes ls more) ≡ (same_indexes indexes more || is_among indexes ls)
         → is_among indexes (match_ordering found (more ∷ l ∷ ls) (l ∷ ls) (l ∷ insert_key compare_indexes ls more))
         ≡ (same_indexes indexes more || is_among indexes (l ∷ ls))
-    by_found Less is behind = refl
-    by_found Equal is behind =
+    by_found Less is later = refl
+    by_found Equal is later =
         twice (same_indexes indexes l) (is_among indexes ls)
         ∙ ap (λ m. same_indexes indexes m || is_among indexes (l ∷ ls)) (sym (indexes_tie more l is))
-    by_found Greater is behind =
-        ap (λ b. same_indexes indexes l || b) behind ∙ either_way (same_indexes indexes l) (same_indexes indexes more) (is_among indexes ls)
+    by_found Greater is later =
+        ap (λ b. same_indexes indexes l || b) later ∙ either_way (same_indexes indexes l) (same_indexes indexes more) (is_among indexes ls)
 
 -- the distinct index lists are those of the list
 pub among_distinct : (indexes : List Datum) (lists : List (List Datum)) → is_among indexes (distinct compare_indexes lists) ≡ is_among indexes lists
@@ -86,14 +86,14 @@ entered_there (l ∷ ls) again there = by_test (same_indexes again l) refl there
     by_test : (b : Bool) → same_indexes again l ≡ b → (b || is_among again ls) ≡ true
         → (is_among again ls ≡ true → enters again (distinct compare_indexes ls) ≡ distinct compare_indexes ls)
         → enters again (distinct compare_indexes (l ∷ ls)) ≡ distinct compare_indexes (l ∷ ls)
-    by_test true same there behind =
+    by_test true same there later =
         ap (enters again) first ∙ ap (λ x. enters x (enters l (distinct compare_indexes ls))) (same_is again l same)
         ∙ entered_again compare_indexes (distinct compare_indexes ls) l ((Equal-is (compare_indexes l l)).0 (same_laws.refl l)) ∙ sym first
-    by_test false same there behind =
+    by_test false same there later =
         ap (enters again) first ∙ sym (distinct_of_both indexes_total indexes_tie (again ∷ l ∷ []) ls)
         ∙ ap (dedup (eq_by_cmp compare_indexes))
         (sorted_in_any_order indexes_total indexes_tie (again ∷ l ∷ ls) (l ∷ again ∷ ls) (IsPermutation-middle (again ∷ []) l ls))
-        ∙ distinct_of_both indexes_total indexes_tie (l ∷ again ∷ []) ls ∙ ap (enters l) (behind there) ∙ sym first
+        ∙ distinct_of_both indexes_total indexes_tie (l ∷ again ∷ []) ls ∙ ap (enters l) (later there) ∙ sym first
 
 -- where no two are the same they are the distinct ones
 pub distinct_apart : (lists : List (List Datum)) → IsDistinct same_indexes lists → distinct compare_indexes lists ≡ sorted compare_indexes lists
@@ -124,8 +124,8 @@ module _ (rows : List Datum → List RowDatum) where
     where
       by_test : (b : Bool) → same_indexes indexes l ≡ b → rows_among (rows_for ls) indexes ≡ cond (is_among indexes ls) (rows indexes) []
           → cond b (rows l) (rows_among (rows_for ls) indexes) ≡ cond (b || is_among indexes ls) (rows indexes) []
-      by_test true same behind = ap rows (sym (same_is indexes l same))
-      by_test false same behind = behind
+      by_test true same later = ap rows (sym (same_is indexes l same))
+      by_test false same later = later
 
   -- where others have no rows these are the rows of every index list
   pub all_rows_for : (lists : List (List Datum)) → ((indexes : List Datum) → is_among indexes lists ≡ false → rows indexes ≡ [])
@@ -153,15 +153,15 @@ nothing_brought table indexes (e ∷ es) not_there = by_table (nat_eq e.table ta
     by_same : (b : Bool) → same_indexes indexes e.indexes ≡ b → (b || is_among indexes (indexes_to table es)) ≡ false
         → (is_among indexes (indexes_to table es) ≡ false → brought_to table indexes es ≡ [])
         → map brought_by (cond (is_eq (compare_indexes e.indexes indexes)) (e ∷ went) went) ≡ []
-    by_same true same none behind = absurd (true≢false none)
-    by_same false same none behind =
-        ap (λ b. map brought_by (cond b (e ∷ went) went)) (same_laws.symm e.indexes indexes ∙ same) ∙ behind none
+    by_same true same none later = absurd (true≢false none)
+    by_same false same none later =
+        ap (λ b. map brought_by (cond b (e ∷ went) went)) (same_laws.symm e.indexes indexes ∙ same) ∙ later none
 
     by_table : (b : Bool) → is_among indexes (map (λ (e : EmitDatum). e.indexes) (cond b (e ∷ to_table) to_table)) ≡ false
         → (is_among indexes (indexes_to table es) ≡ false → brought_to table indexes es ≡ [])
         → map brought_by (cond (b && is_eq (compare_indexes e.indexes indexes)) (e ∷ went) went) ≡ []
-    by_table true none behind = by_same (same_indexes indexes e.indexes) refl none behind
-    by_table false none behind = behind none
+    by_table true none later = by_same (same_indexes indexes e.indexes) refl none later
+    by_table false none later = later none
 
 -- the rows of a table under every index list
 pub rows_of_table : (table : ℕ) (declaration : Declaration) (emits : List EmitDatum) (indexes : List Datum)

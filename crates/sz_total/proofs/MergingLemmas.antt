@@ -67,7 +67,7 @@ module _ (table : Declaration) (mine yours : ℕ) (held others : Held) (are : Ar
         (record {
           same_table = refl;
           both_counts = refl;
-          rows = λ number front behind before after. rows_of_both number table front behind (mine + yours) others held new takes before after;
+          rows = λ number front later before after. rows_of_both number table front later (mine + yours) others held new takes before after;
         }))
 
 -- what is known of both tables before a merge
@@ -116,9 +116,9 @@ at_length : {X : Type 0} (xs : List X) (y : X) (rest : List X) → slice_get (xs
 at_length [] y rest = refl
 at_length (x ∷ xs) y rest = at_length xs y rest
 
--- what stands behind a list is at the place of its length
-pub found_behind : {X : Type 0} (xs : List X) (y : X) (rest all : List X) (at : ℕ) → at ≡ length xs → xs ++ y ∷ rest ≡ all → slice_get all at ≡ Some y
-found_behind xs y rest all at place is = ap (slice_get all) place ∙ ap (λ l. slice_get l (length xs)) (sym is) ∙ at_length xs y rest
+-- what stands after a list is at the place of its length
+pub found_after : {X : Type 0} (xs : List X) (y : X) (rest all : List X) (at : ℕ) → at ≡ length xs → xs ++ y ∷ rest ≡ all → slice_get all at ≡ Some y
+found_after xs y rest all at place is = ap (slice_get all) place ∙ ap (λ l. slice_get l (length xs)) (sym is) ∙ at_length xs y rest
 
 -- the other side has a table at each place, with the same declaration
 pub matched_at : (held others : List TableState) → AreMatched held others → (at : ℕ) (other : TableState) → slice_get others at ≡ Some other
@@ -333,20 +333,20 @@ module _ (tables : List Declaration) (mine yours : ℕ) (first held others new :
       get_or_from_slice_get (map table_shown held) at (table_shown s) []
       (slice_get-map table_shown held at ∙ ap (option_map table_shown) there)
 
-  rows_joined : (front behind : List EmitDatum) → StandsFor declarations emit_count shown (state_of tables mine first) front
-      → StandsFor declarations emit_count shown (state_of tables yours others) behind → (table : ℕ) (declaration : Declaration)
+  rows_joined : (front later : List EmitDatum) → StandsFor declarations emit_count shown (state_of tables mine first) front
+      → StandsFor declarations emit_count shown (state_of tables yours others) later → (table : ℕ) (declaration : Declaration)
       → slice_get tables table ≡ Some declaration
-      → slice_index_or (map table_shown new) table [] ≡ table_rows table declaration (front ++ behind)
-  rows_joined front behind stands theirs table declaration declared =
+      → slice_index_or (map table_shown new) table [] ≡ table_rows table declaration (front ++ later)
+  rows_joined front later stands theirs table declaration declared =
       let own = held_at tables held now_are.declared table declaration declared in
       let other = held_at tables others beside.declared table declaration declared in
       let now = joins.joined table own.0 other.0 own.1 other.1 in
       shown_there new table now.0 now.1
-      ∙ now.2.rows table front behind
+      ∙ now.2.rows table front later
       (sym (shown_there held table own.0 own.1) ∙ ap (λ l. slice_index_or l table []) kept.rows ∙ stands.rows table declaration declared
       ∙ ap (λ d. table_rows table d front) (sym own.2))
-      (sym (shown_there others table other.0 other.1) ∙ theirs.rows table declaration declared ∙ ap (λ d. table_rows table d behind) (sym own.2))
-      ∙ ap (λ d. table_rows table d (front ++ behind)) own.2
+      (sym (shown_there others table other.0 other.1) ∙ theirs.rows table declaration declared ∙ ap (λ d. table_rows table d later) (sym own.2))
+      ∙ ap (λ d. table_rows table d (front ++ later)) own.2
 
   pub total_joined : (old other : TotalState) → state_of tables mine first ≡ old → state_of tables yours others ≡ other
       → Joins declarations emit_count shown old other (state_of tables (mine + yours) new)
@@ -356,9 +356,9 @@ module _ (tables : List Declaration) (mine yours : ℕ) (first held others new :
       (record {
         same_tables = refl;
         both_counts = refl;
-        joined = λ front behind stands theirs. record {
-          rows = rows_joined front behind stands theirs;
-          counted = (λ i. stands.counted i + theirs.counted i) ∙ sym (length-append front behind);
+        joined = λ front later stands theirs. record {
+          rows = rows_joined front later stands theirs;
+          counted = (λ i. stands.counted i + theirs.counted i) ∙ sym (length-append front later);
         };
       }))
 

@@ -31,9 +31,9 @@ indexes_tie (x ∷ xs) (y ∷ ys) tied = by_found (compare x y) refl tied (index
   where
     by_found : (found : Ordering) → compare x y ≡ found → ordering_then found (compare_indexes xs ys) ≡ Equal
         → (compare_indexes xs ys ≡ Equal → xs ≡ ys) → x ∷ xs ≡ y ∷ ys
-    by_found Less is tied behind = absurd (true≢false (sym (ap is_eq tied)))
-    by_found Equal is tied behind = λ i. compare_ties x y is i ∷ behind tied i
-    by_found Greater is tied behind = absurd (true≢false (sym (ap is_eq tied)))
+    by_found Less is tied later = absurd (true≢false (sym (ap is_eq tied)))
+    by_found Equal is tied later = λ i. compare_ties x y is i ∷ later tied i
+    by_found Greater is tied later = absurd (true≢false (sym (ap is_eq tied)))
 
 -- the index lists of the rows are those that the rows were made for
 shown_again : (table : ℕ) (declaration : Declaration) (emits : List EmitDatum) (lists : List (List Datum))

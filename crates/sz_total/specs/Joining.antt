@@ -66,8 +66,8 @@ AreReady count held others = AllByRecursion (MayTakeUnder count held) others
 -- aggregator is one of the table
 pub record TakesAll (table : Declaration) (count : ℕ) (others old new : Held) : Type 0 where
   pub indexes : distinct compare_indexes (keys_of new) ≡ distinct compare_indexes (keys_of old ++ keys_of others)
-  pub rows : (indexes : List Datum) (front behind : List Weighted) → rows_held old indexes ≡ rows_of table front
-      → rows_held others indexes ≡ rows_of table behind → rows_held new indexes ≡ rows_of table (front ++ behind)
+  pub rows : (indexes : List Datum) (front later : List Weighted) → rows_held old indexes ≡ rows_of table front
+      → rows_held others indexes ≡ rows_of table later → rows_held new indexes ≡ rows_of table (front ++ later)
   pub held : AreHeld table count new
 
 -- all aggregators of the other side are taken, whichever table both sides are of

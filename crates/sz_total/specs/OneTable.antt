@@ -48,8 +48,8 @@ pub record HasRoomToMerge (own other : TableState) : Type 0 where
 pub record JoinsTable (old other new : TableState) : Type 0 where
   pub same_table : new.table ≡ old.table
   pub both_counts : new.count ≡ old.count + other.count
-  pub rows : (number : ℕ) (front behind : List EmitDatum) → table_shown old ≡ table_rows number old.table front
-      → table_shown other ≡ table_rows number old.table behind → table_shown new ≡ table_rows number old.table (front ++ behind)
+  pub rows : (number : ℕ) (front later : List EmitDatum) → table_shown old ≡ table_rows number old.table front
+      → table_shown other ≡ table_rows number old.table later → table_shown new ≡ table_rows number old.table (front ++ later)
 
 -- a declared table before any emit
 abbrev pub new_table : Declaration → TableState

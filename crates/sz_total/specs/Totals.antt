@@ -17,7 +17,7 @@ module _ {S : Type 0} (declarations : S → List Declaration) (count : S → ℕ
     pub same_tables : declarations s ≡ declared
     pub empty : StandsFor s []
 
-  -- The new tables stand for each list that the old ones stand for, with this emit behind it.
+  -- The new tables stand for each list that the old ones stand for, with this emit after it.
   pub record Gains (old new : S) (emit : EmitDatum) : Type 0 where
     pub same_tables : declarations new ≡ declarations old
     pub one_more : count new ≡ count old + 1
@@ -27,4 +27,4 @@ module _ {S : Type 0} (declarations : S → List Declaration) (count : S → ℕ
   pub record Joins (old other new : S) : Type 0 where
     pub same_tables : declarations new ≡ declarations old
     pub both_counts : count new ≡ count old + count other
-    pub joined : (front behind : List EmitDatum) → StandsFor old front → StandsFor other behind → StandsFor new (front ++ behind)
+    pub joined : (front later : List EmitDatum) → StandsFor old front → StandsFor other later → StandsFor new (front ++ later)

@@ -101,7 +101,7 @@ abbrev pub loose : Exp → ℕ
 loose (binary p o l r) = loose_of o
 loose _ = 0
 
--- an index, a slice or a field may stand behind the expression
+-- an index, a slice or a field may stand after the expression
 abbrev pub IsPostfix : Exp → Type 0
 IsPostfix (unary p o e) = ⊥
 IsPostfix (binary p o l r) = ⊥

@@ -34,7 +34,7 @@ pub record ElemForm : Type 0 where
   pub name : Option Ident
   pub of : Typ
 
--- what stands behind `table`
+-- what stands after `table`
 pub record TableForm : Type 0 where
   pub kind : Ident
   pub argument : Option ℤ

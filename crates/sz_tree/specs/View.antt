@@ -115,7 +115,7 @@ first_of (firsts.Declare n t e) = first_declare n (type_of t) (tree_of e)
 first_of (firsts.Define n e) = first_define n (tree_of e)
 first_of (firsts.Simple s) = first_simple (simple_of s)
 
--- an index or a part of a table, and what stands behind `table`
+-- an index or a part of a table, and what stands after `table`
 abbrev pub elem_of : Elem → ElemForm
 elem_of e = record { name = e.name; of = type_of e.of }
 
@@ -159,7 +159,7 @@ abbrev mutual
   stms_of_row end_of-Stmt = no_stms
   stms_of_row (more_of-Stmt s ss) = stm (stm_of s) (stms_of_row ss)
 
-  -- the part behind `else`, if there is one
+  -- the part after `else`, if there is one
   pub else_of : Held-Stmt-If-3 → Option Stm
   else_of None' = None
   else_of (Some' b s) = Some (stm_of s)

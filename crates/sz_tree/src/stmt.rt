@@ -81,7 +81,7 @@ pub struct Elem {
     pub of: TypeTree,
 }
 
-/// What stands behind `table` in a declaration: `kind (argument) [index].. of elem weight elem`.
+/// What stands after `table` in a declaration: `kind (argument) [index].. of elem weight elem`.
 pub struct Table {
     pub kind: Name,
     pub argument: Option<i64>,

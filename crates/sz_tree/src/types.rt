@@ -53,7 +53,7 @@ pub struct Param {
     pub of: TypeTree,
 }
 
-/// A field of a message: its name, type, number, and the word behind the number.
+/// A field of a message: its name, type, number, and the word after the number.
 #[cycle(types)]
 pub struct ProtoField {
     pub name: Name,

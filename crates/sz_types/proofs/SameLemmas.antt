@@ -24,7 +24,7 @@ lengths_differ (v ∷ vs) (w ∷ ws) differ =
     never true = refl
     never false = refl
 
--- behind the last fields of two lists of one length nothing differs
+-- after the last fields of two lists of one length nothing differs
 pub lists_end : (vs ws : List Field) (i : ℕ) → i ≡ length vs → length vs ≡ length ws → alike_lists (drop i vs) (drop i ws) ≡ true
 lists_end vs ws i at_end long =
     ends (drop i vs) (drop i ws) (length-drop i vs ∙ omega arith) (length-drop i ws ∙ omega arith)

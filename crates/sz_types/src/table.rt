@@ -26,7 +26,7 @@ pub enum TableKind {
 pub struct TableDecl {
     pub name: Text,
     pub kind: TableKind,
-    /// How many values a maximum or a minimum keeps, and a set can hold: the number in parentheses behind the kind. It is 0 for
+    /// How many values a maximum or a minimum keeps, and a set can hold: the number in parentheses after the kind. It is 0 for
     /// a sum and a collection, which have none.
     pub limit: u32,
     /// The types of the indexes, in order.

@@ -16,7 +16,7 @@ use Rattle.sz_value.specs.Seen.{seen, seen_pair}
 use Rattle.sz_value.specs.declared.value.Pair.{Pair}
 use Rattle.sz_value.proofs.MapLemmas.{turned, value_below, below_all, keys_rise, first_hit, first_miss, value_put, value_kept}
 
--- one pair more behind the others
+-- one pair more after the others
 pub with_one_more : (ps qs : List (Datum × Datum)) (q : Datum × Datum) → with_pairs ps (qs ++ q ∷ []) ≡ with_pair q.0 q.1 (with_pairs ps qs)
 with_one_more ps [] q = refl
 with_one_more ps (p ∷ qs) q = with_one_more (with_pair p.0 p.1 ps) qs q
@@ -111,8 +111,8 @@ rising_alike (p ∷ ps) [] left right alike = let e = sym (alike p.0) ∙ hit_fi
 rising_alike (p ∷ ps) (q ∷ qs) left right alike =
     let same = same_key p q ps qs left right alike in
     let value = same_value p q ps qs left right alike same in
-    let behind = tails_alike p q ps qs left right alike same in
-    λ i. (same i, value i) ∷ rising_alike ps qs left.1 right.1 behind i
+    let after = tails_alike p q ps qs left right alike same in
+    λ i. (same i, value i) ∷ rising_alike ps qs left.1 right.1 after i
 
 -- the key of the one pair is less than that of the other
 abbrev pub key_less : Pair → Pair → Bool

@@ -70,12 +70,12 @@ module _ (k : Datum) where
       → ((j : ℕ) (d : Pair) → 0 ≤ j → j < i → compare (seen (get_or ps j d).key) k ≡ Less)
       → ((j : ℕ) (d : Pair) → i ≤ j → j < length ps → compare (seen (get_or ps j d).key) k ≡ Greater)
       → IsGapFor k i (map seen_pair ps)
-  gap_found [] zero within before behind = tt
-  gap_found [] (suc i) within before behind = omega arith
-  gap_found (p ∷ ps) zero within before behind = turned (seen p.key) k Greater (behind 0 p (omega arith) (omega arith))
-  gap_found (p ∷ ps) (suc i) within before behind = (
+  gap_found [] zero within before after = tt
+  gap_found [] (suc i) within before after = omega arith
+  gap_found (p ∷ ps) zero within before after = turned (seen p.key) k Greater (after 0 p (omega arith) (omega arith))
+  gap_found (p ∷ ps) (suc i) within before after = (
     turned (seen p.key) k Less (before 0 p (omega arith) (omega arith)),
-    gap_found ps i (omega arith) (λ j d low high. before (suc j) d (omega arith) (omega arith)) (λ j d low high. behind (suc j) d (omega arith) (omega arith)),
+    gap_found ps i (omega arith) (λ j d low high. before (suc j) d (omega arith) (omega arith)) (λ j d low high. after (suc j) d (omega arith) (omega arith)),
   )
 
   -- a search by halving ends at the place of k, or at the gap for it
@@ -97,7 +97,7 @@ module _ (k : Datum) where
   value_below [] all = refl
   value_below (p ∷ ps) all = ap (λ o. cond (is_eq o) (Some p.1) (value_at k ps)) all.0 ∙ value_below ps all.1
 
-  -- what is less than a key is less than all behind it
+  -- what is less than a key is less than all after it
   pub below_all : (d : Datum) (ds : List Datum) → compare k d ≡ Less → AllByRecursion (λ q. compare d q ≡ Less) ds → AllByRecursion (λ q. compare k q ≡ Less) ds
   below_all d [] less all = tt
   below_all d (e ∷ es) less all = (compare_total.trans k d e less all.0, below_all d es less all.1)

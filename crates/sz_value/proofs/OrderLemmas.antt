@@ -37,7 +37,7 @@ module _ {X : Type 0} (order : List X → List X → Ordering)
   by_length (x ∷ xs) [] one_is_done = back x xs ∙ nat_cmp_is (length (x ∷ xs)) 0 Greater (omega arith)
   by_length (x ∷ xs) (y ∷ ys) one_is_done = absurd (one_is_done (omega arith) (omega arith))
 
-  -- behind the shorter of two lists the lengths decide
+  -- after the shorter of two lists the lengths decide
   ends : (xs ys : List X) (i : ℕ) → i ≡ min (length xs) (length ys) → order (drop i xs) (drop i ys) ≡ nat_cmp (length xs) (length ys)
   ends xs ys i is =
       let left = length-drop i xs in
@@ -46,11 +46,11 @@ module _ {X : Type 0} (order : List X → List X → Ordering)
       ∙ (λ t. nat_cmp (left t) (right t))
       ∙ shifted (length xs) (length ys) i (nat_cmp (length xs) (length ys)) refl (omega arith) (omega arith)
 
--- behind the shorter of two lists of values the lengths decide
+-- after the shorter of two lists of values the lengths decide
 pub list_end : (vs ws : List Value) (i : ℕ) → i ≡ min (length vs) (length ws) → list_order (drop i vs) (drop i ws) ≡ nat_cmp (length vs) (length ws)
 list_end = ends list_order refl (λ w ws. refl) (λ v vs. refl)
 
--- behind the shorter of two lists of pairs the lengths decide
+-- after the shorter of two lists of pairs the lengths decide
 pub pairs_end : (ps qs : List Pair) (i : ℕ) → i ≡ min (length ps) (length qs) → pairs_order (drop i ps) (drop i qs) ≡ nat_cmp (length ps) (length qs)
 pairs_end = ends pairs_order refl (λ q qs. refl) (λ p ps. refl)
 

@@ -38,8 +38,8 @@ other_fails (b ∷ bs) h = at (λ i k. other_fails bs (i, k)) h.0 h.1
     second false e = refl
 
     at : ((i : ℕ) → 128 ≤ slice_index bs i → is_ascii bs ≡ false) → (i : ℕ) → 128 ≤ slice_index (b ∷ bs) i → (nat_lt b 128 && is_ascii bs) ≡ false
-    at behind zero k = ap (λ a. a && is_ascii bs) (above b k)
-    at behind (suc i) k = second (nat_lt b 128) (behind i k)
+    at after zero k = ap (λ a. a && is_ascii bs) (above b k)
+    at after (suc i) k = second (nat_lt b 128) (after i k)
 
 -- a text that passes is one of ASCII
 pub passes_ascii : (s : List ℕ) → is_ascii s ≡ true → IsAscii s

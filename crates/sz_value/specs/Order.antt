@@ -50,6 +50,6 @@ abbrev mutual
 abbrev pub compare_pairs : Datum × Datum → Datum × Datum → Ordering
 compare_pairs = then_cmp (on (λ p. p.0) compare) (on (λ p. p.1) compare)
 
--- each key is less than all keys behind it
+-- each key is less than all keys after it
 abbrev pub KeysRise : List (Datum × Datum) → Type 0
 KeysRise pairs = IsStrictlySortedBy compare (keys_of pairs)

@@ -158,8 +158,8 @@ mutual
   entries_ties (entry k v ps) no_entries tied = absurd (true≢false (sym (ap is_eq tied)))
   entries_ties (entry k v ps) (entry l w qs) tied =
       let equal = both_equal (compare k l) (ordering_then (compare v w) (compare_entries ps qs)) tied in
-      let behind = both_equal (compare v w) (compare_entries ps qs) equal.1 in
-      λ i. entry (compare_ties k l equal.0 i) (compare_ties v w behind.0 i) (entries_ties ps qs behind.1 i)
+      let after = both_equal (compare v w) (compare_entries ps qs) equal.1 in
+      λ i. entry (compare_ties k l equal.0 i) (compare_ties v w after.0 i) (entries_ties ps qs after.1 i)
 
 -- a value compares as equal with itself
 pub compare_itself : (d e : Datum) → d ≡ e → compare d e ≡ Equal

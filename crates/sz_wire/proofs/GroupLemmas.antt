@@ -45,53 +45,53 @@ one_turn (suc one) levels number bytes key rest lt e = (one, refl, rw e refl)
 
 -- what a turn at this place makes of the whole
 turn_here : {bytes : List ℕ} {levels number at place : ℕ} → IsInGroup bytes levels number at place → place < length bytes
-    → (key : Key) (behind : ℕ) → key_at (drop place bytes) ≡ Some (key, drop behind bytes) → place < behind
-    → (turns : ℕ) → length bytes - at ≤ turns → (one : ℕ) × (length bytes - behind ≤ one)
-    × (group_end turns levels number (drop at bytes) ≡ cond (eqb key.wire 4) (cond (eqb key.number number) (Some (drop behind bytes)) None)
-    (option_and_then (group_end one levels number) (value_end (group_end one) levels key (drop behind bytes))))
-turn_here {bytes} {levels} {number} {at} {place} h inside key behind e further turns le =
+    → (key : Key) (after : ℕ) → key_at (drop place bytes) ≡ Some (key, drop after bytes) → place < after
+    → (turns : ℕ) → length bytes - at ≤ turns → (one : ℕ) × (length bytes - after ≤ one)
+    × (group_end turns levels number (drop at bytes) ≡ cond (eqb key.wire 4) (cond (eqb key.number number) (Some (drop after bytes)) None)
+    (option_and_then (group_end one levels number) (value_end (group_end one) levels key (drop after bytes))))
+turn_here {bytes} {levels} {number} {at} {place} h inside key after e further turns le =
     let s = h.ends turns le in
-    let t = one_turn s.0 levels number (drop place bytes) key (drop behind bytes) (omega (arith, s.1)) e in
+    let t = one_turn s.0 levels number (drop place bytes) key (drop after bytes) (omega (arith, s.1)) e in
     (t.0, omega (arith, s.1, t.1), sym s.2 ∙ t.2)
 
 pub group_ends : {bytes : List ℕ} {levels number at place : ℕ} → IsInGroup bytes levels number at place → place < length bytes
-    → (inner wire behind : ℕ) → key_at (drop place bytes) ≡ Some (record { number = inner; wire = wire }, drop behind bytes) → place < behind
-    → wire ≡ 4 → inner ≡ number → (turns : ℕ) → length bytes - at ≤ turns → group_end turns levels number (drop at bytes) ≡ Some (drop behind bytes)
-group_ends {bytes} {levels} {number} h inside inner wire behind e further end same turns le =
-    let t = turn_here h inside (record { number = inner; wire = wire }) behind e further turns le in
+    → (inner wire after : ℕ) → key_at (drop place bytes) ≡ Some (record { number = inner; wire = wire }, drop after bytes) → place < after
+    → wire ≡ 4 → inner ≡ number → (turns : ℕ) → length bytes - at ≤ turns → group_end turns levels number (drop at bytes) ≡ Some (drop after bytes)
+group_ends {bytes} {levels} {number} h inside inner wire after e further end same turns le =
+    let t = turn_here h inside (record { number = inner; wire = wire }) after e further turns le in
     let a : eqb wire 4 ≡ true = grind arith in
     let b : eqb inner number ≡ true = grind arith in
     t.2 ∙ rw (a, b) refl
 
 pub group_of_another : {bytes : List ℕ} {levels number at place : ℕ} → IsInGroup bytes levels number at place → place < length bytes
-    → (inner wire behind : ℕ) → key_at (drop place bytes) ≡ Some (record { number = inner; wire = wire }, drop behind bytes) → place < behind
+    → (inner wire after : ℕ) → key_at (drop place bytes) ≡ Some (record { number = inner; wire = wire }, drop after bytes) → place < after
     → wire ≡ 4 → (inner ≡ number → ⊥) → (turns : ℕ) → length bytes - at ≤ turns → group_end turns levels number (drop at bytes) ≡ None
-group_of_another {bytes} {levels} {number} h inside inner wire behind e further end other turns le =
-    let t = turn_here h inside (record { number = inner; wire = wire }) behind e further turns le in
+group_of_another {bytes} {levels} {number} h inside inner wire after e further end other turns le =
+    let t = turn_here h inside (record { number = inner; wire = wire }) after e further turns le in
     let a : eqb wire 4 ≡ true = grind arith in
     let b : eqb inner number ≡ false = grind arith in
     t.2 ∙ rw (a, b) refl
 
 pub group_without_value : {bytes : List ℕ} {levels number at place : ℕ} → IsInGroup bytes levels number at place → place < length bytes
-    → (inner wire behind : ℕ) → key_at (drop place bytes) ≡ Some (record { number = inner; wire = wire }, drop behind bytes) → place < behind
-    → (wire ≡ 4 → ⊥) → ((one : ℕ) → length bytes - behind ≤ one
-    → value_end (group_end one) levels (record { number = inner; wire = wire }) (drop behind bytes) ≡ None)
+    → (inner wire after : ℕ) → key_at (drop place bytes) ≡ Some (record { number = inner; wire = wire }, drop after bytes) → place < after
+    → (wire ≡ 4 → ⊥) → ((one : ℕ) → length bytes - after ≤ one
+    → value_end (group_end one) levels (record { number = inner; wire = wire }) (drop after bytes) ≡ None)
     → (turns : ℕ) → length bytes - at ≤ turns → group_end turns levels number (drop at bytes) ≡ None
-group_without_value {bytes} {levels} {number} h inside inner wire behind e further goes missing turns le =
-    let t = turn_here h inside (record { number = inner; wire = wire }) behind e further turns le in
+group_without_value {bytes} {levels} {number} h inside inner wire after e further goes missing turns le =
+    let t = turn_here h inside (record { number = inner; wire = wire }) after e further turns le in
     let a : eqb wire 4 ≡ false = grind arith in
     t.2 ∙ rw (a, missing t.0 t.1) refl
 
 pub group_goes_on : {bytes : List ℕ} {levels number at place : ℕ} → IsInGroup bytes levels number at place → place < length bytes
-    → (inner wire behind next : ℕ) → key_at (drop place bytes) ≡ Some (record { number = inner; wire = wire }, drop behind bytes) → place < behind
-    → (wire ≡ 4 → ⊥) → behind ≤ next
-    → ((one : ℕ) → length bytes - behind ≤ one
-    → value_end (group_end one) levels (record { number = inner; wire = wire }) (drop behind bytes) ≡ Some (drop next bytes))
+    → (inner wire after next : ℕ) → key_at (drop place bytes) ≡ Some (record { number = inner; wire = wire }, drop after bytes) → place < after
+    → (wire ≡ 4 → ⊥) → after ≤ next
+    → ((one : ℕ) → length bytes - after ≤ one
+    → value_end (group_end one) levels (record { number = inner; wire = wire }) (drop after bytes) ≡ Some (drop next bytes))
     → IsInGroup bytes levels number at next
-group_goes_on {bytes} {levels} {number} {at} {place} h inside inner wire behind next e further goes order found = record {
+group_goes_on {bytes} {levels} {number} {at} {place} h inside inner wire after next e further goes order found = record {
   later = omega (arith, h.later);
   ends = λ turns le. (
-      let t = turn_here h inside (record { number = inner; wire = wire }) behind e further turns le in
+      let t = turn_here h inside (record { number = inner; wire = wire }) after e further turns le in
       let a : eqb wire 4 ≡ false = grind arith in
       let left : group_end t.0 levels number (drop next bytes) ≡ group_end turns levels number (drop at bytes) = sym (t.2 ∙ rw (a, found t.0 t.1) refl) in
       (t.0, omega (arith, t.1), left));

@@ -8,7 +8,7 @@ use Rattle.std.proofs.lemmas.List.{drop_more}
 use Rattle.std.proofs.lemmas.Bool.{lt-ltb, le-ltb}
 use Rattle.sz_wire.specs.Varint.{low_bits, number_at, in_64_bits, varint_at}
 
--- what was read so far, and behind it what is still to come at this weight
+-- what was read so far, and after it what is still to come at this weight
 abbrev pub goes_on : ℕ → ℕ → Option (ℕ × List ℕ) → Option (ℕ × List ℕ)
 goes_on value weight None = None
 goes_on value weight (Some found) = Some ((value + weight * found.0) % 2 ^ 64, found.1)
@@ -27,7 +27,7 @@ starts_read bytes at = record {
   rest = let e : at + 0 ≡ at = omega arith in rw e (from_start (number_at 10 (drop at bytes)));
 }
 
--- what one byte makes of the number behind it
+-- what one byte makes of the number after it
 byte_read : (bytes : List ℕ) (at i : ℕ) → i < 10 → at + i < length bytes
     → number_at (10 - i) (drop (at + i) bytes) ≡ cond (ltb (get_or bytes (at + i) 0) 128)
     (Some (get_or bytes (at + i) 0, drop (at + i + 1) bytes)) (low_bits (get_or bytes (at + i) 0) (number_at (10 - (i + 1)) (drop (at + (i + 1)) bytes)))
@@ -78,11 +78,11 @@ pub more_bytes : {bytes : List ℕ} {at i value weight : ℕ} → IsReadTo bytes
     → IsReadTo bytes at (i + 1) (with_byte value weight (get_or bytes (at + i) 0)) ((weight * 128) % 2 ^ 64)
 more_bytes {bytes} {at} {i} {value} {weight} h lt inside low high =
     let b = get_or bytes (at + i) 0 in
-    let behind = number_at (10 - (i + 1)) (drop (at + (i + 1)) bytes) in
+    let after = number_at (10 - (i + 1)) (drop (at + (i + 1)) bytes) in
     let test : ltb b 128 ≡ false = le-ltb _ _ low in
-    let read : number_at (10 - i) (drop (at + i) bytes) ≡ low_bits b behind =
-    byte_read bytes at i lt inside ∙ ap (λ (t : Bool). cond t (Some (b, drop (at + i + 1) bytes)) (low_bits b behind)) test in
-    record { rest = sym (more_read value weight b behind low high) ∙ ap (goes_on value weight) (sym read) ∙ h.rest }
+    let read : number_at (10 - i) (drop (at + i) bytes) ≡ low_bits b after =
+    byte_read bytes at i lt inside ∙ ap (λ (t : Bool). cond t (Some (b, drop (at + i + 1) bytes)) (low_bits b after)) test in
+    record { rest = sym (more_read value weight b after low high) ∙ ap (goes_on value weight) (sym read) ∙ h.rest }
 
 pub bytes_end : {bytes : List ℕ} {at i value weight : ℕ} → IsReadTo bytes at i value weight → i < 10 → length bytes ≤ at + i
     → varint_at (drop at bytes) ≡ None

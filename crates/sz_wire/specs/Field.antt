@@ -44,7 +44,7 @@ plain_at wire bytes =
 abbrev pub opened : (ℕ → ℕ → List ℕ → Option (List ℕ)) → ℕ → ℕ → List ℕ → Option (List ℕ)
 opened ends levels number bytes = if levels == 0 then None else ends (levels - 1) number bytes
 
--- what follows the value behind a key
+-- what follows the value after a key
 unfoldable pub value_end : (ℕ → ℕ → List ℕ → Option (List ℕ)) → ℕ → Key → List ℕ → Option (List ℕ)
 value_end ends levels key bytes =
     if key.wire == 3 then opened ends levels key.number bytes else option_map (λ (found : Content × List ℕ). found.1) (plain_at key.wire bytes)
@@ -61,7 +61,7 @@ group_end (suc turns) levels number bytes = option_and_then (λ (key : Key × Li
 abbrev pub deepest : ℕ
 deepest = 100
 
--- what the field behind a key holds, in a message of this level, and what follows it
+-- what the field after a key holds, in a message of this level, and what follows it
 unfoldable pub value_at : ℕ → Key → List ℕ → Option (Content × List ℕ)
 value_at depth key bytes =
     if key.wire == 3 then option_map (λ rest. (group, rest)) (opened (group_end (length bytes)) (deepest - depth) key.number bytes)

@@ -9,7 +9,7 @@ use crate::group::{DEEPEST, GROUP_START, after_group};
 use crate::key::read_key;
 use crate::plain::read_plain;
 
-/// A field that was found, and the place behind it. Places are counted from 0.
+/// A field that was found, and the place after it. Places are counted from 0.
 #[derive(Clone, Copy, Debug, PartialEq, Eq)]
 pub struct WireField {
     /// From 1 to 2^29 - 1.
@@ -28,7 +28,7 @@ pub enum WireKind {
     Eight(u64),
     /// Wire type 5: four bytes, the low one first.
     Four(u32),
-    /// Wire type 2: the place of the first byte, and the place behind the last.
+    /// Wire type 2: the place of the first byte, and the place after the last.
     Span(usize, usize),
     /// Wire types 3 and 4: a group, which ends in front of the next field.
     Group,

@@ -17,7 +17,7 @@ pub(crate) const GROUP_START: u8 = 3;
 /// The wire type at which a group ends.
 const GROUP_END: u8 = 4;
 
-/// The place behind the value of a field in a group of this level.
+/// The place after the value of a field in a group of this level.
 #[cycle(group)]
 #[tactic(auto, unfolding(crate::specs::Field::value_end))]
 fn after_value(bytes: &[u8], at: usize, number: u32, wire: u8, depth: u32) -> Result<usize, Bad>
@@ -42,7 +42,7 @@ fn after_value(bytes: &[u8], at: usize, number: u32, wire: u8, depth: u32) -> Re
     after_group(bytes, at, number, depth + 1)
 }
 
-/// The place behind the end of the group with this number, of whose fields the first begins at a place. `depth` is the level of
+/// The place after the end of the group with this number, of whose fields the first begins at a place. `depth` is the level of
 /// the group.
 #[cycle(group)]
 pub(crate) fn after_group(bytes: &[u8], at: usize, number: u32, depth: u32) -> Result<usize, Bad>
@@ -57,15 +57,11 @@ pub(crate) fn after_group(bytes: &[u8], at: usize, number: u32, depth: u32) -> R
 {
     let mut place = at;
     while place < bytes.len() {
-        let (inner, wire, behind) = read_key(bytes, place)?;
+        let (inner, wire, after) = read_key(bytes, place)?;
         if wire == GROUP_END {
-            return if inner == number {
-                Ok(behind)
-            } else {
-                Err(Bad)
-            };
+            return if inner == number { Ok(after) } else { Err(Bad) };
         }
-        place = after_value(bytes, behind, inner, wire, depth)?;
+        place = after_value(bytes, after, inner, wire, depth)?;
     }
     Err(Bad)
 }

@@ -9,7 +9,7 @@ use crate::varint::read_varint;
 /// The number of a field is below this.
 const NUMBERS: u64 = 1 << 29;
 
-/// The key that begins at a place, counted from 0: a field's number, its wire type, and the place behind the key.
+/// The key that begins at a place, counted from 0: a field's number, its wire type, and the place after the key.
 ///
 /// A key is a varint, `number << 3 | wire type`, with a number from 1 to 2^29 - 1 and a wire type from 0 to 5. `Bad` comes
 /// where no varint stands, or one that is no key.

@@ -62,7 +62,7 @@ fn read_span(bytes: &[u8], at: usize) -> Result<(WireKind, usize), Bad>
     Ok((WireKind::Span(from, to), to))
 }
 
-/// What a field that is no group holds, by its wire type, and the place behind it.
+/// What a field that is no group holds, by its wire type, and the place after it.
 #[tactic(auto, unfolding(crate::specs::Field::plain_at))]
 pub(crate) fn read_plain(bytes: &[u8], at: usize, wire: u8) -> Result<(WireKind, usize), Bad>
     requires { at ≤ length bytes.now }

@@ -8,7 +8,7 @@ use crate::bad::Bad;
 /// A varint has at most this many bytes.
 const MOST_BYTES: usize = 10;
 
-/// The varint that begins at a place, counted from 0, and the place behind it.
+/// The varint that begins at a place, counted from 0, and the place after it.
 ///
 /// A varint has seven bits in each byte, the low ones first, and the top bit says that a byte follows. Bits past 64 are
 /// dropped. `Bad` comes where the bytes end before the varint does, or its tenth byte has its top bit set.

@@ -25,7 +25,7 @@ pieces_none mark (b ∷ bs) nowhere =
     slice_split-cons_no (λ x. nat_eq x mark) b bs (is_false (nat_eq b mark) (nowhere 0 (omega arith) (omega arith)))
     ∙ ap (onto_first b) (pieces_none mark bs (λ k low high. nowhere (suc k) (omega arith) (omega arith)))
 
--- the same, where the place behind the byte is written as a sum
+-- the same, where the place after the byte is written as a sum
 pub pieces_at : (mark : ℕ) (text : List ℕ) (place : ℕ) → place < length text → Nowhere (Passes (is_byte mark) text) 0 place
     → is_byte mark (slice_index text place) ≡ true → pieces mark text ≡ take place text ∷ pieces mark (drop (place + 1) text)
 pieces_at mark text place in_range before here =

@@ -54,7 +54,7 @@ not_end word e = (name-NoOption word e).no_end
 pub fit_name : (word : Text) (words : List Text) → is_name word ≡ true → dashes_fit false (word ∷ words) ≡ true → dashes_fit false words ≡ true
 fit_name word words e fit = rw (not_end word e, e) at fit
 
--- a word that is no name, behind no `--`
+-- a word that is no name, after no `--`
 pub or_is_false : (a b : Bool) → (a || b) ≡ false → (a ≡ false) × (b ≡ false)
 or_is_false false false e = (refl, refl)
 or_is_false false true e = absurd (true≢false e)
@@ -106,7 +106,7 @@ pub record AllEnd (words : List Text) : Type 0 where
       → held.pending ≡ Some (name, []) → Found held.rows parts → dashes_fit true words ≡ true
       → Ends words (at held (option name) false) (parts_with (awaits name parts) words)
 
--- behind an option's value
+-- after an option's value
 pub value_ends : (words : List Text) → AllEnd words → (held : Held) (parts : Parts) → parts.ended ≡ false → Holds held parts
     → dashes_fit false words ≡ true → Ends words (at held idle false) (parts_with (ready parts) words)
 value_ends words more held parts before holds fit =

@@ -5,7 +5,7 @@ use Rattle.std.specs.List.{onto_first}
 use Rattle.sz_words.specs.Texts.{pieces}
 use Rattle.sz_words.specs.Lists.{kill_of}
 
--- a text has a piece, so an entry with one behind its third names no kill
+-- a text has a piece, so an entry with one after its third names no kill
 pub too_many : (s k j text : List ℕ) → kill_of (s ∷ k ∷ j ∷ pieces 46 text) ≡ None
 too_many s k j [] = refl
 too_many s k j (b ∷ bs) = by_test (nat_eq b 46)

@@ -16,7 +16,7 @@ equal a b e = (bytes_eq-Decides a b).0 e
 abbrev pub values_at : Text → List Row → List Text
 values_at id rows = unwrap_or (all_of id rows) []
 
--- values that are added for an id stand behind those that it had
+-- values that are added for an id stand after those that it had
 pub values-added : (id : Text) (how : Reading) (s : ValueSource) (values : List Text) (rows : List Row)
     → values_at id (with_values id how s values rows) ≡ values_at id rows ++ values
 values-added id how s values [] = rw (same id) refl

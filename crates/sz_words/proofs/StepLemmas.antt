@@ -29,19 +29,19 @@ pub record Holds (held : Held) (parts : Parts) : Type 0 where
   pub settles : settle_fault rules false held ≡ []
   pub found : Found (settled rules held).rows parts
 
--- behind a name
+-- after a name
 abbrev pub name_held : Text → Held → Held
 name_held word held = record (settled rules held) { pending = Some (codes "name", word ∷ []) }
 
--- behind `--name=VALUE`
+-- after `--name=VALUE`
 abbrev pub option_held : Text → Text → Held → Held
 option_held name value held = record held { rows = used (option_rule name) (value ∷ []) (settled rules held).rows; pending = None }
 
--- behind `--name`
+-- after `--name`
 abbrev pub awaiting_held : Text → Held → Held
 awaiting_held name held = record (settled rules held) { pending = Some (name, []) }
 
--- behind the value of an option
+-- after the value of an option
 abbrev pub given_held : Text → Text → Held → Held
 given_held name value held = record held { pending = Some (name, value ∷ []) }
 
@@ -65,7 +65,7 @@ given_holds name value held parts known found = record {
 abbrev pub NoFault : Walk → Text → Type 0
 NoFault w word = turn_fault shape [] w word ≡ []
 
--- behind `--`, or where it is a name, a word goes to the names
+-- after `--`, or where it is a name, a word goes to the names
 pub positional_settles : (held : Held) → settle_fault rules false held ≡ [] → (b : Bool)
     → (if b && false then [] else settle_fault rules false held) ≡ []
 positional_settles held e true = e
@@ -157,7 +157,7 @@ unknown_fault held idle word name value quiet l unknown = ([], rw (l.no_end, l.l
 unknown_fault held positional word name value quiet l unknown = ([], rw (l.no_end, l.long, none_long name unknown) refl)
 unknown_fault held (option n) word name value quiet l unknown = absurd (true≢false (sym quiet))
 
--- a word behind an option
+-- a word after an option
 pub given_fault : (held : Held) (word name : Text) → is_name word ≡ true → NoFault (at held (option name) false) word
 given_fault held word name e =
     let no = name-NoOption word e in

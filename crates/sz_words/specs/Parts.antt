@@ -1,4 +1,4 @@
--- The words behind a command as options and names.
+-- The words after a command as options and names.
 use Rattle.std.specs.Prelude.{ℕ, List, [], ◌∷◌, ◌++◌, take, drop, Bool, true, false, not, ◌||◌, nat_eq, Option, Some, None, bytes_eq, codes}
 use Rattle.std.specs.Prelude.{if◌then◌else◌}
 use Rattle.std.specs.List.{list_any, before_first, after_first}
@@ -75,14 +75,14 @@ with_long text parts =
     then ready (with_option (before_first is_equals text) (after_first is_equals text) parts) else refused)
     else (if is_option text then awaits text parts else refused)
 
--- with a word that is a name, `--` or an option; behind `--` all are names
+-- with a word that is a name, `--` or an option; after `--` all are names
 abbrev pub with_word : List ℕ → Parts → Reading
 with_word word parts =
     if parts.ended || is_name word then ready (with_name word parts)
     else if bytes_eq word (codes "--") then ready (record parts { ended = true })
     else if is_long word then with_long (drop 2 word) parts else refused
 
--- with a word behind an option: it is the value, and doesn't begin with `-`
+-- with a word after an option: it is the value, and doesn't begin with `-`
 abbrev pub with_value : List ℕ → List ℕ → Parts → Reading
 with_value name value parts = if is_dashed value then refused else ready (with_option name value parts)
 
@@ -94,6 +94,6 @@ parts_with (ready parts) (word ∷ words) = parts_with (with_word word parts) wo
 parts_with (awaits name parts) [] = None
 parts_with (awaits name parts) (word ∷ words) = parts_with (with_value name word parts) words
 
--- the words behind a command as options and names
+-- the words after a command as options and names
 abbrev pub parts_of : List (List ℕ) → Option Parts
 parts_of words = parts_with (ready no_parts) words

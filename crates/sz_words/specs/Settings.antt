@@ -121,14 +121,14 @@ selftest_settings given (seed ∷ records ∷ workers ∷ []) =
     else None
 selftest_settings given _ = None
 
--- what is asked for by a command with these options and names behind it
+-- what is asked for by a command with these options and names after it
 abbrev pub command_settings : List ℕ → Values → List (List ℕ) → Option Settings
 command_settings command given names =
     if bytes_eq command (codes "run") then run_settings given names
     else if bytes_eq command (codes "check") then check_settings given names
     else if bytes_eq command (codes "selftest") then selftest_settings given names else None
 
--- what is asked for by a command and the words behind it
+-- what is asked for by a command and the words after it
 abbrev pub line_settings : List ℕ → List (List ℕ) → Option Settings
 line_settings command words =
     option_and_then (λ parts. command_settings command (λ name. values_of name parts.options) parts.names) (parts_of words)

@@ -4,7 +4,7 @@ use Rattle.std.specs.List.{slice_split}
 use Rattle.std.specs.Str.Parse.{digits_value}
 pub use Rattle.sz_types.specs.Numerals.{is_numeral}
 
--- the pieces of a text before, between and behind the places of a byte
+-- the pieces of a text before, between and after the places of a byte
 abbrev pub pieces : ℕ → List ℕ → List (List ℕ)
 pieces mark text = slice_split (λ b. nat_eq b mark) text
 

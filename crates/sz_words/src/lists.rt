@@ -24,9 +24,9 @@ pub fn kills_in(alloc: Global, text: &[u8]) -> Result<Kills, WordsError>
 {
     let mut kills = Items::new(alloc);
     let mut rest = text;
-    while let Some((entry, behind)) = cut(b',', rest) {
+    while let Some((entry, later)) = cut(b',', rest) {
         add_kill(&mut kills, entry)?;
-        rest = behind;
+        rest = later;
     }
     add_kill(&mut kills, rest)?;
     Ok(kills)
@@ -52,8 +52,8 @@ fn add_kill(kills: &mut Kills, entry: &[u8]) -> Result<(), WordsError>
 fn kill_in(entry: &[u8]) -> Option<Kill>
     ensures value { result ≡ kill_of (pieces 46 entry.now) }
 {
-    let (shard, behind) = cut(b'.', entry)?;
-    let (number, after) = cut(b'.', behind)?;
+    let (shard, later) = cut(b'.', entry)?;
+    let (number, after) = cut(b'.', later)?;
     match cut(b'.', after) {
         Some(_) => None,
         None => kill_of(shard, number, after),
@@ -93,9 +93,9 @@ pub fn shards_in(alloc: Global, text: &[u8]) -> Result<Twice, WordsError>
 {
     let mut shards = Items::new(alloc);
     let mut rest = text;
-    while let Some((entry, behind)) = cut(b',', rest) {
+    while let Some((entry, later)) = cut(b',', rest) {
         add_shard(&mut shards, entry)?;
-        rest = behind;
+        rest = later;
     }
     add_shard(&mut shards, rest)?;
     Ok(shards)

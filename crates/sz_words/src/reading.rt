@@ -19,7 +19,7 @@ use std::alloc::Global;
 use sz_list::Items;
 use sz_types::{Frame, Text};
 
-/// What the words behind the program's name ask for: the command, its options and its names.
+/// What the words after the program's name ask for: the command, its options and its names.
 ///
 /// `Usage` exactly where they are no command line.
 pub fn read_words(alloc: Global, words: &[String]) -> Result<Settings, WordsError>
@@ -32,7 +32,7 @@ pub fn read_words(alloc: Global, words: &[String]) -> Result<Settings, WordsErro
     }
 }
 
-// What is asked for by a command and the words behind it.
+// What is asked for by a command and the words after it.
 fn line_settings(alloc: Global, command: &str, words: &[String]) -> Result<Settings, WordsError>
     ensures value { IfOk result (λ s. line_settings command.now (map string_bytes words.now) ≡ Some s) }
     ensures usage { IfErr result (λ e. e ≡ Usage → line_settings command.now (map string_bytes words.now) ≡ None) }
@@ -41,7 +41,7 @@ fn line_settings(alloc: Global, command: &str, words: &[String]) -> Result<Setti
     command_settings(alloc, command, &matches)
 }
 
-// What is asked for by a command with these options and names behind it.
+// What is asked for by a command with these options and names after it.
 #[tactic(auto, using(crate::proofs::MatchLemmas::no_names))]
 fn command_settings(
     alloc: Global,

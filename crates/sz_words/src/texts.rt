@@ -4,7 +4,7 @@ ghost use Rattle.sz_words.specs.Texts.{pieces};
 
 use memchr::memchr;
 
-/// The bytes before the first place of the mark and those behind it, if it stands in the text.
+/// The bytes before the first place of the mark and those after it, if it stands in the text.
 #[tactic(auto, using(crate::proofs::CutLemmas::pieces_at, crate::proofs::CutLemmas::pieces_none))]
 pub fn cut(mark: u8, text: &[u8]) -> Option<(&[u8], &[u8])>
     ensures pieces { MatchOption result (pieces mark text.now ≡ text.now ∷ [])
@@ -15,8 +15,8 @@ pub fn cut(mark: u8, text: &[u8]) -> Option<(&[u8], &[u8])>
         None => None,
         Some(place) => {
             let (before, _) = text.split_at(place);
-            let (_, behind) = text.split_at(place + 1);
-            Some((before, behind))
+            let (_, later) = text.split_at(place + 1);
+            Some((before, later))
         }
     }
 }

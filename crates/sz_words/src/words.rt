@@ -1,4 +1,4 @@
-//! The words behind a command, as `clap` reads them.
+//! The words after a command, as `clap` reads them.
 ghost use Rattle.std.specs.Prelude.{◌≡◌, ◌++◌, ◌∷◌, [], ℕ, List, map, true, string_bytes, IfOk, IfErr, MatchOption};
 ghost use Rattle.std.specs.Prelude.{Some, None, codes};
 ghost use Rattle.std.specs.Prelude.{option_map, length, false, ◌≢◌};
@@ -16,7 +16,7 @@ use clap::error::ErrorKind;
 use clap::{Arg, ArgAction, ArgMatches, Command, Error};
 use std::alloc::{AllocError, Global};
 
-/// The words behind a command as options and names. `clap` reads them once their dashes fit, since it would read more.
+/// The words after a command as options and names. `clap` reads them once their dashes fit, since it would read more.
 pub fn matches_of<'a>(alloc: Global, words: &'a [String]) -> Result<ArgMatches<'a>, WordsError>
     ensures value { IfOk result (λ m. (parts : Parts) × (parts_of (map string_bytes words.now) ≡ Some parts) × HasParts m parts) }
     ensures usage { IfErr result (λ e. e ≡ Usage → parts_of (map string_bytes words.now) ≡ None) }

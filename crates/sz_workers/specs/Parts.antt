@@ -59,7 +59,7 @@ module _ (job : Job) (shards : List ShardData) where
     pub alive : is_lost job shard ≡ false
     pub faults : HasFault (shard_means job shard)
 
--- what a function gives for each item of a list, one behind the other
+-- what a function gives for each item of a list, one after the other
 abbrev pub gathered : {A : Type 0} → (ℕ → List A) → List ℕ → List A
 gathered f [] = []
 gathered f (s ∷ ss) = f s ++ gathered f ss

@@ -86,7 +86,7 @@ fn complete<'a, G: Gate, N: RoundName>(
 }
 
 /// Runs each shard of the round that isn't in the pool, in order, until one decides. No ticket of the plan is drawn for it: the gate is
-/// told the number behind the last.
+/// told the number after the last.
 pub(crate) fn finish<'a, G: Gate, N: RoundName>(
     alloc: Global,
     job: &'a Job,

@@ -1,4 +1,4 @@
--- What the calls on one ticket do, one behind the other, and what a worker has done between two tickets.
+-- What the calls on one ticket do, one after the other, and what a worker has done between two tickets.
 use Rattle.std.proofs.Common.{◌≡◌, ◌⊎◌, ℕ, zero, suc, ◌<◌, ◌==◌, Bool, true, false, List, [], ◌∷◌, ◌++◌, length, replicate, refl, ap, sym, ◌∙◌, subst, inl, inr, ⊎_elim, Some, None, append-nil, length-set}
 use Rattle.std.specs.Prelude.{slice_set}
 use Rattle.std.proofs.lemmas.Bool.{eqb-true, eqb-false}
@@ -43,7 +43,7 @@ module _ (died : ℕ → ℕ → Type 0) (faults : ℕ → Type 0) (p : PlanData
     goes = goes_self v;
     place = place;
     further = [];
-    behind = sym (append-nil v.mine);
+    later = sym (append-nil v.mine);
     truth = tt;
     advances = λ old low is. ap (λ (r : Phase). slice_set old t r) (sym is) ∙ set-get_or old t undrawn;
   }
@@ -55,7 +55,7 @@ module _ (died : ℕ → ℕ → Type 0) (faults : ℕ → Type 0) (p : PlanData
     goes = goes_then u v w g.goes h.goes;
     place = h.place;
     further = g.further ++ h.further;
-    behind = h.behind ∙ ap (λ (l : List Entry). l ++ h.further) g.behind ∙ append_assoc u.mine g.further h.further;
+    later = h.later ∙ ap (λ (l : List Entry). l ++ h.further) g.later ∙ append_assoc u.mine g.further h.further;
     truth = truth_then died faults g.further h.further g.truth h.truth;
     advances = λ old low is.
         let mid : List Phase = slice_set old t b in
@@ -71,7 +71,7 @@ module _ (died : ℕ → ℕ → Type 0) (faults : ℕ → Type 0) (p : PlanData
     goes = goes_call v w e r h;
     place = in_place_call v w e r h place;
     further = entry v.number e [] r ∷ [];
-    behind = ap (λ (u : PassData). u.mine) h.1;
+    later = ap (λ (u : PassData). u.mine) h.1;
     truth = (truth, tt);
     advances = λ old low is. (slice_set old t to, advance old is, refl);
   }
@@ -128,7 +128,7 @@ module _ (died : ℕ → ℕ → Type 0) (faults : ℕ → Type 0) (p : PlanData
     begun = record {
       further = [];
       phases = replicate (count_of p) undrawn;
-      behind = sym (append-nil v.mine);
+      later = sym (append-nil v.mine);
       truth = tt;
       order = record { turns = refl };
     };
@@ -142,7 +142,7 @@ module _ (died : ℕ → ℕ → Type 0) (faults : ℕ → Type 0) (p : PlanData
   begun_then u v w t from to b low is h = record {
     further = b.further ++ h.further;
     phases = slice_set b.phases t to;
-    behind = h.behind ∙ ap (λ (l : List Entry). l ++ h.further) b.behind ∙ append_assoc u.mine b.further h.further;
+    later = h.later ∙ ap (λ (l : List Entry). l ++ h.further) b.later ∙ append_assoc u.mine b.further h.further;
     truth = truth_then died faults b.further h.further b.truth h.truth;
     order = record {
       turns = advances_then p (replicate (count_of p) undrawn) b.phases (slice_set b.phases t to) b.further h.further b.order.turns
@@ -182,14 +182,14 @@ module _ (died : ℕ → ℕ → Type 0) (faults : ℕ → Type 0) (p : PlanData
             let same : t ≡ c.ticket = eqb-true t c.ticket is in
             inr (
               ap (phase_of (slice_set b.begun.phases c.ticket ended)) same ∙ get_or-set_same b.begun.phases c.ticket ended undrawn within,
-              (c, sym same, drawn_since w x c tried.further tried.behind (has_drawn_now v w c draw)),
+              (c, sym same, drawn_since w x c tried.further tried.later (has_drawn_now v w c draw)),
             )
         by t false is =
             let h = taken x ended tried in
             let still = get_or-set_other b.begun.phases c.ticket t ended undrawn (eqb-false t c.ticket is) in
             ⊎_elim (λ (e : phase_of b.begun.phases t ≡ undrawn). inl (still ∙ e))
             (λ (done : (phase_of b.begun.phases t ≡ ended) × ((d : Claim) × (d.ticket ≡ t) × HasDrawn d v.mine)).
-            inr (still ∙ done.0, (done.1.0, done.1.1, drawn_since v x done.1.0 h.further h.behind done.1.2))) (b.each t)
+            inr (still ∙ done.0, (done.1.0, done.1.1, drawn_since v x done.1.0 h.further h.later done.1.2))) (b.each t)
 
     -- the worker stopped on the ticket's way
     pub stopped_then : (x : PassData) → Stops died faults p w x c.ticket asks → HasBegun died faults p u x
@@ -204,7 +204,7 @@ module _ (died : ℕ → ℕ → Type 0) (faults : ℕ → Type 0) (p : PlanData
         begun = record {
           further = d.further ++ e ∷ [];
           phases = d.phases;
-          behind = mine ∙ ap (λ (l : List Entry). l ++ e ∷ []) d.behind ∙ append_assoc u.mine d.further (e ∷ []);
+          later = mine ∙ ap (λ (l : List Entry). l ++ e ∷ []) d.later ∙ append_assoc u.mine d.further (e ∷ []);
           truth = truth_then died faults d.further (e ∷ []) d.truth (tt, tt);
           order = record {
             turns = advances_then p (replicate (count_of p) undrawn) d.phases d.phases d.further (e ∷ []) d.order.turns (d.phases, refl, refl);

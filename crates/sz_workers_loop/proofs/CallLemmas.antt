@@ -97,9 +97,9 @@ drawn_front c (e ∷ es) more (inr h) = inr (drawn_front c es more h)
 
 -- what was drawn stays drawn
 pub drawn_since : (v w : PassData) (c : Claim) (further : List Entry) → w.mine ≡ v.mine ++ further → HasDrawn c v.mine → HasDrawn c w.mine
-drawn_since v w c further behind drew = subst (HasDrawn c) (sym behind) (drawn_front c v.mine further drew)
+drawn_since v w c further later drew = subst (HasDrawn c) (sym later) (drawn_front c v.mine further drew)
 
--- a legal history's front is one, and what comes behind it goes on
+-- a legal history's front is one, and what comes after it goes on
 pub legal_parts : (p : PlanData) (x : LedgerState) (es ds : List Entry) → IsLegalFrom p x (es ++ ds)
     → IsLegalFrom p x es × IsLegalFrom p (state_after p x es) ds
 legal_parts p x [] ds h = (tt, h)

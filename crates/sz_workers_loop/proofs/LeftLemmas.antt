@@ -21,11 +21,11 @@ use Rattle.sz_workers_loop.proofs.CallLemmas.{legal_parts, drawn_front}
 abbrev left_in : LedgerData → List Entry → LedgerState
 left_in l log = state_after l.plan (opening l.plan l.lanes) log
 
--- how many tickets are left, behind what a pass has seen
+-- how many tickets are left, after what a pass has seen
 abbrev pub tickets_left : PassData → ℕ
 tickets_left v = count_of v.ledger.plan - (left_in v.ledger v.seen).drawn
 
--- how many numbers of shard s are left, behind what a pass has seen
+-- how many numbers of shard s are left, after what a pass has seen
 abbrev pub numbers_left : PassData → ℕ → ℕ
 numbers_left v s = v.ledger.plan.attempts - slice_index (left_in v.ledger v.seen).given s
 

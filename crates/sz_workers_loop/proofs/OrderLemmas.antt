@@ -106,7 +106,7 @@ move_of p x n (LaneOut i) ss (Lane home) old next answer turn = stays turn (same
 move_of p x n (LaneBack i) ss Noted old next answer turn = stays turn refl (λ whole. refl)
 move_of p x n event ss reply old next answer turn = absurd turn
 
--- Where each caller's calls that are still to come are in order, behind a front of the history: the phases of all tickets are those of
+-- Where each caller's calls that are still to come are in order, after a front of the history: the phases of all tickets are those of
 -- the callers who drew them
 record Together (p : PlanData) (x : LedgerState) (es : List Entry) (whole : List Phase) : Type 0 where
   own : ℕ → List Phase

@@ -114,7 +114,7 @@ pub hand_still : (v w : PassData) (pocket : LaneData) (e : Event) (r : Reply) �
     → AreInHand pocket.shards w.mine
 hand_still v w pocket e r h hand = in_hand_still v w pocket.shards e r v.lane v.lent h hand
 
--- a shard that was just won stands behind those that were won before
+-- a shard that was just won stands after those that were won before
 hand_now : (v w : PassData) (c : Claim) (k : ℕ) (pocket : LaneData) → Calls v (Settle c k) Won w → IsAtWork v pocket
     → AreInHand (pocket.shards ++ c.shard ∷ []) w.mine
 hand_now v w c k pocket h at =
@@ -143,7 +143,7 @@ pub grows_not : (old new : LaneData) → new ≡ old → Grows old new
 grows_not old new same = record {
   plan = ap (λ (l : LaneData). l.plan) same;
   further = [];
-  behind = ap (λ (l : LaneData). l.shards) same ∙ sym (append-nil old.shards);
+  later = ap (λ (l : LaneData). l.shards) same ∙ sym (append-nil old.shards);
 }
 
 pub grows_self : (old : LaneData) → Grows old old
@@ -151,13 +151,13 @@ grows_self old = grows_not old old refl
 
 -- one shard more
 pub grows_by : (old new : LaneData) (s : ℕ) → new ≡ record { plan = old.plan; shards = old.shards ++ s ∷ [] } → Grows old new
-grows_by old new s is = record { plan = ap (λ (l : LaneData). l.plan) is; further = s ∷ []; behind = ap (λ (l : LaneData). l.shards) is }
+grows_by old new s is = record { plan = ap (λ (l : LaneData). l.plan) is; further = s ∷ []; later = ap (λ (l : LaneData). l.shards) is }
 
 pub grows_then : (old mid new : LaneData) → Grows old mid → Grows mid new → Grows old new
 grows_then old mid new g h = record {
   plan = h.plan ∙ g.plan;
   further = g.further ++ h.further;
-  behind = h.behind ∙ ap (λ (ss : List ℕ). ss ++ h.further) g.behind ∙ append_assoc old.shards g.further h.further;
+  later = h.later ∙ ap (λ (ss : List ℕ). ss ++ h.further) g.later ∙ append_assoc old.shards g.further h.further;
 }
 
 -- a call that wins nothing

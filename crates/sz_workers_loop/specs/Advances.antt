@@ -26,12 +26,12 @@ abbrev pub NoneOnItsWay : List Phase → Type 0
 NoneOnItsWay phases = (t : ℕ) → (phase_of phases t ≡ undrawn) ⊎ (phase_of phases t ≡ ended)
 
 module _ (died : ℕ → ℕ → Type 0) (faults : ℕ → Type 0) (p : PlanData) where
-  -- Behind the calls that the pass had made came further ones. They tell the truth, the events of each ticket come in order, as if
+  -- Later the calls that the pass had made came further ones. They tell the truth, the events of each ticket come in order, as if
   -- none had been drawn before, and they leave the tickets at these phases
   pub record HasBegun (v w : PassData) : Type 0 where
     pub further : List Entry
     pub phases : List Phase
-    pub behind : w.mine ≡ v.mine ++ further
+    pub later : w.mine ≡ v.mine ++ further
     pub truth : AllTellTruth died faults further
     pub order : IsOrderly p further phases
 

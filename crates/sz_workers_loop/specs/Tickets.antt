@@ -16,7 +16,7 @@ module _ (died : ℕ → ℕ → Type 0) (faults : ℕ → Type 0) (p : PlanData
     pub goes : Goes v w
     pub place : IsInPlace w
     pub further : List Entry
-    pub behind : w.mine ≡ v.mine ++ further
+    pub later : w.mine ≡ v.mine ++ further
     pub truth : AllTellTruth died faults further
     pub advances : (old : List Phase) → t < length old → phase_of old t ≡ from → TurnsAll p old further (slice_set old t to)
 
@@ -32,7 +32,7 @@ module _ (died : ℕ → ℕ → Type 0) (faults : ℕ → Type 0) (p : PlanData
     pub each : (t : ℕ) → (phase_of begun.phases t ≡ undrawn)
         ⊎ ((phase_of begun.phases t ≡ ended) × ((c : Claim) × (c.ticket ≡ t) × HasDrawn c w.mine))
 
--- the phase of a ticket behind an attempt: the ticket has ended, or asks for a number again
-abbrev pub phase_behind : Bool → Phase
-phase_behind true = ended
-phase_behind false = asks
+-- the phase of a ticket after an attempt: the ticket has ended, or asks for a number again
+abbrev pub phase_after : Bool → Phase
+phase_after true = ended
+phase_after false = asks

@@ -26,7 +26,7 @@ pub record IsInPlace (v : PassData) : Type 0 where
 pub record Grows (old new : LaneData) : Type 0 where
   pub plan : new.plan ≡ old.plan
   pub further : List ℕ
-  pub behind : new.shards ≡ old.shards ++ further
+  pub later : new.shards ≡ old.shards ++ further
 
 -- each shard that the pass won is in the pocket, but for those that it brought with a lane of the ledger
 abbrev pub HasAllWon : PassData → LaneData → Type 0

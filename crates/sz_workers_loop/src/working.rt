@@ -6,7 +6,7 @@ ghost use Rattle.sz_claims.specs.Known.{AreInHand};
 ghost use Rattle.sz_workers_loop.specs.Makers.{GivesEmits};
 ghost use Rattle.sz_workers_loop.specs.Working.{Goes, IsInPlace, Grows, HasAllWon, IsAtWork};
 ghost use Rattle.sz_workers_loop.specs.Advances.{HasWorked, HasBegun};
-ghost use Rattle.sz_workers_loop.specs.Tickets.{Leads, Stops, phase_behind};
+ghost use Rattle.sz_workers_loop.specs.Tickets.{Leads, Stops, phase_after};
 
 use crate::maker::{Maker, Missed};
 use sz_book::{Claim, Lane, Load, NoMemory, Settled};
@@ -78,7 +78,7 @@ fn try_once<T: Load, M: Maker<T>>(
     requires given { HasNumber claim.now number pass.old.mine }
     ensures plan { M.plan maker.new ≡ M.plan maker.old }
     ensures ok { IfOk result (λ done.
-        Leads T.died T.faults ledger.now.plan pass.old pass.new claim.now.ticket (tries number) (phase_behind done)) }
+        Leads T.died T.faults ledger.now.plan pass.old pass.new claim.now.ticket (tries number) (phase_after done)) }
     ensures err { OnErr result (Stops T.died T.faults ledger.now.plan pass.old pass.new claim.now.ticket (tries number)) }
     ensures grows { Grows pocket.old pocket.new }
     ensures hand { AreInHand pocket.new.shards pass.new.mine }

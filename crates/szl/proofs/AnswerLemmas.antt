@@ -73,15 +73,15 @@ module _ (job : Job) where
 
       by : (b : Bool) (r : Records) → shard_means job shard ≡ r → (o : ShardsEnd) → ((m : ℕ) (g : Fault) → o ≡ faulted m g → 1 ≤ m)
           → (if b then lost number else then_shards r o) ≡ faulted k f → 1 ≤ k
-      by true r means o behind h = absurd (cc)
-      by false (FaultedAt m g) means o behind h =
+      by true r means o after h = absurd (cc)
+      by false (FaultedAt m g) means o after h =
           let le = fault_number job.compiled job.statics job.budget first (take size records) m g means in
           let same = same_number k m f g h in
           omega (arith, le, low, same)
-      by false (Emitted es) means (emitted gs) behind h = absurd (cc)
-      by false (Emitted es) means (lost m) behind h = absurd (cc)
-      by false (Emitted es) means (faulted m g) behind h =
-          let le = behind m g refl in
+      by false (Emitted es) means (emitted gs) after h = absurd (cc)
+      by false (Emitted es) means (lost m) after h = absurd (cc)
+      by false (Emitted es) means (faulted m g) after h =
+          let le = after m g refl in
           let same = same_number k m f g h in
           omega (arith, le, same)
 

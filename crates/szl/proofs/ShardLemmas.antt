@@ -5,7 +5,7 @@ use Rattle.std.specs.Prelude.{nat_le, ◌||◌, if◌then◌else◌}
 use Rattle.std.proofs.lemmas.Bool.Decides.{nat_tests}
 use Rattle.std.proofs.lemmas.List.Sums.{sum_by_push}
 use Rattle.sz_records.specs.Shards.{AreShards, IsShard, IsFull, bytes_in}
-use Rattle.szl.specs.Shards.{sizes_behind, shard_sizes}
+use Rattle.szl.specs.Shards.{sizes_after, shard_sizes}
 
 take_front : {A : Type 0} (xs ys : List A) (m : ℕ) → m ≤ length xs → take m (xs ++ ys) ≡ take m xs
 take_front xs ys zero le = refl
@@ -33,11 +33,11 @@ NoneFull most front = (m : ℕ) → m ≤ length front → ¬ IsFull most (take 
 module _ (most : ℕ) where
   -- records have the shards of their sizes, whatever records that no shard is full of stand before them
   abbrev HaveShards : List (List ℕ) → Type 0
-  HaveShards rs = (front : List (List ℕ)) → NoneFull most front → AreShards most (front ++ rs) (sizes_behind most (length front) (bytes_in front) rs)
+  HaveShards rs = (front : List (List ℕ)) → NoneFull most front → AreShards most (front ++ rs) (sizes_after most (length front) (bytes_in front) rs)
 
-  shard_behind : (front rs : List (List ℕ)) → NoneFull most front → AreShards most (front ++ rs) (sizes_behind most (length front) (bytes_in front) rs)
-  shard_behind [] [] none = refl
-  shard_behind (x ∷ xs) [] none =
+  shard_after : (front rs : List (List ℕ)) → NoneFull most front → AreShards most (front ++ rs) (sizes_after most (length front) (bytes_in front) rs)
+  shard_after [] [] none = refl
+  shard_after (x ∷ xs) [] none =
       let all = append-nil (x ∷ xs) in (
         record {
           some = omega arith;
@@ -47,8 +47,8 @@ module _ (most : ℕ) where
         },
         drop_front (x ∷ xs) [],
       )
-  shard_behind front (r ∷ rs) none =
-      by (λ (longer : List (List ℕ)) (open_still : NoneFull most longer). shard_behind longer rs open_still) (nat_le most (suc (length front)))
+  shard_after front (r ∷ rs) none =
+      by (λ (longer : List (List ℕ)) (open_still : NoneFull most longer). shard_after longer rs open_still) (nat_le most (suc (length front)))
       (nat_le (2 ^ 24) (bytes_in front + length r)) refl refl
     where
       longer : List (List ℕ)
@@ -69,10 +69,10 @@ module _ (most : ℕ) where
             (sym (ap (λ n. take n (front ++ r ∷ rs)) (sym long) ∙ ap (take (length longer)) (sym same) ∙ take_whole longer rs)) full);
       }
 
-      rest : HaveShards rs → AreShards most (drop (suc (length front)) (front ++ r ∷ rs)) (sizes_behind most 0 0 rs)
-      rest behind =
+      rest : HaveShards rs → AreShards most (drop (suc (length front)) (front ++ r ∷ rs)) (sizes_after most 0 0 rs)
+      rest after =
           let left = ap (λ n. drop n (front ++ r ∷ rs)) (sym long) ∙ ap (drop (length longer)) (sym same) ∙ drop_front longer rs in
-          subst (λ l. AreShards most l (sizes_behind most 0 0 rs)) (sym left) (behind [] none_empty)
+          subst (λ l. AreShards most l (sizes_after most 0 0 rs)) (sym left) (after [] none_empty)
         where
           none_empty : NoneFull most []
           none_empty zero le = none 0 (omega arith)
@@ -80,17 +80,17 @@ module _ (most : ℕ) where
 
       by : HaveShards rs → (a b : Bool) → nat_le most (suc (length front)) ≡ a → nat_le (2 ^ 24) (bytes_in front + length r) ≡ b
           → AreShards most (front ++ r ∷ rs)
-          (if a || b then suc (length front) ∷ sizes_behind most 0 0 rs else sizes_behind most (suc (length front)) (bytes_in front + length r) rs)
-      by behind true b is js = let le = at_most most (suc (length front)) is in (this (inl (omega (arith, le, long))), rest behind)
-      by behind false true is js =
-          let le = at_most (2 ^ 24) (bytes_in front + length r) js in (this (inr (omega (arith, le, sum_by_push length front r))), rest behind)
-      by behind false false is js =
+          (if a || b then suc (length front) ∷ sizes_after most 0 0 rs else sizes_after most (suc (length front)) (bytes_in front + length r) rs)
+      by after true b is js = let le = at_most most (suc (length front)) is in (this (inl (omega (arith, le, long))), rest after)
+      by after false true is js =
+          let le = at_most (2 ^ 24) (bytes_in front + length r) js in (this (inr (omega (arith, le, sum_by_push length front r))), rest after)
+      by after false false is js =
           let few = not_at_most most (suc (length front)) is in
           let light = not_at_most (2 ^ 24) (bytes_in front + length r) js in
-          subst (λ l. AreShards most l (sizes_behind most (suc (length front)) (bytes_in front + length r) rs)) same
-          (subst (λ n. AreShards most (longer ++ rs) (sizes_behind most (suc (length front)) n rs)) (sum_by_push length front r)
-          (subst (λ n. AreShards most (longer ++ rs) (sizes_behind most n (bytes_in longer) rs)) long
-          (behind longer (none_longer few light))))
+          subst (λ l. AreShards most l (sizes_after most (suc (length front)) (bytes_in front + length r) rs)) same
+          (subst (λ n. AreShards most (longer ++ rs) (sizes_after most (suc (length front)) n rs)) (sum_by_push length front r)
+          (subst (λ n. AreShards most (longer ++ rs) (sizes_after most n (bytes_in longer) rs)) long
+          (after longer (none_longer few light))))
         where
           none_longer : suc (length front) < most → bytes_in front + length r < 2 ^ 24 → NoneFull most longer
           none_longer few light m le = order (nat_le m (length front)) refl
@@ -109,7 +109,7 @@ module _ (most : ℕ) where
 
 -- the sizes are those of shards
 pub sizes_are_shards : (most : ℕ) (records : List (List ℕ)) → 1 ≤ most → AreShards most records (shard_sizes most records)
-sizes_are_shards most records low = shard_behind most [] records none
+sizes_are_shards most records low = shard_after most [] records none
   where
     none : NoneFull most []
     none zero le (inl full) = absurd (omega (arith, full, low))

@@ -79,7 +79,7 @@ fault_line number fault =
 abbrev pub success : List ℕ → Answer
 success output = record { status = status.Done; output = output; line = []; opens = 2 }
 
--- an answer without output, with the line that says why, behind so many files at most
+-- an answer without output, with the line that says why, after so many files at most
 abbrev pub refusal : Status → List ℕ → ℕ → Answer
 refusal status line opens = record { status = status; output = []; line = line; opens = opens }
 
@@ -143,7 +143,7 @@ cause_text QuantOrder = codes "all must come last"
 cause_text TooMany = codes "too many tables"
 cause_text EmitHere = codes "emit not allowed here"
 
--- the name of a refusal behind the text of its cause, if it has one
+-- the name of a refusal after the text of its cause, if it has one
 abbrev pub name_text : Option (List ℕ) → List ℕ
 name_text None = []
 name_text (Some name) = codes ": " ++ name

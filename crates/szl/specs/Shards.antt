@@ -13,18 +13,18 @@ abbrev pub last_size : ℕ → List ℕ
 last_size zero = []
 last_size (suc count) = suc count ∷ []
 
--- The sizes of the shards of records, behind so many records, with so many bytes, that belong to the first of them. A shard ends with the
+-- The sizes of the shards of records, after so many records, with so many bytes, that belong to the first of them. A shard ends with the
 -- record by which it has as many records as it may have, or 2^24 bytes
-abbrev pub sizes_behind : (most count bytes : ℕ) → List (List ℕ) → List ℕ
-sizes_behind most count bytes [] = last_size count
-sizes_behind most count bytes (record_bytes ∷ records) =
+abbrev pub sizes_after : (most count bytes : ℕ) → List (List ℕ) → List ℕ
+sizes_after most count bytes [] = last_size count
+sizes_after most count bytes (record_bytes ∷ records) =
     if nat_le most (suc count) || nat_le (2 ^ 24) (bytes + length record_bytes)
-    then suc count ∷ sizes_behind most 0 0 records
-    else sizes_behind most (suc count) (bytes + length record_bytes) records
+    then suc count ∷ sizes_after most 0 0 records
+    else sizes_after most (suc count) (bytes + length record_bytes) records
 
 -- the sizes of the shards that records are cut into, each with so many records at most
 abbrev pub shard_sizes : ℕ → List (List ℕ) → List ℕ
-shard_sizes most records = sizes_behind most 0 0 records
+shard_sizes most records = sizes_after most 0 0 records
 
 -- the shards of an input's records: their numbers are counted from 0, and those of records from 1
 abbrev pub shards_in : ℕ → List (List ℕ) → List ShardData

@@ -49,7 +49,7 @@ pub enum Cause {
     BadProto,
     /// Nothing bounds the variable of a `when`.
     Unbounded,
-    /// Behind an `all` stands another quantifier.
+    /// Later an `all` stands another quantifier.
     QuantOrder,
     /// There are more than 64 tables.
     TooMany,

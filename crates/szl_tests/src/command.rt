@@ -49,19 +49,19 @@ pub fn text_of(alloc: Global, marked: &str) -> Result<String, NoMemory> {
 
 /// The bytes that a row writes: those of its text, where `\x` and two hexadecimal digits stand for a byte.
 fn bytes_of(alloc: Global, marked: &str) -> Result<Vec<u8>, Fail> {
-    let (front, behind) = match marked.split_once("\\x") {
-        Some((front, behind)) => (front, Some(behind)),
+    let (front, later) = match marked.split_once("\\x") {
+        Some((front, later)) => (front, Some(later)),
         None => (marked, None),
     };
     let mut bytes = Vec::new(alloc);
     bytes.extend_from_slice(text_of(alloc, front)?.as_bytes())?;
-    if let Some(behind) = behind {
-        push_bytes(alloc, &mut bytes, behind)?;
+    if let Some(later) = later {
+        push_bytes(alloc, &mut bytes, later)?;
     }
     Ok(bytes)
 }
 
-/// Appends bytes that are written with `\x` between them, each with the text behind it.
+/// Appends bytes that are written with `\x` between them, each with the text after it.
 fn push_bytes(alloc: Global, bytes: &mut Vec<u8>, written: &str) -> Result<(), Fail> {
     for part in written.split("\\x") {
         let (digits, text) = part.split_at_checked(2).ok_or("no byte")?;
@@ -100,7 +100,7 @@ fn words_of(alloc: Global, line: &str) -> Result<Vec<String>, NoMemory> {
     Ok(words)
 }
 
-/// What a run leaves, as a row says it: the status, the output, and behind `!` the line.
+/// What a run leaves, as a row says it: the status, the output, and after `!` the line.
 pub fn left<R: Threads + Wait + Sync>(
     rt: &R,
     alloc: Global,

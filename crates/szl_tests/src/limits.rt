@@ -82,7 +82,7 @@ fn in_parentheses(
     alloc: Global,
     count: usize,
     before: &str,
-    behind: &str,
+    later: &str,
 ) -> Result<Vec<u8>, NoMemory> {
     let mut text = Vec::new(alloc);
     text.extend_from_slice(before.as_bytes())?;
@@ -93,7 +93,7 @@ fn in_parentheses(
     for _ in 0..count {
         text.push(b')')?;
     }
-    text.extend_from_slice(behind.as_bytes())?;
+    text.extend_from_slice(later.as_bytes())?;
     Ok(text)
 }
 
@@ -119,7 +119,7 @@ fn declarations(alloc: Global, count: u32) -> Result<Vec<u8>, NoMemory> {
 
 fn program_of(alloc: Global, large: Large) -> Result<Vec<u8>, NoMemory> {
     match large {
-        Large::Parentheses(count, before, behind) => in_parentheses(alloc, count, before, behind),
+        Large::Parentheses(count, before, later) => in_parentheses(alloc, count, before, later),
         Large::Sum(count) => long_sum(alloc, count),
         Large::Tables(count) => declarations(alloc, count),
         Large::Blanks(count) => Ok(vec![in alloc; b' '; count]?),

@@ -7,7 +7,7 @@
 //! Lines above a run say what else it is given, up to the next line of the kind or the next title:
 //!
 //! - `== TITLE` begins anew: with the words `run p f`, an empty input, and no call that fails.
-//! - `$ [WORDS]` has the words of the command line, with a blank between two of them. With `=> STATUS OUTPUT ! LINE` behind it the line is
+//! - `$ [WORDS]` has the words of the command line, with a blank between two of them. With `=> STATUS OUTPUT ! LINE` after it the line is
 //!   a run, of the program above.
 //! - `< INPUT` has the input, in which `\x` and two hexadecimal digits stand for a byte.
 //! - `! p 0` has the first call on the program fail, `! f 0` that on the input, `! out 1` the second writing to the output,
@@ -110,7 +110,7 @@ $ [--help] => 1 ! bad command line
 $ [help] => 1 ! bad command line
 $ [merge p f] => 1 ! bad command line
 
-== options stand anywhere behind the command
+== options stand anywhere later the command
 < 3¶-1¶
 $ [run p f]
 c: table sum of int; x: int = input; emit c <- x; => 0 c[] = 2¶

@@ -14,7 +14,7 @@ struct Stream {
     front: &'static str,
     part: &'static str,
     count: u32,
-    behind: &'static str,
+    later: &'static str,
     /// The number of the call on the input that fails: 0 opens it, and the reads follow.
     fails: u64,
     left: &'static str,
@@ -35,7 +35,7 @@ const STREAMS: &[Stream] = &[
         front: "\n",
         part: "1\n",
         count: 100_000,
-        behind: "",
+        later: "",
         fails: 2,
         left: "3 ! record 1: undefined value used at 3:1",
     },
@@ -45,7 +45,7 @@ const STREAMS: &[Stream] = &[
         front: "",
         part: "1\n",
         count: 100_000,
-        behind: "",
+        later: "",
         fails: 3,
         left: "7 ! shard 34000 lost",
     },
@@ -56,7 +56,7 @@ const STREAMS: &[Stream] = &[
         front: "",
         part: "1\n",
         count: 40_000,
-        behind: "x\n1\n",
+        later: "x\n1\n",
         fails: 3,
         left: "5 ! read failed",
     },
@@ -66,7 +66,7 @@ const STREAMS: &[Stream] = &[
         front: "",
         part: "1\n",
         count: 100_000,
-        behind: "",
+        later: "",
         fails: 2,
         left: "5 ! read failed",
     },
@@ -76,7 +76,7 @@ const STREAMS: &[Stream] = &[
         front: "",
         part: "1\n",
         count: 100_000,
-        behind: "",
+        later: "",
         fails: 4,
         left: "5 ! read failed",
     },
@@ -87,7 +87,7 @@ const STREAMS: &[Stream] = &[
         front: "",
         part: "1\n",
         count: 100_000,
-        behind: "",
+        later: "",
         fails: NEVER,
         left: "0 c[] = 100000¶",
     },
@@ -97,7 +97,7 @@ const STREAMS: &[Stream] = &[
         front: "",
         part: "1\n",
         count: 50_000,
-        behind: "",
+        later: "",
         fails: NEVER,
         left: "0 c[] = 50000¶",
     },
@@ -107,7 +107,7 @@ const STREAMS: &[Stream] = &[
         front: "",
         part: "1\n",
         count: 40_000,
-        behind: "x\n",
+        later: "x\n",
         fails: NEVER,
         left: "7 ! shard 9000 lost",
     },
@@ -117,7 +117,7 @@ const STREAMS: &[Stream] = &[
         front: "",
         part: "1\n",
         count: 40_000,
-        behind: "x\n",
+        later: "x\n",
         fails: NEVER,
         left: "3 ! record 40001: undefined value used at 3:1",
     },
@@ -128,7 +128,7 @@ const STREAMS: &[Stream] = &[
         front: "",
         part: "12345\n",
         count: 50_000,
-        behind: "1",
+        later: "1",
         fails: NEVER,
         left: "0 c[] = 50001¶",
     },
@@ -138,7 +138,7 @@ const STREAMS: &[Stream] = &[
         front: "",
         part: "123\r\n",
         count: 60_000,
-        behind: "12345",
+        later: "12345",
         fails: NEVER,
         left: "0 c[] = 240005¶",
     },
@@ -149,18 +149,18 @@ const STREAMS: &[Stream] = &[
         front: "a\n",
         part: "a",
         count: 200_000,
-        behind: "\na",
+        later: "\na",
         fails: NEVER,
         left: "0 c[] = 200002¶",
     },
-    // The input is damaged, or passes a limit, behind several rounds.
+    // The input is damaged, or passes a limit, after several rounds.
     Stream {
         words: "run p f --frame delimited --shard 1",
         program: COUNT,
         front: "",
         part: "\u{1}1",
         count: 40_000,
-        behind: "\u{5}ab",
+        later: "\u{5}ab",
         fails: NEVER,
         left: "4 ! input damaged at byte 80000",
     },
@@ -170,7 +170,7 @@ const STREAMS: &[Stream] = &[
         front: "\u{1}x",
         part: "\u{1}1",
         count: 40_000,
-        behind: "\u{5}ab",
+        later: "\u{5}ab",
         fails: NEVER,
         left: "3 ! record 1: undefined value used at 3:1",
     },
@@ -180,13 +180,13 @@ const STREAMS: &[Stream] = &[
         front: "1\n",
         part: "1",
         count: 4_194_305,
-        behind: "\n1\n",
+        later: "\n1\n",
         fails: NEVER,
         left: "9 ! input limit at byte 2",
     },
 ];
 
-/// The runs. They are behind a call, so that no proof sees them.
+/// The runs. They are after a call, so that no proof sees them.
 fn streams() -> &'static [Stream] {
     STREAMS
 }
@@ -197,7 +197,7 @@ fn input_of(alloc: Global, stream: &Stream) -> Result<String, NoMemory> {
     for _ in 0..stream.count {
         input.push_str(stream.part)?;
     }
-    input.push_str(stream.behind)?;
+    input.push_str(stream.later)?;
     Ok(input)
 }
 

@@ -1,4 +1,4 @@
--- As many characters as rounds are behind.
+-- As many characters as rounds are after.
 use Rattle.std.specs.Str.Iter.{chars_rest}
 use Rattle.sz_builtin.specs.Characters.{IsRestAfter}
 use Rattle.sz_builtin.proofs.characters.rest_after.Given as goal

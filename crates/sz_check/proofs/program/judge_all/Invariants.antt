@@ -1,4 +1,4 @@
--- What is judged, and the judgement of what is behind it, are the judgement of all.
+-- What is judged, and the judgement of what is after it, are the judgement of all.
 use Rattle.std.proofs.Common.{◌≡◌, map, drop}
 use Rattle.sz_tree.specs.Statements.{stms_of}
 use Rattle.sz_tree.specs.View.{stm_of}

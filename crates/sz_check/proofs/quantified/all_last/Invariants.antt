@@ -1,4 +1,4 @@
--- The variables that are left, behind one that speaks of all candidates or none, are all of them.
+-- The variables that are left, after one that speaks of all candidates or none, are all of them.
 use Rattle.std.proofs.Common.{◌≡◌, drop, map, false}
 use Rattle.sz_check_rules.specs.Quantifying.{all_last}
 use Rattle.sz_check.specs.Quantified.{variable_of}

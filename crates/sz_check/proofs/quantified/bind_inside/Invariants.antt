@@ -1,4 +1,4 @@
--- The variables that are left, behind what is known by now, are all of them; all else stays.
+-- The variables that are left, after what is known by now, are all of them; all else stays.
 use Rattle.std.proofs.Common.{◌≡◌, drop, map}
 use Rattle.sz_check_names.specs.Holding.{blocks_of}
 use Rattle.sz_check_rules.specs.Quantifying.{bind_inside}

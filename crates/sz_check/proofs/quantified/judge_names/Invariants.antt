@@ -1,4 +1,4 @@
--- The names that are left, behind what is declared by now, are all of them; what is outside the innermost block stays.
+-- The names that are left, after what is declared by now, are all of them; what is outside the innermost block stays.
 use Rattle.std.proofs.Common.{◌≡◌, drop}
 use Rattle.sz_types.specs.Seen.{seen}
 use Rattle.sz_check_rules.specs.Quantifying.{judge_names}

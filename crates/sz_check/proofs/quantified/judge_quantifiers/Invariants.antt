@@ -1,4 +1,4 @@
--- The quantifiers that are left, behind what is declared by now, are all of them; what is outside the innermost block stays.
+-- The quantifiers that are left, after what is declared by now, are all of them; what is outside the innermost block stays.
 use Rattle.std.proofs.Common.{◌≡◌, [], drop, map}
 use Rattle.sz_tree.specs.View.{quantifier_of}
 use Rattle.sz_check_rules.specs.Quantifying.{judge_quantifiers}

@@ -7,7 +7,7 @@ use Rattle.sz_check_names.specs.Outcome.{Stops, Judges}
 use Rattle.sz_tree.proofs.RowLemmas.{stm_of_block}
 use Rattle.sz_check_rules.specs.JudgingStatements.{judge_stm}
 use Rattle.sz_check_names.specs.Holding.{Held, scene_of}
-use Rattle.sz_check.specs.Behind.{around_of, behind_of, judge_else}
+use Rattle.sz_check.specs.Later.{around_of, after_of, judge_else}
 use Rattle.sz_check_names.proofs.TurnLemmas.{map_push, judged_as}
 use Rattle.sz_check.specs.Quantified.{variable_of}
 use Rattle.sz_check.proofs.WhenLemmas.{body_stops, body_made}
@@ -81,7 +81,7 @@ judge_block-returns-clause-outside t c =
 
 pub judge_stm-returns-in-Block-clause-value : goal.judge_stm-returns-in-Block-clause-value
 judge_stm-returns-in-Block-clause-value t c =
-    judged_as (λ s. behind_of c.judge_block.new.known s) c.judge_block.result (judge_stm (around_of c.args.around) (scene_of c.args.known.now)) _ _
+    judged_as (λ s. after_of c.judge_block.new.known s) c.judge_block.result (judge_stm (around_of c.args.around) (scene_of c.args.known.now)) _ _
     (ap stm_of c.in-Block.is ∙ stm_of_block _ _) (rw c.as_slice.ensures.value at c.judge_block.ensures.value)
 
 pub judge_for-returns-in_err-start-clause-value : goal.judge_for-returns-in_err-start-clause-value
@@ -179,14 +179,14 @@ judge_stm-returns-in_ok-taken-in-If-default-default-default-Some-clause-value t 
     let is = rw other at arm.is in
     let goes = else_goes_on (around_of c.args.around) (scene_of c.args.known.now) arm.place (tree_of arm.test) (stm_of arm.taken.value)
     (stm_of arm.other.value) (node_of c.in_ok-node-in-If-default-default-default-Some.node)
-    (behind_of c.judge_inside.new.known c.in_ok-taken-in-If-default-default-default-Some.taken.value)
+    (after_of c.judge_inside.new.known c.in_ok-taken-in-If-default-default-default-Some.taken.value)
     c.in_ok-node-in-If-default-default-default-Some.ensures.value
     (rw c.deref-in-If-default-default-default-Some.ensures at c.in_ok-taken-in-If-default-default-default-Some.ensures.value) in
-    let judged = subst (λ (u : _). Judges (λ s. behind_of c.judge_else.new.known s) c.judge_else.result
+    let judged = subst (λ (u : _). Judges (λ s. after_of c.judge_else.new.known s) c.judge_else.result
     (judge_else (around_of c.args.around) (scene_of c.judge_inside.new.known) arm.place (tree_of arm.test)
     (node_of c.in_ok-node-in-If-default-default-default-Some.node) (core_stm_of c.in_ok-taken-in-If-default-default-default-Some.taken.value) (stm_of u)))
     c.deref-in-If-default-default-default-Some-2.ensures c.judge_else.ensures.value in
-    subst (λ (tree : _). Judges (λ s. behind_of c.judge_else.new.known s) c.judge_else.result
+    subst (λ (tree : _). Judges (λ s. after_of c.judge_else.new.known s) c.judge_else.result
     (judge_stm (around_of c.args.around) (scene_of c.args.known.now) (stm_of tree))) (sym is)
-    (subst (λ j. Judges (λ s. behind_of c.judge_else.new.known s) c.judge_else.result j) (sym goes)
+    (subst (λ j. Judges (λ s. after_of c.judge_else.new.known s) c.judge_else.result j) (sym goes)
     (rw arm.field-3-is at judged))

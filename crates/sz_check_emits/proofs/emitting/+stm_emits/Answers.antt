@@ -7,12 +7,12 @@ use Rattle.sz_tree.proofs.RowLemmas.{stm_of_block}
 use Rattle.sz_check_names.specs.Holding.{blocks_of}
 use Rattle.sz_check_rules.specs.EmittingTrees.{emits_by, exp_emits, stm_emits, stms_emit, quantified_names}
 use Rattle.sz_check_emits.specs.Hidden.{hidden_of}
-use Rattle.sz_check_emits.proofs.EmitLemmas.{block_emits, kept_taken, kept_behind, kept_behind_for, hidden_inside, kept_behind_when, first_holds, second_decides}
+use Rattle.sz_check_emits.proofs.EmitLemmas.{block_emits, kept_taken, kept_later, kept_after_for, hidden_inside, kept_after_when, first_holds, second_decides}
 use Rattle.sz_check_emits.proofs.EmitLemmas.{stms_go, stms_end, front_grows}
 use Rattle.sz_check_emits.proofs.emitting.+stm_emits.Goals as goal
 use Rattle.sz_check_emits.proofs.emitting.+stm_emits.Goals.{stms_emit-then-emits, stms_emit-else-emits}
 
--- ---- what is hidden is cut off behind each part
+-- ---- what is hidden is cut off after each part
 
 pub block_emits-returns-clause-kept : goal.block_emits-returns-clause-kept
 block_emits-returns-clause-kept t c =
@@ -23,27 +23,27 @@ pub inside_emits-returns-clause-kept : goal.inside_emits-returns-clause-kept
 inside_emits-returns-clause-kept t c =
     let counted : c.len-count.result ≡ length c.args.hidden.now.items = search rules in
     ap hidden_of c.truncate.ensures.items
-    ∙ kept_behind c.args.hidden.now.items c.stm_emits.new.hidden.items _ (stm_of c.args.tree.now) counted c.in_ok-emits.ensures.hidden
+    ∙ kept_later c.args.hidden.now.items c.stm_emits.new.hidden.items _ (stm_of c.args.tree.now) counted c.in_ok-emits.ensures.hidden
 
 pub for_emits-returns-then-start-clause-kept : goal.for_emits-returns-then-start-clause-kept
 for_emits-returns-then-start-clause-kept t c =
     let counted : c.len-count.result ≡ length c.args.hidden.now.items = search rules in
     ap hidden_of c.truncate.ensures.items
-    ∙ kept_behind_for c.args.hidden.now.items c.first_emits.new.hidden.items c.inside_emits.new.hidden.items _ (option_map first_of c.args.first.now)
+    ∙ kept_after_for c.args.hidden.now.items c.first_emits.new.hidden.items c.inside_emits.new.hidden.items _ (option_map first_of c.args.first.now)
     counted c.in_ok-start.ensures.hidden c.in_ok-body.ensures.kept
 
 pub for_emits-returns-then-step-clause-kept : goal.for_emits-returns-then-step-clause-kept
 for_emits-returns-then-step-clause-kept t c =
     let counted : c.len-count.result ≡ length c.args.hidden.now.items = search rules in
     ap hidden_of c.truncate.ensures.items
-    ∙ kept_behind_for c.args.hidden.now.items c.first_emits.new.hidden.items c.inside_emits.new.hidden.items _ (option_map first_of c.args.first.now)
+    ∙ kept_after_for c.args.hidden.now.items c.first_emits.new.hidden.items c.inside_emits.new.hidden.items _ (option_map first_of c.args.first.now)
     counted c.in_ok-start.ensures.hidden c.in_ok-body.ensures.kept
 
 pub for_emits-returns-else-step-clause-kept : goal.for_emits-returns-else-step-clause-kept
 for_emits-returns-else-step-clause-kept t c =
     let counted : c.len-count.result ≡ length c.args.hidden.now.items = search rules in
     ap hidden_of c.truncate.ensures.items
-    ∙ kept_behind_for c.args.hidden.now.items c.first_emits.new.hidden.items c.inside_emits.new.hidden.items _ (option_map first_of c.args.first.now)
+    ∙ kept_after_for c.args.hidden.now.items c.first_emits.new.hidden.items c.inside_emits.new.hidden.items _ (option_map first_of c.args.first.now)
     counted c.in_ok-start.ensures.hidden c.in_ok-body.ensures.kept
 
 -- ---- a block
@@ -88,7 +88,7 @@ pub when_emits-returns-then-asked-clause-kept : goal.when_emits-returns-then-ask
 when_emits-returns-then-asked-clause-kept t c =
     let counted : c.len-count.result ≡ length c.args.hidden.now.items = search rules in
     ap hidden_of c.truncate-2.ensures.items
-    ∙ kept_behind_when c.args.hidden.now.items c.hide_quantified.new.hidden.items c.truncate.new.self.items c.hide_quantified-2.new.hidden.items _
+    ∙ kept_after_when c.args.hidden.now.items c.hide_quantified.new.hidden.items c.truncate.new.self.items c.hide_quantified-2.new.hidden.items _
     (quantified_names false (map quantifier_of c.args.quantifiers.now)) (quantified_names true (map quantifier_of c.args.quantifiers.now)) counted
     c.in_ok-hide_quantified.ensures.ok c.truncate.ensures.items c.in_ok-hide_quantified-2.ensures.ok c.inside_emits.new.hidden.items
     c.in_ok-body.ensures.kept
@@ -114,7 +114,7 @@ pub when_emits-returns-else-asked-clause-kept : goal.when_emits-returns-else-ask
 when_emits-returns-else-asked-clause-kept t c =
     let counted : c.len-count.result ≡ length c.args.hidden.now.items = search rules in
     ap hidden_of c.truncate-2.ensures.items
-    ∙ kept_behind_when c.args.hidden.now.items c.hide_quantified.new.hidden.items c.truncate.new.self.items c.hide_quantified-2.new.hidden.items _
+    ∙ kept_after_when c.args.hidden.now.items c.hide_quantified.new.hidden.items c.truncate.new.self.items c.hide_quantified-2.new.hidden.items _
     (quantified_names false (map quantifier_of c.args.quantifiers.now)) (quantified_names true (map quantifier_of c.args.quantifiers.now)) counted
     c.in_ok-hide_quantified.ensures.ok c.truncate.ensures.items c.in_ok-hide_quantified-2.ensures.ok c.inside_emits.new.hidden.items
     c.in_ok-body.ensures.kept

@@ -21,7 +21,7 @@ loop-i-preserved c =
     let turn =
     agree_turn (asks_of c.loop-i.asks) c.args.trees.now c.args.nodes.now c.loop-i.i c.index-trees-i.result c.index-nodes-i.result
     (omega arith) (omega arith) c.index-trees-i.is c.index-nodes-i.is in
-    rw c.behind-asks.ensures.value
+    rw c.following-asks.ensures.value
     (goes_on _ _ _ _ (rw c.first.ensures.value at c.in_ok-agrees.ensures.value) (sym turn ∙ c.loop-i.invariant))
 
 pub returns : goal.returns

@@ -27,7 +27,7 @@ pub judge_exps-loop-tree-preserved : goal.judge_exps-loop-tree-preserved
 judge_exps-loop-tree-preserved t c =
     let blocks = blocks_for c.args.known.now c.args.site in
     let front = map node_of c.loop-tree.nodes.items in
-    rw (c.behind-asks.ensures.value, c.in_ok-push.ensures.items, map_push node_of c.loop-tree.nodes.items c.in_ok-node.node)
+    rw (c.following-asks.ensures.value, c.in_ok-push.ensures.items, map_push node_of c.loop-tree.nodes.items c.in_ok-node.node)
     (exps_goes blocks (may_emit c.args.site) front (asks_of c.loop-tree.asks) c.args.trees.now c.loop-tree.tree-index c.tree-item.result
     (node_of c.in_ok-node.node) _ (omega arith) c.tree-item.is
     (rw c.first.ensures.value at c.in_ok-node.ensures.value) c.loop-tree.invariant)

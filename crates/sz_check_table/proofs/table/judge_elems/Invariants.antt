@@ -1,14 +1,14 @@
--- What is judged, and the judgement of what is behind it, are the judgement of all.
+-- What is judged, and the judgement of what is after it, are the judgement of all.
 use Rattle.std.proofs.Common.{◌≡◌, map, drop}
 use Rattle.sz_types.specs.Seen.{seen}
 use Rattle.sz_tree.specs.View.{elem_of}
 use Rattle.sz_check_rules.specs.JudgingPrograms.{judge_elems}
 use Rattle.sz_check_names.specs.Holding.{blocks_of}
-use Rattle.sz_check_names.specs.Turns.{behind}
+use Rattle.sz_check_names.specs.Turns.{following}
 use Rattle.sz_check_table.specs.Tabling.{with_type}
 use Rattle.sz_check_table.proofs.table.judge_elems.Given as goal
 
 abbrev pub invariant-loop-tree : goal.invariant-loop-tree
 invariant-loop-tree l =
-    behind with_type (map seen l.types.items) (judge_elems (blocks_of l.known) (map elem_of (drop l.tree-index l.trees)))
+    following with_type (map seen l.types.items) (judge_elems (blocks_of l.known) (map elem_of (drop l.tree-index l.trees)))
     ≡ judge_elems (blocks_of l.known) (map elem_of l.trees)

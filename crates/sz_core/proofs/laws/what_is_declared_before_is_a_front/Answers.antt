@@ -1,4 +1,4 @@
--- Each item adds to one list at most, behind all that is there.
+-- Each item adds to one list at most, after all that is there.
 use Rattle.sz_core.proofs.LawLemmas.{statics_before, functions_before, tables_before}
 use Rattle.sz_core.proofs.laws.what_is_declared_before_is_a_front.Goals as goal
 

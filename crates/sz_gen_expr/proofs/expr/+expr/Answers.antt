@@ -13,7 +13,7 @@ use Rattle.sz_gen_rules.specs.Tables.{line}
 use Rattle.sz_gen_rules.specs.ExpressionCode.{conversion}
 use Rattle.sz_gen_rules.specs.Named.{HasTarget}
 use Rattle.sz_gen_expr.specs.Building.{Appends, AppendsLine, AppendsNode, AppendsClosed, AppendsDecided, AppendsNodes, AppendsList, AppendsPairings, AppendsMap, Nothing}
-use Rattle.sz_gen_expr.proofs.Builds.{none, behind, closes, closed_by, closed_behind, renamed, counted, three_behind, of_form, decided_made, starts, stays}
+use Rattle.sz_gen_expr.proofs.Builds.{none, after, closes, closed_by, closed_after, renamed, counted, three_after, of_form, decided_made, starts, stays}
 use Rattle.sz_types.proofs.ForCallers.{rest_more, rest_none}
 use Rattle.sz_gen_expr.proofs.expr.+expr.Goals as goal
 
@@ -25,7 +25,7 @@ gen_all-loop-e-init t c = λ new h. h
 pub gen_all-loop-e-preserved : goal.gen_all-loop-e-preserved
 gen_all-loop-e-preserved t c = λ new h.
     c.loop-e.invariant new (subst (λ ns. AppendsNodes c.loop-e.into new (nodes_of ns))
-    (sym (rest_more node_of c.args.es.now c.loop-e.e-index c.e-item.result c.loop-e-test.true c.e-item.is)) (behind c.in_ok-gen_expr.ensures.made h))
+    (sym (rest_more node_of c.args.es.now c.loop-e.e-index c.e-item.result c.loop-e-test.true c.e-item.is)) (after c.in_ok-gen_expr.ensures.made h))
 
 pub gen_all-returns : goal.gen_all-returns
 gen_all-returns t c = record {
@@ -40,7 +40,7 @@ pub gen_pairs-loop-pair-preserved : goal.gen_pairs-loop-pair-preserved
 gen_pairs-loop-pair-preserved t c = λ new h.
     c.loop-pair.invariant new (subst (λ ps. AppendsPairings c.loop-pair.into new (pairings_of ps))
     (sym (rest_more pairing_of c.args.pairs.now c.loop-pair.pair-index c.pair-item.result c.loop-pair-test.true c.pair-item.is))
-    (three_behind c.in_ok-gen_expr.ensures.made c.in_ok-gen_expr-2.ensures.made h))
+    (three_after c.in_ok-gen_expr.ensures.made c.in_ok-gen_expr-2.ensures.made h))
 
 pub gen_pairs-returns : goal.gen_pairs-returns
 gen_pairs-returns t c = record {
@@ -104,7 +104,7 @@ gen_expr-returns-in_ok-gen_expr-in-Convert t c = record {
 pub gen_expr-returns-in_ok-gen_expr-in-Index : goal.gen_expr-returns-in_ok-gen_expr-in-Index
 gen_expr-returns-in_ok-gen_expr-in-Index t c = record {
   made = on_ok_weaker c.gen_closed-in-Index.result (λ h. of_form c.args.e.now _ (ap form_of c.in-Index.is)
-      (closed_behind (node_of c.in-Index.index.value) Index c.args.e.now.place (subst (λ d. AppendsNode c.args.into.now c.gen_expr-in-Index.new.into
+      (closed_after (node_of c.in-Index.index.value) Index c.args.e.now.place (subst (λ d. AppendsNode c.args.into.now c.gen_expr-in-Index.new.into
       (node_of d)) c.deref-in-Index.ensures c.in_ok-gen_expr-in-Index.ensures.made)
       (subst (λ d. AppendsClosed c.gen_expr-in-Index.new.into c.gen_closed-in-Index.new.into (node_of d) Index c.args.e.now.place)
       c.deref-in-Index-2.ensures h))) c.gen_closed-in-Index.ensures.made;
@@ -113,7 +113,7 @@ gen_expr-returns-in_ok-gen_expr-in-Index t c = record {
 pub gen_expr-returns-in_ok-gen_expr-in-Binary : goal.gen_expr-returns-in_ok-gen_expr-in-Binary
 gen_expr-returns-in_ok-gen_expr-in-Binary t c = record {
   made = on_ok_weaker c.gen_closed-in-Binary.result (λ h. of_form c.args.e.now _ (ap form_of c.in-Binary.is)
-      (closed_behind (node_of c.in-Binary.right.value) (Binary c.in-Binary.operator) c.args.e.now.place (subst (λ d. AppendsNode c.args.into.now
+      (closed_after (node_of c.in-Binary.right.value) (Binary c.in-Binary.operator) c.args.e.now.place (subst (λ d. AppendsNode c.args.into.now
       c.gen_expr-in-Binary.new.into (node_of d)) c.deref-in-Binary.ensures c.in_ok-gen_expr-in-Binary.ensures.made)
       (subst (λ d. AppendsClosed c.gen_expr-in-Binary.new.into c.gen_closed-in-Binary.new.into (node_of d) (Binary c.in-Binary.operator)
       c.args.e.now.place) c.deref-in-Binary-2.ensures h))) c.gen_closed-in-Binary.ensures.made;
@@ -122,7 +122,7 @@ gen_expr-returns-in_ok-gen_expr-in-Binary t c = record {
 pub gen_expr-returns-in_ok-gen_expr-in-Slice-2 : goal.gen_expr-returns-in_ok-gen_expr-in-Slice-2
 gen_expr-returns-in_ok-gen_expr-in-Slice-2 t c = record {
   made = on_ok_weaker c.gen_closed-in-Slice.result (λ h. of_form c.args.e.now _ (ap form_of c.in-Slice.is)
-      (renamed (λ tables n. (n.0.0, n.0.1, n.1)) (closed_behind (node_of c.in-Slice.to.value) Slice c.args.e.now.place (behind (subst
+      (renamed (λ tables n. (n.0.0, n.0.1, n.1)) (closed_after (node_of c.in-Slice.to.value) Slice c.args.e.now.place (after (subst
       (λ d. AppendsNode c.args.into.now c.gen_expr-in-Slice.new.into (node_of d)) c.deref-in-Slice.ensures c.in_ok-gen_expr-in-Slice.ensures.made)
       (subst (λ d. AppendsNode c.gen_expr-in-Slice.new.into c.gen_expr-in-Slice-2.new.into (node_of d)) c.deref-in-Slice-2.ensures
       c.in_ok-gen_expr-in-Slice-2.ensures.made))
@@ -133,7 +133,7 @@ gen_expr-returns-in_ok-gen_expr-in-Slice-2 t c = record {
 pub gen_expr-returns-in_ok-gen_expr-in-And : goal.gen_expr-returns-in_ok-gen_expr-in-And
 gen_expr-returns-in_ok-gen_expr-in-And t c = record {
   made = on_ok_weaker c.gen_decided.result (λ h. of_form c.args.e.now _ (ap form_of c.in-And.is)
-      (behind (subst (λ d. AppendsNode c.args.into.now c.gen_expr-in-And.new.into (node_of d)) c.deref-in-And.ensures c.in_ok-gen_expr-in-And.ensures.made)
+      (after (subst (λ d. AppendsNode c.args.into.now c.gen_expr-in-And.new.into (node_of d)) c.deref-in-And.ensures c.in_ok-gen_expr-in-And.ensures.made)
       (subst (λ d. AppendsDecided c.gen_expr-in-And.new.into c.gen_decided.new.into (AndTest 0) c.args.e.now.place (node_of d))
       c.deref-in-And-2.ensures h))) c.gen_decided.ensures.made;
 }
@@ -141,7 +141,7 @@ gen_expr-returns-in_ok-gen_expr-in-And t c = record {
 pub gen_expr-returns-in_ok-gen_expr-in-Or : goal.gen_expr-returns-in_ok-gen_expr-in-Or
 gen_expr-returns-in_ok-gen_expr-in-Or t c = record {
   made = on_ok_weaker c.gen_decided-in-Or.result (λ h. of_form c.args.e.now _ (ap form_of c.in-Or.is)
-      (behind (subst (λ d. AppendsNode c.args.into.now c.gen_expr-in-Or.new.into (node_of d)) c.deref-in-Or.ensures c.in_ok-gen_expr-in-Or.ensures.made)
+      (after (subst (λ d. AppendsNode c.args.into.now c.gen_expr-in-Or.new.into (node_of d)) c.deref-in-Or.ensures c.in_ok-gen_expr-in-Or.ensures.made)
       (subst (λ d. AppendsDecided c.gen_expr-in-Or.new.into c.gen_decided-in-Or.new.into (OrTest 0) c.args.e.now.place (node_of d))
       c.deref-in-Or-2.ensures h))) c.gen_decided-in-Or.ensures.made;
 }

@@ -1,9 +1,9 @@
--- The code for all candidates of one variable after the other, and of the condition behind all.
+-- The code for all candidates of one variable after the other, and of the condition after all.
 use Rattle.std.proofs.Common.{map, sym, subst, arith}
 use Rattle.std.proofs.lemmas.Result.{on_ok_weaker}
 use Rattle.sz_core.specs.View.{node_of, quantified_of}
 use Rattle.sz_gen_rules.specs.ExpressionCode.{expression_code}
-use Rattle.sz_gen_expr.proofs.Builds.{behind, renamed, no_more, starts, stays}
+use Rattle.sz_gen_expr.proofs.Builds.{after, renamed, no_more, starts, stays}
 use Rattle.sz_types.proofs.ForCallers.{rest_none}
 use Rattle.sz_gen_rules.specs.StatementCode.{variable_code_of}
 use Rattle.sz_gen_rules.specs.SearchCode.{holds_code}
@@ -17,7 +17,7 @@ gen_holds-returns-in_default t c = record {
   made = on_ok_weaker c.free.result (λ h. subst (λ vs. AppendsHolds c.args.into.now c.free.new.into c.args.place vs (node_of c.args.condition.now)
       c.args.fail)
       (sym (rest_none quantified_of c.args.variables.now 0 (omega (arith, c.in_default.len_below))))
-      (renamed (λ tables n. (tt, n)) (no_more (behind c.in_ok-gen_expr.ensures.made h)))) c.free.ensures.made;
+      (renamed (λ tables n. (tt, n)) (no_more (after c.in_ok-gen_expr.ensures.made h)))) c.free.ensures.made;
 }
 
 pub gen_every-land-requires : goal.gen_every-land-requires

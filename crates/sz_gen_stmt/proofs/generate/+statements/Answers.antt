@@ -8,14 +8,14 @@ use Rattle.sz_core.specs.Nodes.{nodes_of}
 use Rattle.sz_core.specs.Statements.{store, emit, stms_of}
 use Rattle.sz_core.specs.View.{node_of, step_of, quantity_of, quantified_of, stm_of}
 use Rattle.sz_core.proofs.ForCallers.{stm_of_block}
-use Rattle.sz_gen_expr.proofs.Builds.{none, behind, renamed, no_more, closed_behind, starts, stays}
+use Rattle.sz_gen_expr.proofs.Builds.{none, after, renamed, no_more, closed_after, starts, stays}
 use Rattle.sz_instr.specs.declared.instr.Instr.TheVariants.{Return}
 use Rattle.sz_types.proofs.ForCallers.{rest_more, rest_none}
 use Rattle.sz_gen_rules.specs.ExpressionCode.{expression_code}
 use Rattle.sz_gen_rules.specs.StatementCode.{test_code, in_search, variable_code_of, statement_code}
 use Rattle.sz_gen_rules.specs.SearchCode.{search_code}
 use Rattle.sz_gen_stmt.specs.Making.{exits_of, node_if_some, stm_if_some, AppendsStm, AppendsStms, AppendsLoop, AppendsIfAny, AppendsSearch, AppendsHolds}
-use Rattle.sz_gen_stmt.proofs.Made.{of_stm, lent_is, stays_landed, branch_made, loop_made, loop_behind_made}
+use Rattle.sz_gen_stmt.proofs.Made.{of_stm, lent_is, stays_landed, branch_made, loop_made, loop_after_made}
 use Rattle.sz_gen_stmt.proofs.SearchMade.{when_made, none_searched, some_searched, each_searched, all_searched}
 use Rattle.sz_gen_stmt.proofs.Sizes.{stm_size, stms_size, item_size}
 use Rattle.sz_gen_stmt.proofs.generate.+statements.Goals as goal
@@ -54,7 +54,7 @@ pub gen_stmts-loop-statement-preserved : goal.gen_stmts-loop-statement-preserved
 gen_stmts-loop-statement-preserved t c = λ new h.
     c.loop-statement.invariant new (subst (λ ss. AppendsStms c.loop-statement.into new (stms_of ss) (exits_of c.args.out))
     (sym (rest_more stm_of c.args.statements.now c.loop-statement.statement-index c.statement-item.result c.loop-statement-test.true c.statement-item.is))
-    (behind c.in_ok-gen_stmt.ensures.made h))
+    (after c.in_ok-gen_stmt.ensures.made h))
 
 pub gen_stmts-returns : goal.gen_stmts-returns
 gen_stmts-returns t c = record {
@@ -96,13 +96,13 @@ gen_stmt-returns-in-EndRecord t c = record {
 pub gen_stmt-returns-in_ok-gen_expr-in-Evaluate : goal.gen_stmt-returns-in_ok-gen_expr-in-Evaluate
 gen_stmt-returns-in_ok-gen_expr-in-Evaluate t c = record {
   made = on_ok_weaker c.append.result (λ h. of_stm (exits_of c.args.out) c.args.s.now _ (ap stm_of c.in-Evaluate.is)
-      (no_more (behind c.in_ok-gen_expr-in-Evaluate.ensures.made h))) c.append.ensures.made;
+      (no_more (after c.in_ok-gen_expr-in-Evaluate.ensures.made h))) c.append.ensures.made;
 }
 
 pub gen_stmt-returns-in_ok-gen_discards-in-Return : goal.gen_stmt-returns-in_ok-gen_discards-in-Return
 gen_stmt-returns-in_ok-gen_discards-in-Return t c = record {
   made = on_ok_weaker c.gen_closed-in-Return.result (λ h. of_stm (exits_of c.args.out) c.args.s.now _ (ap stm_of c.in-Return.is)
-      (renamed (λ tables n. n.1) (closed_behind (node_of c.in-Return.value) Return c.in-Return.place c.in_ok-gen_discards-in-Return.ensures.made h)))
+      (renamed (λ tables n. n.1) (closed_after (node_of c.in-Return.value) Return c.in-Return.place c.in_ok-gen_discards-in-Return.ensures.made h)))
       c.gen_closed-in-Return.ensures.made;
 }
 
@@ -208,7 +208,7 @@ gen_do_while-land-requires-3 t c =
 
 pub gen_do_while-returns : goal.gen_do_while-returns
 gen_do_while-returns t c = record {
-  made = loop_behind_made (λ tables away at. test_code tables c.args.place (Some (node_of c.args.test.now)) away at)
+  made = loop_after_made (λ tables away at. test_code tables c.args.place (Some (node_of c.args.test.now)) away at)
       (λ tables b k at. statement_code tables (stm_of c.args.body.now) (record { on_break = b; on_continue = k; flags = c.args.out.flags }) at)
       c.args.place c.in_ok-entry.entry c.in_ok-past.past c.in_ok-to_test.to_test c.here-again.result
       c.in_ok-entry.ensures.at c.in_ok-entry.ensures.made c.in_ok-past.ensures.at c.in_ok-past.ensures.made

@@ -1,4 +1,4 @@
--- What is left to append, behind what there is now, makes the whole.
+-- What is left to append, after what there is now, makes the whole.
 use Rattle.std.proofs.Common.{suc, ◌+◌, ◌*◌, length, map, drop}
 use Rattle.sz_core.specs.Statements.{stms_of}
 use Rattle.sz_core.specs.View.{stm_of}

@@ -1,4 +1,4 @@
--- What is left to append, behind what there is now, makes the whole.
+-- What is left to append, after what there is now, makes the whole.
 use Rattle.std.proofs.Common.{map, drop}
 use Rattle.sz_core.specs.View.{step_of}
 use Rattle.sz_gen_expr.specs.declared.builder.Builder.{Builder}

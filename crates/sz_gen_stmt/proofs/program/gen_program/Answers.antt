@@ -2,7 +2,7 @@ use Rattle.std.proofs.Common.{◌∙◌, ap, subst, length}
 use Rattle.std.proofs.lemmas.Result.{IfOk-weaker}
 use Rattle.sz_core.specs.Statements.{stms_of}
 use Rattle.sz_core.specs.Programs.{functions_of, statics_of, statements_of, tables_of}
-use Rattle.sz_gen_expr.proofs.Builds.{no_more, behind}
+use Rattle.sz_gen_expr.proofs.Builds.{no_more, after}
 use Rattle.sz_gen_rules.specs.StatementCode.{no_exits}
 use Rattle.sz_gen_rules.specs.ProgramCode.{IsCodeOf}
 use Rattle.sz_gen_stmt.specs.Making.{AppendsStms, ExtendsFunctions, ExtendsStatics}
@@ -20,7 +20,7 @@ returns-clause-value c =
     (subst (λ xs. ExtendsStatics c.gen_functions.new.into c.gen_statics.new.into (length c.gen_functions.new.into.statics) (statics_of xs)) is
     c.in_ok-gen_statics.ensures.made)
     c.here-entry.ensures.value
-    (no_more (behind (subst (λ xs. AppendsStms c.gen_statics.new.into c.gen_statements.new.into (stms_of (statements_of xs)) no_exits) is
+    (no_more (after (subst (λ xs. AppendsStms c.gen_statics.new.into c.gen_statements.new.into (stms_of (statements_of xs)) no_exits) is
     c.in_ok-gen_statements.ensures.made) c.in_ok-free.ensures.made))
     (c.in_ok-small.ensures.value ∙ c.len.ensures.value ∙ ap length c.locals.ensures.value) (c.in_ok-tables.ensures.value ∙ ap tables_of is)
     made) c.finished.ensures.value

@@ -1,7 +1,7 @@
 use Rattle.std.proofs.Common.{◌∙◌, ◌∷◌, ◌+◌, sym, ap, subst, map, drop}
 use Rattle.sz_core.specs.declared.program.Item.{Item}
 use Rattle.sz_core.specs.View.{item_of}
-use Rattle.sz_gen_expr.proofs.Builds.{none, behind}
+use Rattle.sz_gen_expr.proofs.Builds.{none, after}
 use Rattle.sz_types.proofs.ForCallers.{rest_more, rest_none}
 use Rattle.sz_core.specs.Statements.{stms_of}
 use Rattle.sz_core.specs.Programs.{statements_of}
@@ -18,7 +18,7 @@ loop-item-preserved c = λ new h.
     c.loop-item.invariant new (subst (λ xs. AppendsStms c.loop-item.into new (stms_of (statements_of xs)) no_exits)
     (sym (rest_more item_of c.args.items.now c.loop-item.item-index c.item-item.result c.loop-item-test.true c.item-item.is
     ∙ ap (λ (x : Item). item_of x ∷ map item_of (drop (c.loop-item.item-index + 1) c.args.items.now)) c.in-Statement.is))
-    (behind c.in_ok-gen_stmt.ensures.made h))
+    (after c.in_ok-gen_stmt.ensures.made h))
 
 -- another item
 pub loop-item-preserved-in_default : goal.loop-item-preserved-in_default

@@ -22,11 +22,11 @@ loop-plain-preserved c =
     c.loop-plain.invariant.len c.in-Some.ensures c.if-text-mark-ne92.false c.in_ok-escape.ensures.value in
     let text = c.args.text.now in
     let mark = c.loop-plain.at + c.in-Some.plain in
-    let behind_escape : c.in_ok-escape.escape ≤ length text - (mark + 1) =
+    let after_escape : c.in_ok-escape.escape ≤ length text - (mark + 1) =
     omega (arith, c.in_ok-escape.ensures.within, ap length (take_rest text (mark + 1)), length-drop (mark + 1) text) in
     let found : c.in-Some.plain < length text - c.loop-plain.at =
     omega (arith, c.in-Some.ensures.0.high, ap length (take_rest text c.loop-plain.at), length-drop c.loop-plain.at text) in
-    record { within = omega (arith, behind_escape, found); len = rest }
+    record { within = omega (arith, after_escape, found); len = rest }
 
 pub returns-clause-value : goal.returns-clause-value
 returns-clause-value c = nothing_ends c.args.quoted c.args.text.now c.loop-plain.at c.loop-plain.invariant.len c.in_default.ensures

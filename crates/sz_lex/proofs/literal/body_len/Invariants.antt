@@ -3,7 +3,7 @@ use Rattle.std.specs.Option.{option_map}
 use Rattle.sz_lex.specs.Reading.{body_at}
 use Rattle.sz_lex.proofs.literal.body_len.Given as goal
 
--- what is left of the body, behind the bytes so far, is the body
+-- what is left of the body, after the bytes so far, is the body
 abbrev pub invariant-loop-plain : goal.invariant-loop-plain
 invariant-loop-plain l = record {
   within : l.at ≤ length l.text;

@@ -33,14 +33,14 @@ returns-in_default-escape_in c =
     ap (whole_value (length c.args.body.now)) (sym (escape_closes c.args.quoted c.args.body.now c.loop-plain.at c.in-Some.plain
     c.loop-plain.value.items c.loop-plain.invariant.decoded c.in-Some.ensures c.if-body-mark-ne92.false c.in_default-escape_in.ensures.value))
 
--- The escape's value stands behind that of the bytes before it.
+-- The escape's value stands after that of the bytes before it.
 pub loop-plain-preserved : goal.loop-plain-preserved
 loop-plain-preserved c =
     let text = c.args.body.now in
     let mark = c.loop-plain.at + c.in-Some.plain in
     let value = c.loop-plain.value.items in
-    let behind = take (length text - (mark + 1)) (drop (mark + 1) text) in
-    let size : c.escape_size-size.result ≡ escape_size (first behind) = c.escape_size-size.ensures ∙ ap escape_size (first_is behind) in
+    let later = take (length text - (mark + 1)) (drop (mark + 1) text) in
+    let size : c.escape_size-size.result ≡ escape_size (first later) = c.escape_size-size.ensures ∙ ap escape_size (first_is later) in
     let decoded = escape_decodes c.args.quoted text c.loop-plain.at c.in-Some.plain c.escape_size-size.result value
     (escape_value c.in-Some-escape_in.escape) c.loop-plain.invariant.decoded c.in-Some.ensures c.if-body-mark-ne92.false
     c.in-Some-escape_in.ensures.value size in

@@ -2,7 +2,7 @@ use Rattle.std.proofs.Common.{◌-◌, ◌≤◌, length}
 use Rattle.sz_lex.proofs.BodyLemmas.{IsDecoded}
 use Rattle.sz_lex.proofs.literal.decode_body.Given as goal
 
--- what is left of the body, behind the bytes so far and their value, is the body
+-- what is left of the body, after the bytes so far and their value, is the body
 abbrev pub invariant-loop-plain : goal.invariant-loop-plain
 invariant-loop-plain l = record {
   within : l.at ≤ length l.body;

@@ -4,7 +4,7 @@ use Rattle.std.specs.Prelude.{map}
 use Rattle.sz_tree.specs.Expressions.{exps_of, pairs_of, height, heights, pair_heights}
 use Rattle.sz_tree.specs.View.{tree_of, pair_of}
 use Rattle.sz_parse_expr.specs.Reading.{utf8_in, all_at, with_items}
-use Rattle.sz_parse_expr.specs.ReadingExpressions.{expr_at, chain_at, tail_at, comma_step, pair_step, items_behind, pairs_behind}
+use Rattle.sz_parse_expr.specs.ReadingExpressions.{expr_at, chain_at, tail_at, comma_step, pair_step, items_after, pairs_after}
 use Rattle.sz_parse_expr.proofs.expression.+expr.Given as goal
 
 -- an expression's own function comes after those of its parts, and the loosest level first
@@ -98,7 +98,7 @@ invariant-parts-loop l = record {
 abbrev pub invariant-items-loop-after : goal.invariant-items-loop-after
 invariant-items-loop-after l = record {
   read : with_items (map tree_of l.items.items) (all_at (comma_step (expr_at (utf8_in l.text) l.inner)) l.rest)
-      ≡ items_behind (expr_at (utf8_in l.text) l.inner) (tree_of l.fn.first) l.fn.tokens;
+      ≡ items_after (expr_at (utf8_in l.text) l.inner) (tree_of l.fn.first) l.fn.tokens;
   measured : l.height ≡ heights (exps_of (map tree_of l.items.items));
   low : l.height ≤ l.inner;
 }
@@ -109,7 +109,7 @@ decreases-items-loop-after l = length l.rest
 abbrev pub invariant-pairs-loop-after : goal.invariant-pairs-loop-after
 invariant-pairs-loop-after l = record {
   read : with_items (map pair_of l.pairs.items) (all_at (pair_step (expr_at (utf8_in l.text) l.inner)) l.rest)
-      ≡ pairs_behind (expr_at (utf8_in l.text) l.inner) (pair_of l.fn.first) l.fn.tokens;
+      ≡ pairs_after (expr_at (utf8_in l.text) l.inner) (pair_of l.fn.first) l.fn.tokens;
   measured : l.height ≡ pair_heights (pairs_of (map pair_of l.pairs.items));
   low : l.height ≤ l.inner;
 }

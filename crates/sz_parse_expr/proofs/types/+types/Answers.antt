@@ -10,23 +10,23 @@ use Rattle.sz_parse_expr.proofs.ExpressionRows.{just, map_push}
 use Rattle.sz_parse_expr.proofs.TypeTurns.{param_here, param_gone, no_param_at_end, params_start, field_here, field_gone, no_field_at_end, fields_start}
 use Rattle.sz_parse_expr.proofs.types.+types.Goals as goal
 
--- ---- params_behind
+-- ---- params_after
 
-pub params_behind-loop-after-init : goal.params_behind-loop-after-init
-params_behind-loop-after-init t c =
+pub params_after-loop-after-init : goal.params_after-loop-after-init
+params_after-loop-after-init t c =
     let made : map param_of c.push.new.self.items ≡ param_of c.args.first ∷ [] = rw (c.in_ok-push.ensures.items, c.new-params.ensures.items) refl in
     rw made (params_start (utf8_in c.args.text.now) (type_at (utf8_in c.args.text.now) c.args.inner) (param_of c.args.first) c.args.tokens.now)
 
-pub params_behind-loop-after-smaller : goal.params_behind-loop-after-smaller
-params_behind-loop-after-smaller t c =
+pub params_after-loop-after-smaller : goal.params_after-loop-after-smaller
+params_after-loop-after-smaller t c =
     item_shorter (param_item (utf8_in c.args.text.now) (type_at (utf8_in c.args.text.now) c.args.inner) c.args.inner
     (type_sound (utf8_in c.args.text.now) c.args.inner))
     (param_of c.in_ok-item.item) c.loop-after.rest.now c.in_ok-item.after.now
     (param_here (utf8_in c.args.text.now) (type_at (utf8_in c.args.text.now) c.args.inner) c.loop-after.rest.now c.in-Some.after.now c.in-Some.ensures.value
     ∙ ap just c.in_ok-item.ensures.read)
 
-pub params_behind-returns-in_err-item : goal.params_behind-returns-in_err-item
-params_behind-returns-in_err-item t c =
+pub params_after-returns-in_err-item : goal.params_after-returns-in_err-item
+params_after-returns-in_err-item t c =
     let p = err_from_is_err_and c.from_residual-in_err-item.result c.from_residual-in_err-item.ensures.1 in
     record {
       read = rw (p.1, p.2)
@@ -37,8 +37,8 @@ params_behind-returns-in_err-item t c =
           c.loop-after.invariant);
     }
 
-pub params_behind-loop-after-preserved : goal.params_behind-loop-after-preserved
-params_behind-loop-after-preserved t c =
+pub params_after-loop-after-preserved : goal.params_after-loop-after-preserved
+params_after-loop-after-preserved t c =
     let made : map param_of c.push-in-Some.new.self.items ≡ map param_of c.loop-after.params.items ++ param_of c.in_ok-item.item ∷ [] =
     rw c.in_ok-push-2.ensures.items (map_push param_of c.loop-after.params.items c.in_ok-item.item) in
     rw made (all_goes_on (param_item (utf8_in c.args.text.now) (type_at (utf8_in c.args.text.now) c.args.inner) c.args.inner
@@ -47,30 +47,30 @@ params_behind-loop-after-preserved t c =
     (param_here (utf8_in c.args.text.now) (type_at (utf8_in c.args.text.now) c.args.inner) c.loop-after.rest.now c.in-Some.after.now c.in-Some.ensures.value
     ∙ ap just c.in_ok-item.ensures.read) c.loop-after.invariant)
 
-pub params_behind-returns : goal.params_behind-returns
-params_behind-returns t c =
+pub params_after-returns : goal.params_after-returns
+params_after-returns t c =
     record {
       read = all_ends (param_step (utf8_in c.args.text.now) (type_at (utf8_in c.args.text.now) c.args.inner))
           (map param_of c.loop-after.params.items) c.loop-after.rest.now _ (param_gone _ _ _ c.in_default.ensures.value) c.loop-after.invariant;
     }
 
--- ---- fields_behind
+-- ---- fields_after
 
-pub fields_behind-loop-after-init : goal.fields_behind-loop-after-init
-fields_behind-loop-after-init t c =
+pub fields_after-loop-after-init : goal.fields_after-loop-after-init
+fields_after-loop-after-init t c =
     let made : map field_of c.push.new.self.items ≡ field_of c.args.first ∷ [] = rw (c.in_ok-push.ensures.items, c.new-fields.ensures.items) refl in
     rw made (fields_start (utf8_in c.args.text.now) (type_at (utf8_in c.args.text.now) c.args.inner) (field_of c.args.first) c.args.tokens.now)
 
-pub fields_behind-loop-after-smaller : goal.fields_behind-loop-after-smaller
-fields_behind-loop-after-smaller t c =
+pub fields_after-loop-after-smaller : goal.fields_after-loop-after-smaller
+fields_after-loop-after-smaller t c =
     item_shorter (field_item (utf8_in c.args.text.now) (type_at (utf8_in c.args.text.now) c.args.inner) c.args.inner
     (type_sound (utf8_in c.args.text.now) c.args.inner))
     (field_of c.in_ok-item.item) c.loop-after.rest.now c.in_ok-item.after.now
     (field_here (utf8_in c.args.text.now) (type_at (utf8_in c.args.text.now) c.args.inner) c.loop-after.rest.now c.in-Some.after.now c.in-Some.ensures.value
     ∙ ap just c.in_ok-item.ensures.read)
 
-pub fields_behind-returns-in_err-item : goal.fields_behind-returns-in_err-item
-fields_behind-returns-in_err-item t c =
+pub fields_after-returns-in_err-item : goal.fields_after-returns-in_err-item
+fields_after-returns-in_err-item t c =
     let p = err_from_is_err_and c.from_residual-in_err-item.result c.from_residual-in_err-item.ensures.1 in
     record {
       read = rw (p.1, p.2)
@@ -81,8 +81,8 @@ fields_behind-returns-in_err-item t c =
           c.loop-after.invariant);
     }
 
-pub fields_behind-loop-after-preserved : goal.fields_behind-loop-after-preserved
-fields_behind-loop-after-preserved t c =
+pub fields_after-loop-after-preserved : goal.fields_after-loop-after-preserved
+fields_after-loop-after-preserved t c =
     let made : map field_of c.push-in-Some.new.self.items ≡ map field_of c.loop-after.fields.items ++ field_of c.in_ok-item.item ∷ [] =
     rw c.in_ok-push-2.ensures.items (map_push field_of c.loop-after.fields.items c.in_ok-item.item) in
     rw made (all_goes_on (field_item (utf8_in c.args.text.now) (type_at (utf8_in c.args.text.now) c.args.inner) c.args.inner
@@ -91,8 +91,8 @@ fields_behind-loop-after-preserved t c =
     (field_here (utf8_in c.args.text.now) (type_at (utf8_in c.args.text.now) c.args.inner) c.loop-after.rest.now c.in-Some.after.now c.in-Some.ensures.value
     ∙ ap just c.in_ok-item.ensures.read) c.loop-after.invariant)
 
-pub fields_behind-returns : goal.fields_behind-returns
-fields_behind-returns t c =
+pub fields_after-returns : goal.fields_after-returns
+fields_after-returns t c =
     record {
       read = all_ends (proto_field_step (utf8_in c.args.text.now) (type_at (utf8_in c.args.text.now) c.args.inner))
           (map field_of c.loop-after.fields.items) c.loop-after.rest.now _ (field_gone _ _ _ c.in_default.ensures.value) c.loop-after.invariant;

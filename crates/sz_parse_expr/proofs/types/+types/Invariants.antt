@@ -3,7 +3,7 @@ use Rattle.std.proofs.Common.{◌≡◌, ◌+◌, ◌*◌, length}
 use Rattle.std.specs.Prelude.{map}
 use Rattle.sz_tree.specs.View.{param_of, field_of}
 use Rattle.sz_parse_expr.specs.Reading.{utf8_in, all_at, with_items}
-use Rattle.sz_parse_expr.specs.ReadingTypes.{type_at, param_step, params_behind, proto_field_step, proto_fields_behind}
+use Rattle.sz_parse_expr.specs.ReadingTypes.{type_at, param_step, params_after, proto_field_step, proto_fields_after}
 use Rattle.sz_parse_expr.proofs.types.+types.Given as goal
 
 -- a type's own function comes after those of its parts
@@ -34,8 +34,8 @@ decreases-proto l = 16 * l.inner + 8
 abbrev pub decreases-params : goal.decreases-params
 decreases-params l = 16 * l.inner + 6
 
-abbrev pub decreases-params_behind : goal.decreases-params_behind
-decreases-params_behind l = 16 * l.inner + 5
+abbrev pub decreases-params_after : goal.decreases-params_after
+decreases-params_after l = 16 * l.inner + 5
 
 abbrev pub decreases-param : goal.decreases-param
 decreases-param l = 16 * l.inner + 4
@@ -43,25 +43,25 @@ decreases-param l = 16 * l.inner + 4
 abbrev pub decreases-fields : goal.decreases-fields
 decreases-fields l = 16 * l.inner + 7
 
-abbrev pub decreases-fields_behind : goal.decreases-fields_behind
-decreases-fields_behind l = 16 * l.inner + 6
+abbrev pub decreases-fields_after : goal.decreases-fields_after
+decreases-fields_after l = 16 * l.inner + 6
 
 abbrev pub decreases-field : goal.decreases-field
 decreases-field l = 16 * l.inner + 5
 
 -- the items so far, and those that are read from here, are all of them
-abbrev pub invariant-params_behind-loop-after : goal.invariant-params_behind-loop-after
-invariant-params_behind-loop-after l =
+abbrev pub invariant-params_after-loop-after : goal.invariant-params_after-loop-after
+invariant-params_after-loop-after l =
     with_items (map param_of l.params.items) (all_at (param_step (utf8_in l.text) (type_at (utf8_in l.text) l.inner)) l.rest)
-    ≡ params_behind (utf8_in l.text) (type_at (utf8_in l.text) l.inner) (param_of l.fn.first) l.fn.tokens
+    ≡ params_after (utf8_in l.text) (type_at (utf8_in l.text) l.inner) (param_of l.fn.first) l.fn.tokens
 
-abbrev pub decreases-params_behind-loop-after : goal.decreases-params_behind-loop-after
-decreases-params_behind-loop-after l = length l.rest
+abbrev pub decreases-params_after-loop-after : goal.decreases-params_after-loop-after
+decreases-params_after-loop-after l = length l.rest
 
-abbrev pub invariant-fields_behind-loop-after : goal.invariant-fields_behind-loop-after
-invariant-fields_behind-loop-after l =
+abbrev pub invariant-fields_after-loop-after : goal.invariant-fields_after-loop-after
+invariant-fields_after-loop-after l =
     with_items (map field_of l.fields.items) (all_at (proto_field_step (utf8_in l.text) (type_at (utf8_in l.text) l.inner)) l.rest)
-    ≡ proto_fields_behind (utf8_in l.text) (type_at (utf8_in l.text) l.inner) (field_of l.fn.first) l.fn.tokens
+    ≡ proto_fields_after (utf8_in l.text) (type_at (utf8_in l.text) l.inner) (field_of l.fn.first) l.fn.tokens
 
-abbrev pub decreases-fields_behind-loop-after : goal.decreases-fields_behind-loop-after
-decreases-fields_behind-loop-after l = length l.rest
+abbrev pub decreases-fields_after-loop-after : goal.decreases-fields_after-loop-after
+decreases-fields_after-loop-after l = length l.rest

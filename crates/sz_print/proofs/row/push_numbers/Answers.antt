@@ -1,4 +1,4 @@
--- Each number is appended behind those before it.
+-- Each number is appended after those before it.
 use Rattle.std.proofs.Common.{◌∙◌, ◌++◌, pos, get_or, ap, rules}
 use Rattle.std.specs.Fmt.{signed_decimal}
 use Rattle.std.specs.Int.{w128}

@@ -1,4 +1,4 @@
--- Each part has fewer nodes than the value, and its text is appended behind those before it.
+-- Each part has fewer nodes than the value, and its text is appended after those before it.
 use Rattle.std.proofs.Common.{◌∙◌, ◌++◌, sym, ap, arith}
 use Rattle.sz_value.specs.Code.{datum_nodes, parts_nodes, pairs_nodes}
 use Rattle.sz_value.specs.Data.{data_of, entries_of}

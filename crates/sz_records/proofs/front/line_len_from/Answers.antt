@@ -10,8 +10,8 @@ returns-clause-value c =
 pub returns-clause-within : goal.returns-clause-within
 returns-clause-within c =
     let inside = c.line_len.ensures.within in
-    let behind = ap length c.rest.ensures in
+    let later = ap length c.rest.ensures in
     let left = length-drop c.args.scanned c.args.bytes.now in
     let all = line_len_within c.args.bytes.now in
     let seen = c.requires.scanned in
-    omega (arith, inside, behind, left, all, seen)
+    omega (arith, inside, later, left, all, seen)

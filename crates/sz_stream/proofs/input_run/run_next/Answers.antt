@@ -33,7 +33,7 @@ returns-in-Lost-clause-err g c frame most read over h =
     loses job frame most c.args.intake.now c.args.total.now read over h c.in-Lost.shard
     (subst (EndsRound job.compiled _) c.in-Lost.is c.in_ok-part.ensures.value)
 
--- it has a place behind it
+-- it has a place after it
 pub move_on-requires-clause-within : goal.move_on-requires-clause-within
 move_on-requires-clause-within g c =
     let r = c.requires.can_run in closed_within c.args.job.now r.frame r.most c.args.intake.now c.args.total.now r.read r.over r.running

@@ -1,7 +1,7 @@
--- A number is added at its place, or put behind the last one.
+-- A number is added at its place, or put after the last one.
 use Rattle.std.proofs.Common.{◌≡◌, ◌∙◌, ◌+◌, ◌^◌, ◌<◌, ◌≤◌, ◌+ℤ◌, ◌∷◌, [], ◌++◌, length, set, sym, ap, subst, arith, rules}
 use Rattle.sz_tabs.specs.Bounds.{IsWithin}
-use Rattle.sz_tabs.proofs.AddingLemmas.{passed, sum_within, within_there, added_there, added_behind}
+use Rattle.sz_tabs.proofs.AddingLemmas.{passed, sum_within, within_there, added_there, added_after}
 use Rattle.sz_tabs.proofs.adding.add_at.Goals as goal
 
 pub more-requires-clause-within : goal.more-requires-clause-within
@@ -25,9 +25,9 @@ returns-then-at-len c =
 
 pub returns : goal.returns
 returns c =
-    let behind : length c.args.sums.now.items ≤ c.args.at = search rules in
+    let later : length c.args.sums.now.items ≤ c.args.at = search rules in
     let number = passed (2 ^ 63) c.args.number (omega arith) c.requires.fits in
     record {
       value = rw c.in_ok-push.ensures.items (ap (λ n. c.args.sums.now.items ++ n ∷ []) number
-          ∙ added_behind c.args.sums.now.items c.args.at c.args.number behind);
+          ∙ added_after c.args.sums.now.items c.args.at c.args.number later);
     }

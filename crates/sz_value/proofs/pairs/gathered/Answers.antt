@@ -1,4 +1,4 @@
--- Before the first pair there are none, and each pair is put in behind those before it.
+-- Before the first pair there are none, and each pair is put in after those before it.
 use Rattle.std.proofs.Common.{[], ◌∙◌, map, refl, sym, ap}
 use Rattle.std.specs.List.Sorted.{IsStrictlySortedBy}
 use Rattle.std.proofs.lemmas.List.{map-append}

@@ -4,7 +4,7 @@ use Rattle.sz_book.specs.declared.event.Event.TheVariants.{Number}
 use Rattle.sz_book.specs.declared.event.Reply.TheVariants.{Number as Numbered}
 use Rattle.sz_book.specs.Orderly.{asks, tries, ended}
 use Rattle.sz_claims.proofs.ForCallers.{has_drawn_still, has_number_now}
-use Rattle.sz_workers_loop.specs.Tickets.{Leads, phase_behind}
+use Rattle.sz_workers_loop.specs.Tickets.{Leads, phase_after}
 use Rattle.sz_workers_loop.proofs.CallLemmas.{drawn_since}
 use Rattle.sz_workers_loop.proofs.LeftLemmas.{fewer_numbers}
 use Rattle.sz_workers_loop.proofs.AdvanceLemmas.{leads_try, stops_try, leads_dry}
@@ -43,7 +43,7 @@ returns-then-branch-clause-ok g c =
     leads_try g.T.Load.died g.T.Load.faults c.args.ledger.now.plan c.args.pass.now c.loop-number.pass c.number.new.pass c.args.claim.now
     c.loop-number.invariant.0 c.try_once.new.pass c.in-Some.number ended c.in-Some.ensures.call
     (subst (λ (b : Bool). Leads g.T.Load.died g.T.Load.faults c.args.ledger.now.plan c.number.new.pass c.try_once.new.pass c.args.claim.now.ticket
-    (tries c.in-Some.number) (phase_behind b)) c.if-branch.true c.in_ok-try_once.ensures.ok)
+    (tries c.in-Some.number) (phase_after b)) c.if-branch.true c.in_ok-try_once.ensures.ok)
 
 pub returns-then-branch-clause-grows : goal.returns-then-branch-clause-grows
 returns-then-branch-clause-grows g c =
@@ -60,14 +60,14 @@ loop-number-preserved g c =
     let drew = has_drawn_still c.loop-number.pass c.number.new.pass c.args.claim.now (Number c.args.claim.now) (Numbered (Some c.in-Some.number))
     c.in-Some.ensures.call c.loop-number.invariant.2 in
     let led = subst (λ (b : Bool). Leads g.T.Load.died g.T.Load.faults c.args.ledger.now.plan c.number.new.pass c.try_once.new.pass
-    c.args.claim.now.ticket (tries c.in-Some.number) (phase_behind b)) c.if-branch.false c.in_ok-try_once.ensures.ok in
+    c.args.claim.now.ticket (tries c.in-Some.number) (phase_after b)) c.if-branch.false c.in_ok-try_once.ensures.ok in
     let at = at_work_call c.loop-number.pass c.number.new.pass c.loop-number.pocket (Number c.args.claim.now) (Numbered (Some c.in-Some.number))
     c.in-Some.ensures.call (λ s is e. is) c.loop-number.invariant.1 in (
       leads_try g.T.Load.died g.T.Load.faults c.args.ledger.now.plan c.args.pass.now c.loop-number.pass c.number.new.pass c.args.claim.now
           c.loop-number.invariant.0 c.try_once.new.pass c.in-Some.number asks c.in-Some.ensures.call led,
       at_work_then c.number.new.pass c.try_once.new.pass c.loop-number.pocket c.try_once.new.pocket at led.goes.ledger led.place
           c.try_once.ensures.grows c.try_once.ensures.hand c.in_ok-try_once.ensures.won,
-      drawn_since c.number.new.pass c.try_once.new.pass c.args.claim.now led.further led.behind drew,
+      drawn_since c.number.new.pass c.try_once.new.pass c.args.claim.now led.further led.later drew,
       c.try_once.ensures.plan ∙ c.loop-number.invariant.3,
       grows_then c.args.pocket.now c.loop-number.pocket c.try_once.new.pocket c.loop-number.invariant.4 c.try_once.ensures.grows,
     )

@@ -34,7 +34,7 @@ returns-clause-kept c =
     let files = c.args.self.now in
     record {
       left_same = λ number. left_in-pushed files.files.items _ files.opened.items _ files.placed _ number c.push.ensures.items;
-      behind_same = λ number. refl;
+      after_same = λ number. refl;
       plans_same = λ number. plan-pushed files.files.items _ files.opened.items _ files.placed _ number c.push.ensures.items;
       given_same = λ number. refl;
       names_same = refl;

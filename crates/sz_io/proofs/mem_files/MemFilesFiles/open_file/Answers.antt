@@ -7,7 +7,7 @@ use Rattle.std.specs.Vec.{with_items}
 use Rattle.sz_io.specs.declared.held_file.Place.{Place}
 use Rattle.sz_io.specs.HeldFiles.{left_in, place_in, is_next_listed, faults_in}
 use Rattle.sz_io.proofs.PlacedLemmas.{called_in, placed_kept, placed_start, placed_opened, pushed_if, left_in-opened, left_in-before, held_in-called}
-use Rattle.sz_io.proofs.PlanLemmas.{file_fails, file_counted, file_others, faults_counted, behind-push}
+use Rattle.sz_io.proofs.PlanLemmas.{file_fails, file_counted, file_others, faults_counted, following-push}
 use Rattle.sz_io.proofs.mem_files.MemFilesFiles.open_file.Goals as goal
 
 pub invariant_of-self-then-fails_next-clause-placed : goal.invariant_of-self-then-fails_next-clause-placed
@@ -81,7 +81,7 @@ returns-then-fails_next-clause-plan c =
         names_same = called.same_places;
         faults_now = faults_counted self.misses _ _ true (called.faults_now ∙ ap (λ b. faults_in files.items + (if b then 1 else 0)) fails);
       };
-      behind = λ number. refl;
+      following = λ number. refl;
     }
 
 pub returns-clause-plan : goal.returns-clause-plan
@@ -106,6 +106,6 @@ returns-clause-plan c =
         names_same = called.same_places;
         faults_now = faults_counted self.misses _ _ false (called.faults_now ∙ ap (λ b. faults_in files.items + (if b then 1 else 0)) passes);
       };
-      behind = λ number.
-          ap (λ l. option_map (λ p. p.file) (slice_get l number)) pushed ∙ behind-push self.opened.items place number _ _ found next;
+      following = λ number.
+          ap (λ l. option_map (λ p. p.file) (slice_get l number)) pushed ∙ following-push self.opened.items place number _ _ found next;
     }

@@ -9,7 +9,7 @@ use Rattle.std.specs.Option.{option_map}
 use Rattle.sz_io.specs.HeldFiles.{CallsOneFile, is_next_listed, faults_in}
 use Rattle.sz_io.specs.Placed.{IsPlaced}
 use Rattle.sz_io.proofs.PlacedLemmas.{called_in, placed_in, placed_kept, placed_set, left_in-set_other, left_in-called, held_in-called}
-use Rattle.sz_io.proofs.PlanLemmas.{file_fails, file_counted, file_others, faults_counted, behind-set, listed_so}
+use Rattle.sz_io.proofs.PlanLemmas.{file_fails, file_counted, file_others, faults_counted, following-set, listed_so}
 use Rattle.sz_io.proofs.mem_files.MemFilesFiles.read.Goals as goal
 
 pub read_at-requires : goal.read_at-requires
@@ -69,10 +69,10 @@ returns-clause-plan c =
       faults_now = faults_counted self.misses _ _ _ (called.faults_now ∙ ap (λ b. faults_in files.items + (if b then 1 else 0)) (sym told));
     }
 
-pub returns-clause-behind : goal.returns-clause-behind
-returns-clause-behind c number =
+pub returns-clause-following : goal.returns-clause-following
+returns-clause-following c number =
     let opened = c.args.self.now.opened.items in
     let inside : c.args.file < length opened = ltb-true c.args.file (length opened) c.requires in
     let there : slice_get opened c.args.file ≡ Some c.index_mut.result.now =
     slice_get-get_or opened c.args.file c.index_mut.result.now inside ∙ ap Some (sym c.index_mut.ensures.value) in
-    behind-set opened c.args.file number _ c.read_at.new.place there c.read_at.ensures.file
+    following-set opened c.args.file number _ c.read_at.new.place there c.read_at.ensures.file

@@ -3,7 +3,7 @@ use Rattle.std.proofs.Common.{rules, arith, ◌≡◌, subst}
 use Rattle.sz_machine.specs.declared.held.Next.TheVariants.{On, To, End, Fault}
 use Rattle.sz_machine.specs.Acting.{state_of, in_static}
 use Rattle.sz_machine.specs.CodeRuns.{LineDoes}
-use Rattle.sz_machine.proofs.RunLemmas.{is_within, ends_still, goes_on_behind, goes_on_at, halts_there, faults_there}
+use Rattle.sz_machine.proofs.RunLemmas.{is_within, ends_still, goes_on_after, goes_on_at, halts_there, faults_there}
 use Rattle.sz_machine.proofs.held.Held.run_static.Goals as goal
 use Rattle.sz_machine.proofs.held.Held.run_static.Goals.{in-On, in-To}
 
@@ -42,7 +42,7 @@ loop-preserved c =
           let is : c.in_ok-step_in_static.field-0 ≡ On = search (rules, w.in-On.is) in
           let does : LineDoes code (in_static c.loop.at c.loop.statics) (in_static c.loop.at c.step_in_static.new.statics) c.loop.self On new =
           subst (λ n. LineDoes code (in_static c.loop.at c.loop.statics) (in_static c.loop.at c.step_in_static.new.statics) c.loop.self n new) is c.in_ok-step_in_static.ensures.value in
-          goes_on_behind code (state_of c.args.self.now (in_static c.args.start c.args.statics.now)) (in_static c.loop.at c.loop.statics) (in_static c.loop.at c.step_in_static.new.statics) c.loop.self new line c.match-branch-2.at c.line_at-line.ensures.value does
+          goes_on_after code (state_of c.args.self.now (in_static c.args.start c.args.statics.now)) (in_static c.loop.at c.loop.statics) (in_static c.loop.at c.step_in_static.new.statics) c.loop.self new line c.match-branch-2.at c.line_at-line.ensures.value does
           (omega (arith, w.at-is)) c.loop.invariant
       | in-To w ↦
           let is : c.in_ok-step_in_static.field-0 ≡ (To w.in-To.to) = search (rules, w.in-To.is) in

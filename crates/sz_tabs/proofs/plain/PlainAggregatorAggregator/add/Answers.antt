@@ -1,4 +1,4 @@
--- One emit more is kept behind the others.
+-- One emit more is kept after the others.
 use Rattle.std.proofs.Common.{[], ◌∷◌, ◌++◌, map, ◌∙◌, ap}
 use Rattle.std.proofs.lemmas.List.{map-append}
 use Rattle.sz_tabs.specs.SeenKept.{seen_kept}

@@ -1,4 +1,4 @@
--- The emits of the other side are kept behind those of this side.
+-- The emits of the other side are kept after those of this side.
 use Rattle.std.proofs.Common.{◌++◌, map, ◌∙◌, ap}
 use Rattle.std.proofs.lemmas.List.{map-append}
 use Rattle.sz_tabs.specs.SeenKept.{seen_kept}

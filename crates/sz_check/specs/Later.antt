@@ -1,4 +1,4 @@
--- What contracts see of what is known behind a statement.
+-- What contracts see of what is known after a statement.
 use Rattle.std.specs.Prelude.{ℕ, pos, List, [], ◌∷◌, length, map, true, is_some, Option, Some, None, Ok}
 use Rattle.std.specs.Borrow.{Bor}
 use Rattle.sz_types.specs.Data.{Shape}
@@ -28,16 +28,16 @@ use Rattle.sz_check_rules.specs.Agreeing.{in_turn, agree, agrees, counted}
 use Rattle.sz_check_rules.specs.JudgingExpressions.{judge_exps}
 use Rattle.sz_check_rules.specs.JudgingOperators.{test}
 use Rattle.sz_check_rules.specs.Scene.{Scene, opened}
-use Rattle.sz_check_rules.specs.Scenes.{Behind, AllBehind, judge, judge_if_some, closed}
+use Rattle.sz_check_rules.specs.Scenes.{Later, AllAfter, judge, judge_if_some, closed}
 use Rattle.sz_check_rules.specs.JudgingSimple.{Numbered, judge_first, judge_between, test_if_some, table_named, weight_agrees, same_presence, done}
 use Rattle.sz_check_rules.specs.JudgingStatements.{Around, in_block, in_loop, out_of_loops, judge_stm}
 use Rattle.sz_check_rules.specs.Quantifying.{Variable, in_bound, quantify}
 use Rattle.sz_check_expr.specs.Asking.{asked_of}
 use Rattle.sz_check_names.specs.Holding.{Held, scene_of}
 
--- a checked statement, and what is known behind it
-abbrev pub behind_of : Held → CoreStmt → Behind
-behind_of k s = record { scene = scene_of k; stm = stm_of s }
+-- a checked statement, and what is known after it
+abbrev pub after_of : Held → CoreStmt → Later
+after_of k s = record { scene = scene_of k; stm = stm_of s }
 
 -- a table by its number
 abbrev pub numbered_of : ℕ × Bor TableDecl → Numbered
@@ -58,12 +58,12 @@ variable_at p k t = node p t (forms.local k)
 abbrev pub changed_at : Place → BinOp → ℕ → Shape → Shape → Node
 changed_at p o k t u = node p u (forms.binary o (variable_at p k t) (one_at p))
 
--- checked statements, and what is known behind them
-abbrev pub all_behind_of : Held → List CoreStmt → AllBehind
-all_behind_of k ss = record { scene = scene_of k; stms = stms_of (map stm_of ss) }
+-- checked statements, and what is known after them
+abbrev pub all_after_of : Held → List CoreStmt → AllAfter
+all_after_of k ss = record { scene = scene_of k; stms = stms_of (map stm_of ss) }
 
 -- a statement in front of others
-abbrev pub in_front : Stm → AllBehind → AllBehind
+abbrev pub in_front : Stm → AllAfter → AllAfter
 in_front s b = record { scene = b.scene; stms = with_stm s b.stms }
 
 -- where a statement stands
@@ -71,11 +71,11 @@ abbrev pub around_of : Standing → Around
 around_of a = record { result = asked_of a.result; loop = a.in_loop }
 
 -- a part statement, which is judged in a block of its own
-abbrev pub judge_inside : Around → Scene → Tree → Judged Behind
+abbrev pub judge_inside : Around → Scene → Tree → Judged Later
 judge_inside a s t = in_block s (judge_stm a (opened s) t)
 
 -- the statement inside a `when`
-abbrev pub judge_bound_body : Around → Scene → List Variable → Tree → Judged Behind
+abbrev pub judge_bound_body : Around → Scene → List Variable → Tree → Judged Later
 judge_bound_body a s vs t = in_bound s vs (λ inner. judge_inside (out_of_loops a) inner t)
 
 -- a branch over a test, which must be a truth value
@@ -84,7 +84,7 @@ branch_of p c n taken other = do
   _ ← test c n
   Ok (core.branch p n taken other)
 
--- a loop over a test, which must be a truth value: in front of each turn, or behind it
+-- a loop over a test, which must be a truth value: in front of each turn, or after it
 abbrev pub while_of : Place → Exp → Node → Stm → Judged Stm
 while_of p c n body = do
   _ ← test c n
@@ -107,14 +107,14 @@ judge_quantified s vs c n = do
   _ ← test c n
   quantify s vs c
 
--- what an `if` does behind its part: the other part, and then the branch over the test
-abbrev pub judge_else : Around → Scene → Place → Exp → Node → Stm → Tree → Judged Behind
+-- what an `if` does after its part: the other part, and then the branch over the test
+abbrev pub judge_else : Around → Scene → Place → Exp → Node → Stm → Tree → Judged Later
 judge_else a s p c n taken t = do
   other ← judge_inside a s t
   done other.scene (branch_of p c n taken other.stm)
 
--- what a `for` does behind its first part
-abbrev pub judge_turns : Around → Scene → Place → Option Exp → Option SimpleForm → Tree → Judged Behind
+-- what a `for` does after its first part
+abbrev pub judge_turns : Around → Scene → Place → Option Exp → Option SimpleForm → Tree → Judged Later
 judge_turns a s p c between t = do
   n ← judge_if_some s None c
   step ← judge_between s between
@@ -122,7 +122,7 @@ judge_turns a s p c between t = do
   done body.scene (for_of p c n step body.stm)
 
 -- a `for`: its first part, and then what it does, in a block
-abbrev pub judge_for : Around → Scene → Place → Option FirstForm → Option Exp → Option SimpleForm → Tree → Judged Behind
+abbrev pub judge_for : Around → Scene → Place → Option FirstForm → Option Exp → Option SimpleForm → Tree → Judged Later
 judge_for a s p f c between t = do
   first ← judge_first (opened s) f
   turns ← judge_turns a first.scene p c between t

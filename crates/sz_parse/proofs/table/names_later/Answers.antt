@@ -9,7 +9,7 @@ use Rattle.sz_parse_expr.proofs.Loops.{all_goes_on, all_fails, all_ends, item_sh
 use Rattle.sz_parse_expr.proofs.ExpressionRows.{just}
 use Rattle.sz_parse.proofs.StatementTurns.{name_here, name_gone, no_name_at_end}
 use Rattle.sz_parse.proofs.StatementTurns.{names_start}
-use Rattle.sz_parse.proofs.table.names_behind.Goals as goal
+use Rattle.sz_parse.proofs.table.names_later.Goals as goal
 
 pub loop-after-init : goal.loop-after-init
 loop-after-init c =

@@ -10,7 +10,7 @@ use Rattle.sz_parse.proofs.TableSound.{quantifier_item}
 use Rattle.sz_parse_expr.proofs.Loops.{all_goes_on, all_fails, all_ends, item_shorter}
 use Rattle.sz_parse_expr.proofs.ExpressionRows.{just, map_push}
 use Rattle.sz_parse.proofs.StatementTurns.{quantifier_here, quantifier_gone, no_quantifier_at_end, quantifiers_start}
-use Rattle.sz_parse.proofs.table.quantifiers_behind.Goals as goal
+use Rattle.sz_parse.proofs.table.quantifiers_after.Goals as goal
 
 pub loop-items-init : goal.loop-items-init
 loop-items-init c =
