@@ -292,4 +292,16 @@ $ [run p f --budget 3] => 3 ! record 1: budget passed at 1:1
 $ [run p f --budget 2]
 x: int = 1; => 0
 $ [run p f --budget 1] => 3 ! record 1: budget passed at 1:1
+
+== ticks: a conversion to a message takes the weight of its result
+< \x08\x05¶
+$ [run p f --budget 5]
+type P = proto {a: int @ 1}; p: P = input; => 0
+$ [run p f --budget 4] => 3 ! record 1: budget passed at 1:30
+$ [run p f --budget 3] => 3 ! record 1: budget passed at 1:37
+$ [run p f --budget 2] => 3 ! record 1: budget passed at 1:37
+< \x08¶
+$ [run p f --budget 3]
+type P = proto {a: int @ 1}; p: P = input; => 0
+$ [run p f --budget 2] => 3 ! record 1: budget passed at 1:30
 "#;

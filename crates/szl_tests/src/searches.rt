@@ -38,6 +38,13 @@ t: table collection of int; a: array of int = {4, 5}; when (i: each int; len(a[0
 t: table collection of string; m: map[string] of int = {"b": 2, "a": 1, "c": 3}; when (k: some string; m[k] > 0) emit t <- k; => 0 t[] = "a"¶
 t: table collection of string; m: map[string] of int = {"b": 2, "a": 1, "c": 3}; when (k: each string; m[k] != 1) emit t <- k; => 0 t[] = "b"¶t[] = "c"¶
 t: table collection of int; m: map[int] of array of int = {7: {1, 2}, 5: {0}}; when (k: each int; i: each int; m[k][i] > 0) emit t <- k * 10 + i; => 0 t[] = 70¶t[] = 71¶
+t: table collection of int; when (i: each int; !def("aé"[i])) emit t <- i; => 0
+t: table collection of int; when (i: each int; def("aé"[i])) emit t <- i; => 0 t[] = 0¶t[] = 1¶
+t: table collection of int; when (i: each int; !def("é"[0:i])) emit t <- i; => 0
+t: table collection of int; when (i: each int; !def("é"[i:1])) emit t <- i; => 0
+t: table collection of int; when (i: each int; "é"[i:1] == "") emit t <- i; => 0 t[] = 1¶
+t: table collection of int; b: bytes = input; when (i: each int; b[i:len(b)] == B"") emit t <- i; => 0 t[] = 4¶
+t: table collection of int; b: bytes = input; when (i: each int; b[0:i] == B"") emit t <- i; => 0 t[] = 0¶
 
 == when: the first part that fits is the bound, and it is fixed when the search comes to its variable
 < ¶
@@ -93,6 +100,12 @@ $ [run p f --budget 22] => 3 ! record 1: budget passed at 1:67
 $ [run p f --budget 20]
 c: table sum of int; a: array of int = {3, 5}; when (i: all int; a[i] == 3) emit c <- 7; => 0
 $ [run p f --budget 19] => 3 ! record 1: budget passed at 1:66
+$ [run p f --budget 54]
+c: table sum of int; a: array of int = {3, 5}; b: array of int = {6, 7}; when (i, j: all int; a[i] < b[j]) emit c <- 1; => 0 c[] = 1¶
+$ [run p f --budget 53] => 3 ! record 1: budget passed at 1:108
+$ [run p f --budget 35] => 3 ! record 1: budget passed at 1:74
+$ [run p f --budget 34] => 3 ! record 1: budget passed at 1:102
+$ [run p f --budget 33] => 3 ! record 1: budget passed at 1:74
 $ [run p f --budget 8]
 c: table sum of int; a: array of int = {3, 5}; when (i: some int; a[i] == 3) emit c <- i; => 3 ! record 1: budget passed at 1:48
 $ [run p f --budget 7] => 3 ! record 1: budget passed at 1:67
