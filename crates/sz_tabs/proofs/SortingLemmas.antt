@@ -273,7 +273,7 @@ inserted_mapped cmp f x (y ∷ ys) = by_test (is_gt (cmp (f x) (f y))) (inserted
     by_test true later = ap (λ l. f y ∷ l) later
     by_test false later = refl
 
--- what is sorted by what a function gives, is sorted after the function
+-- what is sorted by what a function gives, is sorted by the function
 pub sorted_mapped : {X Y : Type 0} (cmp : Y → Y → Ordering) (f : X → Y) (xs : List X) → sorted cmp (map f xs) ≡ map f (sorted (on f cmp) xs)
 sorted_mapped cmp f [] = refl
 sorted_mapped cmp f (x ∷ xs) = ap (inserted cmp (f x)) (sorted_mapped cmp f xs) ∙ inserted_mapped cmp f x (sorted (on f cmp) xs)

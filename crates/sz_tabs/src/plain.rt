@@ -36,7 +36,7 @@ impl Drop for Kept {
 pub struct PlainAggregator {
     alloc: Global,
     table: TableDecl,
-    held: Vec<Kept>,
+    kept: Vec<Kept>,
 }
 
 impl Drop for PlainAggregator {
@@ -44,7 +44,7 @@ impl Drop for PlainAggregator {
         let PlainAggregator {
             alloc: _,
             table: _,
-            held: _,
+            kept: _,
         } = self;
     }
 }
@@ -61,7 +61,7 @@ impl Model for PlainAggregator {
     ghost use Rattle.sz_types.specs.SeenTables.{seen_table};
     ghost use Rattle.sz_tabs.specs.SeenKept.{seen_kept};
 
-    ghost view = { λ a. record { table = seen_table a.table; emits = map seen_kept a.held.items } };
+    ghost view = { λ a. record { table = seen_table a.table; emits = map seen_kept a.kept.items } };
 }
 
 impl PlainAggregator {
@@ -74,7 +74,7 @@ impl PlainAggregator {
         Ok(PlainAggregator {
             alloc,
             table,
-            held: Vec::new(alloc),
+            kept: Vec::new(alloc),
         })
     }
 }
@@ -91,18 +91,18 @@ impl Aggregator for PlainAggregator {
 
     fn add(&mut self, value: &Value, weight: Option<i64>) -> Result<(), NoMemory> {
         let value = copy(self.alloc, value)?;
-        self.held.push(Kept { value, weight })?;
+        self.kept.push(Kept { value, weight })?;
         Ok(())
     }
 
     fn merge(&mut self, mut other: Self) -> Result<(), Self> {
-        match self.held.append(&mut other.held) {
+        match self.kept.append(&mut other.kept) {
             Ok(()) => Ok(()),
             Err(_) => Err(other),
         }
     }
 
     fn rows(&self) -> Result<Rows, NoMemory> {
-        rows_of(self.alloc, &self.table, &self.held)
+        rows_of(self.alloc, &self.table, &self.kept)
     }
 }

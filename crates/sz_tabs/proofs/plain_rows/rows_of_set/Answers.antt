@@ -25,8 +25,8 @@ returns c =
     let values = values_of (map seen_kept c.args.kept.now) in
     let left = distinct_left c.in_ok-values.values.items c.dedup.new.self.items values c.dedup.ensures.filtered c.in_ok-values.ensures.value in
     let below : length c.dedup.new.self.items ≤ c.args.limit = search rules in
-    let held = set_holds c.args.limit c.dedup.new.self.items (distinct compare values) left below in
+    let kept = set_holds c.args.limit c.dedup.new.self.items (distinct compare values) left below in
     record {
       value = IfOk-weaker c.value_rows.result (λ rows. rows ≡ map value_row (map seen c.dedup.new.self.items))
-          (λ rows. rows ≡ set_rows c.args.limit (distinct compare values)) (λ rows is. is ∙ sym held) c.value_rows.ensures.value;
+          (λ rows. rows ≡ set_rows c.args.limit (distinct compare values)) (λ rows is. is ∙ sym kept) c.value_rows.ensures.value;
     }
