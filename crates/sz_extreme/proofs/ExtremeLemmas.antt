@@ -38,10 +38,10 @@ rows_by_rank kind limit rs (inr is) =
     (ap (λ l. map weighted_row (take limit l)) (least_in_order rs) ∙ ap (map weighted_row) (take_mapped (emit_of Minimum) limit (sorted by_rank rs)))
 
 -- the rows are the same where the least are
-rows_alike : (table : Declaration) (all held : List Ranked) → IsExtreme table.kind → HoldsLeast table.limit all held
-    → rows_of table (map (emit_of table.kind) held) ≡ rows_of table (map (emit_of table.kind) all)
-rows_alike table all held kind least =
-    rows_by_rank table.kind table.limit held kind ∙ ap (λ l. map weighted_row (map (emit_of table.kind) l)) least
+rows_alike : (table : Declaration) (all kept : List Ranked) → IsExtreme table.kind → HoldsLeast table.limit all kept
+    → rows_of table (map (emit_of table.kind) kept) ≡ rows_of table (map (emit_of table.kind) all)
+rows_alike table all kept kind least =
+    rows_by_rank table.kind table.limit kept kind ∙ ap (λ l. map weighted_row (map (emit_of table.kind) l)) least
     ∙ sym (rows_by_rank table.kind table.limit all kind)
 
 -- no more than the limit are all shown

@@ -28,9 +28,9 @@ by_rank r s = ordering_then (int_cmp r.0 s.0) (compare r.1 s.1)
 abbrev pub emit_of : TableKind → Ranked → Weighted
 emit_of kind r = record { value = r.1; weight = Some (turned kind r.0) }
 
--- the least of all are the least of those that are held
+-- the least of all are the least of those that are kept
 abbrev pub HoldsLeast : ℕ → List Ranked → List Ranked → Type 0
-HoldsLeast limit all held = take limit (sorted by_rank held) ≡ take limit (sorted by_rank all)
+HoldsLeast limit all kept = take limit (sorted by_rank kept) ≡ take limit (sorted by_rank all)
 
 -- what contracts see of a rank and a value, and how two of them compare
 abbrev pub seen_rank : ℤ × Value → Ranked

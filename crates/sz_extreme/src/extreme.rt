@@ -1,5 +1,5 @@
 //! The aggregator of extremes, and its calls.
-ghost use Rattle.std.specs.Prelude.{◌≡◌, ◌⊎◌, ◌+◌, ◌≤◌, ◌^◌, true, is_some, IsOk, IfOk, IfErr, OnOk};
+ghost use Rattle.std.specs.Prelude.{◌≡◌, ◌⊎◌, ◌+◌, ◌≤◌, ◌^◌, true, is_some, IsOk, IfOk, IfErr, OnOk, OnErr};
 ghost use Rattle.sz_types.specs.SeenTables.{seen_table};
 ghost use Rattle.sz_types.specs.declared.table.TableKind.TheVariants as kinds;
 ghost use Rattle.sz_tabs.specs.Aggregating.{IsNew, Joins};
@@ -26,7 +26,7 @@ pub struct Extreme<'a> {
     table: &'a TableDecl,
     count: u64,
     room: usize,
-    held: Heap,
+    heap: Heap,
 }
 
 impl<'a> Model for Extreme<'a> {
@@ -43,9 +43,9 @@ impl<'a> Model for Extreme<'a> {
     ghost use Rattle.sz_extreme.specs.Ranks.{emit_of, seen_rank};
     ghost use Rattle.sz_extreme.specs.Kept.{IsKept};
 
-    ghost view = { λ e. record { table = seen_table e.table.now; count = e.count; kept = map (emit_of (seen_table e.table.now).kind) (map seen_rank (heap_items e.held)); room = e.room } };
+    ghost view = { λ e. record { table = seen_table e.table.now; count = e.count; kept = map (emit_of (seen_table e.table.now).kind) (map seen_rank (heap_items e.heap)); room = e.room } };
 
-    ghost invariant = { λ e. IsKept (seen_table e.table.now) (heap_items e.held) e.room (heap_capacity e.held) };
+    ghost invariant = { λ e. IsKept (seen_table e.table.now) (heap_items e.heap) e.room (heap_capacity e.heap) };
 }
 
 impl<'a> Extreme<'a> {
@@ -61,7 +61,7 @@ impl<'a> Extreme<'a> {
             table,
             count: 0,
             room: 0,
-            held: BinaryHeap::new(alloc),
+            heap: BinaryHeap::new(alloc),
         }
     }
 
@@ -69,9 +69,10 @@ impl<'a> Extreme<'a> {
     pub fn reserve(&mut self, other: &Extreme<'a>) -> Result<(), NoMemory>
         ensures ok { OnOk result (HasRoomFor self.new other.now) }
         ensures kept { ChangesRoomAlone self.old self.new }
+        ensures err { OnErr result (self.new ≡ self.old) }
     {
-        self.held.reserve(other.held.len())?;
-        self.room = self.held.capacity();
+        self.heap.reserve(other.heap.len())?;
+        self.room = self.heap.capacity();
         Ok(())
     }
 }
@@ -87,7 +88,7 @@ impl<'a> Aggregator for Extreme<'a> {
         let rank = rank_of(self.table.kind, weight);
         hold(
             self.alloc,
-            &mut self.held,
+            &mut self.heap,
             self.table.limit as usize,
             rank,
             value,
@@ -104,16 +105,16 @@ impl<'a> Aggregator for Extreme<'a> {
         ensures err { IfErr result (λ back. (back ≡ other.entry) × (self.new ≡ self.old)) }
         ensures reserved { HasRoomFor self.old other.entry → IsOk result }
     {
-        if self.held.reserve(other.held.len()).is_err() {
+        if self.heap.reserve(other.heap.len()).is_err() {
             return Err(other);
         }
         let mut other = other;
-        put_all(&mut self.held, self.table.limit as usize, &mut other.held);
+        put_all(&mut self.heap, self.table.limit as usize, &mut other.heap);
         self.count += other.count;
         Ok(())
     }
 
     fn rows(&self) -> Result<Rows, NoMemory> {
-        rows_of(self.alloc, self.table.kind, self.held.as_slice())
+        rows_of(self.alloc, self.table.kind, self.heap.as_slice())
     }
 }

@@ -13,40 +13,40 @@ use sz_value::{Value, copy};
 /// Ranks with their values.
 pub(crate) type Heap = BinaryHeap<(i64, Value)>;
 
-// Puts a copy of the value with its rank among those held, if it is among the least `limit` ones.
+// Puts a copy of the value with its rank among those kept, if it is among the least `limit` ones.
 pub(crate) fn hold(
     alloc: Global,
-    held: &mut Heap,
+    heap: &mut Heap,
     limit: usize,
     rank: i64,
     value: &Value,
 ) -> Result<(), NoMemory>
-    requires heap { IsHeap rank_order (heap_items held.old) }
-    requires few { length (heap_items held.old) ≤ limit }
-    ensures heap { IsHeap rank_order (heap_items held.new) }
-    ensures few { length (heap_items held.new) ≤ limit }
-    ensures ok { OnOk result (HoldsLeast limit (map seen_rank (heap_items held.old) ++ (rank, seen value.now) ∷ []) (map seen_rank (heap_items held.new))) }
-    ensures err { OnErr result (heap_items held.new ≡ heap_items held.old) }
-    ensures capacity { heap_capacity held.old ≤ heap_capacity held.new }
+    requires heap { IsHeap rank_order (heap_items heap.old) }
+    requires few { length (heap_items heap.old) ≤ limit }
+    ensures heap { IsHeap rank_order (heap_items heap.new) }
+    ensures few { length (heap_items heap.new) ≤ limit }
+    ensures ok { OnOk result (HoldsLeast limit (map seen_rank (heap_items heap.old) ++ (rank, seen value.now) ∷ []) (map seen_rank (heap_items heap.new))) }
+    ensures err { OnErr result (heap_items heap.new ≡ heap_items heap.old) }
+    ensures capacity { heap_capacity heap.old ≤ heap_capacity heap.new }
 {
-    if takes(held, limit, rank, value) {
+    if takes(heap, limit, rank, value) {
         let value = copy(alloc, value)?;
-        held.reserve(1)?;
-        put(held, limit, (rank, value));
+        heap.reserve(1)?;
+        put(heap, limit, (rank, value));
     }
     Ok(())
 }
 
 // Whether the value with its rank would be among the least `limit` ones.
-fn takes(held: &Heap, limit: usize, rank: i64, value: &Value) -> bool
-    requires heap { IsHeap rank_order (heap_items held.now) }
-    requires few { length (heap_items held.now) ≤ limit }
-    ensures not { IsFalse result → HoldsLeast limit (map seen_rank (heap_items held.now) ++ (rank, seen value.now) ∷ []) (map seen_rank (heap_items held.now)) }
+fn takes(heap: &Heap, limit: usize, rank: i64, value: &Value) -> bool
+    requires heap { IsHeap rank_order (heap_items heap.now) }
+    requires few { length (heap_items heap.now) ≤ limit }
+    ensures not { IsFalse result → HoldsLeast limit (map seen_rank (heap_items heap.now) ++ (rank, seen value.now) ∷ []) (map seen_rank (heap_items heap.now)) }
 {
-    if held.len() < limit {
+    if heap.len() < limit {
         return true;
     }
-    match held.peek() {
+    match heap.peek() {
         Some(worst) => is_before(rank, value, worst),
         None => false,
     }
@@ -59,41 +59,41 @@ fn is_before(rank: i64, value: &Value, other: &(i64, Value)) -> bool
     rank.cmp(&other.0).then(value.cmp(&other.1)).is_lt()
 }
 
-// Puts the value with its rank among those held, of which only the least `limit` ones stay. There is room for one more.
-pub(crate) fn put(held: &mut Heap, limit: usize, ranked: (i64, Value))
-    requires heap { IsHeap rank_order (heap_items held.old) }
-    requires room { heap_len held.old < heap_capacity held.old }
-    ensures heap { IsHeap rank_order (heap_items held.new) }
-    ensures few { length (heap_items held.new) ≤ limit }
-    ensures value { HoldsLeast limit (map seen_rank (heap_items held.old) ++ seen_rank ranked ∷ []) (map seen_rank (heap_items held.new)) }
-    ensures capacity { heap_capacity held.old ≤ heap_capacity held.new }
+// Puts the value with its rank among those kept, of which only the least `limit` ones stay. There is room for one more.
+pub(crate) fn put(heap: &mut Heap, limit: usize, ranked: (i64, Value))
+    requires heap { IsHeap rank_order (heap_items heap.old) }
+    requires room { heap_len heap.old < heap_capacity heap.old }
+    ensures heap { IsHeap rank_order (heap_items heap.new) }
+    ensures few { length (heap_items heap.new) ≤ limit }
+    ensures value { HoldsLeast limit (map seen_rank (heap_items heap.old) ++ seen_rank ranked ∷ []) (map seen_rank (heap_items heap.new)) }
+    ensures capacity { heap_capacity heap.old ≤ heap_capacity heap.new }
 {
-    let _ = held.push(ranked);
-    trim(held, limit);
+    let _ = heap.push(ranked);
+    trim(heap, limit);
 }
 
-// Moves the other values with their ranks to those held, of which only the least `limit` ones stay. There is room for them.
-pub(crate) fn put_all(held: &mut Heap, limit: usize, others: &mut Heap)
-    requires heap { IsHeap rank_order (heap_items held.old) }
-    requires room { heap_len held.old + heap_len others.old ≤ heap_capacity held.old }
-    ensures heap { IsHeap rank_order (heap_items held.new) }
-    ensures few { length (heap_items held.new) ≤ limit }
-    ensures value { HoldsLeast limit (map seen_rank (heap_items held.old) ++ map seen_rank (heap_items others.old)) (map seen_rank (heap_items held.new)) }
-    ensures capacity { heap_capacity held.old ≤ heap_capacity held.new }
+// Moves the other values with their ranks to those kept, of which only the least `limit` ones stay. There is room for them.
+pub(crate) fn put_all(heap: &mut Heap, limit: usize, others: &mut Heap)
+    requires heap { IsHeap rank_order (heap_items heap.old) }
+    requires room { heap_len heap.old + heap_len others.old ≤ heap_capacity heap.old }
+    ensures heap { IsHeap rank_order (heap_items heap.new) }
+    ensures few { length (heap_items heap.new) ≤ limit }
+    ensures value { HoldsLeast limit (map seen_rank (heap_items heap.old) ++ map seen_rank (heap_items others.old)) (map seen_rank (heap_items heap.new)) }
+    ensures capacity { heap_capacity heap.old ≤ heap_capacity heap.new }
 {
-    let _ = held.append(others);
-    trim(held, limit);
+    let _ = heap.append(others);
+    trim(heap, limit);
 }
 
-// Drops the greatest of those held until there are no more than the limit.
-fn trim(held: &mut Heap, limit: usize)
-    requires heap { IsHeap rank_order (heap_items held.old) }
-    ensures heap { IsHeap rank_order (heap_items held.new) }
-    ensures few { length (heap_items held.new) ≤ limit }
-    ensures value { HoldsLeast limit (map seen_rank (heap_items held.old)) (map seen_rank (heap_items held.new)) }
-    ensures capacity { heap_capacity held.new ≡ heap_capacity held.old }
+// Drops the greatest of those kept until there are no more than the limit.
+fn trim(heap: &mut Heap, limit: usize)
+    requires heap { IsHeap rank_order (heap_items heap.old) }
+    ensures heap { IsHeap rank_order (heap_items heap.new) }
+    ensures few { length (heap_items heap.new) ≤ limit }
+    ensures value { HoldsLeast limit (map seen_rank (heap_items heap.old)) (map seen_rank (heap_items heap.new)) }
+    ensures capacity { heap_capacity heap.new ≡ heap_capacity heap.old }
 {
-    while held.len() > limit {
-        held.pop();
+    while heap.len() > limit {
+        heap.pop();
     }
 }

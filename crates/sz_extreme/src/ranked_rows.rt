@@ -1,4 +1,4 @@
-//! The rows of what is held, in order.
+//! The rows of what is kept, in order.
 ghost use Rattle.std.specs.Prelude.{◌≡◌, map, IfOk};
 ghost use Rattle.sz_tabs.specs.Rows.{weighted_row};
 ghost use Rattle.sz_tabs.specs.Sorting.{sorted};
@@ -14,29 +14,29 @@ use sz_value::{Value, copy};
 pub(crate) fn rows_of(
     alloc: Global,
     kind: TableKind,
-    held: &[(i64, Value)],
+    kept: &[(i64, Value)],
 ) -> Result<Rows, NoMemory>
-    ensures value { IfOk result (λ rows. rows ≡ map weighted_row (map (emit_of kind) (sorted by_rank (map seen_rank held.now)))) }
+    ensures value { IfOk result (λ rows. rows ≡ map weighted_row (map (emit_of kind) (sorted by_rank (map seen_rank kept.now)))) }
 {
-    let ranked = in_order(alloc, held)?;
+    let ranked = in_order(alloc, kept)?;
     row_by_row(alloc, kind, ranked)
 }
 
 // Copies of the values with their ranks, in order.
-fn in_order(alloc: Global, held: &[(i64, Value)]) -> Result<Vec<(i64, Value)>, NoMemory>
-    ensures value { IfOk result (λ made. map seen_rank made.items ≡ sorted by_rank (map seen_rank held.now)) }
+fn in_order(alloc: Global, kept: &[(i64, Value)]) -> Result<Vec<(i64, Value)>, NoMemory>
+    ensures value { IfOk result (λ made. map seen_rank made.items ≡ sorted by_rank (map seen_rank kept.now)) }
 {
-    let mut made = copied(alloc, held)?;
+    let mut made = copied(alloc, kept)?;
     made.sort()?;
     Ok(made)
 }
 
 // A copy of each value with its rank.
-fn copied(alloc: Global, held: &[(i64, Value)]) -> Result<Vec<(i64, Value)>, NoMemory>
-    ensures value { IfOk result (λ made. map seen_rank made.items ≡ map seen_rank held.now) }
+fn copied(alloc: Global, kept: &[(i64, Value)]) -> Result<Vec<(i64, Value)>, NoMemory>
+    ensures value { IfOk result (λ made. map seen_rank made.items ≡ map seen_rank kept.now) }
 {
-    let mut made = Vec::with_capacity(alloc, held.len())?;
-    for ranked in held {
+    let mut made = Vec::with_capacity(alloc, kept.len())?;
+    for ranked in kept {
         let value = copy(alloc, &ranked.1)?;
         made.push((ranked.0, value))?;
     }

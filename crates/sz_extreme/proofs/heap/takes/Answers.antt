@@ -10,7 +10,7 @@ use Rattle.sz_extreme.proofs.heap.takes.Goals as goal
 
 pub returns-in-Some : goal.returns-in-Some
 returns-in-Some c =
-    let items = heap_items c.args.held.now in
+    let items = heap_items c.args.heap.now in
     let again = to_z-of_z w64 c.args.rank c.ranges.rank in
     let long : c.args.limit ≤ length items = search rules in
     record {

@@ -1,4 +1,4 @@
--- What is held are the least of those held before and the new one.
+-- What is kept are the least of those kept before and the new one.
 use Rattle.std.proofs.Common.{◌≡◌, ◌∙◌, [], ◌∷◌, ◌++◌, map, subst}
 use Rattle.std.specs.Int.{w64}
 use Rattle.std.specs.BinaryHeap.{heap_items}
@@ -16,8 +16,8 @@ pub returns-clause-ok : goal.returns-clause-ok
 returns-clause-ok c =
     let table = seen_table c.self.inside.table.now in
     let value = seen c.args.value.now in
-    let old = ranks (heap_items c.self.inside.held) in
-    let new = ranks (heap_items c.hold.new.held) in
+    let old = ranks (heap_items c.self.inside.heap) in
+    let new = ranks (heap_items c.hold.new.heap) in
     let rank = c.rank_of-rank.result in
     let least : HoldsLeast table.limit (old ++ (rank, value) ∷ []) new =
     subst (λ n. HoldsLeast table.limit (old ++ (n, value) ∷ []) new) (to_z-of_z w64 rank c.rank_of-rank.ensures.fits) c.in_ok-hold.ensures.ok in

@@ -1,4 +1,4 @@
--- No more than the limit are held, so all of them are shown.
+-- No more than the limit are kept, so all of them are shown.
 use Rattle.std.proofs.Common.{◌≡◌, ◌∙◌, ◌≤◌, map, length, sym, ap, arith}
 use Rattle.std.specs.BinaryHeap.{heap_items}
 use Rattle.std.proofs.lemmas.Result.{IfOk-weaker}
@@ -15,7 +15,7 @@ use Rattle.sz_extreme.proofs.extreme.ExtremeAggregator.rows.Goals as goal
 pub returns : goal.returns
 returns c =
     let table = seen_table c.self.inside.table.now in
-    let items = heap_items c.self.inside.held in
+    let items = heap_items c.self.inside.heap in
     let few : length (ranks items) ≤ table.limit = omega (arith, c.self.invariant.few, length-map items seen_rank) in
     let shown = ap (λ l. map weighted_row (map (emit_of table.kind) (sorted by_rank (map seen_rank l)))) c.as_slice.ensures.value
     ∙ rows_shown table (ranks items) c.self.invariant.kind few ∙ ap rows_of_extremes c.self.view_is in
