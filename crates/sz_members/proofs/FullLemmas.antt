@@ -1,4 +1,4 @@
--- The distinct values of what is held are the values that are held, and a set that is full stays full.
+-- The distinct values of what is kept are the values that are kept, and a set that is full stays full.
 use Rattle.std.proofs.Common.{◌≡◌, ◌∙◌, inl, inr, ℕ, zero, suc, ◌≤◌, ◌<◌, Bool, true, false, cond, true≢false, List, [], ◌∷◌, ◌++◌, map, length, replicate}
 use Rattle.std.proofs.Common.{refl, sym, ap, subst, arith}
 use Rattle.std.proofs.Common.{Ordering, Less, Equal, Greater, is_eq, is_gt}
@@ -24,7 +24,7 @@ use Rattle.sz_tabs.specs.Sorting.{inserted, sorted, distinct}
 use Rattle.sz_tabs.proofs.ForCallers.{all_entered, distinct_of_both, distinct_of_either, sorted_is_permutation}
 use Rattle.std.proofs.lemmas.List.Sorted.{length_permutation}
 use Rattle.sz_members.specs.Data.{times}
-use Rattle.sz_members.specs.Repeats.{value_eq, seen_repeated, emits_held, AllCame, is_full, full_by}
+use Rattle.sz_members.specs.Repeats.{value_eq, seen_repeated, emits_tallied, AllCame, is_full, full_by}
 use Rattle.sz_members.specs.Kept.{IsOfMembers}
 use Rattle.sz_members.specs.Showing.{shown_of}
 
@@ -95,9 +95,9 @@ module _ {X : Type 0} (cmp : X → X → Ordering) where
   longer_with_all [] ys = omega arith
   longer_with_all (x ∷ xs) ys = omega (arith, longer_with_all xs ys, longer_entered (all_entered cmp xs ys) x)
 
--- the values that are held
-abbrev pub data_held : List (Value × ℕ) → List Datum
-data_held es = map seen (keys_of es)
+-- the values that are kept
+abbrev pub data_tallied : List (Value × ℕ) → List Datum
+data_tallied es = map seen (keys_of es)
 
 values_of_times : (n : ℕ) (d : Datum) → values_of (times n d) ≡ replicate n d
 values_of_times zero d = refl
@@ -110,46 +110,46 @@ apart_data : (v : Value) (ks : List Value) → AllByRecursion (λ k. value_eq v 
 apart_data v [] all = tt
 apart_data v (k ∷ ks) all = (all.0, apart_data v ks all.1)
 
--- no value is held twice, so the distinct values are those that are held
-pub distinct_held : (es : List (Value × ℕ)) → IsDistinct value_eq (keys_of es) → AllCame es
-    → distinct compare (values_of (emits_held es)) ≡ sorted compare (data_held es)
-distinct_held [] unique came = refl
-distinct_held (e ∷ es) unique came =
-    by_times e.1 came.0 (distinct_held es (IsDistinct-tail value_eq e.0 (keys_of es) unique) came.1)
-    (apart_sorted compare (seen e.0) (data_held es) (apart_data e.0 (keys_of es) (IsDistinct-head value_eq e.0 (keys_of es) unique)))
+-- no value is kept twice, so the distinct values are those that are kept
+pub distinct_tallied : (es : List (Value × ℕ)) → IsDistinct value_eq (keys_of es) → AllCame es
+    → distinct compare (values_of (emits_tallied es)) ≡ sorted compare (data_tallied es)
+distinct_tallied [] unique came = refl
+distinct_tallied (e ∷ es) unique came =
+    by_times e.1 came.0 (distinct_tallied es (IsDistinct-tail value_eq e.0 (keys_of es) unique) came.1)
+    (apart_sorted compare (seen e.0) (data_tallied es) (apart_data e.0 (keys_of es) (IsDistinct-head value_eq e.0 (keys_of es) unique)))
   where
-    by_times : (n : ℕ) → 0 < n → distinct compare (values_of (emits_held es)) ≡ sorted compare (data_held es)
-        → IsApart compare (seen e.0) (sorted compare (data_held es))
-        → distinct compare (values_of (times n (seen e.0) ++ emits_held es)) ≡ inserted compare (seen e.0) (sorted compare (data_held es))
+    by_times : (n : ℕ) → 0 < n → distinct compare (values_of (emits_tallied es)) ≡ sorted compare (data_tallied es)
+        → IsApart compare (seen e.0) (sorted compare (data_tallied es))
+        → distinct compare (values_of (times n (seen e.0) ++ emits_tallied es)) ≡ inserted compare (seen e.0) (sorted compare (data_tallied es))
     by_times zero some after apart = absurd (omega (arith, some))
     by_times (suc n) some after apart =
         ap (distinct compare)
-        (values_of_both (times (suc n) (seen e.0)) (emits_held es) ∙ ap (λ l. l ++ values_of (emits_held es)) (values_of_times (suc n) (seen e.0)))
-        ∙ distinct_of_both compare_total compare_ties (replicate (suc n) (seen e.0)) (values_of (emits_held es))
-        ∙ times_entered compare n (distinct compare (values_of (emits_held es))) (seen e.0) (compare_itself (seen e.0) (seen e.0) refl)
+        (values_of_both (times (suc n) (seen e.0)) (emits_tallied es) ∙ ap (λ l. l ++ values_of (emits_tallied es)) (values_of_times (suc n) (seen e.0)))
+        ∙ distinct_of_both compare_total compare_ties (replicate (suc n) (seen e.0)) (values_of (emits_tallied es))
+        ∙ times_entered compare n (distinct compare (values_of (emits_tallied es))) (seen e.0) (compare_itself (seen e.0) (seen e.0) refl)
         ∙ ap (λ l. insert_key compare l (seen e.0)) after
-        ∙ entered_apart compare (seen e.0) (sorted compare (data_held es)) apart
+        ∙ entered_apart compare (seen e.0) (sorted compare (data_tallied es)) apart
 
-length_sorted : (es : List (Value × ℕ)) → length (sorted compare (data_held es)) ≡ length es
+length_sorted : (es : List (Value × ℕ)) → length (sorted compare (data_tallied es)) ≡ length es
 length_sorted es =
-    length_permutation (data_held es) (sorted compare (data_held es)) (sorted_is_permutation compare_total (data_held es))
+    length_permutation (data_tallied es) (sorted compare (data_tallied es)) (sorted_is_permutation compare_total (data_tallied es))
     ∙ length-map (keys_of es) seen ∙ length-map es (λ e. e.0)
 
 -- a set that is full stays full, whatever else comes
 set_stays_full : (limit : ℕ) (es : List (Value × ℕ)) (more : List Weighted) → IsDistinct value_eq (keys_of es) → AllCame es → nat_lt limit (length es) ≡ true
-    → set_rows limit (distinct compare (values_of (emits_held es ++ more))) ≡ overflow_row ∷ []
+    → set_rows limit (distinct compare (values_of (emits_tallied es ++ more))) ≡ overflow_row ∷ []
 set_stays_full limit es more unique came full =
-    let all = all_entered compare (values_of more) (distinct compare (values_of (emits_held es))) in
+    let all = all_entered compare (values_of more) (distinct compare (values_of (emits_tallied es))) in
     let above = ltb-true limit (length es) full in
-    let few : length (distinct compare (values_of (emits_held es))) ≡ length es = ap length (distinct_held es unique came) ∙ length_sorted es in
+    let few : length (distinct compare (values_of (emits_tallied es))) ≡ length es = ap length (distinct_tallied es unique came) ∙ length_sorted es in
     let still = lt-ltb limit (length all)
-    (omega (arith, above, few, longer_with_all compare (values_of more) (distinct compare (values_of (emits_held es))))) in
-    ap (set_rows limit) (ap (distinct compare) (values_of_both (emits_held es) more)
-    ∙ distinct_of_either compare_total compare_ties (values_of (emits_held es)) (values_of more))
+    (omega (arith, above, few, longer_with_all compare (values_of more) (distinct compare (values_of (emits_tallied es))))) in
+    ap (set_rows limit) (ap (distinct compare) (values_of_both (emits_tallied es) more)
+    ∙ distinct_of_either compare_total compare_ties (values_of (emits_tallied es)) (values_of more))
     ∙ ap (λ b. cond b (overflow_row ∷ []) (map value_row all)) still
 
 full_rows : (kind : TableKind) (limit : ℕ) (es : List (Value × ℕ)) (more : List Weighted) → IsDistinct value_eq (keys_of es) → AllCame es
-    → full_by kind limit (length es) ≡ true → rows_by kind limit (emits_held es ++ more) ≡ overflow_row ∷ []
+    → full_by kind limit (length es) ≡ true → rows_by kind limit (emits_tallied es ++ more) ≡ overflow_row ∷ []
 full_rows Set limit es more unique came full = set_stays_full limit es more unique came full
 full_rows Sum limit es more unique came full = absurd (true≢false (sym full))
 full_rows Maximum limit es more unique came full = absurd (true≢false (sym full))
@@ -158,34 +158,34 @@ full_rows Collection limit es more unique came full = absurd (true≢false (sym 
 
 -- the row of a full set, whatever else comes
 pub full_shows : (table : Declaration) (es : List (Value × ℕ)) (more : List Weighted) → IsDistinct value_eq (keys_of es) → AllCame es
-    → is_full table (length es) ≡ true → rows_of table (emits_held es ++ more) ≡ overflow_row ∷ []
+    → is_full table (length es) ≡ true → rows_of table (emits_tallied es ++ more) ≡ overflow_row ∷ []
 full_shows table es more unique came full = full_rows table.kind table.limit es more unique came full
 
--- what is shown of a set are the values that are held, and of a collection all values that came
-shown_set : (es : List (Value × ℕ)) → shown_of Set (map seen_repeated es) ≡ data_held es
+-- what is shown of a set are the values that are kept, and of a collection all values that came
+shown_set : (es : List (Value × ℕ)) → shown_of Set (map seen_repeated es) ≡ data_tallied es
 shown_set [] = refl
 shown_set (e ∷ es) = ap (λ l. seen e.0 ∷ l) (shown_set es)
 
-shown_collection : (es : List (Value × ℕ)) → shown_of Collection (map seen_repeated es) ≡ values_of (emits_held es)
+shown_collection : (es : List (Value × ℕ)) → shown_of Collection (map seen_repeated es) ≡ values_of (emits_tallied es)
 shown_collection [] = refl
 shown_collection (e ∷ es) =
-    (λ i. sym (values_of_times e.1 (seen e.0)) i ++ shown_collection es i) ∙ sym (values_of_both (times e.1 (seen e.0)) (emits_held es))
+    (λ i. sym (values_of_times e.1 (seen e.0)) i ++ shown_collection es i) ∙ sym (values_of_both (times e.1 (seen e.0)) (emits_tallied es))
 
 set_shows : (limit : ℕ) (es : List (Value × ℕ)) → IsDistinct value_eq (keys_of es) → AllCame es → nat_lt limit (length es) ≡ false
-    → map value_row (sorted compare (shown_of Set (map seen_repeated es))) ≡ rows_by Set limit (emits_held es)
+    → map value_row (sorted compare (shown_of Set (map seen_repeated es))) ≡ rows_by Set limit (emits_tallied es)
 set_shows limit es unique came few =
-    let values : distinct compare (values_of (emits_held es)) ≡ sorted compare (data_held es) = distinct_held es unique came in
-    let long : nat_lt limit (length (sorted compare (data_held es))) ≡ false = ap (nat_lt limit) (length_sorted es) ∙ few in
+    let values : distinct compare (values_of (emits_tallied es)) ≡ sorted compare (data_tallied es) = distinct_tallied es unique came in
+    let long : nat_lt limit (length (sorted compare (data_tallied es))) ≡ false = ap (nat_lt limit) (length_sorted es) ∙ few in
     ap (λ l. map value_row (sorted compare l)) (shown_set es)
-    ∙ sym (ap (set_rows limit) values ∙ ap (λ b. cond b (overflow_row ∷ []) (map value_row (sorted compare (data_held es)))) long)
+    ∙ sym (ap (set_rows limit) values ∙ ap (λ b. cond b (overflow_row ∷ []) (map value_row (sorted compare (data_tallied es)))) long)
 
--- the rows of what is held, where it isn't a full set
-pub held_shows : (table : Declaration) (es : List (Value × ℕ)) → IsDistinct value_eq (keys_of es) → AllCame es → IsOfMembers table.kind
-    → is_full table (length es) ≡ false → map value_row (sorted compare (shown_of table.kind (map seen_repeated es))) ≡ rows_of table (emits_held es)
-held_shows table es unique came (inl is) few =
+-- the rows of what is kept, where it isn't a full set
+pub tally_shows : (table : Declaration) (es : List (Value × ℕ)) → IsDistinct value_eq (keys_of es) → AllCame es → IsOfMembers table.kind
+    → is_full table (length es) ≡ false → map value_row (sorted compare (shown_of table.kind (map seen_repeated es))) ≡ rows_of table (emits_tallied es)
+tally_shows table es unique came (inl is) few =
     subst (λ kind. full_by kind table.limit (length es) ≡ false
-    → map value_row (sorted compare (shown_of kind (map seen_repeated es))) ≡ rows_by kind table.limit (emits_held es))
+    → map value_row (sorted compare (shown_of kind (map seen_repeated es))) ≡ rows_by kind table.limit (emits_tallied es))
     (sym is) (λ few. set_shows table.limit es unique came few) few
-held_shows table es unique came (inr is) few =
-    subst (λ kind. map value_row (sorted compare (shown_of kind (map seen_repeated es))) ≡ rows_by kind table.limit (emits_held es))
+tally_shows table es unique came (inr is) few =
+    subst (λ kind. map value_row (sorted compare (shown_of kind (map seen_repeated es))) ≡ rows_by kind table.limit (emits_tallied es))
     (sym is) (ap (λ l. map value_row (sorted compare l)) (shown_collection es))

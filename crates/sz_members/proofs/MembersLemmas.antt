@@ -17,7 +17,7 @@ use Rattle.sz_tabs.specs.Rows.{rows_of, values_of, rows_by, set_rows, value_row}
 use Rattle.sz_tabs.specs.Sorting.{sorted, distinct}
 use Rattle.sz_tabs.proofs.ForCallers.{rows_decide, rows_join, rows_in_any_order}
 use Rattle.sz_members.specs.Data.{Counted, times, emits_of, rows_of_members}
-use Rattle.sz_members.specs.Repeats.{value_eq, emits_held, AllCame, AreFew, full_by, is_full, CountsAgain, Gains}
+use Rattle.sz_members.specs.Repeats.{value_eq, emits_tallied, AllCame, AreFew, full_by, is_full, CountsAgain, Gains}
 use Rattle.sz_members.specs.Kept.{IsOfMembers}
 use Rattle.sz_members.proofs.RepeatsLemmas.{emits_after, came_after}
 use Rattle.sz_members.proofs.FullLemmas.{full_shows, values_of_both}
@@ -29,14 +29,14 @@ module _ (table : Declaration) (value : Datum) (n : ℕ) (old new : List (Value 
     rows = λ came. sym (rows_in_any_order table _ _ again.emits);
     came = again.came;
     few = λ few set. omega (arith, few set, again.values);
-    count = omega (arith, length_permutation _ _ again.emits, length-append (emits_held old) (times n value), length-replicate n (weighted value None));
+    count = omega (arith, length_permutation _ _ again.emits, length-append (emits_tallied old) (times n value), length-replicate n (weighted value None));
   }
 
   -- no more are shown of a full set
   pub gains_full : IsDistinct value_eq (keys_of old) → is_full table (length old) ≡ true → new ≡ old → Gains table value n old new
   gains_full unique full same = subst (λ es. Gains table value n old es) (sym same) (record {
     rows = λ came.
-        ap (rows_of table) (sym (append-nil (emits_held old))) ∙ full_shows table old [] unique came full
+        ap (rows_of table) (sym (append-nil (emits_tallied old))) ∙ full_shows table old [] unique came full
         ∙ sym (full_shows table old (times n value) unique came full);
     came = λ came. came;
     few = λ few. few;
@@ -53,33 +53,33 @@ gains_new table v n old new some few after = subst (λ es. Gains table (seen v) 
   came = came_after old v n some;
   few = λ before set. omega (arith, not_long table (length old) few set, length-append old ((v, n) ∷ []));
   count =
-      omega (arith, ap length (emits_after old v n), length-append (emits_held old) (times n (seen v)), length-replicate n (weighted (seen v) None));
+      omega (arith, ap length (emits_after old v n), length-append (emits_tallied old) (times n (seen v)), length-replicate n (weighted (seen v) None));
 })
 
--- the emits of the first values and of all others are those of what is held now and of what is left
-pub record IsUpTo (table : Declaration) (first others held rest : List (Value × ℕ)) : Type 0 where
-  pub rows : rows_of table (emits_held held ++ emits_held rest) ≡ rows_of table (emits_held first ++ emits_held others)
-  pub came : AllCame held
+-- the emits of the first values and of all others are those of what is kept now and of what is left
+pub record IsUpTo (table : Declaration) (first others tally rest : List (Value × ℕ)) : Type 0 where
+  pub rows : rows_of table (emits_tallied tally ++ emits_tallied rest) ≡ rows_of table (emits_tallied first ++ emits_tallied others)
+  pub came : AllCame tally
   pub left : AllCame rest
-  pub few : AreFew table (length held)
-  pub count : length (emits_held held) + length (emits_held rest) ≤ length (emits_held first) + length (emits_held others)
+  pub few : AreFew table (length tally)
+  pub count : length (emits_tallied tally) + length (emits_tallied rest) ≤ length (emits_tallied first) + length (emits_tallied others)
 
-pub emits_left : (table : Declaration) (first others held rest : List (Value × ℕ)) (v : Value) (n : ℕ) → IsUpTo table first others held ((v, n) ∷ rest)
-    → length (emits_held held) + n ≤ length (emits_held first) + length (emits_held others)
-emits_left table first others held rest v n before =
-    omega (arith, before.count, length-append (times n (seen v)) (emits_held rest), length-replicate n (weighted (seen v) None))
+pub emits_left : (table : Declaration) (first others tally rest : List (Value × ℕ)) (v : Value) (n : ℕ) → IsUpTo table first others tally ((v, n) ∷ rest)
+    → length (emits_tallied tally) + n ≤ length (emits_tallied first) + length (emits_tallied others)
+emits_left table first others tally rest v n before =
+    omega (arith, before.count, length-append (times n (seen v)) (emits_tallied rest), length-replicate n (weighted (seen v) None))
 
-pub up_to_more : (table : Declaration) (first others held now rest : List (Value × ℕ)) (v : Value) (n : ℕ)
-    → IsUpTo table first others held ((v, n) ∷ rest) → Gains table (seen v) n held now → IsUpTo table first others now rest
-up_to_more table first others held now rest v n before gained = record {
+pub up_to_more : (table : Declaration) (first others tally now rest : List (Value × ℕ)) (v : Value) (n : ℕ)
+    → IsUpTo table first others tally ((v, n) ∷ rest) → Gains table (seen v) n tally now → IsUpTo table first others now rest
+up_to_more table first others tally now rest v n before gained = record {
   rows =
-      rows_decide table (emits_held now) (emits_held held ++ times n (seen v)) (emits_held rest) (gained.rows before.came)
-      ∙ ap (rows_of table) (append_assoc (emits_held held) (times n (seen v)) (emits_held rest)) ∙ before.rows;
+      rows_decide table (emits_tallied now) (emits_tallied tally ++ times n (seen v)) (emits_tallied rest) (gained.rows before.came)
+      ∙ ap (rows_of table) (append_assoc (emits_tallied tally) (times n (seen v)) (emits_tallied rest)) ∙ before.rows;
   came = gained.came before.came;
   left = before.left.1;
   few = gained.few before.few;
   count =
-      omega (arith, gained.count, before.count, length-append (times n (seen v)) (emits_held rest), length-replicate n (weighted (seen v) None));
+      omega (arith, gained.count, before.count, length-append (times n (seen v)) (emits_tallied rest), length-replicate n (weighted (seen v) None));
 }
 
 abbrev declaration_of : Counted → Declaration

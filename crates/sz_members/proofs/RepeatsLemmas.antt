@@ -12,7 +12,7 @@ use Rattle.sz_value.specs.Seen.{seen}
 use Rattle.sz_value.specs.declared.value.Value.{Value}
 use Rattle.sz_tabs.specs.Data.{Weighted}
 use Rattle.sz_members.specs.Data.{times, emits_of}
-use Rattle.sz_members.specs.Repeats.{value_eq, seen_repeated, emits_held, AllCame, CountsAgain}
+use Rattle.sz_members.specs.Repeats.{value_eq, seen_repeated, emits_tallied, AllCame, CountsAgain}
 
 -- an equation of lists is an order of them
 pub as_they_stand : {X : Type 0} (xs ys : List X) → xs ≡ ys → IsPermutation xs ys
@@ -33,10 +33,10 @@ emits_append [] qs = refl
 emits_append (p ∷ ps) qs = ap (λ l. times p.1 p.0 ++ l) (emits_append ps qs) ∙ sym (append_assoc (times p.1 p.0) (emits_of ps) (emits_of qs))
 
 -- a value at the end
-pub emits_after : (es : List (Value × ℕ)) (v : Value) (n : ℕ) → emits_held (es ++ (v, n) ∷ []) ≡ emits_held es ++ times n (seen v)
+pub emits_after : (es : List (Value × ℕ)) (v : Value) (n : ℕ) → emits_tallied (es ++ (v, n) ∷ []) ≡ emits_tallied es ++ times n (seen v)
 emits_after es v n =
     ap emits_of (map-append seen_repeated es ((v, n) ∷ [])) ∙ emits_append (map seen_repeated es) ((seen v, n) ∷ [])
-    ∙ ap (λ l. emits_held es ++ l) (append-nil (times n (seen v)))
+    ∙ ap (λ l. emits_tallied es ++ l) (append-nil (times n (seen v)))
 
 pub came_after : (es : List (Value × ℕ)) (v : Value) (n : ℕ) → 0 < n → AllCame es → AllCame (es ++ (v, n) ∷ [])
 came_after [] v n some all = (some, tt)
@@ -52,22 +52,22 @@ last_two xs ys zs =
 -- the value that passes the test came n times more
 module _ (value : Datum) (n : ℕ) (test : Value → Bool) (tells : (k : Value) → test k ≡ true → value ≡ seen k) where
   pub times_more : (es : List (Value × ℕ)) (r : ℕ) → lookup test es ≡ Some r
-      → IsPermutation (emits_held es ++ times n value) (emits_held (set_value test es (r + n)))
+      → IsPermutation (emits_tallied es ++ times n value) (emits_tallied (set_value test es (r + n)))
   times_more [] r there = absurd (cc)
   times_more (e ∷ es) r there = by_test (test e.0) refl there (times_more es r)
     where
       goal_of : Bool → Type 0
-      goal_of b = IsPermutation (emits_held (e ∷ es) ++ times n value) (emits_held (cond b ((e.0, r + n) ∷ es) (e ∷ set_value test es (r + n))))
+      goal_of b = IsPermutation (emits_tallied (e ∷ es) ++ times n value) (emits_tallied (cond b ((e.0, r + n) ∷ es) (e ∷ set_value test es (r + n))))
 
       by_test : (b : Bool) → test e.0 ≡ b → cond b (Some e.1) (lookup test es) ≡ Some r
-          → (lookup test es ≡ Some r → IsPermutation (emits_held es ++ times n value) (emits_held (set_value test es (r + n)))) → goal_of b
+          → (lookup test es ≡ Some r → IsPermutation (emits_tallied es ++ times n value) (emits_tallied (set_value test es (r + n)))) → goal_of b
       by_test true is here rest =
           let same : e.1 ≡ r = cc in
           let more : times e.1 (seen e.0) ++ times n value ≡ times (r + n) (seen e.0) =
           (λ i. times (same i) (seen e.0) ++ times n (tells e.0 is i)) ∙ replicate-append-replicate r n _ in
-          IsPermutation-trans _ _ _ (last_two (times e.1 (seen e.0)) (emits_held es) (times n value)) (as_they_stand _ _ (ap (λ l. l ++ emits_held es) more))
+          IsPermutation-trans _ _ _ (last_two (times e.1 (seen e.0)) (emits_tallied es) (times n value)) (as_they_stand _ _ (ap (λ l. l ++ emits_tallied es) more))
       by_test false is here rest =
-          IsPermutation-trans _ _ _ (as_they_stand _ _ (append_assoc (times e.1 (seen e.0)) (emits_held es) (times n value)))
+          IsPermutation-trans _ _ _ (as_they_stand _ _ (append_assoc (times e.1 (seen e.0)) (emits_tallied es) (times n value)))
           (IsPermutation-append_right (times e.1 (seen e.0)) _ _ (rest here))
 
   pub came_more : (es : List (Value × ℕ)) (r : ℕ) → lookup test es ≡ Some r → AllCame es → AllCame (set_value test es (r + n))
@@ -81,22 +81,22 @@ module _ (value : Datum) (n : ℕ) (test : Value → Bool) (tells : (k : Value) 
       by_test false here rest = (all.0, rest here all.1)
 
   -- how often the value came before is at most how many emits there are
-  pub came_within : (es : List (Value × ℕ)) (r : ℕ) → lookup test es ≡ Some r → r ≤ length (emits_held es)
+  pub came_within : (es : List (Value × ℕ)) (r : ℕ) → lookup test es ≡ Some r → r ≤ length (emits_tallied es)
   came_within [] r there = absurd (cc)
   came_within (e ∷ es) r there =
       by_test (test e.0) there (came_within es r)
     where
-      by_test : (b : Bool) → cond b (Some e.1) (lookup test es) ≡ Some r → (lookup test es ≡ Some r → r ≤ length (emits_held es))
-          → r ≤ length (emits_held (e ∷ es))
+      by_test : (b : Bool) → cond b (Some e.1) (lookup test es) ≡ Some r → (lookup test es ≡ Some r → r ≤ length (emits_tallied es))
+          → r ≤ length (emits_tallied (e ∷ es))
       by_test true here rest =
           let same : e.1 ≡ r = cc in
           omega (
             arith,
             same,
-            length-append (times e.1 (seen e.0)) (emits_held es),
+            length-append (times e.1 (seen e.0)) (emits_tallied es),
             length-replicate {A = Weighted} e.1 (record { value = seen e.0; weight = None }),
           )
-      by_test false here rest = omega (arith, length-append (times e.1 (seen e.0)) (emits_held es), rest here)
+      by_test false here rest = omega (arith, length-append (times e.1 (seen e.0)) (emits_tallied es), rest here)
 
 -- where the value is absent, so is each equal one
 pub absent_alike : (v w : Value) (es : List (Value × ℕ)) → seen v ≡ seen w → lookup (value_eq w) es ≡ None → lookup (value_eq v) es ≡ None
@@ -105,7 +105,7 @@ absent_alike v w es same none = ap (λ d. lookup (λ k. eq_by_cmp compare d (see
 pub counts_again : (v : Value) (n : ℕ) (es : List (Value × ℕ)) (r : ℕ) → lookup (value_eq v) es ≡ Some r → (new : List (Value × ℕ))
     → new ≡ set_value (value_eq v) es (r + n) → length new ≡ length es → CountsAgain (seen v) n es new
 counts_again v n es r there new is long = record {
-  emits = subst (λ l. IsPermutation (emits_held es ++ times n (seen v)) (emits_held l)) (sym is) (times_more (seen v) n (value_eq v) (equal_data v) es r there);
+  emits = subst (λ l. IsPermutation (emits_tallied es ++ times n (seen v)) (emits_tallied l)) (sym is) (times_more (seen v) n (value_eq v) (equal_data v) es r there);
   came = λ all. subst AllCame (sym is) (came_more (seen v) n (value_eq v) (equal_data v) es r there all);
   values = long;
 }

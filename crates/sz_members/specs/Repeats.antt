@@ -21,9 +21,9 @@ value_eq = on seen (eq_by_cmp compare)
 abbrev pub seen_repeated : Value × ℕ → Datum × ℕ
 seen_repeated p = (seen p.0, p.1)
 
--- the emits that are held
-abbrev pub emits_held : List (Value × ℕ) → List Weighted
-emits_held held = emits_of (map seen_repeated held)
+-- the emits that are kept
+abbrev pub emits_tallied : List (Value × ℕ) → List Weighted
+emits_tallied tally = emits_of (map seen_repeated tally)
 
 -- each value came at least once
 abbrev pub AllCame : List (Value × ℕ) → Type 0
@@ -44,20 +44,20 @@ AreFew table values = table.kind ≡ Set → values ≤ table.limit + 1
 
 -- the value came so many times more, and was there before
 pub record CountsAgain (value : Datum) (more : ℕ) (old new : List (Value × ℕ)) : Type 0 where
-  pub emits : IsPermutation (emits_held old ++ times more value) (emits_held new)
+  pub emits : IsPermutation (emits_tallied old ++ times more value) (emits_tallied new)
   pub came : AllCame old → AllCame new
   pub values : length new ≡ length old
 
--- the rows are those of the old emits and so many of the value, and what held before still does
+-- the rows are those of the old emits and so many of the value, and what was so before still is
 pub record Gains (table : Declaration) (value : Datum) (more : ℕ) (old new : List (Value × ℕ)) : Type 0 where
-  pub rows : AllCame old → rows_of table (emits_held new) ≡ rows_of table (emits_held old ++ times more value)
+  pub rows : AllCame old → rows_of table (emits_tallied new) ≡ rows_of table (emits_tallied old ++ times more value)
   pub came : AllCame old → AllCame new
   pub few : AreFew table (length old) → AreFew table (length new)
-  pub count : length (emits_held new) ≤ length (emits_held old) + more
+  pub count : length (emits_tallied new) ≤ length (emits_tallied old) + more
 
 -- the rows are those of the emits of both sides, and what holds of the old values holds of all
 pub record GainsAll (table : Declaration) (others old new : List (Value × ℕ)) : Type 0 where
-  pub rows : rows_of table (emits_held new) ≡ rows_of table (emits_held old ++ emits_held others)
+  pub rows : rows_of table (emits_tallied new) ≡ rows_of table (emits_tallied old ++ emits_tallied others)
   pub came : AllCame new
   pub few : AreFew table (length new)
-  pub count : length (emits_held new) ≤ length (emits_held old) + length (emits_held others)
+  pub count : length (emits_tallied new) ≤ length (emits_tallied old) + length (emits_tallied others)

@@ -1,13 +1,12 @@
 //! The aggregator of sets and collections, and its calls.
-ghost use Rattle.std.specs.Prelude.{◌≡◌, ◌⊎◌, ◌+◌, ◌≤◌, ◌^◌, IsOk, IfErr, OnOk};
+ghost use Rattle.std.specs.Prelude.{◌≡◌, ◌⊎◌, ◌+◌, ◌≤◌, ◌^◌, IsOk, IfErr, OnOk, OnErr};
 ghost use Rattle.sz_types.specs.SeenTables.{seen_table};
 ghost use Rattle.sz_types.specs.declared.table.TableKind.TheVariants as kinds;
 ghost use Rattle.sz_tabs.specs.Aggregating.{IsNew, Joins};
 ghost use Rattle.sz_members.specs.Data.{rows_of_members, HasRoomFor, ChangesRoomAlone};
 
-use crate::counting::{Held, hold, put_all};
+use crate::counting::{Tally, hold, new_tally, put_all};
 use crate::value_rows::rows_of;
-use indexmap::IndexMap;
 use std::alloc::Global;
 use std::marker::Model;
 use sz_tabs::{Aggregator, NoMemory, Rows};
@@ -25,7 +24,7 @@ pub struct Members<'a> {
     table: &'a TableDecl,
     count: u64,
     room: usize,
-    held: Held,
+    tally: Tally,
 }
 
 impl<'a> Model for Members<'a> {
@@ -43,9 +42,9 @@ impl<'a> Model for Members<'a> {
     ghost use Rattle.sz_members.specs.Repeats.{seen_repeated};
     ghost use Rattle.sz_members.specs.Kept.{IsKept};
 
-    ghost view = { λ m. record { table = seen_table m.table.now; count = m.count; kept = map seen_repeated m.held.entries; room = m.room } };
+    ghost view = { λ m. record { table = seen_table m.table.now; count = m.count; kept = map seen_repeated m.tally.entries; room = m.room } };
 
-    ghost invariant = { λ m. IsKept (seen_table m.table.now) m.held.entries m.count m.room (index_map_len m.held + spare m.held) };
+    ghost invariant = { λ m. IsKept (seen_table m.table.now) m.tally.entries m.count m.room (index_map_len m.tally + spare m.tally) };
 }
 
 impl<'a> Members<'a> {
@@ -60,7 +59,7 @@ impl<'a> Members<'a> {
             table,
             count: 0,
             room: 0,
-            held: IndexMap::new(alloc),
+            tally: new_tally(alloc),
         }
     }
 
@@ -68,9 +67,10 @@ impl<'a> Members<'a> {
     pub fn reserve(&mut self, other: &Members<'a>) -> Result<(), NoMemory>
         ensures ok { OnOk result (HasRoomFor self.new other.now) }
         ensures kept { ChangesRoomAlone self.old self.new }
+        ensures err { OnErr result (self.new ≡ self.old) }
     {
-        self.held.reserve(other.held.len())?;
-        self.room = self.held.capacity();
+        self.tally.reserve(other.tally.len())?;
+        self.room = self.tally.capacity();
         Ok(())
     }
 }
@@ -83,7 +83,7 @@ impl<'a> Aggregator for Members<'a> {
     ghost shown = { λ m. rows_of_members m };
 
     fn add(&mut self, value: &Value, _weight: Option<i64>) -> Result<(), NoMemory> {
-        hold(self.alloc, &mut self.held, self.table, value)?;
+        hold(self.alloc, &mut self.tally, self.table, value)?;
         self.count += 1;
         Ok(())
     }
@@ -96,15 +96,15 @@ impl<'a> Aggregator for Members<'a> {
         ensures err { IfErr result (λ back. (back ≡ other.entry) × (self.new ≡ self.old)) }
         ensures reserved { HasRoomFor self.old other.entry → IsOk result }
     {
-        if self.held.reserve(other.held.len()).is_err() {
+        if self.tally.reserve(other.tally.len()).is_err() {
             return Err(other);
         }
         self.count += other.count;
-        put_all(&mut self.held, self.table, other.held);
+        put_all(&mut self.tally, self.table, other.tally);
         Ok(())
     }
 
     fn rows(&self) -> Result<Rows, NoMemory> {
-        rows_of(self.alloc, self.table, &self.held)
+        rows_of(self.alloc, self.table, &self.tally)
     }
 }

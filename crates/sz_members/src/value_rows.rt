@@ -1,4 +1,4 @@
-//! The rows of what is held, in order.
+//! The rows of what is kept, in order.
 ghost use Rattle.std.specs.Prelude.{◌≡◌, ◌++◌, ◌∷◌, [], map, replicate, IfOk, OnOk};
 ghost use Rattle.sz_types.specs.SeenTables.{seen_table};
 ghost use Rattle.sz_value.specs.Order.{compare};
@@ -6,25 +6,25 @@ ghost use Rattle.sz_value.specs.Seen.{seen};
 ghost use Rattle.sz_tabs.specs.Rows.{rows_of, value_row, overflow_row};
 ghost use Rattle.sz_tabs.specs.Sorting.{sorted};
 ghost use Rattle.sz_members.specs.Kept.{IsOfMembers};
-ghost use Rattle.sz_members.specs.Repeats.{seen_repeated, emits_held, AllCame};
+ghost use Rattle.sz_members.specs.Repeats.{seen_repeated, emits_tallied, AllCame};
 ghost use Rattle.sz_members.specs.Showing.{times_shown, shown_of, seen_ref};
 
-use crate::counting::{Held, is_full};
+use crate::counting::{Tally, is_full};
 use std::alloc::Global;
 use sz_tabs::{NoMemory, Row, RowValue, Rows};
 use sz_types::{TableDecl, TableKind};
 use sz_value::{Value, copy};
 
-// The rows of the values that are held.
-pub(crate) fn rows_of(alloc: Global, table: &TableDecl, held: &Held) -> Result<Rows, NoMemory>
+// The rows of the values that are kept.
+pub(crate) fn rows_of(alloc: Global, table: &TableDecl, tally: &Tally) -> Result<Rows, NoMemory>
     requires kind { IsOfMembers (seen_table table.now).kind }
-    requires came { AllCame held.now.entries }
-    ensures value { IfOk result (λ rows. rows ≡ rows_of (seen_table table.now) (emits_held held.now.entries)) }
+    requires came { AllCame tally.now.entries }
+    ensures value { IfOk result (λ rows. rows ≡ rows_of (seen_table table.now) (emits_tallied tally.now.entries)) }
 {
-    if is_full(table, held) {
+    if is_full(table, tally) {
         return overflow_rows(alloc);
     }
-    let values = in_order(alloc, table.kind, held)?;
+    let values = in_order(alloc, table.kind, tally)?;
     row_by_row(alloc, values)
 }
 
@@ -56,20 +56,28 @@ fn row_by_row(alloc: Global, values: Vec<&Value>) -> Result<Rows, NoMemory>
 }
 
 // The values that rows show, in ascending order.
-fn in_order<'h>(alloc: Global, kind: TableKind, held: &'h Held) -> Result<Vec<&'h Value>, NoMemory>
-    ensures value { IfOk result (λ made. map seen_ref made.items ≡ sorted compare (shown_of kind (map seen_repeated held.now.entries))) }
+fn in_order<'h>(
+    alloc: Global,
+    kind: TableKind,
+    tally: &'h Tally,
+) -> Result<Vec<&'h Value>, NoMemory>
+    ensures value { IfOk result (λ made. map seen_ref made.items ≡ sorted compare (shown_of kind (map seen_repeated tally.now.entries))) }
 {
-    let mut made = all_shown(alloc, kind, held)?;
+    let mut made = all_shown(alloc, kind, tally)?;
     made.sort()?;
     Ok(made)
 }
 
 // The values that rows show: those of a set once, and those of a collection as often as they came.
-fn all_shown<'h>(alloc: Global, kind: TableKind, held: &'h Held) -> Result<Vec<&'h Value>, NoMemory>
-    ensures value { IfOk result (λ made. map seen_ref made.items ≡ shown_of kind (map seen_repeated held.now.entries)) }
+fn all_shown<'h>(
+    alloc: Global,
+    kind: TableKind,
+    tally: &'h Tally,
+) -> Result<Vec<&'h Value>, NoMemory>
+    ensures value { IfOk result (λ made. map seen_ref made.items ≡ shown_of kind (map seen_repeated tally.now.entries)) }
 {
     let mut made = Vec::new(alloc);
-    for (value, repeats) in held {
+    for (value, repeats) in tally {
         push_times(&mut made, value, times_shown(kind, *repeats))?;
     }
     Ok(made)

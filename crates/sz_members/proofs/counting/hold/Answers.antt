@@ -14,8 +14,8 @@ use Rattle.sz_members.proofs.counting.hold.Goals.{then-count_again-via-then-coun
 pub returns-then-count_again-clause-ok : goal.returns-then-count_again-clause-ok
 returns-then-count_again-clause-ok c =
     let table = seen_table c.args.table.now in
-    let old = c.args.held.now.entries in
-    let new = c.count_again.new.held.entries in
+    let old = c.args.tally.now.entries in
+    let new = c.count_again.new.tally.entries in
     elim c.then-count_again.branch [
       | then-count_again-via-then-count_again w ↦ gains_again table (seen c.args.value.now) 1 old new (c.count_again.ensures.found w.if-count_again.true)
       | then-count_again-via-else-count_again+then-is_full w ↦
@@ -30,18 +30,18 @@ keep-requires c =
     let same = c.count_again.ensures.kept c.if-count_again.false in
     let absent = c.count_again.ensures.absent c.if-count_again.false in
     record {
-      absent = absent_alike c.in_ok-value.value c.args.value.now c.count_again.new.held.entries c.in_ok-value.ensures.value
+      absent = absent_alike c.in_ok-value.value c.args.value.now c.count_again.new.tally.entries c.in_ok-value.ensures.value
           (ap (lookup (value_eq c.args.value.now)) same ∙ absent);
     }
 
 pub returns-clause-ok : goal.returns-clause-ok
 returns-clause-ok c =
     let table = seen_table c.args.table.now in
-    let old = c.args.held.now.entries in
+    let old = c.args.tally.now.entries in
     let copied = c.in_ok-value.value in
     let same = c.count_again.ensures.kept c.if-count_again.false in
     let few : is_full table (length old) ≡ false = ap (λ es. is_full table (length es)) (sym same) ∙ sym c.is_full.ensures.value ∙ c.if-is_full.false in
     on_ok_weaker c.keep.result
-    (λ kept. subst (λ d. Gains table d 1 old c.keep.new.held.entries) c.in_ok-value.ensures.value
-    (gains_new table copied 1 old c.keep.new.held.entries (omega arith) few (kept ∙ ap (λ es. es ++ (copied, 1) ∷ []) same)))
+    (λ kept. subst (λ d. Gains table d 1 old c.keep.new.tally.entries) c.in_ok-value.ensures.value
+    (gains_new table copied 1 old c.keep.new.tally.entries (omega arith) few (kept ∙ ap (λ es. es ++ (copied, 1) ∷ []) same)))
     c.keep.ensures.ok

@@ -14,8 +14,8 @@ use Rattle.sz_members.proofs.counting.put.Goals.{then-count_again-via-then-count
 pub returns-then-count_again-clause-value : goal.returns-then-count_again-clause-value
 returns-then-count_again-clause-value c =
     let table = seen_table c.args.table.now in
-    let old = c.args.held.now.entries in
-    let new = c.count_again.new.held.entries in
+    let old = c.args.tally.now.entries in
+    let new = c.count_again.new.tally.entries in
     elim c.then-count_again.branch [
       | then-count_again-via-then-count_again w ↦
           gains_again table (seen c.args.value) c.args.repeats old new (c.count_again.ensures.found w.if-count_again.true)
@@ -29,10 +29,10 @@ returns-then-count_again-clause-value c =
 pub returns-clause-value : goal.returns-clause-value
 returns-clause-value c =
     let table = seen_table c.args.table.now in
-    let old = c.args.held.now.entries in
+    let old = c.args.tally.now.entries in
     let same = c.count_again.ensures.kept c.if-count_again.false in
     let few : is_full table (length old) ≡ false = ap (λ es. is_full table (length es)) (sym same) ∙ sym c.is_full.ensures.value ∙ c.if-is_full.false in
-    let room : 0 < spare c.count_again.new.held = omega (arith, c.requires.room, c.count_again.ensures.spare) in
+    let room : 0 < spare c.count_again.new.tally = omega (arith, c.requires.room, c.count_again.ensures.spare) in
     let kept = surely c.keep.result (c.keep.ensures.succeeds room) c.keep.ensures.ok in
-    gains_new table c.args.value c.args.repeats old c.keep.new.held.entries c.requires.some few
+    gains_new table c.args.value c.args.repeats old c.keep.new.tally.entries c.requires.some few
     (kept ∙ ap (λ es. es ++ (c.args.value, c.args.repeats) ∷ []) same)

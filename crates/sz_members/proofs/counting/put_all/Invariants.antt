@@ -1,4 +1,4 @@
--- The emits of both sides are those of what is held and of what is left, and there is room for that.
+-- The emits of both sides are those of what is kept and of what is left, and there is room for that.
 use Rattle.std.proofs.Common.{◌≤◌, ◌+◌, length}
 use Rattle.indexmap.specs.IndexMap.{index_map_len, spare}
 use Rattle.sz_types.specs.SeenTables.{seen_table}
@@ -7,6 +7,6 @@ use Rattle.sz_members.proofs.counting.put_all.Given as goal
 
 abbrev pub invariant-loop-value : goal.invariant-loop-value
 invariant-loop-value l =
-    IsUpTo (seen_table l.table) l.initial.held.entries l.fn.others.entries l.held.entries l.value-iterator
-    × (length l.value-iterator ≤ spare l.held)
-    × (index_map_len l.initial.held + spare l.initial.held ≤ index_map_len l.held + spare l.held)
+    IsUpTo (seen_table l.table) l.initial.tally.entries l.fn.others.entries l.tally.entries l.value-iterator
+    × (length l.value-iterator ≤ spare l.tally)
+    × (index_map_len l.initial.tally + spare l.initial.tally ≤ index_map_len l.tally + spare l.tally)

@@ -16,4 +16,4 @@ loop-value-preserved c =
     let more = c.in_ok-push_times.ensures.ok
     ∙ ap (λ n. map seen_ref c.loop-value.made.items ++ replicate n (seen c.in-Some.value.now)) c.times_shown.ensures.value in
     shown_more c.args.kind (map seen_ref c.loop-value.made.items) (map seen_ref c.push_times.new.made.items)
-    (shown_of c.args.kind (map seen_repeated c.args.held.now.entries)) c.in-Some.value.now c.in-Some.repeats.now es rest step more c.loop-value.invariant
+    (shown_of c.args.kind (map seen_repeated c.args.tally.now.entries)) c.in-Some.value.now c.in-Some.repeats.now es rest step more c.loop-value.invariant
