@@ -28,7 +28,7 @@ $ [run p f --budget 2]
 u: int; x := u; => 0
 $ [run p f --budget 1] => 3 ! record 1: budget passed at 1:9
 
-== ticks: an operator takes one later its operands
+== ticks: an operator takes one after its operands
 < ¶
 $ [run p f --budget 4]
 c: table sum of int; emit c <- -7; => 0 c[] = -7¶
@@ -58,7 +58,7 @@ $ [run p f --budget 5]
 x := time(5) - 3; => 0
 $ [run p f --budget 4] => 3 ! record 1: budget passed at 1:1
 
-== ticks: && and || take one later what they look at
+== ticks: && and || take one after what they look at
 < ¶
 $ [run p f --budget 4]
 x := true && false; => 0

@@ -110,7 +110,7 @@ $ [--help] => 1 ! bad command line
 $ [help] => 1 ! bad command line
 $ [merge p f] => 1 ! bad command line
 
-== options stand anywhere later the command
+== options stand anywhere after the command
 < 3¶-1¶
 $ [run p f]
 c: table sum of int; x: int = input; emit c <- x; => 0 c[] = 2¶

@@ -16,7 +16,7 @@ c: table sum of int; emit c <- len("ab"); => 0 c[] = 2¶
 $ [run p f --budget 3] => 3 ! record 1: budget passed at 1:22
 $ [run p f --budget 2] => 3 ! record 1: budget passed at 1:22
 
-== ticks: a call takes one later its arguments, and what its function does
+== ticks: a call takes one after its arguments, and what its function does
 < ¶
 $ [run p f --budget 7]
 f: function(n: int): int { return n + 1; }¶x := f(4); => 0
@@ -47,7 +47,7 @@ f: function(): int { return 1; }¶f(); => 0
 $ [run p f --budget 2] => 3 ! record 1: budget passed at 1:22
 $ [run p f --budget 1] => 3 ! record 1: budget passed at 1:29
 
-== ticks: an assignment takes one later its indexes and its value
+== ticks: an assignment takes one after its indexes and its value
 < ¶
 $ [run p f --budget 2]
 x: int; x = 5; => 0
@@ -75,7 +75,7 @@ $ [run p f --budget 12]
 a: array of int = {1};¶a = {2, 3}; => 0
 $ [run p f --budget 11] => 3 ! record 1: budget passed at 2:1
 
-== ticks: if takes one later its condition, and a block none
+== ticks: if takes one after its condition, and a block none
 < ¶
 $ [run p f --budget 2]
 if (true) ; => 0
@@ -175,7 +175,7 @@ f: function(n: int): int { return n; }¶for (; f(1) == 2; f(3)) ; => 0
 $ [run p f --budget 6] => 3 ! record 1: budget passed at 2:1
 $ [run p f --budget 5] => 3 ! record 1: budget passed at 2:8
 
-== ticks: return takes one later its value
+== ticks: return takes one after its value
 < ¶
 $ [run p f --budget 4]
 c: table sum of int; emit c <- 1; return; emit c <- 10; => 0 c[] = 1¶
