@@ -13,7 +13,7 @@
 //! - `! p 0` has the first call on the program fail, `! f 0` that on the input, `! out 1` the second writing to the output,
 //!   and `! none` no call.
 //!
-//! `examples/runs.txt` has the runs of this file and of those beside it, in one.
+//! The rows of this file and of those beside it stand nowhere else; `tools/check-runs --rows` prints them in one page.
 
 /// The runs.
 pub const RUNS: &str = r#"== tables hold the sums of all lines
