@@ -97,7 +97,7 @@ fn is_long(alloc: Global, row: &str) -> bool {
     comes_to(alloc, Shown::Count, text.as_str(), expected)
 }
 
-// The tables after calls, so that no proof sees what stands in them.
+// The tables are what calls give, so that no proof sees what stands in them.
 fn greatest() -> &'static str {
     GREATEST
 }

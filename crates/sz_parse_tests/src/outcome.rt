@@ -18,7 +18,7 @@ pub enum Shown {
     Count,
 }
 
-// The tables after a call, so that no proof sees what stands in them.
+// The tables are what a call gives, so that no proof sees what stands in them.
 fn tables() -> [&'static str; 19] {
     [
         forms::EACH_FORM_OF_EXPRESSION_IS_READ,

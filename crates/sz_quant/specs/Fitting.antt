@@ -1,5 +1,4 @@
--- Which part of a condition bounds a quantified variable. Variables are a list, the one that is looked for first and those after it
--- after it.
+-- Which part of a condition bounds a quantified variable. Variables are a list, the one whose bound is looked for first and then the later ones.
 use Rattle.std.specs.Prelude.{ℕ, List, [], ◌∷◌, ◌||◌, Bool, true, false, if◌then◌else◌, Option, Some, None, bytes_eq}
 use Rattle.std.specs.List.{list_any, filter_map, slice_get}
 use Rattle.sz_tree.specs.Expressions.{Exp, named, call, index, slice}
