@@ -1,13 +1,14 @@
 -- A run ends in one way.
-use Rattle.std.proofs.Common.{◌≡◌, ℕ, zero, suc, List, Option, Some, None, refl, sym, ap, ◌∙◌, subst}
+use Rattle.std.proofs.Common.{◌≡◌, ℕ, zero, suc, List, [], ◌∷◌, length, Option, Some, None, refl, sym, ap, ◌∙◌, subst}
 use Rattle.std.specs.Prelude.{slice_get}
 use Rattle.sz_tabs.specs.Data.{EmitDatum}
 use Rattle.sz_instr.specs.declared.line.Line.{Line}
+use Rattle.sz_instr.specs.declared.routine.Routine.{Routine}
 use Rattle.sz_instr.specs.declared.code.Code.{Code}
-use Rattle.sz_world_rules.specs.World.{World, Fault, Outcome, Done, Faulted}
-use Rattle.sz_world_rules.specs.Slots.{Slot}
-use Rattle.sz_machine_rules.specs.States.{State, After, IsOver, Goes, Halts, Faults, Stuck}
-use Rattle.sz_machine_rules.specs.Runs.{does, LeadsBy, Leads, GoesOn, RunsFor, ComesTo, EndsRecord, RunsTo}
+use Rattle.sz_world_rules.specs.World.{World, Fault, Outcome, Done, Faulted, new_world}
+use Rattle.sz_world_rules.specs.Slots.{Slot, undefined_slots}
+use Rattle.sz_machine_rules.specs.States.{State, After, IsOver, Goes, Halts, Faults, Stuck, entered}
+use Rattle.sz_machine_rules.specs.Runs.{does, LeadsBy, Leads, GoesOn, RunsFor, ComesTo, EndsRecord, RunsTo, EndsStatic, RoutinesRunTo, StaticsRunTo}
 
 module _ (code : Code) where
   -- a line leads to one thing
@@ -52,3 +53,32 @@ pub runs_to_one : (code : Code) (input : List ℕ) (statics : List Slot) (budget
 runs_to_one code input statics budget r q h k =
     let same = one_end code h.comes.steps k.comes.steps _ h.end k.end (over_of h.end r h.is) (over_of k.end q k.is) h.comes.runs k.comes.runs in
     one_outcome h.end r q h.is (subst (λ e. EndsRecord e q) (sym same) k.is)
+
+-- what ends a static's run is an end
+pub static_over : (end : After) (P : World → List Slot → Type 0) (r : Outcome (List Slot)) → EndsStatic end P r → IsOver end
+static_over (Goes s) P r h = absurd h
+static_over (Halts w statics) P r h = tt
+static_over (Faults fault) P r h = tt
+static_over Stuck P r h = absurd h
+
+-- the runs of routines, one after the other, have one outcome
+routines_to_one : (code : Code) (routines : List Routine) (w : World) (statics : List Slot) (r q : Outcome (List Slot))
+    → RoutinesRunTo code routines w statics r → RoutinesRunTo code routines w statics q → r ≡ q
+routines_to_one code [] w statics r q h k = h ∙ sym k
+routines_to_one code (routine ∷ rest) w statics r q h k =
+    let next : Outcome (List Slot) → World → List Slot → Type 0 = λ o v slots. RoutinesRunTo code rest v slots o in
+    let same : h.0 ≡ k.0 = one_end code h.1.steps k.1.steps (entered routine statics None w) h.0 k.0 (static_over h.0 (next r) r h.2)
+    (static_over k.0 (next q) q k.2) h.1.runs k.1.runs in
+    by h.0 (λ v slots. routines_to_one code rest v slots r q) h.2 (subst (λ e. EndsStatic e (next q) q) (sym same) k.2)
+  where
+    by : (end : After) → ((v : World) (slots : List Slot) → RoutinesRunTo code rest v slots r → RoutinesRunTo code rest v slots q → r ≡ q)
+        → EndsStatic end (λ v slots. RoutinesRunTo code rest v slots r) r → EndsStatic end (λ v slots. RoutinesRunTo code rest v slots q) q → r ≡ q
+    by (Goes s) follows h k = absurd h
+    by (Halts v slots) follows h k = follows v slots h k
+    by (Faults fault) follows h k = h ∙ sym k
+    by Stuck follows h k = absurd h
+
+-- the runs of the statics have one outcome
+pub statics_to_one : (code : Code) (budget : ℕ) (r q : Outcome (List Slot)) → StaticsRunTo code budget r → StaticsRunTo code budget q → r ≡ q
+statics_to_one code budget r q h k =
+    routines_to_one code code.statics (new_world budget) (undefined_slots (length code.statics)) r q h k
