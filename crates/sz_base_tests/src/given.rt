@@ -31,12 +31,12 @@ pub(crate) fn slot_of(alloc: Global, given: Given) -> Result<Slot, NoMemory> {
         Given::Int(number) => Value::Int(number),
         Given::Time(number) => Value::Time(number),
         Given::Str(text) => Value::Str(Text::new(alloc, text)?),
-        Given::Bytes(held) => Value::Bytes(Octets::from_slice(alloc, held)?),
-        Given::Array(held) => Value::Array(numbers(alloc, held)?),
-        Given::Texts(held) => Value::Array(texts(alloc, held)?),
-        Given::Tuple(held) => Value::Tuple(numbers(alloc, held)?),
-        Given::Map(held) => Value::Map(map(alloc, held)?),
-        Given::Names(held) => Value::Map(names(alloc, held)?),
+        Given::Bytes(bytes) => Value::Bytes(Octets::from_slice(alloc, bytes)?),
+        Given::Array(items) => Value::Array(numbers(alloc, items)?),
+        Given::Texts(items) => Value::Array(texts(alloc, items)?),
+        Given::Tuple(items) => Value::Tuple(numbers(alloc, items)?),
+        Given::Map(items) => Value::Map(map(alloc, items)?),
+        Given::Names(items) => Value::Map(names(alloc, items)?),
     };
     Ok(Slot::Defined(value))
 }
@@ -52,34 +52,34 @@ pub(crate) fn list_of(alloc: Global, given: &[Given]) -> Result<List, NoMemory> 
     Ok(list)
 }
 
-fn numbers(alloc: Global, held: &[i64]) -> Result<List, NoMemory> {
-    let mut list = List::with_capacity(alloc, held.len())?;
-    for number in held {
+fn numbers(alloc: Global, items: &[i64]) -> Result<List, NoMemory> {
+    let mut list = List::with_capacity(alloc, items.len())?;
+    for number in items {
         list.push(Value::Int(*number))?;
     }
     Ok(list)
 }
 
-fn texts(alloc: Global, held: &[&str]) -> Result<List, NoMemory> {
+fn texts(alloc: Global, items: &[&str]) -> Result<List, NoMemory> {
     let mut list = List::new(alloc);
-    for text in held {
+    for text in items {
         list.push(Value::Str(Text::new(alloc, text)?))?;
     }
     Ok(list)
 }
 
 // The map that is made from these pairs.
-pub(crate) fn map(alloc: Global, held: &[(i64, i64)]) -> Result<Pairs, NoMemory> {
+pub(crate) fn map(alloc: Global, items: &[(i64, i64)]) -> Result<Pairs, NoMemory> {
     let mut pairs = Pairs::new(alloc);
-    for (key, value) in held {
+    for (key, value) in items {
         pairs.insert(Value::Int(*key), Value::Int(*value))?;
     }
     Ok(pairs)
 }
 
-fn names(alloc: Global, held: &[(&str, &str)]) -> Result<Pairs, NoMemory> {
+fn names(alloc: Global, items: &[(&str, &str)]) -> Result<Pairs, NoMemory> {
     let mut pairs = Pairs::new(alloc);
-    for (key, value) in held {
+    for (key, value) in items {
         let key = Text::new(alloc, key)?;
         let value = Text::new(alloc, value)?;
         pairs.insert(Value::Str(key), Value::Str(value))?;

@@ -287,7 +287,7 @@ const COMPARISONS: &[(BinOp, bool, bool, bool)] = &[
     (GreaterEqual, false, true, true),
 ];
 
-// The tables after calls, so that no proof sees what stands in them.
+// The tables come from calls, so that no proof sees what stands in them.
 fn rows() -> &'static [Row] {
     ROWS
 }

@@ -102,7 +102,7 @@ const MANY_NAMES_AND_DEEP_BLOCKS: &[Step] = &[
     Means("name7", Meaning::Var(7)),
 ];
 
-// The steps of each run after a call, so that no proof sees them.
+// The steps of each run come from a call, so that no proof sees them.
 fn runs() -> [&'static [Step]; 4] {
     [
         AN_INNER_BLOCK_HIDES_A_NAME_UNTIL_IT_IS_CLOSED,

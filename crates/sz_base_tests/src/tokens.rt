@@ -129,7 +129,7 @@ const ROWS: &[Row] = &[
     Row::Longest,
 ];
 
-// The tables after calls, so that no proof sees what stands in them.
+// The tables come from calls, so that no proof sees what stands in them.
 fn table() -> &'static str {
     LINES
 }

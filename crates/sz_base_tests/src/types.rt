@@ -67,7 +67,7 @@ const TYPES: &[Given] = &[
     Message("Id", Int, 1, Encoding::Plain),
 ];
 
-// The table after a call, so that no proof sees what stands in it.
+// The table comes from a call, so that no proof sees what stands in it.
 fn types() -> &'static [Given] {
     TYPES
 }

@@ -91,7 +91,7 @@ const ROWS: &[Row] = &[
     Row::Slots,
 ];
 
-// The tables after calls, so that no proof sees what stands in them.
+// The tables come from calls, so that no proof sees what stands in them.
 fn ascending() -> &'static [Given] {
     ASCENDING
 }

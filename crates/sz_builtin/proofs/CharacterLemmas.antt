@@ -14,11 +14,11 @@ use Rattle.sz_value.proofs.ForCallers.{passes_ascii, ascii_part}
 use Rattle.sz_builtin.specs.Characters.{IsRestAfter}
 use Rattle.sz_builtin.specs.Places.{cut}
 
--- at the front nothing is after
+-- at the front no character is passed
 pub at_front : (text : List ℕ) → IsUtf8 text → IsRestAfter 0 text text
 at_front text u = record { front = []; many = refl; whole = refl; characters = refl; utf8 = u }
 
--- one character more is after
+-- one character more is passed
 pub one_more : (count : ℕ) (text r t : List ℕ) (c : ℕ) → IsRestAfter count text r → r ≡ encode_utf8 c ++ t → IsRestAfter (count + 1) text t
 one_more count text r t c h e = record {
   front = h.front ++ c ∷ [];

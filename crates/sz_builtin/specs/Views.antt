@@ -13,7 +13,7 @@ abbrev pub seen_view : View → Datum
 seen_view (views.Bool b) = truth b
 seen_view (views.Int n) = int n
 seen_view (views.Time n) = time n
-seen_view (views.Bytes held) = bytes held.now
+seen_view (views.Bytes octets) = bytes octets.now
 seen_view (views.Whole value) = seen value.now
 
 -- the plain data of a value that is told by its kind
@@ -22,7 +22,7 @@ seen_kind (kinds.Bool b) = truth b
 seen_kind (kinds.Int n) = int n
 seen_kind (kinds.Time n) = time n
 seen_kind (kinds.Str text) = str text.now
-seen_kind (kinds.Bytes held) = bytes held.now
+seen_kind (kinds.Bytes octets) = bytes octets.now
 seen_kind (kinds.Array parts) = array (data_of parts.now)
 seen_kind (kinds.Tuple parts) = tuple (data_of parts.now)
 seen_kind (kinds.Map pairs) = mapping (entries_of pairs.now)

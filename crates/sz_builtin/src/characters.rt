@@ -58,11 +58,11 @@ pub fn characters_before(text: &Text, at: usize) -> usize
     ensures value { result ≡ length (chars (take at text.now)) }
     ensures small { result < 2 ^ 63 }
 {
-    let held = text.as_str();
-    if text.is_ascii() && at <= held.as_bytes().len() {
+    let chars = text.as_str();
+    if text.is_ascii() && at <= chars.as_bytes().len() {
         at
     } else {
-        counted(&held[..at])
+        counted(&chars[..at])
     }
 }
 

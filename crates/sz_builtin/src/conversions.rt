@@ -73,7 +73,7 @@ fn as_int(v: &View<'_>) -> Slot
         Kind::Int(number) => Slot::Defined(Value::Int(number)),
         Kind::Time(number) => Slot::Defined(Value::Int(number)),
         Kind::Str(text) => spelled(text.as_str().as_bytes()),
-        Kind::Bytes(held) => spelled(held),
+        Kind::Bytes(octets) => spelled(octets),
         _ => Slot::Undefined,
     }
 }
@@ -107,7 +107,7 @@ fn as_str(alloc: Global, v: &View<'_>) -> Result<Slot, NoMemory>
         Kind::Bool(truth) => truth_text(alloc, truth),
         Kind::Int(number) => decimal_text(alloc, number),
         Kind::Str(text) => Ok(Slot::Defined(Value::Str(text.copy(alloc)?))),
-        Kind::Bytes(held) => text_of(alloc, held),
+        Kind::Bytes(octets) => text_of(alloc, octets),
         _ => Ok(Slot::Undefined),
     }
 }
@@ -140,10 +140,10 @@ fn decimal_text(alloc: Global, number: i64) -> Result<Slot, NoMemory>
 
 // The text that the bytes are, if they are UTF-8.
 #[tactic(auto, using(crate::proofs::ConversionLemmas::text_there, crate::proofs::ConversionLemmas::no_text))]
-fn text_of(alloc: Global, held: &[u8]) -> Result<Slot, NoMemory>
-    ensures value { IfOk result (λ slot. seen_slot slot ≡ (if is_utf8 held.now then Some (str held.now) else None)) }
+fn text_of(alloc: Global, octets: &[u8]) -> Result<Slot, NoMemory>
+    ensures value { IfOk result (λ slot. seen_slot slot ≡ (if is_utf8 octets.now then Some (str octets.now) else None)) }
 {
-    match simdutf8::basic::from_utf8(held) {
+    match simdutf8::basic::from_utf8(octets) {
         Ok(text) => written(alloc, text),
         Err(_) => Ok(Slot::Undefined),
     }
@@ -158,7 +158,7 @@ fn as_bytes(alloc: Global, v: &View<'_>) -> Result<Slot, NoMemory>
             alloc,
             text.as_str().as_bytes(),
         )?))),
-        Kind::Bytes(held) => Ok(Slot::Defined(Value::Bytes(Octets::from_slice(alloc, held)?))),
+        Kind::Bytes(octets) => Ok(Slot::Defined(Value::Bytes(Octets::from_slice(alloc, octets)?))),
         _ => Ok(Slot::Undefined),
     }
 }

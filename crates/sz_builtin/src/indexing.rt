@@ -29,7 +29,7 @@ pub fn index_of_views(alloc: Global, base: &View<'_>, at: &View<'_>) -> Result<S
     match (base.kind(), at.kind()) {
         (Kind::Array(list), Kind::Int(place)) => element(alloc, list.as_slice(), place),
         (Kind::Str(text), Kind::Int(place)) => Ok(code_at(text, place)),
-        (Kind::Bytes(held), Kind::Int(place)) => Ok(byte(held, place)),
+        (Kind::Bytes(octets), Kind::Int(place)) => Ok(byte(octets, place)),
         (Kind::Map(pairs), _) => value_of(alloc, pairs, at),
         _ => Ok(Slot::Undefined),
     }

@@ -20,7 +20,7 @@ pub fn len(value: &View<'_>) -> Slot
 {
     match value.kind() {
         Kind::Str(text) => count(character_count(text)),
-        Kind::Bytes(held) => count(held.len()),
+        Kind::Bytes(octets) => count(octets.len()),
         Kind::Array(list) => count(list_len(list)),
         Kind::Map(pairs) => count(pairs_len(pairs)),
         _ => Slot::Undefined,

@@ -36,13 +36,13 @@ pub fn slice_of_view(alloc: Global, base: &View<'_>, from: i64, to: i64) -> Resu
 /// caller can look at the part where it lies.
 ///
 /// `None` where the slice is undefined.
-pub fn bytes_between(held: &[u8], from: i64, to: i64) -> Option<(usize, usize)>
-    ensures some { IfSome result (λ p. slice (bytes held.now) from to ≡ Some (bytes (take p.1 (drop p.0 held.now)))) }
-    ensures within { IfSome result (λ p. p.0 + p.1 ≤ length held.now) }
-    ensures none { IfNone result (slice (bytes held.now) from to ≡ None) }
+pub fn bytes_between(octets: &[u8], from: i64, to: i64) -> Option<(usize, usize)>
+    ensures some { IfSome result (λ p. slice (bytes octets.now) from to ≡ Some (bytes (take p.1 (drop p.0 octets.now)))) }
+    ensures within { IfSome result (λ p. p.0 + p.1 ≤ length octets.now) }
+    ensures none { IfNone result (slice (bytes octets.now) from to ≡ None) }
 {
     match span(from, to) {
-        Some((skip, count)) if fits(skip, count, held.len()) => {
+        Some((skip, count)) if fits(skip, count, octets.len()) => {
             Some((skip as usize, count as usize))
         }
         _ => None,
@@ -67,7 +67,7 @@ fn part(alloc: Global, base: &View<'_>, skip: u64, count: u64) -> Result<Slot, N
 {
     match base.kind() {
         Kind::Str(text) => part_of_text(alloc, text, skip, count),
-        Kind::Bytes(held) => part_of_bytes(alloc, held, skip, count),
+        Kind::Bytes(octets) => part_of_bytes(alloc, octets, skip, count),
         Kind::Array(list) => part_of_list(alloc, list.as_slice(), skip, count),
         _ => Ok(Slot::Undefined),
     }
@@ -108,10 +108,10 @@ fn characters_part(alloc: Global, text: &str, skip: u64, count: u64) -> Result<S
 }
 
 // Bytes of a byte string.
-fn part_of_bytes(alloc: Global, held: &[u8], skip: u64, count: u64) -> Result<Slot, NoMemory>
-    ensures value { IfOk result (λ slot. seen_slot slot ≡ option_map bytes (cut held.now (skip, count))) }
+fn part_of_bytes(alloc: Global, octets: &[u8], skip: u64, count: u64) -> Result<Slot, NoMemory>
+    ensures value { IfOk result (λ slot. seen_slot slot ≡ option_map bytes (cut octets.now (skip, count))) }
 {
-    match cut(held, skip, count) {
+    match cut(octets, skip, count) {
         Some(part) => Ok(Slot::Defined(Value::Bytes(Octets::from_slice(alloc, part)?))),
         None => Ok(Slot::Undefined),
     }

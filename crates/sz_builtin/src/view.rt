@@ -54,7 +54,7 @@ impl View<'_> {
             View::Bool(truth) => Kind::Bool(*truth),
             View::Int(number) => Kind::Int(*number),
             View::Time(number) => Kind::Time(*number),
-            View::Bytes(held) => Kind::Bytes(held),
+            View::Bytes(octets) => Kind::Bytes(octets),
             View::Whole(value) => kind_of(value),
         }
     }
@@ -67,7 +67,7 @@ impl View<'_> {
             View::Bool(truth) => Ok(Value::Bool(*truth)),
             View::Int(number) => Ok(Value::Int(*number)),
             View::Time(number) => Ok(Value::Time(*number)),
-            View::Bytes(held) => Ok(Value::Bytes(Octets::from_slice(alloc, held)?)),
+            View::Bytes(octets) => Ok(Value::Bytes(Octets::from_slice(alloc, octets)?)),
             View::Whole(value) => copy(alloc, value),
         }
     }

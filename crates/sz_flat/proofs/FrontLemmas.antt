@@ -41,10 +41,7 @@ module _ {Y : Type 0} (language : Language Y) where
         ∙ ap (λ l. l ++ after) (sym (spelled_more ys y));
   }
 
-  -- nothing was appended, and one more was
-  pub none_added : (old : List ℕ) → Adds (all_of language 0) old old []
-  none_added old = record { has = (refl, tt); is = sym (append-nil old) }
-
+  -- one more was appended
   pub one_more_added : (old now new : List ℕ) (ys : List Y) (y : Y) (count : ℕ) → Adds (all_of language count) old now ys → Adds language now new y
       → Adds (all_of language (count + 1)) old new (ys ++ y ∷ [])
   one_more_added old now new ys y count h one = record {

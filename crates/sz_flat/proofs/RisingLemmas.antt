@@ -1,4 +1,4 @@
--- Keys that rise: when one more stands after, and that a map made of rising keys has just those.
+-- Keys that rise: when one more comes at their end, and that a map made of rising keys has just those.
 use Rattle.std.proofs.Common.{◌≡◌, ◌∙◌, ℕ, zero, suc, ◌+◌, ◌-◌, ◌<◌, ◌≤◌, List, [], ◌∷◌, ◌++◌, length, map, get_or, take, true, true≢false, refl, sym, ap, subst, append_assoc, arith}
 use Rattle.std.specs.List.{AllByRecursion}
 use Rattle.std.specs.List.Sorted.{IsStrictlySortedBy}

@@ -29,14 +29,14 @@ pub(crate) fn read_all(alloc: Global, flat: &[u8]) -> Result<List, FlatError>
     ensures value { IfOk result (λ list. SpellsAll flat.now list) }
     ensures not_flat { IsErrOf result errors.NotFlat → SpellNone flat.now }
 {
-    let mut held = Vec::new(alloc);
+    let mut values = Vec::new(alloc);
     let mut rest = flat;
     while !rest.is_empty() {
         let (value, after) = read_value(alloc, rest)?;
-        held.push(value)?;
+        values.push(value)?;
         rest = after;
     }
-    Ok(List::from_vec(held))
+    Ok(List::from_vec(values))
 }
 
 // The value in front.
@@ -149,14 +149,14 @@ fn read_map(alloc: Global, flat: &[u8]) -> Result<(Value, &[u8]), FlatError>
 fn read_parts(alloc: Global, count: u32, flat: &[u8]) -> Result<(Vec<Value>, &[u8]), FlatError>
     ensures value { Reads (all_of values count) (λ r. map seen r.0.items) (λ r. r.1.now) flat.now result }
 {
-    let mut held = Vec::new(alloc);
+    let mut values = Vec::new(alloc);
     let mut rest = flat;
     for _ in 0..count {
         let (value, after) = read_value(alloc, rest)?;
-        held.push(value)?;
+        values.push(value)?;
         rest = after;
     }
-    Ok((held, rest))
+    Ok((values, rest))
 }
 
 // So many keys with their values.
@@ -164,14 +164,14 @@ fn read_parts(alloc: Global, count: u32, flat: &[u8]) -> Result<(Vec<Value>, &[u
 fn read_pairs(alloc: Global, count: u32, flat: &[u8]) -> Result<(Vec<Pair>, &[u8]), FlatError>
     ensures value { Reads (all_of pair count) (λ r. seen_pairs r.0.items) (λ r. r.1.now) flat.now result }
 {
-    let mut held = Vec::new(alloc);
+    let mut pairs = Vec::new(alloc);
     let mut rest = flat;
     for _ in 0..count {
         let (pair, after) = read_pair(alloc, rest)?;
-        held.push(pair)?;
+        pairs.push(pair)?;
         rest = after;
     }
-    Ok((held, rest))
+    Ok((pairs, rest))
 }
 
 // A key and its value.

@@ -6,8 +6,8 @@ use std::alloc::Global;
 use std::fs;
 use std::io::{self, BufWriter, Read, Write};
 use sz_io::{
-    Files, Gate, MemFiles, MemSink, NoGate, OsFiles, OsSink, ReadError, WriteError, read_whole,
-    write_whole,
+    Failed, Files, Gate, MemFiles, MemSink, NoGate, OsFiles, OsSink, ReadError, WriteError,
+    read_whole, write_whole,
 };
 
 // A file under the name `p`, the call on it that fails, the name that is read, the most bytes that it may have, and why they aren't
@@ -172,6 +172,37 @@ fn a_real_file_is_read_and_a_missing_one_is_a_fault(rt: HostRuntime) {
     assert!(&rt; fs::write(&rt, "three_lines", b"one\ntwo\nthree").is_ok());
     assert!(&rt; is_real(&rt, "three_lines", Ok(b"one\ntwo\nthree")));
     assert!(&rt; is_real(&rt, "no such file", Err(ReadError::Failed)));
+    // A folder is opened, but no byte is read of it.
+    assert!(&rt; is_real(&rt, "/", Err(ReadError::Failed)));
+}
+
+// Whether a real file of one byte is closed at its end, and tells the end again.
+fn ends_again(rt: &HostRuntime, name: &str) -> bool {
+    let mut files = OsFiles::new(rt, rt.alloc());
+    let Ok(file) = files.open_file(name) else {
+        return false;
+    };
+    let mut room = [0u8; 8];
+    files.read(file, &mut room) == Ok(1)
+        && files.read(file, &mut room) == Ok(0)
+        && files.read(file, &mut room) == Ok(0)
+}
+
+// Whether a folder, whose first read fails, fails again.
+fn fails_again(rt: &HostRuntime, name: &str) -> bool {
+    let mut files = OsFiles::new(rt, rt.alloc());
+    let Ok(file) = files.open_file(name) else {
+        return false;
+    };
+    let mut room = [0u8; 8];
+    files.read(file, &mut room) == Err(Failed) && files.read(file, &mut room) == Err(Failed)
+}
+
+#[test]
+fn what_was_read_of_a_real_file_stays_so(rt: HostRuntime) {
+    assert!(&rt; fs::write(&rt, "one_byte", b"1").is_ok());
+    assert!(&rt; ends_again(&rt, "one_byte"));
+    assert!(&rt; fails_again(&rt, "/"));
 }
 
 #[test]

@@ -129,6 +129,55 @@ fn files_are_cut_however_they_come(rt: HostRuntime) {
     }
 }
 
+// The beginning of a file under a frame and limits, and the ending that it fixes, if it does.
+type Beginning = (Frame, Limits, &'static [u8], Option<Ending>);
+
+const BEGINNINGS: &[Beginning] = &[
+    (Lines, Small, b"a\nabcd", None),
+    (Lines, Small, b"a\nabcde", Some(Limit(2))),
+    (Lines, Small, b"a\nb\n", None),
+    (Lines, Small, b"a\nb\nc", Some(Limit(4))),
+    (Lines, Short, b"ab\ncde", None),
+    (Lines, Short, b"ab\ncde\n", Some(Limit(3))),
+    (
+        Delimited,
+        Full,
+        b"\xff\xff\xff\xff\xff\xff\xff\xff\xff",
+        None,
+    ),
+    (
+        Delimited,
+        Full,
+        b"\xff\xff\xff\xff\xff\xff\xff\xff\xff\xff",
+        Some(Damaged(0)),
+    ),
+    (Delimited, Small, b"\x00\x84", None),
+    (Delimited, Small, b"\x00\x05", Some(Limit(1))),
+    (Delimited, Small, b"\x00\x04abc", None),
+    (Delimited, Short, b"\x02ab\x02c", None),
+    (Delimited, Short, b"\x02ab\x03", Some(Limit(3))),
+];
+
+fn beginnings() -> &'static [Beginning] {
+    BEGINNINGS
+}
+
+// Whether the bytes of a row fix the ending that it says, as soon as the last of them came.
+fn fixes(alloc: Global, row: &Beginning) -> bool {
+    let (frame, limits, bytes, ending) = *row;
+    let mut framer = Framer::new(alloc, frame, limits_of(limits));
+    let mut records = Records::new(alloc);
+    framer.feed(bytes, &mut records) == Ok(ending)
+}
+
+#[test]
+fn an_ending_is_answered_as_soon_as_the_bytes_fix_it(rt: HostRuntime) {
+    for row in beginnings() {
+        let same = fixes(rt.alloc(), row);
+        assert!(rt; same, "at {:?}", row.2);
+    }
+}
+
 const FILE: &[u8] = &[2, 8, 5, 130, 0, 18, 0, 0, 1, 10, 3, 97, 98, 99, 0];
 
 fn file() -> &'static [u8] {

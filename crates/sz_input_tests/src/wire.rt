@@ -53,6 +53,24 @@ const FIELDS: &[FieldRow] = &[
             next: 4,
         })),
     ),
+    // An empty payload stands after its length too.
+    (
+        b"\x12\x00\x08",
+        Ok(Some(WireField {
+            number: 2,
+            kind: Span(2, 2),
+            next: 2,
+        })),
+    ),
+    // The same bytes stand in two places.
+    (
+        b"\x12\x02\x12\x02\x12\x02",
+        Ok(Some(WireField {
+            number: 2,
+            kind: Span(2, 4),
+            next: 4,
+        })),
+    ),
     (b"\x12\x03\x68\x69", Err(Bad)),
     (b"\x12\xff\xff\xff\xff\xff\xff\xff\xff\xff\x01", Err(Bad)),
     (

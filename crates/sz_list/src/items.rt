@@ -12,12 +12,12 @@ use std::mem;
 /// is the list. What a list has room for doesn't show.
 #[derive(Debug)]
 pub struct Items<T> {
-    held: Vec<T>,
+    items: Vec<T>,
 }
 
 impl<T: Drop> Drop for Items<T> {
     fn drop(self) {
-        let Items { held: _ } = self;
+        let Items { items: _ } = self;
     }
 }
 
@@ -29,7 +29,7 @@ impl<T> Model for Items<T> {
 
     ghost coded = { coded_list T.code };
 
-    ghost view = { λ list. list.held.items };
+    ghost view = { λ list. list.items.items };
 }
 
 impl<T> Items<T> {
@@ -38,7 +38,7 @@ impl<T> Items<T> {
         ensures value { result ≡ [] }
     {
         Items {
-            held: Vec::new(alloc),
+            items: Vec::new(alloc),
         }
     }
 
@@ -46,44 +46,44 @@ impl<T> Items<T> {
     pub fn with_capacity(alloc: Global, capacity: usize) -> Result<Items<T>, NoMemory>
         ensures value { IfOk result (λ list. list ≡ []) }
     {
-        let held = Vec::with_capacity(alloc, capacity)?;
-        Ok(Items { held })
+        let items = Vec::with_capacity(alloc, capacity)?;
+        Ok(Items { items })
     }
 
     /// Takes over the items, and takes no memory.
     pub fn from_vec(items: Vec<T>) -> Items<T>
         ensures value { result ≡ items.items }
     {
-        Items { held: items }
+        Items { items }
     }
 
     /// Gives the items back, and takes no memory.
     pub fn into_vec(self) -> Vec<T>
         ensures value { result.items ≡ self }
     {
-        let Items { held } = self;
-        held
+        let Items { items } = self;
+        items
     }
 
     /// The items, in order.
     pub fn as_slice(&self) -> &[T]
         ensures value { result.now ≡ self.now }
     {
-        self.held.as_slice()
+        self.items.as_slice()
     }
 
     /// The number of items.
     pub fn len(&self) -> usize
         ensures value { result ≡ length self.now }
     {
-        self.held.len()
+        self.items.len()
     }
 
     /// Whether there are no items.
     pub fn is_empty(&self) -> bool
         ensures value { result ≡ (length self.now == 0) }
     {
-        self.held.is_empty()
+        self.items.is_empty()
     }
 
     /// The item at a place.
@@ -91,7 +91,7 @@ impl<T> Items<T> {
         requires within { index < length self.now }
         ensures value { slice_get self.now index ≡ Some result.now }
     {
-        &self.held[index]
+        &self.items[index]
     }
 
     /// Puts the item in the stead of that at a place, and gives that one back.
@@ -100,7 +100,7 @@ impl<T> Items<T> {
         ensures value { slice_get self.old index ≡ Some result }
         ensures kept { self.new ≡ set self.old index item }
     {
-        mem::replace(&mut self.held[index], item)
+        mem::replace(&mut self.items[index], item)
     }
 
     /// Removes the last item, if there is one.
@@ -108,7 +108,7 @@ impl<T> Items<T> {
         ensures found { IfSome result (λ item. self.old ≡ self.new ++ item ∷ []) }
         ensures none { IfNone result ((self.old ≡ []) × (self.new ≡ [])) }
     {
-        self.held.pop()
+        self.items.pop()
     }
 }
 
@@ -118,7 +118,7 @@ impl<T: Drop> Items<T> {
         ensures ok { OnOk result (self.new ≡ self.old ++ item ∷ []) }
         ensures err { OnErr result (self.new ≡ self.old) }
     {
-        self.held.push(item)?;
+        self.items.push(item)?;
         Ok(())
     }
 
@@ -127,14 +127,14 @@ impl<T: Drop> Items<T> {
         requires within { index < length self.old }
         ensures value { self.new ≡ set self.old index item }
     {
-        self.held[index] = item;
+        self.items[index] = item;
     }
 
     /// Keeps the first `count` items, or all where there are no more.
     pub fn truncate(&mut self, count: usize)
         ensures value { self.new ≡ take count self.old }
     {
-        self.held.truncate(count);
+        self.items.truncate(count);
     }
 
     /// Moves the items of `more` to the end. Where there is no memory those are dropped.
@@ -142,8 +142,8 @@ impl<T: Drop> Items<T> {
         ensures ok { OnOk result (self.new ≡ self.old ++ more) }
         ensures err { OnErr result (self.new ≡ self.old) }
     {
-        let Items { held: mut rest } = more;
-        self.held.append(&mut rest)?;
+        let Items { items: mut rest } = more;
+        self.items.append(&mut rest)?;
         Ok(())
     }
 }
@@ -153,7 +153,7 @@ impl<T: Copy> Items<T> {
     pub fn copied(alloc: Global, items: &[T]) -> Result<Items<T>, NoMemory>
         ensures value { IfOk result (λ list. list ≡ items.now) }
     {
-        let held = Vec::from_slice(alloc, items)?;
-        Ok(Items { held })
+        let items = Vec::from_slice(alloc, items)?;
+        Ok(Items { items })
     }
 }

@@ -15,7 +15,7 @@ use Rattle.sz_proto.specs.Messages.{each_of}
 use Rattle.sz_proto.specs.Found.{contents, array_of, octets_each}
 use Rattle.sz_proto.proofs.GoingLemmas.{GoesFrom, from_end, each_in_all}
 
--- all elements are held, or one is lacking
+-- all elements are there, or one is lacking
 pub each_end : {A : Type 0} (in_one : Content → Option (List A)) (g : A → Datum) (bytes : List ℕ) (run : List WireField) (i : ℕ) (got : List Datum)
     → GoesFrom (λ c. option_map (map g) (in_one c)) bytes run (in_all (λ c. option_map (map g) (in_one c)) (contents bytes run)) i got → length run ≤ i
     → array_of (each_of g (in_all in_one (contents bytes run))) ≡ Some (values.array (data_of got))

@@ -138,10 +138,10 @@ field_smaller [] i f lt is = absurd (omega (arith, lt))
 field_smaller (g ∷ types) zero f lt is = rw is (omega arith)
 field_smaller (g ∷ types) (suc i) f lt is = let h = field_smaller types i f (omega (arith, lt)) is in omega (arith, h)
 
-pub proto_size : (ty : Ty) (fields : Fields) (held : List Field) → ty ≡ Proto fields → map seen_field held ≡ seen_fields fields
-    → shape_size (seen ty) ≡ suc (fields_size (fields_of (map seen_field held)))
+pub proto_size : (ty : Ty) (fields : Fields) (list : List Field) → ty ≡ Proto fields → map seen_field list ≡ seen_fields fields
+    → shape_size (seen ty) ≡ suc (fields_size (fields_of (map seen_field list)))
 unfolding shape_size
-proto_size ty fields held is same = ap (λ (t : Ty). shape_size (seen t)) is ∙ ap shape_size (seen_proto fields) ∙ ap (λ fs. suc (fields_size (fields_of fs))) (sym same)
+proto_size ty fields list is same = ap (λ (t : Ty). shape_size (seen t)) is ∙ ap shape_size (seen_proto fields) ∙ ap (λ fs. suc (fields_size (fields_of fs))) (sym same)
 
 pub array_size : (ty : Ty) (element : Box Ty Global) → ty ≡ Array element → shape_size (seen ty) ≡ suc (shape_size (seen element.value))
 unfolding shape_size

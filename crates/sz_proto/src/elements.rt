@@ -17,10 +17,10 @@ use sz_value::{List, Octets, Slot, Text, Value};
 use sz_wire::{WireField, WireKind};
 
 /// The array of these values.
-pub(crate) fn array(held: Vec<Value>) -> Slot
-    ensures value { seen_slot result ≡ Some (values.array (values.data_of (map seen held.items))) }
+pub(crate) fn array(elements: Vec<Value>) -> Slot
+    ensures value { seen_slot result ≡ Some (values.array (values.data_of (map seen elements.items))) }
 {
-    Slot::Defined(Value::Array(List::from_vec(held)))
+    Slot::Defined(Value::Array(List::from_vec(elements)))
 }
 
 // The whole number, or the time of so many microseconds.
@@ -35,23 +35,23 @@ fn whole_number(is_time: bool, number: i64) -> Value
 }
 
 // Appends the whole numbers, or times.
-fn push_numbers(held: &mut Vec<Value>, is_time: bool, numbers: &[i64]) -> Result<(), NoMemory>
-    ensures value { OnOk result (map seen held.new.items ≡ map seen held.old.items ++ map (whole_number is_time) numbers.now) }
+fn push_numbers(elements: &mut Vec<Value>, is_time: bool, numbers: &[i64]) -> Result<(), NoMemory>
+    ensures value { OnOk result (map seen elements.new.items ≡ map seen elements.old.items ++ map (whole_number is_time) numbers.now) }
 {
-    held.reserve(numbers.len())?;
+    elements.reserve(numbers.len())?;
     for number in numbers {
-        held.push(whole_number(is_time, *number))?;
+        elements.push(whole_number(is_time, *number))?;
     }
     Ok(())
 }
 
 // Appends the truth values that these numbers stand for.
-fn push_truths(held: &mut Vec<Value>, numbers: &[i64]) -> Result<(), NoMemory>
-    ensures value { OnOk result (map seen held.new.items ≡ map seen held.old.items ++ map values.truth (truths_of numbers.now)) }
+fn push_truths(elements: &mut Vec<Value>, numbers: &[i64]) -> Result<(), NoMemory>
+    ensures value { OnOk result (map seen elements.new.items ≡ map seen elements.old.items ++ map values.truth (truths_of numbers.now)) }
 {
-    held.reserve(numbers.len())?;
+    elements.reserve(numbers.len())?;
     for number in numbers {
-        held.push(Value::Bool(*number != 0))?;
+        elements.push(Value::Bool(*number != 0))?;
     }
     Ok(())
 }
@@ -63,21 +63,24 @@ fn add_numbers(
     is_time: bool,
     bytes: &[u8],
     kind: WireKind,
-    held: &mut Vec<Value>,
+    elements: &mut Vec<Value>,
 ) -> Result<bool, NoMemory>
     requires within { LiesBefore (length bytes.now) kind }
-    ensures value { IfOk result (λ whole. Takes (number_each is_time code (content_in bytes.now kind)) (map seen held.old.items) (map seen held.new.items) whole) }
+    ensures value { IfOk result (λ whole. Takes (number_each is_time code (content_in bytes.now kind)) (map seen elements.old.items) (map seen elements.new.items) whole) }
 {
     match kind {
         WireKind::Span(from, to) => {
             let Some(numbers) = packed(alloc, code, &bytes[from..to])? else {
                 return Ok(false);
             };
-            push_numbers(held, is_time, numbers.as_slice())?;
+            push_numbers(elements, is_time, numbers.as_slice())?;
         }
-        WireKind::Varint(number) => held.push(whole_number(is_time, from_varint(code, number)))?,
-        WireKind::Eight(number) => held.push(whole_number(is_time, from_eight(number)))?,
-        WireKind::Four(number) => held.push(whole_number(is_time, from_four(number)))?,
+        WireKind::Varint(number) => elements.push(whole_number(
+            is_time,
+            from_varint(code, number),
+        ))?,
+        WireKind::Eight(number) => elements.push(whole_number(is_time, from_eight(number)))?,
+        WireKind::Four(number) => elements.push(whole_number(is_time, from_four(number)))?,
         WireKind::Group => {}
     }
     Ok(true)
@@ -88,19 +91,19 @@ fn add_truths(
     alloc: Global,
     bytes: &[u8],
     kind: WireKind,
-    held: &mut Vec<Value>,
+    elements: &mut Vec<Value>,
 ) -> Result<bool, NoMemory>
     requires within { LiesBefore (length bytes.now) kind }
-    ensures value { IfOk result (λ whole. Takes (truth_each (content_in bytes.now kind)) (map seen held.old.items) (map seen held.new.items) whole) }
+    ensures value { IfOk result (λ whole. Takes (truth_each (content_in bytes.now kind)) (map seen elements.old.items) (map seen elements.new.items) whole) }
 {
     match kind {
         WireKind::Span(from, to) => {
             let Some(numbers) = packed(alloc, Encoding::Plain, &bytes[from..to])? else {
                 return Ok(false);
             };
-            push_truths(held, numbers.as_slice())?;
+            push_truths(elements, numbers.as_slice())?;
         }
-        WireKind::Varint(number) => held.push(Value::Bool(number > 0))?,
+        WireKind::Varint(number) => elements.push(Value::Bool(number > 0))?,
         WireKind::Eight(_) => {}
         WireKind::Four(_) => {}
         WireKind::Group => {}
@@ -113,17 +116,17 @@ fn add_text(
     alloc: Global,
     bytes: &[u8],
     kind: WireKind,
-    held: &mut Vec<Value>,
+    elements: &mut Vec<Value>,
 ) -> Result<bool, NoMemory>
     requires within { LiesBefore (length bytes.now) kind }
-    ensures value { IfOk result (λ whole. Takes (text_each (content_in bytes.now kind)) (map seen held.old.items) (map seen held.new.items) whole) }
+    ensures value { IfOk result (λ whole. Takes (text_each (content_in bytes.now kind)) (map seen elements.old.items) (map seen elements.new.items) whole) }
 {
     match kind {
         WireKind::Span(from, to) => {
             let Ok(text) = from_utf8(&bytes[from..to]) else {
                 return Ok(false);
             };
-            held.push(Value::Str(Text::new(alloc, text)?))?;
+            elements.push(Value::Str(Text::new(alloc, text)?))?;
         }
         WireKind::Varint(_) => {}
         WireKind::Eight(_) => {}
@@ -138,14 +141,14 @@ fn add_octets(
     alloc: Global,
     bytes: &[u8],
     kind: WireKind,
-    held: &mut Vec<Value>,
+    elements: &mut Vec<Value>,
 ) -> Result<bool, NoMemory>
     requires within { LiesBefore (length bytes.now) kind }
-    ensures value { IfOk result (λ whole. Takes (octets_each (content_in bytes.now kind)) (map seen held.old.items) (map seen held.new.items) whole) }
+    ensures value { IfOk result (λ whole. Takes (octets_each (content_in bytes.now kind)) (map seen elements.old.items) (map seen elements.new.items) whole) }
 {
     match kind {
         WireKind::Span(from, to) => {
-            held.push(Value::Bytes(Octets::from_slice(alloc, &bytes[from..to])?))?;
+            elements.push(Value::Bytes(Octets::from_slice(alloc, &bytes[from..to])?))?;
         }
         WireKind::Varint(_) => {}
         WireKind::Eight(_) => {}
@@ -167,13 +170,13 @@ pub(crate) fn numbers(
     ensures value { IfOk result (λ slot. seen_slot slot
         ≡ array_of (each_of (whole_number is_time) (in_all (numbers_in code) (contents bytes.now run.now)))) }
 {
-    let mut held = Vec::new(alloc);
+    let mut elements = Vec::new(alloc);
     for field in run {
-        if !add_numbers(alloc, code, is_time, bytes, field.kind, &mut held)? {
+        if !add_numbers(alloc, code, is_time, bytes, field.kind, &mut elements)? {
             return Ok(Slot::Undefined);
         }
     }
-    Ok(array(held))
+    Ok(array(elements))
 }
 
 /// The array of all truth values that the occurrences hold.
@@ -181,13 +184,13 @@ pub(crate) fn truths(alloc: Global, bytes: &[u8], run: &[WireField]) -> Result<S
     requires within { AreWithin (length bytes.now) run.now }
     ensures value { IfOk result (λ slot. seen_slot slot ≡ array_of (each_of values.truth (in_all truths_in (contents bytes.now run.now)))) }
 {
-    let mut held = Vec::new(alloc);
+    let mut elements = Vec::new(alloc);
     for field in run {
-        if !add_truths(alloc, bytes, field.kind, &mut held)? {
+        if !add_truths(alloc, bytes, field.kind, &mut elements)? {
             return Ok(Slot::Undefined);
         }
     }
-    Ok(array(held))
+    Ok(array(elements))
 }
 
 /// The array of all texts that the occurrences hold, if each of them is UTF-8.
@@ -195,13 +198,13 @@ pub(crate) fn texts(alloc: Global, bytes: &[u8], run: &[WireField]) -> Result<Sl
     requires within { AreWithin (length bytes.now) run.now }
     ensures value { IfOk result (λ slot. seen_slot slot ≡ array_of (each_of values.str (in_all texts_in (contents bytes.now run.now)))) }
 {
-    let mut held = Vec::new(alloc);
+    let mut elements = Vec::new(alloc);
     for field in run {
-        if !add_text(alloc, bytes, field.kind, &mut held)? {
+        if !add_text(alloc, bytes, field.kind, &mut elements)? {
             return Ok(Slot::Undefined);
         }
     }
-    Ok(array(held))
+    Ok(array(elements))
 }
 
 /// The array of all byte strings that the occurrences hold.
@@ -209,11 +212,11 @@ pub(crate) fn octets(alloc: Global, bytes: &[u8], run: &[WireField]) -> Result<S
     requires within { AreWithin (length bytes.now) run.now }
     ensures value { IfOk result (λ slot. seen_slot slot ≡ array_of (in_all octets_each (contents bytes.now run.now))) }
 {
-    let mut held = Vec::new(alloc);
+    let mut elements = Vec::new(alloc);
     for field in run {
-        if !add_octets(alloc, bytes, field.kind, &mut held)? {
+        if !add_octets(alloc, bytes, field.kind, &mut elements)? {
             return Ok(Slot::Undefined);
         }
     }
-    Ok(array(held))
+    Ok(array(elements))
 }

@@ -96,15 +96,15 @@ fn values(
     ensures value { IfOk result (λ slot. seen_slot slot ≡ tuple_of
         (values_of (fields_of (map seen_field fields.now)) depth (map (field_in bytes.now) found.now))) }
 {
-    let mut held = Vec::with_capacity(alloc, fields.len())?;
+    let mut values = Vec::with_capacity(alloc, fields.len())?;
     for field in fields {
         let run = occurrences(found, field.number);
         match value(&field.ty, alloc, field.code, bytes, run, depth)? {
-            Slot::Defined(value) => held.push(value)?,
+            Slot::Defined(value) => values.push(value)?,
             Slot::Undefined => return Ok(Slot::Undefined),
         }
     }
-    Ok(Slot::Defined(Value::Tuple(List::from_vec(held))))
+    Ok(Slot::Defined(Value::Tuple(List::from_vec(values))))
 }
 
 // The value of a field of this type, of which these are the occurrences.
@@ -177,13 +177,13 @@ fn messages(
         (λ payload. message_in (values_of (fields_of (map seen_field fields.now)) depth) depth (payload ∷ []))
         (payloads (contents bytes.now run.now)))) }
 {
-    let mut held = Vec::new(alloc);
+    let mut elements = Vec::new(alloc);
     for field in run {
-        if !add_message(fields, alloc, bytes, *field, depth, &mut held)? {
+        if !add_message(fields, alloc, bytes, *field, depth, &mut elements)? {
             return Ok(Slot::Undefined);
         }
     }
-    Ok(array(held))
+    Ok(array(elements))
 }
 
 // Appends the message that an occurrence holds, and answers whether it is one, or passed over.
@@ -194,17 +194,17 @@ fn add_message(
     bytes: &[u8],
     field: WireField,
     depth: u32,
-    held: &mut Vec<Value>,
+    elements: &mut Vec<Value>,
 ) -> Result<bool, NoMemory>
     requires within { LiesBefore (length bytes.now) field.kind }
     requires level { depth ≤ deepest + 1 }
     ensures value { IfOk result (λ whole. Takes (message_each
         (λ payload. message_in (values_of (fields_of (map seen_field fields.now)) depth) depth (payload ∷ [])) (content_in bytes.now field.kind))
-        (map value_seen.seen held.old.items) (map value_seen.seen held.new.items) whole) }
+        (map value_seen.seen elements.old.items) (map value_seen.seen elements.new.items) whole) }
 {
     match field.kind {
         WireKind::Span(_, _) => match message(fields, alloc, bytes, &[field], depth)? {
-            Slot::Defined(value) => held.push(value)?,
+            Slot::Defined(value) => elements.push(value)?,
             Slot::Undefined => return Ok(false),
         },
         WireKind::Varint(_) => {}

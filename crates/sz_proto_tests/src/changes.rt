@@ -45,7 +45,7 @@ fn place_has_answers(alloc: Global, place: usize) -> Result<bool, Fail> {
     Ok(all)
 }
 
-// The bytes as text after a call, so that no proof sees them.
+// The bytes as text come from a call, so that no proof sees them.
 fn text() -> &'static str {
     BYTES
 }

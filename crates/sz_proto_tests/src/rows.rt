@@ -106,7 +106,7 @@ fn holds(rt: &impl Abort, alloc: Global, rows: &str) -> Result<(), Fail> {
     Ok(())
 }
 
-// The tables after a call, so that no proof sees what stands in them.
+// The tables come from a call, so that no proof sees what stands in them.
 fn tables() -> [&'static str; 2] {
     [ROWS, written::ROWS]
 }

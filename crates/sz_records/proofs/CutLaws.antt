@@ -34,7 +34,7 @@ record_counted frame limits p n bytes r size stood =
     not_both : record_of r size ≡ stopped (Limit p) → ⊥
     not_both e = cc
 
--- the rest is cut in some way, if it is after each record that may stand here
+-- the rest is cut in some way, if it is so after each record that may stand here
 cut_by : (frame : Frame) (limits : FrameLimits) (p n : ℕ) (bytes : List ℕ)
     → ((size : ℕ) → n < limits.records → HasCut frame limits (p + size) (n + 1) (drop size bytes))
     → (s : Standing) → standing frame limits p n bytes ≡ s → HasCut frame limits p n bytes

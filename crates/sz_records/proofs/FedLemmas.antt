@@ -11,24 +11,24 @@ use Rattle.sz_records.specs.declared.ending.Ending.{Ending}
 use Rattle.sz_records.specs.declared.limits.FrameLimits.{FrameLimits}
 use Rattle.sz_records.specs.Cutting.{stopped, unfinished, at_end, standing, IsCut}
 use Rattle.sz_records.specs.Steps.{stands, IsCutOn, IsLeft, CutsOff}
-use Rattle.sz_records.specs.Fed.{FramerData, IsCutAfter, IsCutBy, IsOpen, HasRead, Feeds, Finishes, CutsHeld}
+use Rattle.sz_records.specs.Fed.{FramerData, IsCutAfter, IsCutBy, IsOpen, HasRead, Feeds, Finishes, CutsPending}
 use Rattle.sz_records.proofs.CutLemmas.{cut_stopped, cut_end}
 use Rattle.sz_records.proofs.StayLemmas.{ending_stays}
 use Rattle.sz_records.proofs.StandingLemmas.{never_whole, begun_within}
 
--- what was cut off, with the ending that is known or the bytes that are held back, goes on what was there
-cut_goes_on : (old new : Cutter) (held taken left kept : List ℕ) (before after : List (List ℕ)) (ending : Option Ending)
-    (s : CutsOff old new (held ++ taken) left before after ending)
+-- what was cut off, with the ending that is known or the bytes that are kept back, goes on what was there
+cut_goes_on : (old new : Cutter) (pending taken left kept : List ℕ) (before after : List (List ℕ)) (ending : Option Ending)
+    (s : CutsOff old new (pending ++ taken) left before after ending)
     → (ending ≡ None → kept ≡ left) → (more : List ℕ) (rs : List (List ℕ)) (e : Ending) → IsCutAfter new kept ending more rs e
-    → IsCutOn old (held ++ (taken ++ more)) (s.front.given ++ rs) e
-cut_goes_on old new held taken left kept before after None s is more rs e h =
+    → IsCutOn old (pending ++ (taken ++ more)) (s.front.given ++ rs) e
+cut_goes_on old new pending taken left kept before after None s is more rs e h =
     let here : IsCutOn new (left ++ more) rs e = rw (is refl) at h in
-    rw (← append_assoc held taken more) (s.front.goes_on more rs e here)
-cut_goes_on old new held taken left kept before after (Some why) s is more rs e h =
+    rw (← append_assoc pending taken more) (s.front.goes_on more rs e here)
+cut_goes_on old new pending taken left kept before after (Some why) s is more rs e h =
     let ends : IsCutOn new (left ++ more) [] why =
     cut_stopped new.frame new.limits new.place new.count (left ++ more) why
     (ending_stays new.frame new.limits new.place new.count left more why s.over) in
-    rw (← append_assoc held taken more, h.0, h.1) (s.front.goes_on more [] why ends)
+    rw (← append_assoc pending taken more, h.0, h.1) (s.front.goes_on more [] why ends)
 
 -- bytes were taken in, and records were added: however the file goes on, what is still cut of it goes on what was cut before
 record TakesIn (old new : FramerData) (taken : List ℕ) (before after : List (List ℕ)) : Type 0 where
@@ -37,22 +37,22 @@ record TakesIn (old new : FramerData) (taken : List ℕ) (before after : List (L
   goes_on : (more : List ℕ) (rs : List (List ℕ)) (e : Ending) → IsCutBy new more rs e → IsCutBy old (taken ++ more) (added ++ rs) e
   nothing_whole : IsOpen old → IsOpen new
   same_limits : new.cutter.limits ≡ old.cutter.limits
-  reached : new.ended ≡ None → (old.ended ≡ None) × (new.cutter.place + length new.held ≡ old.cutter.place + length old.held + length taken)
+  reached : new.ended ≡ None → (old.ended ≡ None) × (new.cutter.place + length new.pending ≡ old.cutter.place + length old.pending + length taken)
   early : old.ended ≢ Some Whole → new.ended ≢ Some Whole
 
 -- a piece is taken in
 takes_in : (old new : FramerData) (taken left : List ℕ) (before after : List (List ℕ))
-    → CutsOff old.cutter new.cutter (old.held ++ taken) left before after new.ended
-    → old.ended ≡ None → (new.ended ≡ None → new.held ≡ left) → TakesIn old new taken before after
+    → CutsOff old.cutter new.cutter (old.pending ++ taken) left before after new.ended
+    → old.ended ≡ None → (new.ended ≡ None → new.pending ≡ left) → TakesIn old new taken before after
 takes_in old new taken left before after s none is = record {
   added = s.front.given;
   gained = s.front.gained;
   goes_on = λ more rs e h. (
-      let goes = cut_goes_on old.cutter new.cutter old.held taken left new.held before after new.ended s is more rs e h in
+      let goes = cut_goes_on old.cutter new.cutter old.pending taken left new.pending before after new.ended s is more rs e h in
       rw none goes);
   nothing_whole = λ sound e. rw (is e) (left_open new.ended s.over e);
   same_limits = s.front.of.limits;
-  reached = λ e. (none, omega (arith, s.front.passed, ap length (is e), length-append old.held taken));
+  reached = λ e. (none, omega (arith, s.front.passed, ap length (is e), length-append old.pending taken));
   early = λ before. left_early new.ended s.over;
 }
   where
@@ -68,10 +68,10 @@ takes_in old new taken left before after s none is = record {
     left_open (Some why) h e = absurd cc
 
 -- where the ending is known, it doesn't matter what comes
-whatever_comes : (cutter : Cutter) (held : List ℕ) (ended : Option Ending) (e : Ending) → ended ≡ Some e → (more : List ℕ)
-    → IsCutAfter cutter held ended more [] e
-whatever_comes cutter held None e is more = absurd cc
-whatever_comes cutter held (Some why) e is more = (refl, grind arith)
+whatever_comes : (cutter : Cutter) (pending : List ℕ) (ended : Option Ending) (e : Ending) → ended ≡ Some e → (more : List ℕ)
+    → IsCutAfter cutter pending ended more [] e
+whatever_comes cutter pending None e is more = absurd cc
+whatever_comes cutter pending (Some why) e is more = (refl, grind arith)
 
 -- where the ending is known, bytes are passed over
 takes_ignored : (framer : FramerData) (taken : List ℕ) (given : List (List ℕ)) → IsSome framer.ended → TakesIn framer framer taken given given
@@ -106,7 +106,7 @@ feeds {old} {new} {piece} {before} {after} t = λ frame limits fed given h. (
         reached = λ none. (let r = t.reached none in omega (arith, r.1, h.reached r.0, length-append fed piece));
         early = t.early h.early;
       };
-      fixed = λ e is more. (let cut = goes more [] e (whatever_comes new.cutter new.held new.ended e is more) in
+      fixed = λ e is more. (let cut = goes more [] e (whatever_comes new.cutter new.pending new.ended e is more) in
           rw (append-nil (given ++ t.added)) at cut);
     })
 
@@ -115,20 +115,20 @@ pub closes_ended : (framer : FramerData) (into : List (List ℕ)) (e : Ending) �
 closes_ended framer into e is = λ frame limits fed given h. record {
   added = [];
   gained = sym (append-nil into);
-  cut = let cut = h.goes_on [] [] e (whatever_comes framer.cutter framer.held framer.ended e is []) in rw (append-nil fed) at cut;
+  cut = let cut = h.goes_on [] [] e (whatever_comes framer.cutter framer.pending framer.ended e is []) in rw (append-nil fed) at cut;
 }
 
 closes_open : (framer : FramerData) (before after rs : List (List ℕ)) (e : Ending) → framer.ended ≡ None
-    → at_end framer.cutter.frame framer.cutter.place framer.held ≡ (rs, e) → after ≡ before ++ rs
+    → at_end framer.cutter.frame framer.cutter.place framer.pending ≡ (rs, e) → after ≡ before ++ rs
     → Finishes framer before after e
 closes_open framer before after rs e none ends grown = λ frame limits fed given h. record {
   added = rs;
   gained = grown;
   cut =
-      let stood : stands framer.cutter framer.held ≡ unfinished = h.nothing_whole none in
+      let stood : stands framer.cutter framer.pending ≡ unfinished = h.nothing_whole none in
       let c = framer.cutter in
-      let here : IsCut c.frame c.limits c.place c.count framer.held rs e = cut_end c.frame c.limits c.place c.count framer.held rs e stood ends in
-      let by : IsCutBy framer [] rs e = rw (none, append-nil framer.held) here in
+      let here : IsCut c.frame c.limits c.place c.count framer.pending rs e = cut_end c.frame c.limits c.place c.count framer.pending rs e stood ends in
+      let by : IsCutBy framer [] rs e = rw (none, append-nil framer.pending) here in
       let cut = h.goes_on [] rs e by in
       rw (append-nil fed) at cut;
 }
@@ -147,64 +147,64 @@ end_damaged frame p [] is some = absurd (omega arith)
 end_damaged Delimited p (b ∷ bytes) is some = refl
 end_damaged Lines p (b ∷ bytes) is some = absurd cc
 
-pub closes_empty : (framer : FramerData) (into : List (List ℕ)) → framer.ended ≡ None → length framer.held ≡ 0 → Finishes framer into into Whole
+pub closes_empty : (framer : FramerData) (into : List (List ℕ)) → framer.ended ≡ None → length framer.pending ≡ 0 → Finishes framer into into Whole
 closes_empty framer into none is =
-    closes_open framer into into [] Whole none (end_empty framer.cutter.frame framer.cutter.place framer.held is) (sym (append-nil into))
+    closes_open framer into into [] Whole none (end_empty framer.cutter.frame framer.cutter.place framer.pending is) (sym (append-nil into))
 
 pub closes_line : (framer : FramerData) (before after : List (List ℕ)) → framer.ended ≡ None → framer.cutter.frame ≡ Lines
-    → 0 < length framer.held → after ≡ before ++ framer.held ∷ [] → Finishes framer before after Whole
+    → 0 < length framer.pending → after ≡ before ++ framer.pending ∷ [] → Finishes framer before after Whole
 closes_line framer before after none is some grown =
-    closes_open framer before after (framer.held ∷ []) Whole none (end_line framer.cutter.frame framer.cutter.place framer.held is some) grown
+    closes_open framer before after (framer.pending ∷ []) Whole none (end_line framer.cutter.frame framer.cutter.place framer.pending is some) grown
 
 pub closes_damaged : (framer : FramerData) (into : List (List ℕ)) → framer.ended ≡ None → framer.cutter.frame ≡ Delimited
-    → 0 < length framer.held → Finishes framer into into (Damaged framer.cutter.place)
+    → 0 < length framer.pending → Finishes framer into into (Damaged framer.cutter.place)
 closes_damaged framer into none is some =
     closes_open framer into into [] (Damaged framer.cutter.place) none
-    (end_damaged framer.cutter.frame framer.cutter.place framer.held is some) (sym (append-nil into))
+    (end_damaged framer.cutter.frame framer.cutter.place framer.pending is some) (sym (append-nil into))
 
 pub starts_reading : (frame : Frame) (limits : FrameLimits) (framer : FramerData) → framer.cutter.frame ≡ frame → framer.cutter.limits ≡ limits
-    → framer.cutter.place ≡ 0 → framer.cutter.count ≡ 0 → framer.held ≡ [] → framer.ended ≡ None
+    → framer.cutter.place ≡ 0 → framer.cutter.count ≡ 0 → framer.pending ≡ [] → framer.ended ≡ None
     → HasRead frame limits framer [] []
 unfolding standing
-starts_reading frame limits framer f l p n held none = record {
-  goes_on = λ more rs e k. (let k' = rw (none, f, l, p, n, held) at k in k');
-  nothing_whole = λ e. rw held refl;
+starts_reading frame limits framer f l p n pending none = record {
+  goes_on = λ more rs e k. (let k' = rw (none, f, l, p, n, pending) at k in k');
+  nothing_whole = λ e. rw pending refl;
   same_limits = l;
-  reached = λ e. omega (arith, p, ap length held);
+  reached = λ e. omega (arith, p, ap length pending);
   early = λ whole. (let no = sym none ∙ whole in cc);
 }
 
 -- no more bytes are read than an input may have, and those of a length that is begun, before the ending is known
 pub read_within : (frame : Frame) (limits : FrameLimits) (framer : FramerData) (fed : List ℕ) (given : List (List ℕ)) → HasRead frame limits framer fed given
-    → framer.ended ≡ None → framer.cutter.place + length framer.held ≤ limits.input_bytes + 9
+    → framer.ended ≡ None → framer.cutter.place + length framer.pending ≤ limits.input_bytes + 9
 read_within frame limits framer fed given h none =
     let c = framer.cutter in
-    let within = begun_within c.frame c.limits c.place c.count framer.held c.in_input (h.nothing_whole none) in
+    let within = begun_within c.frame c.limits c.place c.count framer.pending c.in_input (h.nothing_whole none) in
     omega (arith, within, ap (λ (l : FrameLimits). l.input_bytes) h.same_limits)
 
 -- where the ending is known, a piece changes nothing
 pub feeds_ended : (framer : FramerData) (piece : List ℕ) (into : List (List ℕ)) (e : Ending) → framer.ended ≡ Some e → Feeds framer framer piece into into (Some e)
 feeds_ended framer piece into e is = rw (← is) (feeds (takes_ignored framer piece into (rw is refl)))
 
--- the whole records of what was held and a piece are cut off
-pub feeds_cut : (old mid new : FramerData) (piece : List ℕ) (before after : List (List ℕ)) → old.ended ≡ None → mid ≡ record old { held = old.held ++ piece }
-    → CutsHeld mid new before after → Feeds old new piece before after new.ended
+-- the whole records of what was kept back and a piece are cut off
+pub feeds_cut : (old mid new : FramerData) (piece : List ℕ) (before after : List (List ℕ)) → old.ended ≡ None → mid ≡ record old { pending = old.pending ++ piece }
+    → CutsPending mid new before after → Feeds old new piece before after new.ended
 feeds_cut old mid new piece before after none is c =
-    let s : CutsOff old.cutter new.cutter (old.held ++ piece) c.left before after new.ended = rw is at c.cut in
-    feeds (takes_in old new piece c.left before after s none c.held)
+    let s : CutsOff old.cutter new.cutter (old.pending ++ piece) c.left before after new.ended = rw is at c.cut in
+    feeds (takes_in old new piece c.left before after s none c.pending)
 
--- the records in what was held are cut off: the ending isn't known, and what is left is held; or it is known
-pub cuts_held : (old new : FramerData) (left : List ℕ) (before after : List (List ℕ)) → CutsOff old.cutter new.cutter old.held left before after new.ended
-    → new.held ≡ left → CutsHeld old new before after
-cuts_held old new left before after s is = record { left = left; cut = s; held = λ none. is }
+-- the records in what was kept back are cut off: the ending isn't known, and what is left is kept back; or it is known
+pub cuts_pending : (old new : FramerData) (left : List ℕ) (before after : List (List ℕ)) → CutsOff old.cutter new.cutter old.pending left before after new.ended
+    → new.pending ≡ left → CutsPending old new before after
+cuts_pending old new left before after s is = record { left = left; cut = s; pending = λ none. is }
 
 -- the same of a framer that is seen from inside
-pub line_closes : (framer now : FramerData) (before after : List (List ℕ)) → framer ≡ now → now.ended ≡ None → framer.cutter.frame ≡ Lines → 0 < length framer.held
-    → after ≡ before ++ framer.held ∷ [] → Finishes now before after Whole
+pub line_closes : (framer now : FramerData) (before after : List (List ℕ)) → framer ≡ now → now.ended ≡ None → framer.cutter.frame ≡ Lines → 0 < length framer.pending
+    → after ≡ before ++ framer.pending ∷ [] → Finishes now before after Whole
 line_closes framer now before after same none is some grown =
     subst (λ (f : FramerData). Finishes f before after Whole) same (closes_line framer before after (ap (λ (f : FramerData). f.ended) same ∙ none) is some grown)
 
-pub damage_closes : (framer now : FramerData) (into : List (List ℕ)) → framer ≡ now → now.ended ≡ None → framer.cutter.frame ≡ Delimited → 0 < length framer.held
+pub damage_closes : (framer now : FramerData) (into : List (List ℕ)) → framer ≡ now → now.ended ≡ None → framer.cutter.frame ≡ Delimited → 0 < length framer.pending
     → Finishes now into into (Damaged framer.cutter.place)
 damage_closes framer now into same none is some =
     subst (λ (f : FramerData). Finishes f into into (Damaged framer.cutter.place)) same (closes_damaged framer into (ap (λ (f : FramerData). f.ended) same ∙ none) is some)

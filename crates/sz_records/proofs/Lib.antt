@@ -1,5 +1,5 @@
 pub mod StandingLemmas
-pub mod HeldLemmas
+pub mod EndsLemmas
 pub mod VarintLemmas
 pub mod StayLemmas
 pub mod CutLemmas

@@ -29,7 +29,7 @@ scanned_on (b ∷ bytes) (suc n) h = by_test (b == 10) (scanned_on bytes n) h wh
   by_test true go h = absurd (omega (arith, h))
   by_test false go h = let e = go (omega (arith, h)) in omega (arith, e)
 
--- more bytes after don't make a line shorter
+-- more bytes at the end don't make a line shorter
 pub scanned_more : (bytes more : List ℕ) → line_len bytes ≤ line_len (bytes ++ more)
 unfolding line_len
 scanned_more [] more = omega arith
@@ -63,7 +63,7 @@ pub all_scanned : (cutter : Cutter) (left : List ℕ) (ended : Option Ending) �
 all_scanned cutter left None over is = open_scanned cutter.frame cutter.limits cutter.place cutter.count left over
 all_scanned cutter left (Some e) over is = absurd cc
 
--- what was looked at stays so after which bytes ever
+-- what was looked at stays so, whatever bytes come after it
 pub scanned_longer : (frame : Frame) (bytes more : List ℕ) (scanned : ℕ) → IsScanned frame bytes scanned → IsScanned frame (bytes ++ more) scanned
 scanned_longer frame bytes more scanned h is = let a = h is in let b = scanned_more bytes more in omega (arith, a, b)
 

@@ -11,29 +11,29 @@ use Rattle.sz_records.specs.Steps.{stands, IsCutOn, CutsOff}
 -- what a contract sees of a framer: where it cuts, the bytes that it holds back, and the ending where that is known
 pub record FramerData : Type 0 where
   pub cutter : Cutter
-  pub held : List ℕ
+  pub pending : List ℕ
   pub ended : Option Ending
 
--- these are the bytes of the rest of the file: after those that are held back they are cut so, or nothing is cut any more
+-- these are the bytes of the rest of the file: after those that are kept back they are cut so, or nothing is cut any more
 abbrev pub IsCutAfter : Cutter → List ℕ → Option Ending → List ℕ → List (List ℕ) → Ending → Type 0
-IsCutAfter cutter held None more rs e = IsCutOn cutter (held ++ more) rs e
-IsCutAfter cutter held (Some why) more rs e = (rs ≡ []) × (e ≡ why)
+IsCutAfter cutter pending None more rs e = IsCutOn cutter (pending ++ more) rs e
+IsCutAfter cutter pending (Some why) more rs e = (rs ≡ []) × (e ≡ why)
 
 -- the rest of the file is cut so by this framer
 abbrev pub IsCutBy : FramerData → List ℕ → List (List ℕ) → Ending → Type 0
-IsCutBy framer more rs e = IsCutAfter framer.cutter framer.held framer.ended more rs e
+IsCutBy framer more rs e = IsCutAfter framer.cutter framer.pending framer.ended more rs e
 
--- no whole record is held back
+-- no whole record is kept back
 abbrev pub IsOpen : FramerData → Type 0
-IsOpen framer = framer.ended ≡ None → stands framer.cutter framer.held ≡ unfinished
+IsOpen framer = framer.ended ≡ None → stands framer.cutter framer.pending ≡ unfinished
 
 -- The framer was fed these bytes and gave these records: however the file goes on, what is still cut of it goes on that. Until the ending is
--- known, the bytes that are held back are those after the place where the next record begins; a file isn't whole before its end
+-- known, the bytes that are kept back are those after the place where the next record begins; a file isn't whole before its end
 pub record HasRead (frame : Frame) (limits : FrameLimits) (framer : FramerData) (fed : List ℕ) (given : List (List ℕ)) : Type 0 where
   pub goes_on : (more : List ℕ) (rs : List (List ℕ)) (e : Ending) → IsCutBy framer more rs e → IsCut frame limits 0 0 (fed ++ more) (given ++ rs) e
   pub nothing_whole : IsOpen framer
   pub same_limits : framer.cutter.limits ≡ limits
-  pub reached : framer.ended ≡ None → framer.cutter.place + length framer.held ≡ length fed
+  pub reached : framer.ended ≡ None → framer.cutter.place + length framer.pending ≡ length fed
   pub early : framer.ended ≢ Some Whole
 
 -- each file that begins with these bytes has these records and this ending
@@ -64,8 +64,8 @@ abbrev pub Finishes : FramerData → List (List ℕ) → List (List ℕ) → End
 Finishes old before after e = (frame : Frame) (limits : FrameLimits) (fed : List ℕ) (given : List (List ℕ))
     → HasRead frame limits old fed given → Closes frame limits fed given before after e
 
--- the whole records in what was held were cut off, and what is left is held, where the ending isn't known
-pub record CutsHeld (old new : FramerData) (before after : List (List ℕ)) : Type 0 where
+-- the whole records in what was kept back were cut off, and what is left is kept back, where the ending isn't known
+pub record CutsPending (old new : FramerData) (before after : List (List ℕ)) : Type 0 where
   pub left : List ℕ
-  pub cut : CutsOff old.cutter new.cutter old.held left before after new.ended
-  pub held : new.ended ≡ None → new.held ≡ left
+  pub cut : CutsOff old.cutter new.cutter old.pending left before after new.ended
+  pub pending : new.ended ≡ None → new.pending ≡ left

@@ -1,5 +1,5 @@
 -- what the public contracts rest on
-pub mod Held
+pub mod Ends
 pub mod Cutting
 pub mod Steps
 pub mod Fed

@@ -18,8 +18,8 @@ use sz_types::Frame;
 #[derive(Debug)]
 pub struct Framer {
     cutter: Cutter,
-    held: Vec<u8>,
-    /// Where records are lines, so many of the bytes that are held back are known to be no newlines.
+    pending: Vec<u8>,
+    /// Where records are lines, so many of the bytes that are kept back are known to be no newlines.
     scanned: usize,
     ended: Option<Ending>,
 }
@@ -28,7 +28,7 @@ impl Drop for Framer {
     fn drop(self) {
         let Framer {
             cutter: _,
-            held: _,
+            pending: _,
             scanned: _,
             ended: _,
         } = self;
@@ -41,13 +41,13 @@ impl Model for Framer {
 
     ghost Value = { FramerData };
 
-    ghost view = { λ framer. record { cutter = framer.cutter; held = framer.held.items; ended = framer.ended } };
+    ghost view = { λ framer. record { cutter = framer.cutter; pending = framer.pending.items; ended = framer.ended } };
 
-    ghost invariant = { λ framer. IsScanned framer.cutter.frame framer.held.items framer.scanned };
+    ghost invariant = { λ framer. IsScanned framer.cutter.frame framer.pending.items framer.scanned };
 }
 
 impl Framer {
-    ghost use Rattle.sz_records.specs.Fed.{HasRead, Feeds, Finishes, CutsHeld};
+    ghost use Rattle.sz_records.specs.Fed.{HasRead, Feeds, Finishes, CutsPending};
 
     /// A framer at the beginning of a file. It takes no memory.
     pub fn new(alloc: Global, frame: Frame, limits: FrameLimits) -> Framer
@@ -62,24 +62,28 @@ impl Framer {
         };
         Framer {
             cutter,
-            held: Vec::new(alloc),
+            pending: Vec::new(alloc),
             scanned: 0,
             ended: None,
         }
     }
 
-    // Cuts off the records that are whole in what is held.
-    #[tactic(auto, using(crate::proofs::FedLemmas::cuts_held, crate::proofs::ScanLemmas::all_scanned, crate::proofs::ScanLemmas::none_scanned))]
-    fn cut_held(&mut self, into: &mut Records) -> Result<(), NoMemory>
-        ensures ok { OnOk result (CutsHeld self.old self.new into.old into.new) }
+    // Cuts off the records that are whole in what is kept back.
+    #[tactic(auto, using(crate::proofs::FedLemmas::cuts_pending, crate::proofs::ScanLemmas::all_scanned, crate::proofs::ScanLemmas::none_scanned))]
+    fn cut_pending(&mut self, into: &mut Records) -> Result<(), NoMemory>
+        ensures ok { OnOk result (CutsPending self.old self.new into.old into.new) }
         ensures err { OnErr result ((self.new ≡ self.old) × (into.new ≡ into.old)) }
     {
         let cutter = self.cutter;
         let count = into.len();
-        match self.cutter.cut(self.held.as_slice(), self.scanned, into) {
+        match self.cutter.cut(self.pending.as_slice(), self.scanned, into) {
             Ok((at, ended)) => {
-                drop_front(&mut self.held, at);
-                self.scanned = if ended.is_none() { self.held.len() } else { 0 };
+                drop_front(&mut self.pending, at);
+                self.scanned = if ended.is_none() {
+                    self.pending.len()
+                } else {
+                    0
+                };
                 self.ended = ended;
                 Ok(())
             }
@@ -99,12 +103,12 @@ impl Framer {
         ensures known { IfOk result (λ ended. ended ≡ self.new.ended) }
         ensures err { OnErr result ((self.new ≡ self.old) × (into.new ≡ into.old)) }
     {
-        let held = self.held.len();
-        self.held.extend_from_slice(piece)?;
-        match self.cut_held(into) {
+        let pending = self.pending.len();
+        self.pending.extend_from_slice(piece)?;
+        match self.cut_pending(into) {
             Ok(()) => Ok(self.ended),
             Err(error) => {
-                self.held.truncate(held);
+                self.pending.truncate(pending);
                 self.scanned = 0;
                 Err(error)
             }
@@ -133,12 +137,12 @@ impl Framer {
         ensures finished { IfOk result (λ e. Finishes self.old into.old into.new e) }
         ensures err { OnErr result ((self.new ≡ self.old) × (into.new ≡ into.old)) }
     {
-        if self.held.is_empty() {
+        if self.pending.is_empty() {
             return Ok(Ending::Whole);
         }
         match self.cutter.frame {
             Frame::Lines => {
-                into.push(self.held.as_slice())?;
+                into.push(self.pending.as_slice())?;
                 Ok(Ending::Whole)
             }
             Frame::Delimited => Ok(Ending::Damaged(self.cutter.place)),

@@ -18,7 +18,7 @@ pub(crate) fn between(bytes: &[u8], from: usize, to: usize) -> &[u8]
     &bytes[from..to]
 }
 
-#[tactic(auto, using(crate::proofs::HeldLemmas::left_later))]
+#[tactic(auto, using(crate::proofs::EndsLemmas::left_later))]
 /// Drops so many items from the front. It moves those that stay.
 pub(crate) fn drop_front<T: Copy>(list: &mut Vec<T>, count: usize)
     requires within { count ≤ length list.old.items }

@@ -27,7 +27,7 @@ impl Model for Records {
 
     ghost Value = { List (List ℕ) };
 
-    ghost use Rattle.sz_records.specs.Held.{records_at, AreEnds};
+    ghost use Rattle.sz_records.specs.Ends.{records_at, AreEnds};
 
     ghost view = { λ records. records_at 0 records.ends.items records.bytes.items };
 
@@ -45,7 +45,7 @@ impl Records {
         }
     }
 
-    #[tactic(auto, using(crate::proofs::HeldLemmas::held_len))]
+    #[tactic(auto, using(crate::proofs::EndsLemmas::records_len))]
     /// The number of records.
     pub fn len(&self) -> usize
         ensures value { result ≡ length self.now }
@@ -53,7 +53,7 @@ impl Records {
         self.ends.len()
     }
 
-    #[tactic(auto, using(crate::proofs::HeldLemmas::held_len))]
+    #[tactic(auto, using(crate::proofs::EndsLemmas::records_len))]
     /// Whether there are no records.
     pub fn is_empty(&self) -> bool
         ensures value { result ≡ (length self.now == 0) }

@@ -9,12 +9,12 @@ use std::marker::Model;
 
 // The names, in the order in which they were first declared, with their places by hashing.
 pub(crate) struct Names {
-    held: IndexSet<String>,
+    names: IndexSet<String>,
 }
 
 impl Drop for Names {
     fn drop(self) {
-        let Names { held: _ } = self;
+        let Names { names: _ } = self;
     }
 }
 
@@ -24,7 +24,7 @@ impl Model for Names {
 
     ghost Value = { List (List ℕ) };
 
-    ghost view = { λ names. map string_bytes names.held.keys };
+    ghost view = { λ names. map string_bytes names.names.keys };
 }
 
 impl Names {
@@ -32,21 +32,21 @@ impl Names {
         ensures value { result ≡ [] }
     {
         Names {
-            held: IndexSet::new(alloc),
+            names: IndexSet::new(alloc),
         }
     }
 
     pub(crate) fn len(&self) -> usize
         ensures value { result ≡ length self.now }
     {
-        self.held.len()
+        self.names.len()
     }
 
     // The place of the name.
     pub(crate) fn find(&self, name: &str) -> Option<usize>
         ensures value { result ≡ place_of name.now self.now }
     {
-        self.held.get_index_of(name)
+        self.names.get_index_of(name)
     }
 
     // One more name.
@@ -55,8 +55,8 @@ impl Names {
         ensures ok { OnOk result (self.new ≡ self.old ++ name.now ∷ []) }
         ensures err { OnErr result (self.new ≡ self.old) }
     {
-        let name = String::from_str(*self.held.allocator(), name)?;
-        self.held.insert(name)?;
+        let name = String::from_str(*self.names.allocator(), name)?;
+        self.names.insert(name)?;
         Ok(())
     }
 }

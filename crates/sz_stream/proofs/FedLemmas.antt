@@ -21,7 +21,7 @@ record CutsRest (framer : FramerData) (more : List ℕ) : Type 0 where
 cuts_rest : (framer : FramerData) → framer.ended ≡ None → (more : List ℕ) → CutsRest framer more
 cuts_rest framer none more =
     let c = framer.cutter in
-    let rest = some_cut c.limits.records c.frame c.limits c.place c.count (framer.held ++ more) (omega arith) in
+    let rest = some_cut c.limits.records c.frame c.limits c.place c.count (framer.pending ++ more) (omega arith) in
     record { records = rest.records; ending = rest.ending; cut = rw none rest.cut }
 
 -- an input that begins with what was read has the records that were given, and perhaps more after them

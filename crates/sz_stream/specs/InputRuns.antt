@@ -88,7 +88,7 @@ Fills old new before after = (job : Job) (frame : Frame) (most : ℕ) (total : T
 
 -- how many bytes may still be read: no more than an input may have, and those of a length that is begun
 abbrev pub left_to_read : Option Ending → FramerData → ℕ
-left_to_read None framer = 2 ^ 40 + 10 - (framer.cutter.place + length framer.held)
+left_to_read None framer = 2 ^ 40 + 10 - (framer.cutter.place + length framer.pending)
 left_to_read (Some e) framer = 0
 
 -- a piece was read and taken in

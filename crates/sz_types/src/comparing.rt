@@ -42,7 +42,7 @@ pub(crate) fn types_agree(a: &Ty, b: &Ty) -> bool
 fn fields_agree(a: &Fields, b: &Fields) -> bool
     ensures value { result ≡ alike_fields (fields_of (seen_fields a.now)) (fields_of (seen_fields b.now)) }
 {
-    lists_agree(a.held.as_slice(), b.held.as_slice())
+    lists_agree(a.fields.as_slice(), b.fields.as_slice())
 }
 
 // Whether the fields of two lists agree one by one.

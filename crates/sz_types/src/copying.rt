@@ -38,11 +38,11 @@ pub fn copy_ty(alloc: Global, ty: &Ty) -> Result<Ty, NoMemory>
 pub fn copy_fields(alloc: Global, fields: &Fields) -> Result<Fields, NoMemory>
     ensures value { IfOk result (λ made. seen_fields made ≡ seen_fields fields.now) }
 {
-    let mut held = Vec::with_capacity(alloc, fields.held.len())?;
-    for field in &fields.held {
-        held.push(copy_field(alloc, field)?)?;
+    let mut made = Vec::with_capacity(alloc, fields.fields.len())?;
+    for field in &fields.fields {
+        made.push(copy_field(alloc, field)?)?;
     }
-    Ok(Fields { held })
+    Ok(Fields { fields: made })
 }
 
 // A copy of the field.
@@ -64,11 +64,11 @@ fn copy_field(alloc: Global, field: &Field) -> Result<Field, NoMemory>
 pub fn copy_tys(alloc: Global, types: &Tys) -> Result<Tys, NoMemory>
     ensures value { IfOk result (λ made. made ≡ types.now) }
 {
-    let mut held = Vec::with_capacity(alloc, types.held.len())?;
-    for ty in &types.held {
-        held.push(copy_ty(alloc, ty)?)?;
+    let mut made = Vec::with_capacity(alloc, types.types.len())?;
+    for ty in &types.types {
+        made.push(copy_ty(alloc, ty)?)?;
     }
-    Ok(Tys { held })
+    Ok(Tys { types: made })
 }
 
 /// A copy of the declaration.

@@ -12,7 +12,7 @@ impl Fields {
         ensures value { seen_fields result ≡ [] }
     {
         Fields {
-            held: Vec::new(alloc),
+            fields: Vec::new(alloc),
         }
     }
 
@@ -20,28 +20,28 @@ impl Fields {
     pub fn from_vec(fields: Vec<Field>) -> Fields
         ensures value { seen_fields result ≡ map seen_field fields.items }
     {
-        Fields { held: fields }
+        Fields { fields }
     }
 
     /// The fields, in order.
     pub fn as_slice(&self) -> &[Field]
         ensures value { map seen_field result.now ≡ seen_fields self.now }
     {
-        self.held.as_slice()
+        self.fields.as_slice()
     }
 
     /// The number of fields.
     pub fn len(&self) -> usize
         ensures value { result ≡ length (seen_fields self.now) }
     {
-        self.held.len()
+        self.fields.len()
     }
 
     /// Whether there are no fields.
     pub fn is_empty(&self) -> bool
         ensures value { result ≡ (length (seen_fields self.now) == 0) }
     {
-        self.held.is_empty()
+        self.fields.is_empty()
     }
 
     /// The field at a place.
@@ -49,7 +49,7 @@ impl Fields {
         requires within { index < length (seen_fields self.now) }
         ensures value { slice_get (seen_fields self.now) index ≡ Some (seen_field result.now) }
     {
-        &self.held[index]
+        &self.fields[index]
     }
 
     /// Appends the field. Where there is no memory the field is dropped.
@@ -57,7 +57,7 @@ impl Fields {
         ensures ok { OnOk result (seen_fields self.new ≡ seen_fields self.old ++ seen_field field ∷ []) }
         ensures err { OnErr result (seen_fields self.new ≡ seen_fields self.old) }
     {
-        self.held.push(field)?;
+        self.fields.push(field)?;
         Ok(())
     }
 }

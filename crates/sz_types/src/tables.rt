@@ -12,12 +12,12 @@ use std::marker::Model;
 /// Contracts see the list of their plain data.
 #[derive(Debug)]
 pub struct TableDecls {
-    pub(crate) held: Vec<TableDecl>,
+    pub(crate) tables: Vec<TableDecl>,
 }
 
 impl Drop for TableDecls {
     fn drop(self) {
-        let TableDecls { held: _ } = self;
+        let TableDecls { tables: _ } = self;
     }
 }
 
@@ -32,7 +32,7 @@ impl Model for TableDecls {
 
     ghost use Rattle.sz_types.specs.SeenTables.{seen_table};
 
-    ghost view = { λ tables. map seen_table tables.held.items };
+    ghost view = { λ tables. map seen_table tables.tables.items };
 }
 
 impl TableDecls {
@@ -41,7 +41,7 @@ impl TableDecls {
         ensures value { result ≡ [] }
     {
         TableDecls {
-            held: Vec::new(alloc),
+            tables: Vec::new(alloc),
         }
     }
 
@@ -49,36 +49,36 @@ impl TableDecls {
     pub fn from_vec(tables: Vec<TableDecl>) -> TableDecls
         ensures value { result ≡ map seen_table tables.items }
     {
-        TableDecls { held: tables }
+        TableDecls { tables }
     }
 
     /// Gives the declarations back, and takes no memory.
     pub fn into_vec(self) -> Vec<TableDecl>
         ensures value { map seen_table result.items ≡ self }
     {
-        let Self { held } = self;
-        held
+        let Self { tables } = self;
+        tables
     }
 
     /// The declarations, in order.
     pub fn as_slice(&self) -> &[TableDecl]
         ensures value { map seen_table result.now ≡ self.now }
     {
-        self.held.as_slice()
+        self.tables.as_slice()
     }
 
     /// The number of tables.
     pub fn len(&self) -> usize
         ensures value { result ≡ length self.now }
     {
-        self.held.len()
+        self.tables.len()
     }
 
     /// Whether there are no tables.
     pub fn is_empty(&self) -> bool
         ensures value { result ≡ (length self.now == 0) }
     {
-        self.held.is_empty()
+        self.tables.is_empty()
     }
 
     /// The declaration at a place.
@@ -86,7 +86,7 @@ impl TableDecls {
         requires within { index < length self.now }
         ensures value { slice_get self.now index ≡ Some (seen_table result.now) }
     {
-        &self.held[index]
+        &self.tables[index]
     }
 
     /// Appends the declaration. Where there is no memory it is dropped.
@@ -94,7 +94,7 @@ impl TableDecls {
         ensures ok { OnOk result (self.new ≡ self.old ++ seen_table table ∷ []) }
         ensures err { OnErr result (self.new ≡ self.old) }
     {
-        self.held.push(table)?;
+        self.tables.push(table)?;
         Ok(())
     }
 }

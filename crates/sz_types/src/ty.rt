@@ -71,13 +71,13 @@ impl Drop for Field {
 #[cycle(ty)]
 #[derive(Debug)]
 pub struct Fields {
-    pub(crate) held: Vec<Field>,
+    pub(crate) fields: Vec<Field>,
 }
 
 impl Drop for Fields {
     #[cycle(drop)]
     fn drop(self) {
-        let Fields { held: _ } = self;
+        let Fields { fields: _ } = self;
     }
 }
 
@@ -86,7 +86,7 @@ impl Fields {
     pub fn into_vec(self) -> Vec<Field>
         ensures value { map seen_field result.items ≡ seen_fields self }
     {
-        let Self { held } = self;
-        held
+        let Self { fields } = self;
+        fields
     }
 }

@@ -12,12 +12,12 @@ use std::marker::Model;
 /// Contracts see the list of their plain data.
 #[derive(Debug)]
 pub struct Tys {
-    pub(crate) held: Vec<Ty>,
+    pub(crate) types: Vec<Ty>,
 }
 
 impl Drop for Tys {
     fn drop(self) {
-        let Tys { held: _ } = self;
+        let Tys { types: _ } = self;
     }
 }
 
@@ -32,7 +32,7 @@ impl Model for Tys {
 
     ghost use Rattle.sz_types.specs.Seen.{seen};
 
-    ghost view = { λ tys. map seen tys.held.items };
+    ghost view = { λ tys. map seen tys.types.items };
 }
 
 impl Tys {
@@ -41,7 +41,7 @@ impl Tys {
         ensures value { result ≡ [] }
     {
         Tys {
-            held: Vec::new(alloc),
+            types: Vec::new(alloc),
         }
     }
 
@@ -49,36 +49,36 @@ impl Tys {
     pub fn from_vec(types: Vec<Ty>) -> Tys
         ensures value { result ≡ map seen types.items }
     {
-        Tys { held: types }
+        Tys { types }
     }
 
     /// Gives the types back, and takes no memory.
     pub fn into_vec(self) -> Vec<Ty>
         ensures value { map seen result.items ≡ self }
     {
-        let Self { held } = self;
-        held
+        let Self { types } = self;
+        types
     }
 
     /// The types, in order.
     pub fn as_slice(&self) -> &[Ty]
         ensures value { map seen result.now ≡ self.now }
     {
-        self.held.as_slice()
+        self.types.as_slice()
     }
 
     /// The number of types.
     pub fn len(&self) -> usize
         ensures value { result ≡ length self.now }
     {
-        self.held.len()
+        self.types.len()
     }
 
     /// Whether there are no types.
     pub fn is_empty(&self) -> bool
         ensures value { result ≡ (length self.now == 0) }
     {
-        self.held.is_empty()
+        self.types.is_empty()
     }
 
     /// The type at a place.
@@ -86,7 +86,7 @@ impl Tys {
         requires within { index < length self.now }
         ensures value { slice_get self.now index ≡ Some (seen result.now) }
     {
-        &self.held[index]
+        &self.types[index]
     }
 
     /// Appends the type. Where there is no memory the type is dropped.
@@ -94,7 +94,7 @@ impl Tys {
         ensures ok { OnOk result (self.new ≡ self.old ++ seen ty ∷ []) }
         ensures err { OnErr result (self.new ≡ self.old) }
     {
-        self.held.push(ty)?;
+        self.types.push(ty)?;
         Ok(())
     }
 }

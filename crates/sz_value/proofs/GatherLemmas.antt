@@ -156,8 +156,8 @@ some_holder k (x ∷ xs) = by_found (compare k (seen x.key)) refl (some_holder k
     by_found Greater is rest = rest
 
 module _ (xs ys : List Pair) (stable : IsStableBy key_less xs ys) where
-  held_alike : (v : Pair) → filter (has_key (seen v.key)) (map seen_pair ys) ≡ filter (has_key (seen v.key)) (map seen_pair xs)
-  held_alike v =
+  found_alike : (v : Pair) → filter (has_key (seen v.key)) (map seen_pair ys) ≡ filter (has_key (seen v.key)) (map seen_pair xs)
+  found_alike v =
       filter_seen (seen v.key) ys
       ∙ ap (map seen_pair)
       (sym (filter_agree (ties key_less v) (λ p. has_key (seen v.key) (seen_pair p)) (neither_less v) ys) ∙ stable v
@@ -167,7 +167,7 @@ module _ (xs ys : List Pair) (stable : IsStableBy key_less xs ys) where
   by_holder : (k : Datum) → Holder k → filter (has_key k) (map seen_pair ys) ≡ filter (has_key k) (map seen_pair xs)
   by_holder k holder =
       subst (λ d. filter (has_key d) (map seen_pair ys) ≡ filter (has_key d) (map seen_pair xs)) (sym (compare_ties k (seen holder.0.key) holder.1))
-      (held_alike holder.0)
+      (found_alike holder.0)
 
   keys_alike : (k : Datum) → filter (has_key k) (map seen_pair ys) ≡ filter (has_key k) (map seen_pair xs)
   keys_alike k = by_each (some_holder k xs) (some_holder k ys)

@@ -29,11 +29,11 @@ pub fn copy(alloc: Global, value: &Value) -> Result<Value, NoMemory>
 pub fn copy_list(alloc: Global, list: &List) -> Result<List, NoMemory>
     ensures value { IfOk result (λ made. made ≡ list.now) }
 {
-    let mut held = Vec::with_capacity(alloc, list.held.len())?;
-    for value in &list.held {
-        held.push(copy(alloc, value)?)?;
+    let mut made = Vec::with_capacity(alloc, list.values.len())?;
+    for value in &list.values {
+        made.push(copy(alloc, value)?)?;
     }
-    Ok(List { held })
+    Ok(List { values: made })
 }
 
 /// A copy of the pairs.
@@ -41,11 +41,11 @@ pub fn copy_list(alloc: Global, list: &List) -> Result<List, NoMemory>
 pub fn copy_pairs(alloc: Global, pairs: &Pairs) -> Result<Pairs, NoMemory>
     ensures value { IfOk result (λ made. made ≡ pairs.now) }
 {
-    let mut held = Vec::with_capacity(alloc, pairs.held.len())?;
-    for pair in &pairs.held {
-        held.push(copy_pair(alloc, pair)?)?;
+    let mut made = Vec::with_capacity(alloc, pairs.pairs.len())?;
+    for pair in &pairs.pairs {
+        made.push(copy_pair(alloc, pair)?)?;
     }
-    Ok(Pairs { held })
+    Ok(Pairs { pairs: made })
 }
 
 // A copy of a key and its value.

@@ -42,7 +42,7 @@ fn feed<H: Hasher>(value: &Value, state: &mut H)
 fn feed_list<H: Hasher>(list: &List, state: &mut H)
     ensures value { state.new ≡ fold H.write state.old (data_writes (data_of list.now)) }
 {
-    for value in &list.held {
+    for value in &list.values {
         feed(value, state);
     }
     8u8.hash(state);
@@ -53,7 +53,7 @@ fn feed_list<H: Hasher>(list: &List, state: &mut H)
 fn feed_pairs<H: Hasher>(pairs: &Pairs, state: &mut H)
     ensures value { state.new ≡ fold H.write state.old (entries_writes (entries_of pairs.now)) }
 {
-    for pair in &pairs.held {
+    for pair in &pairs.pairs {
         feed_pair(pair, state);
     }
     8u8.hash(state);

@@ -13,7 +13,7 @@ impl List {
         ensures value { result ≡ [] }
     {
         List {
-            held: Vec::new(alloc),
+            values: Vec::new(alloc),
         }
     }
 
@@ -21,36 +21,36 @@ impl List {
     pub fn with_capacity(alloc: Global, capacity: usize) -> Result<List, NoMemory>
         ensures value { IfOk result (λ list. list ≡ []) }
     {
-        let held = Vec::with_capacity(alloc, capacity)?;
-        Ok(List { held })
+        let values = Vec::with_capacity(alloc, capacity)?;
+        Ok(List { values })
     }
 
     /// Takes over the values, and takes no memory.
     pub fn from_vec(values: Vec<Value>) -> List
         ensures value { result ≡ map seen values.items }
     {
-        List { held: values }
+        List { values }
     }
 
     /// The values, in order.
     pub fn as_slice(&self) -> &[Value]
         ensures value { map seen result.now ≡ self.now }
     {
-        self.held.as_slice()
+        self.values.as_slice()
     }
 
     /// The number of values.
     pub fn len(&self) -> usize
         ensures value { result ≡ length self.now }
     {
-        self.held.len()
+        self.values.len()
     }
 
     /// Whether there are no values.
     pub fn is_empty(&self) -> bool
         ensures value { result ≡ (length self.now == 0) }
     {
-        self.held.is_empty()
+        self.values.is_empty()
     }
 
     /// The value at a place.
@@ -58,7 +58,7 @@ impl List {
         requires within { index < length self.now }
         ensures value { slice_get self.now index ≡ Some (seen result.now) }
     {
-        &self.held[index]
+        &self.values[index]
     }
 
     /// Appends the value. Where there is no memory the value is dropped.
@@ -66,7 +66,7 @@ impl List {
         ensures ok { OnOk result (self.new ≡ self.old ++ seen value ∷ []) }
         ensures err { OnErr result (self.new ≡ self.old) }
     {
-        self.held.push(value)?;
+        self.values.push(value)?;
         Ok(())
     }
 
@@ -75,7 +75,7 @@ impl List {
         ensures found { IfSome result (λ value. self.old ≡ self.new ++ seen value ∷ []) }
         ensures none { IfNone result ((self.old ≡ []) × (self.new ≡ [])) }
     {
-        self.held.pop()
+        self.values.pop()
     }
 
     /// Puts the value in the stead of that at a place, and gives that one back.
@@ -84,6 +84,6 @@ impl List {
         ensures value { slice_get self.old index ≡ Some (seen result) }
         ensures kept { self.new ≡ set self.old index (seen value) }
     {
-        mem::replace(&mut self.held[index], value)
+        mem::replace(&mut self.values[index], value)
     }
 }

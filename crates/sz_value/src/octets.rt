@@ -10,19 +10,19 @@ use std::marker::Model;
 /// Contracts see the list of its bytes.
 #[derive(Debug)]
 pub struct Octets {
-    held: Vec<u8>,
+    bytes: Vec<u8>,
 }
 
 impl Drop for Octets {
     fn drop(self) {
-        let Octets { held: _ } = self;
+        let Octets { bytes: _ } = self;
     }
 }
 
 impl Model for Octets {
     ghost Value = { List ℕ };
 
-    ghost view = { λ octets. octets.held.items };
+    ghost view = { λ octets. octets.bytes.items };
 }
 
 impl Octets {
@@ -30,35 +30,35 @@ impl Octets {
     pub fn from_vec(bytes: Vec<u8>) -> Octets
         ensures value { result ≡ bytes.items }
     {
-        Octets { held: bytes }
+        Octets { bytes }
     }
 
     /// A copy of the bytes.
     pub fn from_slice(alloc: Global, bytes: &[u8]) -> Result<Octets, NoMemory>
         ensures value { IfOk result (λ octets. octets ≡ bytes.now) }
     {
-        let held = Vec::from_slice(alloc, bytes)?;
-        Ok(Octets { held })
+        let bytes = Vec::from_slice(alloc, bytes)?;
+        Ok(Octets { bytes })
     }
 
     /// The bytes, in order.
     pub fn as_slice(&self) -> &[u8]
         ensures value { result.now ≡ self.now }
     {
-        self.held.as_slice()
+        self.bytes.as_slice()
     }
 
     /// The number of bytes.
     pub fn len(&self) -> usize
         ensures value { result ≡ length self.now }
     {
-        self.held.len()
+        self.bytes.len()
     }
 
     /// Whether there are no bytes.
     pub fn is_empty(&self) -> bool
         ensures value { result ≡ (length self.now == 0) }
     {
-        self.held.is_empty()
+        self.bytes.is_empty()
     }
 }

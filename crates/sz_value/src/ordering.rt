@@ -40,13 +40,13 @@ pub fn equal(a: &Value, b: &Value) -> bool
 fn order_lists(a: &List, b: &List) -> Ordering
     ensures value { result ≡ compare_data (data_of a.now) (data_of b.now) }
 {
-    for i in 0..a.held.len().min(b.held.len()) {
-        let found = order(&a.held[i], &b.held[i]);
+    for i in 0..a.values.len().min(b.values.len()) {
+        let found = order(&a.values[i], &b.values[i]);
         if found.is_ne() {
             return found;
         }
     }
-    a.held.len().cmp(&b.held.len())
+    a.values.len().cmp(&b.values.len())
 }
 
 // Compares two maps by the first pairs that differ; a front comes first.
@@ -55,13 +55,13 @@ fn order_lists(a: &List, b: &List) -> Ordering
 fn order_maps(a: &Pairs, b: &Pairs) -> Ordering
     ensures value { result ≡ compare_entries (entries_of a.now) (entries_of b.now) }
 {
-    for i in 0..a.held.len().min(b.held.len()) {
-        let found = order_pairs(&a.held[i], &b.held[i]);
+    for i in 0..a.pairs.len().min(b.pairs.len()) {
+        let found = order_pairs(&a.pairs[i], &b.pairs[i]);
         if found.is_ne() {
             return found;
         }
     }
-    a.held.len().cmp(&b.held.len())
+    a.pairs.len().cmp(&b.pairs.len())
 }
 
 // Compares the keys, and where they are equal the values.

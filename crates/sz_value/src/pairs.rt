@@ -19,7 +19,7 @@ impl Pairs {
         ensures value { result ≡ [] }
     {
         Pairs {
-            held: Vec::new(alloc),
+            pairs: Vec::new(alloc),
         }
     }
 
@@ -28,8 +28,8 @@ impl Pairs {
     pub fn from_pairs(alloc: Global, pairs: Vec<Pair>) -> Result<Pairs, NoMemory>
         ensures value { IfOk result (λ made. made ≡ with_pairs [] (seen_pairs pairs.items)) }
     {
-        let held = gathered(alloc, sorted(pairs)?)?;
-        Ok(Pairs { held })
+        let pairs = gathered(alloc, sorted(pairs)?)?;
+        Ok(Pairs { pairs })
     }
 
     /// The pairs, in ascending order of their keys.
@@ -37,29 +37,29 @@ impl Pairs {
         ensures value { seen_pairs result.now ≡ self.now }
         ensures rising { KeysRise self.now }
     {
-        self.held.as_slice()
+        self.pairs.as_slice()
     }
 
     /// The number of pairs.
     pub fn len(&self) -> usize
         ensures value { result ≡ length self.now }
     {
-        self.held.len()
+        self.pairs.len()
     }
 
     /// Whether there are no pairs.
     pub fn is_empty(&self) -> bool
         ensures value { result ≡ (length self.now == 0) }
     {
-        self.held.is_empty()
+        self.pairs.is_empty()
     }
 
     /// The value at a key, if the key is there.
     pub fn get(&self, key: &Value) -> Option<&Value>
         ensures value { option_map (λ found. seen found.now) result ≡ value_at (seen key.now) self.now }
     {
-        match place_of(&self.held, key) {
-            Ok(place) => Some(&self.held[place].value),
+        match place_of(&self.pairs, key) {
+            Ok(place) => Some(&self.pairs[place].value),
             Err(_) => None,
         }
     }
@@ -73,7 +73,7 @@ impl Pairs {
         // A key that is there already needs no memory.
         ensures room { IsSome (value_at (seen key) self.old) → IsOk result }
     {
-        put_in(&mut self.held, key, value)
+        put_in(&mut self.pairs, key, value)
     }
 
     /// Puts the value in the stead of that at the key, and gives that one back. Where the key isn't there the value
@@ -85,7 +85,7 @@ impl Pairs {
         ensures err { OnErr result (self.new ≡ self.old) }
         ensures none { IfErr result (λ given. (given ≡ value) × (value_at (seen key.now) self.old ≡ None)) }
     {
-        replace_in(&mut self.held, key, value)
+        replace_in(&mut self.pairs, key, value)
     }
 }
 
@@ -112,11 +112,11 @@ fn gathered(alloc: Global, pairs: Vec<Pair>) -> Result<Vec<Pair>, NoMemory>
     ensures value { IfOk result (λ made. seen_pairs made.items ≡ with_pairs [] (seen_pairs pairs.items)) }
     ensures rising { IfOk result (λ made. KeysRise (seen_pairs made.items)) }
 {
-    let mut held = Vec::with_capacity(alloc, pairs.len())?;
+    let mut made = Vec::with_capacity(alloc, pairs.len())?;
     for pair in pairs {
-        put_in(&mut held, pair.key, pair.value)?;
+        put_in(&mut made, pair.key, pair.value)?;
     }
-    Ok(held)
+    Ok(made)
 }
 
 // Puts the value at the key, as `Pairs::insert` does.

@@ -21,12 +21,12 @@ pub enum Slot {
 /// Contracts see a list with an `Option` of plain data for each slot, `None` where the slot is undefined.
 #[derive(Debug)]
 pub struct Slots {
-    held: Vec<Slot>,
+    slots: Vec<Slot>,
 }
 
 impl Drop for Slots {
     fn drop(self) {
-        let Slots { held: _ } = self;
+        let Slots { slots: _ } = self;
     }
 }
 
@@ -41,7 +41,7 @@ impl Model for Slots {
 
     ghost use Rattle.sz_value.specs.Seen.{seen_slot};
 
-    ghost view = { λ slots. map seen_slot slots.held.items };
+    ghost view = { λ slots. map seen_slot slots.slots.items };
 }
 
 impl Slots {
@@ -50,7 +50,7 @@ impl Slots {
         ensures value { result ≡ [] }
     {
         Slots {
-            held: Vec::new(alloc),
+            slots: Vec::new(alloc),
         }
     }
 
@@ -58,22 +58,22 @@ impl Slots {
     pub fn with_capacity(alloc: Global, capacity: usize) -> Result<Slots, NoMemory>
         ensures value { IfOk result (λ slots. slots ≡ []) }
     {
-        let held = Vec::with_capacity(alloc, capacity)?;
-        Ok(Slots { held })
+        let slots = Vec::with_capacity(alloc, capacity)?;
+        Ok(Slots { slots })
     }
 
     /// The number of slots.
     pub fn len(&self) -> usize
         ensures value { result ≡ length self.now }
     {
-        self.held.len()
+        self.slots.len()
     }
 
     /// Whether there are no slots.
     pub fn is_empty(&self) -> bool
         ensures value { result ≡ (length self.now == 0) }
     {
-        self.held.is_empty()
+        self.slots.is_empty()
     }
 
     /// Appends the slot. Where there is no memory the slot is dropped.
@@ -81,7 +81,7 @@ impl Slots {
         ensures ok { OnOk result (self.new ≡ self.old ++ seen_slot slot ∷ []) }
         ensures err { OnErr result (self.new ≡ self.old) }
     {
-        self.held.push(slot)?;
+        self.slots.push(slot)?;
         Ok(())
     }
 
@@ -90,7 +90,7 @@ impl Slots {
         ensures found { IfSome result (λ slot. self.old ≡ self.new ++ seen_slot slot ∷ []) }
         ensures none { IfNone result ((self.old ≡ []) × (self.new ≡ [])) }
     {
-        self.held.pop()
+        self.slots.pop()
     }
 
     /// The slot at a place.
@@ -98,7 +98,7 @@ impl Slots {
         requires within { index < length self.now }
         ensures value { slice_get self.now index ≡ Some (seen_slot result.now) }
     {
-        &self.held[index]
+        &self.slots[index]
     }
 
     /// Puts the slot in the stead of that at a place, which is dropped.
@@ -106,13 +106,13 @@ impl Slots {
         requires within { index < length self.old }
         ensures value { self.new ≡ set self.old index (seen_slot slot) }
     {
-        self.held[index] = slot;
+        self.slots[index] = slot;
     }
 
     /// Keeps the first `count` slots, or all where there are no more.
     pub fn truncate(&mut self, count: usize)
         ensures value { self.new ≡ take count self.old }
     {
-        self.held.truncate(count);
+        self.slots.truncate(count);
     }
 }

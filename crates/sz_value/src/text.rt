@@ -12,22 +12,25 @@ use std::marker::Model;
 /// Contracts see the list of its bytes.
 #[derive(Debug)]
 pub struct Text {
-    held: String,
+    string: String,
     ascii: bool,
 }
 
 impl Drop for Text {
     fn drop(self) {
-        let Text { held: _, ascii: _ } = self;
+        let Text {
+            string: _,
+            ascii: _,
+        } = self;
     }
 }
 
 impl Model for Text {
     ghost Value = { List ℕ };
 
-    ghost view = { λ text. string_bytes text.held };
+    ghost view = { λ text. string_bytes text.string };
 
-    ghost invariant = { λ text. text.ascii ≡ is_ascii (string_bytes text.held) };
+    ghost invariant = { λ text. text.ascii ≡ is_ascii (string_bytes text.string) };
 }
 
 impl Text {
@@ -36,7 +39,10 @@ impl Text {
         ensures value { result ≡ string_bytes text }
     {
         let ascii = is_ascii(text.as_str());
-        Text { held: text, ascii }
+        Text {
+            string: text,
+            ascii,
+        }
     }
 
     /// A copy of the text.
@@ -44,17 +50,17 @@ impl Text {
         ensures value { IfOk result (λ made. made ≡ text.now) }
     {
         let ascii = is_ascii(text);
-        let held = String::from_str(alloc, text)?;
-        Ok(Text { held, ascii })
+        let string = String::from_str(alloc, text)?;
+        Ok(Text { string, ascii })
     }
 
     /// A copy of the text, without another look at its bytes.
     pub fn copy(&self, alloc: Global) -> Result<Text, NoMemory>
         ensures value { IfOk result (λ made. made ≡ self.now) }
     {
-        let held = String::from_str(alloc, self.held.as_str())?;
+        let string = String::from_str(alloc, self.string.as_str())?;
         Ok(Text {
-            held,
+            string,
             ascii: self.ascii,
         })
     }
@@ -64,9 +70,9 @@ impl Text {
     pub fn joined(alloc: Global, first: &Text, second: &Text) -> Result<Text, NoMemory>
         ensures value { IfOk result (λ made. made ≡ first.now ++ second.now) }
     {
-        let held = joined(alloc, first.held.as_str(), second.held.as_str())?;
+        let string = joined(alloc, first.string.as_str(), second.string.as_str())?;
         Ok(Text {
-            held,
+            string,
             ascii: first.ascii && second.ascii,
         })
     }
@@ -79,8 +85,11 @@ impl Text {
         requires within { to ≤ length self.now }
         ensures value { IfOk result (λ made. made ≡ take (to - from) (drop from self.now)) }
     {
-        let held = String::from_str(alloc, &self.held.as_str()[from..to])?;
-        Ok(Text { held, ascii: true })
+        let string = String::from_str(alloc, &self.string.as_str()[from..to])?;
+        Ok(Text {
+            string,
+            ascii: true,
+        })
     }
 
     /// The text.
@@ -88,7 +97,7 @@ impl Text {
         ensures value { result.now ≡ self.now }
         ensures utf8 { IsUtf8 self.now }
     {
-        self.held.as_str()
+        self.string.as_str()
     }
 
     /// Whether all bytes are ASCII, which the text remembers.
@@ -102,14 +111,14 @@ impl Text {
     pub fn len(&self) -> usize
         ensures value { result ≡ length self.now }
     {
-        self.held.len()
+        self.string.len()
     }
 
     /// Whether there are no bytes.
     pub fn is_empty(&self) -> bool
         ensures value { result ≡ (length self.now == 0) }
     {
-        self.held.is_empty()
+        self.string.is_empty()
     }
 }
 

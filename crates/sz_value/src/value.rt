@@ -46,13 +46,13 @@ impl Drop for Value {
 #[cycle(value)]
 #[derive(Debug)]
 pub struct List {
-    pub(crate) held: Vec<Value>,
+    pub(crate) values: Vec<Value>,
 }
 
 impl Drop for List {
     #[cycle(drop)]
     fn drop(self) {
-        let List { held: _ } = self;
+        let List { values: _ } = self;
     }
 }
 
@@ -61,8 +61,8 @@ impl List {
     pub fn into_vec(self) -> Vec<Value>
         ensures value { map seen result.items ≡ self }
     {
-        let Self { held } = self;
-        held
+        let Self { values } = self;
+        values
     }
 }
 
@@ -80,13 +80,13 @@ pub struct Pair {
 #[cycle(value)]
 #[derive(Debug)]
 pub struct Pairs {
-    pub(crate) held: Vec<Pair>,
+    pub(crate) pairs: Vec<Pair>,
 }
 
 impl Drop for Pairs {
     #[cycle(drop)]
     fn drop(self) {
-        let Pairs { held: _ } = self;
+        let Pairs { pairs: _ } = self;
     }
 }
 
@@ -96,8 +96,8 @@ impl Pairs {
         ensures value { seen_pairs result.items ≡ self }
         ensures rising { KeysRise self }
     {
-        let Self { held } = self;
-        held
+        let Self { pairs } = self;
+        pairs
     }
 }
 
@@ -112,13 +112,13 @@ impl Model for List {
 
     ghost use Rattle.sz_value.specs.Seen.{seen};
 
-    ghost view = { λ list. std.map seen list.held.items };
+    ghost view = { λ list. std.map seen list.values.items };
 
     ghost size = { parts_nodes };
 
     ghost use Rattle.sz_value.specs.Falls.{most_le-parts};
 
-    ghost size_decreases = { λ list h. most_le-parts list.held.items };
+    ghost size_decreases = { λ list h. most_le-parts list.values.items };
 }
 
 impl Model for Pairs {
@@ -133,13 +133,13 @@ impl Model for Pairs {
     ghost use Rattle.sz_value.specs.Order.{KeysRise};
     ghost use Rattle.sz_value.specs.Seen.{seen_pair};
 
-    ghost view = { λ pairs. std.map seen_pair pairs.held.items };
+    ghost view = { λ pairs. std.map seen_pair pairs.pairs.items };
 
-    ghost invariant = { λ pairs. KeysRise (std.map seen_pair pairs.held.items) };
+    ghost invariant = { λ pairs. KeysRise (std.map seen_pair pairs.pairs.items) };
 
     ghost size = { pairs_nodes };
 
     ghost use Rattle.sz_value.specs.Falls.{most_le-pairs};
 
-    ghost size_decreases = { λ pairs h. most_le-pairs pairs.held.items };
+    ghost size_decreases = { λ pairs h. most_le-pairs pairs.pairs.items };
 }

@@ -30,7 +30,7 @@ fn weight_of_list(list: &List) -> u64
     ensures value { result ≡ min (data_weight (data_of list.now)) (2 ^ 64 - 1) }
 {
     let mut total: u64 = 0;
-    for value in &list.held {
+    for value in &list.values {
         total = total.saturating_add(weight(value));
     }
     total
@@ -43,7 +43,7 @@ fn weight_of_pairs(pairs: &Pairs) -> u64
     ensures value { result ≡ min (entries_weight (entries_of pairs.now)) (2 ^ 64 - 1) }
 {
     let mut total: u64 = 0;
-    for pair in &pairs.held {
+    for pair in &pairs.pairs {
         let both = weight(&pair.key).saturating_add(weight(&pair.value));
         total = total.saturating_add(both);
     }

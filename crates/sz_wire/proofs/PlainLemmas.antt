@@ -4,7 +4,7 @@ use Rattle.std.specs.Int.{Width, w32, w64}
 use Rattle.std.proofs.lemmas.Bool.{lt-ltb, le-ltb}
 use Rattle.std.proofs.lemmas.List.{drop-drop}
 use Rattle.sz_wire.specs.Varint.{varint_at}
-use Rattle.sz_wire.specs.Field.{Content, bytes_at, fixed_at, span_at, plain_at, held, span, eight, four}
+use Rattle.sz_wire.specs.Field.{Content, bytes_at, fixed_at, span_at, plain_at, read_as, span, eight, four}
 
 pub span_missing : (bytes : List ℕ) → varint_at bytes ≡ None → span_at bytes ≡ None
 unfolding span_at
@@ -18,7 +18,7 @@ span_short bytes at size from e lt =
     rw (e, short) refl
 
 pub span_found : (bytes : List ℕ) (at size from : ℕ) → varint_at (drop at bytes) ≡ Some (size, drop from bytes) → size ≤ length bytes - from
-    → held span (span_at (drop at bytes)) ≡ Some (span (take (from + size - from) (drop from bytes)), drop (from + size) bytes)
+    → read_as span (span_at (drop at bytes)) ≡ Some (span (take (from + size - from) (drop from bytes)), drop (from + size) bytes)
 unfolding span_at bytes_at
 span_found bytes at size from e le =
     let long : ltb (length (drop from bytes)) size ≡ false = le-ltb _ _ (omega (arith, length-drop from bytes)) in
@@ -27,7 +27,7 @@ span_found bytes at size from e le =
 
 -- a number of fixed size, as what a field holds
 fixed_found : (w : Width) (kind : ℕ → Content) (bytes : List ℕ) (at n size : ℕ) → fixed_at w (drop at bytes) ≡ Some (n, drop size (drop at bytes))
-    → held kind (fixed_at w (drop at bytes)) ≡ Some (kind n, drop (at + size) bytes)
+    → read_as kind (fixed_at w (drop at bytes)) ≡ Some (kind n, drop (at + size) bytes)
 fixed_found w kind bytes at n size e = rw (e, drop-drop size at bytes) refl
 
 pub eight_found : (bytes : List ℕ) (at : ℕ) {front : List ℕ} {wire n : ℕ} → wire ≡ 1 → front ≡ drop at bytes → fixed_at w64 front ≡ Some (n, drop 8 front)

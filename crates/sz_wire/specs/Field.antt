@@ -1,5 +1,5 @@
 -- Fields: a key, and what its wire type says that follows.
-use Rattle.std.specs.Prelude.{ℕ, zero, suc, ◌-◌, ◌≤◌, List, length, take, drop, Option, Some, None, nat_lt, ◌==◌, if◌then◌else◌}
+use Rattle.std.specs.Prelude.{◌≡◌, ℕ, zero, suc, ◌-◌, ◌≤◌, List, length, take, drop, Option, Some, None, nat_lt, ◌==◌, if◌then◌else◌}
 use Rattle.std.specs.Option.{option_and_then, option_map}
 use Rattle.std.specs.Int.{Width, w32, w64, byte_len, from_le_bytes}
 use Rattle.sz_wire.specs.declared.field.WireField.{WireField}
@@ -29,16 +29,16 @@ unfoldable pub span_at : List ℕ → Option (List ℕ × List ℕ)
 span_at bytes = option_and_then (λ (size : ℕ × List ℕ). bytes_at size.0 size.1) (varint_at bytes)
 
 -- what is read, as what a field holds
-abbrev pub held : {A : Type 0} → (A → Content) → Option (A × List ℕ) → Option (Content × List ℕ)
-held as_content read = option_map (λ found. (as_content found.0, found.1)) read
+abbrev pub read_as : {A : Type 0} → (A → Content) → Option (A × List ℕ) → Option (Content × List ℕ)
+read_as as_content read = option_map (λ found. (as_content found.0, found.1)) read
 
 -- what a field that is no group holds, by its wire type, and what follows it
 unfoldable pub plain_at : ℕ → List ℕ → Option (Content × List ℕ)
 plain_at wire bytes =
-    if wire == 0 then held varint (varint_at bytes) else
-    if wire == 1 then held eight (fixed_at w64 bytes) else
-    if wire == 2 then held span (span_at bytes) else
-    if wire == 5 then held four (fixed_at w32 bytes) else None
+    if wire == 0 then read_as varint (varint_at bytes) else
+    if wire == 1 then read_as eight (fixed_at w64 bytes) else
+    if wire == 2 then read_as span (span_at bytes) else
+    if wire == 5 then read_as four (fixed_at w32 bytes) else None
 
 -- what follows a group that begins here, if its level may be opened
 abbrev pub opened : (ℕ → ℕ → List ℕ → Option (List ℕ)) → ℕ → ℕ → List ℕ → Option (List ℕ)
@@ -96,3 +96,11 @@ LiesBefore place (kinds.Varint n) = Unit {0}
 LiesBefore place (kinds.Eight n) = Unit {0}
 LiesBefore place (kinds.Four n) = Unit {0}
 LiesBefore place kinds.Group = Unit {0}
+
+-- a payload ends at this place
+abbrev pub EndsAt : ℕ → WireKind → Type 0
+EndsAt place (kinds.Span from to) = to ≡ place
+EndsAt place (kinds.Varint n) = Unit {0}
+EndsAt place (kinds.Eight n) = Unit {0}
+EndsAt place (kinds.Four n) = Unit {0}
+EndsAt place kinds.Group = Unit {0}

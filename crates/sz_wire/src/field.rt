@@ -2,7 +2,7 @@
 
 ghost use Rattle.std.specs.Prelude.{◌≡◌, ◌<◌, ◌≤◌, ◌↔◌, length, drop, Option, Some, None, Ok, IfOk, IfSome, OnErr, IsErr};
 ghost use Rattle.sz_wire.specs.Key.{Key};
-ghost use Rattle.sz_wire.specs.Field.{value_at, field_at, content_in, field_in, LiesBefore};
+ghost use Rattle.sz_wire.specs.Field.{value_at, field_at, content_in, field_in, LiesBefore, EndsAt};
 
 use crate::bad::Bad;
 use crate::group::{DEEPEST, GROUP_START, after_group};
@@ -48,6 +48,7 @@ fn read_value(
     ensures forward { IfOk result (λ r. at ≤ r.1) }
     ensures within { IfOk result (λ r. r.1 ≤ length bytes.now) }
     ensures placed { IfOk result (λ r. LiesBefore r.1 r.0) }
+    ensures end { IfOk result (λ r. EndsAt r.1 r.0) }
     ensures bad { OnErr result (value_at depth (record { number = number; wire = wire }) (drop at bytes.now) ≡ None) }
 {
     if wire != GROUP_START {
@@ -73,6 +74,8 @@ pub fn next_field(bytes: &[u8], at: usize, depth: u32) -> Result<Option<WireFiel
     ensures forward { IfOk result (λ r. IfSome r (λ f. at < f.next)) }
     ensures within { IfOk result (λ r. IfSome r (λ f. f.next ≤ length bytes.now)) }
     ensures placed { IfOk result (λ r. IfSome r (λ f. LiesBefore f.next f.kind)) }
+    // With `found`, which tells how many bytes a payload has, this fixes where it begins.
+    ensures end { IfOk result (λ r. IfSome r (λ f. EndsAt f.next f.kind)) }
     ensures bad { OnErr result (field_at depth (drop at bytes.now) ≡ None) }
 {
     if at == bytes.len() {

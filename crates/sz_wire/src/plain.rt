@@ -2,7 +2,7 @@
 
 ghost use Rattle.std.specs.Prelude.{◌≡◌, ◌+◌, ◌<◌, ◌≤◌, length, drop, Some, None, IfOk, OnOk, OnErr};
 ghost use Rattle.std.specs.Int.{w32, w64};
-ghost use Rattle.sz_wire.specs.Field.{plain_at, span_at, fixed_at, held, span, content_in, LiesBefore};
+ghost use Rattle.sz_wire.specs.Field.{plain_at, span_at, fixed_at, read_as, span, content_in, LiesBefore, EndsAt};
 
 use crate::bad::Bad;
 use crate::field::WireKind;
@@ -48,10 +48,11 @@ pub fn four_bytes(bytes: &[u8]) -> Result<u32, Bad>
 #[tactic(auto, using(crate::proofs::PlainLemmas::span_found, crate::proofs::PlainLemmas::span_missing, crate::proofs::PlainLemmas::span_short))]
 fn read_span(bytes: &[u8], at: usize) -> Result<(WireKind, usize), Bad>
     requires { at ≤ length bytes.now }
-    ensures found { IfOk result (λ r. held span (span_at (drop at bytes.now)) ≡ Some (content_in bytes.now r.0, drop r.1 bytes.now)) }
+    ensures found { IfOk result (λ r. read_as span (span_at (drop at bytes.now)) ≡ Some (content_in bytes.now r.0, drop r.1 bytes.now)) }
     ensures forward { IfOk result (λ r. at ≤ r.1) }
     ensures within { IfOk result (λ r. r.1 ≤ length bytes.now) }
     ensures placed { IfOk result (λ r. LiesBefore r.1 r.0) }
+    ensures end { IfOk result (λ r. EndsAt r.1 r.0) }
     ensures bad { OnErr result (span_at (drop at bytes.now) ≡ None) }
 {
     let (size, from) = read_varint(bytes, at)?;
@@ -70,6 +71,7 @@ pub(crate) fn read_plain(bytes: &[u8], at: usize, wire: u8) -> Result<(WireKind,
     ensures forward { IfOk result (λ r. at ≤ r.1) }
     ensures within { IfOk result (λ r. r.1 ≤ length bytes.now) }
     ensures placed { IfOk result (λ r. LiesBefore r.1 r.0) }
+    ensures end { IfOk result (λ r. EndsAt r.1 r.0) }
     ensures bad { OnErr result (plain_at wire (drop at bytes.now) ≡ None) }
 {
     match wire {

@@ -1,6 +1,9 @@
 //! `szl` runs a program over the records of a file, and prints its tables; or it checks a program.
 #![tactic(auto)]
 
+mod streams;
+
+use crate::streams::stand_in;
 use std::alloc::{AllocError, Global};
 use std::fs::Files;
 use std::io::{self, Input, Stderr, Stdout};
@@ -53,6 +56,7 @@ const STACK_BYTES: usize = 2 << 30;
 
 // Where no thread can be started, this one does the work itself.
 fn main(rt: HostRuntime) -> ExitCode {
+    let _streams = [stand_in(&rt), stand_in(&rt), stand_in(&rt)];
     let alloc: Global = rt.alloc();
     let Ok(words) = given_words(&rt) else {
         return tell_no_memory(rt.stderr());

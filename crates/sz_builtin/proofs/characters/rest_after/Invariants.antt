@@ -1,4 +1,4 @@
--- As many characters as rounds are after.
+-- As many characters as rounds are passed.
 use Rattle.std.specs.Str.Iter.{chars_rest}
 use Rattle.sz_builtin.specs.Characters.{IsRestAfter}
 use Rattle.sz_builtin.proofs.characters.rest_after.Given as goal

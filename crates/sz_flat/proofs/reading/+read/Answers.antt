@@ -119,7 +119,7 @@ read_parts-returns-in_err-value t c =
     record {
       value = rw (p.1, p.2)
           (stops_too values (all_of values c.args.count) rest c.args.flat.now c.in_err-value.field-0.0
-          (all_lacked values one_spelling c.args.flat.now (map seen c.loop.held.items) rest c.args.count c.loop.counter c.loop.invariant.0 c.loop-test.true)
+          (all_lacked values one_spelling c.args.flat.now (map seen c.loop.values.items) rest c.args.count c.loop.counter c.loop.invariant.0 c.loop-test.true)
           c.in_err-value.ensures.value);
     }
 
@@ -128,8 +128,8 @@ read_parts-loop-preserved t c =
     let flat = c.args.flat.now in
     let after = c.in_ok-value.after.now in
     let one = seen c.in_ok-value.value in
-    let pushed = ap (map seen) c.in_ok-push.ensures.items ∙ map-append seen c.loop.held.items (c.in_ok-value.value ∷ []) in
-    let stands = one_more_stands values flat (map seen c.loop.held.items) c.loop.rest.now one after c.loop.counter c.loop.invariant.0 c.in_ok-value.ensures.value in
+    let pushed = ap (map seen) c.in_ok-push.ensures.items ∙ map-append seen c.loop.values.items (c.in_ok-value.value ∷ []) in
+    let stands = one_more_stands values flat (map seen c.loop.values.items) c.loop.rest.now one after c.loop.counter c.loop.invariant.0 c.in_ok-value.ensures.value in
     let long = ap length c.in_ok-value.ensures.value.is ∙ length-append (values.spelled one) after in (
       subst (λ ys. Stands (all_of values (c.loop.counter + 1)) flat ys after) (sym pushed) stands,
       omega (arith, c.loop-test.true),
@@ -143,7 +143,7 @@ read_pairs-returns-in_err-pair t c =
     record {
       value = rw (p.1, p.2)
           (stops_too pair (all_of pair c.args.count) rest c.args.flat.now c.in_err-pair.field-0.0
-          (all_lacked pair pair_unique c.args.flat.now (map seen_pair c.loop.held.items) rest c.args.count c.loop.counter c.loop.invariant.0 c.loop-test.true)
+          (all_lacked pair pair_unique c.args.flat.now (map seen_pair c.loop.pairs.items) rest c.args.count c.loop.counter c.loop.invariant.0 c.loop-test.true)
           c.in_err-pair.ensures.value);
     }
 
@@ -152,8 +152,8 @@ read_pairs-loop-preserved t c =
     let flat = c.args.flat.now in
     let after = c.in_ok-pair.after.now in
     let one = seen_pair c.in_ok-pair.pair in
-    let pushed = ap (map seen_pair) c.in_ok-push.ensures.items ∙ map-append seen_pair c.loop.held.items (c.in_ok-pair.pair ∷ []) in
-    let stands = one_more_stands pair flat (map seen_pair c.loop.held.items) c.loop.rest.now one after c.loop.counter c.loop.invariant.0 c.in_ok-pair.ensures.value in
+    let pushed = ap (map seen_pair) c.in_ok-push.ensures.items ∙ map-append seen_pair c.loop.pairs.items (c.in_ok-pair.pair ∷ []) in
+    let stands = one_more_stands pair flat (map seen_pair c.loop.pairs.items) c.loop.rest.now one after c.loop.counter c.loop.invariant.0 c.in_ok-pair.ensures.value in
     let long = ap length c.in_ok-pair.ensures.value.is ∙ length-append (pair.spelled one) after in (
       subst (λ ys. Stands (all_of pair (c.loop.counter + 1)) flat ys after) (sym pushed) stands,
       omega (arith, c.loop-test.true),

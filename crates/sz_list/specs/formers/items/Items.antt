@@ -35,7 +35,7 @@ pub the_items_listed : (X : Type 0) (d : List X) → listed _ (children (the_for
 the_items_listed X d = list-listed X d
 
 abbrev fields : Former {0}
-fields = via (vec.the_former this Global) Inside (λ X a. a.held) (λ X v. record { held = v }) (λ X a. refl) (λ X v. refl)
+fields = via (vec.the_former this Global) Inside (λ X a. a.items) (λ X v. record { items = v }) (λ X a. refl) (λ X v. refl)
 
 module _ (R S : RattleType) (h : R.Denot → S.Denot) where
   pub the_places : Alike R S h → Alike (C.the_row R) (C.the_row S) ((the_former this).map R.Denot S.Denot h)

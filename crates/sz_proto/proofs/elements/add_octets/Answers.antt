@@ -9,6 +9,6 @@ returns-in_ok-push-in-Span c = record {
   value = (
     values.bytes c.in_ok-from_slice-in-Span.field-0 ∷ [],
     rw (c.in-Span.is, c.in_ok-from_slice-in-Span.ensures.value) refl,
-    rw c.in_ok-push-in-Span.ensures.items (map-append seen c.args.held.now.items _),
+    rw c.in_ok-push-in-Span.ensures.items (map-append seen c.args.elements.now.items _),
   );
 }

@@ -9,6 +9,6 @@ returns-in_ok-push-in-Varint c = record {
   value = (
     values.truth (nat_lt 0 c.in-Varint.number) ∷ [],
     rw c.in-Varint.is refl,
-    rw c.in_ok-push-in-Varint.ensures.items (map-append seen c.args.held.now.items _),
+    rw c.in_ok-push-in-Varint.ensures.items (map-append seen c.args.elements.now.items _),
   );
 }

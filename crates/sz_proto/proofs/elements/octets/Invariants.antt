@@ -1,4 +1,4 @@
--- What is left goes on what is held.
+-- What is left goes on what was added.
 use Rattle.std.proofs.Common.{map}
 use Rattle.sz_value.specs.Seen.{seen}
 use Rattle.sz_proto.specs.Elements.{in_all}
@@ -7,4 +7,4 @@ use Rattle.sz_proto.proofs.GoingLemmas.{GoesFrom}
 use Rattle.sz_proto.proofs.elements.octets.Given as goal
 
 abbrev pub invariant-loop-field : goal.invariant-loop-field
-invariant-loop-field l = GoesFrom octets_each l.bytes l.run (in_all octets_each (contents l.bytes l.run)) l.field-index (map seen l.held.items)
+invariant-loop-field l = GoesFrom octets_each l.bytes l.run (in_all octets_each (contents l.bytes l.run)) l.field-index (map seen l.elements.items)

@@ -9,7 +9,7 @@ use Rattle.sz_proto.proofs.elements.push_truths.Goals as goal
 
 pub loop-number-init : goal.loop-number-init
 unfolding truths_of
-loop-number-init c = ap (map seen) c.in_ok-reserve.ensures.items ∙ sym (append-nil (map seen c.args.held.now.items))
+loop-number-init c = ap (map seen) c.in_ok-reserve.ensures.items ∙ sym (append-nil (map seen c.args.elements.now.items))
 
 pub loop-number-preserved : goal.loop-number-preserved
 loop-number-preserved c =
@@ -18,8 +18,8 @@ loop-number-preserved c =
     let front = truths_of (take c.loop-number.number-index c.args.numbers.now) in
     let more = truths_more c.args.numbers.now c.loop-number.number-index (pos 0) c.loop-number-test.true in
     let one = map values.truth (not (eqb (of_z w64 n) 0) ∷ []) in
-    ap (map seen) c.in_ok-push.ensures.items ∙ map-append seen c.loop-number.held.items _
+    ap (map seen) c.in_ok-push.ensures.items ∙ map-append seen c.loop-number.elements.items _
     ∙ ap (λ (ds : List Datum). ds ++ one) c.loop-number.invariant
-    ∙ append_assoc (map seen c.args.held.now.items) (map values.truth front) one
-    ∙ ap (λ (ds : List Datum). map seen c.args.held.now.items ++ ds) (ap (λ (bs : List Bool). map values.truth front ++ map values.truth bs) (sym (nonzero n back))
+    ∙ append_assoc (map seen c.args.elements.now.items) (map values.truth front) one
+    ∙ ap (λ (ds : List Datum). map seen c.args.elements.now.items ++ ds) (ap (λ (bs : List Bool). map values.truth front ++ map values.truth bs) (sym (nonzero n back))
     ∙ sym (ap (map values.truth) more ∙ map-append values.truth front (truths_of (n ∷ []))))

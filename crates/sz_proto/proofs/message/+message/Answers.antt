@@ -147,7 +147,7 @@ values-returns-in-Undefined t c =
     let none = value_found bytes c.args.found.now c.occurrences-run.result.now f c.args.depth c.in_ok-value.field-0 c.occurrences-run.ensures.value c.in_ok-value.ensures.value
     ∙ ap seen_slot c.in-Undefined.is in
     record {
-      value = sym (ap tuple_of (value_none c.args.fields.now c.args.depth (map (field_in bytes) c.args.found.now) c.loop-field.field-index f (map seen c.loop-field.held.items)
+      value = sym (ap tuple_of (value_none c.args.fields.now c.args.depth (map (field_in bytes) c.args.found.now) c.loop-field.field-index f (map seen c.loop-field.values.items)
           c.loop-field.invariant c.loop-field-test.true c.field-item.is none));
     }
 
@@ -159,14 +159,14 @@ values-loop-field-preserved t c =
     let one = value_found bytes c.args.found.now c.occurrences-run.result.now f c.args.depth c.in_ok-value.field-0 c.occurrences-run.ensures.value c.in_ok-value.ensures.value
     ∙ ap seen_slot c.in-Defined.is in
     subst (ValuesFrom c.args.fields.now c.args.depth fs (c.loop-field.field-index + 1))
-    (sym (ap (map seen) c.in_ok-push-in-Defined.ensures.items ∙ map-append seen c.loop-field.held.items (c.in-Defined.value ∷ [])))
-    (value_more c.args.fields.now c.args.depth fs c.loop-field.field-index f (map seen c.loop-field.held.items) (seen c.in-Defined.value)
+    (sym (ap (map seen) c.in_ok-push-in-Defined.ensures.items ∙ map-append seen c.loop-field.values.items (c.in-Defined.value ∷ [])))
+    (value_more c.args.fields.now c.args.depth fs c.loop-field.field-index f (map seen c.loop-field.values.items) (seen c.in-Defined.value)
     c.loop-field.invariant c.loop-field-test.true c.field-item.is one)
 
 pub values-returns : goal.values-returns
 values-returns t c = record {
   value = sym (ap tuple_of (values_end c.args.fields.now c.args.depth (map (field_in c.args.bytes.now) c.args.found.now) c.loop-field.field-index
-      (map seen c.loop-field.held.items) c.loop-field.invariant c.loop-field-test.false)
+      (map seen c.loop-field.values.items) c.loop-field.invariant c.loop-field-test.false)
       ∙ ap (λ (ds : List Datum). Some (values.tuple (values.data_of ds))) (sym c.from_vec.ensures.value));
 }
 
@@ -185,7 +185,7 @@ add_message-returns-in_ok-push-in-Defined t c = record {
     one_message (fields_of (map types.seen_field c.args.fields.now)) c.args.depth c.args.bytes.now c.args.field.kind c.in-Span.field-0 c.in-Span.field-1
         c.in_ok-value-in-Span.field-0 c.in-Span.is c.in_ok-value-in-Span.ensures.value
         ∙ ap (λ (s : Slot). option_map (λ (d : Datum). d ∷ []) (seen_slot s)) c.in-Defined.is,
-    rw c.in_ok-push-in-Defined.ensures.items (map-append seen c.args.held.now.items _),
+    rw c.in_ok-push-in-Defined.ensures.items (map-append seen c.args.elements.now.items _),
   );
 }
 

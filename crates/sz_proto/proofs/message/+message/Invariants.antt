@@ -1,4 +1,4 @@
--- What is left goes on what is held, and a type is larger than those that it is built from.
+-- What is left goes on what was added, and a type is larger than those that it is built from.
 use Rattle.std.proofs.Common.{◌+◌, ◌*◌, ◌∷◌, [], map}
 use Rattle.sz_types.specs.Data.{fields_of}
 use Rattle.sz_types.specs.Seen as types
@@ -12,12 +12,12 @@ use Rattle.sz_proto.proofs.MessageLemmas.{ValuesFrom, shape_size, fields_size}
 use Rattle.sz_proto.proofs.message.+message.Given as goal
 
 abbrev pub invariant-values-loop-field : goal.invariant-values-loop-field
-invariant-values-loop-field l = ValuesFrom l.fields l.depth (map (field_in l.bytes) l.found) l.field-index (map seen l.held.items)
+invariant-values-loop-field l = ValuesFrom l.fields l.depth (map (field_in l.bytes) l.found) l.field-index (map seen l.values.items)
 
 abbrev pub invariant-messages-loop-field : goal.invariant-messages-loop-field
 invariant-messages-loop-field l =
     let one = message_each (λ payload. message_in (values_of (fields_of (map types.seen_field l.fields)) l.depth) l.depth (payload ∷ [])) in
-    GoesFrom one l.bytes l.run (in_all one (contents l.bytes l.run)) l.field-index (map seen l.held.items)
+    GoesFrom one l.bytes l.run (in_all one (contents l.bytes l.run)) l.field-index (map seen l.elements.items)
 
 abbrev pub decreases-message : goal.decreases-message
 decreases-message l = 3 * fields_size (fields_of (map types.seen_field l.fields.now)) + 1

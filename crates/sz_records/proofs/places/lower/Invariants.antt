@@ -1,5 +1,5 @@
 -- The places in front of this one are lowered.
-use Rattle.sz_records.proofs.HeldLemmas.{AreLowered}
+use Rattle.sz_records.proofs.EndsLemmas.{AreLowered}
 use Rattle.sz_records.proofs.places.lower.Given as goal
 
 abbrev pub invariant-loop-place : goal.invariant-loop-place

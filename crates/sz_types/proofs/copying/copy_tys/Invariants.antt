@@ -4,4 +4,4 @@ use Rattle.sz_types.specs.Seen.{seen}
 use Rattle.sz_types.proofs.copying.copy_tys.Given as goal
 
 abbrev pub invariant-loop-ty : goal.invariant-loop-ty
-invariant-loop-ty l = map seen l.held.items ≡ map seen (take l.ty-index l.ty-items)
+invariant-loop-ty l = map seen l.made.items ≡ map seen (take l.ty-index l.ty-items)

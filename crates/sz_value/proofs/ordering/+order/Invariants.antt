@@ -5,10 +5,10 @@ use Rattle.sz_value.proofs.ordering.+order.Given as goal
 
 abbrev pub invariant-order_lists-loop-i : goal.invariant-order_lists-loop-i
 invariant-order_lists-loop-i l =
-    list_order (drop l.i l.a-inside.held.items) (drop l.i l.b-inside.held.items)
-    ≡ list_order l.a-inside.held.items l.b-inside.held.items
+    list_order (drop l.i l.a-inside.values.items) (drop l.i l.b-inside.values.items)
+    ≡ list_order l.a-inside.values.items l.b-inside.values.items
 
 abbrev pub invariant-order_maps-loop-i : goal.invariant-order_maps-loop-i
 invariant-order_maps-loop-i l =
-    pairs_order (drop l.i l.a-inside.held.items) (drop l.i l.b-inside.held.items)
-    ≡ pairs_order l.a-inside.held.items l.b-inside.held.items
+    pairs_order (drop l.i l.a-inside.pairs.items) (drop l.i l.b-inside.pairs.items)
+    ≡ pairs_order l.a-inside.pairs.items l.b-inside.pairs.items

@@ -9,7 +9,7 @@ use Rattle.sz_value.proofs.pairs.gathered.Goals as goal
 
 pub loop-pair-init : goal.loop-pair-init
 unfolding IsStrictlySortedBy
-loop-pair-init c = rw c.in_ok-held.ensures.items (record { value = refl; rising = tt })
+loop-pair-init c = rw c.in_ok-made.ensures.items (record { value = refl; rising = tt })
 
 pub loop-pair-preserved : goal.loop-pair-preserved
 loop-pair-preserved c = record {

@@ -7,6 +7,6 @@ use Rattle.sz_value.proofs.pairs.gathered.Given as goal
 
 abbrev pub invariant-loop-pair : goal.invariant-loop-pair
 invariant-loop-pair l = record {
-  value : map seen_pair l.held.items ≡ with_pairs [] (map seen_pair l.yielded);
-  rising : KeysRise (map seen_pair l.held.items);
+  value : map seen_pair l.made.items ≡ with_pairs [] (map seen_pair l.yielded);
+  rising : KeysRise (map seen_pair l.made.items);
 }

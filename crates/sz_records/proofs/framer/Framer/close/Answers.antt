@@ -9,7 +9,7 @@ returns-then-is_empty c = record { finished = closes_empty c.args.self.now c.arg
 -- a last line, or the beginning of a delimited record
 pub returns-clause-finished : goal.returns-clause-finished
 returns-clause-finished c =
-    let some : 0 < length c.self.inside.held.items = search rules in
+    let some : 0 < length c.self.inside.pending.items = search rules in
     elim c.match-self.branch [
       | in-Lines+in_ok-push-in-Lines w ↦ rw (w.result-is, w.into-is) (line_closes _ c.args.self.now c.args.into.now w.push.new.self c.self.view_is c.requires w.in-Lines.is some
           (w.in_ok-push-in-Lines.ensures.value ∙ ap (λ (bytes : List ℕ). c.args.into.now ++ bytes ∷ []) w.as_slice.ensures.value))

@@ -1,5 +1,5 @@
 use Rattle.std.proofs.Common.{◌≡◌, ◌∷◌, length, get_or}
-use Rattle.sz_records.proofs.HeldLemmas.{ends_up_to, place_within, cleared, cleared_ends}
+use Rattle.sz_records.proofs.EndsLemmas.{ends_up_to, place_within, cleared, cleared_ends}
 use Rattle.sz_records.proofs.records.Records.clear.Goals as goal
 
 pub place_before-place-requires : goal.place_before-place-requires

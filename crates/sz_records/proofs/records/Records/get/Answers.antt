@@ -1,6 +1,6 @@
 use Rattle.std.proofs.Common.{◌≡◌, ◌∷◌, length, get_or, arith, rules}
 use Rattle.std.proofs.lemmas.List.{get_or_read}
-use Rattle.sz_records.proofs.HeldLemmas.{end_at, held_at, end_within}
+use Rattle.sz_records.proofs.EndsLemmas.{end_at, record_at, end_within}
 use Rattle.sz_records.proofs.records.Records.get.Goals as goal
 
 pub place_before-from-requires : goal.place_before-from-requires
@@ -29,4 +29,4 @@ returns c =
     let low = end_at c.args.self.now ends bytes c.args.i c.self.view_is c.requires.within in
     let to : c.index.result.now ≡ get_or ends c.args.i 0 = get_or_read ends c.args.i c.index.result.now low c.index.ensures 0 in
     let from : c.place_before-from.result ≡ get_or (0 ∷ ends) c.args.i 0 = rw c.as_slice.ensures.value at c.place_before-from.ensures.value in
-    record { value = rw (c.between.ensures.value, c.as_slice-2.ensures.value, to, from, ← c.self.view_is) (held_at 0 ends bytes c.args.i low) }
+    record { value = rw (c.between.ensures.value, c.as_slice-2.ensures.value, to, from, ← c.self.view_is) (record_at 0 ends bytes c.args.i low) }

@@ -1,5 +1,5 @@
 use Rattle.std.proofs.Common.{◌≡◌, ◌++◌, length, arith, rules, length-append}
-use Rattle.sz_records.proofs.HeldLemmas.{one_more, one_end_more}
+use Rattle.sz_records.proofs.EndsLemmas.{one_more, one_end_more}
 use Rattle.sz_records.proofs.records.Records.push.Goals as goal
 
 pub invariant_of-self-2 : goal.invariant_of-self-2

@@ -1,6 +1,6 @@
 use Rattle.std.proofs.Common.{◌≡◌, ◌≤◌, ◌∷◌, length, get_or, sym, ap, arith, rules}
 use Rattle.std.proofs.lemmas.List.{take_all}
-use Rattle.sz_records.proofs.HeldLemmas.{held_len, kept, kept_ends}
+use Rattle.sz_records.proofs.EndsLemmas.{records_len, kept, kept_ends}
 use Rattle.sz_records.proofs.records.Records.truncate.Goals as goal
 
 pub invariant_of-self : goal.invariant_of-self
@@ -30,5 +30,5 @@ returns-else-count-len c =
     let ends = c.self.inside.ends.items in
     let le : length ends ≤ c.args.count = (let lt = c.if-count-len.false in let n = c.len.ensures in search (rules, lt, n)) in
     let len = ap length c.self.view_is in
-    let held = held_len 0 ends c.self.inside.bytes.items in
-    record { value = sym (take_all c.args.count c.args.self.now (omega (arith, le, len, held))) }
+    let pending = records_len 0 ends c.self.inside.bytes.items in
+    record { value = sym (take_all c.args.count c.args.self.now (omega (arith, le, len, pending))) }

@@ -7,5 +7,5 @@ use Rattle.sz_scope.proofs.names.Names.find.Goals as goal
 -- the set answers the place of the first key with the name's bytes
 pub returns : goal.returns
 returns c = record {
-  value = c.get_index_of.ensures.index ∙ position_is string_bytes c.args.name.now c.self.inside.held.keys ∙ ap (place_of c.args.name.now) c.self.view_is;
+  value = c.get_index_of.ensures.index ∙ position_is string_bytes c.args.name.now c.self.inside.names.keys ∙ ap (place_of c.args.name.now) c.self.view_is;
 }

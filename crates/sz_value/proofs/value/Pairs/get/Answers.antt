@@ -6,7 +6,7 @@ use Rattle.sz_value.proofs.value.Pairs.get.Goals as goal
 
 pub returns-in-Ok : goal.returns-in-Ok
 returns-in-Ok c =
-    let found = value_found (seen c.args.key.now) c.self.inside.held.items c.in-Ok.place c.index.result.now (rw c.deref.ensures.value at c.in-Ok.ensures.found) in
+    let found = value_found (seen c.args.key.now) c.self.inside.pairs.items c.in-Ok.place c.index.result.now (rw c.deref.ensures.value at c.in-Ok.ensures.found) in
     record { value = rw (← c.self.view_is) (sym (rw (← c.index.ensures) at found)) }
 
 pub returns-in-Err : goal.returns-in-Err

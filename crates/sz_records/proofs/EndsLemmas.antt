@@ -5,7 +5,7 @@ use Rattle.std.specs.List.{slice_range, copy_within}
 use Rattle.std.proofs.lemmas.List.{take_all, take-append-le, take-append-drop, drop-append-le, drop-drop, length-take-le}
 use Rattle.std.proofs.Math.Seq.{drop-append_seam}
 use Rattle.std.proofs.lemmas.List.Edits.{take-paste}
-use Rattle.sz_records.specs.Held.{records_at, AreEnds}
+use Rattle.sz_records.specs.Ends.{records_at, AreEnds}
 
 -- what is left of a list whose rest was moved to its front
 pub left_later : {X : Type 0} (xs : List X) (k n : ℕ) → n ≡ length xs - k → k ≤ length xs → take n (copy_within xs k (length xs) 0) ≡ drop k xs
@@ -17,24 +17,24 @@ left_later xs k n e le =
     rw e (pasted ∙ take_all (length xs - k) (drop k xs) (omega (arith, rest)))
 
 -- as many records as ends
-pub held_len : (from : ℕ) (ends bytes : List ℕ) → length (records_at from ends bytes) ≡ length ends
-held_len from [] bytes = refl
-held_len from (end ∷ ends) bytes = ap suc (held_len end ends bytes)
+pub records_len : (from : ℕ) (ends bytes : List ℕ) → length (records_at from ends bytes) ≡ length ends
+records_len from [] bytes = refl
+records_len from (end ∷ ends) bytes = ap suc (records_len end ends bytes)
 
 pub end_at : (self : List (List ℕ)) (ends bytes : List ℕ) (i : ℕ) → records_at 0 ends bytes ≡ self → i < length self → i < length ends
-end_at self ends bytes i is lt = let n = ap length is in let m = held_len 0 ends bytes in omega (arith, lt, n, m)
+end_at self ends bytes i is lt = let n = ap length is in let m = records_len 0 ends bytes in omega (arith, lt, n, m)
 
 pub ends_up_to : (self : List (List ℕ)) (ends bytes : List ℕ) (i : ℕ) → records_at 0 ends bytes ≡ self → i ≤ length self → i ≤ length ends
-ends_up_to self ends bytes i is le = let n = ap length is in let m = held_len 0 ends bytes in omega (arith, le, n, m)
+ends_up_to self ends bytes i is le = let n = ap length is in let m = records_len 0 ends bytes in omega (arith, le, n, m)
 
 -- the bytes of a record lie between the end of the one before and its own
-pub held_at : (from : ℕ) (ends bytes : List ℕ) (i : ℕ) → i < length ends
+pub record_at : (from : ℕ) (ends bytes : List ℕ) (i : ℕ) → i < length ends
     → slice_get (records_at from ends bytes) i ≡ Some (slice_range bytes (get_or (from ∷ ends) i 0) (get_or ends i 0))
-held_at from [] bytes i lt = absurd (omega (arith, lt))
-held_at from (end ∷ ends) bytes zero lt = refl
-held_at from (end ∷ ends) bytes (suc i) lt = held_at end ends bytes i (omega (arith, lt))
+record_at from [] bytes i lt = absurd (omega (arith, lt))
+record_at from (end ∷ ends) bytes zero lt = refl
+record_at from (end ∷ ends) bytes (suc i) lt = record_at end ends bytes i (omega (arith, lt))
 
--- no end is after the last one
+-- no end lies after the last one
 pub ends_rise : (from : ℕ) (ends : List ℕ) (len : ℕ) → AreEnds from ends len → from ≤ len
 ends_rise from [] len h = omega (arith, h)
 ends_rise from (end ∷ ends) len h = let more = ends_rise end ends len h.1 in let low = h.0 in omega (arith, low, more)
@@ -51,28 +51,28 @@ place_within from [] len (suc i) h le = absurd (omega (arith, le))
 place_within from (end ∷ ends) len (suc i) h le = place_within end ends len i h.1 (omega (arith, le))
 
 -- the first records, and those after them
-pub first_held : (from : ℕ) (ends bytes : List ℕ) (n : ℕ) → take n (records_at from ends bytes) ≡ records_at from (take n ends) bytes
-first_held from ends bytes zero = refl
-first_held from [] bytes (suc n) = refl
-first_held from (end ∷ ends) bytes (suc n) = ap (λ (rs : List (List ℕ)). slice_range bytes from end ∷ rs) (first_held end ends bytes n)
+pub first_records : (from : ℕ) (ends bytes : List ℕ) (n : ℕ) → take n (records_at from ends bytes) ≡ records_at from (take n ends) bytes
+first_records from ends bytes zero = refl
+first_records from [] bytes (suc n) = refl
+first_records from (end ∷ ends) bytes (suc n) = ap (λ (rs : List (List ℕ)). slice_range bytes from end ∷ rs) (first_records end ends bytes n)
 
 pub first_ends : (from : ℕ) (ends : List ℕ) (len n : ℕ) → AreEnds from ends len → n ≤ length ends → AreEnds from (take n ends) (get_or (from ∷ ends) n 0)
 first_ends from ends len zero h le = refl
 first_ends from [] len (suc n) h le = absurd (omega (arith, le))
 first_ends from (end ∷ ends) len (suc n) h le = (h.0, first_ends end ends len n h.1 (omega (arith, le)))
 
-pub later_held : (from : ℕ) (ends bytes : List ℕ) (n : ℕ) → n ≤ length ends
+pub later_records : (from : ℕ) (ends bytes : List ℕ) (n : ℕ) → n ≤ length ends
     → drop n (records_at from ends bytes) ≡ records_at (get_or (from ∷ ends) n 0) (drop n ends) bytes
-later_held from ends bytes zero le = refl
-later_held from [] bytes (suc n) le = absurd (omega (arith, le))
-later_held from (end ∷ ends) bytes (suc n) le = later_held end ends bytes n (omega (arith, le))
+later_records from ends bytes zero le = refl
+later_records from [] bytes (suc n) le = absurd (omega (arith, le))
+later_records from (end ∷ ends) bytes (suc n) le = later_records end ends bytes n (omega (arith, le))
 
 pub later_ends : (from : ℕ) (ends : List ℕ) (len n : ℕ) → AreEnds from ends len → n ≤ length ends → AreEnds (get_or (from ∷ ends) n 0) (drop n ends) len
 later_ends from ends len zero h le = h
 later_ends from [] len (suc n) h le = absurd (omega (arith, le))
 later_ends from (end ∷ ends) len (suc n) h le = later_ends end ends len n h.1 (omega (arith, le))
 
--- what lies between two places is the same with more bytes after
+-- what lies between two places is the same with more bytes at the end
 same_range : (from end : ℕ) (bytes more : List ℕ) → from ≤ end → end ≤ length bytes → slice_range (bytes ++ more) from end ≡ slice_range bytes from end
 same_range from end bytes more low high =
     let rest = length-drop from bytes in
@@ -125,7 +125,7 @@ cleared ends bytes n place h le is =
     let here : records_at 0 (map (λ end. end - place) (drop n ends)) (drop place bytes) ≡ records_at place (drop n ends) bytes =
     subst (λ (k : ℕ). records_at k (map (λ end. end - place) (drop n ends)) (drop place bytes) ≡ records_at place (drop n ends) bytes) none
     (moved place (drop n ends) bytes place (length bytes) later (omega arith)) in
-    here ∙ rw is (sym (later_held 0 ends bytes n le))
+    here ∙ rw is (sym (later_records 0 ends bytes n le))
 
 pub cleared_ends : (ends bytes : List ℕ) (n place : ℕ) → AreEnds 0 ends (length bytes) → n ≤ length ends → place ≡ get_or (0 ∷ ends) n 0
     → AreEnds 0 (map (λ end. end - place) (drop n ends)) (length (drop place bytes))
@@ -148,7 +148,7 @@ pub kept : (ends bytes : List ℕ) (n place : ℕ) → AreEnds 0 ends (length by
     → records_at 0 (take n ends) (take place bytes) ≡ take n (records_at 0 ends bytes)
 kept ends bytes n place h le is =
     sym (more_after 0 (take n ends) (take place bytes) (drop place bytes) (kept_ends ends bytes n place h le is))
-    ∙ ap (records_at 0 (take n ends)) (take-append-drop place bytes) ∙ sym (first_held 0 ends bytes n)
+    ∙ ap (records_at 0 (take n ends)) (take-append-drop place bytes) ∙ sym (first_records 0 ends bytes n)
 
 -- the places in front of one are lowered, and the others are still to be
 abbrev pub AreLowered : ℕ → List ℕ → List ℕ → ℕ → Type 0
