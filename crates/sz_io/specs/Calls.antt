@@ -26,6 +26,12 @@ pub record ReadToEnd {F : Type 0} (files : Ghosts F) (old new : F) (name : List 
   pub none_left : IsAtEnd (files.left new file)
   pub told : IfSome (files.held old name) (λ _. IsSome (files.left new file))
 
+-- one file was opened since
+pub record OpensOne {F : Type 0} (files : Ghosts F) (old new : F) : Type 0 where
+  pub file : ℕ
+  pub not_before : IsTrue (files.given old file) → ⊥
+  pub given_now : IsTrue (files.given new file)
+
 -- how many bytes the sink took before the error
 abbrev pub bytes_taken : WriteError → ℕ
 bytes_taken (Write.Failed n) = n

@@ -4,7 +4,7 @@ ghost use Rattle.std.specs.Prelude.{IsTrue, IfOk, OnOk, OnErr, IfSome, IsErrOf};
 ghost use Rattle.std.specs.Io.KnownBytes.{Consumes, IsAtEnd};
 ghost use Rattle.sz_io.specs.Rose.{Rose};
 ghost use Rattle.sz_io.specs.Opened.{KeepsFiles, KeepsOtherFiles};
-ghost use Rattle.sz_io.specs.Calls.{NamesGain, ReadToEnd, ran_out};
+ghost use Rattle.sz_io.specs.Calls.{NamesGain, OpensOne, ReadToEnd, ran_out};
 
 use crate::{Failed, Files, OutsideError, ReadError};
 use std::alloc::{AllocError, Global};
@@ -28,6 +28,7 @@ pub fn read_whole<F: Files>(
     ensures names { NamesGain (ran_out result) (F.names files.old) (F.names files.new) name.now }
 
     ensures too_long { IsErrOf result ReadError.TooLong → IfSome (F.held files.old name.now) (λ held. limit < length held) }
+    ensures opened { IsErrOf result ReadError.TooLong → OpensOne F.Files files.old files.new }
     ensures failed { IsErrOf result ReadError.Failed → Rose (F.faults files.old) (F.faults files.new) }
 
     ensures kept { KeepsFiles F.held F.left F.given F.faults files.old files.new }
