@@ -2,7 +2,7 @@ pub mod ForCallers
 pub mod Moves
 pub mod Gets
 pub mod ListedLemmas
-pub mod HeldLemmas
+pub mod NamedLemmas
 pub mod PlacedLemmas
 pub mod PutLemmas
 pub mod PlanLemmas

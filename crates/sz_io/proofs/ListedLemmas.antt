@@ -29,7 +29,7 @@ listed_after fails call fits = at (nat_lt call (2 ^ 64 - 1)) refl where
       let none : listed_before call fails ≡ listed_before call fails + (if is_listed fails call then 1 else 0) = rw passes (omega arith) in
       ap (λ n. listed_before n fails) same ∙ none
 
--- a later call has as many faults after it or more
+-- a later call has as many faults before it or more
 pub listed_later : (fails : List ℕ) (call : ℕ) → call < 2 ^ 64 → listed_before call fails ≤ listed_before (min (call + 1) (2 ^ 64 - 1)) fails
 listed_later fails call fits = let next = listed_after fails call fits in omega (arith, next)
 

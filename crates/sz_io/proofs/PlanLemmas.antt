@@ -5,31 +5,31 @@ use Rattle.std.proofs.lemmas.Bool.{eqb-true, eqb-false}
 use Rattle.std.proofs.Math.ListN.{set}
 use Rattle.std.specs.List.{slice_get}
 use Rattle.std.specs.Option.{option_map, option_map_or}
-use Rattle.sz_io.specs.declared.held_file.HeldFile.{HeldFile}
-use Rattle.sz_io.specs.declared.held_file.Place.{Place}
-use Rattle.sz_io.specs.HeldFiles.{file_plan, plan_at, after_call, fails_next, is_next_listed, CallsOneFile}
+use Rattle.sz_io.specs.declared.named_file.NamedFile.{NamedFile}
+use Rattle.sz_io.specs.declared.named_file.Place.{Place}
+use Rattle.sz_io.specs.NamedFiles.{file_plan, plan_at, after_call, fails_next, is_next_listed, CallsOneFile}
 use Rattle.sz_io.specs.Rose.{faults_after}
 use Rattle.sz_io.specs.Placed.{ArePlaced}
 use Rattle.sz_io.proofs.Gets.{slice_get-push_old, slice_get-push_new, slice_get-push_other}
 
-plan_at-push_old : (files : List HeldFile) (file : HeldFile) (i : ℕ) → i < length files → plan_at (files ++ file ∷ []) i ≡ plan_at files i
+plan_at-push_old : (files : List NamedFile) (file : NamedFile) (i : ℕ) → i < length files → plan_at (files ++ file ∷ []) i ≡ plan_at files i
 plan_at-push_old files file i inside = ap (option_map file_plan) (slice_get-push_old files i file inside)
 
 -- a new file has its own plan
-pub plan_at-push_new : (files : List HeldFile) (file : HeldFile) → plan_at (files ++ file ∷ []) (length files) ≡ Some (file_plan file)
+pub plan_at-push_new : (files : List NamedFile) (file : NamedFile) → plan_at (files ++ file ∷ []) (length files) ≡ Some (file_plan file)
 plan_at-push_new files file = ap (option_map file_plan) (slice_get-push_new files file)
 
 -- there is no plan after the files
-pub plan_at-end : (files : List HeldFile) → plan_at files (length files) ≡ None
+pub plan_at-end : (files : List NamedFile) → plan_at files (length files) ≡ None
 plan_at-end [] = refl
 plan_at-end (f ∷ fs) = plan_at-end fs
 
 -- no other file has another plan
-pub plan_at-push_other : (files : List HeldFile) (file : HeldFile) (i : ℕ) → i ≢ length files → plan_at (files ++ file ∷ []) i ≡ plan_at files i
+pub plan_at-push_other : (files : List NamedFile) (file : NamedFile) (i : ℕ) → i ≢ length files → plan_at (files ++ file ∷ []) i ≡ plan_at files i
 plan_at-push_other files file i apart = ap (option_map file_plan) (slice_get-push_other files i file apart)
 
 -- an opened file has the plan that it had, after a push that may have failed
-pub plan-pushed : (files new : List HeldFile) (opened : List Place) (file : HeldFile) → ArePlaced files opened → (b : Bool) (number : ℕ)
+pub plan-pushed : (files new : List NamedFile) (opened : List Place) (file : NamedFile) → ArePlaced files opened → (b : Bool) (number : ℕ)
     → new ≡ (if b then files ++ file ∷ [] else files)
     → option_and_then (plan_at new) (option_map (λ place. place.file) (slice_get opened number))
     ≡ option_and_then (plan_at files) (option_map (λ place. place.file) (slice_get opened number))
@@ -45,7 +45,7 @@ plan-pushed files new opened file placed true number same =
       at (Some place) there = plan_at-push_old files file place.file (placed number place there).known
 
 -- a file that is there has a plan, which says whether its next call fails
-pub plan_known : (files : List HeldFile) (i : ℕ) → i < length files
+pub plan_known : (files : List NamedFile) (i : ℕ) → i < length files
     → option_map_or fails_next (plan_at files i) true ≡ is_next_listed files i
 plan_known [] i inside = absurd (omega arith)
 plan_known (f ∷ fs) zero inside = refl
@@ -58,7 +58,7 @@ faults_counted misses old new true more = omega (arith, more)
 faults_counted misses old new false same = omega (arith, same)
 
 -- a call on the file at a place, which is the file that it was made on
-module _ (old new : List HeldFile) (i : ℕ) (file : Option ℕ) (found : Some i ≡ file) (called : CallsOneFile old new i) where
+module _ (old new : List NamedFile) (i : ℕ) (file : Option ℕ) (found : Some i ≡ file) (called : CallsOneFile old new i) where
   pub file_fails : i < length old → option_map_or fails_next (option_and_then (plan_at old) file) true ≡ is_next_listed old i
   file_fails inside = ap (λ f. option_map_or fails_next (option_and_then (plan_at old) f) true) (sym found) ∙ plan_known old i inside
 

@@ -4,7 +4,7 @@ pub mod Opened
 pub mod Calls
 pub mod Listed
 pub mod MemSink
-pub mod HeldFiles
+pub mod NamedFiles
 pub mod MemFiles
 pub mod OsSink
 pub mod OsFiles

@@ -4,14 +4,14 @@ use Rattle.std.specs.Prelude.{List, [], length, map, string_bytes, Result, Ok, E
 use Rattle.std.specs.List.{slice_get}
 use Rattle.std.specs.Option.{option_map, option_map_or}
 use Rattle.sz_io.specs.Rose.{faults_after}
-use Rattle.sz_io.specs.HeldFiles.{Plan, place_in, held_in, left_in, faults_in, plan_at, after_call, fails_next}
+use Rattle.sz_io.specs.NamedFiles.{Plan, place_in, bytes_named, left_in, faults_in, plan_at, after_call, fails_next}
 use Rattle.sz_io.specs.declared.error.OutsideError.{OutsideError}
 use Rattle.sz_io.specs.declared.error.OutsideError.TheVariants.{Failed, NoMemory}
 use Rattle.sz_io.specs.declared.mem_files.MemFiles.{MemFiles}
 
 -- the bytes under a name
-abbrev pub held_bytes : MemFiles → List ℕ → Option (List ℕ)
-held_bytes files name = held_in files.files.items name
+abbrev pub bytes_under : MemFiles → List ℕ → Option (List ℕ)
+bytes_under files name = bytes_named files.files.items name
 
 -- the bytes that are left of an opened file
 abbrev pub left_bytes : MemFiles → ℕ → Option (List ℕ)
@@ -75,7 +75,7 @@ pub record OpensByPlan (old new : MemFiles) (name : List ℕ) (result : Result �
 
 -- no file is there, and none was opened
 pub record IsEmpty (files : MemFiles) : Type 0 where
-  pub holds_none : (name : List ℕ) → held_bytes files name ≡ None
+  pub holds_none : (name : List ℕ) → bytes_under files name ≡ None
   pub gave_none : (number : ℕ) → IsTrue (is_given files number) → ⊥
   pub opened_none : names_opened files ≡ []
   pub no_fault : files_faults files ≡ 0
@@ -89,20 +89,20 @@ pub record SameOpened (old new : MemFiles) : Type 0 where
   pub names_same : names_opened new ≡ names_opened old
   pub faults_same : files_faults new ≡ files_faults old
 
--- every name stands for the same file and holds what it held, and every plan is the same
+-- every name stands for the same file and has the bytes that it had, and every plan is the same
 pub record SameNames (old new : MemFiles) : Type 0 where
-  pub held_same : (name : List ℕ) → held_bytes new name ≡ held_bytes old name
+  pub held_same : (name : List ℕ) → bytes_under new name ≡ bytes_under old name
   pub files_same : (name : List ℕ) → file_of new name ≡ file_of old name
   pub plans_same : (file : ℕ) → plan_of new (Some file) ≡ plan_of old (Some file)
 
 -- The name stands for a new file, which has these bytes and this list and on which no call was made. Every other name
--- stands for the file that it stood for and holds what it held, and every other file has the plan that it had.
+-- stands for the file that it stood for and has the bytes that it had, and every other file has the plan that it had.
 pub record PutsFile (old new : MemFiles) (name bytes fails : List ℕ) : Type 0 where
   pub file : ℕ
   pub not_before : plan_of old (Some file) ≡ None
   pub file_now : file_of new name ≡ Some file
   pub plan_now : plan_of new (Some file) ≡ Some (record { calls = 0; fails = fails })
-  pub held_now : held_bytes new name ≡ Some bytes
-  pub others_same : (other : List ℕ) → other ≢ name → held_bytes new other ≡ held_bytes old other
+  pub bytes_now : bytes_under new name ≡ Some bytes
+  pub others_same : (other : List ℕ) → other ≢ name → bytes_under new other ≡ bytes_under old other
   pub other_files_same : (other : List ℕ) → other ≢ name → file_of new other ≡ file_of old other
   pub other_plans_same : (other : ℕ) → other ≢ file → plan_of new (Some other) ≡ plan_of old (Some other)

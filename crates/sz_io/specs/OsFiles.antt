@@ -22,8 +22,8 @@ module _ {R File Folder Input : Type 0} {reads : Reading.Ghosts File} {writes : 
   is_opened files number = nat_lt number (length files.opened.items)
 
   -- the bytes under a name are not told
-  abbrev pub told_held : OsFiles R File Folder Input reads writes seeks lists buffers enters → List ℕ → Option (List ℕ)
-  told_held files name = None
+  abbrev pub told_bytes : OsFiles R File Folder Input reads writes seeks lists buffers enters → List ℕ → Option (List ℕ)
+  told_bytes files name = None
 
   -- nor are the bytes that are left of an opened file
   abbrev pub told_left : OsFiles R File Folder Input reads writes seeks lists buffers enters → ℕ → Option (List ℕ)

@@ -4,10 +4,10 @@
 mod error;
 mod files;
 mod gate;
-mod held_file;
 mod listed;
 mod mem_files;
 mod mem_sink;
+mod named_file;
 mod os_files;
 mod os_sink;
 mod reading;

@@ -5,7 +5,7 @@ ghost use Rattle.sz_io.specs.Rose.{Rose};
 ghost use Rattle.sz_io.specs.Opened.{names_after, given_after, KeepsFiles, KeepsOtherFiles};
 ghost use Rattle.sz_io.specs.Placed.{ArePlaced};
 
-use crate::held_file::{HeldFile, Place, count_call, fails_next, find, read_at};
+use crate::named_file::{NamedFile, Place, count_call, fails_next, find, read_at};
 use crate::{Failed, Files, NoMemory, OutsideError};
 use std::alloc::Global;
 
@@ -15,7 +15,7 @@ const FIRST_ROOM: usize = 2;
 /// Files under names, each with a list of the calls on it that fail.
 pub struct MemFiles {
     alloc: Global,
-    files: Vec<HeldFile>,
+    files: Vec<NamedFile>,
     opened: Vec<Place>,
     names: Vec<String>,
     misses: u64,
@@ -59,7 +59,7 @@ impl MemFiles {
         ensures err { OnErr result (SameNames self.old self.new) }
         ensures kept { SameOpened self.old self.new }
     {
-        let file = HeldFile {
+        let file = NamedFile {
             name: String::from_str(self.alloc, name)?,
             bytes: Vec::from_slice(self.alloc, bytes)?,
             fails: Vec::from_slice(self.alloc, fails)?,
@@ -71,10 +71,10 @@ impl MemFiles {
 }
 
 impl Files for MemFiles {
-    ghost use Rattle.sz_io.specs.MemFiles.{held_bytes, left_bytes, is_given, names_opened, files_faults};
+    ghost use Rattle.sz_io.specs.MemFiles.{bytes_under, left_bytes, is_given, names_opened, files_faults};
     ghost use Rattle.sz_io.specs.MemFiles.{file_after, CallsFile, OpensByPlan};
 
-    ghost held = { held_bytes };
+    ghost held = { bytes_under };
 
     ghost left = { left_bytes };
 
@@ -89,11 +89,11 @@ impl Files for MemFiles {
         requires { length (names_opened self.old) < 128 }
 
         ensures fresh { IfOk result (λ file. IsTrue (is_given self.old file) → ⊥) }
-        ensures bytes { IfOk result (λ file. left_bytes self.new file ≡ held_bytes self.old name.now) }
+        ensures bytes { IfOk result (λ file. left_bytes self.new file ≡ bytes_under self.old name.now) }
         ensures given { (file : ℕ) → is_given self.new file ≡ given_after (is_given self.old) result file }
         ensures names { names_opened self.new ≡ names_after (names_opened self.old) name.now result }
         ensures failed { IsErrOf result OutsideError.Failed → Rose (files_faults self.old) (files_faults self.new) }
-        ensures kept { KeepsFiles held_bytes left_bytes is_given files_faults self.old self.new }
+        ensures kept { KeepsFiles bytes_under left_bytes is_given files_faults self.old self.new }
 
         ensures plan { OpensByPlan self.old self.new name.now result }
     {
@@ -124,7 +124,7 @@ impl Files for MemFiles {
         ensures within { IfOk result (λ n. n ≤ length into.new) }
         ensures bytes { ReadConsumes (left_bytes self.old file) (left_bytes self.new file) result into.new }
         ensures failed { OnErr result (Rose (files_faults self.old) (files_faults self.new)) }
-        ensures kept { KeepsOtherFiles held_bytes left_bytes is_given names_opened files_faults file self.old self.new }
+        ensures kept { KeepsOtherFiles bytes_under left_bytes is_given names_opened files_faults file self.old self.new }
 
         ensures plan { CallsFile self.old self.new (file_after self.old file) (is_err result) }
         ensures following { (number : ℕ) → file_after self.new number ≡ file_after self.old number }

@@ -10,11 +10,41 @@ use std::alloc::Global;
 use std::fs;
 use std::io::{Input, Read};
 
-/// An opened file, or standard input.
+/// An opened file, or standard input. It is closed as soon as nothing more is to be read of it.
 #[derive(Drop)]
 enum Source<R: fs::Files + Input> {
     Standard(R::Reader),
     File(R::File),
+    /// It was read to its end.
+    Ended,
+    /// A read of it failed.
+    Failed,
+}
+
+impl<R: fs::Files + Input> Source<R> {
+    /// Moves the next bytes to the front of `into`, and tells how many.
+    fn read(&mut self, into: &mut [u8]) -> Result<usize, Failed>
+        ensures within { IfOk result (λ n. n ≤ length into.new) }
+    {
+        let given = match self {
+            Source::Standard(reader) => reader.read(into),
+            Source::File(file) => file.read(into),
+            Source::Ended => return Ok(0),
+            Source::Failed => return Err(Failed),
+        };
+        match given {
+            Ok(count) => {
+                if count == 0 && !into.is_empty() {
+                    *self = Source::Ended;
+                }
+                Ok(count)
+            }
+            Err(_) => {
+                *self = Source::Failed;
+                Err(Failed)
+            }
+        }
+    }
 }
 
 /// The files of the system, and standard input under the name `-`.
@@ -47,9 +77,9 @@ impl<'a, R: fs::Files + Input> OsFiles<'a, R> {
 }
 
 impl<R: fs::Files + Input> Files for OsFiles<'_, R> {
-    ghost use Rattle.sz_io.specs.OsFiles.{system_names, system_faults, is_opened, told_held, told_left};
+    ghost use Rattle.sz_io.specs.OsFiles.{system_names, system_faults, is_opened, told_bytes, told_left};
 
-    ghost held = { told_held };
+    ghost held = { told_bytes };
 
     ghost left = { told_left };
 
@@ -64,11 +94,11 @@ impl<R: fs::Files + Input> Files for OsFiles<'_, R> {
         requires { length (system_names self.old) < 128 }
 
         ensures fresh { IfOk result (λ file. IsTrue (is_opened self.old file) → ⊥) }
-        ensures bytes { IfOk result (λ file. told_left self.new file ≡ told_held self.old name.now) }
+        ensures bytes { IfOk result (λ file. told_left self.new file ≡ told_bytes self.old name.now) }
         ensures given { (file : ℕ) → is_opened self.new file ≡ given_after (is_opened self.old) result file }
         ensures names { system_names self.new ≡ names_after (system_names self.old) name.now result }
         ensures failed { IsErrOf result OutsideError.Failed → Rose (system_faults self.old) (system_faults self.new) }
-        ensures kept { KeepsFiles told_held told_left is_opened system_faults self.old self.new }
+        ensures kept { KeepsFiles told_bytes told_left is_opened system_faults self.old self.new }
 
         ensures count { system_faults self.new ≡ faults_after_opening (system_faults self.old) result }
     {
@@ -99,20 +129,14 @@ impl<R: fs::Files + Input> Files for OsFiles<'_, R> {
         ensures within { IfOk result (λ n. n ≤ length into.new) }
         ensures bytes { ReadConsumes (told_left self.old file) (told_left self.new file) result into.new }
         ensures failed { OnErr result (Rose (system_faults self.old) (system_faults self.new)) }
-        ensures kept { KeepsOtherFiles told_held told_left is_opened system_names system_faults file self.old self.new }
+        ensures kept { KeepsOtherFiles told_bytes told_left is_opened system_names system_faults file self.old self.new }
 
         ensures count { system_faults self.new ≡ faults_after (system_faults self.old) (is_err result) }
     {
-        let given = match &mut self.opened[file as usize] {
-            Source::Standard(reader) => reader.read(into),
-            Source::File(file) => file.read(into),
-        };
-        match given {
-            Ok(count) => Ok(count),
-            Err(_) => {
-                self.faults = self.faults.saturating_add(1);
-                Err(Failed)
-            }
+        let given = self.opened[file as usize].read(into);
+        if given.is_err() {
+            self.faults = self.faults.saturating_add(1);
         }
+        given
     }
 }

@@ -1,8 +1,8 @@
 -- A file more at the end is the newest one of its name, and touches no opened one.
 use Rattle.std.proofs.Common.{◌∙◌, ◌+◌, ◌-◌, ◌^◌, min, length, Some, sym, ap, refl}
-use Rattle.sz_io.specs.HeldFiles.{held_in, plan_at, place_in}
+use Rattle.sz_io.specs.NamedFiles.{bytes_named, plan_at, place_in}
 use Rattle.sz_io.proofs.PlacedLemmas.{placed_pushed, left_in-pushed}
-use Rattle.sz_io.proofs.PutLemmas.{faults_in-pushed, place_in-put_same, place_in-put_other, held_in-put_same, held_in-put_other}
+use Rattle.sz_io.proofs.PutLemmas.{faults_in-pushed, place_in-put_same, place_in-put_other, bytes_named-put_same, bytes_named-put_other}
 use Rattle.sz_io.proofs.PlanLemmas.{plan_at-push_new, plan_at-push_other, plan_at-end, plan-pushed}
 use Rattle.sz_io.proofs.mem_files.MemFiles.put.Goals as goal
 
@@ -21,9 +21,9 @@ returns-clause-ok c =
       file_now = ap (λ l. place_in l c.args.name.now) grown ∙ place_in-put_same files _ _ named;
       plan_now = ap (λ l. plan_at l (length files)) grown ∙ plan_at-push_new files _
           ∙ ap (λ ks. Some (record { calls = 0; fails = ks })) c.in_ok-from_slice-2.ensures.items;
-      held_now = ap (λ l. held_in l c.args.name.now) grown ∙ held_in-put_same files _ _ named ∙ ap Some c.in_ok-from_slice.ensures.items;
+      bytes_now = ap (λ l. bytes_named l c.args.name.now) grown ∙ bytes_named-put_same files _ _ named ∙ ap Some c.in_ok-from_slice.ensures.items;
       others_same = λ other apart.
-          ap (λ l. held_in l other) grown ∙ held_in-put_other files _ other (λ same. apart (sym same ∙ named));
+          ap (λ l. bytes_named l other) grown ∙ bytes_named-put_other files _ other (λ same. apart (sym same ∙ named));
       other_files_same = λ other apart.
           ap (λ l. place_in l other) grown ∙ place_in-put_other files _ other (λ same. apart (sym same ∙ named));
       other_plans_same = λ other apart. ap (λ l. plan_at l other) grown ∙ plan_at-push_other files _ other apart;

@@ -4,9 +4,9 @@ use Rattle.std.proofs.lemmas.Bool.{ltb-true, lt-ltb}
 use Rattle.std.specs.List.{slice_get}
 use Rattle.std.specs.Option.{option_map}
 use Rattle.std.specs.Vec.{with_items}
-use Rattle.sz_io.specs.declared.held_file.Place.{Place}
-use Rattle.sz_io.specs.HeldFiles.{left_in, place_in, is_next_listed, faults_in}
-use Rattle.sz_io.proofs.PlacedLemmas.{called_in, placed_kept, placed_start, placed_opened, pushed_if, left_in-opened, left_in-before, held_in-called}
+use Rattle.sz_io.specs.declared.named_file.Place.{Place}
+use Rattle.sz_io.specs.NamedFiles.{left_in, place_in, is_next_listed, faults_in}
+use Rattle.sz_io.proofs.PlacedLemmas.{called_in, placed_kept, placed_start, placed_opened, pushed_if, left_in-opened, left_in-before, bytes_named-called}
 use Rattle.sz_io.proofs.PlanLemmas.{file_fails, file_counted, file_others, faults_counted, following-push}
 use Rattle.sz_io.proofs.mem_files.MemFilesFiles.open_file.Goals as goal
 
@@ -51,7 +51,7 @@ returns-clause-kept c =
     let pushed = pushed_if _ files.opened.items _ (record { file = c.in-Some.file; at = 0 }) succeeds c.push-2.ensures.items in
     let after = (with_items files.files c.count_call-2.new.files).items in
     record {
-      held_same = λ name. held_in-called files.files.items after _ name called;
+      held_same = λ name. bytes_named-called files.files.items after _ name called;
       left_same = λ number was.
           ap (λ l. left_in after l number) pushed
           ∙ left_in-before files.files.items after _ called files.opened.items _ number (ltb-true number (length files.opened.items) was);

@@ -6,9 +6,9 @@ use Rattle.std.proofs.lemmas.Bool.{ltb-true}
 use Rattle.std.specs.List.{slice_get}
 use Rattle.std.specs.Vec.{with_items}
 use Rattle.std.specs.Option.{option_map}
-use Rattle.sz_io.specs.HeldFiles.{CallsOneFile, is_next_listed, faults_in}
+use Rattle.sz_io.specs.NamedFiles.{CallsOneFile, is_next_listed, faults_in}
 use Rattle.sz_io.specs.Placed.{IsPlaced}
-use Rattle.sz_io.proofs.PlacedLemmas.{called_in, placed_in, placed_kept, placed_set, left_in-set_other, left_in-called, held_in-called}
+use Rattle.sz_io.proofs.PlacedLemmas.{called_in, placed_in, placed_kept, placed_set, left_in-set_other, left_in-called, bytes_named-called}
 use Rattle.sz_io.proofs.PlanLemmas.{file_fails, file_counted, file_others, faults_counted, following-set, listed_so}
 use Rattle.sz_io.proofs.mem_files.MemFilesFiles.read.Goals as goal
 
@@ -37,7 +37,7 @@ returns-clause-kept c =
     called_in files _ _ _ c.deref_mut.ensures.value c.read_at.ensures.call in
     let after = (with_items files c.read_at.new.files).items in
     record {
-      held_same = λ name. held_in-called files.items after _ name called;
+      held_same = λ name. bytes_named-called files.items after _ name called;
       left_same = λ other apart.
           left_in-set_other after opened c.args.file other c.read_at.new.place apart ∙ left_in-called files.items after opened _ other called;
       given_same = λ other. ap (nat_lt other) (length-set opened c.args.file c.read_at.new.place);

@@ -1,23 +1,23 @@
 //! The files that a device in memory holds, the newest last, and where an opened one stands.
 ghost use Rattle.std.specs.Prelude.{◌≡◌, ◌<◌, ◌≤◌, ◌-◌, min, length, take, ◌↔◌, IsTrue, IsErr, IfOk, IfSome};
 ghost use Rattle.std.specs.Io.KnownBytes.{ReadConsumes};
-ghost use Rattle.sz_io.specs.HeldFiles.{place_in, bytes_at, rest_of, is_next_listed, CallsOneFile};
+ghost use Rattle.sz_io.specs.NamedFiles.{place_in, bytes_at, rest_of, is_next_listed, CallsOneFile};
 ghost use Rattle.sz_io.specs.Placed.{IsPlaced};
 
 use crate::Failed;
 use crate::listed::is_listed;
 
 /// A file under a name, with the numbers of the calls on it that fail.
-pub struct HeldFile {
+pub struct NamedFile {
     pub name: String,
     pub bytes: Vec<u8>,
     pub fails: Vec<u64>,
     pub calls: u64,
 }
 
-impl Drop for HeldFile {
+impl Drop for NamedFile {
     fn drop(self) {
-        let HeldFile {
+        let NamedFile {
             name: _,
             bytes: _,
             fails: _,
@@ -34,7 +34,7 @@ pub struct Place {
 }
 
 /// The place of the newest file under the name.
-pub fn find(files: &[HeldFile], name: &str) -> Option<usize>
+pub fn find(files: &[NamedFile], name: &str) -> Option<usize>
     ensures value { result ≡ place_in files.now name.now }
     ensures within { IfSome result (λ file. file < length files.now) }
 {
@@ -47,7 +47,7 @@ pub fn find(files: &[HeldFile], name: &str) -> Option<usize>
 }
 
 /// Whether the next call on the file is to fail.
-pub fn fails_next(files: &[HeldFile], file: usize) -> bool
+pub fn fails_next(files: &[NamedFile], file: usize) -> bool
     requires { file < length files.now }
     ensures { result ≡ is_next_listed files.now file }
 {
@@ -55,7 +55,7 @@ pub fn fails_next(files: &[HeldFile], file: usize) -> bool
 }
 
 /// Counts a call on the file.
-pub fn count_call(files: &mut [HeldFile], file: usize)
+pub fn count_call(files: &mut [NamedFile], file: usize)
     requires { file < length files.old }
     ensures { CallsOneFile files.old files.new file }
 {
@@ -75,7 +75,7 @@ pub fn copy_front(from: &[u8], into: &mut [u8]) -> usize
 }
 
 /// Counts a read at the place, and moves the place after the bytes that it gives.
-pub fn read_at(files: &mut [HeldFile], place: &mut Place, into: &mut [u8]) -> Result<usize, Failed>
+pub fn read_at(files: &mut [NamedFile], place: &mut Place, into: &mut [u8]) -> Result<usize, Failed>
     requires { IsPlaced files.old place.old }
 
     ensures call { CallsOneFile files.old files.new place.old.file }

@@ -1,8 +1,8 @@
 -- Where the name stands, no later file has it.
 use Rattle.std.proofs.Common.{◌≡◌, ◌-◌, true, sym, ap, arith, ◌∙◌}
 use Rattle.std.specs.Str.{bytes_eq}
-use Rattle.sz_io.proofs.HeldLemmas.{found_at}
-use Rattle.sz_io.proofs.held_file.find.Goals as goal
+use Rattle.sz_io.proofs.NamedLemmas.{found_at}
+use Rattle.sz_io.proofs.named_file.find.Goals as goal
 
 pub returns-then-eq-clause-value : goal.returns-then-eq-clause-value
 returns-then-eq-clause-value c =

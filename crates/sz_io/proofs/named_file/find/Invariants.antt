@@ -1,7 +1,7 @@
 -- How far the search from the newest file has come.
 use Rattle.std.proofs.Common.{◌≡◌, None, drop}
-use Rattle.sz_io.specs.HeldFiles.{place_in}
-use Rattle.sz_io.proofs.held_file.find.Given as goal
+use Rattle.sz_io.specs.NamedFiles.{place_in}
+use Rattle.sz_io.proofs.named_file.find.Given as goal
 
 -- No file from here on has the name.
 abbrev pub invariant-loop-i : goal.invariant-loop-i

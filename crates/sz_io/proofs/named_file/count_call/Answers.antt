@@ -1,8 +1,8 @@
 -- The file at the place is as before, after one call more.
 use Rattle.std.proofs.Common.{refl, arith, get_or}
 use Rattle.std.proofs.lemmas.Option.{slice_get-get_or}
-use Rattle.sz_io.proofs.HeldLemmas.{counted}
-use Rattle.sz_io.proofs.held_file.count_call.Goals as goal
+use Rattle.sz_io.proofs.NamedLemmas.{counted}
+use Rattle.sz_io.proofs.named_file.count_call.Goals as goal
 
 pub returns : goal.returns
 returns c =

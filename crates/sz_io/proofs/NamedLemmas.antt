@@ -5,21 +5,21 @@ use Rattle.std.proofs.Math.ListN.{set, length-set}
 use Rattle.std.specs.List.{slice_get}
 use Rattle.std.specs.Option.{option_map, option_map_or}
 use Rattle.std.specs.Str.{bytes_eq}
-use Rattle.sz_io.specs.declared.held_file.HeldFile.{HeldFile}
+use Rattle.sz_io.specs.declared.named_file.NamedFile.{NamedFile}
 use Rattle.sz_io.specs.Listed.{listed_before, is_listed}
 use Rattle.std.proofs.lemmas.Option.{slice_get_within}
 use Rattle.sz_io.proofs.Gets.{slice_get-set_same, slice_get-set_other}
-use Rattle.sz_io.specs.HeldFiles.{file_plan, after_call, fails_next, or_else, place_in, bytes_at, faults_in, is_next_listed, CallsOneFile}
+use Rattle.sz_io.specs.NamedFiles.{file_plan, after_call, fails_next, or_else, place_in, bytes_at, faults_in, is_next_listed, CallsOneFile}
 use Rattle.sz_io.proofs.ListedLemmas.{listed_after}
 
 -- the same file, after one call more
-pub record IsCalled (old new : HeldFile) : Type 0 where
+pub record IsCalled (old new : NamedFile) : Type 0 where
   pub name : new.name ≡ old.name
   pub bytes : new.bytes ≡ old.bytes
   pub fails : new.fails ≡ old.fails
   pub calls : new.calls ≡ min (old.calls + 1) (2 ^ 64 - 1)
 
-place_in-set : (files : List HeldFile) (i : ℕ) (file new : HeldFile) (name : List ℕ) → slice_get files i ≡ Some file → new.name ≡ file.name
+place_in-set : (files : List NamedFile) (i : ℕ) (file new : NamedFile) (name : List ℕ) → slice_get files i ≡ Some file → new.name ≡ file.name
     → place_in (set files i new) name ≡ place_in files name
 place_in-set [] i file new name there same = cc
 place_in-set (f ∷ fs) zero file new name there same =
@@ -29,7 +29,7 @@ place_in-set (f ∷ fs) (suc i) file new name there same =
     let head = if bytes_eq (string_bytes f.name) name then Some 0 else None in
     ap (λ p. or_else (option_map (λ k. k + 1) p) head) (place_in-set fs i file new name there same)
 
-bytes_at-set : (files : List HeldFile) (i k : ℕ) (file new : HeldFile) → slice_get files i ≡ Some file → new.bytes ≡ file.bytes
+bytes_at-set : (files : List NamedFile) (i k : ℕ) (file new : NamedFile) → slice_get files i ≡ Some file → new.bytes ≡ file.bytes
     → bytes_at (set files i new) k ≡ bytes_at files k
 bytes_at-set [] i k file new there same = cc
 bytes_at-set (f ∷ fs) zero zero file new there same =
@@ -38,7 +38,7 @@ bytes_at-set (f ∷ fs) zero (suc k) file new there same = refl
 bytes_at-set (f ∷ fs) (suc i) zero file new there same = refl
 bytes_at-set (f ∷ fs) (suc i) (suc k) file new there same = bytes_at-set fs i k file new there same
 
-faults_in-set : (files : List HeldFile) (i : ℕ) (file new : HeldFile) → slice_get files i ≡ Some file
+faults_in-set : (files : List NamedFile) (i : ℕ) (file new : NamedFile) → slice_get files i ≡ Some file
     → faults_in (set files i new) + listed_before file.calls file.fails.items ≡ faults_in files + listed_before new.calls new.fails.items
 faults_in-set [] i file new there = cc
 faults_in-set (f ∷ fs) zero file new there =
@@ -49,7 +49,7 @@ faults_in-set (f ∷ fs) (suc i) file new there =
     let rest = faults_in-set fs i file new there in omega (arith, rest)
 
 -- one file is the same after one call more, and the others stay
-pub counted : (files : List HeldFile) (i : ℕ) (file new : HeldFile) → slice_get files i ≡ Some file → file.calls < 2 ^ 64
+pub counted : (files : List NamedFile) (i : ℕ) (file new : NamedFile) → slice_get files i ≡ Some file → file.calls < 2 ^ 64
     → IsCalled file new → CallsOneFile files (set files i new) i
 counted files i file new there fits called =
     let old_faults = listed_before file.calls file.fails.items in
@@ -72,7 +72,7 @@ counted files i file new there fits called =
     }
 
 -- a file found after the first i is found there
-pub found_after : (files : List HeldFile) (name : List ℕ) (i k : ℕ) → place_in (drop i files) name ≡ Some k
+pub found_after : (files : List NamedFile) (name : List ℕ) (i k : ℕ) → place_in (drop i files) name ≡ Some k
     → place_in files name ≡ Some (i + k)
 found_after files name zero k found = let e : 0 + k ≡ k = omega arith in rw e found
 found_after [] name (suc i) k found = cc
@@ -82,7 +82,7 @@ found_after (f ∷ fs) name (suc i) k found =
     rw rest (ap Some e)
 
 -- the name stands at i and at no later place
-pub found_at : (files : List HeldFile) (name : List ℕ) (i n : ℕ) (d : HeldFile) → i + 1 ≡ n → n ≤ length files
+pub found_at : (files : List NamedFile) (name : List ℕ) (i n : ℕ) (d : NamedFile) → i + 1 ≡ n → n ≤ length files
     → place_in (drop n files) name ≡ None → bytes_eq (string_bytes (get_or files i d).name) name ≡ true → Some i ≡ place_in files name
 found_at files name i n d next in_range later here =
     let inside : i < length files = omega arith in
