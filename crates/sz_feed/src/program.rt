@@ -19,6 +19,7 @@ emit hours <- q.hour;
 #[tactic(auto, unfolding(crate::specs::Program::program_text))]
 pub fn program_bytes() -> &'static [u8]
     ensures value { result.now ≡ program_text }
+    ensures constant { PROGRAM.now ≡ program_text }
 {
     PROGRAM.as_bytes()
 }

@@ -15,6 +15,7 @@ use Rattle.sz_records.specs.Fed.{FramerData, IsCutAfter, IsCutBy, IsOpen, HasRea
 use Rattle.sz_records.proofs.CutLemmas.{cut_stopped, cut_end}
 use Rattle.sz_records.proofs.StayLemmas.{ending_stays}
 use Rattle.sz_records.proofs.StandingLemmas.{never_whole, begun_within}
+use Rattle.sz_records.proofs.OpenLemmas.{fixes_none}
 
 -- what was cut off, with the ending that is known or the bytes that are kept back, goes on what was there
 cut_goes_on : (old new : Cutter) (pending taken left kept : List ℕ) (before after : List (List ℕ)) (ending : Option Ending)
@@ -96,18 +97,20 @@ feeds {old} {new} {piece} {before} {after} t = λ frame limits fed given h. (
     let goes : (more : List ℕ) (rs : List (List ℕ)) (e : Ending) → IsCutBy new more rs e
     → IsCut frame limits 0 0 (fed ++ piece ++ more) (given ++ t.added ++ rs) e =
     λ more rs e k. rw (append_assoc fed piece more, append_assoc given t.added rs) (h.goes_on (piece ++ more) (t.added ++ rs) e (t.goes_on more rs e k)) in
+    let read : HasRead frame limits new (fed ++ piece) (given ++ t.added) = record {
+      goes_on = goes;
+      nothing_whole = t.nothing_whole h.nothing_whole;
+      same_limits = t.same_limits ∙ h.same_limits;
+      reached = λ none. (let r = t.reached none in omega (arith, r.1, h.reached r.0, length-append fed piece));
+      early = t.early h.early;
+    } in
     record {
       added = t.added;
       gained = t.gained;
-      read = record {
-        goes_on = goes;
-        nothing_whole = t.nothing_whole h.nothing_whole;
-        same_limits = t.same_limits ∙ h.same_limits;
-        reached = λ none. (let r = t.reached none in omega (arith, r.1, h.reached r.0, length-append fed piece));
-        early = t.early h.early;
-      };
+      read = read;
       fixed = λ e is more. (let cut = goes more [] e (whatever_comes new.cutter new.pending new.ended e is more) in
           rw (append-nil (given ++ t.added)) at cut);
+      unfixed = fixes_none frame limits new (fed ++ piece) (given ++ t.added) read;
     })
 
 -- the file ends where its ending is known

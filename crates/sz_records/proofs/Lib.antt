@@ -5,5 +5,6 @@ pub mod StayLemmas
 pub mod CutLemmas
 pub mod FedLemmas
 pub mod CutLaws
+pub mod OpenLemmas
 pub mod ScanLemmas
 pub mod ShardLemmas

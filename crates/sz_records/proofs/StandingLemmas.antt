@@ -150,3 +150,14 @@ begun_within frame limits p n (b ∷ bytes) low e = by frame (ltb n limits.recor
     by frame false e = absurd cc
     by Lines true e = let within = line_within limits p (b ∷ bytes) e in omega (arith, within)
     by Delimited true e = length_within limits p (b ∷ bytes) (varint_at (b ∷ bytes)) low e
+
+-- and where records are lines, all of it does
+pub lines_within : (limits : FrameLimits) (p n : ℕ) (bytes : List ℕ) → p ≤ limits.input_bytes → standing Lines limits p n bytes ≡ unfinished
+    → p + length bytes ≤ limits.input_bytes
+unfolding standing frame_standing
+lines_within limits p n [] low e = omega (arith, low)
+lines_within limits p n (b ∷ bytes) low e = by (ltb n limits.records) e
+  where
+    by : (t : Bool) → cond t (line_standing limits p (b ∷ bytes)) (stopped (Limit p)) ≡ unfinished → p + length (b ∷ bytes) ≤ limits.input_bytes
+    by false e = absurd cc
+    by true e = line_within limits p (b ∷ bytes) e

@@ -40,13 +40,19 @@ pub record HasRead (frame : Frame) (limits : FrameLimits) (framer : FramerData) 
 abbrev pub Fixes : Frame → FrameLimits → List ℕ → List (List ℕ) → Ending → Type 0
 Fixes frame limits fed given e = (more : List ℕ) → IsCut frame limits 0 0 (fed ++ more) given e
 
--- a piece was fed, and records were added: the records of a file whose bytes so far are those and the piece
+-- each file that begins with these bytes has this ending
+abbrev pub EndsSo : Frame → FrameLimits → List ℕ → Ending → Type 0
+EndsSo frame limits fed e = (more : List ℕ) → (rs : List (List ℕ)) × IsCut frame limits 0 0 (fed ++ more) rs e
+
+-- A piece was fed, and records were added: the records of a file whose bytes so far are those and the piece. An ending is answered exactly
+-- where those bytes fix one
 pub record Adds (frame : Frame) (limits : FrameLimits) (framer : FramerData) (fed : List ℕ) (given before after : List (List ℕ))
     (ended : Option Ending) : Type 0 where
   pub added : List (List ℕ)
   pub gained : after ≡ before ++ added
   pub read : HasRead frame limits framer fed (given ++ added)
   pub fixed : (e : Ending) → ended ≡ Some e → Fixes frame limits fed (given ++ added) e
+  pub unfixed : ended ≡ None → (e : Ending) → EndsSo frame limits fed e → ⊥
 
 -- the piece is read, whatever was read before it
 abbrev pub Feeds : FramerData → FramerData → List ℕ → List (List ℕ) → List (List ℕ) → Option Ending → Type 0

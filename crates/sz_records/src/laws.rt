@@ -1,9 +1,10 @@
 //! Laws of the definitions, each a function that does nothing and whose contract is the law.
-ghost use Rattle.std.specs.Prelude.{◌≡◌, ◌≤◌, ℕ, List, length};
+ghost use Rattle.std.specs.Prelude.{◌≡◌, ◌≤◌, ℕ, List, length, None};
 ghost use Rattle.sz_types.specs.declared.frame.Frame.{Frame};
 ghost use Rattle.sz_records.specs.declared.ending.Ending.{Ending};
 ghost use Rattle.sz_records.specs.declared.limits.FrameLimits.{FrameLimits};
 ghost use Rattle.sz_records.specs.Cutting.{IsCut, HasCut};
+ghost use Rattle.sz_records.specs.Fed.{FramerData, HasRead, EndsSo};
 
 /// Each file is cut in just one way.
 pub fn each_file_is_cut_once()
@@ -17,4 +18,10 @@ pub fn each_file_is_cut_once()
 pub fn records_are_few()
     ensures few { (frame : Frame) (limits : FrameLimits) (file : List ℕ) (records : List (List ℕ)) (ending : Ending)
         → IsCut frame limits 0 0 file records ending → length records ≤ limits.records }
+{}
+
+/// Bytes after which a framer knows no ending fix none: files that begin with them end in more than one way.
+pub fn what_is_unfinished_fixes_no_ending()
+    ensures none { (frame : Frame) (limits : FrameLimits) (framer : FramerData) (fed : List ℕ) (given : List (List ℕ)) (ending : Ending)
+        → HasRead frame limits framer fed given → framer.ended ≡ None → EndsSo frame limits fed ending → ⊥ }
 {}
