@@ -1,5 +1,6 @@
 pub mod ForCallers
 pub mod ListLemmas
+pub mod PartLemmas
 pub mod TurnLemmas
 pub mod CandidateLemmas
 pub mod CallLemmas

@@ -1,8 +1,10 @@
 -- What is made of operands whose values are at hand.
-use Rattle.std.specs.Prelude.{◌≡◌, List, [], ◌∷◌, Option, Some, None, option_map}
+use Rattle.std.specs.Prelude.{◌≡◌, ℕ, ◌+◌, ◌-◌, ◌^◌, min, List, [], ◌∷◌, Option, Some, None, option_map}
 use Rattle.sz_value.specs.Data.{Datum, array, tuple, mapping, data_of, entries_of}
 use Rattle.sz_world_rules.specs.Slots.{Slot}
+use Rattle.sz_value.specs.Weight.{data_weight}
 use Rattle.sz_world_rules.specs.Operations.{with_pairs}
+use Rattle.sz_world_rules.specs.Ticks.{result_weight}
 
 -- the array of these elements, if they are all defined
 abbrev pub array_of_all : Option (List Datum) → Slot
@@ -37,3 +39,13 @@ left_over (key ∷ value ∷ rest) = left_over rest
 pub record ArePaired (parts : List Datum) (pairs : List (Datum × Datum)) (key : Option Datum) : Type 0 where
   pub paired : pairs ≡ by_turns parts
   pub waits : key ≡ left_over parts
+
+-- what slots weigh together: an undefined one weighs nothing
+abbrev pub slots_weight : List Slot → ℕ
+slots_weight [] = 0
+slots_weight (x ∷ xs) = result_weight x + slots_weight xs
+
+-- what an array or a tuple of these parts weighs, if they are all defined; else there is none, and it weighs nothing
+abbrev pub composite_weight : Option (List Datum) → ℕ
+composite_weight None = 0
+composite_weight (Some ds) = min (1 + data_weight (data_of ds)) (2 ^ 64 - 1)

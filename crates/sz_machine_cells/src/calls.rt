@@ -1,5 +1,5 @@
 //! The routine that runs, and those that wait.
-ghost use Rattle.std.specs.Prelude.{◌≡◌, ◌<◌, ◌≤◌, [], ◌∷◌, length, drop, slice_get, slice_set, Some, None, IfOk, OnOk, IsOkAnd};
+ghost use Rattle.std.specs.Prelude.{◌≡◌, ◌<◌, ◌≤◌, [], ◌∷◌, length, drop, slice_get, slice_set, Some, None, IfOk, OnErr, OnOk, IsOkAnd};
 ghost use Rattle.std.specs.Prelude.{◌++◌, ◌-◌, ◌^◌, not};
 ghost use Rattle.sz_world_rules.specs.Slots.{undefined_slots};
 ghost use Rattle.sz_machine_rules.specs.States.{popped};
@@ -125,6 +125,7 @@ impl Calls {
     /// Adds a candidate list.
     pub fn add_list(&mut self, list: Candidates) -> Result<(), NoMemory>
         ensures value { OnOk result (self.new ≡ record self.old { lists = list ∷ self.old.lists }) }
+        ensures err { OnErr result (self.new ≡ self.old) }
     {
         self.lists.push(list)?;
         Ok(())

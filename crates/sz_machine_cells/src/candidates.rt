@@ -68,7 +68,7 @@ impl Candidates {
         match base.kind() {
             Kind::Array(list) => Ok(numbers(slice, list_len(list))),
             Kind::Str(text) => Ok(numbers(slice, counted(text.as_str()))),
-            Kind::Bytes(held) => Ok(numbers(slice, held.len())),
+            Kind::Bytes(contents) => Ok(numbers(slice, contents.len())),
             Kind::Map(pairs) if !slice => keys(alloc, pairs.as_slice()),
             _ => Ok(Candidates::none()),
         }

@@ -1,4 +1,4 @@
-//! Cells: what an operand or a local is held in. Nothing above knows their form.
+//! Cells: what an operand or a local lies in. Nothing above knows their form.
 ghost use Rattle.std.specs.Prelude.{◌≡◌, IfOk, IfSome, OnOk, Some, None, option_map, is_some, take, drop};
 ghost use Rattle.sz_value.specs.Data.{truth, int, bytes};
 ghost use Rattle.sz_value.specs.Seen.{seen, seen_slot};
@@ -18,7 +18,7 @@ use sz_value::{NoMemory, Octets, Slot, Value, copy};
 /// Contracts see the slot that it is: plain data, or none where it is undefined.
 #[derive(Drop)]
 pub struct Cell {
-    pub(crate) held: Form,
+    pub(crate) form: Form,
 }
 
 /// What lies in a cell.
@@ -52,7 +52,7 @@ impl Model for Cell {
 
     ghost use Rattle.sz_machine_cells.specs.Cells.{slot_of};
 
-    ghost view = { λ cell. slot_of cell.held };
+    ghost view = { λ cell. slot_of cell.form };
 }
 
 impl Cell {
@@ -62,7 +62,7 @@ impl Cell {
         ensures value { result ≡ None }
     {
         Cell {
-            held: Form::Undefined,
+            form: Form::Undefined,
         }
     }
 
@@ -72,7 +72,7 @@ impl Cell {
         ensures value { result ≡ Some (truth value) }
     {
         Cell {
-            held: Form::Bool(value),
+            form: Form::Bool(value),
         }
     }
 
@@ -82,7 +82,7 @@ impl Cell {
         ensures value { result ≡ Some (int number) }
     {
         Cell {
-            held: Form::Int(number),
+            form: Form::Int(number),
         }
     }
 
@@ -106,7 +106,7 @@ impl Cell {
             Value::Bool(truth) => Ok(Cell::of_bool(*truth)),
             Value::Int(number) => Ok(Cell::of_int(*number)),
             Value::Time(number) => Ok(Cell {
-                held: Form::Time(*number),
+                form: Form::Time(*number),
             }),
             _ => Cell::shared(alloc, value),
         }
@@ -118,7 +118,7 @@ impl Cell {
         ensures value { IfOk result (λ made. made ≡ Some (seen value)) }
     {
         Ok(Cell {
-            held: Form::Shared(Rc::new(alloc, value)?),
+            form: Form::Shared(Rc::new(alloc, value)?),
         })
     }
 
@@ -131,7 +131,7 @@ impl Cell {
             Value::Bool(truth) => Ok(Cell::of_bool(*truth)),
             Value::Int(number) => Ok(Cell::of_int(*number)),
             Value::Time(number) => Ok(Cell {
-                held: Form::Time(*number),
+                form: Form::Time(*number),
             }),
             owner => Cell::apart(alloc, owner),
         }
@@ -172,7 +172,7 @@ impl Cell {
     pub fn is_defined(&self) -> bool
         ensures value { result ≡ is_some self.now }
     {
-        match &self.held {
+        match &self.form {
             Form::Undefined => false,
             _ => true,
         }
@@ -183,7 +183,7 @@ impl Cell {
     pub fn truth(&self) -> Option<bool>
         ensures value { result ≡ truth_of self.now }
     {
-        match &self.held {
+        match &self.form {
             Form::Bool(value) => Some(*value),
             Form::Shared(shared) => match shared.as_ref() {
                 Value::Bool(value) => Some(*value),
@@ -198,7 +198,7 @@ impl Cell {
     pub fn int(&self) -> Option<i64>
         ensures value { IfSome result (λ number. self.now ≡ Some (int number)) }
     {
-        match &self.held {
+        match &self.form {
             Form::Int(number) => Some(*number),
             _ => None,
         }
@@ -209,7 +209,7 @@ impl Cell {
     pub fn view(&self) -> Option<View<'_>>
         ensures value { option_map (λ view. seen_view view) result ≡ self.now }
     {
-        match &self.held {
+        match &self.form {
             Form::Undefined => None,
             Form::Bool(value) => Some(View::Bool(*value)),
             Form::Int(number) => Some(View::Int(*number)),
@@ -217,7 +217,7 @@ impl Cell {
             Form::Shared(shared) => Some(View::Whole(shared.as_ref())),
             Form::Buffer(buffer) => Some(View::Bytes(buffer.as_ref().as_slice())),
             Form::Part(count, before, buffer) => {
-                Some(View::Bytes(part_held(*count, *before, buffer)))
+                Some(View::Bytes(part_bytes(*count, *before, buffer)))
             }
         }
     }
@@ -227,7 +227,7 @@ impl Cell {
     pub fn into_value(self, alloc: Global) -> Result<Option<Value>, NoMemory>
         ensures value { IfOk result (λ value. option_map seen value ≡ self) }
     {
-        match self.held {
+        match self.form {
             Form::Undefined => Ok(None),
             Form::Bool(value) => Ok(Some(Value::Bool(value))),
             Form::Int(number) => Ok(Some(Value::Int(number))),
@@ -238,7 +238,7 @@ impl Cell {
                 Ok(Some(Value::Bytes(octets)))
             }
             Form::Part(count, before, buffer) => {
-                let octets = Octets::from_slice(alloc, part_held(count, before, &buffer))?;
+                let octets = Octets::from_slice(alloc, part_bytes(count, before, &buffer))?;
                 Ok(Some(Value::Bytes(octets)))
             }
         }
@@ -259,7 +259,7 @@ impl Cell {
     pub fn copy(&self) -> Result<Cell, NoMemory>
         ensures value { IfOk result (λ made. made ≡ self.now) }
     {
-        let held = match &self.held {
+        let form = match &self.form {
             Form::Undefined => Form::Undefined,
             Form::Bool(value) => Form::Bool(*value),
             Form::Int(number) => Form::Int(*number),
@@ -268,7 +268,7 @@ impl Cell {
             Form::Buffer(buffer) => Form::Buffer(buffer.clone()?),
             Form::Part(count, before, buffer) => Form::Part(*count, *before, buffer.clone()?),
         };
-        Ok(Cell { held })
+        Ok(Cell { form })
     }
 
     /// A cell of a copy of the bytes, of which parts can be had without memory.
@@ -277,7 +277,7 @@ impl Cell {
     {
         let buffer = Vec::from_slice(alloc, octets)?;
         Ok(Cell {
-            held: Form::Buffer(Rc::new(alloc, buffer)?),
+            form: Form::Buffer(Rc::new(alloc, buffer)?),
         })
     }
 
@@ -294,15 +294,15 @@ impl Cell {
             return Cell::of_bytes(alloc, lying(buffer.as_ref().as_slice(), before, count));
         }
         Ok(Cell {
-            held: Form::Part(count as u16, before as u32, buffer.clone()?),
+            form: Form::Part(count as u16, before as u32, buffer.clone()?),
         })
     }
 
-    /// Holds a copy of the bytes from now on. The buffer in which the cell held bytes serves again, unless another shares it.
+    /// Holds a copy of the bytes from now on. The buffer in which the cell had bytes serves again, unless another shares it.
     pub fn set_bytes(&mut self, alloc: Global, octets: &[u8]) -> Result<(), NoMemory>
         ensures value { OnOk result (self.new ≡ Some (bytes octets.now)) }
     {
-        if let Form::Buffer(buffer) = &mut self.held
+        if let Form::Buffer(buffer) = &mut self.form
             && let Some(place) = Rc::get_mut(buffer)
         {
             return refill(place, octets);
@@ -323,7 +323,7 @@ fn refill(place: &mut Vec<u8>, octets: &[u8]) -> Result<(), NoMemory>
 
 // The bytes of a part of a buffer.
 #[inline(always)]
-pub(crate) fn part_held(count: u16, before: u32, buffer: &Rc<Vec<u8>>) -> &[u8]
+pub(crate) fn part_bytes(count: u16, before: u32, buffer: &Rc<Vec<u8>>) -> &[u8]
     ensures value { result.now ≡ take count (drop before buffer.now.value.items) }
 {
     lying(buffer.as_ref().as_slice(), before as usize, count as usize)

@@ -1,12 +1,14 @@
 //! The operands of a run.
-ghost use Rattle.std.specs.Prelude.{◌≡◌, ◌≤◌, ◌<◌, [], ◌∷◌, length, drop, ◌++◌, is_some, IfOk, IfSome, OnOk, Some};
+ghost use Rattle.std.specs.Prelude.{◌≡◌, ◌≤◌, ◌<◌, ◌+◌, IfNone, true, [], ◌∷◌, length, drop, ◌++◌, is_some, IfOk, IfSome, OnOk, OnErr, Some};
 ghost use Rattle.std.specs.List.{list_all};
 ghost use Rattle.sz_value.specs.Data.{int};
 ghost use Rattle.sz_world_rules.specs.Slots.{all_defined};
 ghost use Rattle.sz_machine_rules.specs.States.{popped};
-ghost use Rattle.sz_machine_cells.specs.Results.{defined_of};
+ghost use Rattle.sz_world_rules.specs.Emits.{weight_if_all};
+ghost use Rattle.sz_machine_cells.specs.Results.{defined_of, slots_weight, composite_weight};
 
 use crate::cell::Cell;
+use crate::weights::result_weight;
 use std::alloc::Global;
 use std::marker::Model;
 use sz_value::{List, NoMemory};
@@ -15,12 +17,12 @@ use sz_value::{List, NoMemory};
 ///
 /// Contracts see the list of their slots, the topmost first.
 pub struct Operands {
-    held: Vec<Cell>,
+    cells: Vec<Cell>,
 }
 
 impl Drop for Operands {
     fn drop(self) {
-        let Operands { held: _ } = self;
+        let Operands { cells: _ } = self;
     }
 }
 
@@ -33,7 +35,7 @@ impl Model for Operands {
 
     ghost coded = { slots_code };
 
-    ghost view = { λ operands. reverse operands.held.items };
+    ghost view = { λ operands. reverse operands.cells.items };
 }
 
 impl Operands {
@@ -42,7 +44,7 @@ impl Operands {
         ensures value { result ≡ [] }
     {
         Operands {
-            held: Vec::new(alloc),
+            cells: Vec::new(alloc),
         }
     }
 
@@ -50,7 +52,7 @@ impl Operands {
     pub fn clear(&mut self)
         ensures value { self.new ≡ [] }
     {
-        self.held.clear();
+        self.cells.clear();
     }
 
     /// How many operands there are.
@@ -58,15 +60,16 @@ impl Operands {
     pub fn len(&self) -> usize
         ensures value { result ≡ length self.now }
     {
-        self.held.len()
+        self.cells.len()
     }
 
     /// Puts the cell on top.
     #[inline(always)]
     pub fn push(&mut self, cell: Cell) -> Result<(), NoMemory>
         ensures ok { OnOk result (self.new ≡ cell ∷ self.old) }
+        ensures err { OnErr result (self.new ≡ self.old) }
     {
-        self.held.push(cell)?;
+        self.cells.push(cell)?;
         Ok(())
     }
 
@@ -76,7 +79,7 @@ impl Operands {
         requires some { 0 < length self.old }
         ensures value { self.old ≡ result ∷ self.new }
     {
-        match self.held.pop() {
+        match self.cells.pop() {
             Some(cell) => cell,
             None => unreachable!(),
         }
@@ -88,7 +91,7 @@ impl Operands {
         requires some { 0 < length self.now }
         ensures value { self.now ≡ result.now ∷ drop 1 self.now }
     {
-        &self.held[self.held.len() - 1]
+        &self.cells[self.cells.len() - 1]
     }
 
     /// The two topmost operands, the upper one last, if both are whole numbers that lie in their cells.
@@ -97,8 +100,8 @@ impl Operands {
         requires some { 1 < length self.now }
         ensures value { IfSome result (λ two. self.now ≡ Some (int two.1) ∷ Some (int two.0) ∷ drop 2 self.now) }
     {
-        let count = self.held.len();
-        match (self.held[count - 2].int(), self.held[count - 1].int()) {
+        let count = self.cells.len();
+        match (self.cells[count - 2].int(), self.cells[count - 1].int()) {
             (Some(a), Some(b)) => Some((a, b)),
             _ => None,
         }
@@ -110,9 +113,9 @@ impl Operands {
         requires some { 1 < length self.old }
         ensures value { self.new ≡ cell ∷ drop 2 self.old }
     {
-        let place = self.held.len() - 2;
-        let _upper = self.held.pop();
-        self.held[place] = cell;
+        let place = self.cells.len() - 2;
+        let _upper = self.cells.pop();
+        self.cells[place] = cell;
     }
 
     /// Takes so many topmost operands off.
@@ -120,8 +123,8 @@ impl Operands {
         requires within { count ≤ length self.old }
         ensures value { self.new ≡ drop count self.old }
     {
-        let kept = self.held.len() - count;
-        self.held.truncate(kept);
+        let kept = self.cells.len() - count;
+        self.cells.truncate(kept);
     }
 
     /// Whether so many topmost operands are all defined.
@@ -129,19 +132,40 @@ impl Operands {
         requires within { count ≤ length self.now }
         ensures value { result ≡ is_some (all_defined (popped count self.now)) }
     {
-        let from = self.held.len() - count;
-        all_defined(&self.held[from..])
+        let from = self.cells.len() - count;
+        all_defined(&self.cells[from..])
     }
 
-    /// Moves so many topmost operands after the cells, the upmost one last.
+    /// What so many topmost operands weigh together, if that is no more than `most`. Where one of them is undefined they weigh nothing.
+    /// They are weighed where they are, and no further than `most`.
+    pub fn parts_weight(&self, count: usize, most: u64) -> Option<u64>
+        requires within { count ≤ length self.now }
+        ensures some { IfSome result (λ weight. (weight ≡ weight_if_all (all_defined (popped count self.now))) × (weight ≤ most)) }
+        ensures none { IfNone result (most < weight_if_all (all_defined (popped count self.now))) }
+    {
+        let from = self.cells.len() - count;
+        parts_weight(&self.cells[from..], most)
+    }
+
+    /// What an array or a tuple of so many topmost operands weighs, if that is no more than `most`, in the same way.
+    pub fn composite_weight(&self, count: usize, most: u64) -> Option<u64>
+        requires within { count ≤ length self.now }
+        ensures some { IfSome result (λ weight. (weight ≡ composite_weight (all_defined (popped count self.now))) × (weight ≤ most)) }
+        ensures none { IfNone result (most < composite_weight (all_defined (popped count self.now))) }
+    {
+        let from = self.cells.len() - count;
+        composite_weight(&self.cells[from..], most)
+    }
+
+    /// Moves so many topmost operands to the end of the cells, the upmost one last.
     pub fn move_to(&mut self, count: usize, cells: &mut Vec<Cell>) -> Result<(), NoMemory>
         requires within { count ≤ length self.old }
         ensures rest { OnOk result (self.new ≡ drop count self.old) }
         ensures moved { OnOk result (cells.new.items ≡ cells.old.items ++ popped count self.old) }
         ensures grows { length cells.old.items ≤ length cells.new.items }
     {
-        let from = self.held.len() - count;
-        let mut moved = self.held.split_off(from)?;
+        let from = self.cells.len() - count;
+        let mut moved = self.cells.split_off(from)?;
         cells.append(&mut moved)?;
         Ok(())
     }
@@ -155,8 +179,8 @@ impl Operands {
         if count == 0 {
             return Ok(Some(List::new(alloc)));
         }
-        let from = self.held.len() - count;
-        let cells = self.held.split_off(from)?;
+        let from = self.cells.len() - count;
+        let cells = self.cells.split_off(from)?;
         gathered(alloc, cells)
     }
 }
@@ -166,6 +190,49 @@ fn all_defined(cells: &[Cell]) -> bool
     ensures value { result ≡ list_all is_some cells.now }
 {
     cells.iter().all(|cell| cell.is_defined())
+}
+
+// What the cells weigh together, if that is no more than `most`.
+#[tactic(auto, using(crate::proofs::PartLemmas::all_weigh, crate::proofs::ListLemmas::are_not_all))]
+fn parts_weight(cells: &[Cell], most: u64) -> Option<u64>
+    ensures some { IfSome result (λ weight. (weight ≡ weight_if_all (all_defined cells.now)) × (weight ≤ most)) }
+    ensures none { IfNone result (most < weight_if_all (all_defined cells.now)) }
+{
+    if all_defined(cells) {
+        sum_within(cells, 0, most)
+    } else {
+        Some(0)
+    }
+}
+
+// What an array or a tuple of the cells weighs, if that is no more than `most`. A weight stays at 2^64 - 1.
+fn composite_weight(cells: &[Cell], most: u64) -> Option<u64>
+    ensures some { IfSome result (λ weight. (weight ≡ composite_weight (all_defined cells.now)) × (weight ≤ most)) }
+    ensures none { IfNone result (most < composite_weight (all_defined cells.now)) }
+{
+    if !all_defined(cells) {
+        return Some(0);
+    }
+    match sum_within(cells, 1, most) {
+        Some(weight) => Some(weight),
+        None if most == u64::MAX => Some(most),
+        None => None,
+    }
+}
+
+// A number and what the cells weigh, if that is no more than `most`. Nothing is weighed once it is more.
+fn sum_within(cells: &[Cell], first: u64, most: u64) -> Option<u64>
+    ensures some { IfSome result (λ sum. (sum ≡ first + slots_weight cells.now) × (sum ≤ most)) }
+    ensures none { IfNone result (most < first + slots_weight cells.now) }
+{
+    let mut sum = first;
+    for cell in cells {
+        if sum > most {
+            return None;
+        }
+        sum = sum.checked_add(result_weight(cell))?;
+    }
+    if sum > most { None } else { Some(sum) }
 }
 
 // The values of the cells, if all of them are defined.

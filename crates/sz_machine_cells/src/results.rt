@@ -10,7 +10,7 @@ ghost use Rattle.sz_world_rules.specs.Operations.{unary_of, binary_of, applied, 
 ghost use Rattle.sz_world_rules.specs.Operations.{element_of, slice_of, part_at, part_of, definedness};
 ghost use Rattle.sz_machine_cells.specs.Results.{array_of_all, tuple_of_all, map_of_all, by_turns};
 
-use crate::cell::{Cell, Form, lying, part_held};
+use crate::cell::{Cell, Form, lying, part_bytes};
 use std::alloc::Global;
 use std::rc::Rc;
 use sz_builtin::{
@@ -103,7 +103,7 @@ fn message_of(alloc: Global, by: &Ty, value: &View<'_>) -> Result<Cell, NoMemory
     ensures value { IfOk result (λ made. made ≡ message_of (seen_type by.now) (seen_view value.now)) }
 {
     match value.kind() {
-        Kind::Bytes(held) => Cell::of_slot(alloc, decode(alloc, by, held)?),
+        Kind::Bytes(contents) => Cell::of_slot(alloc, decode(alloc, by, contents)?),
         _ => Ok(Cell::undefined()),
     }
 }
@@ -198,7 +198,7 @@ fn part_between(
     requires same { x.now ≡ Some (seen_view base.now) }
     ensures value { IfOk result (λ made. made ≡ slice (seen_view base.now) from to) }
 {
-    match &x.held {
+    match &x.form {
         Form::Buffer(buffer) => part_of_buffer(alloc, buffer, from, to),
         Form::Part(count, before, buffer) => {
             part_of_part(alloc, *count, *before, buffer, from, to)
@@ -229,7 +229,7 @@ fn part_of_part(
 ) -> Result<Cell, NoMemory>
     ensures value { IfOk result (λ made. made ≡ slice (bytes (take count (drop before buffer.now.value.items))) from to) }
 {
-    match bytes_between(part_held(count, before, buffer), from, to) {
+    match bytes_between(part_bytes(count, before, buffer), from, to) {
         Some((more, count)) => Cell::of_part(alloc, buffer, before as usize + more, count),
         None => Ok(Cell::undefined()),
     }
@@ -240,17 +240,17 @@ fn part_anew(alloc: Global, base: &View<'_>, from: i64, to: i64) -> Result<Cell,
     ensures value { IfOk result (λ made. made ≡ slice (seen_view base.now) from to) }
 {
     match base.kind() {
-        Kind::Bytes(held) => bytes_anew(alloc, held, from, to),
+        Kind::Bytes(contents) => bytes_anew(alloc, contents, from, to),
         _ => Cell::of_slot(alloc, slice_of_view(alloc, base, from, to)?),
     }
 }
 
 // The part between two places of bytes, in memory of its own.
-fn bytes_anew(alloc: Global, held: &[u8], from: i64, to: i64) -> Result<Cell, NoMemory>
-    ensures value { IfOk result (λ made. made ≡ slice (bytes held.now) from to) }
+fn bytes_anew(alloc: Global, contents: &[u8], from: i64, to: i64) -> Result<Cell, NoMemory>
+    ensures value { IfOk result (λ made. made ≡ slice (bytes contents.now) from to) }
 {
-    match bytes_between(held, from, to) {
-        Some((before, count)) => Cell::of_bytes(alloc, lying(held, before, count)),
+    match bytes_between(contents, from, to) {
+        Some((before, count)) => Cell::of_bytes(alloc, lying(contents, before, count)),
         None => Ok(Cell::undefined()),
     }
 }

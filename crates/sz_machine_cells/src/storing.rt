@@ -222,12 +222,12 @@ pub fn stored_in(
     ensures value { IfOk result (λ made.
         option_map defined (replaced_by steps.now (map seen indexes.now) (seen new) old) ≡ made) }
 {
-    match old.held {
+    match old.form {
         Form::Shared(mut shared) => match Rc::get_mut(&mut shared) {
             Some(place) => {
                 if changed(alloc, steps, indexes, new, place)? {
                     Ok(Some(Cell {
-                        held: Form::Shared(shared),
+                        form: Form::Shared(shared),
                     }))
                 } else {
                     Ok(None)
@@ -238,8 +238,8 @@ pub fn stored_in(
                 made_anew(alloc, steps, indexes, new, Some(old))
             }
         },
-        held => {
-            let old = Cell { held }.into_value(alloc)?;
+        form => {
+            let old = Cell { form }.into_value(alloc)?;
             made_anew(alloc, steps, indexes, new, old)
         }
     }

@@ -7,7 +7,7 @@ ghost use Rattle.sz_value.specs.Seen.{seen};
 ghost use Rattle.sz_value.specs.Weight.{weight_of};
 ghost use Rattle.sz_world_rules.specs.Ticks.{result_weight, sum_weight, binary_weight, builtin_weight, conversion_weight};
 
-use crate::cell::{Cell, Form, part_held};
+use crate::cell::{Cell, Form, part_bytes};
 use sz_types::{BinOp, Builtin, Ty};
 use sz_value::{Value, weight};
 
@@ -16,21 +16,21 @@ use sz_value::{Value, weight};
 pub fn result_weight(made: &Cell) -> u64
     ensures value { result ≡ result_weight made.now }
 {
-    match &made.held {
+    match &made.form {
         Form::Undefined => 0,
         Form::Bool(_) | Form::Int(_) | Form::Time(_) => 1,
         Form::Shared(shared) => weight(shared.as_ref()),
         Form::Buffer(buffer) => bytes_weight(buffer.as_ref().as_slice()),
-        Form::Part(count, before, buffer) => bytes_weight(part_held(*count, *before, buffer)),
+        Form::Part(count, before, buffer) => bytes_weight(part_bytes(*count, *before, buffer)),
     }
 }
 
 // What bytes weigh.
 #[inline(always)]
-fn bytes_weight(held: &[u8]) -> u64
-    ensures value { result ≡ weight_of (octets held.now) }
+fn bytes_weight(contents: &[u8]) -> u64
+    ensures value { result ≡ weight_of (octets contents.now) }
 {
-    (held.len() as u64).saturating_add(1)
+    (contents.len() as u64).saturating_add(1)
 }
 
 /// What an operator of two operands adds for its result.
@@ -49,7 +49,7 @@ pub fn binary_weight(op: BinOp, made: &Cell) -> u64
 fn sum_weight(made: &Cell) -> u64
     ensures value { result ≡ sum_weight made.now }
 {
-    match &made.held {
+    match &made.form {
         Form::Shared(shared) => joined_weight(shared.as_ref()),
         Form::Buffer(_) | Form::Part(_, _, _) => result_weight(made),
         _ => 0,
@@ -93,7 +93,7 @@ pub fn conversion_weight(to: &Ty, from: &Cell, made: &Cell) -> u64
 fn weight_of_text(from: &Cell, made: &Cell) -> u64
     ensures value { result ≡ conversion_weight str from.now made.now }
 {
-    match &from.held {
+    match &from.form {
         Form::Shared(shared) => match shared.as_ref() {
             Value::Str(_) => 0,
             _ => result_weight(made),
@@ -106,7 +106,7 @@ fn weight_of_text(from: &Cell, made: &Cell) -> u64
 fn weight_of_bytes(from: &Cell, made: &Cell) -> u64
     ensures value { result ≡ conversion_weight bytes from.now made.now }
 {
-    match &from.held {
+    match &from.form {
         Form::Shared(shared) => match shared.as_ref() {
             Value::Bytes(_) => 0,
             _ => result_weight(made),
@@ -120,7 +120,7 @@ fn weight_of_bytes(from: &Cell, made: &Cell) -> u64
 fn weight_of_message(from: &Cell, made: &Cell) -> u64
     ensures value { (fields : FieldShapes) → result ≡ conversion_weight (proto fields) from.now made.now }
 {
-    match &from.held {
+    match &from.form {
         Form::Shared(shared) => match shared.as_ref() {
             Value::Bytes(_) => result_weight(made),
             _ => 0,

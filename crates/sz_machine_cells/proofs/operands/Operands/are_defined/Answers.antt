@@ -9,7 +9,7 @@ use Rattle.sz_machine_cells.proofs.operands.Operands.are_defined.Goals as goal
 
 pub returns : goal.returns
 returns c =
-    let xs = c.self.inside.held.items in
+    let xs = c.self.inside.cells.items in
     let n = c.args.count in
     let within : n ≤ length xs = omega (arith, c.requires.within, ap length (sym c.self.view_is) ∙ length-reverse xs) in
     let len : c.len.result ≡ length xs = search rules in

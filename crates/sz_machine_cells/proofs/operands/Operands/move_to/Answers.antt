@@ -7,7 +7,7 @@ use Rattle.sz_machine_cells.proofs.operands.Operands.move_to.Goals as goal
 
 pub returns-clause-rest : goal.returns-clause-rest
 returns-clause-rest c =
-    let xs = c.self.inside.held.items in
+    let xs = c.self.inside.cells.items in
     let len : c.len.result ≡ length xs = search rules in
     let within : c.args.count ≤ length xs = omega (arith, c.requires.within, ap length (sym c.self.view_is) ∙ length-reverse xs) in
     let kept = c.in_ok-moved.ensures.items ∙ ap (λ m. take (m - c.args.count) xs) len in
@@ -15,7 +15,7 @@ returns-clause-rest c =
 
 pub returns-clause-moved : goal.returns-clause-moved
 returns-clause-moved c =
-    let xs = c.self.inside.held.items in
+    let xs = c.self.inside.cells.items in
     let len : c.len.result ≡ length xs = search rules in
     let within : c.args.count ≤ length xs = omega (arith, c.requires.within, ap length (sym c.self.view_is) ∙ length-reverse xs) in
     let moved = c.in_ok-moved.ensures.tail ∙ ap (λ m. drop (m - c.args.count) xs) len ∙ last_of xs c.args.count within

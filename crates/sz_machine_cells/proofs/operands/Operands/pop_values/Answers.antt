@@ -9,7 +9,7 @@ use Rattle.sz_machine_cells.proofs.operands.Operands.pop_values.Goals as goal
 
 pub returns-clause-value : goal.returns-clause-value
 returns-clause-value c =
-    let xs = c.self.inside.held.items in
+    let xs = c.self.inside.cells.items in
     let len : c.len.result ≡ length xs = search rules in
     let within : c.args.count ≤ length xs = omega (arith, c.requires.within, ap length (sym c.self.view_is) ∙ length-reverse xs) in
     let cells = c.in_ok-cells.ensures.tail ∙ ap (λ m. drop (m - c.args.count) xs) len ∙ last_of xs c.args.count within
@@ -18,7 +18,7 @@ returns-clause-value c =
 
 pub returns-clause-rest : goal.returns-clause-rest
 returns-clause-rest c =
-    let xs = c.self.inside.held.items in
+    let xs = c.self.inside.cells.items in
     let len : c.len.result ≡ length xs = search rules in
     let within : c.args.count ≤ length xs = omega (arith, c.requires.within, ap length (sym c.self.view_is) ∙ length-reverse xs) in
     let kept = c.in_ok-cells.ensures.items ∙ ap (λ m. take (m - c.args.count) xs) len in
