@@ -16,9 +16,9 @@ use Rattle.sz_words.specs.Dashes.{dashes_fit}
 use Rattle.sz_words.proofs.WordLemmas.{name-NoOption, undashed-name, long-is}
 use Rattle.sz_words.proofs.RuleLemmas.{by_id, rules, shape}
 use Rattle.sz_words.proofs.FoundLemmas.{Found}
-use Rattle.sz_words.proofs.StepLemmas.{Holds, IsLong, NoFault, at, await_fault, await_walked, awaiting_held, end_fault, end_walked}
-use Rattle.sz_words.proofs.StepLemmas.{given_fault, given_held, given_holds, given_walked, is_quiet, name_fault, name_held, name_holds}
-use Rattle.sz_words.proofs.StepLemmas.{name_walked, option_held, option_holds, unknown_fault, value_fault, value_walked}
+use Rattle.sz_words.proofs.StepLemmas.{Holds, IsLong, NoFault, at, await_fault, await_walked, after_bare_option, end_fault, end_walked}
+use Rattle.sz_words.proofs.StepLemmas.{given_fault, after_value, given_holds, given_walked, is_quiet, name_fault, after_name, name_holds}
+use Rattle.sz_words.proofs.StepLemmas.{name_walked, after_option, option_holds, unknown_fault, value_fault, value_walked}
 
 -- how a walk over words ends where they have no parts, or these
 abbrev pub Ends : List Text → Walk → Option Parts → Type 0
@@ -54,7 +54,7 @@ not_end word e = (name-NoOption word e).no_end
 pub fit_name : (word : Text) (words : List Text) → is_name word ≡ true → dashes_fit false (word ∷ words) ≡ true → dashes_fit false words ≡ true
 fit_name word words e fit = rw (not_end word e, e) at fit
 
--- a word that is no name, after no `--`
+-- a word that is no name, where no `--` stands before it
 pub or_is_false : (a b : Bool) → (a || b) ≡ false → (a ≡ false) × (b ≡ false)
 or_is_false false false e = (refl, refl)
 or_is_false false true e = absurd (true≢false e)
@@ -81,9 +81,9 @@ long_word word words no_name no_end fit = go (is_long word) refl
     go false e = let bad : false ≡ true = rw (no_end, no_name, e) at fit in absurd (true≢false (sym bad))
 
 -- an option without a value at the end
-pub no_value : (held : Held) (name : Text) → is_option name ≡ true → held.pending ≡ Some (name, []) → Ends [] (at held (option name) false) None
+pub no_value : (seen : Held) (name : Text) → is_option name ≡ true → seen.pending ≡ Some (name, []) → Ends [] (at seen (option name) false) None
 unfolding walk_fault
-no_value held name known pending =
+no_value seen name known pending =
     let some : (rest : Kinds) → kind.InvalidValue ∷ rest ≡ [] → ⊥ = λ rest e. absurd (cc) in
     rw (pending, by_id name known) (some _)
 
@@ -100,119 +100,119 @@ whole p text e = ap (λ n. take n text) (none_before p text e) ∙ take_all (len
 
 -- how the walks over these words end, from each state that the words before can leave
 pub record AllEnd (words : List Text) : Type 0 where
-  pub ready : (held : Held) (q : Waiting) (parts : Parts) → is_quiet q ≡ true → Holds held parts
-      → (parts.ended ≡ false → dashes_fit false words ≡ true) → Ends words (at held q parts.ended) (parts_with (ready parts) words)
-  pub awaiting : (held : Held) (name : Text) (parts : Parts) → is_option name ≡ true → parts.ended ≡ false
-      → held.pending ≡ Some (name, []) → Found held.rows parts → dashes_fit true words ≡ true
-      → Ends words (at held (option name) false) (parts_with (awaits name parts) words)
+  pub ready : (seen : Held) (q : Waiting) (parts : Parts) → is_quiet q ≡ true → Holds seen parts
+      → (parts.ended ≡ false → dashes_fit false words ≡ true) → Ends words (at seen q parts.ended) (parts_with (ready parts) words)
+  pub awaiting : (seen : Held) (name : Text) (parts : Parts) → is_option name ≡ true → parts.ended ≡ false
+      → seen.pending ≡ Some (name, []) → Found seen.rows parts → dashes_fit true words ≡ true
+      → Ends words (at seen (option name) false) (parts_with (awaits name parts) words)
 
 -- after an option's value
-pub value_ends : (words : List Text) → AllEnd words → (held : Held) (parts : Parts) → parts.ended ≡ false → Holds held parts
-    → dashes_fit false words ≡ true → Ends words (at held idle false) (parts_with (ready parts) words)
-value_ends words more held parts before holds fit =
-    subst (λ t. Ends words (at held idle t) (parts_with (ready parts) words)) before (more.ready held idle parts refl holds (λ _. fit))
+pub value_ends : (words : List Text) → AllEnd words → (seen : Held) (parts : Parts) → parts.ended ≡ false → Holds seen parts
+    → dashes_fit false words ≡ true → Ends words (at seen idle false) (parts_with (ready parts) words)
+value_ends words more seen parts before holds fit =
+    subst (λ t. Ends words (at seen idle t) (parts_with (ready parts) words)) before (more.ready seen idle parts refl holds (λ _. fit))
 
 -- a word in a list of words, where no option waits and no `--` stood before
-pub record Before (word : Text) (words : List Text) (held : Held) (q : Waiting) (parts : Parts) : Type 0 where
+pub record Before (word : Text) (words : List Text) (seen : Held) (q : Waiting) (parts : Parts) : Type 0 where
   pub more : AllEnd words
   pub quiet : is_quiet q ≡ true
-  pub holds : Holds held parts
+  pub holds : Holds seen parts
   pub before : parts.ended ≡ false
 
 -- a word of an option with its value
-pub valued : (word : Text) (words : List Text) (held : Held) (q : Waiting) (parts : Parts) (name value : Text) → Before word words held q parts
+pub valued : (word : Text) (words : List Text) (seen : Held) (q : Waiting) (parts : Parts) (name value : Text) → Before word words seen q parts
     → dashes_fit false words ≡ true → IsLong word name (Some value) → (b : Bool) → is_option name ≡ b
-    → Ends (word ∷ words) (at held q false) (parts_with (if is_option name then ready (with_option name value parts) else refused) words)
-valued word words held q parts name value h fit l true known =
-    rw known (stepped word words (at held q false) (at (option_held name value held) idle false) _
-    (value_fault held q word name value h.quiet l known h.holds.settles) (value_walked held q word name value h.quiet l known)
-    (value_ends words h.more (option_held name value held) (with_option name value parts) h.before
-    (option_holds name value held parts known h.holds) fit))
-valued word words held q parts name value h fit l false unknown =
-    let fault = unknown_fault held q word name (Some value) h.quiet l unknown in
-    rw unknown (stopped word words (at held q false) kind.UnknownArgument fault.0 fault.1)
+    → Ends (word ∷ words) (at seen q false) (parts_with (if is_option name then ready (with_option name value parts) else refused) words)
+valued word words seen q parts name value h fit l true known =
+    rw known (stepped word words (at seen q false) (at (after_option name value seen) idle false) _
+    (value_fault seen q word name value h.quiet l known h.holds.settles) (value_walked seen q word name value h.quiet l known)
+    (value_ends words h.more (after_option name value seen) (with_option name value parts) h.before
+    (option_holds name value seen parts known h.holds) fit))
+valued word words seen q parts name value h fit l false unknown =
+    let fault = unknown_fault seen q word name (Some value) h.quiet l unknown in
+    rw unknown (stopped word words (at seen q false) kind.UnknownArgument fault.0 fault.1)
 
 -- a word of an option whose value is to come
-pub unvalued : (word : Text) (words : List Text) (held : Held) (q : Waiting) (parts : Parts) (name : Text) → Before word words held q parts
+pub unvalued : (word : Text) (words : List Text) (seen : Held) (q : Waiting) (parts : Parts) (name : Text) → Before word words seen q parts
     → dashes_fit true words ≡ true → IsLong word name None → (b : Bool) → is_option name ≡ b
-    → Ends (word ∷ words) (at held q false) (parts_with (if is_option name then awaits name parts else refused) words)
-unvalued word words held q parts name h fit l true known =
-    rw known (stepped word words (at held q false) (at (awaiting_held name held) (option name) false) _
-    (await_fault held q word name h.quiet l known h.holds.settles) (await_walked held q word name h.quiet l known)
-    (h.more.awaiting (awaiting_held name held) name parts known h.before refl h.holds.found fit))
-unvalued word words held q parts name h fit l false unknown =
-    let fault = unknown_fault held q word name None h.quiet l unknown in
-    rw unknown (stopped word words (at held q false) kind.UnknownArgument fault.0 fault.1)
+    → Ends (word ∷ words) (at seen q false) (parts_with (if is_option name then awaits name parts else refused) words)
+unvalued word words seen q parts name h fit l true known =
+    rw known (stepped word words (at seen q false) (at (after_bare_option name seen) (option name) false) _
+    (await_fault seen q word name h.quiet l known h.holds.settles) (await_walked seen q word name h.quiet l known)
+    (h.more.awaiting (after_bare_option name seen) name parts known h.before refl h.holds.found fit))
+unvalued word words seen q parts name h fit l false unknown =
+    let fault = unknown_fault seen q word name None h.quiet l unknown in
+    rw unknown (stopped word words (at seen q false) kind.UnknownArgument fault.0 fault.1)
 
-pub by_equals : (word : Text) (words : List Text) (held : Held) (q : Waiting) (parts : Parts) → Before word words held q parts
+pub by_equals : (word : Text) (words : List Text) (seen : Held) (q : Waiting) (parts : Parts) → Before word words seen q parts
     → dashes_fit (not (has_equals (drop 2 word))) words ≡ true → is_long word ≡ true → bytes_eq word (codes "--") ≡ false
     → (b : Bool) → has_equals (drop 2 word) ≡ b
-    → Ends (word ∷ words) (at held q false) (parts_with (with_long (drop 2 word) parts) words)
-by_equals word words held q parts h fit long no_end true e =
+    → Ends (word ∷ words) (at seen q false) (parts_with (with_long (drop 2 word) parts) words)
+by_equals word words seen q parts h fit long no_end true e =
     let name = before_first is_equals (drop 2 word) in
     let value = after_first is_equals (drop 2 word) in
     let l : IsLong word name (Some value) = record { no_end = no_end; long = rw e at (long-is word long no_end) } in
-    rw e (valued word words held q parts name value h (rw e at fit) l (is_option name) refl)
-by_equals word words held q parts h fit long no_end false e =
+    rw e (valued word words seen q parts name value h (rw e at fit) l (is_option name) refl)
+by_equals word words seen q parts h fit long no_end false e =
     let all : before_first is_equals (drop 2 word) ≡ drop 2 word = whole is_equals (drop 2 word) e in
     let l : IsLong word (drop 2 word) None = record { no_end = no_end; long = rw (e, all) at (long-is word long no_end) } in
-    rw e (unvalued word words held q parts (drop 2 word) h (rw e at fit) l (is_option (drop 2 word)) refl)
+    rw e (unvalued word words seen q parts (drop 2 word) h (rw e at fit) l (is_option (drop 2 word)) refl)
 
-pub by_end : (word : Text) (words : List Text) (held : Held) (q : Waiting) (parts : Parts) → Before word words held q parts
+pub by_end : (word : Text) (words : List Text) (seen : Held) (q : Waiting) (parts : Parts) → Before word words seen q parts
     → dashes_fit false (word ∷ words) ≡ true → is_name word ≡ false → (b : Bool) → bytes_eq word (codes "--") ≡ b
-    → Ends (word ∷ words) (at held q false)
+    → Ends (word ∷ words) (at seen q false)
     (parts_with (if bytes_eq word (codes "--") then ready (record parts { ended = true })
     else if is_long word then with_long (drop 2 word) parts else refused) words)
-by_end word words held q parts h fit no_name true e =
-    let holds : Holds held (record parts { ended = true }) =
+by_end word words seen q parts h fit no_name true e =
+    let holds : Holds seen (record parts { ended = true }) =
     record { settles = h.holds.settles; found = record { options = h.holds.found.options; names = h.holds.found.names } } in
-    rw e (stepped word words (at held q false) (at held q true) _ (end_fault held q word h.quiet e) (end_walked held q word h.quiet e)
-    (h.more.ready held q (record parts { ended = true }) h.quiet holds (λ bad. absurd (true≢false bad))))
-by_end word words held q parts h fit no_name false e =
+    rw e (stepped word words (at seen q false) (at seen q true) _ (end_fault seen q word h.quiet e) (end_walked seen q word h.quiet e)
+    (h.more.ready seen q (record parts { ended = true }) h.quiet holds (λ bad. absurd (true≢false bad))))
+by_end word words seen q parts h fit no_name false e =
     let l = long_word word words no_name e fit in
-    rw (e, l.long) (by_equals word words held q parts h l.fit l.long e (has_equals (drop 2 word)) refl)
+    rw (e, l.long) (by_equals word words seen q parts h l.fit l.long e (has_equals (drop 2 word)) refl)
 
-pub by_name : (word : Text) (words : List Text) → AllEnd words → (held : Held) (q : Waiting) (parts : Parts) → is_quiet q ≡ true → Holds held parts
+pub by_name : (word : Text) (words : List Text) → AllEnd words → (seen : Held) (q : Waiting) (parts : Parts) → is_quiet q ≡ true → Holds seen parts
     → (parts.ended ≡ false → dashes_fit false (word ∷ words) ≡ true) → (b : Bool) → (parts.ended || is_name word) ≡ b
-    → Ends (word ∷ words) (at held q parts.ended) (parts_with (with_word word parts) words)
-by_name word words more held q parts quiet holds fits true e =
+    → Ends (word ∷ words) (at seen q parts.ended) (parts_with (with_word word parts) words)
+by_name word words more seen q parts quiet holds fits true e =
     let is : with_word word parts ≡ ready (with_name word parts) = rw e refl in
-    subst (λ r. Ends (word ∷ words) (at held q parts.ended) (parts_with r words)) (sym is)
-    (stepped word words (at held q parts.ended) (at (name_held word held) positional parts.ended) _
-    (name_fault held q parts.ended word quiet e holds.settles) (name_walked held q parts.ended word quiet e)
-    (more.ready (name_held word held) positional (with_name word parts) refl (name_holds word held parts holds)
+    subst (λ r. Ends (word ∷ words) (at seen q parts.ended) (parts_with r words)) (sym is)
+    (stepped word words (at seen q parts.ended) (at (after_name word seen) positional parts.ended) _
+    (name_fault seen q parts.ended word quiet e holds.settles) (name_walked seen q parts.ended word quiet e)
+    (more.ready (after_name word seen) positional (with_name word parts) refl (name_holds word seen parts holds)
     (λ before. fit_name word words (rw before at e) (fits before))))
-by_name word words more held q parts quiet holds fits false e =
+by_name word words more seen q parts quiet holds fits false e =
     let no = or_is_false parts.ended (is_name word) e in
-    let h : Before word words held q parts = record { more = more; quiet = quiet; holds = holds; before = no.0 } in
+    let h : Before word words seen q parts = record { more = more; quiet = quiet; holds = holds; before = no.0 } in
     let is : with_word word parts ≡ (if bytes_eq word (codes "--") then ready (record parts { ended = true })
     else if is_long word then with_long (drop 2 word) parts else refused) = rw e refl in
-    subst (λ t. Ends (word ∷ words) (at held q t) (parts_with (with_word word parts) words)) (sym no.0)
-    (subst (λ r. Ends (word ∷ words) (at held q false) (parts_with r words)) (sym is)
-    (by_end word words held q parts h (fits no.0) no.1 (bytes_eq word (codes "--")) refl))
+    subst (λ t. Ends (word ∷ words) (at seen q t) (parts_with (with_word word parts) words)) (sym no.0)
+    (subst (λ r. Ends (word ∷ words) (at seen q false) (parts_with r words)) (sym is)
+    (by_end word words seen q parts h (fits no.0) no.1 (bytes_eq word (codes "--")) refl))
 
-pub by_value : (word : Text) (words : List Text) → AllEnd words → (held : Held) (name : Text) (parts : Parts) → is_option name ≡ true
-    → parts.ended ≡ false → held.pending ≡ Some (name, []) → Found held.rows parts → dashes_fit true (word ∷ words) ≡ true
-    → Ends (word ∷ words) (at held (option name) false) (parts_with (awaits name parts) (word ∷ words))
-by_value word words more held name parts known before pending found fit =
+pub by_value : (word : Text) (words : List Text) → AllEnd words → (seen : Held) (name : Text) (parts : Parts) → is_option name ≡ true
+    → parts.ended ≡ false → seen.pending ≡ Some (name, []) → Found seen.rows parts → dashes_fit true (word ∷ words) ≡ true
+    → Ends (word ∷ words) (at seen (option name) false) (parts_with (awaits name parts) (word ∷ words))
+by_value word words more seen name parts known before pending found fit =
     let no = undashed word words fit in
     let is : with_value name word parts ≡ ready (with_option name word parts) = rw no.0 refl in
-    subst (λ r. Ends (word ∷ words) (at held (option name) false) (parts_with r words)) (sym is)
-    (stepped word words (at held (option name) false) (at (given_held name word held) idle false) _
-    (given_fault held word name (undashed-name word no.0))
-    (given_walked held word name (undashed-name word no.0) known pending)
-    (value_ends words more (given_held name word held) (with_option name word parts) before
-    (given_holds name word held parts known found) no.1))
+    subst (λ r. Ends (word ∷ words) (at seen (option name) false) (parts_with r words)) (sym is)
+    (stepped word words (at seen (option name) false) (at (after_value name word seen) idle false) _
+    (given_fault seen word name (undashed-name word no.0))
+    (given_walked seen word name (undashed-name word no.0) known pending)
+    (value_ends words more (after_value name word seen) (with_option name word parts) before
+    (given_holds name word seen parts known found) no.1))
 
 pub all_end : (words : List Text) → AllEnd words
 unfolding walk_fault
 all_end [] = record {
-  ready = λ held q parts quiet holds fits. (refl, refl, holds);
-  awaiting = λ held name parts known before pending found fit. no_value held name known pending;
+  ready = λ seen q parts quiet holds fits. (refl, refl, holds);
+  awaiting = λ seen name parts known before pending found fit. no_value seen name known pending;
 }
 all_end (word ∷ words) = record {
-  ready = λ held q parts quiet holds fits. by_name word words (all_end words) held q parts quiet holds fits (parts.ended || is_name word) refl;
-  awaiting = λ held name parts known before pending found fit. by_value word words (all_end words) held name parts known before pending found fit;
+  ready = λ seen q parts quiet holds fits. by_name word words (all_end words) seen q parts quiet holds fits (parts.ended || is_name word) refl;
+  awaiting = λ seen name parts known before pending found fit. by_value word words (all_end words) seen name parts known before pending found fit;
 }
 
 pub nothing_holds : Holds nothing_held no_parts

@@ -1,17 +1,21 @@
 -- What the getters of `clap` give.
-use Rattle.std.proofs.Common.{◌≡◌, ℕ, List, [], ◌∷◌, map, refl, ap, sym, ◌∙◌, true, false, Bool, Option, Some, None}
-use Rattle.std.specs.Prelude.{option_map, option_and_then, slice_get, unwrap_or, codes, bytes_eq, if◌then◌else◌}
-use Rattle.clap.specs.Words.{app_of, first_value, found_of, matched_of, new_app, raw_values}
+use Rattle.std.proofs.Common.{◌≡◌, ℕ, ◌+◌, ◌<◌, ◌≤◌, List, [], ◌∷◌, length, drop, map, refl, ap, sym, ◌∙◌, true, false, Bool, Option, Some, None}
+use Rattle.std.proofs.Common.{get_or, subst, arith}
+use Rattle.std.proofs.lemmas.Bool.Decides.{nat_tests}
+use Rattle.std.proofs.lemmas.List.{at_drop_more}
+use Rattle.std.specs.List.{list_all}
+use Rattle.std.specs.Prelude.{option_map, option_and_then, slice_get, unwrap_or, codes, bytes_eq, nat_le, if◌then◌else◌}
+use Rattle.clap.specs.Words.{App, app_of, first_value, found_of, matched_of, new_app, raw_values, with_rule}
 use Rattle.clap.specs.Simple.{on_top, app_of_fields}
 use Rattle.clap.specs.declared.builder.command.Command.{Command}
 use Rattle.clap.specs.declared.builder.command.Command.TheViews.{out-Command as fields_of}
 use Rattle.clap.specs.declared.parser.matches.ArgMatches.{ArgMatches}
 use Rattle.clap.specs.declared.parser.matches.MatchedArg.{MatchedArg}
 use Rattle.std.specs.Borrow.{Bor}
-use Rattle.sz_words.specs.Asked.{asked_bare}
+use Rattle.sz_words.specs.Asked.{asked_bare, asked_option, with_options}
 use Rattle.sz_words.specs.Parts.{Parts, parts_of, values_of}
 use Rattle.sz_words.specs.Matches.{HasParts, names_in, values_in}
-use Rattle.sz_words.specs.Settings.{Values, check_settings, command_settings, line_settings, run_settings, stand_once, run_with, selftest_settings}
+use Rattle.sz_words.specs.Settings.{Values, check_settings, command_settings, line_settings, run_settings, stand_at_most, run_with, selftest_settings}
 use Rattle.sz_words.specs.declared.settings.Settings.{Settings}
 
 -- the first value is the first of all
@@ -39,9 +43,31 @@ bare_is a b c d new binary help version =
     ∙ ap (on_top (λ s. record s { disable_help_flag = true })) (one
     ∙ ap (on_top (λ s. record s { no_binary_name = true })) new))
 
+-- an option is added, and then those still to come
+pub one_added : (names : List (Bor (List ℕ))) (place : ℕ) (other : Bor (List ℕ)) → place < length names → (app next all : App)
+    → next ≡ with_rule app (asked_option (get_or names place other).now) → with_options app (map (λ n. n.now) (drop place names)) ≡ all
+    → with_options next (map (λ n. n.now) (drop (place + 1) names)) ≡ all
+one_added names place other within app next all is before =
+    ap (λ a. with_options a (map (λ n. n.now) (drop (place + 1) names))) is
+    ∙ sym (at_drop_more (λ ns. with_options app (map (λ n. n.now) ns)) names place other within) ∙ before
+
+-- an option that isn't given too often leaves it to those still to come
+module _ (values : List ℕ → List (List ℕ)) (most : ℕ) where
+  abbrev each_fits : List (Bor (List ℕ)) → Bool
+  each_fits names = list_all (λ name. nat_le (length (values name)) most) (map (λ n. n.now) names)
+
+  fits : (n : ℕ) → n ≤ most → nat_le n most ≡ true
+  fits n low = grind (arith, nat_tests)
+
+  pub one_fits : (names : List (Bor (List ℕ))) (place : ℕ) (other : Bor (List ℕ)) → place < length names → (n : ℕ)
+      → n ≡ length (values (get_or names place other).now) → n ≤ most → each_fits (drop (place + 1) names) ≡ each_fits (drop place names)
+  one_fits names place other within n is low =
+      let le : nat_le (length (values (get_or names place other).now)) most ≡ true = subst (λ k. nat_le k most ≡ true) is (fits n low) in
+      sym (at_drop_more each_fits names place other within ∙ rw le refl)
+
 -- no command is asked for without a name
 no_run : (given : Values) → run_settings given [] ≡ None
-no_run given = go (stand_once given)
+no_run given = go (stand_at_most 1 given)
   where
     none : Option Settings
     none = None

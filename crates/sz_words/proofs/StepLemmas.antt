@@ -17,7 +17,7 @@ use Rattle.sz_words.proofs.FoundLemmas.{Found, name_found, option_found}
 
 -- a walk that met no subcommand and stands before the one positional
 abbrev pub at : Held → Waiting → Bool → Walk
-at held waiting ended = record { held = held; waiting = waiting; position = 1; is_trailing = ended; stopped = None }
+at seen waiting ended = record { held = seen; waiting = waiting; position = 1; is_trailing = ended; stopped = None }
 
 -- no option waits for a value
 abbrev pub is_quiet : Waiting → Bool
@@ -25,39 +25,39 @@ is_quiet (option name) = false
 is_quiet _ = true
 
 -- what is pending can be used, and then the rows have these parts
-pub record Holds (held : Held) (parts : Parts) : Type 0 where
-  pub settles : settle_fault rules false held ≡ []
-  pub found : Found (settled rules held).rows parts
+pub record Holds (seen : Held) (parts : Parts) : Type 0 where
+  pub settles : settle_fault rules false seen ≡ []
+  pub found : Found (settled rules seen).rows parts
 
 -- after a name
-abbrev pub name_held : Text → Held → Held
-name_held word held = record (settled rules held) { pending = Some (codes "name", word ∷ []) }
+abbrev pub after_name : Text → Held → Held
+after_name word seen = record (settled rules seen) { pending = Some (codes "name", word ∷ []) }
 
 -- after `--name=VALUE`
-abbrev pub option_held : Text → Text → Held → Held
-option_held name value held = record held { rows = used (option_rule name) (value ∷ []) (settled rules held).rows; pending = None }
+abbrev pub after_option : Text → Text → Held → Held
+after_option name value seen = record seen { rows = used (option_rule name) (value ∷ []) (settled rules seen).rows; pending = None }
 
 -- after `--name`
-abbrev pub awaiting_held : Text → Held → Held
-awaiting_held name held = record (settled rules held) { pending = Some (name, []) }
+abbrev pub after_bare_option : Text → Held → Held
+after_bare_option name seen = record (settled rules seen) { pending = Some (name, []) }
 
 -- after the value of an option
-abbrev pub given_held : Text → Text → Held → Held
-given_held name value held = record held { pending = Some (name, value ∷ []) }
+abbrev pub after_value : Text → Text → Held → Held
+after_value name value seen = record seen { pending = Some (name, value ∷ []) }
 
-pub name_holds : (word : Text) (held : Held) (parts : Parts) → Holds held parts → Holds (name_held word held) (with_name word parts)
-name_holds word held parts h = record { settles = refl; found = name_found word (settled rules held).rows parts h.found }
+pub name_holds : (word : Text) (seen : Held) (parts : Parts) → Holds seen parts → Holds (after_name word seen) (with_name word parts)
+name_holds word seen parts h = record { settles = refl; found = name_found word (settled rules seen).rows parts h.found }
 
-pub option_holds : (name value : Text) (held : Held) (parts : Parts) → is_option name ≡ true → Holds held parts
-    → Holds (option_held name value held) (with_option name value parts)
-option_holds name value held parts known h =
-    record { settles = refl; found = option_found name value (settled rules held).rows parts known h.found }
+pub option_holds : (name value : Text) (seen : Held) (parts : Parts) → is_option name ≡ true → Holds seen parts
+    → Holds (after_option name value seen) (with_option name value parts)
+option_holds name value seen parts known h =
+    record { settles = refl; found = option_found name value (settled rules seen).rows parts known h.found }
 
-pub given_holds : (name value : Text) (held : Held) (parts : Parts) → is_option name ≡ true → Found held.rows parts
-    → Holds (given_held name value held) (with_option name value parts)
-given_holds name value held parts known found = record {
+pub given_holds : (name value : Text) (seen : Held) (parts : Parts) → is_option name ≡ true → Found seen.rows parts
+    → Holds (after_value name value seen) (with_option name value parts)
+given_holds name value seen parts known found = record {
   settles = rw (by_id name known) refl;
-  found = rw (by_id name known) (option_found name value held.rows parts known found);
+  found = rw (by_id name known) (option_found name value seen.rows parts known found);
 }
 
 -- ---- one word
@@ -66,54 +66,54 @@ abbrev pub NoFault : Walk → Text → Type 0
 NoFault w word = turn_fault shape [] w word ≡ []
 
 -- after `--`, or where it is a name, a word goes to the names
-pub positional_settles : (held : Held) → settle_fault rules false held ≡ [] → (b : Bool)
-    → (if b && false then [] else settle_fault rules false held) ≡ []
-positional_settles held e true = e
-positional_settles held e false = e
+pub positional_settles : (seen : Held) → settle_fault rules false seen ≡ [] → (b : Bool)
+    → (if b && false then [] else settle_fault rules false seen) ≡ []
+positional_settles seen e true = e
+positional_settles seen e false = e
 
-pub name_fault : (held : Held) (q : Waiting) (ended : Bool) (word : Text) → is_quiet q ≡ true → (ended || is_name word) ≡ true
-    → settle_fault rules false held ≡ [] → NoFault (at held q ended) word
-name_fault held idle true word quiet e settles = positional_settles held settles (is_pending name_rule held.pending)
-name_fault held positional true word quiet e settles = positional_settles held settles (is_pending name_rule held.pending)
-name_fault held (option name) ended word quiet e settles = absurd (true≢false (sym quiet))
-name_fault held idle false word quiet e settles =
+pub name_fault : (seen : Held) (q : Waiting) (ended : Bool) (word : Text) → is_quiet q ≡ true → (ended || is_name word) ≡ true
+    → settle_fault rules false seen ≡ [] → NoFault (at seen q ended) word
+name_fault seen idle true word quiet e settles = positional_settles seen settles (is_pending name_rule seen.pending)
+name_fault seen positional true word quiet e settles = positional_settles seen settles (is_pending name_rule seen.pending)
+name_fault seen (option name) ended word quiet e settles = absurd (true≢false (sym quiet))
+name_fault seen idle false word quiet e settles =
     let no = name-NoOption word e in
-    rw (no.no_end, no.no_long, no.no_short) (positional_settles held settles (is_pending name_rule held.pending))
-name_fault held positional false word quiet e settles =
+    rw (no.no_end, no.no_long, no.no_short) (positional_settles seen settles (is_pending name_rule seen.pending))
+name_fault seen positional false word quiet e settles =
     let no = name-NoOption word e in
-    rw (no.no_end, no.no_long, no.no_short) (positional_settles held settles (is_pending name_rule held.pending))
+    rw (no.no_end, no.no_long, no.no_short) (positional_settles seen settles (is_pending name_rule seen.pending))
 
 -- the names' place is settled before, and takes one word at a time
-pub to_name : (held : Held) (word : Text) (b : Bool)
-    → pushed (codes "name") word (if b && false then held else settled rules held) ≡ name_held word held
-to_name held word true = refl
-to_name held word false = refl
+pub to_name : (seen : Held) (word : Text) (b : Bool)
+    → pushed (codes "name") word (if b && false then seen else settled rules seen) ≡ after_name word seen
+to_name seen word true = refl
+to_name seen word false = refl
 
-pub name_walked : (held : Held) (q : Waiting) (ended : Bool) (word : Text) → is_quiet q ≡ true → (ended || is_name word) ≡ true
-    → walked rules [] (at held q ended) word ≡ at (name_held word held) positional ended
+pub name_walked : (seen : Held) (q : Waiting) (ended : Bool) (word : Text) → is_quiet q ≡ true → (ended || is_name word) ≡ true
+    → walked rules [] (at seen q ended) word ≡ at (after_name word seen) positional ended
 unfolding walked
-name_walked held idle true word quiet e = ap (λ h. at h positional true) (to_name held word (is_pending name_rule held.pending))
-name_walked held positional true word quiet e = ap (λ h. at h positional true) (to_name held word (is_pending name_rule held.pending))
-name_walked held (option name) ended word quiet e = absurd (true≢false (sym quiet))
-name_walked held idle false word quiet e =
+name_walked seen idle true word quiet e = ap (λ h. at h positional true) (to_name seen word (is_pending name_rule seen.pending))
+name_walked seen positional true word quiet e = ap (λ h. at h positional true) (to_name seen word (is_pending name_rule seen.pending))
+name_walked seen (option name) ended word quiet e = absurd (true≢false (sym quiet))
+name_walked seen idle false word quiet e =
     let no = name-NoOption word e in
-    rw (no.no_end, no.no_long, no.no_short) (ap (λ h. at h positional false) (to_name held word (is_pending name_rule held.pending)))
-name_walked held positional false word quiet e =
+    rw (no.no_end, no.no_long, no.no_short) (ap (λ h. at h positional false) (to_name seen word (is_pending name_rule seen.pending)))
+name_walked seen positional false word quiet e =
     let no = name-NoOption word e in
-    rw (no.no_end, no.no_long, no.no_short) (ap (λ h. at h positional false) (to_name held word (is_pending name_rule held.pending)))
+    rw (no.no_end, no.no_long, no.no_short) (ap (λ h. at h positional false) (to_name seen word (is_pending name_rule seen.pending)))
 
 -- `--` ends the options
-pub end_fault : (held : Held) (q : Waiting) (word : Text) → is_quiet q ≡ true → bytes_eq word (codes "--") ≡ true → NoFault (at held q false) word
-end_fault held idle word quiet e = rw e refl
-end_fault held positional word quiet e = rw e refl
-end_fault held (option name) word quiet e = absurd (true≢false (sym quiet))
+pub end_fault : (seen : Held) (q : Waiting) (word : Text) → is_quiet q ≡ true → bytes_eq word (codes "--") ≡ true → NoFault (at seen q false) word
+end_fault seen idle word quiet e = rw e refl
+end_fault seen positional word quiet e = rw e refl
+end_fault seen (option name) word quiet e = absurd (true≢false (sym quiet))
 
-pub end_walked : (held : Held) (q : Waiting) (word : Text) → is_quiet q ≡ true → bytes_eq word (codes "--") ≡ true
-    → walked rules [] (at held q false) word ≡ at held q true
+pub end_walked : (seen : Held) (q : Waiting) (word : Text) → is_quiet q ≡ true → bytes_eq word (codes "--") ≡ true
+    → walked rules [] (at seen q false) word ≡ at seen q true
 unfolding walked
-end_walked held idle word quiet e = rw e refl
-end_walked held positional word quiet e = rw e refl
-end_walked held (option name) word quiet e = absurd (true≢false (sym quiet))
+end_walked seen idle word quiet e = rw e refl
+end_walked seen positional word quiet e = rw e refl
+end_walked seen (option name) word quiet e = absurd (true≢false (sym quiet))
 
 -- a word of two dashes and more, with what `clap` makes of it
 pub record IsLong (word name : Text) (value : Option Text) : Type 0 where
@@ -121,51 +121,51 @@ pub record IsLong (word name : Text) (value : Option Text) : Type 0 where
   pub long : long_of word ≡ Some (name, value)
 
 -- an option with its value
-pub value_fault : (held : Held) (q : Waiting) (word name value : Text) → is_quiet q ≡ true → IsLong word name (Some value) → is_option name ≡ true
-    → settle_fault rules false held ≡ [] → NoFault (at held q false) word
-value_fault held idle word name value quiet l known settles =
+pub value_fault : (seen : Held) (q : Waiting) (word name value : Text) → is_quiet q ≡ true → IsLong word name (Some value) → is_option name ≡ true
+    → settle_fault rules false seen ≡ [] → NoFault (at seen q false) word
+value_fault seen idle word name value quiet l known settles =
     rw (l.no_end, l.long, by_long name known, settles) refl
-value_fault held positional word name value quiet l known settles =
+value_fault seen positional word name value quiet l known settles =
     rw (l.no_end, l.long, by_long name known, settles) refl
-value_fault held (option n) word name value quiet l known settles = absurd (true≢false (sym quiet))
+value_fault seen (option n) word name value quiet l known settles = absurd (true≢false (sym quiet))
 
-pub value_walked : (held : Held) (q : Waiting) (word name value : Text) → is_quiet q ≡ true → IsLong word name (Some value) → is_option name ≡ true
-    → walked rules [] (at held q false) word ≡ at (option_held name value held) idle false
+pub value_walked : (seen : Held) (q : Waiting) (word name value : Text) → is_quiet q ≡ true → IsLong word name (Some value) → is_option name ≡ true
+    → walked rules [] (at seen q false) word ≡ at (after_option name value seen) idle false
 unfolding walked
-value_walked held idle word name value quiet l known = rw (l.no_end, l.long, by_long name known) refl
-value_walked held positional word name value quiet l known = rw (l.no_end, l.long, by_long name known) refl
-value_walked held (option n) word name value quiet l known = absurd (true≢false (sym quiet))
+value_walked seen idle word name value quiet l known = rw (l.no_end, l.long, by_long name known) refl
+value_walked seen positional word name value quiet l known = rw (l.no_end, l.long, by_long name known) refl
+value_walked seen (option n) word name value quiet l known = absurd (true≢false (sym quiet))
 
 -- an option whose value is to come
-pub await_fault : (held : Held) (q : Waiting) (word name : Text) → is_quiet q ≡ true → IsLong word name None → is_option name ≡ true
-    → settle_fault rules false held ≡ [] → NoFault (at held q false) word
-await_fault held idle word name quiet l known settles = rw (l.no_end, l.long, by_long name known, settles) refl
-await_fault held positional word name quiet l known settles = rw (l.no_end, l.long, by_long name known, settles) refl
-await_fault held (option n) word name quiet l known settles = absurd (true≢false (sym quiet))
+pub await_fault : (seen : Held) (q : Waiting) (word name : Text) → is_quiet q ≡ true → IsLong word name None → is_option name ≡ true
+    → settle_fault rules false seen ≡ [] → NoFault (at seen q false) word
+await_fault seen idle word name quiet l known settles = rw (l.no_end, l.long, by_long name known, settles) refl
+await_fault seen positional word name quiet l known settles = rw (l.no_end, l.long, by_long name known, settles) refl
+await_fault seen (option n) word name quiet l known settles = absurd (true≢false (sym quiet))
 
-pub await_walked : (held : Held) (q : Waiting) (word name : Text) → is_quiet q ≡ true → IsLong word name None → is_option name ≡ true
-    → walked rules [] (at held q false) word ≡ at (awaiting_held name held) (option name) false
+pub await_walked : (seen : Held) (q : Waiting) (word name : Text) → is_quiet q ≡ true → IsLong word name None → is_option name ≡ true
+    → walked rules [] (at seen q false) word ≡ at (after_bare_option name seen) (option name) false
 unfolding walked
-await_walked held idle word name quiet l known = rw (l.no_end, l.long, by_long name known) refl
-await_walked held positional word name quiet l known = rw (l.no_end, l.long, by_long name known) refl
-await_walked held (option n) word name quiet l known = absurd (true≢false (sym quiet))
+await_walked seen idle word name quiet l known = rw (l.no_end, l.long, by_long name known) refl
+await_walked seen positional word name quiet l known = rw (l.no_end, l.long, by_long name known) refl
+await_walked seen (option n) word name quiet l known = absurd (true≢false (sym quiet))
 
 -- no option of this name
-pub unknown_fault : (held : Held) (q : Waiting) (word name : Text) (value : Option Text) → is_quiet q ≡ true → IsLong word name value
-    → is_option name ≡ false → (kinds : Kinds) × (turn_fault shape [] (at held q false) word ≡ kind.UnknownArgument ∷ kinds)
-unknown_fault held idle word name value quiet l unknown = ([], rw (l.no_end, l.long, none_long name unknown) refl)
-unknown_fault held positional word name value quiet l unknown = ([], rw (l.no_end, l.long, none_long name unknown) refl)
-unknown_fault held (option n) word name value quiet l unknown = absurd (true≢false (sym quiet))
+pub unknown_fault : (seen : Held) (q : Waiting) (word name : Text) (value : Option Text) → is_quiet q ≡ true → IsLong word name value
+    → is_option name ≡ false → (kinds : Kinds) × (turn_fault shape [] (at seen q false) word ≡ kind.UnknownArgument ∷ kinds)
+unknown_fault seen idle word name value quiet l unknown = ([], rw (l.no_end, l.long, none_long name unknown) refl)
+unknown_fault seen positional word name value quiet l unknown = ([], rw (l.no_end, l.long, none_long name unknown) refl)
+unknown_fault seen (option n) word name value quiet l unknown = absurd (true≢false (sym quiet))
 
 -- a word after an option
-pub given_fault : (held : Held) (word name : Text) → is_name word ≡ true → NoFault (at held (option name) false) word
-given_fault held word name e =
+pub given_fault : (seen : Held) (word name : Text) → is_name word ≡ true → NoFault (at seen (option name) false) word
+given_fault seen word name e =
     let no = name-NoOption word e in
     rw (no.no_end, no.no_long, no.no_short) refl
 
-pub given_walked : (held : Held) (word name : Text) → is_name word ≡ true → is_option name ≡ true → held.pending ≡ Some (name, [])
-    → walked rules [] (at held (option name) false) word ≡ at (given_held name word held) idle false
+pub given_walked : (seen : Held) (word name : Text) → is_name word ≡ true → is_option name ≡ true → seen.pending ≡ Some (name, [])
+    → walked rules [] (at seen (option name) false) word ≡ at (after_value name word seen) idle false
 unfolding walked
-given_walked held word name e known pending =
+given_walked seen word name e known pending =
     let no = name-NoOption word e in
     rw (no.no_end, no.no_long, no.no_short, by_id name known, pending, same name) refl

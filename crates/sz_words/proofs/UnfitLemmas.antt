@@ -9,7 +9,7 @@ use Rattle.sz_words.specs.Parts.{parts_of, parts_with, with_long, with_name, wit
 use Rattle.sz_words.specs.Dashes.{dashes_fit}
 use Rattle.sz_words.proofs.EndLemmas.{not_end}
 
--- what is known of the words after
+-- what is known of the words that follow
 abbrev pub Unfit : List Text → Type 0
 Unfit words = ((parts : Parts) → parts.ended ≡ false → dashes_fit false words ≡ false → parts_with (ready parts) words ≡ None)
     × ((name : Text) (parts : Parts) → parts.ended ≡ false → dashes_fit true words ≡ false → parts_with (awaits name parts) words ≡ None)

@@ -3,6 +3,7 @@ pub mod Texts
 pub mod Lists
 pub mod Parts
 pub mod Settings
+pub mod Bounds
 -- what the functions inside the crate promise each other
 pub mod Dashes
 pub mod Asked

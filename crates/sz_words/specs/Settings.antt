@@ -17,13 +17,13 @@ use Rattle.sz_words.specs.declared.settings.Settings.TheVariants.{Run, Check, Se
 abbrev pub Values : Type 0
 Values = List ℕ → List (List ℕ)
 
--- whether no option was given more than once
-abbrev pub stand_once : Values → Bool
-stand_once given = list_all (λ name. nat_le (length (given name)) 1) option_names
+-- whether each option was given so many times at the most
+abbrev pub stand_at_most : ℕ → Values → Bool
+stand_at_most most given = list_all (λ name. nat_le (length (given name)) most) option_names
 
--- whether no option was given
-abbrev pub are_absent : Values → Bool
-are_absent given = list_all (λ name. nat_eq (length (given name)) 0) option_names
+-- the most records of a shard where nothing else is asked for
+abbrev pub default_shard : ℕ
+default_shard = 1000
 
 -- the value that was given to an option, if one was
 abbrev pub value_of : Values → List ℕ → Option (List ℕ)
@@ -72,7 +72,7 @@ numbers_in given =
     Some (record { frame = frame; workers = workers; shard = shard; attempts = attempts; budget = budget }))
     (number_or (2 ^ 24) 1 (2 ^ 32) (value_of given (codes "budget"))))
     (number_or 3 1 8 (value_of given (codes "attempts"))))
-    (number_or 1000 1 65536 (value_of given (codes "shard"))))
+    (number_or default_shard 1 65536 (value_of given (codes "shard"))))
     (number_or 4 1 64 (value_of given (codes "workers"))))
     (frame_in (value_of given (codes "frame")))
 
@@ -105,17 +105,17 @@ files_in _ = None
 -- what is asked for by `run PROGRAM INPUT`; no option stands twice
 abbrev pub run_settings : Values → List (List ℕ) → Option Settings
 run_settings given names =
-    if stand_once given then option_and_then (λ files. option_map Run (run_with given files.0 files.1)) (files_in names) else None
+    if stand_at_most 1 given then option_and_then (λ files. option_map Run (run_with given files.0 files.1)) (files_in names) else None
 
 -- what is asked for by `check PROGRAM`, which takes no options
 abbrev pub check_settings : Values → List (List ℕ) → Option Settings
-check_settings given (program ∷ []) = if are_absent given && not (nat_eq (length program) 0) then Some (Check program) else None
+check_settings given (program ∷ []) = if stand_at_most 0 given && not (nat_eq (length program) 0) then Some (Check program) else None
 check_settings given _ = None
 
 -- what is asked for by `selftest SEED RECORDS WORKERS`, which takes no options
 abbrev pub selftest_settings : Values → List (List ℕ) → Option Settings
 selftest_settings given (seed ∷ records ∷ workers ∷ []) =
-    if are_absent given
+    if stand_at_most 0 given
     then option_and_then (λ s. option_and_then (λ r. option_and_then (λ w. Some (Selftest s r w))
     (number_in 1 64 workers)) (number_in 0 1000000 records)) (number_in 0 (2 ^ 63 - 1) seed)
     else None

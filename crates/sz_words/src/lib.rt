@@ -11,6 +11,6 @@ mod words;
 
 pub use error::WordsError;
 pub use reading::read_words;
-pub use settings::{Kill, Kills, RunSettings, Settings, Twice};
+pub use settings::{DEFAULT_SHARD, Kill, Kills, RunSettings, Settings, Twice};
 /// There was no memory: the one answer of each call that takes memory which no clause speaks of.
 pub use std::alloc::AllocError as NoMemory;

@@ -1,19 +1,20 @@
 //! What a command line asks for.
 ghost use Rattle.std.specs.Prelude.{◌≡◌, ◌≤◌, ◌^◌, map, string_bytes, IfOk, IfErr, MatchOption, Some, None};
-ghost use Rattle.std.specs.Prelude.{option_map};
+ghost use Rattle.std.specs.Prelude.{option_map, IfSome};
 ghost use Rattle.sz_words.specs.Matches.{names_in, values_in};
 ghost use Rattle.sz_words.specs.Settings.{settings_in, frame_in, number_or, kills_or_none, shards_or_none, are_files};
 ghost use Rattle.sz_words.specs.Settings.{value_of};
 ghost use Rattle.sz_words.specs.Settings.{numbers_in, files_in, run_with, run_settings, check_settings};
 ghost use Rattle.sz_words.specs.Settings.{selftest_settings, command_settings, line_settings};
+ghost use Rattle.sz_words.specs.Bounds.{HasBounds, InRange, IsBounded, NumbersHaveBounds};
 ghost use Rattle.sz_words.specs.declared.error.WordsError.TheVariants.{Usage};
 ghost use Rattle.sz_words.specs.declared.settings.Settings.TheVariants.{Run};
 
 use crate::error::WordsError;
 use crate::lists::{kills_in, shards_in};
 use crate::numbers::{number_in, small_number_in};
-use crate::settings::{Kills, RunSettings, Settings, Twice};
-use crate::words::{are_absent, matches_of, stand_once, value_of};
+use crate::settings::{DEFAULT_SHARD, Kills, RunSettings, Settings, Twice};
+use crate::words::{matches_of, stand_at_most, value_of};
 use clap::ArgMatches;
 use std::alloc::Global;
 use sz_list::Items;
@@ -25,6 +26,7 @@ use sz_types::{Frame, Text};
 pub fn read_words(alloc: Global, words: &[String]) -> Result<Settings, WordsError>
     ensures value { IfOk result (λ s. settings_in (map string_bytes words.now) ≡ Some s) }
     ensures usage { IfErr result (λ e. e ≡ Usage → settings_in (map string_bytes words.now) ≡ None) }
+    ensures bounds { IfOk result IsBounded }
 {
     match words {
         [] => Err(WordsError::Usage),
@@ -36,6 +38,7 @@ pub fn read_words(alloc: Global, words: &[String]) -> Result<Settings, WordsErro
 fn line_settings(alloc: Global, command: &str, words: &[String]) -> Result<Settings, WordsError>
     ensures value { IfOk result (λ s. line_settings command.now (map string_bytes words.now) ≡ Some s) }
     ensures usage { IfErr result (λ e. e ≡ Usage → line_settings command.now (map string_bytes words.now) ≡ None) }
+    ensures bounds { IfOk result IsBounded }
 {
     let matches = matches_of(alloc, words)?;
     command_settings(alloc, command, &matches)
@@ -52,6 +55,7 @@ fn command_settings(
         command_settings command.now (values_in matches.now) (names_in matches.now) ≡ Some s) }
     ensures usage { IfErr result (λ e. e ≡ Usage
         → command_settings command.now (values_in matches.now) (names_in matches.now) ≡ None) }
+    ensures bounds { IfOk result IsBounded }
 {
     let Some(names) = matches.get_raw("name") else {
         return Err(WordsError::Usage);
@@ -68,11 +72,12 @@ fn command_settings(
 fn run_settings(alloc: Global, options: &ArgMatches, names: &[&str]) -> Result<Settings, WordsError>
     ensures value { IfOk result (λ s. run_settings (values_in options.now) (map (λ n. n.now) names.now) ≡ Some s) }
     ensures usage { IfErr result (λ e. e ≡ Usage → run_settings (values_in options.now) (map (λ n. n.now) names.now) ≡ None) }
+    ensures bounds { IfOk result IsBounded }
 {
     let Some((program, input)) = files_in(names) else {
         return Err(WordsError::Usage);
     };
-    if !stand_once(options) {
+    if !stand_at_most(options, 1) {
         return Err(WordsError::Usage);
     }
     let settings = run_with(alloc, options, program, input)?;
@@ -99,6 +104,7 @@ fn run_with(
 ) -> Result<RunSettings, WordsError>
     ensures value { IfOk result (λ s. run_with (values_in options.now) program.now input.now ≡ Some s) }
     ensures usage { IfErr result (λ e. e ≡ Usage → run_with (values_in options.now) program.now input.now ≡ None) }
+    ensures bounds { IfOk result HasBounds }
 {
     let Some(numbers) = numbers_in(options) else {
         return Err(WordsError::Usage);
@@ -131,10 +137,11 @@ pub struct Numbers {
 // What the options with one number or word ask for.
 fn numbers_in(options: &ArgMatches) -> Option<Numbers>
     ensures value { result ≡ numbers_in (values_in options.now) }
+    ensures bounds { IfSome result NumbersHaveBounds }
 {
     let frame = frame_in(value_of(options, "frame"))?;
     let workers = small_number_or(4, 1, 64, value_of(options, "workers"))?;
-    let shard = small_number_or(1000, 1, 65_536, value_of(options, "shard"))?;
+    let shard = small_number_or(DEFAULT_SHARD, 1, 65_536, value_of(options, "shard"))?;
     let attempts = small_number_or(3, 1, 8, value_of(options, "attempts"))?;
     let budget = number_or(1 << 24, 1, 1 << 32, value_of(options, "budget"))?;
     Some(Numbers {
@@ -160,7 +167,9 @@ fn frame_in(value: Option<&str>) -> Option<Frame>
 
 // The number that an option's value writes, and another where the option isn't given.
 fn number_or(default: u64, least: u64, most: u64, value: Option<&str>) -> Option<u64>
+    requires { InRange least most default }
     ensures value { result ≡ number_or default least most (option_map (λ v. v.now) value.entry) }
+    ensures within { IfSome result (InRange least most) }
 {
     match value {
         None => Some(default),
@@ -170,7 +179,9 @@ fn number_or(default: u64, least: u64, most: u64, value: Option<&str>) -> Option
 
 // The same, of numbers of 32 bits.
 fn small_number_or(default: u32, least: u32, most: u32, value: Option<&str>) -> Option<u32>
+    requires { InRange least most default }
     ensures value { result ≡ number_or default least most (option_map (λ v. v.now) value.entry) }
+    ensures within { IfSome result (InRange least most) }
 {
     match value {
         None => Some(default),
@@ -215,9 +226,10 @@ fn check_settings(
 ) -> Result<Settings, WordsError>
     ensures value { IfOk result (λ s. check_settings (values_in options.now) (map (λ n. n.now) names.now) ≡ Some s) }
     ensures usage { IfErr result (λ e. e ≡ Usage → check_settings (values_in options.now) (map (λ n. n.now) names.now) ≡ None) }
+    ensures bounds { IfOk result IsBounded }
 {
     match names {
-        [program] if are_absent(options) && !program.is_empty() => Ok(Settings::Check(
+        [program] if stand_at_most(options, 0) && !program.is_empty() => Ok(Settings::Check(
             Text::from_str(alloc, program)?,
         )),
         _ => Err(WordsError::Usage),
@@ -227,9 +239,10 @@ fn check_settings(
 // What is asked for by `selftest SEED RECORDS WORKERS`, which takes no options.
 fn selftest_settings(options: &ArgMatches, names: &[&str]) -> Option<Settings>
     ensures value { result ≡ selftest_settings (values_in options.now) (map (λ n. n.now) names.now) }
+    ensures bounds { IfSome result IsBounded }
 {
     match names {
-        [seed, records, workers] if are_absent(options) => {
+        [seed, records, workers] if stand_at_most(options, 0) => {
             let seed = number_in(seed.as_bytes(), 0, i64::MAX as u64)?;
             let records = small_number_in(records.as_bytes(), 0, 1_000_000)?;
             let workers = small_number_in(workers.as_bytes(), 1, 64)?;

@@ -23,6 +23,9 @@ pub type Kills = Items<Kill>;
 /// Contracts see a list.
 pub type Twice = Items<u32>;
 
+/// The most records of a shard where nothing else is asked for.
+pub const DEFAULT_SHARD: u32 = 1_000;
+
 /// What a run is asked for.
 pub struct RunSettings {
     /// The name of the program's file, or `-` for standard input.

@@ -7,7 +7,7 @@ ghost use Rattle.clap.specs.declared.error.kind.ErrorKind.TheVariants.{OutOfMemo
 ghost use Rattle.sz_words.specs.Parts.{Parts, is_dashed, is_name, parts_of};
 ghost use Rattle.sz_words.specs.Dashes.{dashes_fit, value_follows};
 ghost use Rattle.sz_words.specs.Matches.{HasParts, values_in};
-ghost use Rattle.sz_words.specs.Settings.{stand_once, are_absent, value_of};
+ghost use Rattle.sz_words.specs.Settings.{stand_at_most, value_of};
 ghost use Rattle.sz_words.specs.Asked.{asked_app, asked_names, asked_option};
 ghost use Rattle.sz_words.specs.declared.error.WordsError.TheVariants.{NoMemory, Usage};
 
@@ -15,6 +15,11 @@ use crate::error::WordsError;
 use clap::error::ErrorKind;
 use clap::{Arg, ArgAction, ArgMatches, Command, Error};
 use std::alloc::{AllocError, Global};
+
+/// The options of `run`, without their dashes.
+const OPTIONS: [&str; 7] = [
+    "frame", "workers", "shard", "attempts", "budget", "kill", "twice",
+];
 
 /// The words after a command as options and names. `clap` reads them once their dashes fit, since it would read more.
 pub fn matches_of<'a>(alloc: Global, words: &'a [String]) -> Result<ArgMatches<'a>, WordsError>
@@ -46,18 +51,14 @@ fn cause_of(error: &Error) -> WordsError
 fn asked<'a>(alloc: Global) -> Result<Command<'a>, AllocError>
     ensures value { IfOk result (λ c. app_of c ≡ asked_app) }
 {
-    Command::new(alloc, "szl")
+    let mut command = Command::new(alloc, "szl")
         .no_binary_name(true)
         .disable_help_flag(true)
-        .disable_version_flag(true)
-        .arg(option(alloc, "frame"))?
-        .arg(option(alloc, "workers"))?
-        .arg(option(alloc, "shard"))?
-        .arg(option(alloc, "attempts"))?
-        .arg(option(alloc, "budget"))?
-        .arg(option(alloc, "kill"))?
-        .arg(option(alloc, "twice"))?
-        .arg(names(alloc))
+        .disable_version_flag(true);
+    for name in OPTIONS {
+        command = command.arg(option(alloc, name))?;
+    }
+    command.arg(names(alloc))
 }
 
 // An option of `run`, with a value each time that it stands.
@@ -144,28 +145,14 @@ fn count(matches: &ArgMatches, name: &str) -> usize
     }
 }
 
-/// Whether no option was given more than once.
-pub fn stand_once(matches: &ArgMatches) -> bool
-    ensures value { result ≡ stand_once (values_in matches.now) }
+/// Whether each option was given so many times at the most.
+pub fn stand_at_most(matches: &ArgMatches, most: usize) -> bool
+    ensures value { result ≡ stand_at_most most (values_in matches.now) }
 {
-    count(matches, "frame") <= 1
-        && count(matches, "workers") <= 1
-        && count(matches, "shard") <= 1
-        && count(matches, "attempts") <= 1
-        && count(matches, "budget") <= 1
-        && count(matches, "kill") <= 1
-        && count(matches, "twice") <= 1
-}
-
-/// Whether no option was given.
-pub fn are_absent(matches: &ArgMatches) -> bool
-    ensures value { result ≡ are_absent (values_in matches.now) }
-{
-    count(matches, "frame") == 0
-        && count(matches, "workers") == 0
-        && count(matches, "shard") == 0
-        && count(matches, "attempts") == 0
-        && count(matches, "budget") == 0
-        && count(matches, "kill") == 0
-        && count(matches, "twice") == 0
+    for name in OPTIONS {
+        if count(matches, name) > most {
+            return false;
+        }
+    }
+    true
 }

@@ -23,7 +23,7 @@ use Rattle.sz_attempt.specs.Shards.{ShardData, IsJob}
 use Rattle.sz_core.specs.Sound.{IsSound}
 use Rattle.sz_world_rules.specs.Typed.{AllFit}
 use Rattle.sz_gen_rules.specs.Simulates.{static_types}
-use Rattle.szl.specs.Settings.{HasBounds}
+use Rattle.sz_words.specs.Bounds.{HasBounds}
 use Rattle.sz_attempt.specs.Attempts.{shard_means, is_lost, all_die, dies_at, end_of}
 use Rattle.sz_rounds.specs.Outcomes.{ShardsEnd, emitted, faulted, lost, then_shards, outcome_of}
 use Rattle.sz_rounds.specs.Cuts.{cut_into}

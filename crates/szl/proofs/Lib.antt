@@ -1,5 +1,4 @@
 mod AnswerLemmas
-mod BoundsLemmas
 mod EndingLemmas
 mod FileLemmas
 mod JudgeLemmas

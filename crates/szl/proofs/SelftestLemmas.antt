@@ -23,7 +23,8 @@ use Rattle.szl.specs.Opening.{Decides, Answers, AnswersOver, AnswersTextOver}
 use Rattle.szl.specs.Outcome.{outcome_faulted, outcome_of_statics, outcome_of_checked_run}
 use Rattle.szl.specs.Promise.{AreReadToEnd}
 use Rattle.szl.specs.ProgramRuns.{GivesStatics, GivesTables, IsJobOf}
-use Rattle.szl.specs.Settings.{selftest_run, HasBounds}
+use Rattle.sz_words.specs.Bounds.{HasBounds}
+use Rattle.szl.specs.Settings.{selftest_run}
 use Rattle.szl.proofs.JudgementLemmas.{every_text_is_read}
 use Rattle.szl.proofs.AnswerLemmas.{cut_of, decides_still, of_job}
 

@@ -11,7 +11,7 @@ ghost use Rattle.szl.specs.Outcome.{outcome_of_program};
 ghost use Rattle.szl.specs.Judgement.{most_program_bytes};
 ghost use Rattle.szl.specs.Promise.{AreReadToEnd, names_asked};
 ghost use Rattle.szl.specs.ProgramRuns.{vec_items_of};
-ghost use Rattle.szl.specs.Settings.{HasBounds, IsBounded};
+ghost use Rattle.sz_words.specs.Bounds.{HasBounds, IsBounded};
 
 use crate::failure::{Failure, refused};
 use crate::judge::{checked, tree_in};

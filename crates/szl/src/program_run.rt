@@ -6,7 +6,7 @@ ghost use Rattle.sz_attempt.specs.Shards.{IsJob};
 ghost use Rattle.sz_io.specs.Opened.{KeepsFiles};
 ghost use Rattle.sz_io.specs.Calls.{ReadToEnd};
 ghost use Rattle.szl.specs.ProgramRuns.{GivesStatics, GivesTables, GivesFile, IsJobOf, vec_items_of};
-ghost use Rattle.szl.specs.Settings.{HasBounds};
+ghost use Rattle.sz_words.specs.Bounds.{HasBounds};
 
 use crate::failure::Failure;
 use std::alloc::Global;

@@ -5,7 +5,8 @@ ghost use Rattle.sz_feed.specs.Feed.{file_of};
 ghost use Rattle.sz_feed.specs.Program.{program_text};
 ghost use Rattle.szl.specs.Opening.{AnswersOver, AnswersTextOver};
 ghost use Rattle.szl.specs.ProgramRuns.{vec_items_of};
-ghost use Rattle.szl.specs.Settings.{selftest_run, HasBounds};
+ghost use Rattle.sz_words.specs.Bounds.{HasBounds};
+ghost use Rattle.szl.specs.Settings.{selftest_run};
 
 use crate::failure::Failure;
 use crate::judge::{checked, tree_in};
@@ -19,7 +20,7 @@ use sz_gen_stmt::compile;
 use sz_io::Gate;
 use sz_list::Items;
 use sz_types::{Frame, Text};
-use sz_words::RunSettings;
+use sz_words::{DEFAULT_SHARD, RunSettings};
 
 /// The text of the tables of the self test's program for the file of the seed, of this many records.
 pub fn answer_selftest<R: Threads + Wait + Sync, G: Gate + Sync>(
@@ -50,7 +51,7 @@ fn selftest_run(alloc: Global, workers: u32) -> Result<RunSettings, AllocError>
         input: Text::from_str(alloc, "")?,
         frame: Frame::Delimited,
         workers,
-        shard: 1_000,
+        shard: DEFAULT_SHARD,
         attempts: 3,
         budget: 1 << 24,
         kills: Items::new(alloc),

@@ -4,7 +4,6 @@ use Rattle.std.specs.Prelude.{string_bytes, OnOk}
 use Rattle.szl.specs.Opening.{Answers}
 use Rattle.szl.specs.Promise.{AreReadToEnd, names_asked}
 use Rattle.szl.specs.ProgramRuns.{vec_items_of}
-use Rattle.szl.proofs.BoundsLemmas.{is_bounded}
 use Rattle.szl.proofs.SettingsLemmas.{words_fail}
 use Rattle.szl.proofs.answer.answer.Goals as goal
 
@@ -16,7 +15,7 @@ returns-in_err-settings-clause-value g c =
 
 -- they have their bounds
 pub answer_settings-requires-clause-bounds : goal.answer_settings-requires-clause-bounds
-answer_settings-requires-clause-bounds g c κs within = is_bounded (map string_bytes c.args.words.now) c.in_ok-settings.settings c.in_ok-settings.ensures.value
+answer_settings-requires-clause-bounds g c κs within = c.in_ok-settings.ensures.bounds
 
 -- the settings are answered
 pub returns-clause-value : goal.returns-clause-value

@@ -3,7 +3,7 @@ use Rattle.std.specs.Prelude.{OnOk}
 use Rattle.szl.specs.Opening.{Answers}
 use Rattle.szl.specs.Promise.{AreReadToEnd, names_asked}
 use Rattle.szl.specs.ProgramRuns.{vec_items_of}
-use Rattle.szl.specs.Settings.{IsBounded}
+use Rattle.sz_words.specs.Bounds.{IsBounded}
 use Rattle.szl.proofs.SelftestLemmas.{selftest_answered, nothing_opened}
 use Rattle.szl.proofs.SettingsLemmas.{when_ok}
 use Rattle.szl.proofs.answer.answer_settings.Goals as goal

@@ -8,7 +8,8 @@ use Rattle.szl.specs.Judging.{IsFailureOf}
 use Rattle.szl.specs.Judgement.{HasStatements, most_program_bytes}
 use Rattle.szl.specs.Opening.{AnswersOver}
 use Rattle.szl.specs.ProgramRuns.{vec_items_of}
-use Rattle.szl.specs.Settings.{selftest_run, HasBounds}
+use Rattle.sz_words.specs.Bounds.{HasBounds}
+use Rattle.szl.specs.Settings.{selftest_run}
 use Rattle.szl.proofs.SelftestLemmas.{is_short, has_bounds, no_memory_text, text_refused_over, statements_refused_over, program_over}
 use Rattle.szl.proofs.selftest.answer_selftest.Goals as goal
 
