@@ -6,7 +6,7 @@ use std::test::Fail;
 use sz_types::Frame;
 use sz_words::{RunSettings, Settings, WordsError, read_words};
 
-/// The rows after a call, so that no proof sees them.
+/// The rows, which a call gives, so that no proof sees them.
 fn all_rows() -> &'static str {
     rows::ROWS
 }

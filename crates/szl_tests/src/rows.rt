@@ -10,7 +10,7 @@ use std::sync::Wait;
 use std::test::Fail;
 use std::thread::Threads;
 
-/// The rows of runs that die, fault, or have workers of their own. Here and below they are after a call, so that no proof sees them.
+/// The rows of runs that die, fault, or have workers of their own. Here and below a call gives them, so that no proof sees them.
 fn rows_of_runs() -> [&'static str; 5] {
     [
         runs::RUNS,

@@ -186,7 +186,7 @@ const STREAMS: &[Stream] = &[
     },
 ];
 
-/// The runs. They are after a call, so that no proof sees them.
+/// The runs. A call gives them, so that no proof sees them.
 fn streams() -> &'static [Stream] {
     STREAMS
 }
