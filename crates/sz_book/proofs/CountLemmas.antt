@@ -16,7 +16,7 @@ use Rattle.sz_book.specs.declared.event.Reply.TheVariants.{Ticket, Number as Num
 use Rattle.sz_book.specs.declared.event.Entry.{Entry}
 use Rattle.sz_book.specs.Machine.{LedgerState, opening, after, reply_of, Fits, placed, AreUnplaced, list_of, claim_of}
 use Rattle.sz_book.specs.History.{state_after, IsLegalFrom, IsTrueReport, AreTrueReports}
-use Rattle.sz_book.specs.Counting.{ticket_in, number_in, win_in, winner_in, wins, times, once, times_held, left_by, EachShardCountsOnce, TheWinnerStays, NotedDeathsAreTrue}
+use Rattle.sz_book.specs.Counting.{ticket_in, number_in, win_in, winner_in, wins, times, once, times_anywhere, left_by, EachShardCountsOnce, TheWinnerStays, NotedDeathsAreTrue}
 use Rattle.sz_book.proofs.StepLemmas.{HasRows, rows_open, rows_kept, either, shard_within, set_here, set_there, kept_on}
 
 -- nothing was found and the count stays, or the count was found and is one more
@@ -168,7 +168,7 @@ stays_won p s w plan x (e ∷ es) rows h is =
     stays_won p s w plan y es (rows_kept p x e.by e.event e.shards rows) h.2
     (still_won (win_in s e.event e.reply) (slice_index x.winners s) (slice_index y.winners s) w (entry_wins p s x e plan rows h.0 h.1) is)
 
-times-append : (s : ℕ) (xs ys : List ℕ) → times s (xs ++ ys) ≡ times s xs + times s ys
+pub times-append : (s : ℕ) (xs ys : List ℕ) → times s (xs ++ ys) ≡ times s xs + times s ys
 times-append s [] ys = omega arith
 times-append s (t ∷ xs) ys = one_more (t == s) (times-append s xs ys) where
   one_more : (b : Bool) → times s (xs ++ ys) ≡ times s xs + times s ys
@@ -185,8 +185,8 @@ marked_low (a ∷ row) zero n h = omega arith
 marked_low (a ∷ row) (suc t) n h = let r = marked_low row t n h in omega arith
 
 -- a shard stands once in a lane or outside if it is settled, and else nowhere
-abbrev IsHeld : ℕ → LedgerState → Type 0
-IsHeld s x = times_held x s ≡ once (slice_index x.winners s)
+abbrev StandsOnce : ℕ → LedgerState → Type 0
+StandsOnce s x = times_anywhere x s ≡ once (slice_index x.winners s)
 
 -- a shard that is placed is counted where it was marked
 placed_once : (n s : ℕ) (row ss : List ℕ) → AreUnplaced n row ss → times s ss + once (slice_index (placed row ss) s) ≡ once (slice_index row s)
@@ -202,11 +202,11 @@ placed_once n s row (t ∷ ss) h = by_test (t == s) refl (placed_once n s (set r
   by_test false is rest = rest ∙ ap once (set_there row t s 0 is)
 
 settled_by_test : (x : LedgerState) (s n k : ℕ) (c : Claim) (b : Bool) → (slice_index x.winners c.shard == 0) ≡ b
-    → c.shard < length x.winners → c.shard < length x.unplaced → times_held x s ≡ once (slice_index x.winners s)
-    → IsHeld s (cond b (record x { winners = set x.winners c.shard (k + 1); unplaced = set x.unplaced c.shard (n + 1) }) x)
+    → c.shard < length x.winners → c.shard < length x.unplaced → times_anywhere x s ≡ once (slice_index x.winners s)
+    → StandsOnce s (cond b (record x { winners = set x.winners c.shard (k + 1); unplaced = set x.unplaced c.shard (n + 1) }) x)
 settled_by_test x s n k c false is low low' h = h
 settled_by_test x s n k c true is low low' h = by_shard (c.shard == s) refl where
-  by_shard : (b : Bool) → (c.shard == s) ≡ b → IsHeld s (record x { winners = set x.winners c.shard (k + 1); unplaced = set x.unplaced c.shard (n + 1) })
+  by_shard : (b : Bool) → (c.shard == s) ≡ b → StandsOnce s (record x { winners = set x.winners c.shard (k + 1); unplaced = set x.unplaced c.shard (n + 1) })
   by_shard true same =
       let free : once (slice_index x.winners s) ≡ 0 = ap (λ (i : ℕ). once (slice_index x.winners i)) (sym (eqb-true c.shard s same)) ∙ ap once (eqb-true (slice_index x.winners c.shard) 0 is) in
       let won : once (slice_index (set x.winners c.shard (k + 1)) s) ≡ 1 = ap once (set_here x.winners c.shard s (k + 1) low same) ∙ once_more k in
@@ -217,21 +217,21 @@ settled_by_test x s n k c true is low low' h = by_shard (c.shard == s) refl wher
       let marked : once (slice_index (set x.unplaced c.shard (n + 1)) s) ≡ once (slice_index x.unplaced s) = ap once (set_there x.unplaced c.shard s (n + 1) other) in
       omega (arith, h, won, marked)
 
-held_step : (p : PlanData) (s : ℕ) → IsPlan p → (x : LedgerState) (n : ℕ) (e : Event) (ss : List ℕ) → HasRows p x → Fits p x n e ss → IsHeld s x → IsHeld s (after p x n e ss)
-held_step p s plan x n Draw ss rows fits h = either (IsHeld s) (nat_lt x.drawn (count_of p)) (record x { drawn = x.drawn + 1 }) x h h
-held_step p s plan x n (Number c) ss rows fits h = either (IsHeld s) (nat_lt (slice_index x.given c.shard) p.attempts) (record x { given = set x.given c.shard (slice_index x.given c.shard + 1) }) x h h
-held_step p s plan x n (Died c k) ss rows fits h = h
-held_step p s plan x n (Settle c k) ss rows fits h =
+stands_step : (p : PlanData) (s : ℕ) → IsPlan p → (x : LedgerState) (n : ℕ) (e : Event) (ss : List ℕ) → HasRows p x → Fits p x n e ss → StandsOnce s x → StandsOnce s (after p x n e ss)
+stands_step p s plan x n Draw ss rows fits h = either (StandsOnce s) (nat_lt x.drawn (count_of p)) (record x { drawn = x.drawn + 1 }) x h h
+stands_step p s plan x n (Number c) ss rows fits h = either (StandsOnce s) (nat_lt (slice_index x.given c.shard) p.attempts) (record x { given = set x.given c.shard (slice_index x.given c.shard + 1) }) x h h
+stands_step p s plan x n (Died c k) ss rows fits h = h
+stands_step p s plan x n (Settle c k) ss rows fits h =
     let within = shard_within p x c plan fits.1.claim in
     settled_by_test x s n k c (slice_index x.winners c.shard == 0) refl (let b = rows.winners in omega (arith, within, b)) (let b = rows.unplaced in omega (arith, within, b)) h
-held_step p s plan x n (LaneOut i) ss rows fits h = either (IsHeld s) (slice_index x.outs i == 0) (record x { outs = set x.outs i 1 }) x h h
-held_step p s plan x n (LaneBack i) ss rows fits h =
+stands_step p s plan x n (LaneOut i) ss rows fits h = either (StandsOnce s) (slice_index x.outs i == 0) (record x { outs = set x.outs i 1 }) x h h
+stands_step p s plan x n (LaneBack i) ss rows fits h =
     let low : i < length x.lists = (let a = fits.within in let b = rows.lists in omega arith) in
     let moved = placed_once n s x.unplaced ss fits.brought in
     let sum = sum_by-set (times s) x.lists i (list_of x i ++ ss) [] low in
     let list = times-append s (list_of x i) ss in
     omega (arith, h, moved, sum, list)
-held_step p s plan x n (Bad b) ss rows fits h = h
+stands_step p s plan x n (Bad b) ss rows fits h = h
 
 or_none : (a b : ℕ) → b ≡ 0 → max a b ≡ 1 → a ≡ 1
 or_none a b none one = omega (arith, none, one)
@@ -321,7 +321,7 @@ each_shard_counts_once p lanes log plan legal =
     let rows = rows_open p lanes in
     let bounds : InBounds p (left_by p lanes log) = kept_on p (InBounds p) (bounds_step p plan) start log rows legal.from
     (omega arith, λ s. (let z = no_number p.shards s in omega (arith, z))) in
-    let held : (s : ℕ) → IsHeld s (left_by p lanes log) = λ s. kept_on p (IsHeld s) (held_step p s plan) start log rows legal.from
+    let anywhere : (s : ℕ) → StandsOnce s (left_by p lanes log) = λ s. kept_on p (StandsOnce s) (stands_step p s plan) start log rows legal.from
     (let b = no_list lanes s in omega (arith, b)) in
     record {
       tickets = from_opening 0 (left_by p lanes log).drawn _ refl (counted p (λ e. ticket_in e.reply) (λ x. x.drawn) (ticket_counts p) start log rows legal.from);
@@ -330,7 +330,7 @@ each_shard_counts_once p lanes log plan legal =
           (counted p (λ e. number_in s e.event e.reply) (λ x. slice_index x.given s) (number_counts p s plan) start log rows legal.from);
       given = bounds.1;
       won = λ s. ap (λ (n : ℕ). winner_in n ++ wins s log) (sym (no_number p.shards s)) ∙ won_along p s plan start log rows legal.from;
-      held = held;
+      anywhere = anywhere;
     }
 
 legal_front : (p : PlanData) (x : LedgerState) (front back : List Entry) → IsLegalFrom p x (front ++ back)

@@ -15,7 +15,7 @@ use Rattle.sz_book.specs.declared.event.Entry.{Entry}
 use Rattle.sz_book.specs.Machine.{LedgerState, opening, after, reply_of, Fits, IsDrawn, IsTried, IsReturned, list_of}
 use Rattle.sz_book.specs.History.{entry, state_after, IsLegal, IsTrueReport}
 use Rattle.sz_book.specs.Cores.{CoreData, ReservedData, IsSound, TakesWith}
-use Rattle.sz_book.specs.Held.{HeldData, all_home, is_change, history_after, Applies, lending, with_lendings, Replays, history_of, shards_in, changes_in, held_data, IsHeld}
+use Rattle.sz_book.specs.Held.{HeldData, all_home, is_change, history_after, Applies, lending, with_lendings, Replays, history_of, shards_in, changes_in, held_data, KeepsHistory}
 use Rattle.sz_book.proofs.HistoryLemmas.{state_after-snoc, legal-snoc}
 use Rattle.sz_book.proofs.StepLemmas.{HasRows, either}
 use Rattle.sz_book.proofs.CountLemmas.{death_step}
@@ -117,7 +117,7 @@ by_change p lanes log x event ss reply h fits answer true is =
     subst (λ (l : List Entry). LeadsTo p lanes l (all_home (after p x 0 event ss))) (sym (with_lendings-snoc log (entry 0 event ss reply))) (goes_on p lanes (with_lendings log) x event ss reply h fits answer is)
 by_change p lanes log x event ss reply h fits answer false is = record { legal = h.legal; state = h.state ∙ sym (unchanged p x event ss is) }
 
--- a held ledger replays after each step
+-- a ledger with its history replays after each step
 pub replays_on : (died : ℕ → ℕ → Type 0) (faults : ℕ → Type 0) (h : HeldData) (event : Event) (ss : List ℕ) (reply : Reply) → Replays died faults h → IsSound h.plan h.state
     → Fits h.plan h.state 0 event ss → IsTrueReport died faults event → reply ≡ reply_of h.plan h.state event
     → Replays died faults (record { plan = h.plan; lanes = h.lanes; state = after h.plan h.state 0 event ss; history = history_after h event ss reply })
@@ -185,7 +185,7 @@ next_core old new event ss reply t = sym (t.kept ∙ ap (λ (x : LedgerState). r
 
 -- there is room for one more change, and for what comes with it
 pub room_for_change : (died : ℕ → ℕ → Type 0) (faults : ℕ → Type 0) (core : CoreData) (cs : List Change) (b : ReservedData) (room : ℕ) (event : Event) (ss : List ℕ)
-    → IsHeld died faults core cs b room → IsSound core.plan core.state → Fits core.plan core.state 0 event ss → is_change core.plan core.state event ss ≡ true → length cs < room
+    → KeepsHistory died faults core cs b room → IsSound core.plan core.state → Fits core.plan core.state 0 event ss → is_change core.plan core.state event ss ≡ true → length cs < room
 room_for_change died faults core cs b room event ss h sound fits is =
     let a = h.few in
     let c = counts core.plan core.state event ss sound fits is in
@@ -194,7 +194,7 @@ room_for_change died faults core cs b room event ss h sound fits is =
     omega arith
 
 pub room_for_shards : (died : ℕ → ℕ → Type 0) (faults : ℕ → Type 0) (core : CoreData) (cs : List Change) (b : ReservedData) (room : ℕ) (event : Event) (ss : List ℕ)
-    → IsHeld died faults core cs b room → IsSound core.plan core.state → Fits core.plan core.state 0 event ss → length b.shards + length ss ≤ b.room
+    → KeepsHistory died faults core cs b room → IsSound core.plan core.state → Fits core.plan core.state 0 event ss → length b.shards + length ss ≤ b.room
 room_for_shards died faults core cs b room event ss h sound fits =
     let next = sound_after core.plan core.state event ss sound fits in
     let a = lists_grow core.plan core.state event ss sound fits in
@@ -213,19 +213,19 @@ history_told h event ss reply cs b is came change =
     history_of-snoc cs b (record { event = event; reply = reply; shards = length ss }) ss came refl ∙ ap (λ (l : List Entry). l ++ entry 0 event ss reply ∷ []) (sym is)
     ∙ sym (ap (λ (b : Bool). cond b (h.history ++ entry 0 event ss reply ∷ []) h.history) change)
 
--- a held ledger after a change
-pub held_change : (died : ℕ → ℕ → Type 0) (faults : ℕ → Type 0) (core new : CoreData) (cs : List Change) (b : ReservedData) (room : ℕ) (event : Event) (ss : List ℕ) (reply : Reply)
-    → IsHeld died faults core cs b room → IsSound core.plan core.state → IsTrueReport died faults event → TakesWith core event ss reply new
+-- a ledger with its history after a change
+pub history_change : (died : ℕ → ℕ → Type 0) (faults : ℕ → Type 0) (core new : CoreData) (cs : List Change) (b : ReservedData) (room : ℕ) (event : Event) (ss : List ℕ) (reply : Reply)
+    → KeepsHistory died faults core cs b room → IsSound core.plan core.state → IsTrueReport died faults event → TakesWith core event ss reply new
     → is_change core.plan core.state event ss ≡ true
-    → IsHeld died faults new (cs ++ (record { event = event; reply = reply; shards = length ss }) ∷ []) (record { room = b.room; shards = b.shards ++ ss }) room
-held_change died faults core new cs b room event ss reply h sound report t is =
+    → KeepsHistory died faults new (cs ++ (record { event = event; reply = reply; shards = length ss }) ∷ []) (record { room = b.room; shards = b.shards ++ ss }) room
+history_change died faults core new cs b room event ss reply h sound report t is =
     let p = core.plan in
     let fits = t.step.fits in
     let c : Change = record { event = event; reply = reply; shards = length ss } in
     let told = history_told (held_data core cs b) event ss reply cs b.shards refl h.came is in
     let grown = lists_grow p core.state event ss sound fits in
     let more = counts p core.state event ss sound fits is in
-    subst (λ (d : CoreData). IsHeld died faults d (cs ++ c ∷ []) (record { room = b.room; shards = b.shards ++ ss }) room) (next_core core new event ss reply t) (record {
+    subst (λ (d : CoreData). KeepsHistory died faults d (cs ++ c ∷ []) (record { room = b.room; shards = b.shards ++ ss }) room) (next_core core new event ss reply t) (record {
       replays = subst (λ (l : List Entry). Replays died faults (record { plan = p; lanes = core.lanes; state = after p core.state 0 event ss; history = l })) (sym told)
           (replays_on died faults (held_data core cs b) event ss reply h.replays sound fits report t.step.answer);
       came = sum_by_push (λ (e : Change). e.shards) cs c ∙ ap (λ (n : ℕ). n + length ss) h.came ∙ sym (length-append b.shards ss);
@@ -236,10 +236,10 @@ held_change died faults core new cs b room event ss reply h sound report t is =
     })
 
 -- and after what is none
-pub held_same : (died : ℕ → ℕ → Type 0) (faults : ℕ → Type 0) (core new : CoreData) (cs : List Change) (b : ReservedData) (room : ℕ) (event : Event) (ss : List ℕ) (reply : Reply)
-    → IsHeld died faults core cs b room → IsSound core.plan core.state → IsTrueReport died faults event → TakesWith core event ss reply new
-    → is_change core.plan core.state event ss ≡ false → IsHeld died faults new cs b room
-held_same died faults core new cs b room event ss reply h sound report t is =
+pub history_same : (died : ℕ → ℕ → Type 0) (faults : ℕ → Type 0) (core new : CoreData) (cs : List Change) (b : ReservedData) (room : ℕ) (event : Event) (ss : List ℕ) (reply : Reply)
+    → KeepsHistory died faults core cs b room → IsSound core.plan core.state → IsTrueReport died faults event → TakesWith core event ss reply new
+    → is_change core.plan core.state event ss ≡ false → KeepsHistory died faults new cs b room
+history_same died faults core new cs b room event ss reply h sound report t is =
     let p = core.plan in
     let fits = t.step.fits in
     let same : history_after (held_data core cs b) event ss reply ≡ history_of cs b.shards =
@@ -247,7 +247,7 @@ held_same died faults core new cs b room event ss reply h sound report t is =
     let grown = lists_grow p core.state event ss sound fits in
     let none = none_came p core.state event ss fits is in
     let equal : changes_in p (after p core.state 0 event ss) ≡ changes_in p core.state = ap (changes_in p) (unchanged p core.state event ss is) in
-    subst (λ (d : CoreData). IsHeld died faults d cs b room) (next_core core new event ss reply t) (record {
+    subst (λ (d : CoreData). KeepsHistory died faults d cs b room) (next_core core new event ss reply t) (record {
       replays = subst (λ (l : List Entry). Replays died faults (record { plan = p; lanes = core.lanes; state = after p core.state 0 event ss; history = l })) same
           (replays_on died faults (held_data core cs b) event ss reply h.replays sound fits report t.step.answer);
       came = h.came;

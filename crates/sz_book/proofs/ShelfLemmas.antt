@@ -103,18 +103,18 @@ in_place_open p lanes h = record {
 }
 
 -- a lane that doesn't fit is dropped
-pub not_given : (old : ShelfData) (i : ℕ) (lane : LaneData) (back : List ℕ) → lane.shards ≡ list_of old.held.state i ++ back
-    → ¬ Fits old.held.plan old.held.state 0 (LaneBack i) back → IsGiven old i lane old
+pub not_given : (old : ShelfData) (i : ℕ) (lane : LaneData) (back : List ℕ) → lane.shards ≡ list_of old.ledger.state i ++ back
+    → ¬ Fits old.ledger.plan old.ledger.state 0 (LaneBack i) back → IsGiven old i lane old
 not_given old i lane back is never = record {
-  home = λ further too fits. absurd (never (subst (Fits old.held.plan old.held.state 0 (LaneBack i)) (append_cancel_left (list_of old.held.state i) further back (sym too ∙ is)) fits));
+  home = λ further too fits. absurd (never (subst (Fits old.ledger.plan old.ledger.state 0 (LaneBack i)) (append_cancel_left (list_of old.ledger.state i) further back (sym too ∙ is)) fits));
   dropped = λ none. refl;
 }
 
 -- a lane that comes home
-pub is_given : (old new : ShelfData) (i : ℕ) (lane : LaneData) (back : List ℕ) (reply : Reply) → lane.shards ≡ list_of old.held.state i ++ back
-    → Applies old.held (LaneBack i) back reply new.held → new.homes ≡ set old.homes i (Some lane) → IsGiven old i lane new
+pub is_given : (old new : ShelfData) (i : ℕ) (lane : LaneData) (back : List ℕ) (reply : Reply) → lane.shards ≡ list_of old.ledger.state i ++ back
+    → Applies old.ledger (LaneBack i) back reply new.ledger → new.homes ≡ set old.homes i (Some lane) → IsGiven old i lane new
 is_given old new i lane back reply is t homes = record {
-  home = λ further too fits. subst (λ (l : List ℕ). Homes old i lane l new) (append_cancel_left (list_of old.held.state i) back further (sym is ∙ too))
-      (subst (λ (r : Reply). Applies old.held (LaneBack i) back r new.held) t.step.answer t, homes);
+  home = λ further too fits. subst (λ (l : List ℕ). Homes old i lane l new) (append_cancel_left (list_of old.ledger.state i) back further (sym is ∙ too))
+      (subst (λ (r : Reply). Applies old.ledger (LaneBack i) back r new.ledger) t.step.answer t, homes);
   dropped = λ none. absurd (none back is t.step.fits);
 }

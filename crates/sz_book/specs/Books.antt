@@ -1,4 +1,4 @@
--- What a lock round a held ledger keeps, and what the calls of a book say.
+-- What a lock round a ledger with its history keeps, and what the calls of a book say.
 use Rattle.std.specs.Prelude.{◌≡◌, ◌⊎◌, ℕ, ◌<◌, ◌≤◌, true, false, List, [], ◌∷◌, ◌++◌, length, slice_index, slice_index_or, slice_set, Option, Some, None}
 use Rattle.sz_book.specs.Plan.{PlanData, count_of}
 use Rattle.sz_book.specs.declared.plan.Claim.{Claim}
@@ -13,7 +13,7 @@ use Rattle.sz_book.specs.Held.{HeldData, Applies, Replays}
 
 -- what the lock guards: the ledger, and for each lane the lane itself where it is home
 pub record ShelfData : Type 0 where
-  pub held : HeldData
+  pub ledger : HeldData
   pub homes : List (Option LaneData)
 
 -- a lane that is home has the shards that the state has for it, and one that is out isn't here
@@ -45,30 +45,30 @@ IsPlain (Bad s) = Unit {0}
 
 -- the event, of no lane, was taken in
 abbrev pub Takes : ShelfData → Event → Reply → ShelfData → Type 0
-Takes old event reply new = Applies old.held event [] reply new.held × (new.homes ≡ old.homes)
+Takes old event reply new = Applies old.ledger event [] reply new.ledger × (new.homes ≡ old.homes)
 
 -- the event was no step, and nothing changed
 abbrev pub Refuses : ShelfData → Event → List ℕ → ShelfData → Type 0
-Refuses old event shards new = (new ≡ old) × ¬ Fits old.held.plan old.held.state 0 event shards
+Refuses old event shards new = (new ≡ old) × ¬ Fits old.ledger.plan old.ledger.state 0 event shards
 
 -- lane i was home and is lent
 abbrev pub Lends : ShelfData → ℕ → LaneData → ShelfData → Type 0
 Lends old i lane new =
-    Applies old.held (LaneOut i) [] (Lane true) new.held × (slice_index_or old.homes i None ≡ Some lane) × (new.homes ≡ slice_set old.homes i None)
+    Applies old.ledger (LaneOut i) [] (Lane true) new.ledger × (slice_index_or old.homes i None ≡ Some lane) × (new.homes ≡ slice_set old.homes i None)
 
 -- lane i was out and stays so, or there is no such lane
 abbrev pub LendsNone : ShelfData → ℕ → ShelfData → Type 0
-LendsNone old i new = (new.homes ≡ old.homes) × (Applies old.held (LaneOut i) [] (Lane false) new.held ⊎ Refuses old (LaneOut i) [] new)
+LendsNone old i new = (new.homes ≡ old.homes) × (Applies old.ledger (LaneOut i) [] (Lane false) new.ledger ⊎ Refuses old (LaneOut i) [] new)
 
 -- the lane came home with these shards after those that it had
 abbrev pub Homes : ShelfData → ℕ → LaneData → List ℕ → ShelfData → Type 0
-Homes old i lane further new = Applies old.held (LaneBack i) further Noted new.held × (new.homes ≡ slice_set old.homes i (Some lane))
+Homes old i lane further new = Applies old.ledger (LaneBack i) further Noted new.ledger × (new.homes ≡ slice_set old.homes i (Some lane))
 
 -- a lane that is given back comes home where that fits, and is dropped otherwise
 pub record IsGiven (old : ShelfData) (i : ℕ) (lane : LaneData) (new : ShelfData) : Type 0 where
-  pub home : (further : List ℕ) → lane.shards ≡ list_of old.held.state i ++ further → Fits old.held.plan old.held.state 0 (LaneBack i) further
+  pub home : (further : List ℕ) → lane.shards ≡ list_of old.ledger.state i ++ further → Fits old.ledger.plan old.ledger.state 0 (LaneBack i) further
       → Homes old i lane further new
-  pub dropped : ((further : List ℕ) → lane.shards ≡ list_of old.held.state i ++ further → ¬ Fits old.held.plan old.held.state 0 (LaneBack i) further)
+  pub dropped : ((further : List ℕ) → lane.shards ≡ list_of old.ledger.state i ++ further → ¬ Fits old.ledger.plan old.ledger.state 0 (LaneBack i) further)
       → new ≡ old
 
 -- what a contract sees of a book, and of a pass: the plan, and how many passes may still be split off
@@ -96,6 +96,6 @@ pub record Shows (x : LedgerState) (won died : List ℕ) (bad : Option ℕ) : Ty
 
 -- what is left of a ledger shows the state that some history leads to, whose reports are true
 pub record IsLeft (died : ℕ → ℕ → Type 0) (faults : ℕ → Type 0) (won notes : List ℕ) (bad : Option ℕ) : Type 0 where
-  pub held : HeldData
-  pub replays : Replays died faults held
-  pub shows : Shows held.state won notes bad
+  pub ledger : HeldData
+  pub replays : Replays died faults ledger
+  pub shows : Shows ledger.state won notes bad

@@ -51,8 +51,8 @@ abbrev pub once : ℕ → ℕ
 once mark = if mark == 0 then 0 else 1
 
 -- how often shard s stands in all lanes, and among the shards that were won and are in none
-abbrev pub times_held : LedgerState → ℕ → ℕ
-times_held x s = sum_by (times s) x.lists + once (slice_index x.unplaced s)
+abbrev pub times_anywhere : LedgerState → ℕ → ℕ
+times_anywhere x s = sum_by (times s) x.lists + once (slice_index x.unplaced s)
 
 -- all attempts that shard s may have died
 abbrev pub IsLost : PlanData → LedgerState → ℕ → Type 0
@@ -66,7 +66,7 @@ pub record CountsOnce (p : PlanData) (x : LedgerState) (log : List Entry) : Type
   pub numbers : (s : ℕ) → numbers_given s log ≡ range_with_len 0 (slice_index x.given s)
   pub given : (s : ℕ) → slice_index x.given s ≤ p.attempts
   pub won : (s : ℕ) → wins s log ≡ winner_in (slice_index x.winners s)
-  pub held : (s : ℕ) → times_held x s ≡ once (slice_index x.winners s)
+  pub anywhere : (s : ℕ) → times_anywhere x s ≡ once (slice_index x.winners s)
 
 -- the state after a history from the opening
 abbrev pub left_by : PlanData → ℕ → List Entry → LedgerState

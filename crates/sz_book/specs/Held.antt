@@ -55,8 +55,8 @@ abbrev pub with_lendings : List Entry → List Entry
 with_lendings [] = []
 with_lendings (e ∷ es) = lending e.event ++ e ∷ with_lendings es
 
--- What the type of a held ledger keeps: with a lending in front of each return the history is legal, and leads to the state but for
--- which lanes are out. Each noted death is of an attempt that died, and the least bad shard faults
+-- What the type of a ledger with its history keeps: with a lending in front of each return the history is legal, and leads to the state
+-- but for which lanes are out. Each noted death is of an attempt that died, and the least bad shard faults
 pub record Replays (died : ℕ → ℕ → Type 0) (faults : ℕ → Type 0) (h : HeldData) : Type 0 where
   pub plan : IsPlan h.plan
   pub legal : IsLegal h.plan h.lanes (with_lendings h.history)
@@ -90,12 +90,13 @@ changes_in p x = x.drawn + sum_by (λ n. n) x.given + sum_by (deaths_in p) x.dea
 abbrev pub most_changes : PlanData → ℕ
 most_changes p = count_of p + p.shards * (2 * p.attempts + 3)
 
--- what a contract sees of a held ledger with this core, these changes and the shards that came with them
+-- what a contract sees of a ledger with this core, these changes and the shards that came with them
 abbrev pub held_data : CoreData → List Change → ReservedData → HeldData
 held_data core changes brought = record { plan = core.plan; lanes = core.lanes; state = core.state; history = history_of changes brought.shards }
 
 -- the same with the room for all that may still come
-pub record IsHeld (died : ℕ → ℕ → Type 0) (faults : ℕ → Type 0) (core : CoreData) (changes : List Change) (brought : ReservedData) (room : ℕ) : Type 0 where
+pub record KeepsHistory (died : ℕ → ℕ → Type 0) (faults : ℕ → Type 0) (core : CoreData) (changes : List Change) (brought : ReservedData)
+    (room : ℕ) : Type 0 where
   pub replays : Replays died faults (held_data core changes brought)
   pub came : shards_in changes ≡ length brought.shards
   pub placed : length brought.shards ≡ sum_by length core.state.lists

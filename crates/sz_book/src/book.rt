@@ -18,7 +18,7 @@ use std::sync::{Mutex, Wait};
 /// The ledger of a round after one lock. Each call tests under the lock whether its event fits the state. If it does, it is taken in
 /// and answered; if it doesn't, nothing changes.
 ///
-/// Contracts see its plan. What the lock keeps is told by no call but the last one; what a call answers is held against the plan.
+/// Contracts see its plan. What the lock keeps is told by no call but the last one; what a call answers is compared with the plan.
 pub struct Book<T: Load> {
     plan: Plan,
     shelf: Mutex<Shelf<T>>,

@@ -38,13 +38,13 @@ impl<T: Load> Drop for Held<T> {
 
 impl<T: Load> Model for Held<T> {
     ghost use Rattle.std.specs.Prelude.{vec_capacity};
-    ghost use Rattle.sz_book.specs.Held.{HeldData, held_data, IsHeld};
+    ghost use Rattle.sz_book.specs.Held.{HeldData, held_data, KeepsHistory};
 
     ghost Value = { HeldData };
 
     ghost view = { λ held. held_data held.core held.changes.items held.brought };
 
-    ghost invariant = { λ held. IsHeld T.died T.faults held.core held.changes.items held.brought (vec_capacity held.changes) };
+    ghost invariant = { λ held. KeepsHistory T.died T.faults held.core held.changes.items held.brought (vec_capacity held.changes) };
 }
 
 // Puts a change after the others, with the shards that came with it.

@@ -20,7 +20,7 @@ pub fn each_shard_is_decided()
     ensures decided { EachShardIsDecided }
 {}
 
-/// A held ledger's history has just the calls that left another state, but for which lanes are out.
+/// A ledger's history has just the calls that left another state, but for which lanes are out.
 pub fn changes_are_seen()
     ensures seen { ChangesAreSeen }
 {}

@@ -9,13 +9,13 @@ use std::marker::Model;
 ///
 /// Contracts see the room and the shards.
 pub struct Reserved {
-    held: Vec<u32>,
+    kept: Vec<u32>,
     room: usize,
 }
 
 impl Drop for Reserved {
     fn drop(self) {
-        let Reserved { held: _, room: _ } = self;
+        let Reserved { kept: _, room: _ } = self;
     }
 }
 
@@ -26,9 +26,9 @@ impl Model for Reserved {
 
     ghost Value = { ReservedData };
 
-    ghost view = { λ list. record { room = list.room; shards = list.held.items } };
+    ghost view = { λ list. record { room = list.room; shards = list.kept.items } };
 
-    ghost invariant = { λ list. list.room ≤ vec_capacity list.held };
+    ghost invariant = { λ list. list.room ≤ vec_capacity list.kept };
 }
 
 impl Reserved {
@@ -36,8 +36,8 @@ impl Reserved {
     pub fn new(alloc: Global, room: usize) -> Result<Reserved, NoMemory>
         ensures value { IfOk result (λ list. list ≡ record { room = room; shards = [] }) }
     {
-        let held = Vec::with_capacity(alloc, room)?;
-        Ok(Reserved { held, room })
+        let kept = Vec::with_capacity(alloc, room)?;
+        Ok(Reserved { kept, room })
     }
 
     /// Puts these shards after the list.
@@ -45,13 +45,13 @@ impl Reserved {
         requires room { length self.old.shards + length shards.now ≤ self.old.room }
         ensures value { self.new ≡ record { room = self.old.room; shards = self.old.shards ++ shards.now } }
     {
-        let _ = self.held.extend_from_slice(shards);
+        let _ = self.kept.extend_from_slice(shards);
     }
 
     /// The shards.
     pub fn as_slice(&self) -> &[u32]
         ensures value { result.now ≡ self.now.shards }
     {
-        self.held.as_slice()
+        self.kept.as_slice()
     }
 }

@@ -15,9 +15,9 @@ use crate::plan::Plan;
 use std::alloc::Global;
 use std::marker::Model;
 
-/// A held ledger, with the lanes that are home.
+/// A ledger with its history, with the lanes that are home.
 pub struct Shelf<T: Load> {
-    held: Held<T>,
+    ledger: Held<T>,
     homes: Vec<Option<Lane<T>>>,
     // What the end of the ledger fills.
     spare: Vec<Lane<T>>,
@@ -26,7 +26,7 @@ pub struct Shelf<T: Load> {
 impl<T: Load> Drop for Shelf<T> {
     fn drop(self) {
         let Shelf {
-            held: _,
+            ledger: _,
             homes: _,
             spare: _,
         } = self;
@@ -39,9 +39,9 @@ impl<T: Load> Model for Shelf<T> {
 
     ghost Value = { ShelfData };
 
-    ghost view = { λ shelf. record { held = shelf.held; homes = shelf.homes.items } };
+    ghost view = { λ shelf. record { ledger = shelf.ledger; homes = shelf.homes.items } };
 
-    ghost invariant = { λ shelf. IsShelf shelf.held.state shelf.homes.items (vec_len shelf.homes) (vec_len shelf.spare) (vec_capacity shelf.spare) };
+    ghost invariant = { λ shelf. IsShelf shelf.ledger.state shelf.homes.items (vec_len shelf.homes) (vec_len shelf.spare) (vec_capacity shelf.spare) };
 }
 
 // The lanes, all home.
@@ -60,12 +60,16 @@ impl<T: Load> Shelf<T> {
     pub fn new(alloc: Global, plan: &Plan, lanes: Vec<Lane<T>>) -> Result<Shelf<T>, NoMemory>
         requires few { length lanes.items < 2 ^ 32 }
         requires empty { HaveNoShards lanes.items }
-        ensures value { IfOk result (λ shelf. shelf ≡ record { held = record { plan = plan.now; lanes = length lanes.items; state = opening plan.now (length lanes.items); history = [] }; homes = map (λ lane. Some lane) lanes.items }) }
+        ensures value { IfOk result (λ shelf. shelf ≡ record { ledger = record { plan = plan.now; lanes = length lanes.items; state = opening plan.now (length lanes.items); history = [] }; homes = map (λ lane. Some lane) lanes.items }) }
     {
-        let held = Held::new(alloc, plan, lanes.len() as u32)?;
+        let ledger = Held::new(alloc, plan, lanes.len() as u32)?;
         let spare = Vec::with_capacity(alloc, lanes.len())?;
         let homes = at_home(alloc, lanes)?;
-        Ok(Shelf { held, homes, spare })
+        Ok(Shelf {
+            ledger,
+            homes,
+            spare,
+        })
     }
 
     /// Takes in an event that is of no lane, and answers it. None where it doesn't fit.
@@ -75,10 +79,10 @@ impl<T: Load> Shelf<T> {
         ensures some { IfSome result (λ reply. AsksAndTakes self.old event.now reply self.new) }
         ensures none { IfNone result (Refuses self.old event.now [] self.new) }
     {
-        if !self.held.fits(event, &[]) {
+        if !self.ledger.fits(event, &[]) {
             return None;
         }
-        Some(self.held.apply(event, &[]))
+        Some(self.ledger.apply(event, &[]))
     }
 
     /// Lends a lane, where it is home.
@@ -87,10 +91,10 @@ impl<T: Load> Shelf<T> {
         ensures none { IfNone result (LendsNone self.old lane_no self.new) }
     {
         let event = Event::LaneOut(lane_no);
-        if !self.held.fits(&event, &[]) {
+        if !self.ledger.fits(&event, &[]) {
             return None;
         }
-        match self.held.apply(&event, &[]) {
+        match self.ledger.apply(&event, &[]) {
             Reply::Lane(true) => self.homes[lane_no as usize].take(),
             _ => None,
         }
@@ -102,13 +106,13 @@ impl<T: Load> Shelf<T> {
     {
         let event = Event::LaneBack(lane_no);
         let shards = lane.shards().as_slice();
-        let Some(count) = self.held.count_in(lane_no, shards) else {
+        let Some(count) = self.ledger.count_in(lane_no, shards) else {
             return;
         };
-        if !self.held.fits(&event, &shards[count..]) {
+        if !self.ledger.fits(&event, &shards[count..]) {
             return;
         }
-        self.held.apply(&event, &shards[count..]);
+        self.ledger.apply(&event, &shards[count..]);
         self.homes[lane_no as usize] = Some(lane);
     }
 
@@ -118,13 +122,13 @@ impl<T: Load> Shelf<T> {
         ensures left { IsLeft T.died T.faults result.settled result.deaths result.least_bad }
     {
         let Shelf {
-            held,
+            ledger,
             homes,
             mut spare,
         } = self;
         let mut settled = settled;
         let mut deaths = deaths;
-        let least_bad = held.show(&mut settled, &mut deaths);
+        let least_bad = ledger.show(&mut settled, &mut deaths);
         take_home(homes, &mut spare);
         Closed {
             lanes: spare,

@@ -1,4 +1,4 @@
-//! A held ledger takes in each kind of event, and refuses those that don't fit, with answers worked by hand.
+//! A ledger with its history takes in each kind of event, and refuses those that don't fit, with answers worked by hand.
 use crate::plans::{FIRST, SECOND, one_shard};
 use crate::tally::Tally;
 use std::alloc::Global;

@@ -14,11 +14,11 @@ use Rattle.sz_book.specs.Machine.{LedgerState, opening, after, reply_of, Fits, l
 use Rattle.sz_book.specs.History.{entry, state_after, IsLegal, IsTrueReport}
 use Rattle.sz_claims.specs.declared.view.Account.{Account}
 use Rattle.sz_claims.specs.declared.view.View.{View}
-use Rattle.sz_claims.specs.Rule.{Slot, Shows, IsBounded, IsOut, IsTrueOf, IsAt, AreHeld, Kept, calling, looking, Follows, Called, Looked}
+use Rattle.sz_claims.specs.Rule.{Slot, Shows, IsBounded, IsOut, IsTrueOf, IsAt, HaveBorrowers, Kept, calling, looking, Follows, Called, Looked}
 use Rattle.sz_claims.specs.Moves.{MayCall}
 use Rattle.sz_book.specs.Books.{IsPlain}
 use Rattle.sz_book.proofs.HistoryLemmas.{state_after-snoc, legal-snoc, reports-snoc, calls_own, calls_other, starts_self, starts_empty, starts_more}
-use Rattle.sz_claims.proofs.SeatLemmas.{was, set_at, numbered_set, held_set}
+use Rattle.sz_claims.proofs.SeatLemmas.{was, set_at, numbered_set, borrowed_set}
 use Rattle.atomic_table.proofs.Lists.{set_else}
 use mathlib.Core.Logic.{dite}
 use native.Mathlib.Decide.{ℕ_discrete}
@@ -57,7 +57,7 @@ pub record IsCall (died : ℕ → ℕ → Type 0) (faults : ℕ
       → (lane ≢ i + 1) × (slice_index (after p (state_after p (opening p lanes) log) e.by e.event e.shards).outs i ≡ slice_index
       (state_after p (opening p lanes) log).outs i)
       × (list_of (after p (state_after p (opening p lanes) log) e.by e.event e.shards) i ≡ list_of (state_after p (opening p lanes) log) i)
-  pub held : (i : ℕ) → i < lanes → slice_index (after p (state_after p (opening p lanes) log) e.by e.event e.shards).outs i ≡ 1
+  pub borrowed : (i : ℕ) → i < lanes → slice_index (after p (state_after p (opening p lanes) log) e.by e.event e.shards).outs i ≡ 1
       → (lane ≡ i + 1) ⊎ ((j : ℕ) × (u : View) × IsAt s.views j u × (j ≢ id) × (u.lane ≡ i + 1))
 
 -- the rule after a call
@@ -83,7 +83,7 @@ kept_after died faults p lanes s h id v e lane lent words homes c =
       bounded = c.bounded;
       small = h.small;
       numbered = numbered_set s.views h.made h.joined id v w c.at refl refl h.numbered;
-      held = record {
+      borrowed = record {
         once = λ i j k u z a b has has'. ⊎_elim
             (λ (q : (i ≡ id) × (w ≡ u)). ⊎_elim
             (λ (r : (j ≡ id) × (w ≡ z)). q.0 ∙ sym r.0)
@@ -91,14 +91,14 @@ kept_after died faults p lanes s h id v e lane lent words homes c =
             (was s.views id w j z b))
             (λ (q : (i ≢ id) × IsAt s.views i u). ⊎_elim
             (λ (r : (j ≡ id) × (w ≡ z)). absurd ((c.away i u q.1 q.0 k has).0 (ap (λ (f : View). f.lane) r.1 ∙ has')))
-            (λ (r : (j ≢ id) × IsAt s.views j z). h.held.once i j k u z q.1 r.1 has has')
+            (λ (r : (j ≢ id) × IsAt s.views j z). h.borrowed.once i j k u z q.1 r.1 has has')
             (was s.views id w j z b))
             (was s.views id w i u a);
         each = λ k low out. ⊎_elim
             (λ (q : lane ≡ k + 1). (id, w, (set_at s.views id v w c.at.0, live), q))
             (λ (q : (j : ℕ) × (u : View) × IsAt s.views j u × (j ≢ id) × (u.lane ≡ k + 1)).
             (q.0, q.1, (set_else s.views id q.0 w q.3 ∙ q.2.0, q.2.1), q.4))
-            (c.held k low (ap (λ (z : LedgerState). slice_index z.outs k) (sym next) ∙ out));
+            (c.borrowed k low (ap (λ (z : LedgerState). slice_index z.outs k) (sym next) ∙ out));
       };
       knows = λ j u there.
           subst (λ (z : LedgerState). IsTrueOf p lanes (h.log ++ e ∷ []) z h.made h.joined u) (sym next)
@@ -163,11 +163,12 @@ lanes_stay p x n (LaneBack i) shards plain = absurd plain
 lanes_stay p x n (Bad s) shards plain = (refl, refl)
 
 -- a lane that is out with another pass, or with this one
-pub held_by : (p : PlanData) (lanes : ℕ) (vs : List View) (id : ℕ) (v : View) (x : LedgerState) → IsAt vs id v → AreHeld vs lanes x → (i : ℕ) → i < lanes
+pub borrowed_by : (p : PlanData) (lanes : ℕ) (vs : List View) (id : ℕ) (v : View) (x : LedgerState) → IsAt vs id v → HaveBorrowers vs lanes x
+    → (i : ℕ) → i < lanes
     → slice_index x.outs i ≡ 1
     → (v.lane ≡ i + 1) ⊎ ((j : ℕ) × (u : View) × IsAt vs j u × (j ≢ id) × (u.lane ≡ i + 1))
-held_by p lanes vs id v x at held i low out =
-    let h = held.each i low out in dite (ℕ_discrete h.0 id)
+borrowed_by p lanes vs id v x at borrowed i low out =
+    let h = borrowed.each i low out in dite (ℕ_discrete h.0 id)
     (λ (e : h.0 ≡ id).
     let same : h.1 ≡ v = some-injective h.1 v (sym h.2.0 ∙ ap (λ k. get_elem? vs k) e ∙ at.0) in
     inl (ap (λ (f : View). f.lane) (sym same) ∙ h.3))
@@ -201,8 +202,8 @@ calls died faults p lanes slots id me i f event reply may s h same at small =
             shows = m.shows;
             bounded = m.bounded;
             mine = λ k has. let l = t.lane k has in (l.0, outs k ∙ l.1, lists k ∙ l.2);
-            away = λ j u there ne k has. ((λ own. ne (h.held.once j id k u v there here has own)), outs k, lists k);
-            held = λ k low out. held_by p lanes s.views id v x here h.held k low (sym (outs k) ∙ out);
+            away = λ j u there ne k has. ((λ own. ne (h.borrowed.once j id k u v there here has own)), outs k, lists k);
+            borrowed = λ k low out. borrowed_by p lanes s.views id v x here h.borrowed k low (sym (outs k) ∙ out);
           },
       ((h.log, refl, follows died faults p lanes s h id v e v.lane v.lent here refl legal), refl),
     )
@@ -252,7 +253,7 @@ looks died faults p lanes slots id me i live s h same at small =
         bounded = subst (λ (ws : List ℕ). IsBounded p ws h.log h.made) (sym words) h.bounded;
         small = h.small;
         numbered = numbered_set s.views h.made h.joined id v w here refl refl h.numbered;
-        held = held_set s.views lanes x id v w here refl live h.held;
+        borrowed = borrowed_set s.views lanes x id v w here refl live h.borrowed;
         knows = seen_all p lanes h.log x h.made h.joined s.views id v here h.knows;
         closed = h.closed;
         others = h.others;

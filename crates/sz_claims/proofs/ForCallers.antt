@@ -67,7 +67,7 @@ kept_given : (b : Bool) (s : ℕ) (e : Entry) (es : List Entry) → HasGiven s (
 kept_given true s e es h = h
 kept_given false s e es h = inr h
 
-own_given : (n s : ℕ) (es : List Entry) → HasGiven s (calls_by n es) → HasGiven s es
+pub own_given : (n s : ℕ) (es : List Entry) → HasGiven s (calls_by n es) → HasGiven s es
 own_given n s [] h = h
 own_given n s (e ∷ es) h =
     ⊎_elim inl (λ (t : HasGiven s (calls_by n es)). inr (own_given n s es t)) (kept_given (e.by == n) s e (calls_by n es) h)
@@ -114,7 +114,7 @@ in_hand_still v w shards e r lane lent h hand =
       fresh = λ s in' given. hand.fresh s in' (given_before s v.mine d refl (subst (HasGiven s) mine given));
     }
 
-fewer_times : (s t : ℕ) (ts : List ℕ) → times s ts ≤ times s (t ∷ ts)
+pub fewer_times : (s t : ℕ) (ts : List ℕ) → times s ts ≤ times s (t ∷ ts)
 fewer_times s t ts = dite (ℕ_discrete t s)
     (λ (e : t ≡ s). let one = ap (λ (b : Bool). cond b (times s ts + 1) (times s ts)) (eq-eqb t s e) in omega arith)
     (λ (ne : t ≢ s). let same = ap (λ (b : Bool). cond b (times s ts + 1) (times s ts)) (ne_eqb t s ne) in omega arith)
@@ -154,14 +154,14 @@ fits_lane v w i s lane plan h hand in' =
     let marked : once (slice_index x.unplaced s) ≡ 1 =
     ap once mark.0 ∙ ap (λ (b : Bool). cond b 0 1) (ne_eqb (v.number + 1) 0 (omega arith)) in
     let most = once_low (slice_index x.winners s) in
-    let all = counts.held s in
+    let all = counts.anywhere s in
     let none : sum_by (times s) x.lists ≡ 0 = omega arith in
     no_times s (list_of x i) (no_times_in s i 0 x.lists none) (subst (IsAmong s) list in')
 
 -- a pass that was lent a lane holds it
-pub is_held : (v w : PassData) (i : ℕ) (lane : LaneData) → IsLent v i lane w
+pub has_lane : (v w : PassData) (i : ℕ) (lane : LaneData) → IsLent v i lane w
     → (w.ledger ≡ v.ledger) × (w.lane ≡ i + 1) × (w.lent ≡ lane.shards) × (w.ledger.plan ≡ lane.plan)
-is_held v w i lane h = (
+has_lane v w i lane h = (
   ap (λ (u : PassData). u.ledger) h.0.1,
   ap (λ (u : PassData). u.lane) h.0.1,
   ap (λ (u : PassData). u.lent) h.0.1,
@@ -171,10 +171,10 @@ is_held v w i lane h = (
 -- a lane that is longer by shards that the pass won and has not brought may be given back
 pub may_give : (w : PassData) (i : ℕ) (lane longer : LaneData) (shards : List ℕ) → w.lane ≡ i + 1 → w.lent ≡ lane.shards → w.ledger.plan ≡ lane.plan
     → longer.plan ≡ lane.plan → longer.shards ≡ lane.shards ++ shards → AreInHand shards w.mine → MayGive w i longer
-may_give w i lane longer shards held lent of same more hand =
+may_give w i lane longer shards has lent of same more hand =
     let all : longer.shards ≡ w.lent ++ shards = more ∙ ap (λ (l : List ℕ). l ++ shards) (sym lent) in
     let later : further_in w longer ≡ shards = ap (drop (length w.lent)) all ∙ drop-append_seam w.lent shards in record {
-      held = held;
+      has_lane = has;
       plan = same ∙ sym of;
       longer = all ∙ ap (λ (l : List ℕ). w.lent ++ l) (sym later);
       further = subst (λ (l : List ℕ). AreInHand l w.mine) (sym later) hand;

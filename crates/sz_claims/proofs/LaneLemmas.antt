@@ -21,7 +21,7 @@ use Rattle.sz_claims.specs.Rule.{Slot, ShowsLanes, Shows, lane_data, turn_at, nu
 use Rattle.sz_claims.specs.Rule.{Lent, IsAsked, Given}
 use Rattle.sz_claims.specs.Known.{AreInHand}
 use Rattle.sz_book.proofs.HistoryLemmas.{state_after-snoc, legal-snoc}
-use Rattle.sz_claims.proofs.CallLemmas.{kept_after, follows, held_by}
+use Rattle.sz_claims.proofs.CallLemmas.{kept_after, follows, borrowed_by}
 use Rattle.sz_claims.proofs.UnplacedLemmas.{placed_length, are_unplaced}
 use Rattle.sz_claims.proofs.WordLemmas.{set_other, bound_other}
 
@@ -130,9 +130,9 @@ lends died faults p lanes slots id me i low live idle s h same at fits =
     let Seen : PlanData → ℕ → Type 0 = λ q n. list ≡ list_of (state_after q (opening q n) (h.log ++ e ∷ [])) i in
     let seen : Seen p lanes = sym (ap (λ (q : LedgerState). list_of q i) (state_after-snoc p (opening p lanes) h.log e) ∙ lists i) in
     let seen' : list ≡ list_seen w i = subst (λ (q : PlanData). Seen q v.lanes) (sym t.plan) (subst (λ (n : ℕ). Seen p n) (sym t.lanes_are) seen) in
-    let held : List (ℕ × Slot) = (i, Some (lane_data p list)) ∷ me.1 in
+    let in_slots : List (ℕ × Slot) = (i, Some (lane_data p list)) ∷ me.1 in
     let Has : Type 0 = (list' : List ℕ) × Called v (LaneOut i) [] (Lane true) (i + 1) list' w × (list' ≡ list_seen w i)
-    × (held ≡ (i, Some (lane_data v.plan list')) ∷ me.1) in
+    × (in_slots ≡ (i, Some (lane_data v.plan list')) ∷ me.1) in
     let has : Has = (
       list,
       (h.log, refl, follows died faults p lanes s h id v e (i + 1) list here refl legal),
@@ -159,14 +159,14 @@ lends died faults p lanes slots id me i low live idle s h same at fits =
                 let l = (h.knows k u there).lane n has' in
                 let apart : n ≢ i = (λ e'. let o = ap (slice_index x.outs) e' in let o' = l.1 in absurd (omega arith)) in
                 ((λ e'. apart (omega arith)), outs n ∙ get_or-set_other x.outs i n 1 0 apart, lists n);
-            held = λ k low' out. dite (ℕ_discrete k i)
+            borrowed = λ k low' out. dite (ℕ_discrete k i)
                 (λ (e' : k ≡ i). inl (ap (λ n. n + 1) (sym e')))
                 (λ (ne : k ≢ i). ⊎_elim
                 (λ (own : v.lane ≡ k + 1). absurd (omega arith))
                 inr
-                (held_by p lanes s.views id v x here h.held k low' (sym (get_or-set_other x.outs i k 1 0 ne) ∙ sym (outs k) ∙ out)));
+                (borrowed_by p lanes s.views id v x here h.borrowed k low' (sym (get_or-set_other x.outs i k 1 0 ne) ∙ sym (outs k) ∙ out)));
           },
-      subst (λ (b : Bool). MatchBool b Has (Called v (LaneOut i) [] (Lane false) v.lane v.lent w × (held ≡ me.1))) (sym (eq-eqb m 0 hit)) has,
+      subst (λ (b : Bool). MatchBool b Has (Called v (LaneOut i) [] (Lane false) v.lane v.lent w × (in_slots ≡ me.1))) (sym (eq-eqb m 0 hit)) has,
     ))
     (λ (miss : m ≢ 0).
     let e : Entry = entry v.number (LaneOut i) [] (Lane false) in
@@ -195,7 +195,7 @@ lends died faults p lanes slots id me i low live idle s h same at fits =
             bounded = bound_other p s.words h.log h.made j m e h.bounded (omega arith) (λ k low'. omega arith);
             mine = λ k is. absurd (omega arith);
             away = λ k u there ne n has'. ((λ e'. absurd (omega arith)), outs n, lists n);
-            held = λ k low' out. held_by p lanes s.views id v x here h.held k low' (sym (outs k) ∙ out);
+            borrowed = λ k low' out. borrowed_by p lanes s.views id v x here h.borrowed k low' (sym (outs k) ∙ out);
           },
       subst (λ (b : Bool). MatchBool b Has (Called v (LaneOut i) [] (Lane false) v.lane v.lent w × (me.1 ≡ me.1))) (sym (ne_eqb m 0 miss))
           ((h.log, refl, follows died faults p lanes s h id v e v.lane v.lent here refl legal), refl),
@@ -241,18 +241,18 @@ gives_back died faults p lanes slots id v i list shards live has long hand s h s
             bounded = bound_other p s.words h.log h.made j 0 e h.bounded (omega arith) (λ k low'. omega arith);
             mine = λ k none'. absurd (omega arith);
             away = λ k u there ne n has'.
-                let apart : n ≢ i = (λ e'. ne (h.held.once k id i u v there here (has' ∙ ap (λ a. a + 1) e') has)) in (
+                let apart : n ≢ i = (λ e'. ne (h.borrowed.once k id i u v there here (has' ∙ ap (λ a. a + 1) e') has)) in (
                   (λ none'. absurd (omega arith)),
                   get_or-set_other x.outs i n 0 0 apart,
                   get_or-set_other x.lists i n (list_of x i ++ shards) [] apart,
                 );
-            held = λ k low' out.
+            borrowed = λ k low' out.
                 let apart : k ≢ i = (λ e'. let o : slice_index (set x.outs i 0) k ≡ 0 = ap (slice_index (set x.outs i 0)) e' ∙ zeroth in
                 absurd (omega arith)) in
                 ⊎_elim
                 (λ (own : v.lane ≡ k + 1). absurd (apart (omega arith)))
                 inr
-                (held_by p lanes s.views id v x here h.held k low' (sym (get_or-set_other x.outs i k 0 0 apart) ∙ out));
+                (borrowed_by p lanes s.views id v x here h.borrowed k low' (sym (get_or-set_other x.outs i k 0 0 apart) ∙ out));
           },
       ((h.log, refl, follows died faults p lanes s h id v e 0 [] here refl legal), refl),
     )
@@ -265,9 +265,9 @@ first_of (x ∷ xs) = x.1
 pub asked_some : (i : ℕ) (v w u : Me Slot View) (list : List ℕ) (result : Slot) → Called v.0 (LaneOut i) [] (Lane true) (i + 1) list w.0
     → list ≡ list_seen w.0 i → w.1 ≡ (i, Some (lane_data v.0.plan list)) ∷ v.1 → w.1 ≡ (i, result) ∷ rest w.1
     → u ≡ (w.0, (i, None) ∷ rest w.1) → IsAsked i v result u
-asked_some i v w u list result call seen held same after' =
-    let is : Some (lane_data v.0.plan list) ≡ result = ap first_of (sym held ∙ same) in
-    let later : rest w.1 ≡ v.1 = ap rest held in
+asked_some i v w u list result call seen in_slots same after' =
+    let is : Some (lane_data v.0.plan list) ≡ result = ap first_of (sym in_slots ∙ same) in
+    let later : rest w.1 ≡ v.1 = ap rest in_slots in
     subst (λ (r : Slot). IsAsked i v r u) is
     (subst (λ (x : Me Slot View). IsAsked i v (Some (lane_data v.0.plan list)) x) (sym after')
     (call, ap (lane_data v.0.plan) seen, ap (λ (l : List (ℕ × Slot)). (i, None) ∷ l) later))

@@ -75,7 +75,7 @@ opens died faults p lanes words slots all plan are slots_are count empty =
       plan = plan;
       legal = record { from = tt };
       reports = tt;
-      held = record {
+      borrowed = record {
         once = λ i j k u w a b has has'. (alone v i u a.0).0 ∙ sym (alone v j w b.0).0;
         each = λ k low one. let none = out k in absurd (omega arith);
       };
@@ -170,12 +170,12 @@ ends died faults p lanes s id v z limit h at live zeroth all idle =
     let own : (j : ℕ) (u : View) → IsAt s.views j u → v ≡ u = λ j u there. dite (ℕ_discrete id j)
     (λ (e : id ≡ j). some-injective v u (sym at ∙ ap (λ k. get_elem? s.views k) e ∙ there.0))
     (λ (ne : id ≢ j). let two = two_weigh s.views id j v u ne at there.0 in let more = there.1 in absurd (omega arith)) in
-    let in_plan : (P : PlanData → ℕ → Type 0) → P p lanes → P v.plan v.lanes = λ P held.
-    subst (λ (q : PlanData). P q v.lanes) (sym t.plan) (subst (λ (n : ℕ). P p n) (sym t.lanes_are) held) in
+    let in_plan : (P : PlanData → ℕ → Type 0) → P p lanes → P v.plan v.lanes = λ P has.
+    subst (λ (q : PlanData). P q v.lanes) (sym t.plan) (subst (λ (n : ℕ). P p n) (sym t.lanes_are) has) in
     let home : AreHome p lanes s.homes x = λ k low.
     h.shows.slots.home k low (dite (ℕ_discrete (slice_index x.outs k) 0) (λ (is : slice_index x.outs k ≡ 0). is)
     (λ (out : slice_index x.outs k ≢ 0).
-    let c = h.held.each k low (h.shows.slots.out k low out) in
+    let c = h.borrowed.each k low (h.shows.slots.out k low out) in
     let lane : v.lane ≡ k + 1 = ap (λ (u : View). u.lane) (own c.0 c.1 c.2) ∙ c.3 in
     absurd (omega arith))) in record {
       log = h.log;

@@ -14,7 +14,7 @@ use Rattle.sz_claims.specs.declared.view.View.{View}
 use Rattle.sz_book.specs.History.{calls_by}
 use Rattle.sz_book.specs.Machine.{LedgerState, opening}
 use Rattle.sz_book.specs.History.{state_after}
-use Rattle.sz_claims.specs.Rule.{Slot, IsTrueOf, IsAt, AreNumbered, AreHeld, Kept, weights, split_left, split_right, account, merged, spent}
+use Rattle.sz_claims.specs.Rule.{Slot, IsTrueOf, IsAt, AreNumbered, HaveBorrowers, Kept, weights, split_left, split_right, account, merged, spent}
 use Rattle.sz_book.proofs.HistoryLemmas.{starts_empty}
 use Rattle.sz_claims.proofs.SeatLemmas.{was, stood, stays, set_at, weights_set, lane_stays}
 
@@ -128,9 +128,9 @@ split_knows p lanes log x made joined vs i v at zeroth numbered knows none j u t
     (snoc (set vs i (split_left v)) (split_right v) u j there.0)
 
 -- the lanes are with those that had them
-split_held : (vs : List View) (lanes : ℕ) (x : LedgerState) (i : ℕ) (v : View) → IsAt vs i v → AreHeld vs lanes x
-    → AreHeld (set vs i (split_left v) ++ split_right v ∷ []) lanes x
-split_held vs lanes x i v at h =
+split_borrowed : (vs : List View) (lanes : ℕ) (x : LedgerState) (i : ℕ) (v : View) → IsAt vs i v → HaveBorrowers vs lanes x
+    → HaveBorrowers (set vs i (split_left v) ++ split_right v ∷ []) lanes x
+split_borrowed vs lanes x i v at h =
     let all : List View = set vs i (split_left v) in
     let stood' : (k j : ℕ) (u : View) → IsAt (all ++ split_right v ∷ []) j u → u.lane ≡ k + 1
     → (y : View) × IsAt vs j y × (y.lane ≡ k + 1) = λ k j u there has. ⊎_elim
@@ -164,7 +164,7 @@ splits died faults p lanes id v live zeroth room s h at =
       legal = h.legal;
       reports = h.reports;
       shows = h.shows;
-      held = split_held s.views lanes (state_after p (opening p lanes) h.log) id v here h.held;
+      borrowed = split_borrowed s.views lanes (state_after p (opening p lanes) h.log) id v here h.borrowed;
       bounded = record {
         tickets = let x = b.tickets in omega arith;
         numbers = λ shard low. let x = b.numbers shard low in omega arith;
@@ -289,10 +289,10 @@ join_knows p lanes log x made joined vs i other v w at there zeroth single numbe
     (join_was vs i other v w j u now).1
 
 -- the lanes are with those that had them, and the pass that was joined had none
-join_held : (vs : List View) (lanes : ℕ) (x : LedgerState) (i other : ℕ) (v w : View) → IsAt vs i v → IsAt vs other w → other ≢ i → w.lane ≡ 0
-    → AreHeld vs lanes x
-    → AreHeld (set (set vs i (merged v w)) other spent) lanes x
-join_held vs lanes x i other v w at there apart home h =
+join_borrowed : (vs : List View) (lanes : ℕ) (x : LedgerState) (i other : ℕ) (v w : View) → IsAt vs i v → IsAt vs other w → other ≢ i → w.lane ≡ 0
+    → HaveBorrowers vs lanes x
+    → HaveBorrowers (set (set vs i (merged v w)) other spent) lanes x
+join_borrowed vs lanes x i other v w at there apart home h =
     let all : List View = set vs i (merged v w) in
     let live : 0 < (merged v w).weight = let l = at.1 in omega arith in
     let stood' : (j : ℕ) (u : View) → IsAt (set all other spent) j u → (y : View) × IsAt vs j y × (y.lane ≡ u.lane) = λ j u now. ⊎_elim
@@ -336,7 +336,7 @@ joins died faults p lanes id v other w live zeroth live' home s h at apart there
       legal = h.legal;
       reports = h.reports;
       shows = h.shows;
-      held = join_held s.views lanes (state_after p (opening p lanes) h.log) id other v w here near apart home h.held;
+      borrowed = join_borrowed s.views lanes (state_after p (opening p lanes) h.log) id other v w here near apart home h.borrowed;
       bounded = h.bounded;
       small = h.small;
       numbered = join_numbered s.views h.made h.joined id other v w here near apart high o.number h.numbered;

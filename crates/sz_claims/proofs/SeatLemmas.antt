@@ -8,7 +8,7 @@ use Rattle.atomic_table.proofs.Lists.{at_set, set_else}
 use Rattle.sz_claims.specs.declared.view.Account.{Account}
 use Rattle.sz_claims.specs.declared.view.View.{View}
 use Rattle.sz_book.specs.Machine.{LedgerState}
-use Rattle.sz_claims.specs.Rule.{IsAt, weights, AreNumbered, AreHeld}
+use Rattle.sz_claims.specs.Rule.{IsAt, weights, AreNumbered, HaveBorrowers}
 
 pub set_at : (vs : List View) (i : ℕ) (v w : View) → get_elem? vs i ≡ some v → get_elem? (set vs i w) i ≡ some w
 set_at [] i v w e = absurd (some-ne-none v (sym e))
@@ -78,10 +78,10 @@ lane_stays vs i v w at same live j u there = dite (ℕ_discrete j i)
     (i, w, (set_at vs i v w at.0, live), same ∙ ap (λ (y : View). y.lane) (sym is)))
     (λ (ne : j ≢ i). (j, u, (set_else vs i j w ne ∙ there.0, there.1), refl))
 
--- one view changes, and holds the lane that it held
-pub held_set : (vs : List View) (lanes : ℕ) (x : LedgerState) (i : ℕ) (v w : View) → IsAt vs i v → w.lane ≡ v.lane → 0 < w.weight → AreHeld vs lanes x
-    → AreHeld (set vs i w) lanes x
-held_set vs lanes x i v w at same live h = record {
+-- one view changes, and keeps its lane
+pub borrowed_set : (vs : List View) (lanes : ℕ) (x : LedgerState) (i : ℕ) (v w : View) → IsAt vs i v → w.lane ≡ v.lane → 0 < w.weight → HaveBorrowers vs lanes x
+    → HaveBorrowers (set vs i w) lanes x
+borrowed_set vs lanes x i v w at same live h = record {
   once = λ j k m u y a b has has'.
       let u' = lane_stood vs i v w at same j u a in
       let y' = lane_stood vs i v w at same k y b in

@@ -45,16 +45,16 @@ any_snoc f [] e b h = no_bit b (f e) h
 any_snoc f (x ∷ xs) e b h = past (f x) b (f e) (any_of f xs) (any_of f (xs ++ e ∷ [])) h (λ k. any_snoc f xs e b k)
 
 -- after any call, with which shards may come, and which may leave the pass another lane
-sound_with : (v w : View) (held held' : List (ℕ × Slot)) (vain vain' : Bool) (marks marks' : List Bool) (limit : ℕ) (rows : List (List Bool))
+sound_with : (v w : View) (slots slots' : List (ℕ × Slot)) (vain vain' : Bool) (marks marks' : List Bool) (limit : ℕ) (rows : List (List Bool))
     (event : Event) (shards : List ℕ) (reply : Reply) (lane : ℕ) (lent : List ℕ)
-    → IsSound v held vain marks limit rows → Called v event shards reply lane lent w → (lane ≡ 0 → held' ≡ [])
-    → ((i : ℕ) → lane ≡ i + 1 → (i < v.lanes) × (held' ≡ (i, None) ∷ [])) → vain' ≡ (vain || draws_none event reply)
+    → IsSound v slots vain marks limit rows → Called v event shards reply lane lent w → (lane ≡ 0 → slots' ≡ [])
+    → ((i : ℕ) → lane ≡ i + 1 → (i < v.lanes) × (slots' ≡ (i, None) ∷ [])) → vain' ≡ (vain || draws_none event reply)
     → length marks' ≡ length marks
     → ((t : ℕ) → t < count_of v.plan → slice_index_or marks' t false ≡ (slice_index_or marks t false || numbers_none t event reply))
-    → IsSound w held' vain' marks' limit rows
-sound_with v w held held' vain vain' marks marks' limit rows event shards reply lane lent s call idle busy dry long each =
+    → IsSound w slots' vain' marks' limit rows
+sound_with v w slots slots' vain vain' marks marks' limit rows event shards reply lane lent s call idle busy dry long each =
     let e : Entry = entry v.number event shards reply in
-    subst (λ (u : View). IsSound u held' vain' marks' limit rows) (sym call.1)
+    subst (λ (u : View). IsSound u slots' vain' marks' limit rows) (sym call.1)
     record {
       live = s.live;
       idle = idle;
@@ -71,14 +71,14 @@ sound_with v w held held' vain vain' marks marks' limit rows event shards reply 
       small = s.small;
     }
 
-pub sound : (v w : View) (held held' : List (ℕ × Slot)) (vain vain' : Bool) (marks marks' : List Bool) (limit : ℕ) (rows : List (List Bool))
+pub sound : (v w : View) (slots slots' : List (ℕ × Slot)) (vain vain' : Bool) (marks marks' : List Bool) (limit : ℕ) (rows : List (List Bool))
     (event : Event) (reply : Reply)
-    → IsSound v held vain marks limit rows → Called v event [] reply v.lane v.lent w → held' ≡ held → vain' ≡ (vain || draws_none event reply)
+    → IsSound v slots vain marks limit rows → Called v event [] reply v.lane v.lent w → slots' ≡ slots → vain' ≡ (vain || draws_none event reply)
     → length marks' ≡ length marks
     → ((t : ℕ) → t < count_of v.plan → slice_index_or marks' t false ≡ (slice_index_or marks t false || numbers_none t event reply))
-    → IsSound w held' vain' marks' limit rows
-sound v w held held' vain vain' marks marks' limit rows event reply s call same =
-    sound_with v w held held' vain vain' marks marks' limit rows event [] reply v.lane v.lent s call (λ e. same ∙ s.idle e)
+    → IsSound w slots' vain' marks' limit rows
+sound v w slots slots' vain vain' marks marks' limit rows event reply s call same =
+    sound_with v w slots slots' vain vain' marks marks' limit rows event [] reply v.lane v.lent s call (λ e. same ∙ s.idle e)
     (λ i e. let b = s.busy i e in (b.0, same ∙ b.1))
 
 pub none_drawn : (c : Option Claim) → draws_none Draw (Ticket c) ≡ is_none c
@@ -89,12 +89,12 @@ or_false : (b : Bool) → b ≡ (b || false)
 or_false true = refl
 or_false false = refl
 
-pub sound_draw : (p : PlanData) (v w : View) (held held' : List (ℕ × Slot)) (vain vain' : Bool) (marks : List Bool) (limit : ℕ)
+pub sound_draw : (p : PlanData) (v w : View) (slots slots' : List (ℕ × Slot)) (vain vain' : Bool) (marks : List Bool) (limit : ℕ)
     (rows : List (List Bool)) (reply : Reply) (claim : Option Claim)
-    → IsSound v held vain marks limit rows → Called v Draw [] reply v.lane v.lent w → held' ≡ held → Ticket claim ≡ reply
-    → vain' ≡ (vain || is_none claim) → IsSound w held' vain' marks limit rows
-sound_draw p v w held held' vain vain' marks limit rows reply claim s call same is no_ticket =
-    sound v w held held' vain vain' marks marks limit rows Draw reply s call same (no_ticket
+    → IsSound v slots vain marks limit rows → Called v Draw [] reply v.lane v.lent w → slots' ≡ slots → Ticket claim ≡ reply
+    → vain' ≡ (vain || is_none claim) → IsSound w slots' vain' marks limit rows
+sound_draw p v w slots slots' vain vain' marks limit rows reply claim s call same is no_ticket =
+    sound v w slots slots' vain vain' marks marks limit rows Draw reply s call same (no_ticket
     ∙ ap (λ (b : Bool). vain || b) (sym (none_drawn claim) ∙ ap (draws_none Draw) is)) refl (λ t low. or_false (slice_index_or marks t false))
 
 -- a claim that this pass drew
@@ -121,10 +121,10 @@ one_ledger z z' limit v p lanes k n a b same =
     record { table = ap (λ (x : LedgerData). x.id) e; plan = ap (λ (x : LedgerData). x.plan) e; lanes_are = ap (λ (x : LedgerData). x.lanes) e }
 
 -- a claim that this pass drew names a ticket of the plan and its shard
-pub in_plan : (v : View) (held : List (ℕ × Slot)) (vain : Bool) (marks : List Bool) (limit : ℕ) (rows : List (List Bool)) (p : PlanData) (c : Claim)
-    → IsSound v held vain marks limit rows → v.plan ≡ p → IsPlan p → HasDrawn c v.mine
+pub in_plan : (v : View) (slots : List (ℕ × Slot)) (vain : Bool) (marks : List Bool) (limit : ℕ) (rows : List (List Bool)) (p : PlanData) (c : Claim)
+    → IsSound v slots vain marks limit rows → v.plan ≡ p → IsPlan p → HasDrawn c v.mine
     → (c.ticket < count_of v.plan) × (c.shard < p.shards)
-in_plan v held vain marks limit rows p c s same plan drew =
+in_plan v slots vain marks limit rows p c s same plan drew =
     let d = claimed_by v c s.legal s.mine drew in
     let plan' : IsPlan v.plan = subst IsPlan (sym same) plan in
     let a = plan'.within c.ticket d.ticket in
@@ -133,9 +133,9 @@ in_plan v held vain marks limit rows p c s same plan drew =
     (d.ticket, omega arith)
 
 -- a number that this pass was given is below the number of attempts
-pub in_attempts : (v : View) (held : List (ℕ × Slot)) (vain : Bool) (marks : List Bool) (limit : ℕ) (rows : List (List Bool)) (p : PlanData)
-    (c : Claim) (k : ℕ) → IsSound v held vain marks limit rows → v.plan ≡ p → IsPlan p → HasNumber c k v.mine → k < 8
-in_attempts v held vain marks limit rows p c k s same plan given =
+pub in_attempts : (v : View) (slots : List (ℕ × Slot)) (vain : Bool) (marks : List Bool) (limit : ℕ) (rows : List (List Bool)) (p : PlanData)
+    (c : Claim) (k : ℕ) → IsSound v slots vain marks limit rows → v.plan ≡ p → IsPlan p → HasNumber c k v.mine → k < 8
+in_attempts v slots vain marks limit rows p c k s same plan given =
     let plan' : IsPlan v.plan = subst IsPlan (sym same) plan in
     let own : HasNumber c k v.seen = own_number v.number v.seen c k (subst (λ (l : List Entry). HasNumber c k l) (sym s.mine) given) in
     let t = has_number v.plan (opening v.plan v.lanes) v.seen c k plan' (length-replicate v.plan.shards 0) s.legal.from own in
@@ -150,13 +150,13 @@ none_else : (t : ℕ) (c : Claim) (k : Option ℕ) → c.ticket ≢ t → false 
 none_else t c (Some n) e = refl
 none_else t c None e = sym (ne_eqb c.ticket t e)
 
-pub sound_number : (p : PlanData) (v w : View) (held held' : List (ℕ × Slot)) (vain : Bool) (marks : List Bool) (limit : ℕ) (rows : List (List Bool))
+pub sound_number : (p : PlanData) (v w : View) (slots slots' : List (ℕ × Slot)) (vain : Bool) (marks : List Bool) (limit : ℕ) (rows : List (List Bool))
     (claim : Claim) (reply : Reply) (number : Option ℕ) (b : Bool)
-    → IsSound v held vain marks limit rows → Called v (Number claim) [] reply v.lane v.lent w → held' ≡ held → Numbered number ≡ reply
+    → IsSound v slots vain marks limit rows → Called v (Number claim) [] reply v.lane v.lent w → slots' ≡ slots → Numbered number ≡ reply
     → claim.ticket < length marks → b ≡ (slice_index_or marks claim.ticket false || is_none number)
-    → IsSound w held' vain (set marks claim.ticket b) limit rows
-sound_number p v w held held' vain marks limit rows claim reply number b s call same is low mark =
-    sound v w held held' vain vain marks (set marks claim.ticket b) limit rows (Number claim) reply s call same (or_false vain
+    → IsSound w slots' vain (set marks claim.ticket b) limit rows
+sound_number p v w slots slots' vain marks limit rows claim reply number b s call same is low mark =
+    sound v w slots slots' vain vain marks (set marks claim.ticket b) limit rows (Number claim) reply s call same (or_false vain
     ∙ ap (λ (r : Reply). vain || draws_none (Number claim) r) is) (length-set marks claim.ticket b)
     (λ t low'. dite (ℕ_discrete t claim.ticket)
     (λ (e : t ≡ claim.ticket).
@@ -171,47 +171,47 @@ sound_number p v w held held' vain marks limit rows claim reply number b s call 
     get_or-set_other marks claim.ticket t b false ne ∙ or_false (slice_index_or marks t false)
     ∙ ap (λ (c : Bool). slice_index_or marks t false || c) (none_else t claim number (λ e. ne (sym e)) ∙ ap (numbers_none t (Number claim)) is)))
 
-pub sound_quiet : (v w : View) (held held' : List (ℕ × Slot)) (vain : Bool) (marks : List Bool) (limit : ℕ) (rows : List (List Bool)) (event : Event)
+pub sound_quiet : (v w : View) (slots slots' : List (ℕ × Slot)) (vain : Bool) (marks : List Bool) (limit : ℕ) (rows : List (List Bool)) (event : Event)
     (reply : Reply)
-    → IsSound v held vain marks limit rows → Called v event [] reply v.lane v.lent w → held' ≡ held → draws_none event reply ≡ false
-    → ((t : ℕ) → numbers_none t event reply ≡ false) → IsSound w held' vain marks limit rows
-sound_quiet v w held held' vain marks limit rows event reply s call same dry bar =
-    sound v w held held' vain vain marks marks limit rows event reply s call same (or_false vain ∙ ap (λ (b : Bool). vain || b) (sym dry)) refl
+    → IsSound v slots vain marks limit rows → Called v event [] reply v.lane v.lent w → slots' ≡ slots → draws_none event reply ≡ false
+    → ((t : ℕ) → numbers_none t event reply ≡ false) → IsSound w slots' vain marks limit rows
+sound_quiet v w slots slots' vain marks limit rows event reply s call same dry bar =
+    sound v w slots slots' vain vain marks marks limit rows event reply s call same (or_false vain ∙ ap (λ (b : Bool). vain || b) (sym dry)) refl
     (λ t low. or_false (slice_index_or marks t false) ∙ ap (λ (b : Bool). slice_index_or marks t false || b) (sym (bar t)))
 
 -- after a call that leaves the pass another lane
-sound_lane : (v w : View) (held held' : List (ℕ × Slot)) (vain : Bool) (marks : List Bool) (limit : ℕ) (rows : List (List Bool)) (event : Event)
-    (shards : List ℕ) (reply : Reply) (lane : ℕ) (lent : List ℕ) → IsSound v held vain marks limit rows → Called v event shards reply lane lent w
-    → (lane ≡ 0 → held' ≡ []) → ((i : ℕ) → lane ≡ i + 1 → (i < v.lanes) × (held' ≡ (i, None) ∷ [])) → draws_none event reply ≡ false
-    → ((t : ℕ) → numbers_none t event reply ≡ false) → IsSound w held' vain marks limit rows
-sound_lane v w held held' vain marks limit rows event shards reply lane lent s call idle busy dry bar =
-    sound_with v w held held' vain vain marks marks limit rows event shards reply lane lent s call idle busy
+sound_lane : (v w : View) (slots slots' : List (ℕ × Slot)) (vain : Bool) (marks : List Bool) (limit : ℕ) (rows : List (List Bool)) (event : Event)
+    (shards : List ℕ) (reply : Reply) (lane : ℕ) (lent : List ℕ) → IsSound v slots vain marks limit rows → Called v event shards reply lane lent w
+    → (lane ≡ 0 → slots' ≡ []) → ((i : ℕ) → lane ≡ i + 1 → (i < v.lanes) × (slots' ≡ (i, None) ∷ [])) → draws_none event reply ≡ false
+    → ((t : ℕ) → numbers_none t event reply ≡ false) → IsSound w slots' vain marks limit rows
+sound_lane v w slots slots' vain marks limit rows event shards reply lane lent s call idle busy dry bar =
+    sound_with v w slots slots' vain vain marks marks limit rows event shards reply lane lent s call idle busy
     (or_false vain ∙ ap (λ (b : Bool). vain || b) (sym dry)) refl
     (λ t low. or_false (slice_index_or marks t false) ∙ ap (λ (b : Bool). slice_index_or marks t false || b) (sym (bar t)))
 
 -- after a lane was asked for
-pub sound_asked : (v w : View) (held held' : List (ℕ × Slot)) (vain : Bool) (marks : List Bool) (limit : ℕ) (rows : List (List Bool)) (i : ℕ)
-    (lane : Option LaneData) → IsSound v held vain marks limit rows → v.lane ≡ 0 → i < v.lanes → IsAsked i (v, held) lane (w, held')
-    → IsSound w held' vain marks limit rows
-sound_asked v w held held' vain marks limit rows i None s idle low asked =
-    sound_lane v w held held' vain marks limit rows (LaneOut i) [] (Lane false) v.lane v.lent s asked.0 (λ e. asked.1 ∙ s.idle e)
+pub sound_asked : (v w : View) (slots slots' : List (ℕ × Slot)) (vain : Bool) (marks : List Bool) (limit : ℕ) (rows : List (List Bool)) (i : ℕ)
+    (lane : Option LaneData) → IsSound v slots vain marks limit rows → v.lane ≡ 0 → i < v.lanes → IsAsked i (v, slots) lane (w, slots')
+    → IsSound w slots' vain marks limit rows
+sound_asked v w slots slots' vain marks limit rows i None s idle low asked =
+    sound_lane v w slots slots' vain marks limit rows (LaneOut i) [] (Lane false) v.lane v.lent s asked.0 (λ e. asked.1 ∙ s.idle e)
     (λ k e. absurd (omega arith)) refl (λ t. refl)
-sound_asked v w held held' vain marks limit rows i (Some lane) s idle low asked =
-    sound_lane v w held held' vain marks limit rows (LaneOut i) [] (Lane true) (i + 1) lane.shards s asked.0 (λ e. absurd (omega arith))
+sound_asked v w slots slots' vain marks limit rows i (Some lane) s idle low asked =
+    sound_lane v w slots slots' vain marks limit rows (LaneOut i) [] (Lane true) (i + 1) lane.shards s asked.0 (λ e. absurd (omega arith))
     (λ k e. let same : i ≡ k = omega arith in
-    subst (λ (n : ℕ). (n < v.lanes) × (held' ≡ (n, None) ∷ [])) same (low, asked.2 ∙ ap (λ (l : List (ℕ × Slot)). (i, None) ∷ l) (s.idle idle)))
+    subst (λ (n : ℕ). (n < v.lanes) × (slots' ≡ (n, None) ∷ [])) same (low, asked.2 ∙ ap (λ (l : List (ℕ × Slot)). (i, None) ∷ l) (s.idle idle)))
     refl (λ t. refl)
 
 -- after a lane came home
-pub sound_given : (v w : View) (held held' : List (ℕ × Slot)) (vain : Bool) (marks : List Bool) (limit : ℕ) (rows : List (List Bool)) (i : ℕ)
-    (shards : List ℕ) → IsSound v held vain marks limit rows → Called v (LaneBack i) shards Noted 0 [] w → held' ≡ []
-    → IsSound w held' vain marks limit rows
-sound_given v w held held' vain marks limit rows i shards s call none =
-    sound_lane v w held held' vain marks limit rows (LaneBack i) shards Noted 0 [] s call (λ e. none) (λ k e. absurd (omega arith)) refl (λ t. refl)
+pub sound_given : (v w : View) (slots slots' : List (ℕ × Slot)) (vain : Bool) (marks : List Bool) (limit : ℕ) (rows : List (List Bool)) (i : ℕ)
+    (shards : List ℕ) → IsSound v slots vain marks limit rows → Called v (LaneBack i) shards Noted 0 [] w → slots' ≡ []
+    → IsSound w slots' vain marks limit rows
+sound_given v w slots slots' vain marks limit rows i shards s call none =
+    sound_lane v w slots slots' vain marks limit rows (LaneBack i) shards Noted 0 [] s call (λ e. none) (λ k e. absurd (omega arith)) refl (λ t. refl)
 
-pub in_marks : (v : View) (held : List (ℕ × Slot)) (vain : Bool) (marks : List Bool) (limit : ℕ) (rows : List (List Bool)) (c : Claim)
-    → IsSound v held vain marks limit rows → HasDrawn c v.mine → c.ticket < length marks
-in_marks v held vain marks limit rows c s drew = let d = claimed_by v c s.legal s.mine drew in let t = d.ticket in let l = s.tickets in omega arith
+pub in_marks : (v : View) (slots : List (ℕ × Slot)) (vain : Bool) (marks : List Bool) (limit : ℕ) (rows : List (List Bool)) (c : Claim)
+    → IsSound v slots vain marks limit rows → HasDrawn c v.mine → c.ticket < length marks
+in_marks v slots vain marks limit rows c s drew = let d = claimed_by v c s.legal s.mine drew in let t = d.ticket in let l = s.tickets in omega arith
 
 pub one_default : (l : List Bool) (i : ℕ) (a b : Bool) → i < length l → slice_index_or l i a ≡ slice_index_or l i b
 one_default [] i a b h = absurd (omega arith)
@@ -228,13 +228,13 @@ no_mark (suc n) zero = refl
 no_mark (suc n) (suc t) = no_mark n t
 
 -- the first pass after a split
-pub sound_left : (v w : View) (held held' : List (ℕ × Slot)) (vain : Bool) (marks : List Bool) (limit : ℕ) (rows rest : List (List Bool))
+pub sound_left : (v w : View) (slots slots' : List (ℕ × Slot)) (vain : Bool) (marks : List Bool) (limit : ℕ) (rows rest : List (List Bool))
     (row : List Bool)
-    → IsSound v held vain marks limit rows → w ≡ split_left v → held' ≡ held → rows ≡ rest ++ row ∷ [] → IsSound w held' vain marks limit rest
-sound_left v w held held' vain marks limit rows rest row s is same cut =
+    → IsSound v slots vain marks limit rows → w ≡ split_left v → slots' ≡ slots → rows ≡ rest ++ row ∷ [] → IsSound w slots' vain marks limit rest
+sound_left v w slots slots' vain marks limit rows rest row s is same cut =
     let long : length rows ≡ length rest + 1 = ap length cut ∙ length-append rest (row ∷ []) in
     let blank = blank_append (count_of v.plan) rest row (subst (AllBlank (count_of v.plan)) cut s.blank) in
-    subst (λ (u : View). IsSound u held' vain marks limit rest) (sym is)
+    subst (λ (u : View). IsSound u slots' vain marks limit rest) (sym is)
     record {
       live = s.live;
       idle = λ e. same ∙ s.idle e;
@@ -253,14 +253,14 @@ sound_left v w held held' vain marks limit rows rest row s is same cut =
     }
 
 -- the new pass
-pub sound_right : (v w : View) (held held' : List (ℕ × Slot)) (vain : Bool) (marks : List Bool) (limit : ℕ) (rows rest : List (List Bool))
+pub sound_right : (v w : View) (slots slots' : List (ℕ × Slot)) (vain : Bool) (marks : List Bool) (limit : ℕ) (rows rest : List (List Bool))
     (row : List Bool)
-    → IsSound v held vain marks limit rows → v.number ≡ 0 → w ≡ split_right v → held' ≡ [] → rows ≡ rest ++ row ∷ [] → IsSound w held' false row 0 []
-sound_right v w held held' vain marks limit rows rest row s zeroth is same cut =
+    → IsSound v slots vain marks limit rows → v.number ≡ 0 → w ≡ split_right v → slots' ≡ [] → rows ≡ rest ++ row ∷ [] → IsSound w slots' false row 0 []
+sound_right v w slots slots' vain marks limit rows rest row s zeroth is same cut =
     let high = s.made zeroth in
     let none : calls_by v.made v.seen ≡ [] = s.others zeroth v.made (omega arith) in
     let blank = blank_append (count_of v.plan) rest row (subst (AllBlank (count_of v.plan)) cut s.blank) in
-    subst (λ (u : View). IsSound u held' false row 0 []) (sym is)
+    subst (λ (u : View). IsSound u slots' false row 0 []) (sym is)
     record {
       live = omega arith;
       idle = λ e. same;
@@ -278,13 +278,13 @@ sound_right v w held held' vain marks limit rows rest row s zeroth is same cut =
     }
 
 -- the first pass after a join
-pub sound_joined : (v u w : View) (held held' : List (ℕ × Slot)) (vain : Bool) (marks : List Bool) (limit : ℕ) (rows : List (List Bool))
+pub sound_joined : (v u w : View) (slots slots' : List (ℕ × Slot)) (vain : Bool) (marks : List Bool) (limit : ℕ) (rows : List (List Bool))
     (other : View)
-    → IsSound v held vain marks limit rows → u ≡ merged v other → Looked u w → held' ≡ held → IsSound w held' vain marks limit rows
-sound_joined v u w held held' vain marks limit rows other s is look same =
+    → IsSound v slots vain marks limit rows → u ≡ merged v other → Looked u w → slots' ≡ slots → IsSound w slots' vain marks limit rows
+sound_joined v u w slots slots' vain marks limit rows other s is look same =
     let e : w ≡ looking (merged v other) look.0 = look.1 ∙ ap (λ (x : View). looking x look.0) is in
     let live : 0 < v.weight + other.weight = (let l = s.live in omega arith) in
-    subst (λ (x : View). IsSound x held' vain marks limit rows) (sym e)
+    subst (λ (x : View). IsSound x slots' vain marks limit rows) (sym e)
     record {
       live = live;
       idle = λ e. same ∙ s.idle e;
@@ -303,9 +303,9 @@ sound_joined v u w held held' vain marks limit rows other s is look same =
     }
 
 -- while a row is left, another pass may be made
-pub more_room : (v : View) (held : List (ℕ × Slot)) (vain : Bool) (marks : List Bool) (limit : ℕ) (rows rest : List (List Bool)) (row : List Bool)
-    → IsSound v held vain marks limit rows → v.number ≡ 0 → rows ≡ rest ++ row ∷ [] → (v.made < limit) × (v.made + 1 < 2 ^ 32)
-more_room v held vain marks limit rows rest row s zeroth cut =
+pub more_room : (v : View) (slots : List (ℕ × Slot)) (vain : Bool) (marks : List Bool) (limit : ℕ) (rows rest : List (List Bool)) (row : List Bool)
+    → IsSound v slots vain marks limit rows → v.number ≡ 0 → rows ≡ rest ++ row ∷ [] → (v.made < limit) × (v.made + 1 < 2 ^ 32)
+more_room v slots vain marks limit rows rest row s zeroth cut =
     let long : length rows ≡ length rest + 1 = ap length cut ∙ length-append rest (row ∷ []) in
     let r = s.room zeroth in
     let small = s.small in
@@ -316,12 +316,12 @@ all_blank n zero = tt
 all_blank n (suc k) = (refl, all_blank n k)
 
 -- the first pass at the start
-pub sound_first : (p : PlanData) (lanes : ℕ) (v : View) (held : List (ℕ × Slot)) (marks : List Bool) (limit : ℕ) (rows : List (List Bool)) → v ≡ newcomer p lanes
-    → held ≡ [] → marks ≡ replicate (count_of p) false → 0 < limit → limit < 2 ^ 32
-    → rows ≡ replicate (limit - 1) (replicate (count_of p) false) → IsSound v held false marks limit rows
-sound_first p lanes v held marks limit rows is empty blank some small room =
+pub sound_first : (p : PlanData) (lanes : ℕ) (v : View) (slots : List (ℕ × Slot)) (marks : List Bool) (limit : ℕ) (rows : List (List Bool)) → v ≡ newcomer p lanes
+    → slots ≡ [] → marks ≡ replicate (count_of p) false → 0 < limit → limit < 2 ^ 32
+    → rows ≡ replicate (limit - 1) (replicate (count_of p) false) → IsSound v slots false marks limit rows
+sound_first p lanes v slots marks limit rows is empty blank some small room =
     let long : length rows ≡ limit - 1 = ap length room ∙ length-replicate (limit - 1) (replicate (count_of p) false) in
-    subst (λ (u : View). IsSound u held false marks limit rows) (sym is)
+    subst (λ (u : View). IsSound u slots false marks limit rows) (sym is)
     record {
       live = omega arith;
       idle = λ e. empty;

@@ -173,14 +173,14 @@ just_won p n s x (LaneOut i) ss plan fit h set' won = absurd set'
 just_won p n s x (LaneBack i) ss plan fit h set' won = absurd set'
 just_won p n s x (Bad b) ss plan fit h set' won = absurd set'
 
-held : (p : PlanData) (n s : ℕ) (x : LedgerState) (es : List Entry) → IsPlan p → IsLegalFrom p x es → IsPlaced p x → HasWon s (calls_by n es)
+marked_own : (p : PlanData) (n s : ℕ) (x : LedgerState) (es : List Entry) → IsPlan p → IsLegalFrom p x es → IsPlaced p x → HasWon s (calls_by n es)
     → ¬ HasGiven s (calls_by n es) → slice_index (state_after p x es).unplaced s ≡ n + 1
-held p n s x [] plan h placed' won away = absurd won
-held p n s x (e ∷ es) plan h placed' won away =
+marked_own p n s x [] plan h placed' won away = absurd won
+marked_own p n s x (e ∷ es) plan h placed' won away =
     let next = placed_after p x e.by e.event e.shards h.0 placed' in
     let y : LedgerState = after p x e.by e.event e.shards in
     let later : ¬ HasGiven s (calls_by n es) = λ g. away (given_later n s e es g) in
-    let rest : HasWon s (calls_by n es) → slice_index (state_after p y es).unplaced s ≡ n + 1 = λ w. held p n s y es plan h.2 next w later in
+    let rest : HasWon s (calls_by n es) → slice_index (state_after p y es).unplaced s ≡ n + 1 = λ w. marked_own p n s y es plan h.2 next w later in
     dite (ℕ_discrete e.by n)
     (λ (is : e.by ≡ n). ⊎_elim
     (λ (now : Settles s e.event × (e.reply ≡ Won)).
@@ -214,7 +214,7 @@ pub are_unplaced : (p : PlanData) (lanes n : ℕ) (log mine : List Entry) (ss : 
     → AreUnplaced n (state_after p (opening p lanes) log).unplaced ss
 are_unplaced p lanes n log mine ss plan legal own distinct won fresh =
     each_unplaced n (state_after p (opening p lanes) log).unplaced ss distinct
-    (λ s in'. held p n s (opening p lanes) log plan legal.from (opens_placed p lanes) (subst (HasWon s) (sym own) (won s in'))
+    (λ s in'. marked_own p n s (opening p lanes) log plan legal.from (opens_placed p lanes) (subst (HasWon s) (sym own) (won s in'))
     (subst (λ (l : List Entry). ¬ HasGiven s l) (sym own) (fresh s in')))
 
 -- ---- a shard that is won for the first time came with no lane before

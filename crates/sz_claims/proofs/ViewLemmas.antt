@@ -26,26 +26,26 @@ called_as z z' limit v w event shards reply lane lent same call = (
   call.2.mine,
 )
 
-none_lent : (z z' : TableId) (limit : ℕ) (v w : View) (held held' : List (ℕ × Slot)) (i : ℕ) (result : Option LaneData) → z' ≡ z
-    → IsAsked i (v, held) result (w, held') → IfNone result (Calls (pass_data z limit v) (LaneOut i) (Lane false) (pass_data z' limit w))
-none_lent z z' limit v w held held' i None same asked =
+none_lent : (z z' : TableId) (limit : ℕ) (v w : View) (slots slots' : List (ℕ × Slot)) (i : ℕ) (result : Option LaneData) → z' ≡ z
+    → IsAsked i (v, slots) result (w, slots') → IfNone result (Calls (pass_data z limit v) (LaneOut i) (Lane false) (pass_data z' limit w))
+none_lent z z' limit v w slots slots' i None same asked =
     called_as z z' limit v w (LaneOut i) [] (Lane false) v.lane v.lent same asked.0
-none_lent z z' limit v w held held' i (Some lane) same asked = tt
+none_lent z z' limit v w slots slots' i (Some lane) same asked = tt
 
-some_lent : (z z' : TableId) (limit : ℕ) (v w : View) (held held' : List (ℕ × Slot)) (i : ℕ) (result : Option LaneData) → z' ≡ z
-    → IsAsked i (v, held) result (w, held') → IfSome result (λ lane. IsLent (pass_data z limit v) i lane (pass_data z' limit w))
-some_lent z z' limit v w held held' i None same asked = tt
-some_lent z z' limit v w held held' i (Some lane) same asked = (
+some_lent : (z z' : TableId) (limit : ℕ) (v w : View) (slots slots' : List (ℕ × Slot)) (i : ℕ) (result : Option LaneData) → z' ≡ z
+    → IsAsked i (v, slots) result (w, slots') → IfSome result (λ lane. IsLent (pass_data z limit v) i lane (pass_data z' limit w))
+some_lent z z' limit v w slots slots' i None same asked = tt
+some_lent z z' limit v w slots slots' i (Some lane) same asked = (
   called_as z z' limit v w (LaneOut i) [] (Lane true) (i + 1) lane.shards same asked.0,
   ap (λ (l : LaneData). l.plan) asked.1,
   ap (λ (l : LaneData). l.shards) asked.1,
 )
 
 -- the pass asked for a lane
-pub asked_as : (z z' : TableId) (limit : ℕ) (v w : View) (held held' : List (ℕ × Slot)) (i : ℕ) (result : Option LaneData) (k : PassData)
-    → pass_data z limit v ≡ k → z' ≡ z → IsAsked i (v, held) result (w, held')
+pub asked_as : (z z' : TableId) (limit : ℕ) (v w : View) (slots slots' : List (ℕ × Slot)) (i : ℕ) (result : Option LaneData) (k : PassData)
+    → pass_data z limit v ≡ k → z' ≡ z → IsAsked i (v, slots) result (w, slots')
     → IfNone result (Calls k (LaneOut i) (Lane false) (pass_data z' limit w)) × IfSome result (λ lane. IsLent k i lane (pass_data z' limit w))
-asked_as z z' limit v w held held' i result k is same asked =
+asked_as z z' limit v w slots slots' i result k is same asked =
     let P : PassData → Type 0 = λ x.
     IfNone result (Calls x (LaneOut i) (Lane false) (pass_data z' limit w)) × IfSome result (λ lane. IsLent x i lane (pass_data z' limit w)) in
-    subst P is (none_lent z z' limit v w held held' i result same asked, some_lent z z' limit v w held held' i result same asked)
+    subst P is (none_lent z z' limit v w slots slots' i result same asked, some_lent z z' limit v w slots slots' i result same asked)

@@ -95,7 +95,7 @@ further_in v lane = drop (length v.lent) lane.shards
 -- The pass holds lane i. The lane that it brings has the ledger's plan, the shards that it had when it was lent, and after them
 -- further ones that the pass won and has not brought yet
 pub record MayGive (v : PassData) (i : ℕ) (lane : LaneData) : Type 0 where
-  pub held : v.lane ≡ i + 1
+  pub has_lane : v.lane ≡ i + 1
   pub plan : lane.plan ≡ v.ledger.plan
   pub longer : lane.shards ≡ v.lent ++ further_in v lane
   pub further : AreInHand (further_in v lane) v.mine
@@ -163,10 +163,10 @@ AllBlank n [] = Unit {0}
 AllBlank n (r ∷ rs) = (r ≡ replicate n false) × AllBlank n rs
 
 -- what the type of a pass keeps. Its marks tell for which tickets it found no number
-pub record IsSound (v : View) (held : List (ℕ × Slot)) (vain : Bool) (marks : List Bool) (limit : ℕ) (rows : List (List Bool)) : Type 0 where
+pub record IsSound (v : View) (slots : List (ℕ × Slot)) (vain : Bool) (marks : List Bool) (limit : ℕ) (rows : List (List Bool)) : Type 0 where
   pub live : 0 < v.weight
-  pub idle : v.lane ≡ 0 → held ≡ []
-  pub busy : (i : ℕ) → v.lane ≡ i + 1 → (i < v.lanes) × (held ≡ (i, None) ∷ [])
+  pub idle : v.lane ≡ 0 → slots ≡ []
+  pub busy : (i : ℕ) → v.lane ≡ i + 1 → (i < v.lanes) × (slots ≡ (i, None) ∷ [])
   pub legal : IsLegal v.plan v.lanes v.seen
   pub mine : calls_by v.number v.seen ≡ v.mine
   pub no_ticket : any_of found_no_ticket v.mine ≡ bit vain

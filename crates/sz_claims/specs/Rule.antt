@@ -136,7 +136,7 @@ pub record AreNumbered (views : List View) (made : ℕ) (joined : List Account) 
   pub whole : weights views ≡ made
 
 -- each lane that is out is with one live view
-pub record AreHeld (views : List View) (lanes : ℕ) (x : LedgerState) : Type 0 where
+pub record HaveBorrowers (views : List View) (lanes : ℕ) (x : LedgerState) : Type 0 where
   pub once : (i j k : ℕ) (v w : View) → IsAt views i v → IsAt views j w → v.lane ≡ k + 1 → w.lane ≡ k + 1 → i ≡ j
   pub each : (k : ℕ) → k < lanes → slice_index x.outs k ≡ 1 → (id : ℕ) × (v : View) × IsAt views id v × (v.lane ≡ k + 1)
 
@@ -153,7 +153,7 @@ pub record Kept (died : ℕ → ℕ → Type 0) (faults : ℕ → Type 0) (p : P
   pub bounded : IsBounded p s.words log made
   pub small : made < 2 ^ 32
   pub numbered : AreNumbered s.views made joined
-  pub held : AreHeld s.views lanes (state_after p (opening p lanes) log)
+  pub borrowed : HaveBorrowers s.views lanes (state_after p (opening p lanes) log)
   pub knows : (id : ℕ) (v : View) → IsAt s.views id v → IsTrueOf p lanes log (state_after p (opening p lanes) log) made joined v
   pub closed : (k : ℕ) (a : Account) → get_elem? joined k ≡ some a → calls_by a.number log ≡ a.calls
   pub others : (n : ℕ) → made ≤ n → calls_by n log ≡ []
@@ -221,10 +221,10 @@ abbrev pub Given : ℕ → List ℕ → Me Slot View → Me Slot View → Type 0
 Given i shards v w = Called v.0 (LaneBack i) shards Noted 0 [] w.0 × (w.1 ≡ [])
 
 -- the list of the lane that is in the slot of a pass
-abbrev pub list_held : List (ℕ × Slot) → List ℕ
-list_held [] = []
-list_held ((i, None) ∷ held) = []
-list_held ((i, Some lane) ∷ held) = lane.shards
+abbrev pub list_in_hand : List (ℕ × Slot) → List ℕ
+list_in_hand [] = []
+list_in_hand ((i, None) ∷ slots) = []
+list_in_hand ((i, Some lane) ∷ slots) = lane.shards
 
 -- the history so far was seen. It has the calls of the accounts
 abbrev pub Looked : View → View → Type 0

@@ -51,7 +51,7 @@ pub fn take_out<T: Load>(
 
 fn give_as<T: Load, C: OfLane>(shared: &Shared<T>, seat: &mut Place<T>, turn: usize, lane_no: u32)
     requires table { (seat.old.table_id ≡ shared.now.table_id) × (turn < shared.now.table_id.words) × (turn ≡ turn_at shared.now.key.plan C.lane) }
-    requires held { (0 < seat.old.me.0.weight) × (seat.old.me.0.lane ≡ C.lane + 1) × (seat.old.me.1 ≡ (C.lane, Some (lane_data seat.old.me.0.plan (seat.old.me.0.lent ++ C.shards))) ∷ []) }
+    requires has_lane { (0 < seat.old.me.0.weight) × (seat.old.me.0.lane ≡ C.lane + 1) × (seat.old.me.1 ≡ (C.lane, Some (lane_data seat.old.me.0.plan (seat.old.me.0.lent ++ C.shards))) ∷ []) }
     requires further { AreInHand C.shards seat.old.me.0.mine }
     ensures same { seat.new.table_id ≡ seat.old.table_id }
     ensures given { Given C.lane C.shards seat.old.me seat.new.me }
@@ -68,7 +68,7 @@ pub fn bring_home<T: Load>(
     lane: Lane<T>,
 )
     requires table { (seat.old.table_id ≡ shared.now.table_id) × (turn < shared.now.table_id.words) × (turn ≡ turn_at shared.now.key.plan lane_no) }
-    requires held { (0 < seat.old.me.0.weight) × (seat.old.me.0.lane ≡ lane_no + 1) × (seat.old.me.1 ≡ (lane_no, None) ∷ []) }
+    requires has_lane { (0 < seat.old.me.0.weight) × (seat.old.me.0.lane ≡ lane_no + 1) × (seat.old.me.1 ≡ (lane_no, None) ∷ []) }
     requires lane { lane ≡ lane_data seat.old.me.0.plan (seat.old.me.0.lent ++ drop (length seat.old.me.0.lent) lane.shards) }
     requires further { AreInHand (drop (length seat.old.me.0.lent) lane.shards) seat.old.me.0.mine }
     ensures same { seat.new.table_id ≡ seat.old.table_id }

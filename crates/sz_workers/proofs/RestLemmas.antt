@@ -76,10 +76,10 @@ take_all [] = refl
 take_all (x ∷ xs) = ap (λ l. x ∷ l) (take_all xs)
 
 -- tables that hold all shards are the end of the round
-pub all_held : (job : Job) (round : Round) (total : TotalState) (ss : List ℕ) → ForgetsOrder → HoldsShards job round total ss
+pub all_counted : (job : Job) (round : Round) (total : TotalState) (ss : List ℕ) → ForgetsOrder → HoldsShards job round total ss
     → HasFront ss (length (shards_of round))
     → (emits : List EmitDatum) × (outcome_of job (shards_of round) ≡ emitted emits) × StandForEmits job.compiled total emits
-all_held job round total ss forgets holds all =
+all_counted job round total ss forgets holds all =
     let shards : List ShardData = shards_of round in
     let f = emits_at job shards in
     let n : ℕ = length shards in
@@ -215,14 +215,14 @@ lost_ends job round place n within enough all none =
     loses_by job (shards_of round) place found.shard found.there (fewer_died job found.shard job.attempts n enough (all found.shard found.there)) none
     ∙ ap lost found.has
 
--- where all shards are held the round ends with the tables
+-- where all shards are in the tables the round ends with the tables
 pub tables_end : (named : Job) (of : Round) (job : Job) (round : Round) (p : PlanData) (total : TotalState) (ss : List ℕ) (n : ℕ) → ForgetsOrder
     → IsSet named of job round p → HoldsShards named of total ss → HasFront ss n → p.shards ≤ n
     → EndsRound job.compiled (outcome_of job (shards_of round)) (ends.Tables total)
 tables_end named of job round p total ss n forgets set holds front enough =
     let long = length-numbered of.first_shard of.records of.shards in
     let count = ap (λ (q : PlanData). q.shards) set.plan in
-    let whole = all_held named of total ss forgets holds (λ s l. front s (omega (arith, l, long, count, enough))) in
+    let whole = all_counted named of total ss forgets holds (λ s l. front s (omega (arith, l, long, count, enough))) in
     subst (λ (j : Job). EndsRound j.compiled (outcome_of j (shards_of round)) (ends.Tables total)) (sym set.job_is)
     (subst (λ (r : Round). EndsRound named.compiled (outcome_of named (shards_of r)) (ends.Tables total)) (sym set.round_is) whole)
 

@@ -93,7 +93,7 @@ apart_now v w c k shards h place hand in' =
     ((λ no. no), tt)
     (λ s one. ⊎_elim (λ (is : c.shard ≡ s). subst (λ (t : ℕ). HasWon t v.mine) is (hand.won c.shard in')) (λ (no : ⊥). absurd no) one)
     (λ s one. ⊎_elim (λ (is : c.shard ≡ s). subst (λ (t : ℕ). ¬ HasGiven t v.mine) is (hand.fresh c.shard in')) (λ (no : ⊥). absurd no) one) in
-    let counts = (each_shard_counts_once p v.ledger.lanes log place.plan legal).held c.shard in
+    let counts = (each_shard_counts_once p v.ledger.lanes log place.plan legal).anywhere c.shard in
     let some = once_some (slice_index (state_after p start log).unplaced c.shard) v.number mark.0 in
     let none : once (slice_index (state_after p start log).winners c.shard) ≡ 0 = ap once open' in
     absurd (omega arith)

@@ -5,7 +5,7 @@ use Rattle.sz_book.specs.Lanes.{LaneData}
 use Rattle.sz_book.specs.History.{IsLegal, calls_by, StartsWith, HasWon, HasGiven, IsAmong}
 use Rattle.sz_claims.specs.Known.{PassData, AreInHand}
 
--- what a pass saw is a beginning of what it then has seen, and it is of the same ledger and holds the lane that it held
+-- what a pass saw is a beginning of what it then has seen, and it is of the same ledger and keeps its lane
 pub record Goes (v w : PassData) : Type 0 where
   pub ledger : w.ledger ≡ v.ledger
   pub number : w.number ≡ v.number

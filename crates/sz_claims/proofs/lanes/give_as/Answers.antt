@@ -16,7 +16,7 @@ store-requires g c =
       c.requires.table.0,
       c.requires.table.1,
       subst (λ j. P j seat.me) (sym c.requires.table.2)
-          (subst (λ held. P (turn_at key.plan lane) (seat.me.0, held)) (sym c.requires.held.2)
+          (subst (λ slots. P (turn_at key.plan lane) (seat.me.0, slots)) (sym c.requires.has_lane.2)
           (gives_back g.T.Load.died g.T.Load.faults key.plan key.lanes c.args.shared.now.table_id.slots seat.id seat.me.0 lane
-          (seat.me.0.lent ++ shards) shards c.requires.held.0 c.requires.held.1 refl c.requires.further)),
+          (seat.me.0.lent ++ shards) shards c.requires.has_lane.0 c.requires.has_lane.1 refl c.requires.further)),
     )

@@ -2,7 +2,7 @@ use Rattle.std.proofs.Common.{◌+◌, [], ◌∷◌, true, ap, sym, ◌∙◌, 
 use Rattle.sz_book.specs.Plan.{IsPlan}
 use Rattle.sz_book.specs.declared.event.Event.TheVariants.{LaneOut}
 use Rattle.sz_book.specs.declared.event.Reply.TheVariants.{Lane}
-use Rattle.sz_claims.proofs.ForCallers.{fits_lane, is_held, may_give, in_hand_still}
+use Rattle.sz_claims.proofs.ForCallers.{fits_lane, has_lane, may_give, in_hand_still}
 use Rattle.sz_claims_tests.proofs.placing.place.Goals as goal
 
 pub put-requires-clause-fresh : goal.put-requires-clause-fresh
@@ -13,7 +13,7 @@ put-requires-clause-fresh c =
 pub give-requires-clause-may : goal.give-requires-clause-may
 give-requires-clause-may c =
     let lent = c.in-Some.ensures.some in
-    let h = is_held c.args.pass.now c.lend.new.pass c.args.lane_no c.in-Some.lane lent in
+    let h = has_lane c.args.pass.now c.lend.new.pass c.args.lane_no c.in-Some.lane lent in
     let hand = in_hand_still c.args.pass.now c.lend.new.pass (c.args.receipt.shard ∷ []) (LaneOut c.args.lane_no) (Lane true) (c.args.lane_no + 1)
     c.in-Some.lane.shards lent.0 c.requires.won in
     may_give c.lend.new.pass c.args.lane_no c.in-Some.lane c.put.new.self (c.args.receipt.shard ∷ []) h.1 h.2 h.3

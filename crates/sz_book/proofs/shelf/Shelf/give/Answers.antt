@@ -21,7 +21,7 @@ returns-then-not-fits g c =
 -- the lane was out, and is home
 pub invariant_of-self : goal.invariant_of-self
 invariant_of-self g c =
-    let h = c.self.inside.held in
+    let h = c.self.inside.ledger in
     let slice = c.as_slice-shards.result.now in
     let n = c.in-Some.count in
     let is = after _ slice c.args.lane.shards n (c.as_slice-shards.ensures.value ∙ c.shards.ensures.value) c.in-Some.ensures.some.1 in

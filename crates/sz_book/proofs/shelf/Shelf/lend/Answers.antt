@@ -6,7 +6,7 @@ use Rattle.sz_book.proofs.shelf.Shelf.lend.Goals as goal
 -- the lane was home, and leaves
 pub invariant_of-self : goal.invariant_of-self
 invariant_of-self g c =
-    let h = c.self.inside.held in
+    let h = c.self.inside.ledger in
     let step = c.apply.ensures.applied.step in
     let lent = sym (c.in-Lane-true.is ∙ ap Lane c.in-Lane-true.field-0-test) ∙ step.answer in
     let was = home_by h.plan h.state c.args.lane_no true lent in

@@ -8,17 +8,17 @@ pub bring_home-requires-clause-table : goal.bring_home-requires-clause-table
 bring_home-requires-clause-table g c =
     let one = one_ledger _ _ _ c.pass.inside.seat.me.0 _ _ _ _ c.pass.view_is c.self.view_is c.requires.of in
     let may = subst (λ k. MayGive k c.args.lane_no c.args.lane) (sym c.pass.view_is) c.requires.may in
-    let low = (c.pass.invariant.busy c.args.lane_no may.held).0 in
+    let low = (c.pass.invariant.busy c.args.lane_no may.has_lane).0 in
     let lanes = one.lanes_are in
     let words = c.self.invariant.words in
     let plan = ap (λ k. k.plan.shards) c.self.invariant.key in
     let shards = c.shards.ensures.value in
     (one.table, omega arith, omega arith)
 
-pub bring_home-requires-clause-held : goal.bring_home-requires-clause-held
-bring_home-requires-clause-held g c =
+pub bring_home-requires-clause-has_lane : goal.bring_home-requires-clause-has_lane
+bring_home-requires-clause-has_lane g c =
     let may = subst (λ k. MayGive k c.args.lane_no c.args.lane) (sym c.pass.view_is) c.requires.may in
-    (c.pass.invariant.live, may.held, (c.pass.invariant.busy c.args.lane_no may.held).1)
+    (c.pass.invariant.live, may.has_lane, (c.pass.invariant.busy c.args.lane_no may.has_lane).1)
 
 pub bring_home-requires-clause-lane : goal.bring_home-requires-clause-lane
 bring_home-requires-clause-lane g c =
