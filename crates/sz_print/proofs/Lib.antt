@@ -2,3 +2,4 @@ mod JoinedLemmas
 mod ValueLemmas
 mod StandardFacts
 mod TablesLemmas
+mod OrderLemmas

@@ -3,3 +3,4 @@ pub mod Joined
 pub mod Text
 pub mod Lines
 pub mod Tables
+pub mod Laws

@@ -10,6 +10,15 @@ use Rattle.sz_print.specs.Lines.{row_lines}
 abbrev pub table_lines : Declaration → List Indexed → List ℕ
 table_lines table shown = flat_map (λ (s : Indexed). row_lines table s.indexes s.rows) shown
 
+-- the lines of tables in order, of which the first has this number, where the table with a number shows these rows
+abbrev pub lines_shown : ℕ → List Declaration → (ℕ → List Indexed) → List ℕ
+lines_shown number [] rows = []
+lines_shown number (d ∷ ds) rows = table_lines d (rows number) ++ lines_shown (suc number) ds rows
+
+-- the text of the tables of a program that show these rows: table by table in the order of their declarations
+abbrev pub rows_text : List Declaration → (ℕ → List Indexed) → List ℕ
+rows_text tables rows = lines_shown 0 tables rows
+
 -- the lines of tables in order, of which the first has this number, for all emits
 abbrev pub lines_from : ℕ → List Declaration → List EmitDatum → List ℕ
 lines_from number [] emits = []

@@ -2,12 +2,14 @@
 #![tactic(auto)]
 
 mod comma;
+mod laws;
 mod number;
 mod quoted;
 mod row;
 mod tables;
 mod value;
 
+pub use laws::{rows_have_the_text_of_their_emits, text_forgets_the_order};
 pub use row::push_rows;
 pub use tables::text;
 pub use value::push_value;

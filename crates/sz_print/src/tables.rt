@@ -5,7 +5,7 @@ ghost use Rattle.sz_tabs.specs.Data.{EmitDatum};
 ghost use Rattle.sz_total.specs.States.{declarations, emit_count, shown};
 ghost use Rattle.sz_total.specs.Tables.{Indexed};
 ghost use Rattle.sz_total.specs.Totals.{StandsFor};
-ghost use Rattle.sz_print.specs.Tables.{table_lines, tables_text};
+ghost use Rattle.sz_print.specs.Tables.{table_lines, rows_text, tables_text};
 
 use crate::row::push_rows;
 use std::alloc::Global;
@@ -17,6 +17,7 @@ use sz_types::{TableDecl, TableDecls};
 /// those of the total.
 pub fn text<'a>(alloc: Global, total: &Total<'a>, tables: &TableDecls) -> Result<Vec<u8>, NoMemory>
     requires declared { tables.now ≡ total.now.tables }
+    ensures rows { IfOk result (λ text. text.items ≡ rows_text tables.now (shown total.now)) }
     ensures value { (emits : List EmitDatum) → StandsFor declarations emit_count shown total.now emits
         → IfOk result (λ text. text.items ≡ tables_text tables.now emits) }
 {

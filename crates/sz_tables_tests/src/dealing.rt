@@ -96,7 +96,7 @@ fn merged_by<A: Aggregator + Drop>(order: u64, first: A, second: A, third: A) ->
 }
 
 // The first side with the second merged into it.
-fn merged<A: Aggregator + Drop>(mut first: A, second: A) -> Result<A, NoMemory>
+pub(crate) fn merged<A: Aggregator + Drop>(mut first: A, second: A) -> Result<A, NoMemory>
     requires same { A.declaration second ≡ A.declaration first }
     requires room { A.count first + A.count second ≤ 2 ^ 63 }
     ensures same { IfOk result (λ both. A.declaration both ≡ A.declaration first) }

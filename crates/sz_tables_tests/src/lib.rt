@@ -2,9 +2,13 @@
 #![tactic(auto)]
 
 #[cfg(test)]
+mod chosen;
+#[cfg(test)]
 mod dealing;
 #[cfg(test)]
 mod flat;
+#[cfg(test)]
+mod large;
 #[cfg(test)]
 mod plain;
 #[cfg(test)]

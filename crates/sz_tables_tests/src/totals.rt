@@ -68,7 +68,7 @@ fn emit_of(alloc: Global, table: &TableDecl, number: u32, dealt: &Dealt) -> Resu
 }
 
 // The weight, where the table has weights.
-fn weight_for(table: &TableDecl, weight: i64) -> Option<i64>
+pub(crate) fn weight_for(table: &TableDecl, weight: i64) -> Option<i64>
     ensures some { is_some result ≡ is_some (seen_table table.now).weight }
 {
     match table.weight {
@@ -162,7 +162,7 @@ fn merged_by<'a>(
 }
 
 // The first total with the second merged into it.
-fn merged<'a>(mut first: Total<'a>, second: Total<'a>) -> Result<Total<'a>, NoMemory>
+pub(crate) fn merged<'a>(mut first: Total<'a>, second: Total<'a>) -> Result<Total<'a>, NoMemory>
     requires same { second.tables ≡ first.tables }
     requires room { first.count + second.count ≤ 2 ^ 63 }
     ensures same { IfOk result (λ both. both.tables ≡ first.entry.tables) }

@@ -19,33 +19,33 @@ use Rattle.sz_tabs.specs.Sorting.{distinct}
 use Rattle.sz_tabs.proofs.ForCallers.{all_entered, distinct_of_both, distinct_of_either, no_rows, rows_decide, rows_join, brought_by_both}
 use Rattle.sz_total.specs.Tables.{indexes_to, table_rows}
 use Rattle.sz_total.specs.Aggregates.{family_of, shown_of, HasRoomFor, ChangesRoomAlone, IsJoined}
-use Rattle.sz_total.specs.Held.{Held, same_indexes, rows_held, rows_in_order, IsHeld, AreHeld}
+use Rattle.sz_total.specs.Entries.{Entries, same_indexes, rows_found, rows_in_order, IsOfTable, AreOfTable}
 use Rattle.sz_total.specs.Joining.{GainsRoom, LooksTheSame, HasRoomUnder, HaveRoomFor, MayTake, MayTakeUnder, AreReady, TakesOne, TakesAll}
 use Rattle.sz_total.specs.declared.aggregate.Aggregate.{Aggregate}
 use Rattle.sz_total.proofs.TablesLemmas.{indexes_total, indexes_tie}
 use Rattle.sz_total.proofs.ListLemmas.{same_laws, same_is, distinct_of_more, entered_there}
-use Rattle.sz_total.proofs.HeldLemmas.{rows_stand, lists_stand, held_there, found_replaced, found_in_front, found_last}
+use Rattle.sz_total.proofs.EntryLemmas.{rows_stand, lists_stand, of_table_there, found_replaced, found_in_front, found_last}
 
 -- what is not under any of these index lists isn't found
-pub absent : (indexes : List Datum) (held : Held) → AllByRecursion (λ l. same_indexes indexes l ≡ false) (keys_of held)
-    → lookup (same_indexes indexes) held ≡ None
+pub absent : (indexes : List Datum) (entries : Entries) → AllByRecursion (λ l. same_indexes indexes l ≡ false) (keys_of entries)
+    → lookup (same_indexes indexes) entries ≡ None
 absent indexes [] apart = refl
 absent indexes (h ∷ hs) apart = ap (λ b. cond b (Some h.1) (lookup (same_indexes indexes) hs)) apart.0 ∙ absent indexes hs apart.1
 
 -- room alone changes no row
-pub looks_refl : (held : Held) → LooksTheSame held held
-looks_refl held = record { keys = refl; rows = λ indexes. refl; held = λ table count are. are; families = λ family are. are }
+pub looks_refl : (entries : Entries) → LooksTheSame entries entries
+looks_refl entries = record { keys = refl; rows = λ indexes. refl; still = λ table count are. are; families = λ family are. are }
 
-pub looks_trans : (first held now : Held) → LooksTheSame first held → LooksTheSame held now → LooksTheSame first now
-looks_trans first held now before after = record {
+pub looks_trans : (first mid now : Entries) → LooksTheSame first mid → LooksTheSame mid now → LooksTheSame first now
+looks_trans first mid now before after = record {
   keys = after.keys ∙ before.keys;
   rows = λ indexes. after.rows indexes ∙ before.rows indexes;
-  held = λ table count are. after.held table count (before.held table count are);
+  still = λ table count are. after.still table count (before.still table count are);
   families = λ family are. after.families family (before.families family are);
 }
 
-held_changed : (table : Declaration) (count : ℕ) (old new : Aggregate) → ChangesRoomAlone old new → IsHeld table count old → IsHeld table count new
-held_changed table count old new changes is = record {
+of_table_changed : (table : Declaration) (count : ℕ) (old new : Aggregate) → ChangesRoomAlone old new → IsOfTable table count old → IsOfTable table count new
+of_table_changed table count old new changes is = record {
   declared = changes.declared ∙ is.declared;
   family = changes.family ∙ is.family;
   few = omega (arith, is.few, changes.count);
@@ -57,32 +57,32 @@ held_changed table count old new changes is = record {
   short = is.short;
 }
 
-module _ (indexes : List Datum) (held : Held) (old new : Aggregate) (there : lookup (same_indexes indexes) held ≡ Some old)
+module _ (indexes : List Datum) (entries : Entries) (old new : Aggregate) (there : lookup (same_indexes indexes) entries ≡ Some old)
     (changes : ChangesRoomAlone old new) where
-  looks_changed : LooksTheSame held (set_value (same_indexes indexes) held new)
+  looks_changed : LooksTheSame entries (set_value (same_indexes indexes) entries new)
   looks_changed = record {
-    keys = keys-set_value (same_indexes indexes) held new;
+    keys = keys-set_value (same_indexes indexes) entries new;
     rows = λ others.
-        ap (λ found. option_map_or shown_of found []) (found_replaced indexes others held old new there)
+        ap (λ found. option_map_or shown_of found []) (found_replaced indexes others entries old new there)
         ∙ by_test others (same_indexes indexes others) refl;
-    held = λ table count are.
-        All-values-set_value (same_indexes indexes) (IsHeld table count) held new are
-        (held_changed table count old new changes (held_there table count indexes held old are there));
+    still = λ table count are.
+        All-values-set_value (same_indexes indexes) (IsOfTable table count) entries new are
+        (of_table_changed table count old new changes (of_table_there table count indexes entries old are there));
     families = λ family are.
-        All-values-set_value (same_indexes indexes) (λ (a : Aggregate). family_of a ≡ family) held new are
+        All-values-set_value (same_indexes indexes) (λ (a : Aggregate). family_of a ≡ family) entries new are
         (changes.family
         ∙ subst (λ found. IfSome found (λ a. family_of a ≡ family)) there
-        (IfSome-lookup_from_All (λ (a : Aggregate). family_of a ≡ family) (same_indexes indexes) held are));
+        (IfSome-lookup_from_All (λ (a : Aggregate). family_of a ≡ family) (same_indexes indexes) entries are));
   }
     where
       by_test : (others : List Datum) (b : Bool) → same_indexes indexes others ≡ b
-          → option_map_or shown_of (cond b (Some new) (lookup (same_indexes others) held)) [] ≡ rows_held held others
+          → option_map_or shown_of (cond b (Some new) (lookup (same_indexes others) entries)) [] ≡ rows_found entries others
       by_test others true same =
           changes.rows ∙ ap (λ found. option_map_or shown_of found []) (sym there)
-          ∙ ap (rows_held held) (same_is indexes others same)
+          ∙ ap (rows_found entries) (same_is indexes others same)
       by_test others false same = refl
 
-module _ (indexes : List Datum) (old new : Held) (gains : GainsRoom indexes old new) where
+module _ (indexes : List Datum) (old new : Entries) (gains : GainsRoom indexes old new) where
   pub gained_looks : LooksTheSame old new
   gained_looks = by_found (lookup (same_indexes indexes) old) refl gains.none gains.some
     where
@@ -105,55 +105,55 @@ module _ (indexes : List Datum) (old new : Held) (gains : GainsRoom indexes old 
           ∙ ap (λ b. cond b (Some some.0) (lookup (same_indexes others) old)) other
 
 -- what changed under the index list of an aggregator, and under one where there is none
-pub gains_some : (indexes : List Datum) (held new : Held) (own now : Aggregate) → lookup (same_indexes indexes) held ≡ Some own
-    → ChangesRoomAlone own now → new ≡ set_value (same_indexes indexes) held now → GainsRoom indexes held new
-gains_some indexes held new own now there changes written = record {
-  none = subst (λ o. IfNone o (new ≡ held)) (sym there) tt;
+pub gains_some : (indexes : List Datum) (entries new : Entries) (own now : Aggregate) → lookup (same_indexes indexes) entries ≡ Some own
+    → ChangesRoomAlone own now → new ≡ set_value (same_indexes indexes) entries now → GainsRoom indexes entries new
+gains_some indexes entries new own now there changes written = record {
+  none = subst (λ o. IfNone o (new ≡ entries)) (sym there) tt;
   some =
-      subst (λ o. IfSome o (λ own. (now : Aggregate) × ChangesRoomAlone own now × (new ≡ set_value (same_indexes indexes) held now))) (sym there)
+      subst (λ o. IfSome o (λ own. (now : Aggregate) × ChangesRoomAlone own now × (new ≡ set_value (same_indexes indexes) entries now))) (sym there)
       (now, changes, written);
 }
 
-pub gains_none : (indexes : List Datum) (held new : Held) → lookup (same_indexes indexes) held ≡ None → new ≡ held → GainsRoom indexes held new
-gains_none indexes held new none same = record {
-  none = subst (λ o. IfNone o (new ≡ held)) (sym none) same;
+pub gains_none : (indexes : List Datum) (entries new : Entries) → lookup (same_indexes indexes) entries ≡ None → new ≡ entries → GainsRoom indexes entries new
+gains_none indexes entries new none same = record {
+  none = subst (λ o. IfNone o (new ≡ entries)) (sym none) same;
   some =
-      subst (λ o. IfSome o (λ own. (now : Aggregate) × ChangesRoomAlone own now × (new ≡ set_value (same_indexes indexes) held now))) (sym none)
+      subst (λ o. IfSome o (λ own. (now : Aggregate) × ChangesRoomAlone own now × (new ≡ set_value (same_indexes indexes) entries now))) (sym none)
       tt;
 }
 
 -- the same of an aggregator that takes another, and of one that is put where there is none
-pub takes_some : (indexes : List Datum) (other : Aggregate) (held new : Held) (own now : Aggregate) → lookup (same_indexes indexes) held ≡ Some own
-    → IsJoined own other now → new ≡ set_value (same_indexes indexes) held now → TakesOne indexes other held new
-takes_some indexes other held new own now there joined written = record {
-  none = subst (λ o. IfNone o (new ≡ held ++ (indexes, other) ∷ [])) (sym there) tt;
+pub takes_some : (indexes : List Datum) (other : Aggregate) (entries new : Entries) (own now : Aggregate) → lookup (same_indexes indexes) entries ≡ Some own
+    → IsJoined own other now → new ≡ set_value (same_indexes indexes) entries now → TakesOne indexes other entries new
+takes_some indexes other entries new own now there joined written = record {
+  none = subst (λ o. IfNone o (new ≡ entries ++ (indexes, other) ∷ [])) (sym there) tt;
   some =
-      subst (λ o. IfSome o (λ own. (now : Aggregate) × IsJoined own other now × (new ≡ set_value (same_indexes indexes) held now))) (sym there)
+      subst (λ o. IfSome o (λ own. (now : Aggregate) × IsJoined own other now × (new ≡ set_value (same_indexes indexes) entries now))) (sym there)
       (now, joined, written);
 }
 
-pub takes_last : (indexes : List Datum) (other : Aggregate) (held new : Held) → lookup (same_indexes indexes) held ≡ None
-    → new ≡ held ++ (indexes, other) ∷ [] → TakesOne indexes other held new
-takes_last indexes other held new none last = record {
-  none = subst (λ o. IfNone o (new ≡ held ++ (indexes, other) ∷ [])) (sym none) last;
+pub takes_last : (indexes : List Datum) (other : Aggregate) (entries new : Entries) → lookup (same_indexes indexes) entries ≡ None
+    → new ≡ entries ++ (indexes, other) ∷ [] → TakesOne indexes other entries new
+takes_last indexes other entries new none last = record {
+  none = subst (λ o. IfNone o (new ≡ entries ++ (indexes, other) ∷ [])) (sym none) last;
   some =
-      subst (λ o. IfSome o (λ own. (now : Aggregate) × IsJoined own other now × (new ≡ set_value (same_indexes indexes) held now))) (sym none)
+      subst (λ o. IfSome o (λ own. (now : Aggregate) × IsJoined own other now × (new ≡ set_value (same_indexes indexes) entries now))) (sym none)
       tt;
 }
 
 -- room was made for each of these in turn
-abbrev pub IsRoomMade : Held → Held → Held → Type 0
+abbrev pub IsRoomMade : Entries → Entries → Entries → Type 0
 IsRoomMade [] old new = new ≡ old
-IsRoomMade (o ∷ os) old new = (mid : Held) × GainsRoom o.0 old mid × HasRoomUnder mid o × IsRoomMade os mid new
+IsRoomMade (o ∷ os) old new = (mid : Entries) × GainsRoom o.0 old mid × HasRoomUnder mid o × IsRoomMade os mid new
 
-untouched : (os old new : Held) → IsRoomMade os old new → (indexes : List Datum)
+untouched : (os old new : Entries) → IsRoomMade os old new → (indexes : List Datum)
     → AllByRecursion (λ l. same_indexes indexes l ≡ false) (keys_of os) → lookup (same_indexes indexes) new ≡ lookup (same_indexes indexes) old
 untouched [] old new made indexes apart = ap (lookup (same_indexes indexes)) made
 untouched (o ∷ os) old new made indexes apart =
     untouched os made.0 new made.3 indexes apart.1
     ∙ gained_elsewhere o.0 old made.0 made.1 indexes (same_laws.symm o.0 indexes ∙ apart.0)
 
-pub room_made : (os : Held) → IsDistinct same_indexes (keys_of os) → (old new : Held) → IsRoomMade os old new → HaveRoomFor new os
+pub room_made : (os : Entries) → IsDistinct same_indexes (keys_of os) → (old new : Entries) → IsRoomMade os old new → HaveRoomFor new os
 room_made [] apart old new made = tt
 room_made (o ∷ os) apart old new made = (
   subst (λ found. IfSome found (λ own. HasRoomFor own o.1))
@@ -162,59 +162,59 @@ room_made (o ∷ os) apart old new made = (
 )
 
 -- where there is room, aggregators of one table may take each other
-pub are_ready : (table : Declaration) (mine yours count : ℕ) → mine + yours ≤ count → (own others : Held) → AreHeld table mine own
-    → AreHeld table yours others → HaveRoomFor own others → AreReady count own others
+pub are_ready : (table : Declaration) (mine yours count : ℕ) → mine + yours ≤ count → (own others : Entries) → AreOfTable table mine own
+    → AreOfTable table yours others → HaveRoomFor own others → AreReady count own others
 are_ready table mine yours count few own [] are beside room = tt
 are_ready table mine yours count few own (o ∷ os) are beside room = (
   by_found (lookup (same_indexes o.0) own) refl room.0,
-  are_ready table mine yours count few own os are (All-tail (IsHeld table yours) o.1 (values_of os) beside) room.1,
+  are_ready table mine yours count few own os are (All-tail (IsOfTable table yours) o.1 (values_of os) beside) room.1,
 )
   where
     by_found : (found : Option Aggregate) → lookup (same_indexes o.0) own ≡ found → IfSome found (λ a. HasRoomFor a o.1)
         → IfSome found (λ a. MayTake count a o.1)
     by_found None is r = tt
     by_found (Some a) is r =
-        let one = held_there table mine o.0 own a are is in
-        let other = All-head (IsHeld table yours) o.1 (values_of os) beside in
+        let one = of_table_there table mine o.0 own a are is in
+        let other = All-head (IsOfTable table yours) o.1 (values_of os) beside in
         record { declared = other.declared ∙ sym one.declared; few = omega (arith, one.few, other.few, few); room = r }
 
 -- what taking one aggregator of the other side does to those of a table
-record IsTakenAt (table : Declaration) (count : ℕ) (indexes : List Datum) (other : Aggregate) (old new : Held) : Type 0 where
+record IsTakenAt (table : Declaration) (count : ℕ) (indexes : List Datum) (other : Aggregate) (old new : Entries) : Type 0 where
   lists : (rest : List (List Datum)) → distinct compare_indexes (keys_of new ++ rest) ≡ distinct compare_indexes (keys_of old ++ indexes ∷ rest)
-  here : (front later : List Weighted) → rows_held old indexes ≡ rows_of table front → shown_of other ≡ rows_of table later
-      → rows_held new indexes ≡ rows_of table (front ++ later)
+  here : (front later : List Weighted) → rows_found old indexes ≡ rows_of table front → shown_of other ≡ rows_of table later
+      → rows_found new indexes ≡ rows_of table (front ++ later)
   elsewhere : (others : List Datum) → same_indexes indexes others ≡ false → lookup (same_indexes others) new ≡ lookup (same_indexes others) old
-  held : AreHeld table count new
+  still : AreOfTable table count new
 
 -- it stands last where there was none
-module _ (table : Declaration) (count : ℕ) (indexes : List Datum) (other : Aggregate) (held : Held)
-    (none : lookup (same_indexes indexes) held ≡ None) (are : AreHeld table count held) (is : IsHeld table count other) where
-  taken_last : IsTakenAt table count indexes other held (held ++ (indexes, other) ∷ [])
+module _ (table : Declaration) (count : ℕ) (indexes : List Datum) (other : Aggregate) (entries : Entries)
+    (none : lookup (same_indexes indexes) entries ≡ None) (are : AreOfTable table count entries) (is : IsOfTable table count other) where
+  taken_last : IsTakenAt table count indexes other entries (entries ++ (indexes, other) ∷ [])
   taken_last = record {
     lists = λ rest.
-        ap (λ l. distinct compare_indexes (l ++ rest)) (map-append (λ (p : List Datum × Aggregate). p.0) held ((indexes, other) ∷ []))
-        ∙ ap (distinct compare_indexes) (append_assoc (keys_of held) (indexes ∷ []) rest);
+        ap (λ l. distinct compare_indexes (l ++ rest)) (map-append (λ (p : List Datum × Aggregate). p.0) entries ((indexes, other) ∷ []))
+        ∙ ap (distinct compare_indexes) (append_assoc (keys_of entries) (indexes ∷ []) rest);
     here = λ front later before beside.
-        ap (λ found. option_map_or shown_of found []) (found_last (same_indexes indexes) held indexes other (same_laws.refl indexes) none)
+        ap (λ found. option_map_or shown_of found []) (found_last (same_indexes indexes) entries indexes other (same_laws.refl indexes) none)
         ∙ beside
         ∙ sym
         (rows_decide table front [] later
         (sym before ∙ ap (λ found. option_map_or shown_of found []) none ∙ sym (no_rows table)));
-    elsewhere = λ others apart. found_in_front (same_indexes others) held indexes other (same_laws.symm others indexes ∙ apart);
-    held =
-        subst (All (IsHeld table count)) (sym (map-append (λ (p : List Datum × Aggregate). p.1) held ((indexes, other) ∷ [])))
-        (All-push (IsHeld table count) (values_of held) other are is);
+    elsewhere = λ others apart. found_in_front (same_indexes others) entries indexes other (same_laws.symm others indexes ∙ apart);
+    still =
+        subst (All (IsOfTable table count)) (sym (map-append (λ (p : List Datum × Aggregate). p.1) entries ((indexes, other) ∷ [])))
+        (All-push (IsOfTable table count) (values_of entries) other are is);
   }
 
 -- it is joined with the one that was there
-module _ (table : Declaration) (count : ℕ) (indexes : List Datum) (other : Aggregate) (held : Held) (own now : Aggregate)
-    (there : lookup (same_indexes indexes) held ≡ Some own) (are : AreHeld table count held) (is : IsHeld table count other)
+module _ (table : Declaration) (count : ℕ) (indexes : List Datum) (other : Aggregate) (entries : Entries) (own now : Aggregate)
+    (there : lookup (same_indexes indexes) entries ≡ Some own) (are : AreOfTable table count entries) (is : IsOfTable table count other)
     (may : MayTake count own other) (joined : IsJoined own other now) where
-  mine : IsHeld table count own
-  mine = held_there table count indexes held own are there
+  mine : IsOfTable table count own
+  mine = of_table_there table count indexes entries own are there
 
-  held_joined : IsHeld table count now
-  held_joined = record {
+  of_table_joined : IsOfTable table count now
+  of_table_joined = record {
     declared = joined.joins.same_table ∙ mine.declared;
     family = joined.family ∙ mine.family;
     few = omega (arith, may.few, joined.joins.both_counts);
@@ -223,37 +223,37 @@ module _ (table : Declaration) (count : ℕ) (indexes : List Datum) (other : Agg
     short = All-append (λ (w : Weighted). HasShortLengths w.value) mine.emits is.emits mine.short is.short;
   }
 
-  rows_joined : (front later : List Weighted) → rows_held held indexes ≡ rows_of table front → shown_of other ≡ rows_of table later
+  rows_joined : (front later : List Weighted) → rows_found entries indexes ≡ rows_of table front → shown_of other ≡ rows_of table later
       → shown_of now ≡ rows_of table (front ++ later)
-  unfolding held_joined
+  unfolding of_table_joined
   rows_joined front later before beside =
-      held_joined.stands.rows ∙ ap (λ d. rows_of d (mine.emits ++ is.emits)) held_joined.declared
+      of_table_joined.stands.rows ∙ ap (λ d. rows_of d (mine.emits ++ is.emits)) of_table_joined.declared
       ∙ rows_join table mine.emits front is.emits later
       (ap (λ d. rows_of d mine.emits) (sym mine.declared) ∙ sym mine.stands.rows ∙ ap (λ found. option_map_or shown_of found []) (sym there) ∙ before)
       (ap (λ d. rows_of d is.emits) (sym is.declared) ∙ sym is.stands.rows ∙ beside)
 
-  taken_into : IsTakenAt table count indexes other held (set_value (same_indexes indexes) held now)
+  taken_into : IsTakenAt table count indexes other entries (set_value (same_indexes indexes) entries now)
   taken_into = record {
     lists = λ rest.
-        ap (λ l. distinct compare_indexes (l ++ rest)) (keys-set_value (same_indexes indexes) held now)
-        ∙ distinct_of_either indexes_total indexes_tie (keys_of held) rest
+        ap (λ l. distinct compare_indexes (l ++ rest)) (keys-set_value (same_indexes indexes) entries now)
+        ∙ distinct_of_either indexes_total indexes_tie (keys_of entries) rest
         ∙ ap (all_entered compare_indexes rest)
-        (sym (entered_there (keys_of held) indexes (sym (is_some-lookup (same_indexes indexes) held) ∙ ap is_some there))
-        ∙ sym (distinct_of_more (keys_of held) indexes))
-        ∙ sym (distinct_of_either indexes_total indexes_tie (keys_of held ++ indexes ∷ []) rest)
-        ∙ ap (distinct compare_indexes) (append_assoc (keys_of held) (indexes ∷ []) rest);
+        (sym (entered_there (keys_of entries) indexes (sym (is_some-lookup (same_indexes indexes) entries) ∙ ap is_some there))
+        ∙ sym (distinct_of_more (keys_of entries) indexes))
+        ∙ sym (distinct_of_either indexes_total indexes_tie (keys_of entries ++ indexes ∷ []) rest)
+        ∙ ap (distinct compare_indexes) (append_assoc (keys_of entries) (indexes ∷ []) rest);
     here = λ front later before beside.
         ap (λ found. option_map_or shown_of found [])
-        (found_replaced indexes indexes held own now there
-        ∙ ap (λ b. cond b (Some now) (lookup (same_indexes indexes) held)) (same_laws.refl indexes))
+        (found_replaced indexes indexes entries own now there
+        ∙ ap (λ b. cond b (Some now) (lookup (same_indexes indexes) entries)) (same_laws.refl indexes))
         ∙ rows_joined front later before beside;
     elsewhere = λ others apart.
-        found_replaced indexes others held own now there ∙ ap (λ b. cond b (Some now) (lookup (same_indexes others) held)) apart;
-    held = All-values-set_value (same_indexes indexes) (IsHeld table count) held now are held_joined;
+        found_replaced indexes others entries own now there ∙ ap (λ b. cond b (Some now) (lookup (same_indexes others) entries)) apart;
+    still = All-values-set_value (same_indexes indexes) (IsOfTable table count) entries now are of_table_joined;
   }
 
-taken_at : (table : Declaration) (count : ℕ) (indexes : List Datum) (other : Aggregate) (old new : Held) → TakesOne indexes other old new
-    → AreHeld table count old → IsHeld table count other → MayTakeUnder count old (indexes, other) → IsTakenAt table count indexes other old new
+taken_at : (table : Declaration) (count : ℕ) (indexes : List Datum) (other : Aggregate) (old new : Entries) → TakesOne indexes other old new
+    → AreOfTable table count old → IsOfTable table count other → MayTakeUnder count old (indexes, other) → IsTakenAt table count indexes other old new
 taken_at table count indexes other old new takes are is may = by_found (lookup (same_indexes indexes) old) refl takes.none takes.some may
   where
     by_found : (found : Option Aggregate) → lookup (same_indexes indexes) old ≡ found → IfNone found (new ≡ old ++ (indexes, other) ∷ [])
@@ -266,7 +266,7 @@ taken_at table count indexes other old new takes are is may = by_found (lookup (
         (taken_into table count indexes other old own some.0 there are is may some.1)
 
 -- taking one changes nothing under other index lists
-pub taken_elsewhere : (indexes : List Datum) (other : Aggregate) (old new : Held) → TakesOne indexes other old new → (others : List Datum)
+pub taken_elsewhere : (indexes : List Datum) (other : Aggregate) (old new : Entries) → TakesOne indexes other old new → (others : List Datum)
     → same_indexes indexes others ≡ false → lookup (same_indexes others) new ≡ lookup (same_indexes others) old
 taken_elsewhere indexes other old new takes others apart = by_found (lookup (same_indexes indexes) old) refl takes.none takes.some
   where
@@ -280,7 +280,7 @@ taken_elsewhere indexes other old new takes others apart = by_found (lookup (sam
         ∙ ap (λ b. cond b (Some some.0) (lookup (same_indexes others) old)) apart
 
 -- the others still may be taken
-pub ready_still : (count : ℕ) (indexes : List Datum) (other : Aggregate) (old new : Held) → TakesOne indexes other old new → (os : Held)
+pub ready_still : (count : ℕ) (indexes : List Datum) (other : Aggregate) (old new : Entries) → TakesOne indexes other old new → (os : Entries)
     → AllByRecursion (λ l. same_indexes indexes l ≡ false) (keys_of os) → AreReady count old os → AreReady count new os
 ready_still count indexes other old new takes [] apart ready = tt
 ready_still count indexes other old new takes (o ∷ os) apart ready = (
@@ -289,52 +289,52 @@ ready_still count indexes other old new takes (o ∷ os) apart ready = (
 )
 
 -- each of these was taken in turn
-abbrev pub IsTaken : Held → Held → Held → Type 0
+abbrev pub IsTaken : Entries → Entries → Entries → Type 0
 IsTaken [] old new = new ≡ old
-IsTaken (o ∷ os) old new = (mid : Held) × TakesOne o.0 o.1 old mid × IsTaken os mid new
+IsTaken (o ∷ os) old new = (mid : Entries) × TakesOne o.0 o.1 old mid × IsTaken os mid new
 
 -- one is taken before the others
-module _ (table : Declaration) (count : ℕ) (indexes : List Datum) (other : Aggregate) (os old mid new : Held)
+module _ (table : Declaration) (count : ℕ) (indexes : List Datum) (other : Aggregate) (os old mid new : Entries)
     (apart : AllByRecursion (λ l. same_indexes indexes l ≡ false) (keys_of os)) (step : IsTakenAt table count indexes other old mid)
     (rest : TakesAll table count os mid new) where
-  rows_taken : (others : List Datum) (front later : List Weighted) → rows_held old others ≡ rows_of table front
-      → rows_held ((indexes, other) ∷ os) others ≡ rows_of table later → rows_held new others ≡ rows_of table (front ++ later)
+  rows_taken : (others : List Datum) (front later : List Weighted) → rows_found old others ≡ rows_of table front
+      → rows_found ((indexes, other) ∷ os) others ≡ rows_of table later → rows_found new others ≡ rows_of table (front ++ later)
   rows_taken others front later before beside = by_test (same_indexes others indexes) refl beside
     where
       by_test : (b : Bool) → same_indexes others indexes ≡ b
           → option_map_or shown_of (cond b (Some other) (lookup (same_indexes others) os)) [] ≡ rows_of table later
-          → rows_held new others ≡ rows_of table (front ++ later)
+          → rows_found new others ≡ rows_of table (front ++ later)
       by_test true same beside =
           let is = same_is others indexes same in
           rest.rows others (front ++ later) []
-          (ap (rows_held mid) is ∙ step.here front later (ap (rows_held old) (sym is) ∙ before) beside)
-          (ap (rows_held os) is ∙ ap (λ found. option_map_or shown_of found []) (absent indexes os apart) ∙ sym (no_rows table))
+          (ap (rows_found mid) is ∙ step.here front later (ap (rows_found old) (sym is) ∙ before) beside)
+          (ap (rows_found os) is ∙ ap (λ found. option_map_or shown_of found []) (absent indexes os apart) ∙ sym (no_rows table))
           ∙ ap (rows_of table) (append-nil (front ++ later))
       by_test false same beside =
           rest.rows others front later
           (ap (λ found. option_map_or shown_of found []) (step.elsewhere others (same_laws.symm indexes others ∙ same)) ∙ before) beside
 
   takes_more : TakesAll table count ((indexes, other) ∷ os) old new
-  takes_more = record { indexes = rest.indexes ∙ step.lists (keys_of os); rows = rows_taken; held = rest.held }
+  takes_more = record { indexes = rest.indexes ∙ step.lists (keys_of os); rows = rows_taken; still = rest.still }
 
-takes_none : (table : Declaration) (count : ℕ) (old new : Held) → new ≡ old → AreHeld table count old → TakesAll table count [] old new
+takes_none : (table : Declaration) (count : ℕ) (old new : Entries) → new ≡ old → AreOfTable table count old → TakesAll table count [] old new
 takes_none table count old new same are = record {
   indexes = ap (λ h. distinct compare_indexes (keys_of h)) same ∙ ap (distinct compare_indexes) (sym (append-nil (keys_of old)));
   rows = λ indexes front later before beside.
-      ap (λ h. rows_held h indexes) same ∙ before ∙ ap (rows_of table) (sym (append-nil front))
+      ap (λ h. rows_found h indexes) same ∙ before ∙ ap (rows_of table) (sym (append-nil front))
       ∙ rows_join table front front [] later refl (no_rows table ∙ beside);
-  held = subst (AreHeld table count) (sym same) are;
+  still = subst (AreOfTable table count) (sym same) are;
 }
 
-pub takes_all : (table : Declaration) (count : ℕ) (os : Held) → IsDistinct same_indexes (keys_of os) → (old new : Held) → IsTaken os old new
-    → AreHeld table count old → AreHeld table count os → AreReady count old os → TakesAll table count os old new
+pub takes_all : (table : Declaration) (count : ℕ) (os : Entries) → IsDistinct same_indexes (keys_of os) → (old new : Entries) → IsTaken os old new
+    → AreOfTable table count old → AreOfTable table count os → AreReady count old os → TakesAll table count os old new
 takes_all table count [] apart old new taken are beside ready = takes_none table count old new taken are
 takes_all table count (o ∷ os) apart old new taken are beside ready =
     let head = IsDistinct-head same_indexes o.0 (keys_of os) apart in
-    let step = taken_at table count o.0 o.1 old taken.0 taken.1 are (All-head (IsHeld table count) o.1 (values_of os) beside) ready.0 in
+    let step = taken_at table count o.0 o.1 old taken.0 taken.1 are (All-head (IsOfTable table count) o.1 (values_of os) beside) ready.0 in
     takes_more table count o.0 o.1 os old taken.0 new head step
-    (takes_all table count os (IsDistinct-tail same_indexes o.0 (keys_of os) apart) taken.0 new taken.2 step.held
-    (All-tail (IsHeld table count) o.1 (values_of os) beside) (ready_still count o.0 o.1 old taken.0 taken.1 os head ready.1))
+    (takes_all table count os (IsDistinct-tail same_indexes o.0 (keys_of os) apart) taken.0 new taken.2 step.still
+    (All-tail (IsOfTable table count) o.1 (values_of os) beside) (ready_still count o.0 o.1 old taken.0 taken.1 os head ready.1))
 
 -- joined lists have the distinct elements of lists with the same ones
 distinct_joined : (xs us ys vs : List (List Datum)) → distinct compare_indexes xs ≡ distinct compare_indexes us
@@ -345,7 +345,7 @@ distinct_joined xs us ys vs front later =
     ∙ ap (all_entered compare_indexes vs) front ∙ sym (distinct_of_either indexes_total indexes_tie us vs)
 
 -- where all aggregators of the other side were taken, the rows are those of the emits of both
-module _ (number : ℕ) (table : Declaration) (front later : List EmitDatum) (count : ℕ) (others old new : Held)
+module _ (number : ℕ) (table : Declaration) (front later : List EmitDatum) (count : ℕ) (others old new : Entries)
     (takes : TakesAll table count others old new) (before : rows_in_order old ≡ table_rows number table front)
     (beside : rows_in_order others ≡ table_rows number table later) where
   indexes_of_both : indexes_to number (front ++ later) ≡ indexes_to number front ++ indexes_to number later
@@ -360,7 +360,7 @@ module _ (number : ℕ) (table : Declaration) (front later : List EmitDatum) (co
       (lists_stand number table front old before) (lists_stand number table later others beside)
       ∙ ap (distinct compare_indexes) (sym indexes_of_both)
 
-  under : (indexes : List Datum) → rows_held new indexes ≡ rows_of table (brought_to number indexes (front ++ later))
+  under : (indexes : List Datum) → rows_found new indexes ≡ rows_of table (brought_to number indexes (front ++ later))
   under indexes =
       takes.rows indexes (brought_to number indexes front) (brought_to number indexes later) (rows_stand number table front old before indexes)
       (rows_stand number table later others beside indexes)

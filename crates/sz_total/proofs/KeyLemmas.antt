@@ -20,7 +20,7 @@ use Rattle.sz_tabs.specs.Sorting.{sorted, distinct}
 use Rattle.sz_tabs.proofs.ForCallers.{stable_sort_is_sorted, sorted_mapped}
 use Rattle.sz_total.specs.Aggregates.{shown_of}
 use Rattle.sz_total.specs.Tables.{Indexed}
-use Rattle.sz_total.specs.Held.{Held, same_indexes, indexed, entry_rows, rows_in_order}
+use Rattle.sz_total.specs.Entries.{Entries, same_indexes, indexed, entry_rows, rows_in_order}
 use Rattle.sz_total.specs.declared.aggregate.Aggregate.{Aggregate}
 use Rattle.sz_total.proofs.TablesLemmas.{indexes_total}
 use Rattle.sz_total.proofs.ListLemmas.{same_laws, distinct_apart}
@@ -30,15 +30,16 @@ pub lists_compare : (xs ys : List Value) → slice_cmp (λ v w. compare (seen v)
 lists_compare xs ys = sym (lex_map seen compare xs ys)
 
 -- an index list in front has no rows under others
-rows_later : (key : List Datum) (a : Aggregate) (held : Held) (ks : List (List Datum)) → AllByRecursion (λ l. same_indexes key l ≡ false) ks
-    → map (indexed ((key, a) ∷ held)) ks ≡ map (indexed held) ks
-rows_later key a held [] apart = refl
-rows_later key a held (k ∷ ks) apart =
+rows_later : (key : List Datum) (a : Aggregate) (entries : Entries) (ks : List (List Datum)) → AllByRecursion (λ l. same_indexes key l ≡ false) ks
+    → map (indexed ((key, a) ∷ entries)) ks ≡ map (indexed entries) ks
+rows_later key a entries [] apart = refl
+rows_later key a entries (k ∷ ks) apart =
     let other = same_laws.symm k key ∙ apart.0 in
-    λ i. record { indexes = k; rows = option_map_or shown_of (cond (other i) (Some a) (lookup (same_indexes k) held)) [] } ∷ rows_later key a held ks apart.1 i
+    λ i. record { indexes = k; rows = option_map_or shown_of (cond (other i) (Some a) (lookup (same_indexes k) entries)) [] }
+    ∷ rows_later key a entries ks apart.1 i
 
 -- what stands under each index list is what its aggregator shows, where no two index lists are the same
-pub entries_indexed : (held : Held) → IsDistinct same_indexes (keys_of held) → map entry_rows held ≡ map (indexed held) (keys_of held)
+pub entries_indexed : (entries : Entries) → IsDistinct same_indexes (keys_of entries) → map entry_rows entries ≡ map (indexed entries) (keys_of entries)
 entries_indexed [] apart = refl
 entries_indexed (h ∷ hs) apart =
     let same = same_laws.refl h.0 in
@@ -58,13 +59,14 @@ pub rows_ordered : IsStrictWeakOrder rows_less
 rows_ordered = ranks_by indexes_total (λ (s : Indexed). s.indexes)
 
 -- what a stable sort leaves
-pub rows_sorted : (held : Held) (old new : List Indexed) → IsDistinct same_indexes (keys_of held) → old ≡ map entry_rows held → IsSorted rows_order new
-    → IsStable rows_order old new → new ≡ rows_in_order held
-rows_sorted held old new apart are in_order stable =
+pub rows_sorted : (entries : Entries) (old new : List Indexed) → IsDistinct same_indexes (keys_of entries) → old ≡ map entry_rows entries
+    → IsSorted rows_order new
+    → IsStable rows_order old new → new ≡ rows_in_order entries
+rows_sorted entries old new apart are in_order stable =
     stable_sort_is_sorted (on_total (λ (s : Indexed). s.indexes) indexes_total) old new in_order stable
-    ∙ ap (sorted rows_order) (are ∙ entries_indexed held apart)
-    ∙ sorted_mapped rows_order (indexed held) (keys_of held)
-    ∙ ap (map (indexed held)) (sym (distinct_apart (keys_of held) apart))
+    ∙ ap (sorted rows_order) (are ∙ entries_indexed entries apart)
+    ∙ sorted_mapped rows_order (indexed entries) (keys_of entries)
+    ∙ ap (map (indexed entries)) (sym (distinct_apart (keys_of entries) apart))
 
 -- what a sure answer says
 pub surely : {T E P : Type 0} (r : Result T E) → IsOk r → OnOk r P → P
@@ -78,12 +80,12 @@ one_longer (Ok x) found before after is none long = long ∙ ap (λ o. before + 
 one_longer (Err e) found before after is none long = tt
 
 -- the first key, where it is empty
-pub first_key : (es : Held) (key : List Datum) (a : Aggregate) → Some (key, a) ≡ slice_get es 0 → key ≡ [] → slice_get (keys_of es) 0 ≡ Some []
+pub first_key : (es : Entries) (key : List Datum) (a : Aggregate) → Some (key, a) ≡ slice_get es 0 → key ≡ [] → slice_get (keys_of es) 0 ≡ Some []
 first_key [] key a there none = absurd (cc)
 first_key (e ∷ es) key a there none = sym (ap (option_map (λ (p : List Datum × Aggregate). p.0)) there) ∙ ap Some none
 
 -- what is known of the first aggregator, where its index list is empty
-pub record IsFirst (es : Held) (a : Aggregate) : Type 0 where
+pub record IsFirst (es : Entries) (a : Aggregate) : Type 0 where
   pub found : lookup (same_indexes []) es ≡ Some a
   pub written : (new : Aggregate) → set_value_at es 0 new ≡ set_value (same_indexes []) es new
   pub same : set_value_at es 0 a ≡ es
@@ -91,7 +93,7 @@ pub record IsFirst (es : Held) (a : Aggregate) : Type 0 where
 some_same : {T : Type 0} (x y : T) → Some x ≡ Some y → x ≡ y
 some_same x y e = cc
 
-pub is_first : (es : Held) (key : List Datum) (a : Aggregate) → slice_get es 0 ≡ Some (key, a)
+pub is_first : (es : Entries) (key : List Datum) (a : Aggregate) → slice_get es 0 ≡ Some (key, a)
     → slice_get (keys_of es) 0 ≡ Some [] → IsFirst es a
 is_first [] key a there none = absurd (cc)
 is_first (e ∷ es) key a there none = record {

@@ -1,9 +1,11 @@
 mod TablesLemmas
 mod ListLemmas
-mod HeldLemmas
+mod EntryLemmas
 mod JoiningLemmas
 mod TurnLemmas
+mod TypedLemmas
 mod KeyLemmas
 mod TotalLemmas
 mod MergingLemmas
+mod OriginLemmas
 mod StandardFacts

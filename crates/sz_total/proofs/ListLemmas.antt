@@ -17,7 +17,7 @@ use Rattle.sz_tabs.specs.Sorting.{sorted, distinct}
 use Rattle.sz_tabs.proofs.ForCallers.{sorted_in_any_order, distinct_of_both, distinct_of_either, no_rows, brought_elsewhere}
 use Rattle.sz_members.proofs.ForCallers.{entered_again, apart_sorted, entered_apart}
 use Rattle.sz_total.specs.Tables.{Indexed, indexes_to, table_rows}
-use Rattle.sz_total.specs.Held.{same_indexes}
+use Rattle.sz_total.specs.Entries.{same_indexes}
 use Rattle.sz_total.specs.Laws.{indexes_shown}
 use Rattle.sz_total.proofs.TablesLemmas.{indexes_total, indexes_tie}
 

@@ -19,80 +19,81 @@ use Rattle.sz_total.specs.Tables.{table_rows}
 use Rattle.sz_total.specs.Totals.{StandsFor, Joins}
 use Rattle.sz_total.specs.States.{TotalState, declarations, emit_count, shown}
 use Rattle.sz_total.specs.Aggregates.{family_for}
-use Rattle.sz_total.specs.Held.{Held, rows_in_order, IsHeld, AreHeld}
-use Rattle.sz_total.specs.Joining.{AreAlike, LooksTheSame, HaveRoomFor, AreReady, TakesAll, JoinsHeld}
-use Rattle.sz_total.specs.OneTable.{TableState, table_shown, AreTables, HasRoomToMerge, JoinsTable}
+use Rattle.sz_total.specs.Entries.{Entries, rows_in_order, IsOfTable, AreOfTable}
+use Rattle.sz_total.specs.Joining.{AreAlike, LooksTheSame, HaveRoomFor, AreReady, TakesAll, JoinsEntries}
+use Rattle.sz_total.specs.OneTable.{TableState, table_shown, AreTables, HasRoomToMerge, JoinsTable, state_of}
 use Rattle.sz_total.specs.Merging.{tables_of, AreMatched, IsMatchedAt, HasRoomAt, ChangesRoomAt, ChangeRoomAlone, HaveRoomToMerge}
 use Rattle.sz_total.specs.Merging.{AreFew, MayMergeAt, MergesAt, JoinTables}
-use Rattle.sz_total.proofs.HeldLemmas.{held_longer}
+use Rattle.sz_total.proofs.EntryLemmas.{of_table_longer}
 use Rattle.sz_total.proofs.JoiningLemmas.{are_ready, rows_of_both}
-use Rattle.sz_total.proofs.TotalLemmas.{held_at, few_at, state_of}
+use Rattle.sz_total.proofs.TotalLemmas.{state_at, few_at}
 
 -- aggregators of one table are of one family
-pub are_alike : (table : Declaration) (mine yours : ℕ) (held others : Held) → AreHeld table mine held → AreHeld table yours others → AreAlike held others
-are_alike table mine yours held others are beside = record {
+pub are_alike : (table : Declaration) (mine yours : ℕ) (entries others : Entries) → AreOfTable table mine entries → AreOfTable table yours others
+    → AreAlike entries others
+are_alike table mine yours entries others are beside = record {
   family = family_for table.kind;
-  mine = All-weaker (IsHeld table mine) _ (λ a is. is.family) (values_of held) are;
-  others_too = All-weaker (IsHeld table yours) _ (λ a is. is.family) (values_of others) beside;
+  mine = All-weaker (IsOfTable table mine) _ (λ a is. is.family) (values_of entries) are;
+  others_too = All-weaker (IsOfTable table yours) _ (λ a is. is.family) (values_of others) beside;
 }
 
 -- room alone changes no row
-pub same_rows : (old new : Held) → LooksTheSame old new → rows_in_order new ≡ rows_in_order old
+pub same_rows : (old new : Entries) → LooksTheSame old new → rows_in_order new ≡ rows_in_order old
 same_rows old new looks = (λ i. map (λ indexes. record { indexes = indexes; rows = looks.rows indexes i }) (distinct compare_indexes (looks.keys i)))
 
 -- aggregators that may be joined, and their rows after that
-module _ (table : Declaration) (mine yours : ℕ) (held others : Held) (are : AreHeld table mine held) (beside : AreHeld table yours others) where
-  pub may_join : mine + yours ≤ 2 ^ 63 → HaveRoomFor held others → AreReady (2 ^ 63) held others
-  may_join few room = are_ready table mine yours (2 ^ 63) few held others are beside room
+module _ (table : Declaration) (mine yours : ℕ) (entries others : Entries) (are : AreOfTable table mine entries) (beside : AreOfTable table yours others) where
+  pub may_join : mine + yours ≤ 2 ^ 63 → HaveRoomFor entries others → AreReady (2 ^ 63) entries others
+  may_join few room = are_ready table mine yours (2 ^ 63) few entries others are beside room
 
-  module _ (room : HaveRoomFor held others) (new : Held) (joins : JoinsHeld others held new) where
-    takes : TakesAll table (mine + yours) others held new
+  module _ (room : HaveRoomFor entries others) (new : Entries) (joins : JoinsEntries others entries new) where
+    takes : TakesAll table (mine + yours) others entries new
     takes =
-        joins.takes table (mine + yours) (held_longer table mine (mine + yours) (omega arith) held are)
-        (held_longer table yours (mine + yours) (omega arith) others beside)
-        (are_ready table mine yours (mine + yours) (omega arith) held others are beside room)
+        joins.takes table (mine + yours) (of_table_longer table mine (mine + yours) (omega arith) entries are)
+        (of_table_longer table yours (mine + yours) (omega arith) others beside)
+        (are_ready table mine yours (mine + yours) (omega arith) entries others are beside room)
 
-    pub held_of_both : AreHeld table (mine + yours) new
-    held_of_both = takes.held
+    pub of_table_both : AreOfTable table (mine + yours) new
+    of_table_both = takes.still
 
-    pub table_joined : (old other : TableState) (capacity further now : ℕ) → (record { table = table; count = mine; held = held; room = capacity }) ≡ old
-        → (record { table = table; count = yours; held = others; room = further }) ≡ other
-        → JoinsTable old other (record { table = table; count = mine + yours; held = new; room = now })
+    pub table_joined : (old other : TableState) (capacity further now : ℕ) → (record { table = table; count = mine; entries = entries; room = capacity }) ≡ old
+        → (record { table = table; count = yours; entries = others; room = further }) ≡ other
+        → JoinsTable old other (record { table = table; count = mine + yours; entries = new; room = now })
     table_joined old other capacity further now is your_is =
-        subst (λ o. JoinsTable o other (record { table = table; count = mine + yours; held = new; room = now })) is
+        subst (λ o. JoinsTable o other (record { table = table; count = mine + yours; entries = new; room = now })) is
         (subst
-        (λ o. JoinsTable (record { table = table; count = mine; held = held; room = capacity }) o
-        (record { table = table; count = mine + yours; held = new; room = now }))
+        (λ o. JoinsTable (record { table = table; count = mine; entries = entries; room = capacity }) o
+        (record { table = table; count = mine + yours; entries = new; room = now }))
         your_is
         (record {
           same_table = refl;
           both_counts = refl;
-          rows = λ number front later before after. rows_of_both number table front later (mine + yours) others held new takes before after;
+          rows = λ number front later before after. rows_of_both number table front later (mine + yours) others entries new takes before after;
         }))
 
 -- what is known of both tables before a merge
-pub record AreSides (table its : Declaration) (mine yours : ℕ) (held others : Held) : Type 0 where
+pub record AreSides (table its : Declaration) (mine yours : ℕ) (entries others : Entries) : Type 0 where
   pub same : its ≡ table
-  pub are : AreHeld table mine held
-  pub beside : AreHeld table yours others
+  pub are : AreOfTable table mine entries
+  pub beside : AreOfTable table yours others
   pub few : mine + yours ≤ 2 ^ 63
-  pub room : HaveRoomFor held others
+  pub room : HaveRoomFor entries others
 
-pub are_sides : (table its : Declaration) (mine yours : ℕ) (held others : Held) (capacity further : ℕ) (old other : TableState)
-    → (record { table = table; count = mine; held = held; room = capacity }) ≡ old
-    → (record { table = its; count = yours; held = others; room = further }) ≡ other → other.table ≡ old.table → old.count + other.count ≤ 2 ^ 63
-    → HasRoomToMerge old other → AreHeld table mine held → AreHeld its yours others → AreSides table its mine yours held others
-are_sides table its mine yours held others capacity further old other is your_is same few room are beside =
+pub are_sides : (table its : Declaration) (mine yours : ℕ) (entries others : Entries) (capacity further : ℕ) (old other : TableState)
+    → (record { table = table; count = mine; entries = entries; room = capacity }) ≡ old
+    → (record { table = its; count = yours; entries = others; room = further }) ≡ other → other.table ≡ old.table → old.count + other.count ≤ 2 ^ 63
+    → HasRoomToMerge old other → AreOfTable table mine entries → AreOfTable its yours others → AreSides table its mine yours entries others
+are_sides table its mine yours entries others capacity further old other is your_is same few room are beside =
     let one : its ≡ table =
     ap (λ (s : TableState). s.table) your_is ∙ same ∙ sym (ap (λ (s : TableState). s.table) is) in
     record {
       same = one;
       are = are;
-      beside = subst (λ t. AreHeld t yours others) one beside;
+      beside = subst (λ t. AreOfTable t yours others) one beside;
       few = omega (arith, few, ap (λ (s : TableState). s.count) is, ap (λ (s : TableState). s.count) your_is);
       room =
-          subst (λ (s : TableState). HaveRoomFor s.held others) (sym is)
-          (subst (λ (s : TableState). HaveRoomFor old.held s.held) (sym your_is) room.aggregates);
+          subst (λ (s : TableState). HaveRoomFor s.entries others) (sym is)
+          (subst (λ (s : TableState). HaveRoomFor old.entries s.entries) (sym your_is) room.aggregates);
     }
 
 -- what is found after a write
@@ -121,10 +122,10 @@ pub found_after : {X : Type 0} (xs : List X) (y : X) (rest all : List X) (at : �
 found_after xs y rest all at place is = ap (slice_get all) place ∙ ap (λ l. slice_get l (length xs)) (sym is) ∙ at_length xs y rest
 
 -- the other side has a table at each place, with the same declaration
-pub matched_at : (held others : List TableState) → AreMatched held others → (at : ℕ) (other : TableState) → slice_get others at ≡ Some other
-    → IsMatchedAt at other held
-matched_at held others matched at other there =
-    let found = held_at (tables_of others) held (sym matched) at other.table
+pub matched_at : (states others : List TableState) → AreMatched states others → (at : ℕ) (other : TableState) → slice_get others at ≡ Some other
+    → IsMatchedAt at other states
+matched_at states others matched at other there =
+    let found = state_at (tables_of others) states (sym matched) at other.table
     (slice_get-map (λ (s : TableState). s.table) others at ∙ ap (option_map (λ (s : TableState). s.table)) there) in
     record { state = found.0; there = found.1; same = sym found.2 }
 
@@ -140,7 +141,7 @@ module _ (at : ℕ) (old new : List TableState) (changes : ChangesRoomAt at old 
   one_changed : ChangeRoomAlone old new
   one_changed = record {
     declared = changed_maps (λ (s : TableState). s.table) changes.changes.same_table;
-    rows = changed_maps table_shown (same_rows changes.before.held changes.after.held changes.changes.aggregates);
+    rows = changed_maps table_shown (same_rows changes.before.entries changes.after.entries changes.changes.aggregates);
     still = λ tables count are. record {
       declared = changed_maps (λ (s : TableState). s.table) changes.changes.same_table ∙ are.declared;
       few =
@@ -295,55 +296,55 @@ merged_few mine yours (o ∷ old) (t ∷ others) (n ∷ new) as_many joins few b
     (All-tail (λ (s : TableState). s.count ≤ mine) o old few) (All-tail (λ (s : TableState). s.count ≤ yours) t others beside))
 
 -- both sides have tables at the same places
-matched_length : (held others : List TableState) → AreMatched held others → length others ≡ length held
-matched_length held others matched =
-    sym (length-tables others) ∙ ap length matched ∙ length-tables held
+matched_length : (states others : List TableState) → AreMatched states others → length others ≡ length states
+matched_length states others matched =
+    sym (length-tables others) ∙ ap length matched ∙ length-tables states
   where
     length-tables : (l : List TableState) → length (tables_of l) ≡ length l
     length-tables [] = refl
     length-tables (s ∷ ss) = ap suc (length-tables ss)
 
 -- few enough to be merged
-pub are_few : (tables : List Declaration) (mine yours : ℕ) (held others : List TableState) → mine + yours ≤ 2 ^ 63 → AreTables tables mine held
-    → AreTables tables yours others → AreFew held others
-are_few tables mine yours held others room are beside = λ at own other there yours_there.
-    let one = few_at mine held are.few at own there in
+pub are_few : (tables : List Declaration) (mine yours : ℕ) (states others : List TableState) → mine + yours ≤ 2 ^ 63 → AreTables tables mine states
+    → AreTables tables yours others → AreFew states others
+are_few tables mine yours states others room are beside = λ at own other there yours_there.
+    let one = few_at mine states are.few at own there in
     let two = few_at yours others beside.few at other yours_there in
     omega (arith, room, one, two)
 
 -- all tables after a merge
-module _ (tables : List Declaration) (mine yours : ℕ) (first held others new : List TableState) (are : AreTables tables mine first)
-    (beside : AreTables tables yours others) (kept : ChangeRoomAlone first held) (joins : JoinTables held others new) where
-  now_are : AreTables tables mine held
+module _ (tables : List Declaration) (mine yours : ℕ) (first states others new : List TableState) (are : AreTables tables mine first)
+    (beside : AreTables tables yours others) (kept : ChangeRoomAlone first states) (joins : JoinTables states others new) where
+  now_are : AreTables tables mine states
   now_are = kept.still tables mine are
 
-  matched : AreMatched held others
+  matched : AreMatched states others
   matched = beside.declared ∙ sym now_are.declared
 
   pub tables_joined : AreTables tables (mine + yours) new
   tables_joined = record {
-    declared = merged_declared held others new (matched_length held others matched) joins ∙ now_are.declared;
-    few = merged_few mine yours held others new (matched_length held others matched) joins now_are.few beside.few;
+    declared = merged_declared states others new (matched_length states others matched) joins ∙ now_are.declared;
+    few = merged_few mine yours states others new (matched_length states others matched) joins now_are.few beside.few;
   }
 
   -- what is shown of a table that is there
-  shown_there : (held : List TableState) (at : ℕ) (s : TableState) → slice_get held at ≡ Some s
-      → slice_index_or (map table_shown held) at [] ≡ table_shown s
-  shown_there held at s there =
-      get_or_from_slice_get (map table_shown held) at (table_shown s) []
-      (slice_get-map table_shown held at ∙ ap (option_map table_shown) there)
+  shown_there : (states : List TableState) (at : ℕ) (s : TableState) → slice_get states at ≡ Some s
+      → slice_index_or (map table_shown states) at [] ≡ table_shown s
+  shown_there states at s there =
+      get_or_from_slice_get (map table_shown states) at (table_shown s) []
+      (slice_get-map table_shown states at ∙ ap (option_map table_shown) there)
 
   rows_joined : (front later : List EmitDatum) → StandsFor declarations emit_count shown (state_of tables mine first) front
       → StandsFor declarations emit_count shown (state_of tables yours others) later → (table : ℕ) (declaration : Declaration)
       → slice_get tables table ≡ Some declaration
       → slice_index_or (map table_shown new) table [] ≡ table_rows table declaration (front ++ later)
   rows_joined front later stands theirs table declaration declared =
-      let own = held_at tables held now_are.declared table declaration declared in
-      let other = held_at tables others beside.declared table declaration declared in
+      let own = state_at tables states now_are.declared table declaration declared in
+      let other = state_at tables others beside.declared table declaration declared in
       let now = joins.joined table own.0 other.0 own.1 other.1 in
       shown_there new table now.0 now.1
       ∙ now.2.rows table front later
-      (sym (shown_there held table own.0 own.1) ∙ ap (λ l. slice_index_or l table []) kept.rows ∙ stands.rows table declaration declared
+      (sym (shown_there states table own.0 own.1) ∙ ap (λ l. slice_index_or l table []) kept.rows ∙ stands.rows table declaration declared
       ∙ ap (λ d. table_rows table d front) (sym own.2))
       (sym (shown_there others table other.0 other.1) ∙ theirs.rows table declaration declared ∙ ap (λ d. table_rows table d later) (sym own.2))
       ∙ ap (λ d. table_rows table d (front ++ later)) own.2
@@ -372,10 +373,10 @@ pub its_state : (tables its : List Declaration) (yours : ℕ) (others : List Tab
     → state_of its yours others ≡ other → state_of tables yours others ≡ other
 its_state tables its yours others other same is = ap (λ t. state_of t yours others) (sym same) ∙ is
 
-pub are_both : (tables its : List Declaration) (mine yours : ℕ) (held others : List TableState) (old other : TotalState) → state_of tables mine held ≡ old
+pub are_both : (tables its : List Declaration) (mine yours : ℕ) (states others : List TableState) (old other : TotalState) → state_of tables mine states ≡ old
     → state_of its yours others ≡ other → other.tables ≡ old.tables → old.count + other.count ≤ 2 ^ 63 → AreTables its yours others
     → AreBoth tables its mine yours others
-are_both tables its mine yours held others old other is your_is same few beside =
+are_both tables its mine yours states others old other is your_is same few beside =
     let one : its ≡ tables = ap (λ (s : TotalState). s.tables) your_is ∙ same ∙ sym (ap (λ (s : TotalState). s.tables) is) in
     record {
       same = one;

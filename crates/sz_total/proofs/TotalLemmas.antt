@@ -17,54 +17,50 @@ use Rattle.sz_tabs.specs.Fitting.{Fits, IsEmitTo}
 use Rattle.sz_total.specs.Tables.{table_rows}
 use Rattle.sz_total.specs.Totals.{StandsFor, IsNew, Gains}
 use Rattle.sz_total.specs.States.{TotalState, declarations, emit_count, shown}
-use Rattle.sz_total.specs.Held.{Held, TakesEmit}
-use Rattle.sz_total.specs.OneTable.{TableState, table_shown, GainsEmit, AreTables, HasRoomFor, GainsAt, new_table}
+use Rattle.sz_total.specs.Entries.{Entries, TakesEmit}
+use Rattle.sz_total.specs.OneTable.{TableState, table_shown, GainsEmit, AreTables, HasRoomFor, GainsAt, new_table, state_of}
 use Rattle.sz_total.specs.Weights.{HasItsWeights, HaveTheirWeights}
-use Rattle.sz_total.proofs.HeldLemmas.{rows_with_emit}
+use Rattle.sz_total.proofs.EntryLemmas.{rows_with_emit}
 use Rattle.sz_total.proofs.ListLemmas.{rows_elsewhere}
 
 -- what the model of a table sees of its aggregators that took an emit
-pub table_gained : (table : Declaration) (count : ℕ) (emit : EmitDatum) (old new : Held) (state : TableState)
-    → (room : ℕ) → (record { table = table; count = count; held = old; room = room }) ≡ state → TakesEmit table emit old new
-    → GainsEmit state (record { table = table; count = count + 1; held = new; room = room }) emit
+pub table_gained : (table : Declaration) (count : ℕ) (emit : EmitDatum) (old new : Entries) (state : TableState)
+    → (room : ℕ) → (record { table = table; count = count; entries = old; room = room }) ≡ state → TakesEmit table emit old new
+    → GainsEmit state (record { table = table; count = count + 1; entries = new; room = room }) emit
 table_gained table count emit old new state room is takes =
-    subst (λ s. GainsEmit s (record { table = table; count = count + 1; held = new; room = room }) emit) is
+    subst (λ s. GainsEmit s (record { table = table; count = count + 1; entries = new; room = room }) emit) is
     (record { same_table = refl; one_more = refl; rows = λ emits before. rows_with_emit emit.table table emits emit old new refl takes before })
 
--- a declared table is held
-pub held_at : (tables : List Declaration) (held : List TableState) → map (λ (s : TableState). s.table) held ≡ tables → (at : ℕ) (table : Declaration)
-    → slice_get tables at ≡ Some table → (s : TableState) × (slice_get held at ≡ Some s) × (s.table ≡ table)
-held_at tables held are at table declared = by_found (slice_get held at) refl
+-- a declared table has its state
+pub state_at : (tables : List Declaration) (states : List TableState) → map (λ (s : TableState). s.table) states ≡ tables → (at : ℕ) (table : Declaration)
+    → slice_get tables at ≡ Some table → (s : TableState) × (slice_get states at ≡ Some s) × (s.table ≡ table)
+state_at tables states are at table declared = by_found (slice_get states at) refl
   where
-    same : option_map (λ (s : TableState). s.table) (slice_get held at) ≡ Some table
-    same = sym (slice_get-map (λ (s : TableState). s.table) held at) ∙ ap (λ l. slice_get l at) are ∙ declared
+    same : option_map (λ (s : TableState). s.table) (slice_get states at) ≡ Some table
+    same = sym (slice_get-map (λ (s : TableState). s.table) states at) ∙ ap (λ l. slice_get l at) are ∙ declared
 
-    by_found : (found : Option TableState) → slice_get held at ≡ found → (s : TableState) × (slice_get held at ≡ Some s) × (s.table ≡ table)
+    by_found : (found : Option TableState) → slice_get states at ≡ found → (s : TableState) × (slice_get states at ≡ Some s) × (s.table ≡ table)
     by_found None is = absurd (let no = ap (option_map (λ (s : TableState). s.table)) is in let none = sym no ∙ same in cc)
     by_found (Some s) is = (s, is, let yes = ap (option_map (λ (s : TableState). s.table)) is in let one = sym yes ∙ same in cc)
 
--- a table that is held has few emits
-pub few_at : (count : ℕ) (held : List TableState) → All (λ (s : TableState). s.count ≤ count) held → (at : ℕ) (s : TableState)
-    → slice_get held at ≡ Some s → s.count ≤ count
-few_at count held few at s there =
-    subst (λ (s : TableState). s.count ≤ count) (get_or_from_slice_get held at s s there) (few at s (slice_get_within held at s there))
+-- a table that is there has few emits
+pub few_at : (count : ℕ) (states : List TableState) → All (λ (s : TableState). s.count ≤ count) states → (at : ℕ) (s : TableState)
+    → slice_get states at ≡ Some s → s.count ≤ count
+few_at count states few at s there =
+    subst (λ (s : TableState). s.count ≤ count) (get_or_from_slice_get states at s s there) (few at s (slice_get_within states at s there))
 
 -- the table of an emit that fits the declarations
-module _ (tables : List Declaration) (count : ℕ) (held : List TableState) (are : AreTables tables count held) where
-  pub room_for : (emit : EmitDatum) → IsEmitTo tables emit → count < 2 ^ 63 → HasRoomFor emit held
+module _ (tables : List Declaration) (count : ℕ) (states : List TableState) (are : AreTables tables count states) where
+  pub room_for : (emit : EmitDatum) → IsEmitTo tables emit → count < 2 ^ 63 → HasRoomFor emit states
   room_for emit to room =
-      let found = held_at tables held are.declared emit.table to.table to.declared in
-      let few = few_at count held are.few emit.table found.0 found.1 in
+      let found = state_at tables states are.declared emit.table to.table to.declared in
+      let few = few_at count states are.few emit.table found.0 found.1 in
       record {
         state = found.0;
         there = found.1;
         fits = subst (λ d. Fits d (brought_by emit)) (sym found.2) to.fits;
         room = omega (arith, room, few);
       }
-
--- what the model of all tables sees
-abbrev pub state_of : List Declaration → ℕ → List TableState → TotalState
-state_of tables count held = record { tables = tables; count = count; rows = map table_shown held }
 
 -- one table takes an emit
 module _ (emit : EmitDatum) (old new : List TableState) (gains : GainsAt emit old new) where

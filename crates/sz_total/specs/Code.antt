@@ -16,7 +16,7 @@ use Rattle.sz_members.specs.Data.{Counted}
 use Rattle.sz_members.specs.Code.{counted_code}
 use Rattle.sz_total.specs.Tables.{Indexed}
 use Rattle.sz_total.specs.States.{TotalState}
-use Rattle.sz_total.specs.Held.{Held}
+use Rattle.sz_total.specs.Entries.{Entries}
 use Rattle.sz_total.specs.OneTable.{TableState}
 use Rattle.sz_total.specs.declared.aggregate.Aggregate.{Aggregate}
 use Rattle.sz_total.specs.declared.aggregate.Aggregate.TheVariants.{Sum, Extreme, Members}
@@ -51,9 +51,9 @@ aggregate_code =
 -- how a table is stored
 abbrev pub table_code : Coded TableState
 table_code =
-    code_by (Declaration × (Held × (ℕ × ℕ)))
+    code_by (Declaration × (Entries × (ℕ × ℕ)))
     (coded× declaration_code (coded× (coded_list (coded× parts_code aggregate_code)) (coded× coded_ℕ coded_ℕ)))
-    (λ s. (s.table, (s.held, (s.count, s.room)))) (λ p. record { table = p.0; held = p.1.0; count = p.1.1.0; room = p.1.1.1 }) (λ _. refl)
+    (λ s. (s.table, (s.entries, (s.count, s.room)))) (λ p. record { table = p.0; entries = p.1.0; count = p.1.1.0; room = p.1.1.1 }) (λ _. refl)
 
 -- how all tables are stored
 abbrev pub total_code : Coded TotalState

@@ -16,32 +16,32 @@ use Rattle.sz_total.specs.Aggregates.{declaration_of, count_of, shown_of, family
 use Rattle.sz_total.specs.declared.aggregate.Aggregate.{Aggregate}
 
 -- aggregators under their index lists
-abbrev pub Held : Type 0
-Held = List (List Datum × Aggregate)
+abbrev pub Entries : Type 0
+Entries = List (List Datum × Aggregate)
 
 -- whether two index lists are the same
 abbrev pub same_indexes : List Datum → List Datum → Bool
 same_indexes indexes others = is_eq (compare_indexes indexes others)
 
 -- the rows under an index list: those of its aggregator, and none where there is none
-abbrev pub rows_held : Held → List Datum → List RowDatum
-rows_held held indexes = option_map_or shown_of (lookup (same_indexes indexes) held) []
+abbrev pub rows_found : Entries → List Datum → List RowDatum
+rows_found entries indexes = option_map_or shown_of (lookup (same_indexes indexes) entries) []
 
 -- an index list with the rows under it
-abbrev pub indexed : Held → List Datum → Indexed
-indexed held indexes = record { indexes = indexes; rows = rows_held held indexes }
+abbrev pub indexed : Entries → List Datum → Indexed
+indexed entries indexes = record { indexes = indexes; rows = rows_found entries indexes }
 
 -- an index list with the rows of its aggregator
 abbrev pub entry_rows : List Datum × Aggregate → Indexed
 entry_rows entry = record { indexes = entry.0; rows = shown_of entry.1 }
 
 -- the rows under each index list, these in value order
-abbrev pub rows_in_order : Held → List Indexed
-rows_in_order held = map (indexed held) (distinct compare_indexes (keys_of held))
+abbrev pub rows_in_order : Entries → List Indexed
+rows_in_order entries = map (indexed entries) (distinct compare_indexes (keys_of entries))
 
 -- the aggregator is one of the table and of the family that its kind needs, counts at most so many emits, and stands for some list of
 -- emits whose values have short lengths
-pub record IsHeld (table : Declaration) (count : ℕ) (aggregate : Aggregate) : Type 0 where
+pub record IsOfTable (table : Declaration) (count : ℕ) (aggregate : Aggregate) : Type 0 where
   pub declared : declaration_of aggregate ≡ table
   pub family : family_of aggregate ≡ family_for table.kind
   pub few : count_of aggregate ≤ count
@@ -50,13 +50,13 @@ pub record IsHeld (table : Declaration) (count : ℕ) (aggregate : Aggregate) : 
   pub short : AreShort emits
 
 -- each aggregator is such
-abbrev pub AreHeld : Declaration → ℕ → Held → Type 0
-AreHeld table count held = All (IsHeld table count) (values_of held)
+abbrev pub AreOfTable : Declaration → ℕ → Entries → Type 0
+AreOfTable table count entries = All (IsOfTable table count) (values_of entries)
 
 -- the rows under the emit's index list are those of one emit more, those under others stay, and what was kept to still is
-pub record TakesEmit (table : Declaration) (emit : EmitDatum) (old new : Held) : Type 0 where
+pub record TakesEmit (table : Declaration) (emit : EmitDatum) (old new : Entries) : Type 0 where
   pub indexes : distinct compare_indexes (keys_of new) ≡ insert_key compare_indexes (distinct compare_indexes (keys_of old)) emit.indexes
-  pub rows : (emits : List Weighted) → rows_held old emit.indexes ≡ rows_of table emits
-      → rows_held new emit.indexes ≡ rows_of table (emits ++ brought_by emit ∷ [])
-  pub others : (indexes : List Datum) → same_indexes emit.indexes indexes ≡ false → rows_held new indexes ≡ rows_held old indexes
-  pub held : (count : ℕ) → AreHeld table count old → AreHeld table (count + 1) new
+  pub rows : (emits : List Weighted) → rows_found old emit.indexes ≡ rows_of table emits
+      → rows_found new emit.indexes ≡ rows_of table (emits ++ brought_by emit ∷ [])
+  pub others : (indexes : List Datum) → same_indexes emit.indexes indexes ≡ false → rows_found new indexes ≡ rows_found old indexes
+  pub still : (count : ℕ) → AreOfTable table count old → AreOfTable table (count + 1) new

@@ -5,9 +5,11 @@ pub mod Laws
 pub mod Weights
 pub mod Short
 pub mod States
+pub mod Origin
+pub mod Typed
 -- what the functions inside the crate promise each other
 pub mod Aggregates
-pub mod Held
+pub mod Entries
 pub mod Joining
 pub mod OneTable
 pub mod Merging

@@ -5,22 +5,22 @@ use Rattle.sz_total.specs.OneTable.{TableState, table_shown, AreTables, ChangesR
 
 -- the declarations of tables
 abbrev pub tables_of : List TableState → List Declaration
-tables_of held = map (λ (s : TableState). s.table) held
+tables_of states = map (λ (s : TableState). s.table) states
 
 -- both sides have the same declarations
 abbrev pub AreMatched : List TableState → List TableState → Type 0
-AreMatched held others = tables_of others ≡ tables_of held
+AreMatched states others = tables_of others ≡ tables_of states
 
 -- the other table has the declaration of that at the place
-pub record IsMatchedAt (at : ℕ) (other : TableState) (held : List TableState) : Type 0 where
+pub record IsMatchedAt (at : ℕ) (other : TableState) (states : List TableState) : Type 0 where
   pub state : TableState
-  pub there : slice_get held at ≡ Some state
+  pub there : slice_get states at ≡ Some state
   pub same : other.table ≡ state.table
 
 -- the table at the place has room for the other
-pub record HasRoomAt (at : ℕ) (other : TableState) (held : List TableState) : Type 0 where
+pub record HasRoomAt (at : ℕ) (other : TableState) (states : List TableState) : Type 0 where
   pub state : TableState
-  pub there : slice_get held at ≡ Some state
+  pub there : slice_get states at ≡ Some state
   pub room : HasRoomToMerge state other
 
 -- nothing changed but the room of the table at the place
@@ -39,18 +39,18 @@ pub record ChangeRoomAlone (old new : List TableState) : Type 0 where
 
 -- each table has room for that of the other side
 abbrev pub HaveRoomToMerge : List TableState → List TableState → Type 0
-HaveRoomToMerge held others =
-    (at : ℕ) (own other : TableState) → slice_get held at ≡ Some own → slice_get others at ≡ Some other → HasRoomToMerge own other
+HaveRoomToMerge states others =
+    (at : ℕ) (own other : TableState) → slice_get states at ≡ Some own → slice_get others at ≡ Some other → HasRoomToMerge own other
 
 -- each table has few enough emits to be merged with that of the other side
 abbrev pub AreFew : List TableState → List TableState → Type 0
-AreFew held others =
-    (at : ℕ) (own other : TableState) → slice_get held at ≡ Some own → slice_get others at ≡ Some other → own.count + other.count ≤ 2 ^ 63
+AreFew states others =
+    (at : ℕ) (own other : TableState) → slice_get states at ≡ Some own → slice_get others at ≡ Some other → own.count + other.count ≤ 2 ^ 63
 
 -- the other table may be merged with that at the place
-pub record MayMergeAt (at : ℕ) (other : TableState) (held : List TableState) : Type 0 where
+pub record MayMergeAt (at : ℕ) (other : TableState) (states : List TableState) : Type 0 where
   pub state : TableState
-  pub there : slice_get held at ≡ Some state
+  pub there : slice_get states at ≡ Some state
   pub same : other.table ≡ state.table
   pub few : state.count + other.count ≤ 2 ^ 63
   pub room : HasRoomToMerge state other

@@ -5,25 +5,27 @@ use Rattle.sz_tabs.specs.Data.{EmitDatum}
 use Rattle.sz_tabs.specs.Fitting.{Fits}
 use Rattle.sz_tabs.specs.Rows.{brought_by}
 use Rattle.sz_total.specs.Tables.{Indexed, table_rows}
-use Rattle.sz_total.specs.Held.{Held, AreHeld, rows_in_order}
+use Rattle.sz_total.specs.Entries.{Entries, AreOfTable, rows_in_order}
 use Rattle.sz_total.specs.Joining.{LooksTheSame, HaveRoomFor}
 use Rattle.sz_total.specs.Weights.{HasItsWeights}
+use Rattle.sz_total.specs.States.{TotalState}
+use Rattle.sz_total.specs.Origin.{ComesFromEmits}
 
 -- a table's declaration, the number of emits to it, its aggregators, and for how many there is room
 pub record TableState : Type 0 where
   pub table : Declaration
   pub count : ℕ
-  pub held : Held
+  pub entries : Entries
   pub room : ℕ
 
 -- its rows
 abbrev pub table_shown : TableState → List Indexed
-table_shown s = rows_in_order s.held
+table_shown s = rows_in_order s.entries
 
 -- the table has its weights, its aggregators are of the table, and there is the room that was made
-pub record IsKept (table : Declaration) (count : ℕ) (held : Held) (room capacity : ℕ) : Type 0 where
+pub record IsKept (table : Declaration) (count : ℕ) (entries : Entries) (room capacity : ℕ) : Type 0 where
   pub weights : HasItsWeights table
-  pub aggregates : AreHeld table count held
+  pub aggregates : AreOfTable table count entries
   pub taken : room ≤ capacity
 
 -- where the old rows are those of a list of emits, the new rows are those of one emit more
@@ -37,12 +39,12 @@ pub record GainsEmit (old new : TableState) (emit : EmitDatum) : Type 0 where
 pub record ChangesRoomAlone (old new : TableState) : Type 0 where
   pub same_table : new.table ≡ old.table
   pub same_count : new.count ≡ old.count
-  pub aggregates : LooksTheSame old.held new.held
+  pub aggregates : LooksTheSame old.entries new.entries
 
 -- there is room for the other table: for its index lists, and in each aggregator
 pub record HasRoomToMerge (own other : TableState) : Type 0 where
-  pub lists : length own.held + length other.held ≤ own.room
-  pub aggregates : HaveRoomFor own.held other.held
+  pub lists : length own.entries + length other.entries ≤ own.room
+  pub aggregates : HaveRoomFor own.entries other.entries
 
 -- where the rows of both are those of lists of emits to the table with a number, the new rows are those of both lists
 pub record JoinsTable (old other new : TableState) : Type 0 where
@@ -53,12 +55,12 @@ pub record JoinsTable (old other new : TableState) : Type 0 where
 
 -- a declared table before any emit
 abbrev pub new_table : Declaration → TableState
-new_table table = record { table = table; count = 0; held = []; room = 0 }
+new_table table = record { table = table; count = 0; entries = []; room = 0 }
 
 -- the emit fits the table with its number, which has room for it
-pub record HasRoomFor (emit : EmitDatum) (held : List TableState) : Type 0 where
+pub record HasRoomFor (emit : EmitDatum) (states : List TableState) : Type 0 where
   pub state : TableState
-  pub there : slice_get held emit.table ≡ Some state
+  pub there : slice_get states emit.table ≡ Some state
   pub fits : Fits state.table (brought_by emit)
   pub room : state.count < 2 ^ 63
 
@@ -71,6 +73,15 @@ pub record GainsAt (emit : EmitDatum) (old new : List TableState) : Type 0 where
   pub now : new ≡ set old emit.table after
 
 -- the tables are those that are declared, and each has at most so many emits
-pub record AreTables (tables : List Declaration) (count : ℕ) (held : List TableState) : Type 0 where
-  pub declared : map (λ (s : TableState). s.table) held ≡ tables
-  pub few : All (λ (s : TableState). s.count ≤ count) held
+pub record AreTables (tables : List Declaration) (count : ℕ) (states : List TableState) : Type 0 where
+  pub declared : map (λ (s : TableState). s.table) states ≡ tables
+  pub few : All (λ (s : TableState). s.count ≤ count) states
+
+-- what contracts see of all tables
+abbrev pub state_of : List Declaration → ℕ → List TableState → TotalState
+state_of tables count states = record { tables = tables; count = count; rows = map table_shown states }
+
+-- the tables are those that are declared, and what they show comes from emits that fit
+pub record IsTotal (tables : List Declaration) (count : ℕ) (states : List TableState) : Type 0 where
+  pub are : AreTables tables count states
+  pub come : ComesFromEmits (state_of tables count states)

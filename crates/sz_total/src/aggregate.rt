@@ -70,6 +70,7 @@ pub(crate) fn reserve_for<'a>(
     requires alike { family_of other.now ≡ family_of aggregate.old }
     ensures ok { OnOk result (HasRoomFor aggregate.new other.now) }
     ensures kept { ChangesRoomAlone aggregate.old aggregate.new }
+    ensures err { OnErr result (aggregate.new ≡ aggregate.old) }
 {
     match (aggregate, other) {
         (Aggregate::Sum(sum), Aggregate::Sum(other)) => sum.reserve(other),

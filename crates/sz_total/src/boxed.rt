@@ -18,7 +18,7 @@ use sz_value::Value;
 /// aggregator.
 #[derive(Drop)]
 pub(crate) struct BoxedMembers<'a> {
-    held: Box<Members<'a>>,
+    members: Box<Members<'a>>,
 }
 
 impl<'a> Model for BoxedMembers<'a> {
@@ -29,7 +29,7 @@ impl<'a> Model for BoxedMembers<'a> {
 
     ghost coded = { counted_code };
 
-    ghost view = { λ b. b.held.value };
+    ghost view = { λ b. b.members.value };
 }
 
 impl<'a> BoxedMembers<'a> {
@@ -38,8 +38,8 @@ impl<'a> BoxedMembers<'a> {
         requires kind { ((seen_table table.now).kind ≡ kinds.Set) ⊎ ((seen_table table.now).kind ≡ kinds.Collection) }
         ensures empty { IfOk result (IsNew (λ m. m.table) (λ m. m.count) rows_of_members (seen_table table.now)) }
     {
-        let held = Box::new(alloc, Members::new(alloc, table))?;
-        Ok(BoxedMembers { held })
+        let members = Box::new(alloc, Members::new(alloc, table))?;
+        Ok(BoxedMembers { members })
     }
 
     // Adds an emit.
@@ -49,15 +49,16 @@ impl<'a> BoxedMembers<'a> {
         ensures ok { OnOk result (Gains (λ m. m.table) (λ m. m.count) rows_of_members self.old self.new (weighted (seen value.now) weight)) }
         ensures err { OnErr result (self.new ≡ self.old) }
     {
-        self.held.add(value, weight)
+        self.members.add(value, weight)
     }
 
     // Makes room for a merge of the other side.
     pub(crate) fn reserve(&mut self, other: &BoxedMembers<'a>) -> Result<(), NoMemory>
         ensures ok { OnOk result (HasRoomFor self.new other.now) }
         ensures kept { ChangesRoomAlone self.old self.new }
+        ensures err { OnErr result (self.new ≡ self.old) }
     {
-        self.held.reserve(&other.held)
+        self.members.reserve(&other.members)
     }
 
     // Merges the other side, for which there is room.
@@ -67,13 +68,13 @@ impl<'a> BoxedMembers<'a> {
         requires room { HasRoomFor self.old other }
         ensures value { Joins (λ m. m.table) (λ m. m.count) rows_of_members self.old other.entry self.new }
     {
-        let _ = self.held.merge(Box::into_inner(other.held));
+        let _ = self.members.merge(Box::into_inner(other.members));
     }
 
     // The rows, in the order in which they are printed.
     pub(crate) fn rows(&self) -> Result<Rows, NoMemory>
         ensures value { IfOk result (λ rows. rows ≡ rows_of_members self.now) }
     {
-        self.held.rows()
+        self.members.rows()
     }
 }

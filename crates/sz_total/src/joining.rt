@@ -3,8 +3,8 @@ ghost use Rattle.std.specs.Prelude.{◌≡◌, ◌<◌, ◌≤◌, ◌+◌, ◌+
 ghost use Rattle.std.specs.Map.{lookup};
 ghost use Rattle.indexmap.specs.IndexMap.{index_map_len, spare};
 ghost use Rattle.sz_total.specs.Aggregates.{family_of};
-ghost use Rattle.sz_total.specs.Held.{same_indexes};
-ghost use Rattle.sz_total.specs.Joining.{GainsRoom, LooksTheSame, HasRoomUnder, HaveRoomFor, MayTakeUnder, AreAlike, AreReady, TakesOne, JoinsHeld};
+ghost use Rattle.sz_total.specs.Entries.{same_indexes};
+ghost use Rattle.sz_total.specs.Joining.{GainsRoom, LooksTheSame, HasRoomUnder, HaveRoomFor, MayTakeUnder, AreAlike, AreReady, TakesOne, JoinsEntries};
 
 use crate::aggregate::{Aggregate, merge_into, reserve_for};
 use crate::lists::Lists;
@@ -59,7 +59,7 @@ fn make_room_under<'a>(
 pub(crate) fn take_all<'a>(lists: &mut Lists<'a>, others: Lists<'a>)
     requires ready { AreReady (2 ^ 63) lists.old.entries others.entries }
     requires room { index_map_len others ≤ spare lists.old }
-    ensures value { JoinsHeld others.entry.entries lists.old.entries lists.new.entries }
+    ensures value { JoinsEntries others.entry.entries lists.old.entries lists.new.entries }
     ensures capacity { index_map_len lists.old + spare lists.old ≤ index_map_len lists.new + spare lists.new }
 {
     for (key, other) in others {

@@ -4,6 +4,7 @@ ghost use Rattle.sz_types.specs.Tables.{Declaration};
 ghost use Rattle.sz_tabs.specs.Data.{EmitDatum};
 ghost use Rattle.sz_total.specs.Tables.{table_rows};
 ghost use Rattle.sz_total.specs.Laws.{ShowsItsIndexes, ForgetsOrder};
+ghost use Rattle.sz_total.specs.Typed.{FitsAsItsEmits};
 
 /// The index lists with rows rise in value order, and are just those of the emits to the table.
 pub fn a_table_shows_its_indexes()
@@ -19,4 +20,9 @@ pub fn no_emits_no_rows()
 #[tactic(auto, using(crate::proofs::TablesLemmas::tables_in_any_order))]
 pub fn tables_forget_the_order()
     ensures same { ForgetsOrder }
+{}
+
+/// What tables show of emits that fit them fits them too: the index lists have the declared types, and the values the element type.
+pub fn what_is_shown_fits()
+    ensures fits { FitsAsItsEmits }
 {}

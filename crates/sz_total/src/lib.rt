@@ -11,5 +11,7 @@ mod one_table;
 mod total;
 
 pub use indexed::{IndexedRows, TableRows};
-pub use laws::{a_table_shows_its_indexes, no_emits_no_rows, tables_forget_the_order};
+pub use laws::{
+    a_table_shows_its_indexes, no_emits_no_rows, tables_forget_the_order, what_is_shown_fits,
+};
 pub use total::Total;

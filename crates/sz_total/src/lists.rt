@@ -2,11 +2,11 @@
 ghost use Rattle.std.specs.Prelude.{◌≡◌, ◌≤◌, ◌+◌, ◌-◌, ◌^◌, [], map, None, Some, slice_get, true, IfOk, OnOk, OnErr};
 ghost use Rattle.std.specs.List.{IsDistinct};
 ghost use Rattle.std.specs.Map.{keys_of, lookup};
-ghost use Rattle.indexmap.specs.IndexMap.{index_map_len, spare};
+ghost use Rattle.indexmap.specs.IndexMap.{index_map_len, spare, IsEmpty};
 ghost use Rattle.sz_types.specs.SeenTables.{seen_table};
 ghost use Rattle.sz_tabs.specs.Fitting.{Fits};
 ghost use Rattle.sz_tabs.specs.Rows.{compare_indexes, brought_by};
-ghost use Rattle.sz_total.specs.Held.{AreHeld, TakesEmit, same_indexes, entry_rows, rows_in_order};
+ghost use Rattle.sz_total.specs.Entries.{AreOfTable, TakesEmit, same_indexes, entry_rows, rows_in_order};
 ghost use Rattle.sz_total.specs.Short.{HasShortParts};
 ghost use Rattle.sz_total.specs.Weights.{HasItsWeights};
 
@@ -15,13 +15,23 @@ use crate::indexed::{IndexedRows, TableRows};
 use indexmap::IndexMap;
 use std::alloc::Global;
 use std::cmp::Ordering;
+use std::hash::{BuildHasherDefault, DefaultHasher};
 use sz_flat::FlatList;
 use sz_tabs::{Emit, NoMemory};
 use sz_types::TableDecl;
 use sz_value::List;
 
-/// The aggregator under each index list that something was emitted under. The lists are kept flat.
-pub(crate) type Lists<'a> = IndexMap<FlatList, Aggregate<'a>>;
+/// The aggregator under each index list that something was emitted under. The lists are kept flat. Whoever writes the records picks the
+/// indexes, so they are hashed by a function that forgets nothing before its end.
+pub(crate) type Lists<'a> = IndexMap<FlatList, Aggregate<'a>, BuildHasherDefault<DefaultHasher>>;
+
+// No index lists, which takes no memory.
+pub(crate) fn no_lists<'a>(alloc: Global) -> Lists<'a>
+    ensures empty { IsEmpty result }
+    ensures len { index_map_len result ≡ 0 }
+{
+    IndexMap::with_hasher(alloc, BuildHasherDefault::new())
+}
 
 // Adds the emit to the aggregator under its index list, which is made if it isn't there. The index list is spelled into the key, whose
 // room serves every emit. That of a table without indexes is the first, and needs neither spelling nor hash.
@@ -35,7 +45,7 @@ pub(crate) fn take_emit<'a>(
     requires weights { HasItsWeights (seen_table table.now) }
     requires fits { Fits (seen_table table.now) (brought_by emit.now) }
     requires short { HasShortParts emit.now }
-    requires held { AreHeld (seen_table table.now) (2 ^ 63 - 1) lists.old.entries }
+    requires of_table { AreOfTable (seen_table table.now) (2 ^ 63 - 1) lists.old.entries }
     ensures ok { OnOk result (TakesEmit (seen_table table.now) emit.now lists.old.entries lists.new.entries) }
     ensures err { OnErr result (lists.new.entries ≡ lists.old.entries) }
     ensures capacity { index_map_len lists.old + spare lists.old ≤ index_map_len lists.new + spare lists.new }
@@ -70,7 +80,7 @@ fn take_hashed<'a>(
     requires fits { Fits (seen_table table.now) (brought_by emit.now) }
     requires short { HasShortParts emit.now }
     requires key { key.now ≡ emit.now.indexes }
-    requires held { AreHeld (seen_table table.now) (2 ^ 63 - 1) lists.old.entries }
+    requires of_table { AreOfTable (seen_table table.now) (2 ^ 63 - 1) lists.old.entries }
     ensures ok { OnOk result (TakesEmit (seen_table table.now) emit.now lists.old.entries lists.new.entries) }
     ensures err { OnErr result (lists.new.entries ≡ lists.old.entries) }
     ensures capacity { index_map_len lists.old + spare lists.old ≤ index_map_len lists.new + spare lists.new }

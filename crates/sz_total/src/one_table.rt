@@ -9,8 +9,7 @@ ghost use Rattle.sz_total.specs.Weights.{HasItsWeights};
 
 use crate::indexed::TableRows;
 use crate::joining::{make_room, take_all};
-use crate::lists::{Lists, all_rows, take_emit};
-use indexmap::IndexMap;
+use crate::lists::{Lists, all_rows, no_lists, take_emit};
 use std::alloc::Global;
 use std::marker::Model;
 use sz_flat::FlatList;
@@ -42,7 +41,7 @@ impl<'a> Model for OneTable<'a> {
     ghost use Rattle.indexmap.specs.IndexMap.{index_map_len, spare};
     ghost use Rattle.sz_total.specs.OneTable.{IsKept};
 
-    ghost view = { λ t. record { table = seen_table t.table.now; count = t.count; held = t.lists.entries; room = t.room } };
+    ghost view = { λ t. record { table = seen_table t.table.now; count = t.count; entries = t.lists.entries; room = t.room } };
 
     ghost invariant = { λ t. IsKept (seen_table t.table.now) t.count t.lists.entries t.room (index_map_len t.lists + spare t.lists) };
 }
@@ -51,14 +50,14 @@ impl<'a> OneTable<'a> {
     /// A table before any emit. It takes no memory.
     pub(crate) fn new(alloc: Global, table: &'a TableDecl) -> OneTable<'a>
         requires weights { HasItsWeights (seen_table table.now) }
-        ensures value { result ≡ record { table = seen_table table.now; count = 0; held = []; room = 0 } }
+        ensures value { result ≡ record { table = seen_table table.now; count = 0; entries = []; room = 0 } }
     {
         OneTable {
             alloc,
             table,
             count: 0,
             room: 0,
-            lists: IndexMap::new(alloc),
+            lists: no_lists(alloc),
             key: FlatList::new(alloc),
         }
     }

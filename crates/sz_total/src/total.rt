@@ -4,6 +4,7 @@ ghost use Rattle.sz_tabs.specs.Fitting.{IsEmitTo};
 ghost use Rattle.sz_total.specs.OneTable.{new_table, HasRoomFor, GainsAt};
 ghost use Rattle.sz_total.specs.Merging.{AreMatched, IsMatchedAt, HasRoomAt, ChangesRoomAt, ChangeRoomAlone, HaveRoomToMerge};
 ghost use Rattle.sz_total.specs.Merging.{AreFew, MayMergeAt, MergesAt, JoinTables};
+ghost use Rattle.sz_total.specs.Origin.{ComesFromEmits};
 ghost use Rattle.sz_total.specs.Short.{HasShortParts};
 ghost use Rattle.sz_total.specs.States.{declarations, emit_count, shown};
 ghost use Rattle.sz_total.specs.Totals.{IsNew, Gains, Joins};
@@ -23,7 +24,7 @@ use sz_types::TableDecls;
 pub struct Total<'a> {
     tables: &'a TableDecls,
     count: u64,
-    held: Vec<OneTable<'a>>,
+    states: Vec<OneTable<'a>>,
 }
 
 impl<'a> Model for Total<'a> {
@@ -36,11 +37,11 @@ impl<'a> Model for Total<'a> {
     ghost coded = { total_code };
 
     ghost use Rattle.std.specs.Prelude.{map};
-    ghost use Rattle.sz_total.specs.OneTable.{table_shown, AreTables};
+    ghost use Rattle.sz_total.specs.OneTable.{table_shown, IsTotal};
 
-    ghost view = { λ t. record { tables = t.tables.now; count = t.count; rows = map table_shown t.held.items } };
+    ghost view = { λ t. record { tables = t.tables.now; count = t.count; rows = map table_shown t.states.items } };
 
-    ghost invariant = { λ t. AreTables t.tables.now t.count t.held.items };
+    ghost invariant = { λ t. IsTotal t.tables.now t.count t.states.items };
 }
 
 impl<'a> Total<'a> {
@@ -49,11 +50,11 @@ impl<'a> Total<'a> {
         requires weights { HaveTheirWeights tables.now }
         ensures empty { IfOk result (IsNew declarations emit_count shown tables.now) }
     {
-        let held = all_new(alloc, tables)?;
+        let states = all_new(alloc, tables)?;
         Ok(Total {
             tables,
             count: 0,
-            held,
+            states,
         })
     }
 
@@ -65,7 +66,7 @@ impl<'a> Total<'a> {
         ensures ok { OnOk result (Gains declarations emit_count shown self.old self.new emit.now) }
         ensures err { OnErr result (self.new ≡ self.old) }
     {
-        add_at(&mut self.held, emit)?;
+        add_at(&mut self.states, emit)?;
         self.count += 1;
         Ok(())
     }
@@ -78,11 +79,11 @@ impl<'a> Total<'a> {
         ensures ok { OnOk result (Joins declarations emit_count shown self.old other.entry self.new) }
         ensures err { IfErr result (λ back. (back ≡ other.entry) × (self.new ≡ self.old)) }
     {
-        if reserve_all(&mut self.held, &other.held).is_err() {
+        if reserve_all(&mut self.states, &other.states).is_err() {
             return Err(other);
         }
         self.count += other.count;
-        merge_all(&mut self.held, other.held);
+        merge_all(&mut self.states, other.states);
         Ok(())
     }
 
@@ -91,13 +92,14 @@ impl<'a> Total<'a> {
         requires declared { table < length self.now.tables }
         ensures value { IfOk result (λ rows. rows ≡ shown self.now table) }
     {
-        let held = &self.held[table];
-        held.rows()
+        let states = &self.states[table];
+        states.rows()
     }
 
-    /// How many emits were added.
+    /// How many emits were added. What the tables show comes from so many emits that fit them.
     pub fn emits(&self) -> u64
         ensures value { result ≡ self.now.count }
+        ensures come { ComesFromEmits self.now }
     {
         self.count
     }
@@ -106,71 +108,74 @@ impl<'a> Total<'a> {
 // The declared tables before any emit.
 fn all_new<'a>(alloc: Global, tables: &'a TableDecls) -> Result<Vec<OneTable<'a>>, NoMemory>
     requires weights { HaveTheirWeights tables.now }
-    ensures value { IfOk result (λ held. held.items ≡ map new_table tables.now) }
+    ensures value { IfOk result (λ states. states.items ≡ map new_table tables.now) }
 {
-    let mut held = Vec::with_capacity(alloc, tables.len())?;
+    let mut states = Vec::with_capacity(alloc, tables.len())?;
     for table in tables.as_slice() {
-        held.push(OneTable::new(alloc, table))?;
+        states.push(OneTable::new(alloc, table))?;
     }
-    Ok(held)
+    Ok(states)
 }
 
 // Adds an emit to its table.
-fn add_at<'a>(held: &mut Vec<OneTable<'a>>, emit: &Emit) -> Result<(), NoMemory>
-    requires fits { HasRoomFor emit.now held.old.items }
+fn add_at<'a>(states: &mut Vec<OneTable<'a>>, emit: &Emit) -> Result<(), NoMemory>
+    requires fits { HasRoomFor emit.now states.old.items }
     requires short { HasShortParts emit.now }
-    ensures ok { OnOk result (GainsAt emit.now held.old.items held.new.items) }
-    ensures err { OnErr result (held.new.items ≡ held.old.items) }
+    ensures ok { OnOk result (GainsAt emit.now states.old.items states.new.items) }
+    ensures err { OnErr result (states.new.items ≡ states.old.items) }
 {
-    let table = &mut held[emit.table as usize];
+    let table = &mut states[emit.table as usize];
     table.add(emit)
 }
 
 // Makes room in each table for that of the other side.
-fn reserve_all<'a>(held: &mut Vec<OneTable<'a>>, others: &Vec<OneTable<'a>>) -> Result<(), NoMemory>
-    requires matched { AreMatched held.old.items others.now.items }
-    ensures ok { OnOk result (HaveRoomToMerge held.new.items others.now.items) }
-    ensures kept { ChangeRoomAlone held.old.items held.new.items }
+fn reserve_all<'a>(
+    states: &mut Vec<OneTable<'a>>,
+    others: &Vec<OneTable<'a>>,
+) -> Result<(), NoMemory>
+    requires matched { AreMatched states.old.items others.now.items }
+    ensures ok { OnOk result (HaveRoomToMerge states.new.items others.now.items) }
+    ensures kept { ChangeRoomAlone states.old.items states.new.items }
 {
     for (at, other) in others.iter().enumerate() {
-        reserve_at(held, at, other)?;
+        reserve_at(states, at, other)?;
     }
     Ok(())
 }
 
 // Makes room in the table at a place.
 fn reserve_at<'a>(
-    held: &mut Vec<OneTable<'a>>,
+    states: &mut Vec<OneTable<'a>>,
     at: usize,
     other: &OneTable<'a>,
 ) -> Result<(), NoMemory>
-    requires matched { IsMatchedAt at other.now held.old.items }
-    ensures ok { OnOk result (HasRoomAt at other.now held.new.items) }
-    ensures kept { ChangesRoomAt at held.old.items held.new.items }
+    requires matched { IsMatchedAt at other.now states.old.items }
+    ensures ok { OnOk result (HasRoomAt at other.now states.new.items) }
+    ensures kept { ChangesRoomAt at states.old.items states.new.items }
 {
-    let table = &mut held[at];
+    let table = &mut states[at];
     table.reserve(other)
 }
 
 // Merges each table of the other side, for which there is room.
-fn merge_all<'a>(held: &mut Vec<OneTable<'a>>, others: Vec<OneTable<'a>>)
-    requires matched { AreMatched held.old.items others.items }
-    requires few { AreFew held.old.items others.items }
-    requires room { HaveRoomToMerge held.old.items others.items }
-    ensures value { JoinTables held.old.items others.entry.items held.new.items }
+fn merge_all<'a>(states: &mut Vec<OneTable<'a>>, others: Vec<OneTable<'a>>)
+    requires matched { AreMatched states.old.items others.items }
+    requires few { AreFew states.old.items others.items }
+    requires room { HaveRoomToMerge states.old.items others.items }
+    ensures value { JoinTables states.old.items others.entry.items states.new.items }
 {
     let mut at = 0;
     for other in others {
-        merge_at(held, at, other);
+        merge_at(states, at, other);
         at += 1;
     }
 }
 
 // Merges a table with that at a place, which has room for it.
-fn merge_at<'a>(held: &mut Vec<OneTable<'a>>, at: usize, other: OneTable<'a>)
-    requires may { MayMergeAt at other held.old.items }
-    ensures value { MergesAt at other.entry held.old.items held.new.items }
+fn merge_at<'a>(states: &mut Vec<OneTable<'a>>, at: usize, other: OneTable<'a>)
+    requires may { MayMergeAt at other states.old.items }
+    ensures value { MergesAt at other.entry states.old.items states.new.items }
 {
-    let table = &mut held[at];
+    let table = &mut states[at];
     table.merge(other);
 }

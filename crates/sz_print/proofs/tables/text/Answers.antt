@@ -6,5 +6,5 @@ use Rattle.sz_print.proofs.tables.text.Goals as goal
 pub loop-number-preserved : goal.loop-number-preserved
 loop-number-preserved c =
     text_more c.as_slice-table-items.result.now c.args.total.now c.loop-number.number c.loop-number.text.items c.push_table.new.out.items c.table-item.result
-    c.as_slice.result.now c.loop-number-test.true (c.as_slice-table-items.ensures.value ∙ c.requires.declared) c.table-item.is
-    (c.as_slice.ensures.value ∙ c.in_ok-rows.ensures.value) c.in_ok-push_table.ensures.value c.loop-number.invariant
+    c.as_slice.result.now c.loop-number-test.true c.table-item.is (c.as_slice.ensures.value ∙ c.in_ok-rows.ensures.value)
+    c.in_ok-push_table.ensures.value c.loop-number.invariant

@@ -3,9 +3,9 @@ use Rattle.std.proofs.Common.{◌≡◌, ◌∙◌, cond, Some, sym, ap, subst, 
 use Rattle.std.specs.Map.{lookup}
 use Rattle.std.proofs.lemmas.Result.{on_ok_weaker}
 use Rattle.sz_total.specs.Aggregates.{family_of, HasRoomFor}
-use Rattle.sz_total.specs.Held.{same_indexes}
+use Rattle.sz_total.specs.Entries.{same_indexes}
 use Rattle.sz_total.proofs.ListLemmas.{same_laws}
-use Rattle.sz_total.proofs.HeldLemmas.{found_replaced}
+use Rattle.sz_total.proofs.EntryLemmas.{found_replaced}
 use Rattle.sz_total.proofs.JoiningLemmas.{gains_some, gains_none}
 use Rattle.sz_total.proofs.joining.make_room_under.Goals as goal
 

@@ -1,7 +1,7 @@
 -- There is room, so the new entry goes last.
 use Rattle.std.proofs.Common.{◌∙◌, arith}
 use Rattle.indexmap.proofs.CallerLemmas.{insert_entry-new}
-use Rattle.sz_total.specs.Held.{same_indexes}
+use Rattle.sz_total.specs.Entries.{same_indexes}
 use Rattle.sz_total.proofs.KeyLemmas.{surely, one_longer}
 use Rattle.sz_total.proofs.joining.put.Goals as goal
 

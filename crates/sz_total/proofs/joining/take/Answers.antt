@@ -1,7 +1,7 @@
 -- What is found takes the other, which else stands last.
 use Rattle.std.proofs.Common.{◌∙◌, ◌++◌, ◌∷◌, [], ◌^◌, sym, ap, subst, IfSome}
 use Rattle.std.specs.Map.{lookup}
-use Rattle.sz_total.specs.Held.{same_indexes}
+use Rattle.sz_total.specs.Entries.{same_indexes}
 use Rattle.sz_total.specs.Joining.{MayTake}
 use Rattle.sz_total.proofs.JoiningLemmas.{takes_some, takes_last}
 use Rattle.sz_total.proofs.joining.take.Goals as goal

@@ -7,8 +7,8 @@ use Rattle.sz_types.specs.SeenTables.{seen_table}
 use Rattle.sz_tabs.specs.Aggregating.{Gains}
 use Rattle.sz_tabs.specs.Rows.{brought_by}
 use Rattle.sz_total.specs.Aggregates.{declaration_of, count_of, shown_of}
-use Rattle.sz_total.specs.Held.{TakesEmit, same_indexes}
-use Rattle.sz_total.proofs.HeldLemmas.{taken_new}
+use Rattle.sz_total.specs.Entries.{TakesEmit, same_indexes}
+use Rattle.sz_total.proofs.EntryLemmas.{taken_new}
 use Rattle.sz_total.proofs.lists.put_emit.Goals as goal
 
 pub returns-clause-ok : goal.returns-clause-ok

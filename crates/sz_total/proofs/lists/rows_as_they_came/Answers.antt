@@ -3,7 +3,7 @@ use Rattle.std.proofs.Common.{◌∙◌, ◌++◌, ◌∷◌, [], map, sym, ap, 
 use Rattle.std.specs.Map.Iter.{deref_pair}
 use Rattle.std.proofs.lemmas.List.{append-nil}
 use Rattle.std.proofs.lemmas.Map.Iter.{rest_more}
-use Rattle.sz_total.specs.Held.{entry_rows}
+use Rattle.sz_total.specs.Entries.{entry_rows}
 use Rattle.sz_total.proofs.lists.rows_as_they_came.Goals as goal
 
 pub returns-clause-value : goal.returns-clause-value

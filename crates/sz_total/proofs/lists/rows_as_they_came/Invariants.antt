@@ -1,6 +1,6 @@
 -- There are rows of each entry so far.
 use Rattle.std.proofs.Common.{◌≡◌, ◌++◌, map}
-use Rattle.sz_total.specs.Held.{entry_rows}
+use Rattle.sz_total.specs.Entries.{entry_rows}
 use Rattle.sz_total.proofs.lists.rows_as_they_came.Given as goal
 
 abbrev pub invariant-loop-key : goal.invariant-loop-key

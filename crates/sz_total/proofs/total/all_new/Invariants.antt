@@ -5,4 +5,4 @@ use Rattle.sz_total.specs.OneTable.{new_table}
 use Rattle.sz_total.proofs.total.all_new.Given as goal
 
 abbrev pub invariant-loop-table : goal.invariant-loop-table
-invariant-loop-table l = l.held.items ≡ map new_table (map seen_table (take l.table-index l.table-items))
+invariant-loop-table l = l.states.items ≡ map new_table (map seen_table (take l.table-index l.table-items))

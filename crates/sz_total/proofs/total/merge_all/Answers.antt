@@ -11,7 +11,7 @@ merge_at-requires c =
     let all = ap (λ rest. l.yielded ++ rest) (sym c.in-Some.ensures.steps.0) ∙ l.invariant.1 in
     let there = found_after l.yielded c.in-Some.other (into_iter_items c.next.new.self) c.args.others.items l.at l.invariant.0 all in
     record {
-      may = may_merge l.at c.in-Some.other c.args.others.items c.args.held.now.items l.held.items there c.requires.matched c.requires.few c.requires.room
+      may = may_merge l.at c.in-Some.other c.args.others.items c.args.states.now.items l.states.items there c.requires.matched c.requires.few c.requires.room
           l.invariant.3;
     }
 
@@ -24,7 +24,7 @@ loop-other-preserved c =
       omega (arith, l.invariant.0, length-append l.yielded (c.in-Some.other ∷ [])),
       append_assoc l.yielded (c.in-Some.other ∷ []) rest ∙ all,
       omega (arith, l.invariant.2, ap length c.in-Some.ensures.steps.0, c.in-Some.ensures.steps.1),
-      merged_more l.at c.in-Some.other c.args.others.items c.args.held.now.items l.held.items c.merge_at.new.held.items there l.invariant.3
+      merged_more l.at c.in-Some.other c.args.others.items c.args.states.now.items l.states.items c.merge_at.new.states.items there l.invariant.3
           c.merge_at.ensures.value,
     )
 
@@ -32,7 +32,7 @@ pub returns : goal.returns
 returns c =
     let l = c.loop-other in
     record {
-      value = all_merged l.at c.args.others.items c.args.held.now.items l.held.items
+      value = all_merged l.at c.args.others.items c.args.states.now.items l.states.items
           (omega (
             arith,
             l.invariant.0,

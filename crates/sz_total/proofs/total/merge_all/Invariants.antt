@@ -9,4 +9,4 @@ invariant-loop-other l =
     (l.at ≡ length l.yielded)
     × (l.yielded ++ into_iter_items l.other-iterator ≡ l.fn.others.items)
     × (into_iter_len l.other-iterator ≡ length (into_iter_items l.other-iterator))
-    × IsMergedTo l.at l.fn.others.items l.initial.held.items l.held.items
+    × IsMergedTo l.at l.fn.others.items l.initial.states.items l.states.items

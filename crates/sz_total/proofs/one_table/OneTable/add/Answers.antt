@@ -7,7 +7,7 @@ use Rattle.sz_total.proofs.one_table.OneTable.add.Goals as goal
 pub invariant_of-self-2 : goal.invariant_of-self-2
 invariant_of-self-2 c = record {
   weights = c.self.invariant.weights;
-  aggregates = c.in_ok-take_emit.ensures.ok.held c.self.inside.count c.self.invariant.aggregates;
+  aggregates = c.in_ok-take_emit.ensures.ok.still c.self.inside.count c.self.invariant.aggregates;
   taken = omega (arith, c.self.invariant.taken, c.take_emit.ensures.capacity);
 }
 

@@ -1,7 +1,7 @@
 -- The aggregators of the other table are taken.
 use Rattle.std.proofs.Common.{◌∙◌, ap, sym, arith}
 use Rattle.sz_types.specs.SeenTables.{seen_table}
-use Rattle.sz_total.proofs.MergingLemmas.{are_sides, may_join, held_of_both, table_joined}
+use Rattle.sz_total.proofs.MergingLemmas.{are_sides, may_join, of_table_both, table_joined}
 use Rattle.sz_total.proofs.one_table.OneTable.merge.Goals as goal
 
 pub take_all-requires-clause-ready : goal.take_all-requires-clause-ready
@@ -20,7 +20,7 @@ invariant_of-self c =
     record {
       weights = c.self.invariant.weights;
       aggregates =
-          held_of_both (seen_table c.self.inside.table.now) c.self.inside.count c.other.inside.count c.self.inside.lists.entries
+          of_table_both (seen_table c.self.inside.table.now) c.self.inside.count c.other.inside.count c.self.inside.lists.entries
           c.other.inside.lists.entries s.are s.beside s.room c.take_all.new.lists.entries c.take_all.ensures.value;
       taken = omega (arith, c.self.invariant.taken, c.take_all.ensures.capacity);
     }
@@ -36,5 +36,5 @@ returns c =
       value = table_joined table c.self.inside.count c.other.inside.count c.self.inside.lists.entries others s.are s.beside s.room
           c.take_all.new.lists.entries c.take_all.ensures.value c.args.self.now c.args.other c.self.inside.room c.other.inside.room
           c.self.inside.room c.self.view_is
-          (ap (λ t. record { table = t; count = c.other.inside.count; held = others; room = c.other.inside.room }) (sym s.same) ∙ c.other.view_is);
+          (ap (λ t. record { table = t; count = c.other.inside.count; entries = others; room = c.other.inside.room }) (sym s.same) ∙ c.other.view_is);
     }

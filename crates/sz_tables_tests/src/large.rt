@@ -1,0 +1,176 @@
+//! Large tables: as many values as a limit lets in and one more, and a merge of a million index lists. No answer of want of memory comes
+//! but from the allocator, so none comes here.
+ghost use Rattle.std.specs.Prelude.{◌≡◌, ◌⊎◌, ◌∷◌, [], ◌≤◌, ◌<◌, ◌+◌, ◌^◌, true, false, All, is_some, IfOk};
+ghost use Rattle.sz_types.specs.Data.{Shape};
+ghost use Rattle.sz_types.specs.SeenTables.{seen_table};
+ghost use Rattle.sz_types.specs.declared.table.TableKind.TheVariants as kinds;
+ghost use Rattle.sz_total.specs.Weights.{HaveTheirWeights};
+
+use crate::dealing::merged;
+use crate::tables::{add_number, numbers_from, table_of_numbers, with};
+use crate::totals;
+use crate::totals::{Dealt, add_dealt, declarations, weight_for};
+use std::alloc::Global;
+use std::test::Fail;
+use sz_extreme::Extreme;
+use sz_members::Members;
+use sz_tabs::{Aggregator, NoMemory};
+use sz_total::Total;
+use sz_types::{TableDecl, TableDecls, TableKind};
+
+// Whole numbers from a first one on, each two above the last.
+#[derive(Clone, Copy)]
+struct Numbers {
+    first: u32,
+    count: u32,
+}
+
+// The number at a place.
+fn number_at(numbers: Numbers, at: u32) -> i64 {
+    i64::from(numbers.first) + 2 * i64::from(at)
+}
+
+// The aggregator with these numbers added, each with itself as its weight where there are weights.
+#[tactic(auto, using(crate::proofs::TestLemmas::number_fits))]
+fn filled<A: Aggregator + Drop>(
+    mut aggregate: A,
+    table: &TableDecl,
+    numbers: Numbers,
+) -> Result<A, NoMemory>
+    requires same { A.declaration aggregate ≡ seen_table table.now }
+    requires element { (seen_table table.now).element ≡ Shape.int }
+    requires room { A.count aggregate ≤ 2 ^ 40 }
+    ensures same { IfOk result (λ full. A.declaration full ≡ seen_table table.now) }
+    ensures count { IfOk result (λ full. A.count full ≤ A.count aggregate + 2 ^ 32) }
+{
+    for at in 0..numbers.count {
+        let number = number_at(numbers, at);
+        add_number(&mut aggregate, number, weight_for(table, number))?;
+    }
+    Ok(aggregate)
+}
+
+// The numbers of the rows after the even numbers were added to one side, the odd ones to the other, and then one more to the merged
+// sides.
+fn both_filled<A: Aggregator + Drop>(
+    alloc: Global,
+    even: A,
+    odd: A,
+    table: &TableDecl,
+    count: u32,
+    more: u32,
+) -> Result<Vec<i128>, NoMemory>
+    requires same { A.declaration even ≡ seen_table table.now }
+    requires other_same { A.declaration odd ≡ seen_table table.now }
+    requires empty { A.count even ≡ 0 }
+    requires other_empty { A.count odd ≡ 0 }
+    requires element { (seen_table table.now).element ≡ Shape.int }
+{
+    let even = filled(even, table, Numbers { first: 0, count })?;
+    let (even, odd) = with(even, filled(odd, table, Numbers { first: 1, count }))?;
+    let last = Numbers {
+        first: 1_000_000_000,
+        count: more,
+    };
+    let rows = filled(merged(even, odd)?, table, last)?.rows();
+    numbers_from(alloc, rows)
+}
+
+// The numbers of the rows of a table of maxima.
+#[tactic(auto, using(crate::proofs::TestLemmas::one_of_two))]
+fn maxima(alloc: Global, limit: u32, count: u32, more: u32) -> Result<Vec<i128>, NoMemory> {
+    let table = table_of_numbers(alloc, TableKind::Maximum, limit, true)?;
+    let even = Extreme::new(alloc, &table);
+    let odd = Extreme::new(alloc, &table);
+    both_filled(alloc, even, odd, &table, count, more)
+}
+
+// The numbers of the rows of a table of a set.
+#[tactic(auto, using(crate::proofs::TestLemmas::one_of_two))]
+fn members(alloc: Global, limit: u32, count: u32, more: u32) -> Result<Vec<i128>, NoMemory> {
+    let table = table_of_numbers(alloc, TableKind::Set, limit, false)?;
+    let even = Members::new(alloc, &table);
+    let odd = Members::new(alloc, &table);
+    both_filled(alloc, even, odd, &table, count, more)
+}
+
+// How many numbers there are, and the first and the last of them.
+fn seen_of(numbers: Result<Vec<i128>, NoMemory>) -> Option<(usize, i128, i128)> {
+    let Ok(numbers) = numbers else {
+        return None;
+    };
+    match (numbers.first(), numbers.last()) {
+        (Some(first), Some(last)) => Some((numbers.len(), *first, *last)),
+        _ => None,
+    }
+}
+
+// The total of a table of sums with 1 under each of these numbers.
+fn counted<'a>(
+    alloc: Global,
+    tables: &'a TableDecls,
+    numbers: Numbers,
+) -> Result<Total<'a>, NoMemory>
+    requires weights { HaveTheirWeights tables.now }
+    requires numbers { All (λ table. (table.element ≡ Shape.int) × (table.indexes ≡ Shape.int ∷ [])) tables.now }
+    ensures same { IfOk result (λ total. total.tables ≡ tables.now) }
+    ensures count { IfOk result (λ total. total.count ≤ 2 ^ 32) }
+{
+    let mut total = Total::new(alloc, tables)?;
+    for at in 0..numbers.count {
+        let dealt = Dealt {
+            table: 0,
+            index: number_at(numbers, at),
+            number: 1,
+            weight: 0,
+            side: 0,
+        };
+        add_dealt(alloc, &mut total, tables, &dealt)?;
+    }
+    Ok(total)
+}
+
+// How many index lists the table of sums has after so many on each of two sides.
+fn lists_merged(alloc: Global, count: u32) -> Result<usize, NoMemory> {
+    let tables = declarations(alloc)?;
+    let even = counted(alloc, &tables, Numbers { first: 0, count })?;
+    let odd = counted(alloc, &tables, Numbers { first: 1, count })?;
+    first_rows(&totals::merged(even, odd)?, &tables)
+}
+
+// How many index lists have rows in the first table, if there is one.
+fn first_rows<'a>(total: &Total<'a>, tables: &TableDecls) -> Result<usize, NoMemory>
+    requires same { total.now.tables ≡ tables.now }
+{
+    if tables.len() == 0 {
+        return Ok(0);
+    }
+    Ok(total.rows(0)?.as_slice().len())
+}
+
+#[test]
+fn ten_thousand_maxima_of_both_sides_are_kept(rt: HostRuntime) -> Result<(), Fail> {
+    let alloc = rt.alloc();
+    let full = seen_of(maxima(alloc, 10_000, 10_000, 0));
+    assert!(rt; full == Some((20_000, 19_999, 10_000)));
+    let one_more = seen_of(maxima(alloc, 10_000, 10_000, 1));
+    assert!(rt; one_more == Some((20_000, 1_000_000_000, 10_001)));
+    Ok(())
+}
+
+#[test]
+fn a_set_of_a_million_values_is_just_full(rt: HostRuntime) -> Result<(), Fail> {
+    let alloc = rt.alloc();
+    let full = seen_of(members(alloc, 1_000_000, 500_000, 0));
+    assert!(rt; full == Some((1_000_000, 0, 999_999)));
+    let one_more = seen_of(members(alloc, 1_000_000, 500_000, 1));
+    assert!(rt; one_more == Some((1, -1000, -1000)));
+    Ok(())
+}
+
+#[test]
+fn a_million_index_lists_are_merged(rt: HostRuntime) -> Result<(), Fail> {
+    let lists = lists_merged(rt.alloc(), 500_000);
+    assert!(rt; lists.unwrap_or(0) == 1_000_000);
+    Ok(())
+}
