@@ -1,10 +1,9 @@
 -- How the answer for a command line is put together: from the program's text, the program, and the input.
-use Rattle.std.proofs.Common.{◌≡◌, ◌≢◌, ℕ, zero, suc, ◌+◌, ◌-◌, ◌≤◌, ◌⊎◌, List, [], ◌∷◌, ◌++◌, take, drop, Bool, true, false}
-use Rattle.std.proofs.Common.{refl, sym, ap, ◌∙◌, subst, arith, inl, inr, append-nil}
+use Rattle.std.proofs.Common.{◌≡◌, ◌≢◌, ℕ, zero, suc, ◌+◌, ◌-◌, ◌≤◌, List, [], ◌∷◌, take, drop, Bool, true, false}
+use Rattle.std.proofs.Common.{refl, sym, ap, ◌∙◌, subst, arith}
 use Rattle.std.specs.Prelude.{unwrap_or, Result, Ok, Err, ◌&&◌, if◌then◌else◌}
 use Rattle.sz_types.specs.declared.frame.Frame.{Frame}
 use Rattle.sz_io.specs.Rose.{Rose}
-use Rattle.sz_io.specs.Calls.{NamesGain}
 use Rattle.sz_io.specs.declared.files.Files as files
 use Rattle.sz_tree.specs.Statements.{Stms}
 use Rattle.sz_core.specs.Programs.{Core}
@@ -30,18 +29,20 @@ use Rattle.sz_rounds.specs.Cuts.{cut_into}
 use Rattle.szl.specs.declared.status.Status.TheVariants as status
 use Rattle.szl.specs.declared.failure.Failure.{Failure}
 use Rattle.szl.specs.declared.failure.Failure.TheVariants as failure
-use Rattle.szl.specs.Opening.{ran_out, Decides, AnswersOn, AnswersText, AnswersCheck}
+use Rattle.szl.specs.Opening.{status_of_answer, Decides, AnswersOn, AnswersText, AnswersCheck}
 use Rattle.szl.specs.Outcome.{Answer, success, outcome_faulted, outcome_of_shards, outcome_of_statics, outcome_of_program}
 use Rattle.szl.specs.Outcome.{outcome_of_checked_run, outcome_of_checked}
 use Rattle.szl.specs.Checking.{checked}
 use Rattle.szl.specs.Judgement.{IsShort, HasStatements, refused, spells}
 use Rattle.szl.specs.Judging.{IsFailureOf, IsFailureOn}
-use Rattle.szl.specs.Promise.{OpensFirst}
+use Rattle.szl.specs.Failing.{status_of}
+use Rattle.szl.specs.Promise.{IfRead, OpensFiles}
 use Rattle.szl.specs.Records.{Cut, IsCutInto, limits}
 use Rattle.szl.specs.Shards.{shard_sizes, shards_in, job_of}
 use Rattle.szl.specs.ProgramRuns.{GivesStatics, GivesFile, IsJobOf}
 use Rattle.szl.proofs.JudgementLemmas.{every_text_is_read}
 use Rattle.szl.proofs.OpeningLemmas.{holds_or}
+use Rattle.szl.proofs.OpenedLemmas.{opened_none}
 
 -- how an input is cut
 pub record HasRecords (frame : Frame) (input : List ℕ) : Type 0 where
@@ -121,18 +122,6 @@ is_job program slots s job is sound fit bounds =
     subst IsJob (sym is.same)
     (record { sound = sound; statics = fit; budget = record { least = bounds.least_budget; most = bounds.most_budget } })
 
--- one name opened, or none
-opened_one : (name : List ℕ) (old new : List (List ℕ)) (most : ℕ) → 1 ≤ most → new ≡ old ++ name ∷ [] → OpensFirst (name ∷ []) old new most
-opened_one name old new most le is = record { count = 1; within = le; opened = is }
-
-opened_none : (asked old : List (List ℕ)) (most : ℕ) → OpensFirst asked old old most
-opened_none asked old most = record { count = 0; within = omega arith; opened = sym (append-nil old) }
-
-gained : (name : List ℕ) (old new : List (List ℕ)) (most : ℕ) → 1 ≤ most → (new ≡ old) ⊎ (new ≡ old ++ name ∷ [])
-    → OpensFirst (name ∷ []) old new most
-gained name old new most le (inl is) = record { count = 0; within = omega arith; opened = is ∙ sym (append-nil old) }
-gained name old new most le (inr is) = opened_one name old new most le is
-
 -- a decision without a count that rose is one whatever rose
 pub decides_still : (answer : Result (List ℕ) Failure) (outcome : Answer) (rose : Type 0) → Decides answer outcome ⊥ → Decides answer outcome rose
 decides_still (Ok output) outcome rose h = h
@@ -146,12 +135,26 @@ decides_still (Err (failure.Lost n)) outcome rose h = h
 decides_still (Err (failure.Damaged b)) outcome rose h = h
 decides_still (Err (failure.Limit b)) outcome rose h = h
 
+-- and no read failed
+pub not_read : (answer : Result (List ℕ) Failure) (outcome : Answer) → Decides answer outcome ⊥ → status_of_answer answer ≢ status.ReadFailed
+not_read (Ok output) outcome h = λ e. cc
+not_read (Err failure.ReadFailed) outcome h = absurd h.0
+not_read (Err failure.WriteFailed) outcome h = absurd h
+not_read (Err failure.NoMemory) outcome h = λ e. cc
+not_read (Err failure.Usage) outcome h = λ e. cc
+not_read (Err (failure.Refused r)) outcome h = λ e. cc
+not_read (Err (failure.Faulted n f)) outcome h = λ e. cc
+not_read (Err (failure.Lost n)) outcome h = λ e. cc
+not_read (Err (failure.Damaged b)) outcome h = λ e. cc
+not_read (Err (failure.Limit b)) outcome h = λ e. cc
+
 module _ {F : Type 0} (the_files : files.Ghosts F) (frame : Frame) (name : List ℕ) (old : F) where
   -- a failure before the input is opened
-  answers_unopened : (outcome_on : Cut → Answer) (f : Failure)
+  answers_unopened : (outcome_on : Cut → Answer) (f : Failure) → status_of f ≢ status.ReadFailed
+      → ((cut : Cut) → IfRead (status_of f) ((outcome_on cut).opens ≡ 1))
       → ((cut : Cut) → Decides (Err f) (outcome_on cut) (Rose (the_files.faults old) (the_files.faults old)))
       → AnswersOn the_files frame outcome_on name old old (Err f)
-  answers_unopened outcome_on f decides =
+  answers_unopened outcome_on f other one decides =
       let input = unwrap_or (the_files.held old name) [] in
       let c = cut_of frame input in
       record {
@@ -160,18 +163,20 @@ module _ {F : Type 0} (the_files : files.Ghosts F) (frame : Frame) (name : List 
         is_cut = c.is_cut;
         holds = holds_or (the_files.held old name) [];
         decides = decides c.cut;
-        opened = opened_none (name ∷ []) _ _;
+        opened = opened_none the_files old (name ∷ []) _ (status_of f) other
+            (λ read memory. ap (λ n. take (n - 1) (name ∷ [])) (sym (one c.cut read memory)));
       }
 
   -- there was no memory for the code
   pub no_code : (outcome_on : Cut → Answer) → AnswersOn the_files frame outcome_on name old old (Err failure.NoMemory)
-  no_code outcome_on = answers_unopened outcome_on failure.NoMemory (λ cut. tt)
+  no_code outcome_on = answers_unopened outcome_on failure.NoMemory (λ e. cc) (λ cut read memory. absurd (memory refl)) (λ cut. tt)
 
   -- a static faults
   pub static_fails : (program : Core) (s : RunSettings) (f : Failure) → GivesStatics program s.budget (Err f)
       → AnswersOn the_files frame (outcome_of_program program s) name old old (Err f)
   static_fails program s (failure.Faulted n f) h =
-      answers_unopened _ (failure.Faulted n f)
+      answers_unopened _ (failure.Faulted n f) (λ e. cc)
+      (λ cut read memory. ap (λ (o : Answer). o.opens) (ap (outcome_of_statics program s cut) h.1))
       (λ cut. ap (outcome_of_statics program s cut) h.1 ∙ ap (λ k. outcome_faulted k (seen_fault f)) (sym h.0))
   static_fails program s failure.NoMemory h = no_code _
   static_fails program s failure.Usage h = absurd h
@@ -190,7 +195,7 @@ module _ (program : Core) (s : RunSettings) (slots : List Slot) (begun : statics
   on_shards : (cut : Cut) → outcome_of_program program s cut ≡ outcome_of_shards program cut.ending (of_cut cut)
   on_shards cut = ap (outcome_of_statics program s cut) begun
 
-  one_left : (cut : Cut) → 1 ≤ (outcome_of_program program s cut).opens - 1
+  pub one_left : (cut : Cut) → 1 ≡ (outcome_of_program program s cut).opens - 1
   one_left cut =
       let two = ap (λ (a : Answer). a.opens) (on_shards cut)
       ∙ opens_two program cut.ending (of_cut cut)
@@ -206,15 +211,6 @@ module _ (program : Core) (s : RunSettings) (slots : List Slot) (begun : statics
 
 module _ {F : Type 0} (the_files : files.Ghosts F) (old new : F) (program : Core) (s : RunSettings) (slots : List Slot)
     (begun : statics program s.budget ≡ Done slots) where
-  opened_by : (answer : Result (List ℕ) Failure) (cut : Cut) → NamesGain (ran_out answer) (the_files.names old) (the_files.names new) s.input
-      → OpensFirst (s.input ∷ []) (the_files.names old) (the_files.names new) ((outcome_of_program program s cut).opens - 1)
-  opened_by answer cut gains = by (ran_out answer) gains
-    where
-      by : (b : Bool) → NamesGain b (the_files.names old) (the_files.names new) s.input
-          → OpensFirst (s.input ∷ []) (the_files.names old) (the_files.names new) ((outcome_of_program program s cut).opens - 1)
-      by true gains = gained s.input _ _ _ (one_left program s slots begun cut) gains
-      by false gains = opened_one s.input _ _ _ (one_left program s slots begun cut) gains
-
   -- the program was run over the input, or that couldn't be read
   pub input_run : (answer : Result (List ℕ) Failure) (job : Job) → IsJobOf program slots s job → GivesFile the_files job s old new answer
       → AnswersOn the_files s.frame (outcome_of_program program s) s.input old new answer
@@ -225,7 +221,8 @@ module _ {F : Type 0} (the_files : files.Ghosts F) (old new : F) (program : Core
     holds = gives.holds;
     decides = subst (λ o. Decides answer o (Rose (the_files.faults old) (the_files.faults new))) (of_job program s slots begun job is gives.tables.cut)
         gives.tables.decides;
-    opened = opened_by answer gives.tables.cut gives.opened;
+    opened = subst (λ n. OpensFiles the_files old new (s.input ∷ []) n (status_of_answer answer)) (one_left program s slots begun gives.tables.cut)
+        gives.opened;
   }
 
 -- the outcome of running the text that spells a program is the program's
@@ -243,7 +240,7 @@ program_answers the_files s text old new ss p answer short has is a = record {
         is_cut = a.is_cut;
         holds = a.holds;
         decides = subst (λ o. Decides answer o (Rose (the_files.faults old) (the_files.faults new))) same a.decides;
-        opened = subst (λ (o : Answer). OpensFirst (s.input ∷ []) (the_files.names old) (the_files.names new) (o.opens - 1)) same a.opened;
+        opened = subst (λ (o : Answer). OpensFiles the_files old new (s.input ∷ []) (o.opens - 1) (status_of_answer answer)) same a.opened;
       };
 }
 
@@ -260,7 +257,7 @@ module _ {F : Type 0} (the_files : files.Ghosts F) (s : RunSettings) (text : Lis
   text_refused (failure.Refused r) read = record {
     reading = refused r;
     read = read;
-    answers = answers_unopened the_files s.frame s.input old _ (failure.Refused r) (λ cut. refl);
+    answers = answers_unopened the_files s.frame s.input old _ (failure.Refused r) (λ e. cc) (λ cut read memory. refl) (λ cut. refl);
   }
   text_refused failure.NoMemory h = no_memory
   text_refused failure.Usage h = absurd h
@@ -277,7 +274,8 @@ module _ {F : Type 0} (the_files : files.Ghosts F) (s : RunSettings) (text : Lis
   statements_refused ss (failure.Refused r) short has h = record {
     reading = spells ss;
     read = (short, has);
-    answers = answers_unopened the_files s.frame s.input old _ (failure.Refused r) (λ cut. ap (outcome_of_checked_run s cut) h);
+    answers = answers_unopened the_files s.frame s.input old _ (failure.Refused r) (λ e. cc)
+        (λ cut read memory. ap (λ (o : Answer). o.opens) (ap (outcome_of_checked_run s cut) h)) (λ cut. ap (outcome_of_checked_run s cut) h);
   }
   statements_refused ss failure.NoMemory short has h = no_memory
   statements_refused ss failure.Usage short has h = absurd h

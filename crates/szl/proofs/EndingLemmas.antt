@@ -1,5 +1,5 @@
 -- How the run of a program over an input ends: by its shards, and how its records end.
-use Rattle.std.proofs.Common.{◌≡◌, ◌≢◌, ◌≤◌, ℕ, List, [], ◌++◌, sym, ap, ◌∙◌, refl, append-nil, Bool, true}
+use Rattle.std.proofs.Common.{◌≡◌, ◌≤◌, ℕ, List, [], sym, ap, ◌∙◌, refl, append-nil, Bool, true}
 use Rattle.std.specs.Prelude.{Option, Some, None, Result, Ok, Err, IfSome, IsSome, unwrap_or}
 use Rattle.std.specs.Io.KnownBytes.{Consumes, IsAtEnd}
 use Rattle.sz_types.specs.declared.frame.Frame.{Frame}

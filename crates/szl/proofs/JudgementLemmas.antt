@@ -72,30 +72,30 @@ reading_of (unread lexing.NoMemory) = refused (refusal_at TooLong first_place)
 reading_of (stuck q) = refused (refusal_at Syntax q)
 reading_of (spelled ss) = spells ss
 
--- the way after a reading
-record IsLater (text : List ℕ) (reading : Reading) : Type 0 where
+-- a way that leads to the reading
+record LeadsTo (text : List ℕ) (reading : Reading) : Type 0 where
   way : Way
   read : IsReadSo text way
   decides : reading ≡ reading_of way
 
-after_cause : (text : List ℕ) (c : Cause) (q : Place) → IsUnreadable text c q → IsLater text (refused (refusal_at c q))
-after_cause text TooLong q h = record { way = long; read = h.0; decides = ap (λ p. refused (refusal_at TooLong p)) h.1 }
-after_cause text NotUtf8 q h = record { way = unread (lexing.NotUtf8 q); read = h; decides = refl }
-after_cause text BadChar q h = record { way = unread (lexing.BadChar q); read = h; decides = refl }
-after_cause text BadLiteral q h = record { way = unread (lexing.BadLiteral q); read = h; decides = refl }
-after_cause text Syntax q h = record { way = stuck q; read = h; decides = refl }
-after_cause text _ q h = absurd h
+leads_to_cause : (text : List ℕ) (c : Cause) (q : Place) → IsUnreadable text c q → LeadsTo text (refused (refusal_at c q))
+leads_to_cause text TooLong q h = record { way = long; read = h.0; decides = ap (λ p. refused (refusal_at TooLong p)) h.1 }
+leads_to_cause text NotUtf8 q h = record { way = unread (lexing.NotUtf8 q); read = h; decides = refl }
+leads_to_cause text BadChar q h = record { way = unread (lexing.BadChar q); read = h; decides = refl }
+leads_to_cause text BadLiteral q h = record { way = unread (lexing.BadLiteral q); read = h; decides = refl }
+leads_to_cause text Syntax q h = record { way = stuck q; read = h; decides = refl }
+leads_to_cause text _ q h = absurd h
 
-after : (text : List ℕ) (reading : Reading) → IsRead text reading → IsLater text reading
-after text (refused r) h =
-    subst (λ n. IsLater text (refused (record { cause = r.cause; place = r.place; name = n }))) (sym h.1)
-    (after_cause text r.cause r.place h.0)
-after text (spells ss) h = record { way = spelled ss; read = h; decides = refl }
+leads_to : (text : List ℕ) (reading : Reading) → IsRead text reading → LeadsTo text reading
+leads_to text (refused r) h =
+    subst (λ n. LeadsTo text (refused (record { cause = r.cause; place = r.place; name = n }))) (sym h.1)
+    (leads_to_cause text r.cause r.place h.0)
+leads_to text (spells ss) h = record { way = spelled ss; read = h; decides = refl }
 
 pub one_reading : (text : List ℕ) (a b : Reading) → IsRead text a → IsRead text b → a ≡ b
 one_reading text a b h k =
-    let x = after text a h in
-    let y = after text b k in
+    let x = leads_to text a h in
+    let y = leads_to text b k in
     x.decides ∙ ap reading_of (one_way text x.way y.way x.read y.read) ∙ sym y.decides
 
 -- a text without tokens has a reading

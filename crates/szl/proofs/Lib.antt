@@ -4,6 +4,7 @@ mod FileLemmas
 mod JudgeLemmas
 mod JudgementLemmas
 mod MainLemmas
+mod OpenedLemmas
 mod OpeningLemmas
 mod RunningLemmas
 mod SelftestLemmas

@@ -15,11 +15,12 @@ use Rattle.szl.specs.declared.status.Status.TheVariants as status
 use Rattle.szl.specs.declared.failure.Failure.{Failure}
 use Rattle.szl.specs.declared.failure.Failure.TheVariants.{Usage, Refused, Faulted, Lost, Damaged, Limit, ReadFailed, WriteFailed, NoMemory}
 use Rattle.szl.specs.Failing.{status_of, line_of_failure}
-use Rattle.szl.specs.Opening.{Decides, Answers}
+use Rattle.szl.specs.Opening.{Decides, Answers, status_of_answer}
 use Rattle.szl.specs.Outcome.{Answer, outcome, success}
 use Rattle.szl.specs.Printing.{Prints, PrintsNothing}
-use Rattle.szl.specs.Promise.{IsStatusOf, AppendsPrefix, GainsOutput, IsLeftAlone, GainsLine, MeansSource, line_of}
+use Rattle.szl.specs.Promise.{IsStatusOf, AppendsPrefix, GainsOutput, IsLeftAlone, GainsLine, MeansSource, OpensFiles, line_of, names_asked}
 use Rattle.sz_words.specs.Settings.{settings_in}
+use Rattle.szl.proofs.OpenedLemmas.{opened_no_memory, opened_unwritten}
 
 -- where a place is within the bytes, there are some
 pub some_bytes : (place : ℕ) (bytes : List ℕ) → place < length bytes → bytes ≢ []
@@ -55,23 +56,32 @@ fits_error answer ReadFailed rose old new decides h = record { status_is = decid
 fits_error answer WriteFailed rose old new decides h = absurd decides
 fits_error answer NoMemory rose old new decides h = record { status_is = tt; output = prefix_none old answer.output new h }
 
+-- why printing ended in a failure: there was one before, and nothing was printed; or writing failed, or memory ran out
+data Ended (old new : Option (List ℕ)) : Result (List ℕ) Failure → Failure → Type 0 where
+  before : (f : Failure) → Appends old new [] → Ended old new (Err f) f
+  unwritten : (output : List ℕ) → output ≢ [] → AppendsPrefix old new output → Ended old new (Ok output) WriteFailed
+  no_room : (output : List ℕ) → AppendsPrefix old new output → Ended old new (Ok output) NoMemory
+
+ended : (f : Failure) (made : Result (List ℕ) Failure) (old new : Option (List ℕ)) → Prints {T = Unit {0}} old new made (Err f) → Ended old new made f
+ended f (Err g) old new printed = subst (Ended old new (Err g)) (sym printed.0) (before g printed.1)
+ended WriteFailed (Ok output) old new printed = unwritten output printed.0 printed.1
+ended NoMemory (Ok output) old new printed = no_room output printed
+ended Usage (Ok output) old new printed = absurd printed
+ended (Refused r) (Ok output) old new printed = absurd printed
+ended (Faulted n fault) (Ok output) old new printed = absurd printed
+ended (Lost n) (Ok output) old new printed = absurd printed
+ended (Damaged byte) (Ok output) old new printed = absurd printed
+ended (Limit byte) (Ok output) old new printed = absurd printed
+ended ReadFailed (Ok output) old new printed = absurd printed
+
 -- a failure, before or while something was printed
 fits_failure : (answer : Answer) (f : Failure) (made : Result (List ℕ) Failure) (rose : Type 0) (old new : Option (List ℕ))
-    → Decides made answer rose
-    → Prints {T = Unit {0}} old new made (Err f) → Fits answer (status_of f) old new
-fits_failure answer f (Err g) rose old new decides printed =
-    subst (λ x. Fits answer (status_of x) old new) (sym printed.0) (fits_error answer g rose old new decides printed.1)
-fits_failure answer WriteFailed (Ok output) rose old new decides printed =
-    subst (λ a. Fits a status.WriteFailed old new) (sym decides) (record { status_is = (refl, printed.0); output = printed.1 })
-fits_failure answer NoMemory (Ok output) rose old new decides printed =
-    subst (λ a. Fits a status.NoMemory old new) (sym decides) (record { status_is = tt; output = printed })
-fits_failure answer Usage (Ok output) rose old new decides printed = absurd printed
-fits_failure answer (Refused r) (Ok output) rose old new decides printed = absurd printed
-fits_failure answer (Faulted n fault) (Ok output) rose old new decides printed = absurd printed
-fits_failure answer (Lost n) (Ok output) rose old new decides printed = absurd printed
-fits_failure answer (Damaged byte) (Ok output) rose old new decides printed = absurd printed
-fits_failure answer (Limit byte) (Ok output) rose old new decides printed = absurd printed
-fits_failure answer ReadFailed (Ok output) rose old new decides printed = absurd printed
+    → Decides made answer rose → Ended old new made f → Fits answer (status_of f) old new
+fits_failure answer _ _ rose old new decides (before g none) = fits_error answer g rose old new decides none
+fits_failure answer _ _ rose old new decides (unwritten output some part) =
+    subst (λ a. Fits a status.WriteFailed old new) (sym decides) (record { status_is = (refl, some); output = part })
+fits_failure answer _ _ rose old new decides (no_room output part) =
+    subst (λ a. Fits a status.NoMemory old new) (sym decides) (record { status_is = tt; output = part })
 
 line_error : (answer : Answer) (f : Failure) (rose : Type 0) → Decides (Err f) answer rose → line_of_failure f ≡ line_of answer (status_of f)
 line_error answer Usage rose decides = sym (ap (λ (a : Answer). a.line) decides)
@@ -86,36 +96,19 @@ line_error answer NoMemory rose decides = refl
 
 -- the line of a failure is that of its status
 line_is : (answer : Answer) (f : Failure) (made : Result (List ℕ) Failure) (rose : Type 0) (old new : Option (List ℕ))
-    → Decides made answer rose
-    → Prints {T = Unit {0}} old new made (Err f) → line_of_failure f ≡ line_of answer (status_of f)
-line_is answer f (Err g) rose old new decides printed =
-    subst (λ x. line_of_failure x ≡ line_of answer (status_of x)) (sym printed.0) (line_error answer g rose decides)
-line_is answer WriteFailed (Ok output) rose old new decides printed = refl
-line_is answer NoMemory (Ok output) rose old new decides printed = refl
-line_is answer Usage (Ok output) rose old new decides printed = absurd printed
-line_is answer (Refused r) (Ok output) rose old new decides printed = absurd printed
-line_is answer (Faulted n fault) (Ok output) rose old new decides printed = absurd printed
-line_is answer (Lost n) (Ok output) rose old new decides printed = absurd printed
-line_is answer (Damaged byte) (Ok output) rose old new decides printed = absurd printed
-line_is answer (Limit byte) (Ok output) rose old new decides printed = absurd printed
-line_is answer ReadFailed (Ok output) rose old new decides printed = absurd printed
+    → Decides made answer rose → Ended old new made f → line_of_failure f ≡ line_of answer (status_of f)
+line_is answer _ _ rose old new decides (before g none) = line_error answer g rose decides
+line_is answer _ _ rose old new decides (unwritten output some part) = refl
+line_is answer _ _ rose old new decides (no_room output part) = refl
 
 -- where printing failed, a prefix of the output is written at the most, so want of memory fits
 fits_no_memory : (answer : Answer) (f : Failure) (made : Result (List ℕ) Failure) (rose : Type 0) (old new : Option (List ℕ))
-    → Decides made answer rose
-    → Prints {T = Unit {0}} old new made (Err f) → Fits answer status.NoMemory old new
-fits_no_memory answer f (Err g) rose old new decides printed = record { status_is = tt; output = prefix_none old answer.output new printed.1 }
-fits_no_memory answer WriteFailed (Ok output) rose old new decides printed =
-    subst (λ a. Fits a status.NoMemory old new) (sym decides) (record { status_is = tt; output = printed.1 })
-fits_no_memory answer NoMemory (Ok output) rose old new decides printed =
-    subst (λ a. Fits a status.NoMemory old new) (sym decides) (record { status_is = tt; output = printed })
-fits_no_memory answer Usage (Ok output) rose old new decides printed = absurd printed
-fits_no_memory answer (Refused r) (Ok output) rose old new decides printed = absurd printed
-fits_no_memory answer (Faulted n fault) (Ok output) rose old new decides printed = absurd printed
-fits_no_memory answer (Lost n) (Ok output) rose old new decides printed = absurd printed
-fits_no_memory answer (Damaged byte) (Ok output) rose old new decides printed = absurd printed
-fits_no_memory answer (Limit byte) (Ok output) rose old new decides printed = absurd printed
-fits_no_memory answer ReadFailed (Ok output) rose old new decides printed = absurd printed
+    → Decides made answer rose → Ended old new made f → Fits answer status.NoMemory old new
+fits_no_memory answer _ _ rose old new decides (before g none) = record { status_is = tt; output = prefix_none old answer.output new none }
+fits_no_memory answer _ _ rose old new decides (unwritten output some part) =
+    subst (λ a. Fits a status.NoMemory old new) (sym decides) (record { status_is = tt; output = part })
+fits_no_memory answer _ _ rose old new decides (no_room output part) =
+    subst (λ a. Fits a status.NoMemory old new) (sym decides) (record { status_is = tt; output = part })
 
 -- a sink that is as it was is left alone at every status
 alone_always : {O : Type 0} (s : Status) (output : List ℕ) (old new : O) → new ≡ old → IsLeftAlone s output old new
@@ -137,23 +130,24 @@ alone_printed answer output old new is nothing none = nothing (sym (ap (λ (a : 
 
 -- a failure leaves the sink alone, and so does want of memory in its place
 alone_failure : {O : Type 0} (answer : Answer) (f : Failure) (made : Result (List ℕ) Failure) (rose : Type 0) (told : Option (List ℕ))
-    (told_now : Option (List ℕ)) (old new : O) → Decides made answer rose → Prints {T = Unit {0}} told told_now made (Err f)
+    (told_now : Option (List ℕ)) (old new : O) → Decides made answer rose → Ended told told_now made f
     → PrintsNothing made old new → IsLeftAlone (status_of f) answer.output old new
-alone_failure answer f (Err g) rose told told_now old new decides printed nothing = alone_always (status_of f) answer.output old new nothing
-alone_failure answer WriteFailed (Ok output) rose told told_now old new decides printed nothing = alone_printed answer output old new decides nothing
-alone_failure answer NoMemory (Ok output) rose told told_now old new decides printed nothing = alone_printed answer output old new decides nothing
-alone_failure answer Usage (Ok output) rose told told_now old new decides printed nothing = absurd printed
-alone_failure answer (Refused r) (Ok output) rose told told_now old new decides printed nothing = absurd printed
-alone_failure answer (Faulted n fault) (Ok output) rose told told_now old new decides printed nothing = absurd printed
-alone_failure answer (Lost n) (Ok output) rose told told_now old new decides printed nothing = absurd printed
-alone_failure answer (Damaged byte) (Ok output) rose told told_now old new decides printed nothing = absurd printed
-alone_failure answer (Limit byte) (Ok output) rose told told_now old new decides printed nothing = absurd printed
-alone_failure answer ReadFailed (Ok output) rose told told_now old new decides printed nothing = absurd printed
+alone_failure answer _ _ rose told told_now old new decides (before g none) nothing = alone_always (status_of g) answer.output old new nothing
+alone_failure answer _ _ rose told told_now old new decides (unwritten output some part) nothing = alone_printed answer output old new decides nothing
+alone_failure answer _ _ rose told told_now old new decides (no_room output part) nothing = alone_printed answer output old new decides nothing
 
 alone_no_memory : {O : Type 0} (answer : Answer) (made : Result (List ℕ) Failure) (rose : Type 0) (old new : O) → Decides made answer rose
     → PrintsNothing made old new → IsLeftAlone status.NoMemory answer.output old new
 alone_no_memory answer (Err g) rose old new decides nothing = alone_always status.NoMemory answer.output old new nothing
 alone_no_memory answer (Ok output) rose old new decides nothing = alone_printed answer output old new decides nothing
+
+-- the files are opened for the failure as they were for the answer
+opened_failure : {F : Type 0} (the_files : files.Ghosts F) (old new : F) (asked : List (List ℕ)) (most : ℕ) (f : Failure)
+    (made : Result (List ℕ) Failure) (told told_now : Option (List ℕ)) → Ended told told_now made f
+    → OpensFiles the_files old new asked most (status_of_answer made) → OpensFiles the_files old new asked most (status_of f)
+opened_failure the_files old new asked most _ _ told told_now (before g none) o = o
+opened_failure the_files old new asked most _ _ told told_now (unwritten output some part) o = opened_unwritten the_files old new asked most o
+opened_failure the_files old new asked most _ _ told told_now (no_room output part) o = opened_no_memory the_files old new asked most status.Done o
 
 module _ {F O E : Type 0} (the_files : files.Ghosts F) (the_out : sink.Ghosts O) (the_err : sink.Ghosts E) (words : List (List ℕ))
     (old new : F) (out new_out : O) (err : E) where
@@ -173,7 +167,7 @@ module _ {F O E : Type 0} (the_files : files.Ghosts F) (the_out : sink.Ghosts O)
         input = a.input;
         cut = a.cut;
         is_cut = a.is_cut;
-        held = a.held;
+        of_files = a.of_files;
         answers = fit.status_is;
         output = fit.output;
         left_alone = alone_printed o output out new_out a.decides nothing;
@@ -186,20 +180,21 @@ module _ {F O E : Type 0} (the_files : files.Ghosts F) (the_out : sink.Ghosts O)
       → Fits (outcome words a.reading a.cut) s (the_out.taken out) (the_out.taken new_out)
       → IsLeftAlone s (outcome words a.reading a.cut).output out new_out
       → GainsLine the_err err new_err (line_of (outcome words a.reading a.cut) s)
+      → OpensFiles the_files old new (names_asked (settings_in words)) (outcome words a.reading a.cut).opens s
       → MeansSource the_files the_out the_err words s old new out new_out err new_err
-  means new_err made a s fit alone told = record {
+  means new_err made a s fit alone told opened = record {
     text = a.text;
     reading = a.reading;
     read = a.read;
     input = a.input;
     cut = a.cut;
     is_cut = a.is_cut;
-    held = a.held;
+    of_files = a.of_files;
     answers = fit.status_is;
     output = fit.output;
     left_alone = alone;
     line = told;
-    opened = a.opened;
+    opened = opened;
   }
 
   -- a failure, and its line is told, or that of want of memory
@@ -208,17 +203,21 @@ module _ {F O E : Type 0} (the_files : files.Ghosts F) (the_out : sink.Ghosts O)
       → GainsLine the_err err new_err (line_of_failure told) → MeansSource the_files the_out the_err words (status_of told) old new out new_out err new_err
   means_failure new_err f told made a printed nothing (inl is) gained =
       let o = outcome words a.reading a.cut in
-      let line = ap line_of_failure is ∙ line_is o f made _ (the_out.taken out) (the_out.taken new_out) a.decides printed in
+      let end = ended f made (the_out.taken out) (the_out.taken new_out) printed in
+      let line = ap line_of_failure is ∙ line_is o f made _ (the_out.taken out) (the_out.taken new_out) a.decides end in
       subst (λ t. MeansSource the_files the_out the_err words (status_of t) old new out new_out err new_err) (sym is)
-      (means new_err made a (status_of f) (fits_failure o f made _ (the_out.taken out) (the_out.taken new_out) a.decides printed)
-      (alone_failure o f made _ (the_out.taken out) (the_out.taken new_out) out new_out a.decides printed nothing)
-      (subst (GainsLine the_err err new_err) line gained))
+      (means new_err made a (status_of f) (fits_failure o f made _ (the_out.taken out) (the_out.taken new_out) a.decides end)
+      (alone_failure o f made _ (the_out.taken out) (the_out.taken new_out) out new_out a.decides end nothing)
+      (subst (GainsLine the_err err new_err) line gained)
+      (opened_failure the_files old new _ _ f made (the_out.taken out) (the_out.taken new_out) end a.opened))
   means_failure new_err f told made a printed nothing (inr is) gained =
       let o = outcome words a.reading a.cut in
+      let end = ended f made (the_out.taken out) (the_out.taken new_out) printed in
       subst (λ t. MeansSource the_files the_out the_err words (status_of t) old new out new_out err new_err) (sym is)
-      (means new_err made a status.NoMemory (fits_no_memory o f made _ (the_out.taken out) (the_out.taken new_out) a.decides printed)
+      (means new_err made a status.NoMemory (fits_no_memory o f made _ (the_out.taken out) (the_out.taken new_out) a.decides end)
       (alone_no_memory o made _ out new_out a.decides nothing)
-      (subst (GainsLine the_err err new_err) (ap line_of_failure is) gained))
+      (subst (GainsLine the_err err new_err) (ap line_of_failure is) gained)
+      (opened_no_memory the_files old new _ _ (status_of_answer made) a.opened))
 
 -- what a write of a line says of it, whatever it answers
 pub line_told : {E : Type 0} (the_err : sink.Ghosts E) (old new : E) (line : List ℕ) (r : Result (Unit {0}) WriteError)

@@ -7,32 +7,32 @@ use Rattle.szl.specs.declared.failure.Failure.TheVariants.{ReadFailed, NoMemory}
 use Rattle.szl.specs.Opening.{ReadsText, past_program}
 
 -- the text that is told, or this one
-pub holds_or : (held : Option (List ℕ)) (text : List ℕ) → IfSome held (λ bytes. bytes ≡ unwrap_or held text)
+pub holds_or : (told : Option (List ℕ)) (text : List ℕ) → IfSome told (λ bytes. bytes ≡ unwrap_or told text)
 holds_or None text = tt
 holds_or (Some bytes) text = refl
 
-pub reads_failed : (held : Option (List ℕ)) (limit : ℕ) (past : Failure) (rose : Type 0) → rose → ReadsText held limit past rose (Err ReadFailed)
-reads_failed held limit past rose is = record { text = unwrap_or held []; holds = holds_or held []; tells = is }
+pub reads_failed : (told : Option (List ℕ)) (limit : ℕ) (past : Failure) (rose : Type 0) → rose → ReadsText told limit past rose (Err ReadFailed)
+reads_failed told limit past rose is = record { text = unwrap_or told []; holds = holds_or told []; tells = is }
 
-pub reads_no_memory : (held : Option (List ℕ)) (limit : ℕ) (past : Failure) (rose : Type 0) → ReadsText held limit past rose (Err NoMemory)
-reads_no_memory held limit past rose = record { text = unwrap_or held []; holds = holds_or held []; tells = tt }
+pub reads_no_memory : (told : Option (List ℕ)) (limit : ℕ) (past : Failure) (rose : Type 0) → ReadsText told limit past rose (Err NoMemory)
+reads_no_memory told limit past rose = record { text = unwrap_or told []; holds = holds_or told []; tells = tt }
 
-long_or : (held : Option (List ℕ)) (limit : ℕ) → IfSome held (λ bytes. limit < length bytes)
-    → limit < length (unwrap_or held (replicate (limit + 1) 0))
+long_or : (told : Option (List ℕ)) (limit : ℕ) → IfSome told (λ bytes. limit < length bytes)
+    → limit < length (unwrap_or told (replicate (limit + 1) 0))
 long_or None limit h = omega (arith, length-replicate {A = ℕ} (limit + 1) 0)
 long_or (Some bytes) limit h = h
 
-reads_long : (held : Option (List ℕ)) (limit : ℕ) (rose : Type 0) → IfSome held (λ bytes. limit < length bytes)
-    → ReadsText held limit past_program rose (Err past_program)
-reads_long held limit rose long = record {
-  text = unwrap_or held (replicate (limit + 1) 0);
-  holds = holds_or held (replicate (limit + 1) 0);
-  tells = (refl, long_or held limit long);
+reads_long : (told : Option (List ℕ)) (limit : ℕ) (rose : Type 0) → IfSome told (λ bytes. limit < length bytes)
+    → ReadsText told limit past_program rose (Err past_program)
+reads_long told limit rose long = record {
+  text = unwrap_or told (replicate (limit + 1) 0);
+  holds = holds_or told (replicate (limit + 1) 0);
+  tells = (refl, long_or told limit long);
 }
 
-pub reads_past : (held : Option (List ℕ)) (limit : ℕ) (past : Failure) (rose : Type 0) → IfSome held (λ bytes. limit < length bytes)
-    → (past ≡ past_program) ⊎ (past ≡ NoMemory) → ReadsText held limit past rose (Err past)
-reads_past held limit past rose long (inl is) =
-    subst (λ f. ReadsText held limit f rose (Err f)) (sym is) (reads_long held limit rose long)
-reads_past held limit past rose long (inr is) =
-    subst (λ f. ReadsText held limit f rose (Err f)) (sym is) (reads_no_memory held limit NoMemory rose)
+pub reads_past : (told : Option (List ℕ)) (limit : ℕ) (past : Failure) (rose : Type 0) → IfSome told (λ bytes. limit < length bytes)
+    → (past ≡ past_program) ⊎ (past ≡ NoMemory) → ReadsText told limit past rose (Err past)
+reads_past told limit past rose long (inl is) =
+    subst (λ f. ReadsText told limit f rose (Err f)) (sym is) (reads_long told limit rose long)
+reads_past told limit past rose long (inr is) =
+    subst (λ f. ReadsText told limit f rose (Err f)) (sym is) (reads_no_memory told limit NoMemory rose)

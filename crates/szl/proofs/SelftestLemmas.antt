@@ -19,14 +19,15 @@ use Rattle.szl.specs.declared.failure.Failure.TheVariants as failure
 use Rattle.szl.specs.Checking.{checked}
 use Rattle.szl.specs.Judgement.{IsShort, HasStatements, most_program_bytes, refused, spells}
 use Rattle.szl.specs.Judging.{IsFailureOf, IsFailureOn}
-use Rattle.szl.specs.Opening.{Decides, Answers, AnswersOver, AnswersTextOver}
+use Rattle.szl.specs.Opening.{Decides, Answers, AnswersOver, AnswersTextOver, status_of_answer}
 use Rattle.szl.specs.Outcome.{outcome_faulted, outcome_of_statics, outcome_of_checked_run}
 use Rattle.szl.specs.Promise.{AreReadToEnd}
 use Rattle.szl.specs.ProgramRuns.{GivesStatics, GivesTables, IsJobOf}
 use Rattle.sz_words.specs.Bounds.{HasBounds}
 use Rattle.szl.specs.Settings.{selftest_run}
 use Rattle.szl.proofs.JudgementLemmas.{every_text_is_read}
-use Rattle.szl.proofs.AnswerLemmas.{cut_of, decides_still, of_job}
+use Rattle.szl.proofs.AnswerLemmas.{cut_of, decides_still, not_read, of_job}
+use Rattle.szl.proofs.OpenedLemmas.{opened_none, take_none}
 
 -- the program is within the limit of a program's text
 pub is_short : length program_text ≤ most_program_bytes
@@ -143,17 +144,15 @@ module _ {F : Type 0} (the_files : files.Ghosts F) (old : F) where
     input = file_of seed records;
     cut = a.cut;
     is_cut = a.is_cut;
-    held = (refl, refl);
+    of_files = (refl, refl);
     decides = decides_still answer _ (Rose (the_files.faults old) (the_files.faults old)) a.decides;
-    opened = record { count = 0; within = omega arith; opened = sym (append-nil (the_files.names old)) };
+    opened = opened_none the_files old [] _ (status_of_answer answer) (not_read answer _ a.decides) (λ read memory. sym (take_none _));
   }
 
   pub nothing_opened : AreReadToEnd the_files old old []
   nothing_opened = record {
     all_opened = sym (append-nil (the_files.names old));
-    opened = [];
-    one_each = refl;
-    are_new = tt;
+    each = record { opened = []; one_each = refl; are_new = tt };
     none_left = λ file before now. absurd (before now);
     told = λ file before now. absurd (before now);
   }

@@ -1,13 +1,13 @@
 -- The answer for the settings of a command line, from that for the program's text.
 use Rattle.std.proofs.Common.{◌≡◌, ◌≢◌, ℕ, zero, suc, ◌<◌, ◌≤◌, ◌⊎◌, List, [], ◌∷◌, ◌++◌, length, take}
-use Rattle.std.proofs.Common.{Option, Some, None, refl, sym, ap, ◌∙◌, subst, arith, inl, inr, append-nil, append_assoc}
+use Rattle.std.proofs.Common.{Option, Some, None, refl, sym, ap, ◌∙◌, subst, arith, inl, inr, append_assoc}
 use Rattle.std.specs.Prelude.{IfSome, IsSome, IsTrue, unwrap_or, Result, Ok, Err, OnOk}
 use Rattle.std.specs.Io.KnownBytes.{IsAtEnd}
 use Rattle.sz_feed.specs.Feed.{file_of}
 use Rattle.sz_feed.specs.Program.{program_text}
 use Rattle.sz_io.specs.Rose.{Rose}
 use Rattle.sz_io.specs.Opened.{KeepsFiles}
-use Rattle.sz_io.specs.Calls.{NamesGain, ReadToEnd}
+use Rattle.sz_io.specs.Calls.{NamesGain, OpensOne, ReadToEnd}
 use Rattle.sz_io.proofs.ForCallers.{rose_later}
 use Rattle.sz_io.specs.declared.files.Files as files
 use Rattle.sz_core.specs.Programs.{Core}
@@ -23,10 +23,12 @@ use Rattle.sz_words.specs.declared.settings.Settings.TheVariants.{Run, Check, Se
 use Rattle.sz_words.specs.declared.error.WordsError.{WordsError}
 use Rattle.sz_words.specs.declared.error.WordsError.TheVariants as words_errors
 use Rattle.sz_words.specs.Settings.{settings_in}
+use Rattle.szl.specs.declared.status.Status.{Status}
 use Rattle.szl.specs.declared.status.Status.TheVariants as status
 use Rattle.szl.specs.declared.failure.Failure.{Failure}
 use Rattle.szl.specs.declared.failure.Failure.TheVariants as failure
-use Rattle.szl.specs.Opening.{ReadsText, ran_out, past_program, Decides, Answers, AnswersText, AnswersCheck}
+use Rattle.szl.specs.Failing.{status_of}
+use Rattle.szl.specs.Opening.{ReadsText, ran_out, past_program, status_of_answer, Decides, Answers, AnswersText, AnswersCheck}
 use Rattle.szl.specs.Outcome.{Answer, outcome_of_shards, outcome_of_statics, outcome_of_checked_run, outcome_of_run}
 use Rattle.szl.specs.Outcome.{outcome_of_check, outcome_of_checked, outcome_of_settings, outcome_refused}
 use Rattle.szl.specs.declared.refusal.Refusal.{Refusal}
@@ -34,13 +36,14 @@ use Rattle.szl.specs.Checking.{checked}
 use Rattle.szl.specs.Judgement.{Reading, spells, most_program_bytes}
 use Rattle.szl.specs.Judgement as readings
 use Rattle.szl.specs.Judging.{IsFailureOf, failure_of_words}
-use Rattle.szl.specs.Promise.{OpensFirst, names_asked, AreHeld, AreReadToEnd}
+use Rattle.szl.specs.Promise.{IfRead, OpensFiles, names_asked, AreOfFiles, AreReadToEnd}
 use Rattle.szl.specs.Records.{Cut}
 use Rattle.szl.specs.Shards.{shards_in, job_of}
 use Rattle.sz_rounds.specs.Outcomes.{ShardsEnd, emitted, faulted, lost, outcome_of}
 use Rattle.szl.specs.Settings.{frame_asked}
 use Rattle.szl.proofs.JudgementLemmas.{every_text_is_read}
 use Rattle.szl.proofs.OpeningLemmas.{holds_or}
+use Rattle.szl.proofs.OpenedLemmas.{opened_none, opened_one, opened_or_none, opened_then, take_first, take_none}
 use Rattle.szl.proofs.AnswerLemmas.{cut_of}
 
 -- an outcome that opens a file, and is no bad command line
@@ -117,47 +120,44 @@ over P None k p = tt
 over P (Some bytes) None p = tt
 over P (Some bytes) (Some more) p = p
 
--- no file is opened
-opened_none : (asked old : List (List ℕ)) (most : ℕ) → OpensFirst asked old old most
-opened_none asked old most = record { count = 0; within = omega arith; opened = sym (append-nil old) }
-
 module _ {F : Type 0} (the_files : files.Ghosts F) (old : F) where
   -- an answer without any file, for settings that may name some, whose program would be read so
   unopened : (asked : Option Settings) (text input : List ℕ) (reading : Reading) → readings.IsRead text reading
-      → AreHeld asked (the_files.held old) text input → (answer : Result (List ℕ) Failure)
-      → ((cut : Cut) → Decides answer (outcome_of_settings asked reading cut) (Rose (the_files.faults old) (the_files.faults old)))
-      → Answers the_files asked old old answer
-  unopened asked text input reading read held answer decides = let c = cut_of (frame_asked asked) input in record {
+      → AreOfFiles asked (the_files.held old) text input → (f : Failure) → status_of f ≢ status.ReadFailed
+      → ((cut : Cut) → IfRead (status_of f) ([] ≡ take (outcome_of_settings asked reading cut).opens (names_asked asked)))
+      → ((cut : Cut) → Decides (Err f) (outcome_of_settings asked reading cut) (Rose (the_files.faults old) (the_files.faults old)))
+      → Answers the_files asked old old (Err f)
+  unopened asked text input reading read of_files f other none decides = let c = cut_of (frame_asked asked) input in record {
     text = text;
     reading = reading;
     read = read;
     input = input;
     cut = c.cut;
     is_cut = c.is_cut;
-    held = held;
+    of_files = of_files;
     decides = decides c.cut;
-    opened = opened_none (names_asked asked) (the_files.names old) _;
+    opened = opened_none the_files old (names_asked asked) _ (status_of f) other (none c.cut);
   }
 
   -- words that are no command line ask for no file
   pub no_settings : Answers the_files None old old (Err failure.Usage)
-  no_settings = let r = every_text_is_read [] in unopened None [] [] r.reading r.read tt (Err failure.Usage) (λ cut. refl)
+  no_settings = let r = every_text_is_read [] in unopened None [] [] r.reading r.read tt failure.Usage (λ e. cc) (λ cut read memory. refl) (λ cut. refl)
 
   -- memory ran out before a file was opened
   pub no_memory_for : (asked : Option Settings) → Answers the_files asked old old (Err failure.NoMemory)
-  no_memory_for None = let r = every_text_is_read [] in unopened None [] [] r.reading r.read tt (Err failure.NoMemory) (λ cut. tt)
+  no_memory_for None = let r = every_text_is_read [] in unopened None [] [] r.reading r.read tt failure.NoMemory (λ e. cc) (λ cut read memory. absurd (memory refl)) (λ cut. tt)
   no_memory_for (Some (Run s)) =
       let text = unwrap_or (the_files.held old s.program) [] in
       let r = every_text_is_read text in
       unopened (Some (Run s)) text (unwrap_or (the_files.held old s.input) []) r.reading r.read
-      (holds_or (the_files.held old s.program) [], holds_or (the_files.held old s.input) []) (Err failure.NoMemory) (λ cut. tt)
+      (holds_or (the_files.held old s.program) [], holds_or (the_files.held old s.input) []) failure.NoMemory (λ e. cc) (λ cut read memory. absurd (memory refl)) (λ cut. tt)
   no_memory_for (Some (Check program)) =
       let text = unwrap_or (the_files.held old program) [] in
       let r = every_text_is_read text in
-      unopened (Some (Check program)) text [] r.reading r.read (holds_or (the_files.held old program) []) (Err failure.NoMemory) (λ cut. tt)
+      unopened (Some (Check program)) text [] r.reading r.read (holds_or (the_files.held old program) []) failure.NoMemory (λ e. cc) (λ cut read memory. absurd (memory refl)) (λ cut. tt)
   no_memory_for (Some (Selftest seed records workers)) =
       let r = every_text_is_read program_text in
-      unopened (Some (Selftest seed records workers)) program_text (file_of seed records) r.reading r.read (refl, refl) (Err failure.NoMemory) (λ cut. tt)
+      unopened (Some (Selftest seed records workers)) program_text (file_of seed records) r.reading r.read (refl, refl) failure.NoMemory (λ e. cc) (λ cut read memory. absurd (memory refl)) (λ cut. tt)
 
 -- words without settings
 pub words_fail : {F : Type 0} (the_files : files.Ghosts F) (old : F) (words : List (List ℕ)) (e : WordsError)
@@ -177,31 +177,37 @@ input_or : (held : List ℕ → Option (List ℕ)) (s : Settings) (name : List �
 input_or held _ _ (of_run s) = unwrap_or (held s.input) []
 input_or held _ _ (of_check program) = []
 
-held_or : (held : List ℕ → Option (List ℕ)) (s : Settings) (name : List ℕ) (n : NamesProgram s name) (text : List ℕ)
-    → IfSome (held name) (λ bytes. bytes ≡ text) → AreHeld (Some s) held text (input_or held s name n)
+files_or : (held : List ℕ → Option (List ℕ)) (s : Settings) (name : List ℕ) (n : NamesProgram s name) (text : List ℕ)
+    → IfSome (held name) (λ bytes. bytes ≡ text) → AreOfFiles (Some s) held text (input_or held s name n)
 unfolding input_or
-held_or held _ _ (of_run s) text h = (h, holds_or (held s.input) [])
-held_or held _ _ (of_check program) text h = h
+files_or held _ _ (of_run s) text h = (h, holds_or (held s.input) [])
+files_or held _ _ (of_check program) text h = h
 
 -- the program's name was opened, or no name
-opened_first : (s : Settings) (name : List ℕ) → NamesProgram s name → (old new : List (List ℕ)) (most : ℕ) → 1 ≤ most → new ≡ old ++ name ∷ []
-    → OpensFirst (names_asked (Some s)) old new most
-opened_first _ _ (of_run s) old new most le is = record { count = 1; within = le; opened = is }
-opened_first _ _ (of_check program) old new most le is = record { count = 1; within = le; opened = is }
+module _ {F : Type 0} (the_files : files.Ghosts F) (old new : F) where
+  opened_first : (s : Settings) (name : List ℕ) → NamesProgram s name → (most : ℕ) (st : Status) → 1 ≤ most
+      → the_files.names new ≡ the_files.names old ++ name ∷ [] → IfRead st (most ≡ 1) → IfRead st (OpensOne the_files old new)
+      → OpensFiles the_files old new (names_asked (Some s)) most st
+  opened_first _ _ (of_run s) most st some is all one =
+      opened_one the_files old new s.program (s.input ∷ []) most st some is
+      (λ read memory. ap (λ n. take n (s.program ∷ s.input ∷ [])) (sym (all read memory))) one
+  opened_first _ _ (of_check program) most st some is all one =
+      opened_one the_files old new program [] most st some is (λ read memory. ap (λ n. take n (program ∷ [])) (sym (all read memory))) one
 
-gained_first : (s : Settings) (name : List ℕ) → NamesProgram s name → (old new : List (List ℕ)) (most : ℕ) → 1 ≤ most
-    → (new ≡ old) ⊎ (new ≡ old ++ name ∷ []) → OpensFirst (names_asked (Some s)) old new most
-gained_first s name n old new most le (inl is) = record { count = 0; within = omega arith; opened = is ∙ sym (append-nil _) }
-gained_first s name n old new most le (inr is) = opened_first s name n old new most le is
+  gained_first : (s : Settings) (name : List ℕ) → NamesProgram s name → (most : ℕ) → 1 ≤ most
+      → (the_files.names new ≡ the_files.names old) ⊎ (the_files.names new ≡ the_files.names old ++ name ∷ [])
+      → OpensFiles the_files old new (names_asked (Some s)) most status.NoMemory
+  gained_first _ _ (of_run s) most some gains = opened_or_none the_files old new s.program (s.input ∷ []) most some gains
+  gained_first _ _ (of_check program) most some gains = opened_or_none the_files old new program [] most some gains
 
 module _ {F : Type 0} (the_files : files.Ghosts F) (s : Settings) (name : List ℕ) (n : NamesProgram s name) (old new : F) where
   -- the program's text was read so, or nothing came of it
   failed_on : (text : List ℕ) (reading : Reading) → readings.IsRead text reading → IfSome (the_files.held old name) (λ bytes. bytes ≡ text)
-      → (answer : Result (List ℕ) Failure)
-      → ((cut : Cut) → Decides answer (outcome_of_settings (Some s) reading cut) (Rose (the_files.faults old) (the_files.faults new)))
-      → ((most : ℕ) → 1 ≤ most → OpensFirst (names_asked (Some s)) (the_files.names old) (the_files.names new) most)
-      → Answers the_files (Some s) old new answer
-  failed_on text reading read holds answer decides opened =
+      → (f : Failure)
+      → ((cut : Cut) → Decides (Err f) (outcome_of_settings (Some s) reading cut) (Rose (the_files.faults old) (the_files.faults new)))
+      → ((cut : Cut) → OpensFiles the_files old new (names_asked (Some s)) (outcome_of_settings (Some s) reading cut).opens (status_of f))
+      → Answers the_files (Some s) old new (Err f)
+  failed_on text reading read holds f decides opened =
       let input = input_or (the_files.held old) s name n in
       let c = cut_of (frame_asked (Some s)) input in
       record {
@@ -211,31 +217,40 @@ module _ {F : Type 0} (the_files : files.Ghosts F) (s : Settings) (name : List �
         input = input;
         cut = c.cut;
         is_cut = c.is_cut;
-        held = held_or (the_files.held old) s name n text holds;
+        of_files = files_or (the_files.held old) s name n text holds;
         decides = decides c.cut;
-        opened = opened _ (answered s name n reading c.cut).opens;
+        opened = opened c.cut;
       }
+
+  some_opened : (reading : Reading) (cut : Cut) → 1 ≤ (outcome_of_settings (Some s) reading cut).opens
+  some_opened reading cut = (answered s name n reading cut).opens
 
   -- the program's text couldn't be read
   pub text_fails : (f : Failure)
       → ReadsText (the_files.held old name) most_program_bytes past_program (Rose (the_files.faults old) (the_files.faults new)) (Err f)
-      → NamesGain (ran_out (Err f)) (the_files.names old) (the_files.names new) name → Answers the_files (Some s) old new (Err f)
-  text_fails (failure.Refused r) reads gains =
-      failed_on reads.text (readings.refused r) (long_failure reads.text (failure.Refused r) reads.tells.0 reads.tells.1) reads.holds
-      (Err (failure.Refused r)) (refused_outcome s name n r) (λ most le. opened_first s name n _ _ most le gains)
-  text_fails failure.ReadFailed reads gains =
+      → NamesGain (ran_out (Err f)) (the_files.names old) (the_files.names new) name → IfRead (status_of f) (OpensOne the_files old new)
+      → Answers the_files (Some s) old new (Err f)
+  text_fails (failure.Refused r) reads gains one =
+      let reading = readings.refused r in
+      failed_on reads.text reading (long_failure reads.text (failure.Refused r) reads.tells.0 reads.tells.1) reads.holds
+      (failure.Refused r) (refused_outcome s name n r)
+      (λ cut. opened_first the_files old new s name n _ status.Program (some_opened reading cut) gains
+      (λ read memory. ap (λ (o : Answer). o.opens) (refused_outcome s name n r cut)) one)
+  text_fails failure.ReadFailed reads gains one =
       let r = every_text_is_read reads.text in
-      failed_on reads.text r.reading r.read reads.holds (Err failure.ReadFailed)
-      (λ cut. (reads.tells, (answered s name n r.reading cut).other)) (λ most le. opened_first s name n _ _ most le gains)
-  text_fails failure.NoMemory reads gains =
+      failed_on reads.text r.reading r.read reads.holds failure.ReadFailed
+      (λ cut. (reads.tells, (answered s name n r.reading cut).other))
+      (λ cut. opened_first the_files old new s name n _ status.ReadFailed (some_opened r.reading cut) gains (λ read memory. absurd (read refl)) one)
+  text_fails failure.NoMemory reads gains one =
       let r = every_text_is_read reads.text in
-      failed_on reads.text r.reading r.read reads.holds (Err failure.NoMemory) (λ cut. tt) (λ most le. gained_first s name n _ _ most le gains)
-  text_fails failure.Usage reads gains = let e = reads.tells.0 in absurd (cc)
-  text_fails (failure.Faulted k f) reads gains = let e = reads.tells.0 in absurd (cc)
-  text_fails (failure.Lost n) reads gains = let e = reads.tells.0 in absurd (cc)
-  text_fails (failure.Damaged b) reads gains = let e = reads.tells.0 in absurd (cc)
-  text_fails (failure.Limit b) reads gains = let e = reads.tells.0 in absurd (cc)
-  text_fails failure.WriteFailed reads gains = let e = reads.tells.0 in absurd (cc)
+      failed_on reads.text r.reading r.read reads.holds failure.NoMemory (λ cut. tt)
+      (λ cut. gained_first the_files old new s name n _ (some_opened r.reading cut) gains)
+  text_fails failure.Usage reads gains one = let e = reads.tells.0 in absurd (cc)
+  text_fails (failure.Faulted k f) reads gains one = let e = reads.tells.0 in absurd (cc)
+  text_fails (failure.Lost n) reads gains one = let e = reads.tells.0 in absurd (cc)
+  text_fails (failure.Damaged b) reads gains one = let e = reads.tells.0 in absurd (cc)
+  text_fails (failure.Limit b) reads gains one = let e = reads.tells.0 in absurd (cc)
+  text_fails failure.WriteFailed reads gains one = let e = reads.tells.0 in absurd (cc)
 
 -- a fact that holds whatever was answered, or follows from two that hold where a call succeeded
 pub when_ok : {T E P : Type 0} (r : Result T E) → P → OnOk r P
@@ -250,16 +265,13 @@ both_when_ok (Err error) f p q = tt
 pub text_read : {F : Type 0} (the_files : files.Ghosts F) (s : RunSettings) (name : List ℕ) → name ≡ s.program → (old mid new : F) (bytes : List ℕ)
     (answer : Result (List ℕ) Failure) (rose : Type 0) → ReadsText (the_files.held old name) most_program_bytes past_program rose (Ok bytes)
     → the_files.names mid ≡ the_files.names old ++ name ∷ [] → KeepsFiles the_files.held the_files.left the_files.given the_files.faults old mid
+    → KeepsFiles the_files.held the_files.left the_files.given the_files.faults mid new → OpensOne the_files old mid
     → AnswersText the_files s bytes mid new answer → Answers the_files (Some (Run s)) old new answer
-text_read the_files s name is old mid new bytes answer rose reads names keeps t =
+text_read the_files s name is old mid new bytes answer rose reads names keeps after one t =
     let a = t.answers in
     let o = outcome_of_run s a.cut t.reading in
     let some = (answered_run s a.cut t.reading).opens in
-    let one : suc a.opened.count ≤ o.opens = omega (arith, some, a.opened.within) in
     let named = names ∙ ap (λ n. the_files.names old ++ n ∷ []) is in
-    let next : the_files.names new ≡ the_files.names old ++ take (suc a.opened.count) (s.program ∷ s.input ∷ []) =
-    a.opened.opened ∙ ap (λ ns. ns ++ take a.opened.count (s.input ∷ [])) named
-    ∙ append_assoc (the_files.names old) (s.program ∷ []) (take a.opened.count (s.input ∷ [])) in
     let text = subst (λ t. IfSome (the_files.held old name) (λ b. b ≡ t)) (sym reads.tells.0) reads.holds in
     record {
       text = bytes;
@@ -268,28 +280,32 @@ text_read the_files s name is old mid new bytes answer rose reads names keeps t 
       input = a.input;
       cut = a.cut;
       is_cut = a.is_cut;
-      held = (
+      of_files = (
         subst (λ n. IfSome (the_files.held old n) (λ b. b ≡ bytes)) is text,
         subst (λ h. IfSome h (λ b. b ≡ a.input)) (keeps.held_same s.input) a.holds,
       );
       decides = decides_since answer o _ _ (rose_later _ _ _ keeps.faults_later) a.decides;
-      opened = record { count = suc a.opened.count; within = one; opened = next };
+      opened = opened_then the_files old mid new s.program (s.input ∷ []) o.opens (status_of_answer answer) some named keeps after one a.opened;
     }
 
 -- the program's text was read, and its check is answered on it
 pub text_checked : {F : Type 0} (the_files : files.Ghosts F) (program : List ℕ) (old new : F) (bytes : List ℕ) (answer : Result (List ℕ) Failure)
     (rose : Type 0) → ReadsText (the_files.held old program) most_program_bytes past_program rose (Ok bytes)
-    → the_files.names new ≡ the_files.names old ++ program ∷ [] → AnswersCheck bytes answer → Answers the_files (Some (Check program)) old new answer
-text_checked the_files program old new bytes answer rose reads names t = let c = cut_of (frame_asked (Some (Check program))) [] in record {
+    → the_files.names new ≡ the_files.names old ++ program ∷ [] → OpensOne the_files old new → AnswersCheck bytes answer
+    → Answers the_files (Some (Check program)) old new answer
+text_checked the_files program old new bytes answer rose reads names one t = let c = cut_of (frame_asked (Some (Check program))) [] in record {
   text = bytes;
   reading = t.reading;
   read = t.read;
   input = [];
   cut = c.cut;
   is_cut = c.is_cut;
-  held = subst (λ t. IfSome (the_files.held old program) (λ b. b ≡ t)) (sym reads.tells.0) reads.holds;
+  of_files = subst (λ t. IfSome (the_files.held old program) (λ b. b ≡ t)) (sym reads.tells.0) reads.holds;
   decides = decides_since answer (outcome_of_check t.reading) ⊥ _ (λ never. absurd never) t.decides;
-  opened = opened_first (Check program) program (of_check program) _ _ _ (answered_check t.reading).opens names;
+  opened =
+      let some = (answered_check t.reading).opens in
+      opened_one the_files old new program [] _ (status_of_answer answer) some names
+      (λ read memory. ap (λ ns. program ∷ ns) (sym (take_none _)) ∙ take_first program [] _ some) (λ read memory. one);
 }
 
 module _ {F : Type 0} (the_files : files.Ghosts F) (program : List ℕ) (old : F) where
@@ -298,9 +314,7 @@ module _ {F : Type 0} (the_files : files.Ghosts F) (program : List ℕ) (old : F
       → ReadToEnd the_files old new program → AreReadToEnd the_files old new (program ∷ [])
   one_read new names r = record {
     all_opened = names;
-    opened = r.file ∷ [];
-    one_each = refl;
-    are_new = ((r.not_before, r.given_now), (tt, tt));
+    each = record { opened = r.file ∷ []; one_each = refl; are_new = ((r.not_before, r.given_now), (tt, tt)) };
     none_left = λ file fresh given. subst (λ f. IsAtEnd (the_files.left new f)) (sym (the_one file fresh (r.no_other file given))) r.none_left;
     told = λ file fresh given. subst (λ f. IfSome (the_files.held old program) (λ _. IsSome (the_files.left new f)))
         (sym (the_one file fresh (r.no_other file given))) r.told;
@@ -317,12 +331,14 @@ module _ {F : Type 0} (the_files : files.Ghosts F) (program : List ℕ) (old : F
       → KeepsFiles the_files.held the_files.left the_files.given the_files.faults mid new
       → ReadToEnd the_files old mid program → ReadToEnd the_files mid new name → AreReadToEnd the_files old new (program ∷ name ∷ [])
   both_read name mid new first second kept later r1 r2 = record {
-    opened = r1.file ∷ r2.file ∷ [];
-    one_each = refl;
-    are_new = (
-      (r1.not_before, later.given_still r1.file r1.given_now),
-      ((apart, tt), ((λ was. r2.not_before (kept.given_still r2.file was), r2.given_now), (tt, tt))),
-    );
+    each = record {
+      opened = r1.file ∷ r2.file ∷ [];
+      one_each = refl;
+      are_new = (
+        (r1.not_before, later.given_still r1.file r1.given_now),
+        ((apart, tt), ((λ was. r2.not_before (kept.given_still r2.file was), r2.given_now), (tt, tt))),
+      );
+    };
     all_opened = second ∙ ap (λ ns. ns ++ name ∷ []) first ∙ append_assoc (the_files.names old) (program ∷ []) (name ∷ []);
     none_left = λ file fresh given. ended file fresh (r2.no_other file given);
     told = λ file fresh given. tells file fresh (r2.no_other file given);

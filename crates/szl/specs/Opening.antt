@@ -2,6 +2,7 @@
 use Rattle.std.specs.Prelude.{◌≡◌, ◌≢◌, ℕ, ◌≤◌, ◌<◌, ◌-◌, ⊤, Bool, true, false, List, [], ◌∷◌, length, Option, IfSome, Result, Ok, Err}
 use Rattle.sz_io.specs.Rose.{Rose}
 use Rattle.sz_io.specs.declared.files.Files as files
+use Rattle.szl.specs.declared.status.Status.{Status}
 use Rattle.szl.specs.declared.status.Status.TheVariants as status
 use Rattle.szl.specs.declared.failure.Failure.{Failure}
 use Rattle.szl.specs.declared.failure.Failure.TheVariants.{Usage, Refused, Faulted, Lost, Damaged, Limit, ReadFailed, WriteFailed, NoMemory}
@@ -16,8 +17,9 @@ use Rattle.szl.specs.Settings.{frame_asked}
 use Rattle.szl.specs.Records.{Cut, IsCutInto}
 use Rattle.szl.specs.Judgement.{Reading, IsRead, refusal_at}
 use Rattle.szl.specs.Outcome.{Answer, usage_line, damaged_line, limit_line, success, refusal, outcome_faulted, outcome_lost, outcome_refused}
+use Rattle.szl.specs.Failing.{status_of}
 use Rattle.szl.specs.Outcome.{outcome_of_program, outcome_of_run, outcome_of_check, outcome_of_settings}
-use Rattle.szl.specs.Promise.{AreHeld, OpensFirst, names_asked}
+use Rattle.szl.specs.Promise.{AreOfFiles, OpensFiles, names_asked}
 
 -- what reading a whole file says of its text: the text, that it is past the limit, that a read failed, or want of memory
 abbrev pub TellsText : List ℕ → ℕ → Failure → Type 0 → Result (List ℕ) Failure → Type 0
@@ -31,15 +33,20 @@ abbrev pub past_program : Failure
 past_program = Refused (refusal_at TooLong first_place)
 
 -- a file was read: it holds this text where it is told, and the answer is of this text
-pub record ReadsText (held : Option (List ℕ)) (limit : ℕ) (past : Failure) (rose : Type 0) (answer : Result (List ℕ) Failure) : Type 0 where
+pub record ReadsText (told : Option (List ℕ)) (limit : ℕ) (past : Failure) (rose : Type 0) (answer : Result (List ℕ) Failure) : Type 0 where
   pub text : List ℕ
-  pub holds : IfSome held (λ bytes. bytes ≡ text)
+  pub holds : IfSome told (λ bytes. bytes ≡ text)
   pub tells : TellsText text limit past rose answer
 
 -- whether memory ran out
 abbrev pub ran_out : Result (List ℕ) Failure → Bool
 ran_out (Err NoMemory) = true
 ran_out answer = false
+
+-- the status of an answer, if all its output is written
+abbrev pub status_of_answer : Result (List ℕ) Failure → Status
+status_of_answer (Ok output) = status.Done
+status_of_answer (Err failure) = status_of failure
 
 -- the cause of a failure, by the outcome: all but the free ones are the outcome itself
 abbrev pub IsCause : Failure → Answer → Type 0 → Type 0
@@ -66,12 +73,12 @@ pub record Answers {F : Type 0} (the_files : files.Ghosts F) (asked : Option Set
   pub input : List ℕ
   pub cut : Cut
   pub is_cut : IsCutInto (frame_asked asked) input cut
-  pub held : AreHeld asked (the_files.held old) text input
+  pub of_files : AreOfFiles asked (the_files.held old) text input
   pub decides : Decides answer (outcome_of_settings asked reading cut) (Rose (the_files.faults old) (the_files.faults new))
-  pub opened : OpensFirst (names_asked asked) (the_files.names old) (the_files.names new) (outcome_of_settings asked reading cut).opens
+  pub opened : OpensFiles the_files old new (names_asked asked) (outcome_of_settings asked reading cut).opens (status_of_answer answer)
 
 -- The answer is that of an outcome on the records of what the file under the name holds. One file was opened before, so that none is
--- opened for an outcome that opens one.
+-- opened for an outcome that opens one
 pub record AnswersOn {F : Type 0} (the_files : files.Ghosts F) (frame : Frame) (outcome_on : Cut → Answer) (name : List ℕ) (old new : F)
     (answer : Result (List ℕ) Failure) : Type 0 where
   pub input : List ℕ
@@ -79,7 +86,7 @@ pub record AnswersOn {F : Type 0} (the_files : files.Ghosts F) (frame : Frame) (
   pub is_cut : IsCutInto frame input cut
   pub holds : IfSome (the_files.held old name) (λ bytes. bytes ≡ input)
   pub decides : Decides answer (outcome_on cut) (Rose (the_files.faults old) (the_files.faults new))
-  pub opened : OpensFirst (name ∷ []) (the_files.names old) (the_files.names new) ((outcome_on cut).opens - 1)
+  pub opened : OpensFiles the_files old new (name ∷ []) ((outcome_on cut).opens - 1) (status_of_answer answer)
 
 -- the answer is that of running what the text is read as, as these settings ask for it
 pub record AnswersText {F : Type 0} (the_files : files.Ghosts F) (s : RunSettings) (text : List ℕ) (old new : F)

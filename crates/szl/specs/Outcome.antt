@@ -29,7 +29,7 @@ use Rattle.szl.specs.Records.{Cut}
 use Rattle.szl.specs.Shards.{shards_in, job_of}
 
 -- what a call of the program answers: its status, the bytes of its output, the line that names the cause, and how many of the files
--- that the words name it opens at most
+-- that the words name it opens, if it names so many
 pub record Answer : Type 0 where
   pub status : Status
   pub output : List ℕ
@@ -79,7 +79,7 @@ fault_line number fault =
 abbrev pub success : List ℕ → Answer
 success output = record { status = status.Done; output = output; line = []; opens = 2 }
 
--- an answer without output, with the line that says why, after so many files at most
+-- an answer without output, with the line that says why, after so many files
 abbrev pub refusal : Status → List ℕ → ℕ → Answer
 refusal status line opens = record { status = status; output = []; line = line; opens = opens }
 

@@ -1,7 +1,6 @@
 -- What running a program gives, part by part.
-use Rattle.std.specs.Prelude.{◌≡◌, ℕ, ⊤, List, IfSome, Result, Ok, Err, Vec}
+use Rattle.std.specs.Prelude.{◌≡◌, ℕ, ⊤, List, [], ◌∷◌, IfSome, Result, Ok, Err, Vec}
 use Rattle.sz_io.specs.Rose.{Rose}
-use Rattle.sz_io.specs.Calls.{NamesGain}
 use Rattle.sz_io.specs.declared.files.Files as files
 use Rattle.sz_io.specs.declared.error.OutsideError.{OutsideError}
 use Rattle.sz_io.specs.declared.error.OutsideError.TheVariants as outside
@@ -18,7 +17,8 @@ use Rattle.sz_stream.specs.declared.stop.Stop.{Stop}
 use Rattle.sz_stream.specs.declared.stop.Stop.TheVariants as stops
 use Rattle.szl.specs.declared.failure.Failure.{Failure}
 use Rattle.szl.specs.declared.failure.Failure.TheVariants as failure
-use Rattle.szl.specs.Opening.{Decides, ran_out}
+use Rattle.szl.specs.Opening.{Decides, status_of_answer}
+use Rattle.szl.specs.Promise.{OpensFiles}
 use Rattle.szl.specs.Outcome.{outcome_of_shards}
 use Rattle.szl.specs.Records.{Cut, IsCutInto}
 use Rattle.szl.specs.Shards.{shards_in, job_of}
@@ -60,7 +60,7 @@ pub record GivesFile {F : Type 0} (the_files : files.Ghosts F) (job : Job) (s : 
   pub input : List ℕ
   pub holds : IfSome (the_files.held old s.input) (λ bytes. bytes ≡ input)
   pub tables : GivesTables job s.shard s.frame input (Rose (the_files.faults old) (the_files.faults new)) answer
-  pub opened : NamesGain (ran_out answer) (the_files.names old) (the_files.names new) s.input
+  pub opened : OpensFiles the_files old new (s.input ∷ []) 1 (status_of_answer answer)
 
 -- the job is what the outcome knows of the run, with some shards doubled
 pub record IsJobOf (program : Core) (slots : List Slot) (s : RunSettings) (job : Job) : Type 0 where

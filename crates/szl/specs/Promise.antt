@@ -62,18 +62,42 @@ names_asked (Some (Run s)) = s.program ∷ s.input ∷ []
 names_asked (Some (Check program)) = program ∷ []
 names_asked _ = []
 
--- the first of the names asked for were opened, in order, and at most this many
-pub record OpensFirst (asked old new : List (List ℕ)) (most : ℕ) : Type 0 where
+-- what is so, unless a read failed or memory ran out
+abbrev pub IfRead : Status → Type 0 → Type 0
+IfRead status fact = status ≢ ReadFailed → status ≢ NoMemory → fact
+
+-- the file is none of these
+abbrev pub IsNoneOf : ℕ → List ℕ → Type 0
+IsNoneOf file [] = ⊤
+IsNoneOf file (other ∷ others) = (file ≢ other) × IsNoneOf file others
+
+-- each of these files, no two of them the same, was given now and not before
+abbrev pub AreNew : (ℕ → Bool) → (ℕ → Bool) → List ℕ → Type 0
+AreNew before now [] = ⊤
+AreNew before now (file ∷ files) = ((IsTrue (before file) → ⊥) × IsTrue (now file)) × (IsNoneOf file files × AreNew before now files)
+
+-- a file of its own was given for each of these names: as many as there are names
+pub record HasFileEach {F : Type 0} (the_files : files.Ghosts F) (old new : F) (names : List (List ℕ)) : Type 0 where
+  pub opened : List ℕ
+  pub one_each : length opened ≡ length names
+  pub are_new : AreNew (the_files.given old) (the_files.given new) opened
+
+-- The first of the names asked for were opened, in order, and at most this many. They are all that many, and each has a file, unless
+-- a read failed or memory ran out; and a read fails only of a name that was opened.
+pub record OpensFiles {F : Type 0} (the_files : files.Ghosts F) (old new : F) (asked : List (List ℕ)) (most : ℕ) (status : Status) : Type 0 where
   pub count : ℕ
   pub within : count ≤ most
-  pub opened : new ≡ old ++ take count asked
+  pub opened : the_files.names new ≡ the_files.names old ++ take count asked
+  pub all : IfRead status (take count asked ≡ take most asked)
+  pub each : IfRead status (HasFileEach the_files old new (take count asked))
+  pub of_some : status ≡ ReadFailed → take count asked ≢ []
 
 -- the bytes under each name that the words ask for are these, where they are told; those of a self test are its program and its file
-abbrev pub AreHeld : Option Settings → (List ℕ → Option (List ℕ)) → List ℕ → List ℕ → Type 0
-AreHeld (Some (Run s)) held text input = IfSome (held s.program) (λ bytes. bytes ≡ text) × IfSome (held s.input) (λ bytes. bytes ≡ input)
-AreHeld (Some (Check program)) held text input = IfSome (held program) (λ bytes. bytes ≡ text)
-AreHeld (Some (Selftest seed records workers)) held text input = (text ≡ program_text) × (input ≡ file_of seed records)
-AreHeld _ held text input = ⊤
+abbrev pub AreOfFiles : Option Settings → (List ℕ → Option (List ℕ)) → List ℕ → List ℕ → Type 0
+AreOfFiles (Some (Run s)) held text input = IfSome (held s.program) (λ bytes. bytes ≡ text) × IfSome (held s.input) (λ bytes. bytes ≡ input)
+AreOfFiles (Some (Check program)) held text input = IfSome (held program) (λ bytes. bytes ≡ text)
+AreOfFiles (Some (Selftest seed records workers)) held text input = (text ≡ program_text) × (input ≡ file_of seed records)
+AreOfFiles _ held text input = ⊤
 
 -- The call's status, its output, its line and the files that it opens are those of the outcome, for the bytes that the
 -- files hold, the reading of the program's text and the records of the input. Where a file doesn't tell its bytes, it is as if it held
@@ -86,35 +110,23 @@ pub record MeansSource {F O E : Type 0} (the_files : files.Ghosts F) (the_out : 
   pub input : List ℕ
   pub cut : Cut
   pub is_cut : IsCutInto (frame_asked (settings_in words)) input cut
-  pub held : AreHeld (settings_in words) (the_files.held files) text input
+  pub of_files : AreOfFiles (settings_in words) (the_files.held files) text input
   pub answers : IsStatusOf (outcome words reading cut) status
   pub output : GainsOutput status (the_out.taken out) (the_out.taken new_out) (outcome words reading cut).output
   pub left_alone : IsLeftAlone status (outcome words reading cut).output out new_out
   pub line : GainsLine the_err err new_err (line_of (outcome words reading cut) status)
-  pub opened : OpensFirst (names_asked (settings_in words)) (the_files.names files) (the_files.names new_files) (outcome words reading cut).opens
+  pub opened : OpensFiles the_files files new_files (names_asked (settings_in words)) (outcome words reading cut).opens status
 
 -- the fact, where the bytes under all these names are told
 abbrev pub IfTold : (List ℕ → Option (List ℕ)) → List (List ℕ) → Type 0 → Type 0
 IfTold held [] fact = fact
 IfTold held (name ∷ names) fact = IfSome (held name) (λ _. IfTold held names fact)
 
--- the file is none of these
-abbrev pub IsNoneOf : ℕ → List ℕ → Type 0
-IsNoneOf file [] = ⊤
-IsNoneOf file (other ∷ others) = (file ≢ other) × IsNoneOf file others
-
--- each of these files, no two of them the same, was given now and not before
-abbrev pub AreNew : (ℕ → Bool) → (ℕ → Bool) → List ℕ → Type 0
-AreNew before now [] = ⊤
-AreNew before now (file ∷ files) = ((IsTrue (before file) → ⊥) × IsTrue (now file)) × (IsNoneOf file files × AreNew before now files)
-
--- Under each of these names, and no other, a file of its own was opened: as many were given as there are names. Each file
--- opened since is at its end, and what is left of it is told where the bytes under all the names are.
+-- Under each of these names, and no other, a file of its own was opened. Each file opened since is at its end, and what is left of it is
+-- told where the bytes under all the names are.
 pub record AreReadToEnd {F : Type 0} (the_files : files.Ghosts F) (old new : F) (names : List (List ℕ)) : Type 0 where
   pub all_opened : the_files.names new ≡ the_files.names old ++ names
-  pub opened : List ℕ
-  pub one_each : length opened ≡ length names
-  pub are_new : AreNew (the_files.given old) (the_files.given new) opened
+  pub each : HasFileEach the_files old new names
   pub none_left : (file : ℕ) → (IsTrue (the_files.given old file) → ⊥) → IsTrue (the_files.given new file)
       → IsAtEnd (the_files.left new file)
   pub told : (file : ℕ) → (IsTrue (the_files.given old file) → ⊥) → IsTrue (the_files.given new file)

@@ -2,14 +2,14 @@
 ghost use Rattle.std.specs.Prelude.{◌≡◌, ◌<◌, ◌≤◌, ◌^◌, ◌++◌, ◌∷◌, [], length, map, string_bytes, Some, OnOk};
 ghost use Rattle.sz_io.specs.Rose.{Rose};
 ghost use Rattle.sz_io.specs.Opened.{KeepsFiles};
-ghost use Rattle.sz_io.specs.Calls.{NamesGain, ReadToEnd};
+ghost use Rattle.sz_io.specs.Calls.{NamesGain, OpensOne, ReadToEnd};
 ghost use Rattle.sz_core.specs.Sound.{IsSound};
 ghost use Rattle.sz_words.specs.declared.settings.Settings.TheVariants.{Run, Check};
 ghost use Rattle.sz_words.specs.Settings.{settings_in};
-ghost use Rattle.szl.specs.Opening.{ReadsText, ran_out, past_program, Answers, AnswersOn, AnswersText, AnswersCheck};
+ghost use Rattle.szl.specs.Opening.{ReadsText, ran_out, past_program, status_of_answer, Answers, AnswersOn, AnswersText, AnswersCheck};
 ghost use Rattle.szl.specs.Outcome.{outcome_of_program};
 ghost use Rattle.szl.specs.Judgement.{most_program_bytes};
-ghost use Rattle.szl.specs.Promise.{AreReadToEnd, names_asked};
+ghost use Rattle.szl.specs.Promise.{AreReadToEnd, IfRead, names_asked};
 ghost use Rattle.szl.specs.ProgramRuns.{vec_items_of};
 ghost use Rattle.sz_words.specs.Bounds.{HasBounds, IsBounded};
 
@@ -82,6 +82,7 @@ fn read_program<F: Files>(alloc: Global, name: &str, files: &mut F) -> Result<Ve
     ensures text { ReadsText (F.held files.old name.now) most_program_bytes past_program
         (Rose (F.faults files.old) (F.faults files.new)) (vec_items_of result) }
     ensures names { NamesGain (ran_out (vec_items_of result)) (F.names files.old) (F.names files.new) name.now }
+    ensures opened { IfRead (status_of_answer (vec_items_of result)) (OpensOne F.Files files.old files.new) }
     ensures end { OnOk result (ReadToEnd F.Files files.old files.new name.now) }
     ensures kept { KeepsFiles F.held F.left F.given F.faults files.old files.new }
 {

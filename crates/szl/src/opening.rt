@@ -2,8 +2,9 @@
 ghost use Rattle.std.specs.Prelude.{◌≡◌, ◌<◌, ◌⊎◌, length, OnOk};
 ghost use Rattle.sz_io.specs.Rose.{Rose};
 ghost use Rattle.sz_io.specs.Opened.{KeepsFiles};
-ghost use Rattle.sz_io.specs.Calls.{NamesGain, ReadToEnd};
-ghost use Rattle.szl.specs.Opening.{ReadsText, past_program, ran_out};
+ghost use Rattle.sz_io.specs.Calls.{NamesGain, OpensOne, ReadToEnd};
+ghost use Rattle.szl.specs.Opening.{ReadsText, past_program, ran_out, status_of_answer};
+ghost use Rattle.szl.specs.Promise.{IfRead};
 ghost use Rattle.szl.specs.ProgramRuns.{vec_items_of};
 
 use crate::failure::Failure;
@@ -22,6 +23,7 @@ pub fn read_text<F: Files>(
     requires past { (past ≡ past_program) ⊎ (past ≡ Failure.NoMemory) }
     ensures text { ReadsText (F.held files.old name.now) limit past (Rose (F.faults files.old) (F.faults files.new)) (vec_items_of result) }
     ensures names { NamesGain (ran_out (vec_items_of result)) (F.names files.old) (F.names files.new) name.now }
+    ensures opened { IfRead (status_of_answer (vec_items_of result)) (OpensOne F.Files files.old files.new) }
     ensures end { OnOk result (ReadToEnd F.Files files.old files.new name.now) }
     ensures kept { KeepsFiles F.held F.left F.given F.faults files.old files.new }
 {

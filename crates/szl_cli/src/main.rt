@@ -51,10 +51,10 @@ fn run<R: Threads + Wait + Sync + Files + Input>(
 }
 
 /// How much stack the command line runs on: calls go down one level for each level of a type, and with all names written out
-/// the type of a program of a megabyte may have near 260,000.
+/// the type of a program of a megabyte may have near 260,000, which take some 240 MB.
 const STACK_BYTES: usize = 2 << 30;
 
-// Where no thread can be started, this one does the work itself.
+// Where there is no room for the stack, an eighth of it is enough. Where no thread can be started, this one does the work itself.
 fn main(rt: HostRuntime) -> ExitCode {
     let _streams = [stand_in(&rt), stand_in(&rt), stand_in(&rt)];
     let alloc: Global = rt.alloc();
@@ -62,14 +62,17 @@ fn main(rt: HostRuntime) -> ExitCode {
         return tell_no_memory(rt.stderr());
     };
     let code = thread::scope(thread::scope_env(), &rt, |scope| {
-        match Builder::new()
-            .stack_size(STACK_BYTES)
-            .spawn_scoped(scope, || {
-                run(&rt, alloc, &words, rt.stdout(), rt.stderr())
-            }) {
-            Ok(work) => work.join(&rt),
-            Err(_) => run(&rt, alloc, &words, rt.stdout(), rt.stderr()),
+        for part in [1, 2, 4, 8] {
+            let work = Builder::new()
+                .stack_size(STACK_BYTES / part)
+                .spawn_scoped(scope, || {
+                    run(&rt, alloc, &words, rt.stdout(), rt.stderr())
+                });
+            if let Ok(work) = work {
+                return work.join(&rt);
+            }
         }
+        run(&rt, alloc, &words, rt.stdout(), rt.stderr())
     });
     ExitCode::from(code)
 }

@@ -13,7 +13,7 @@ returns-in_err-text-clause-value g c =
     let p = err_from_is_err_and c.from_residual.result c.from_residual.ensures.1 in
     let s = c.args.settings.now in
     rw (p.1, p.2) (text_fails g.F.Files (Run s) c.as_str.result.now (subst (NamesProgram (Run s)) (sym c.as_str.ensures.value) (of_run s))
-    c.args.files.now c.read_program.new.files c.in_err-text.field-0.0 c.in_err-text.ensures.text c.in_err-text.ensures.names)
+    c.args.files.now c.read_program.new.files c.in_err-text.field-0.0 c.in_err-text.ensures.text c.in_err-text.ensures.names c.in_err-text.ensures.opened)
 
 -- the rest is answered on the text
 pub returns-clause-value : goal.returns-clause-value
@@ -22,7 +22,8 @@ returns-clause-value g c =
     let a = subst (λ text. AnswersText g.F.Files s text c.read_program.new.files c.answer_text.new.files (vec_items_of c.answer_text.result))
     c.deref.ensures.value c.answer_text.ensures.value in
     text_read g.F.Files s c.as_str.result.now c.as_str.ensures.value c.args.files.now c.read_program.new.files c.answer_text.new.files
-    c.in_ok-text.text.items (vec_items_of c.answer_text.result) _ c.in_ok-text.ensures.text c.in_ok-text.ensures.names c.in_ok-text.ensures.kept a
+    c.in_ok-text.text.items (vec_items_of c.answer_text.result) _ c.in_ok-text.ensures.text c.in_ok-text.ensures.names c.in_ok-text.ensures.kept
+    c.answer_text.ensures.kept (c.in_ok-text.ensures.opened (λ e. cc) (λ e. cc)) a
 
 -- the program and the input were read to their ends
 pub returns-clause-end : goal.returns-clause-end

@@ -5,7 +5,7 @@ use Rattle.sz_io.specs.Rose.{Rose}
 use Rattle.sz_io.specs.Opened.{names_after}
 use Rattle.sz_print.specs.Tables.{tables_text}
 use Rattle.szl.proofs.EndingLemmas.{file_stops, read_no_memory, file_declared, file_ends, told_at_end}
-use Rattle.szl.proofs.FileLemmas.{opening_fails, file_gives, rose_since, keeps_opened, read_to_end}
+use Rattle.szl.proofs.FileLemmas.{opening_fails, file_gives, rose_since, keeps_opened, opens_one, read_to_end}
 use Rattle.szl.proofs.program_run.tables_of_file.Goals as goal
 
 -- the file couldn't be opened
@@ -35,7 +35,8 @@ returns-in_err-total-clause-value g c =
     (λ is. rose_since files job s old mid new c.open_file.ensures.kept.faults_later (c.in_err-total.ensures.failed (ap Err is))) in
     rw (p.1, p.2) (file_gives files job s old mid new (files.left mid file) _ (c.in_ok-file.ensures.bytes ∙ ap (files.held old) c.as_str.ensures.value)
     gives (c.in_ok-file.ensures.names ∙ ap (λ name. names_after (files.names old) name (Ok file)) c.as_str.ensures.value)
-    c.run_file.ensures.kept.names_same)
+    c.run_file.ensures.kept.names_same
+    (opens_one files job s old mid new file c.in_ok-file.ensures.fresh c.open_file.ensures.kept c.run_file.ensures.kept c.in_ok-file.ensures.given))
 
 -- the declarations are the total's
 pub text-requires : goal.text-requires
@@ -64,7 +65,8 @@ returns-in_err-text-clause-value g c =
     let gives = read_no_memory job s.shard s.frame (files.left mid file) (files.left new file) (Rose (files.faults old) (files.faults new)) in
     rw (p.1, p.2) (file_gives files job s old mid new (files.left mid file) _ (c.in_ok-file.ensures.bytes ∙ ap (files.held old) c.as_str.ensures.value)
     gives (c.in_ok-file.ensures.names ∙ ap (λ name. names_after (files.names old) name (Ok file)) c.as_str.ensures.value)
-    c.run_file.ensures.kept.names_same)
+    c.run_file.ensures.kept.names_same
+    (opens_one files job s old mid new file c.in_ok-file.ensures.fresh c.open_file.ensures.kept c.run_file.ensures.kept c.in_ok-file.ensures.given))
 
 -- the text is that of all emits
 pub returns-clause-value : goal.returns-clause-value
@@ -82,6 +84,7 @@ returns-clause-value g c =
     file_gives files job s old mid new (files.left mid file) _ (c.in_ok-file.ensures.bytes ∙ ap (files.held old) c.as_str.ensures.value)
     gives (c.in_ok-file.ensures.names ∙ ap (λ name. names_after (files.names old) name (Ok file)) c.as_str.ensures.value)
     c.run_file.ensures.kept.names_same
+    (opens_one files job s old mid new file c.in_ok-file.ensures.fresh c.open_file.ensures.kept c.run_file.ensures.kept c.in_ok-file.ensures.given)
 
 -- the file is at its end
 pub returns-clause-end : goal.returns-clause-end
