@@ -1,5 +1,5 @@
 //! Statements that have no statements for parts, and parts of statements.
-ghost use Rattle.std.specs.Prelude.{◌≡◌, ◌<◌, map as each};
+ghost use Rattle.std.specs.Prelude.{◌<◌, map as each};
 ghost use Rattle.std.specs.Option.{option_map};
 ghost use Rattle.sz_lex.specs.declared.sign.Sign.TheVariants.{Semicolon, OpenBrace, CloseParen};
 ghost use Rattle.sz_tree.specs.View.{tree_of, type_of, first_of, simple_of, param_of, stm_of};
@@ -9,14 +9,12 @@ ghost use Rattle.sz_parse_expr.specs.ReadingTypes.{type_at};
 ghost use Rattle.sz_parse.specs.ReadingStatements.{unless_at, init_at, weight_at, simple_at, first_at, declare_at, declared_at, parameters_at, table_stm_at, define_at, simple_stm_at, static_at, typedef_at, return_at, emit_at, closed_by, readers_at};
 ghost use Rattle.sz_parse_expr.specs.Outcome.{Gives};
 
-use crate::signs::{before, ended, later};
+use crate::signs::{ended, later};
 use crate::simple::{first, indexes, simple, simple_after};
 use crate::table::table;
 use std::alloc::Global;
 use sz_lex::{Sign, Token, Word};
-use sz_parse_expr::{
-    Failed, MAX_HEIGHT, expect, expr, label, name, params, skip, skip_word, type_tree,
-};
+use sz_parse_expr::{Depth, Failed, expect, expr, label, name, params, skip, skip_word, type_tree};
 use sz_tree::{Expr, First, Name, Param, Simple, Stmt, TypeTree};
 use sz_types::Place;
 
@@ -25,18 +23,18 @@ use sz_types::Place;
 pub fn maybe_expr<'t>(
     alloc: Global,
     text: &[u8],
-    inner: u32,
+    inner: Depth,
     sign: Sign,
     tokens: &'t [Token],
 ) -> Result<(Option<Expr>, &'t [Token]), Failed>
-    requires depth { inner < MAX_HEIGHT }
-    ensures read { Gives (λ x. (option_map tree_of x.0, x.1.now)) result (closed_by sign (unless_at sign (expr_at (utf8_in text.now) inner 5) tokens.now)) }
+    ensures read { Gives (λ x. (option_map tree_of x.0, x.1.now)) result (closed_by sign (unless_at sign (expr_at (utf8_in text.now) inner.levels 5) tokens.now)) }
 {
     if let Some(rest) = skip(sign, tokens) {
         return Ok((None, rest));
     }
     let (tree, _, rest) = expr(alloc, text, inner, 5, tokens)?;
-    before(Some(tree), sign, rest)
+    let rest = expect(sign, rest)?;
+    Ok((Some(tree), rest))
 }
 
 // The first part of a `for` unless a semicolon stands there, and the semicolon.
@@ -44,17 +42,17 @@ pub fn maybe_expr<'t>(
 pub fn maybe_first<'t>(
     alloc: Global,
     text: &[u8],
-    inner: u32,
+    inner: Depth,
     tokens: &'t [Token],
 ) -> Result<(Option<First>, &'t [Token]), Failed>
-    requires depth { inner < MAX_HEIGHT }
-    ensures read { Gives (λ x. (option_map first_of x.0, x.1.now)) result (closed_by Semicolon (unless_at Semicolon (first_at (utf8_in text.now) inner) tokens.now)) }
+    ensures read { Gives (λ x. (option_map first_of x.0, x.1.now)) result (closed_by Semicolon (unless_at Semicolon (first_at (utf8_in text.now) inner.levels) tokens.now)) }
 {
     if let Some(rest) = skip(Sign::Semicolon, tokens) {
         return Ok((None, rest));
     }
     let (part, rest) = first(alloc, text, inner, tokens)?;
-    before(Some(part), Sign::Semicolon, rest)
+    let rest = expect(Sign::Semicolon, rest)?;
+    Ok((Some(part), rest))
 }
 
 // The step of a `for` unless a closing parenthesis stands there, and the parenthesis.
@@ -62,17 +60,17 @@ pub fn maybe_first<'t>(
 pub fn maybe_simple<'t>(
     alloc: Global,
     text: &[u8],
-    inner: u32,
+    inner: Depth,
     tokens: &'t [Token],
 ) -> Result<(Option<Simple>, &'t [Token]), Failed>
-    requires depth { inner < MAX_HEIGHT }
-    ensures read { Gives (λ x. (option_map simple_of x.0, x.1.now)) result (closed_by CloseParen (unless_at CloseParen (simple_at (utf8_in text.now) inner) tokens.now)) }
+    ensures read { Gives (λ x. (option_map simple_of x.0, x.1.now)) result (closed_by CloseParen (unless_at CloseParen (simple_at (utf8_in text.now) inner.levels) tokens.now)) }
 {
     if let Some(rest) = skip(Sign::CloseParen, tokens) {
         return Ok((None, rest));
     }
     let (part, rest) = simple(alloc, text, inner, tokens)?;
-    before(Some(part), Sign::CloseParen, rest)
+    let rest = expect(Sign::CloseParen, rest)?;
+    Ok((Some(part), rest))
 }
 
 // The expression after an equals sign, if one stands there.
@@ -80,11 +78,10 @@ pub fn maybe_simple<'t>(
 fn init<'t>(
     alloc: Global,
     text: &[u8],
-    inner: u32,
+    inner: Depth,
     tokens: &'t [Token],
 ) -> Result<(Option<Expr>, &'t [Token]), Failed>
-    requires depth { inner < MAX_HEIGHT }
-    ensures read { Gives (λ x. (option_map tree_of x.0, x.1.now)) result (init_at (expr_at (utf8_in text.now) inner) tokens.now) }
+    ensures read { Gives (λ x. (option_map tree_of x.0, x.1.now)) result (init_at (expr_at (utf8_in text.now) inner.levels) tokens.now) }
 {
     match skip(Sign::Assign, tokens) {
         None => Ok((None, tokens)),
@@ -100,11 +97,10 @@ fn init<'t>(
 fn weight<'t>(
     alloc: Global,
     text: &[u8],
-    inner: u32,
+    inner: Depth,
     tokens: &'t [Token],
 ) -> Result<(Option<Expr>, &'t [Token]), Failed>
-    requires depth { inner < MAX_HEIGHT }
-    ensures read { Gives (λ x. (option_map tree_of x.0, x.1.now)) result (weight_at (expr_at (utf8_in text.now) inner) tokens.now) }
+    ensures read { Gives (λ x. (option_map tree_of x.0, x.1.now)) result (weight_at (expr_at (utf8_in text.now) inner.levels) tokens.now) }
 {
     match skip_word(Word::Weight, tokens) {
         None => Ok((None, tokens)),
@@ -120,12 +116,11 @@ fn weight<'t>(
 pub fn declare<'t>(
     alloc: Global,
     text: &[u8],
-    inner: u32,
+    inner: Depth,
     name: Name,
     tokens: &'t [Token],
 ) -> Result<(Stmt, &'t [Token]), Failed>
-    requires depth { inner < MAX_HEIGHT }
-    ensures read { Gives (λ x. (stm_of x.0, x.1.now)) result (declare_at (readers_at (utf8_in text.now) inner) name tokens.now) }
+    ensures read { Gives (λ x. (stm_of x.0, x.1.now)) result (declare_at (readers_at (utf8_in text.now) inner.levels) name tokens.now) }
 {
     let (of, rest) = type_tree(alloc, text, inner, tokens)?;
     let (value, rest) = init(alloc, text, inner, rest)?;
@@ -137,11 +132,10 @@ pub fn declare<'t>(
 fn declared<'t>(
     alloc: Global,
     text: &[u8],
-    inner: u32,
+    inner: Depth,
     tokens: &'t [Token],
 ) -> Result<(Vec<Param>, &'t [Token]), Failed>
-    requires depth { inner < MAX_HEIGHT }
-    ensures read { Gives (λ x. (each param_of x.0.items, x.1.now)) result (declared_at (utf8_in text.now) (type_at (utf8_in text.now) inner) tokens.now) }
+    ensures read { Gives (λ x. (each param_of x.0.items, x.1.now)) result (declared_at (utf8_in text.now) (type_at (utf8_in text.now) inner.levels) tokens.now) }
 {
     if let Some(_) = skip(Sign::CloseParen, tokens) {
         return Ok((Vec::new(alloc), tokens));
@@ -154,17 +148,17 @@ fn declared<'t>(
 pub fn parameters<'t>(
     alloc: Global,
     text: &[u8],
-    inner: u32,
+    inner: Depth,
     tokens: &'t [Token],
 ) -> Result<(Vec<Param>, &'t [Token]), Failed>
-    requires depth { inner < MAX_HEIGHT }
     ensures read { Gives (λ x. (each param_of x.0.items, x.1.now)) result
-        (parameters_at (utf8_in text.now) (type_at (utf8_in text.now) inner) tokens.now) }
+        (parameters_at (utf8_in text.now) (type_at (utf8_in text.now) inner.levels) tokens.now) }
 {
     let rest = expect(Sign::OpenParen, tokens)?;
     let (params, rest) = declared(alloc, text, inner, rest)?;
-    let (params, rest) = before(params, Sign::CloseParen, rest)?;
-    before(params, Sign::Colon, rest)
+    let rest = expect(Sign::CloseParen, rest)?;
+    let rest = expect(Sign::Colon, rest)?;
+    Ok((params, rest))
 }
 
 // The type that a function gives, and the brace that opens its body.
@@ -172,14 +166,14 @@ pub fn parameters<'t>(
 pub fn returned<'t>(
     alloc: Global,
     text: &[u8],
-    inner: u32,
+    inner: Depth,
     tokens: &'t [Token],
 ) -> Result<(TypeTree, &'t [Token]), Failed>
-    requires depth { inner < MAX_HEIGHT }
-    ensures read { Gives (λ x. (type_of x.0, x.1.now)) result (closed_by OpenBrace (type_at (utf8_in text.now) inner tokens.now)) }
+    ensures read { Gives (λ x. (type_of x.0, x.1.now)) result (closed_by OpenBrace (type_at (utf8_in text.now) inner.levels tokens.now)) }
 {
     let (of, rest) = type_tree(alloc, text, inner, tokens)?;
-    before(of, Sign::OpenBrace, rest)
+    let rest = expect(Sign::OpenBrace, rest)?;
+    Ok((of, rest))
 }
 
 // A declaration without a type, after its name and `:=`.
@@ -187,12 +181,11 @@ pub fn returned<'t>(
 pub fn define<'t>(
     alloc: Global,
     text: &[u8],
-    inner: u32,
+    inner: Depth,
     name: Name,
     tokens: &'t [Token],
 ) -> Result<(Stmt, &'t [Token]), Failed>
-    requires depth { inner < MAX_HEIGHT }
-    ensures read { Gives (λ x. (stm_of x.0, x.1.now)) result (define_at (readers_at (utf8_in text.now) inner) name tokens.now) }
+    ensures read { Gives (λ x. (stm_of x.0, x.1.now)) result (define_at (readers_at (utf8_in text.now) inner.levels) name tokens.now) }
 {
     let (value, _, rest) = expr(alloc, text, inner, 5, tokens)?;
     ended(Stmt::Define(name, value), rest)
@@ -203,12 +196,11 @@ pub fn define<'t>(
 pub fn simple_statement<'t>(
     alloc: Global,
     text: &[u8],
-    inner: u32,
+    inner: Depth,
     name: Name,
     tokens: &'t [Token],
 ) -> Result<(Stmt, &'t [Token]), Failed>
-    requires depth { inner < MAX_HEIGHT }
-    ensures read { Gives (λ x. (stm_of x.0, x.1.now)) result (simple_stm_at (utf8_in text.now) (readers_at (utf8_in text.now) inner) inner name tokens.now) }
+    ensures read { Gives (λ x. (stm_of x.0, x.1.now)) result (simple_stm_at (utf8_in text.now) (readers_at (utf8_in text.now) inner.levels) inner.levels name tokens.now) }
 {
     let (part, rest) = simple_after(alloc, text, inner, name, tokens)?;
     ended(Stmt::Simple(part), rest)
@@ -219,12 +211,11 @@ pub fn simple_statement<'t>(
 pub fn table_statement<'t>(
     alloc: Global,
     text: &[u8],
-    inner: u32,
+    inner: Depth,
     name: Name,
     tokens: &'t [Token],
 ) -> Result<(Stmt, &'t [Token]), Failed>
-    requires depth { inner < MAX_HEIGHT }
-    ensures read { Gives (λ x. (stm_of x.0, x.1.now)) result (table_stm_at (utf8_in text.now) (readers_at (utf8_in text.now) inner) name tokens.now) }
+    ensures read { Gives (λ x. (stm_of x.0, x.1.now)) result (table_stm_at (utf8_in text.now) (readers_at (utf8_in text.now) inner.levels) name tokens.now) }
 {
     let (part, rest) = table(alloc, text, inner, tokens)?;
     Ok((Stmt::Table(name, part), rest))
@@ -235,12 +226,11 @@ pub fn table_statement<'t>(
 pub fn static_statement<'t>(
     alloc: Global,
     text: &[u8],
-    inner: u32,
+    inner: Depth,
     place: Place,
     tokens: &'t [Token],
 ) -> Result<(Stmt, &'t [Token]), Failed>
-    requires depth { inner < MAX_HEIGHT }
-    ensures read { Gives (λ x. (stm_of x.0, x.1.now)) result (static_at (utf8_in text.now) (readers_at (utf8_in text.now) inner) place tokens.now) }
+    ensures read { Gives (λ x. (stm_of x.0, x.1.now)) result (static_at (utf8_in text.now) (readers_at (utf8_in text.now) inner.levels) place tokens.now) }
 {
     let (name, rest) = label(alloc, text, tokens)?;
     let (of, rest) = type_tree(alloc, text, inner, rest)?;
@@ -253,12 +243,11 @@ pub fn static_statement<'t>(
 pub fn type_statement<'t>(
     alloc: Global,
     text: &[u8],
-    inner: u32,
+    inner: Depth,
     place: Place,
     tokens: &'t [Token],
 ) -> Result<(Stmt, &'t [Token]), Failed>
-    requires depth { inner < MAX_HEIGHT }
-    ensures read { Gives (λ x. (stm_of x.0, x.1.now)) result (typedef_at (utf8_in text.now) (readers_at (utf8_in text.now) inner) place tokens.now) }
+    ensures read { Gives (λ x. (stm_of x.0, x.1.now)) result (typedef_at (utf8_in text.now) (readers_at (utf8_in text.now) inner.levels) place tokens.now) }
 {
     let (name, rest) = name(alloc, text, tokens)?;
     let rest = expect(Sign::Assign, rest)?;
@@ -271,12 +260,11 @@ pub fn type_statement<'t>(
 pub fn return_statement<'t>(
     alloc: Global,
     text: &[u8],
-    inner: u32,
+    inner: Depth,
     place: Place,
     tokens: &'t [Token],
 ) -> Result<(Stmt, &'t [Token]), Failed>
-    requires depth { inner < MAX_HEIGHT }
-    ensures read { Gives (λ x. (stm_of x.0, x.1.now)) result (return_at (readers_at (utf8_in text.now) inner) place tokens.now) }
+    ensures read { Gives (λ x. (stm_of x.0, x.1.now)) result (return_at (readers_at (utf8_in text.now) inner.levels) place tokens.now) }
 {
     let (value, rest) = maybe_expr(alloc, text, inner, Sign::Semicolon, tokens)?;
     Ok((Stmt::Return(place, value), rest))
@@ -287,12 +275,11 @@ pub fn return_statement<'t>(
 pub fn emit<'t>(
     alloc: Global,
     text: &[u8],
-    inner: u32,
+    inner: Depth,
     place: Place,
     tokens: &'t [Token],
 ) -> Result<(Stmt, &'t [Token]), Failed>
-    requires depth { inner < MAX_HEIGHT }
-    ensures read { Gives (λ x. (stm_of x.0, x.1.now)) result (emit_at (utf8_in text.now) (readers_at (utf8_in text.now) inner) place tokens.now) }
+    ensures read { Gives (λ x. (stm_of x.0, x.1.now)) result (emit_at (utf8_in text.now) (readers_at (utf8_in text.now) inner.levels) place tokens.now) }
 {
     let (table, rest) = name(alloc, text, tokens)?;
     let (indexes, rest) = indexes(alloc, text, inner, rest)?;

@@ -1,46 +1,23 @@
 //! Parts with a sign or another part before or after them.
-ghost use Rattle.std.specs.Prelude.{◌≡◌, ◌<◌, IfOk, IfErr, MatchResult};
+ghost use Rattle.std.specs.Prelude.{◌<◌};
 ghost use Rattle.sz_tree.specs.View.{tree_of, stm_of};
-ghost use Rattle.sz_parse_expr.specs.Reading.{utf8_in, after_sign};
+ghost use Rattle.sz_parse_expr.specs.Reading.{utf8_in};
 ghost use Rattle.sz_parse_expr.specs.ReadingExpressions.{expr_at};
 ghost use Rattle.sz_parse.specs.ReadingStatements.{ended_at, after_at};
 ghost use Rattle.sz_parse_expr.specs.Outcome.{Gives};
 
 use std::alloc::Global;
 use sz_lex::{Sign, Token};
-use sz_parse_expr::{Failed, MAX_HEIGHT, expect, expr};
+use sz_parse_expr::{Depth, Failed, expect, expr};
 use sz_tree::{Expr, Stmt};
-
-// The same value, and what follows the sign after it.
-pub fn before<T: Drop>(value: T, sign: Sign, tokens: &[Token]) -> Result<(T, &[Token]), Failed>
-    ensures same { IfOk result (λ x. x.0 ≡ value) }
-    ensures read { Gives (λ x. x.1.now) result (after_sign sign tokens.now) }
-{
-    let rest = expect(sign, tokens)?;
-    Ok((value, rest))
-}
-
-// The value, and what was read after it.
-pub fn beside<'t, T: Drop, U: Drop>(
-    value: T,
-    read: Result<(U, &'t [Token]), Failed>,
-) -> Result<(T, U, &'t [Token]), Failed>
-    ensures same { IfOk result (λ x. x.0 ≡ value) }
-    ensures found { IfOk result (λ x. MatchResult read.entry (λ y. (y.0 ≡ x.1) × (y.1 ≡ x.2)) (λ _. ⊥)) }
-    ensures failed { IfErr result (λ e. MatchResult read.entry (λ _. ⊥) (λ d. d ≡ e)) }
-{
-    match read {
-        Ok((part, rest)) => Ok((value, part, rest)),
-        Err(failed) => Err(failed),
-    }
-}
 
 // The same statement, and what follows the semicolon after it.
 #[tactic(auto, unfolding(sz_parse_expr::specs::Reading::bind))]
 pub fn ended(tree: Stmt, tokens: &[Token]) -> Result<(Stmt, &[Token]), Failed>
     ensures read { Gives (λ x. (stm_of x.0, x.1.now)) result (ended_at (stm_of tree) tokens.now) }
 {
-    before(tree, Sign::Semicolon, tokens)
+    let rest = expect(Sign::Semicolon, tokens)?;
+    Ok((tree, rest))
 }
 
 // The expression after this sign.
@@ -48,12 +25,11 @@ pub fn ended(tree: Stmt, tokens: &[Token]) -> Result<(Stmt, &[Token]), Failed>
 pub fn later<'t>(
     alloc: Global,
     text: &[u8],
-    inner: u32,
+    inner: Depth,
     sign: Sign,
     tokens: &'t [Token],
 ) -> Result<(Expr, &'t [Token]), Failed>
-    requires depth { inner < MAX_HEIGHT }
-    ensures read { Gives (λ x. (tree_of x.0, x.1.now)) result (after_at (expr_at (utf8_in text.now) inner) sign tokens.now) }
+    ensures read { Gives (λ x. (tree_of x.0, x.1.now)) result (after_at (expr_at (utf8_in text.now) inner.levels) sign tokens.now) }
 {
     let rest = expect(sign, tokens)?;
     let (tree, _, rest) = expr(alloc, text, inner, 5, rest)?;

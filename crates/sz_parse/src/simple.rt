@@ -1,5 +1,5 @@
 //! Statements that may stand as a step of a `for`, and its first part.
-ghost use Rattle.std.specs.Prelude.{◌≡◌, ◌≤◌, ◌<◌, map as each};
+ghost use Rattle.std.specs.Prelude.{◌<◌, map as each};
 ghost use Rattle.sz_tree.specs.View.{tree_of, step_of, simple_of, first_of};
 ghost use Rattle.sz_parse_expr.specs.Reading.{utf8_in, all_at};
 ghost use Rattle.sz_parse_expr.specs.ReadingExpressions.{expr_at};
@@ -7,10 +7,10 @@ ghost use Rattle.sz_parse_expr.specs.ReadingTypes.{type_at};
 ghost use Rattle.sz_parse.specs.ReadingStatements.{index_at, index_step, begins_step, step_item, path_step, assign_at, simple_after, simple_at, first_after, first_at};
 ghost use Rattle.sz_parse_expr.specs.Outcome.{Gives, Sees};
 
-use crate::signs::{before, later};
+use crate::signs::later;
 use std::alloc::Global;
 use sz_lex::{Sign, Token};
-use sz_parse_expr::{Failed, MAX_HEIGHT, call, expect, expr, name, skip, type_tree};
+use sz_parse_expr::{Depth, Failed, call, expect, expr, name, skip, type_tree};
 use sz_tree::{Expr, First, Name, Path, Simple, Step};
 
 // An expression and a closing bracket.
@@ -18,25 +18,24 @@ use sz_tree::{Expr, First, Name, Path, Simple, Step};
 fn index<'t>(
     alloc: Global,
     text: &[u8],
-    inner: u32,
+    inner: Depth,
     tokens: &'t [Token],
 ) -> Result<(Expr, &'t [Token]), Failed>
-    requires depth { inner < MAX_HEIGHT }
-    ensures read { Gives (λ x. (tree_of x.0, x.1.now)) result (index_at (expr_at (utf8_in text.now) inner) tokens.now) }
+    ensures read { Gives (λ x. (tree_of x.0, x.1.now)) result (index_at (expr_at (utf8_in text.now) inner.levels) tokens.now) }
 {
     let (tree, _, rest) = expr(alloc, text, inner, 5, tokens)?;
-    before(tree, Sign::CloseBracket, rest)
+    let rest = expect(Sign::CloseBracket, rest)?;
+    Ok((tree, rest))
 }
 
 // Expressions, each in brackets.
 pub fn indexes<'t>(
     alloc: Global,
     text: &[u8],
-    inner: u32,
+    inner: Depth,
     tokens: &'t [Token],
 ) -> Result<(Vec<Expr>, &'t [Token]), Failed>
-    requires depth { inner < MAX_HEIGHT }
-    ensures read { Gives (λ x. (each tree_of x.0.items, x.1.now)) result (all_at (index_step (expr_at (utf8_in text.now) inner)) tokens.now) }
+    ensures read { Gives (λ x. (each tree_of x.0.items, x.1.now)) result (all_at (index_step (expr_at (utf8_in text.now) inner.levels)) tokens.now) }
 {
     let mut items = Vec::new(alloc);
     let mut rest = tokens;
@@ -64,11 +63,10 @@ fn begins_step(tokens: &[Token]) -> Option<&[Token]>
 fn step<'t>(
     alloc: Global,
     text: &[u8],
-    inner: u32,
+    inner: Depth,
     tokens: &'t [Token],
 ) -> Result<(Step, &'t [Token]), Failed>
-    requires depth { inner < MAX_HEIGHT }
-    ensures read { Gives (λ x. (step_of x.0, x.1.now)) result (step_item (utf8_in text.now) (expr_at (utf8_in text.now) inner) tokens.now) }
+    ensures read { Gives (λ x. (step_of x.0, x.1.now)) result (step_item (utf8_in text.now) (expr_at (utf8_in text.now) inner.levels) tokens.now) }
 {
     match skip(Sign::OpenBracket, tokens) {
         Some(rest) => {
@@ -87,11 +85,10 @@ fn step<'t>(
 fn steps<'t>(
     alloc: Global,
     text: &[u8],
-    inner: u32,
+    inner: Depth,
     tokens: &'t [Token],
 ) -> Result<(Vec<Step>, &'t [Token]), Failed>
-    requires depth { inner < MAX_HEIGHT }
-    ensures read { Gives (λ x. (each step_of x.0.items, x.1.now)) result (all_at (path_step (utf8_in text.now) (expr_at (utf8_in text.now) inner)) tokens.now) }
+    ensures read { Gives (λ x. (each step_of x.0.items, x.1.now)) result (all_at (path_step (utf8_in text.now) (expr_at (utf8_in text.now) inner.levels)) tokens.now) }
 {
     let mut items = Vec::new(alloc);
     let mut rest = tokens;
@@ -108,12 +105,11 @@ fn steps<'t>(
 fn assign<'t>(
     alloc: Global,
     text: &[u8],
-    inner: u32,
+    inner: Depth,
     name: Name,
     tokens: &'t [Token],
 ) -> Result<(Simple, &'t [Token]), Failed>
-    requires depth { inner < MAX_HEIGHT }
-    ensures read { Gives (λ x. (simple_of x.0, x.1.now)) result (assign_at (utf8_in text.now) (expr_at (utf8_in text.now) inner) name tokens.now) }
+    ensures read { Gives (λ x. (simple_of x.0, x.1.now)) result (assign_at (utf8_in text.now) (expr_at (utf8_in text.now) inner.levels) name tokens.now) }
 {
     let (steps, rest) = steps(alloc, text, inner, tokens)?;
     let (value, rest) = later(alloc, text, inner, Sign::Assign, rest)?;
@@ -125,21 +121,20 @@ fn assign<'t>(
 pub fn simple_after<'t>(
     alloc: Global,
     text: &[u8],
-    inner: u32,
+    inner: Depth,
     name: Name,
     tokens: &'t [Token],
 ) -> Result<(Simple, &'t [Token]), Failed>
-    requires depth { inner < MAX_HEIGHT }
-    ensures read { Gives (λ x. (simple_of x.0, x.1.now)) result (simple_after (utf8_in text.now) (expr_at (utf8_in text.now) inner) inner name tokens.now) }
+    ensures read { Gives (λ x. (simple_of x.0, x.1.now)) result (simple_after (utf8_in text.now) (expr_at (utf8_in text.now) inner.levels) inner.levels name tokens.now) }
 {
     if let Some(rest) = skip(Sign::Increment, tokens) {
-        if inner < 2 {
+        if inner.levels < 2 {
             return Err(Failed::Syntax);
         }
         return Ok((Simple::Increment(name), rest));
     }
     if let Some(rest) = skip(Sign::Decrement, tokens) {
-        if inner < 2 {
+        if inner.levels < 2 {
             return Err(Failed::Syntax);
         }
         return Ok((Simple::Decrement(name), rest));
@@ -147,7 +142,7 @@ pub fn simple_after<'t>(
     match skip(Sign::OpenParen, tokens) {
         None => assign(alloc, text, inner, name, tokens),
         Some(rest) => {
-            if inner == 0 {
+            if inner.levels == 0 {
                 return Err(Failed::Syntax);
             }
             let (arguments, _, rest) = call(alloc, text, inner, rest)?;
@@ -161,17 +156,16 @@ pub fn simple_after<'t>(
 pub fn simple<'t>(
     alloc: Global,
     text: &[u8],
-    depth: u32,
+    depth: Depth,
     tokens: &'t [Token],
 ) -> Result<(Simple, &'t [Token]), Failed>
-    requires depth { depth ≤ MAX_HEIGHT }
-    ensures read { Gives (λ x. (simple_of x.0, x.1.now)) result (simple_at (utf8_in text.now) depth tokens.now) }
+    ensures read { Gives (λ x. (simple_of x.0, x.1.now)) result (simple_at (utf8_in text.now) depth.levels tokens.now) }
 {
-    if depth == 0 {
+    let Some(inner) = depth.deeper() else {
         return Err(Failed::Syntax);
-    }
+    };
     let (name, rest) = name(alloc, text, tokens)?;
-    simple_after(alloc, text, depth - 1, name, rest)
+    simple_after(alloc, text, inner, name, rest)
 }
 
 // The first part of a `for`, after its name.
@@ -179,13 +173,12 @@ pub fn simple<'t>(
 fn first_after<'t>(
     alloc: Global,
     text: &[u8],
-    inner: u32,
+    inner: Depth,
     name: Name,
     tokens: &'t [Token],
 ) -> Result<(First, &'t [Token]), Failed>
-    requires depth { inner < MAX_HEIGHT }
     ensures read { Gives (λ x. (first_of x.0, x.1.now)) result
-        (first_after (utf8_in text.now) (expr_at (utf8_in text.now) inner) (type_at (utf8_in text.now) inner) inner name tokens.now) }
+        (first_after (utf8_in text.now) (expr_at (utf8_in text.now) inner.levels) (type_at (utf8_in text.now) inner.levels) inner.levels name tokens.now) }
 {
     if let Some(rest) = skip(Sign::Colon, tokens) {
         let (of, rest) = type_tree(alloc, text, inner, rest)?;
@@ -205,15 +198,14 @@ fn first_after<'t>(
 pub fn first<'t>(
     alloc: Global,
     text: &[u8],
-    depth: u32,
+    depth: Depth,
     tokens: &'t [Token],
 ) -> Result<(First, &'t [Token]), Failed>
-    requires depth { depth ≤ MAX_HEIGHT }
-    ensures read { Gives (λ x. (first_of x.0, x.1.now)) result (first_at (utf8_in text.now) depth tokens.now) }
+    ensures read { Gives (λ x. (first_of x.0, x.1.now)) result (first_at (utf8_in text.now) depth.levels tokens.now) }
 {
-    if depth == 0 {
+    let Some(inner) = depth.deeper() else {
         return Err(Failed::Syntax);
-    }
+    };
     let (name, rest) = name(alloc, text, tokens)?;
-    first_after(alloc, text, depth - 1, name, rest)
+    first_after(alloc, text, inner, name, rest)
 }

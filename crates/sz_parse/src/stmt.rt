@@ -1,5 +1,5 @@
 //! Statements.
-ghost use Rattle.std.specs.Prelude.{◌≡◌, ◌≤◌, ◌<◌, map as each};
+ghost use Rattle.std.specs.Prelude.{◌<◌, map as each};
 ghost use Rattle.sz_tree.specs.View.{stm_of};
 ghost use Rattle.sz_parse_expr.specs.Reading.{utf8_in, all_at};
 ghost use Rattle.sz_parse.specs.ReadingStatements.{begins_stm, stm_step, body_at, block_at, function_at, colon_at, named_stm_at, if_at, while_at, do_at, for_at, when_at, stm_worded, step_at, stm_at, readers_at};
@@ -9,13 +9,11 @@ use crate::leaf::{
     declare, define, emit, maybe_expr, maybe_first, maybe_simple, parameters, return_statement,
     returned, simple_statement, static_statement, table_statement, type_statement,
 };
-use crate::signs::{before, beside, ended};
+use crate::signs::ended;
 use crate::table::quantifiers;
 use std::alloc::Global;
 use sz_lex::{Kind, Sign, Token, Word};
-use sz_parse_expr::{
-    Failed, MAX_HEIGHT, condition, expect, expect_word, expr, ident, skip, skip_word,
-};
+use sz_parse_expr::{Depth, Failed, condition, expect, expect_word, expr, ident, skip, skip_word};
 use sz_tree::{Name, Stmt};
 use sz_types::Place;
 
@@ -39,16 +37,15 @@ fn begins_statement(tokens: &[Token]) -> Option<&[Token]>
 pub fn statement<'t>(
     alloc: Global,
     text: &[u8],
-    depth: u32,
+    depth: Depth,
     tokens: &'t [Token],
 ) -> Result<(Stmt, &'t [Token]), Failed>
-    requires depth { depth ≤ MAX_HEIGHT }
-    ensures read { Gives (λ x. (stm_of x.0, x.1.now)) result (stm_at (utf8_in text.now) depth tokens.now) }
+    ensures read { Gives (λ x. (stm_of x.0, x.1.now)) result (stm_at (utf8_in text.now) depth.levels tokens.now) }
 {
-    if depth == 0 {
+    let Some(inner) = depth.deeper() else {
         return Err(Failed::Syntax);
-    }
-    step(alloc, text, depth - 1, tokens)
+    };
+    step(alloc, text, inner, tokens)
 }
 
 // In what follows, the parts of a statement have at most the height `inner`. This reads a part.
@@ -57,11 +54,10 @@ pub fn statement<'t>(
 fn boxed<'t>(
     alloc: Global,
     text: &[u8],
-    inner: u32,
+    inner: Depth,
     tokens: &'t [Token],
 ) -> Result<(Box<Stmt>, &'t [Token]), Failed>
-    requires depth { inner < MAX_HEIGHT }
-    ensures read { Gives (λ x. (stm_of x.0.value, x.1.now)) result (stm_at (utf8_in text.now) inner tokens.now) }
+    ensures read { Gives (λ x. (stm_of x.0.value, x.1.now)) result (stm_at (utf8_in text.now) inner.levels tokens.now) }
 {
     let (tree, rest) = statement(alloc, text, inner, tokens)?;
     Ok((Box::new(alloc, tree)?, rest))
@@ -73,11 +69,10 @@ fn boxed<'t>(
 fn step<'t>(
     alloc: Global,
     text: &[u8],
-    inner: u32,
+    inner: Depth,
     tokens: &'t [Token],
 ) -> Result<(Stmt, &'t [Token]), Failed>
-    requires depth { inner < MAX_HEIGHT }
-    ensures read { Gives (λ x. (stm_of x.0, x.1.now)) result (step_at (utf8_in text.now) (readers_at (utf8_in text.now) inner) inner tokens.now) }
+    ensures read { Gives (λ x. (stm_of x.0, x.1.now)) result (step_at (utf8_in text.now) (readers_at (utf8_in text.now) inner.levels) inner.levels tokens.now) }
 {
     let [token, rest @ ..] = tokens else {
         return Err(Failed::Syntax);
@@ -100,12 +95,11 @@ fn step<'t>(
 fn named<'t>(
     alloc: Global,
     text: &[u8],
-    inner: u32,
+    inner: Depth,
     name: Name,
     tokens: &'t [Token],
 ) -> Result<(Stmt, &'t [Token]), Failed>
-    requires depth { inner < MAX_HEIGHT }
-    ensures read { Gives (λ x. (stm_of x.0, x.1.now)) result (named_stm_at (utf8_in text.now) (readers_at (utf8_in text.now) inner) inner name tokens.now) }
+    ensures read { Gives (λ x. (stm_of x.0, x.1.now)) result (named_stm_at (utf8_in text.now) (readers_at (utf8_in text.now) inner.levels) inner.levels name tokens.now) }
 {
     if let Some(rest) = skip(Sign::Colon, tokens) {
         return colon(alloc, text, inner, name, rest);
@@ -122,12 +116,11 @@ fn named<'t>(
 fn colon<'t>(
     alloc: Global,
     text: &[u8],
-    inner: u32,
+    inner: Depth,
     name: Name,
     tokens: &'t [Token],
 ) -> Result<(Stmt, &'t [Token]), Failed>
-    requires depth { inner < MAX_HEIGHT }
-    ensures read { Gives (λ x. (stm_of x.0, x.1.now)) result (colon_at (utf8_in text.now) (readers_at (utf8_in text.now) inner) name tokens.now) }
+    ensures read { Gives (λ x. (stm_of x.0, x.1.now)) result (colon_at (utf8_in text.now) (readers_at (utf8_in text.now) inner.levels) name tokens.now) }
 {
     if let Some(rest) = skip_word(Word::Table, tokens) {
         return table_statement(alloc, text, inner, name, rest);
@@ -144,16 +137,15 @@ fn colon<'t>(
 fn function<'t>(
     alloc: Global,
     text: &[u8],
-    inner: u32,
+    inner: Depth,
     name: Name,
     tokens: &'t [Token],
 ) -> Result<(Stmt, &'t [Token]), Failed>
-    requires depth { inner < MAX_HEIGHT }
-    ensures read { Gives (λ x. (stm_of x.0, x.1.now)) result (function_at (utf8_in text.now) (readers_at (utf8_in text.now) inner) name tokens.now) }
+    ensures read { Gives (λ x. (stm_of x.0, x.1.now)) result (function_at (utf8_in text.now) (readers_at (utf8_in text.now) inner.levels) name tokens.now) }
 {
     let (params, rest) = parameters(alloc, text, inner, tokens)?;
     let (of, rest) = returned(alloc, text, inner, rest)?;
-    let (of, statements, rest) = beside(of, body(alloc, text, inner, rest))?;
+    let (statements, rest) = body(alloc, text, inner, rest)?;
     Ok((Stmt::function(name, params, of, statements), rest))
 }
 
@@ -162,12 +154,11 @@ fn function<'t>(
 fn block<'t>(
     alloc: Global,
     text: &[u8],
-    inner: u32,
+    inner: Depth,
     place: Place,
     tokens: &'t [Token],
 ) -> Result<(Stmt, &'t [Token]), Failed>
-    requires depth { inner < MAX_HEIGHT }
-    ensures read { Gives (λ x. (stm_of x.0, x.1.now)) result (block_at (stm_at (utf8_in text.now) inner) place tokens.now) }
+    ensures read { Gives (λ x. (stm_of x.0, x.1.now)) result (block_at (stm_at (utf8_in text.now) inner.levels) place tokens.now) }
 {
     let (statements, rest) = body(alloc, text, inner, tokens)?;
     Ok((Stmt::block(place, statements), rest))
@@ -179,14 +170,14 @@ fn block<'t>(
 fn body<'t>(
     alloc: Global,
     text: &[u8],
-    inner: u32,
+    inner: Depth,
     tokens: &'t [Token],
 ) -> Result<(Vec<Stmt>, &'t [Token]), Failed>
-    requires depth { inner < MAX_HEIGHT }
-    ensures read { Gives (λ x. (each stm_of x.0.items, x.1.now)) result (body_at (stm_at (utf8_in text.now) inner) tokens.now) }
+    ensures read { Gives (λ x. (each stm_of x.0.items, x.1.now)) result (body_at (stm_at (utf8_in text.now) inner.levels) tokens.now) }
 {
     let (statements, rest) = statements(alloc, text, inner, tokens)?;
-    before(statements, Sign::CloseBrace, rest)
+    let rest = expect(Sign::CloseBrace, rest)?;
+    Ok((statements, rest))
 }
 
 // Statements, up to a closing brace or the end.
@@ -194,11 +185,10 @@ fn body<'t>(
 fn statements<'t>(
     alloc: Global,
     text: &[u8],
-    inner: u32,
+    inner: Depth,
     tokens: &'t [Token],
 ) -> Result<(Vec<Stmt>, &'t [Token]), Failed>
-    requires depth { inner < MAX_HEIGHT }
-    ensures read { Gives (λ x. (each stm_of x.0.items, x.1.now)) result (all_at (stm_step (stm_at (utf8_in text.now) inner)) tokens.now) }
+    ensures read { Gives (λ x. (each stm_of x.0.items, x.1.now)) result (all_at (stm_step (stm_at (utf8_in text.now) inner.levels)) tokens.now) }
 {
     let mut items = Vec::new(alloc);
     let mut rest = tokens;
@@ -216,13 +206,12 @@ fn statements<'t>(
 fn worded<'t>(
     alloc: Global,
     text: &[u8],
-    inner: u32,
+    inner: Depth,
     place: Place,
     word: Word,
     tokens: &'t [Token],
 ) -> Result<(Stmt, &'t [Token]), Failed>
-    requires depth { inner < MAX_HEIGHT }
-    ensures read { Gives (λ x. (stm_of x.0, x.1.now)) result (stm_worded (utf8_in text.now) (readers_at (utf8_in text.now) inner) place word tokens.now) }
+    ensures read { Gives (λ x. (stm_of x.0, x.1.now)) result (stm_worded (utf8_in text.now) (readers_at (utf8_in text.now) inner.levels) place word tokens.now) }
 {
     match word {
         Word::Static => static_statement(alloc, text, inner, place, tokens),
@@ -245,20 +234,18 @@ fn worded<'t>(
 fn choice<'t>(
     alloc: Global,
     text: &[u8],
-    inner: u32,
+    inner: Depth,
     place: Place,
     tokens: &'t [Token],
 ) -> Result<(Stmt, &'t [Token]), Failed>
-    requires depth { inner < MAX_HEIGHT }
-    ensures read { Gives (λ x. (stm_of x.0, x.1.now)) result (if_at (readers_at (utf8_in text.now) inner) place tokens.now) }
+    ensures read { Gives (λ x. (stm_of x.0, x.1.now)) result (if_at (readers_at (utf8_in text.now) inner.levels) place tokens.now) }
 {
     let (test, _, rest) = condition(alloc, text, inner, tokens)?;
-    let (test, part, rest) = beside(test, boxed(alloc, text, inner, rest))?;
+    let (part, rest) = boxed(alloc, text, inner, rest)?;
     match skip_word(Word::Else, rest) {
         None => Ok((Stmt::If(place, test, part, None), rest)),
         Some(rest) => {
-            let other = boxed(alloc, text, inner, rest);
-            let ((test, part), other, rest) = beside((test, part), other)?;
+            let (other, rest) = boxed(alloc, text, inner, rest)?;
             Ok((Stmt::If(place, test, part, Some(other)), rest))
         }
     }
@@ -269,15 +256,14 @@ fn choice<'t>(
 fn repeat<'t>(
     alloc: Global,
     text: &[u8],
-    inner: u32,
+    inner: Depth,
     place: Place,
     tokens: &'t [Token],
 ) -> Result<(Stmt, &'t [Token]), Failed>
-    requires depth { inner < MAX_HEIGHT }
-    ensures read { Gives (λ x. (stm_of x.0, x.1.now)) result (while_at (readers_at (utf8_in text.now) inner) place tokens.now) }
+    ensures read { Gives (λ x. (stm_of x.0, x.1.now)) result (while_at (readers_at (utf8_in text.now) inner.levels) place tokens.now) }
 {
     let (test, _, rest) = condition(alloc, text, inner, tokens)?;
-    let (test, part, rest) = beside(test, boxed(alloc, text, inner, rest))?;
+    let (part, rest) = boxed(alloc, text, inner, rest)?;
     Ok((Stmt::While(place, test, part), rest))
 }
 
@@ -286,12 +272,11 @@ fn repeat<'t>(
 fn repeat_until<'t>(
     alloc: Global,
     text: &[u8],
-    inner: u32,
+    inner: Depth,
     place: Place,
     tokens: &'t [Token],
 ) -> Result<(Stmt, &'t [Token]), Failed>
-    requires depth { inner < MAX_HEIGHT }
-    ensures read { Gives (λ x. (stm_of x.0, x.1.now)) result (do_at (readers_at (utf8_in text.now) inner) place tokens.now) }
+    ensures read { Gives (λ x. (stm_of x.0, x.1.now)) result (do_at (readers_at (utf8_in text.now) inner.levels) place tokens.now) }
 {
     let (part, rest) = boxed(alloc, text, inner, tokens)?;
     let rest = expect_word(Word::While, rest)?;
@@ -304,21 +289,17 @@ fn repeat_until<'t>(
 fn for_loop<'t>(
     alloc: Global,
     text: &[u8],
-    inner: u32,
+    inner: Depth,
     place: Place,
     tokens: &'t [Token],
 ) -> Result<(Stmt, &'t [Token]), Failed>
-    requires depth { inner < MAX_HEIGHT }
-    ensures read { Gives (λ x. (stm_of x.0, x.1.now)) result (for_at (readers_at (utf8_in text.now) inner) place tokens.now) }
+    ensures read { Gives (λ x. (stm_of x.0, x.1.now)) result (for_at (readers_at (utf8_in text.now) inner.levels) place tokens.now) }
 {
     let rest = expect(Sign::OpenParen, tokens)?;
     let (first, rest) = maybe_first(alloc, text, inner, rest)?;
-    let test = maybe_expr(alloc, text, inner, Sign::Semicolon, rest);
-    let (first, test, rest) = beside(first, test)?;
-    let next = maybe_simple(alloc, text, inner, rest);
-    let (head, next, rest) = beside((first, test), next)?;
-    let part = boxed(alloc, text, inner, rest);
-    let (((first, test), next), part, rest) = beside((head, next), part)?;
+    let (test, rest) = maybe_expr(alloc, text, inner, Sign::Semicolon, rest)?;
+    let (next, rest) = maybe_simple(alloc, text, inner, rest)?;
+    let (part, rest) = boxed(alloc, text, inner, rest)?;
     Ok((Stmt::For(place, first, test, next, part), rest))
 }
 
@@ -327,17 +308,16 @@ fn for_loop<'t>(
 fn when<'t>(
     alloc: Global,
     text: &[u8],
-    inner: u32,
+    inner: Depth,
     place: Place,
     tokens: &'t [Token],
 ) -> Result<(Stmt, &'t [Token]), Failed>
-    requires depth { inner < MAX_HEIGHT }
-    ensures read { Gives (λ x. (stm_of x.0, x.1.now)) result (when_at (utf8_in text.now) (readers_at (utf8_in text.now) inner) place tokens.now) }
+    ensures read { Gives (λ x. (stm_of x.0, x.1.now)) result (when_at (utf8_in text.now) (readers_at (utf8_in text.now) inner.levels) place tokens.now) }
 {
     let rest = expect(Sign::OpenParen, tokens)?;
     let (quantifiers, rest) = quantifiers(alloc, text, inner, rest)?;
     let (test, _, rest) = expr(alloc, text, inner, 5, rest)?;
-    let (test, rest) = before(test, Sign::CloseParen, rest)?;
-    let (test, part, rest) = beside(test, boxed(alloc, text, inner, rest))?;
+    let rest = expect(Sign::CloseParen, rest)?;
+    let (part, rest) = boxed(alloc, text, inner, rest)?;
     Ok((Stmt::When(place, quantifiers, test, part), rest))
 }

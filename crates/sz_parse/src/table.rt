@@ -4,14 +4,13 @@ ghost use Rattle.sz_tree.specs.View.{elem_of, table_of, quantifier_of};
 ghost use Rattle.std.specs.Option.{option_map};
 ghost use Rattle.sz_parse_expr.specs.Reading.{utf8_in, all_at};
 ghost use Rattle.sz_parse_expr.specs.ReadingTypes.{type_at};
-ghost use Rattle.sz_parse.specs.ReadingTables.{argument_at, table_index_at, table_index_step, table_weight_at, table_parts_at, table_at, name_step, names_later, names_at, quantity_of, quantity_at, quantifier_at, begins_quantifier, quantifier_step, quantifiers_after, quantifiers_at};
+ghost use Rattle.sz_parse.specs.ReadingTables.{argument_at, table_index_at, table_index_step, table_weight_at, table_parts_at, table_at, names_later, names_at, quantity_of, quantity_at, quantifier_at, begins_quantifier, quantifiers_after, quantifiers_at};
 ghost use Rattle.sz_parse_expr.specs.Outcome.{Gives, Sees};
 
-use crate::signs::before;
 use std::alloc::Global;
 use sz_lex::{Kind, Sign, Token, Word};
 use sz_parse_expr::{
-    Failed, MAX_HEIGHT, elem, expect, expect_word, name, number, skip, skip_word, type_tree,
+    Depth, Failed, elem, expect, expect_word, name, number, skip, skip_word, type_tree,
 };
 use sz_tree::{Elem, Name, Quantifier, Quantity, Table};
 
@@ -35,26 +34,25 @@ fn argument(tokens: &[Token]) -> Result<(Option<i64>, &[Token]), Failed>
 fn table_index<'t>(
     alloc: Global,
     text: &[u8],
-    inner: u32,
+    inner: Depth,
     tokens: &'t [Token],
 ) -> Result<(Elem, &'t [Token]), Failed>
-    requires depth { inner < MAX_HEIGHT }
-    ensures read { Gives (λ x. (elem_of x.0, x.1.now)) result (table_index_at (utf8_in text.now) (type_at (utf8_in text.now) inner) tokens.now) }
+    ensures read { Gives (λ x. (elem_of x.0, x.1.now)) result (table_index_at (utf8_in text.now) (type_at (utf8_in text.now) inner.levels) tokens.now) }
 {
     let (item, rest) = elem(alloc, text, inner, tokens)?;
-    before(item, Sign::CloseBracket, rest)
+    let rest = expect(Sign::CloseBracket, rest)?;
+    Ok((item, rest))
 }
 
 // The indexes of a table.
 fn table_indexes<'t>(
     alloc: Global,
     text: &[u8],
-    inner: u32,
+    inner: Depth,
     tokens: &'t [Token],
 ) -> Result<(Vec<Elem>, &'t [Token]), Failed>
-    requires depth { inner < MAX_HEIGHT }
     ensures read { Gives (λ x. (each elem_of x.0.items, x.1.now)) result
-        (all_at (table_index_step (utf8_in text.now) (type_at (utf8_in text.now) inner)) tokens.now) }
+        (all_at (table_index_step (utf8_in text.now) (type_at (utf8_in text.now) inner.levels)) tokens.now) }
 {
     let mut items = Vec::new(alloc);
     let mut rest = tokens;
@@ -71,11 +69,10 @@ fn table_indexes<'t>(
 fn table_weight<'t>(
     alloc: Global,
     text: &[u8],
-    inner: u32,
+    inner: Depth,
     tokens: &'t [Token],
 ) -> Result<(Option<Elem>, &'t [Token]), Failed>
-    requires depth { inner < MAX_HEIGHT }
-    ensures read { Gives (λ x. (option_map elem_of x.0, x.1.now)) result (table_weight_at (utf8_in text.now) (type_at (utf8_in text.now) inner) tokens.now) }
+    ensures read { Gives (λ x. (option_map elem_of x.0, x.1.now)) result (table_weight_at (utf8_in text.now) (type_at (utf8_in text.now) inner.levels) tokens.now) }
 {
     match skip_word(Word::Weight, tokens) {
         None => Ok((None, tokens)),
@@ -91,12 +88,11 @@ fn table_weight<'t>(
 fn table_parts<'t>(
     alloc: Global,
     text: &[u8],
-    inner: u32,
+    inner: Depth,
     tokens: &'t [Token],
 ) -> Result<(Elem, Option<Elem>, &'t [Token]), Failed>
-    requires depth { inner < MAX_HEIGHT }
     ensures read { Gives (λ x. ((elem_of x.0, option_map elem_of x.1), x.2.now)) result
-        (table_parts_at (utf8_in text.now) (type_at (utf8_in text.now) inner) tokens.now) }
+        (table_parts_at (utf8_in text.now) (type_at (utf8_in text.now) inner.levels) tokens.now) }
 {
     let rest = expect_word(Word::Of, tokens)?;
     let (of, rest) = elem(alloc, text, inner, rest)?;
@@ -109,11 +105,10 @@ fn table_parts<'t>(
 pub fn table<'t>(
     alloc: Global,
     text: &[u8],
-    inner: u32,
+    inner: Depth,
     tokens: &'t [Token],
 ) -> Result<(Table, &'t [Token]), Failed>
-    requires depth { inner < MAX_HEIGHT }
-    ensures read { Gives (λ x. (table_of x.0, x.1.now)) result (table_at (utf8_in text.now) (type_at (utf8_in text.now) inner) tokens.now) }
+    ensures read { Gives (λ x. (table_of x.0, x.1.now)) result (table_at (utf8_in text.now) (type_at (utf8_in text.now) inner.levels) tokens.now) }
 {
     let (kind, rest) = name(alloc, text, tokens)?;
     let (argument, rest) = argument(rest)?;
@@ -126,7 +121,8 @@ pub fn table<'t>(
         of,
         weight,
     };
-    before(table, Sign::Semicolon, rest)
+    let rest = expect(Sign::Semicolon, rest)?;
+    Ok((table, rest))
 }
 
 // A name, and those that follow it with a comma before each.
@@ -221,14 +217,13 @@ fn begins_quantifier<'t>(text: &[u8], tokens: &'t [Token]) -> Option<&'t [Token]
 fn quantifier<'t>(
     alloc: Global,
     text: &[u8],
-    inner: u32,
+    inner: Depth,
     tokens: &'t [Token],
 ) -> Result<(Quantifier, &'t [Token]), Failed>
-    requires depth { inner < MAX_HEIGHT }
-    ensures read { Gives (λ x. (quantifier_of x.0, x.1.now)) result (quantifier_at (utf8_in text.now) (type_at (utf8_in text.now) inner) tokens.now) }
+    ensures read { Gives (λ x. (quantifier_of x.0, x.1.now)) result (quantifier_at (utf8_in text.now) (type_at (utf8_in text.now) inner.levels) tokens.now) }
 {
     let (names, rest) = names(alloc, text, tokens)?;
-    let (names, rest) = before(names, Sign::Colon, rest)?;
+    let rest = expect(Sign::Colon, rest)?;
     let (quantity, rest) = quantity(rest)?;
     let (of, rest) = type_tree(alloc, text, inner, rest)?;
     let quantifier = Quantifier {
@@ -236,7 +231,8 @@ fn quantifier<'t>(
         quantity,
         of,
     };
-    before(quantifier, Sign::Semicolon, rest)
+    let rest = expect(Sign::Semicolon, rest)?;
+    Ok((quantifier, rest))
 }
 
 // One or more quantifiers.
@@ -244,12 +240,11 @@ fn quantifier<'t>(
 pub fn quantifiers<'t>(
     alloc: Global,
     text: &[u8],
-    inner: u32,
+    inner: Depth,
     tokens: &'t [Token],
 ) -> Result<(Vec<Quantifier>, &'t [Token]), Failed>
-    requires depth { inner < MAX_HEIGHT }
     ensures read { Gives (λ x. (each quantifier_of x.0.items, x.1.now)) result
-        (quantifiers_at (utf8_in text.now) (type_at (utf8_in text.now) inner) tokens.now) }
+        (quantifiers_at (utf8_in text.now) (type_at (utf8_in text.now) inner.levels) tokens.now) }
 {
     let (first, rest) = quantifier(alloc, text, inner, tokens)?;
     quantifiers_after(alloc, text, inner, first, rest)
@@ -258,13 +253,12 @@ pub fn quantifiers<'t>(
 fn quantifiers_after<'t>(
     alloc: Global,
     text: &[u8],
-    inner: u32,
+    inner: Depth,
     first: Quantifier,
     tokens: &'t [Token],
 ) -> Result<(Vec<Quantifier>, &'t [Token]), Failed>
-    requires depth { inner < MAX_HEIGHT }
     ensures read { Gives (λ x. (each quantifier_of x.0.items, x.1.now)) result
-        (quantifiers_after (utf8_in text.now) (type_at (utf8_in text.now) inner) (quantifier_of first) tokens.now) }
+        (quantifiers_after (utf8_in text.now) (type_at (utf8_in text.now) inner.levels) (quantifier_of first) tokens.now) }
 {
     let mut items = Vec::new(alloc);
     items.push(first)?;

@@ -8,11 +8,10 @@ ghost use Rattle.sz_parse_expr.specs.ReadingParts.{slice_at};
 ghost use Rattle.sz_parse_expr.specs.Outcome.{Gives};
 
 use crate::failed::Failed;
-use crate::limit::MAX_HEIGHT;
+use crate::limit::Depth;
 use crate::nodes::{field, indexed, joined, sliced};
 use crate::operators::{conversion_of, operator, quoted, string, unary_of};
 use crate::token::{expect, ident, name, skip, spelled};
-use crate::values::{at_most, with};
 use std::alloc::Global;
 use sz_lex::{Kind, Quoted, Sign, Token, Word};
 use sz_tree::{Expr, Literal, Name, Pair};
@@ -24,20 +23,19 @@ use sz_types::Place;
 pub fn expr<'t>(
     alloc: Global,
     text: &[u8],
-    depth: u32,
+    depth: Depth,
     level: u32,
     tokens: &'t [Token],
 ) -> Result<(Expr, u32, &'t [Token]), Failed>
-    requires depth { depth ≤ MAX_HEIGHT }
     requires level { level ≤ 5 }
-    ensures read { Gives (λ x. (tree_of x.0, x.2.now)) result (expr_at (utf8_in text.now) depth level tokens.now) }
+    ensures read { Gives (λ x. (tree_of x.0, x.2.now)) result (expr_at (utf8_in text.now) depth.levels level tokens.now) }
     ensures measured { IfOk result (λ x. x.1 ≡ height (tree_of x.0)) }
-    ensures low { IfOk result (λ x. x.1 ≤ depth) }
+    ensures low { IfOk result (λ x. x.1 ≤ depth.levels) }
 {
-    if depth == 0 {
+    let Some(inner) = depth.deeper() else {
         return Err(Failed::Syntax);
-    }
-    at_level(alloc, text, depth - 1, level, tokens)
+    };
+    at_level(alloc, text, inner, level, tokens)
 }
 
 // In what follows, the parts of an expression have at most the height `inner`.
@@ -46,15 +44,14 @@ pub fn expr<'t>(
 fn at_level<'t>(
     alloc: Global,
     text: &[u8],
-    inner: u32,
+    inner: Depth,
     level: u32,
     tokens: &'t [Token],
 ) -> Result<(Expr, u32, &'t [Token]), Failed>
-    requires depth { inner < MAX_HEIGHT }
     requires level { level ≤ 5 }
-    ensures read { Gives (λ x. (tree_of x.0, x.2.now)) result (level_at (utf8_in text.now) (expr_at (utf8_in text.now) inner) inner level tokens.now) }
+    ensures read { Gives (λ x. (tree_of x.0, x.2.now)) result (level_at (utf8_in text.now) (expr_at (utf8_in text.now) inner.levels) inner.levels level tokens.now) }
     ensures measured { IfOk result (λ x. x.1 ≡ height (tree_of x.0)) }
-    ensures low { IfOk result (λ x. x.1 ≤ inner + 1) }
+    ensures low { IfOk result (λ x. x.1 ≤ inner.levels + 1) }
 {
     if level == 0 {
         return prefix(alloc, text, inner, tokens);
@@ -68,33 +65,32 @@ fn at_level<'t>(
 fn chain<'t>(
     alloc: Global,
     text: &[u8],
-    inner: u32,
+    inner: Depth,
     below: u32,
     first: Expr,
     first_height: u32,
     tokens: &'t [Token],
 ) -> Result<(Expr, u32, &'t [Token]), Failed>
-    requires depth { inner < MAX_HEIGHT }
     requires level { below < 5 }
-    requires low { first_height ≤ inner + 1 }
+    requires low { first_height ≤ inner.levels + 1 }
     requires measured { first_height ≡ height (tree_of first) }
-    ensures read { Gives (λ x. (tree_of x.0, x.2.now)) result (chain_at (expr_at (utf8_in text.now) inner) inner below (inner + 1) (tree_of first) tokens.now) }
+    ensures read { Gives (λ x. (tree_of x.0, x.2.now)) result (chain_at (expr_at (utf8_in text.now) inner.levels) inner.levels below (inner.levels + 1) (tree_of first) tokens.now) }
     ensures measured { IfOk result (λ x. x.1 ≡ height (tree_of x.0)) }
-    ensures low { IfOk result (λ x. x.1 ≤ inner + 1) }
+    ensures low { IfOk result (λ x. x.1 ≤ inner.levels + 1) }
 {
     let mut left = first;
     let mut height = first_height;
     let mut rest = tokens;
     // Each operator makes the expression higher.
-    for _ in 0..inner + 1 {
+    for _ in 0..inner.levels + 1 {
         let Some((op, after)) = operator(below + 1, rest) else {
             return Ok((left, height, rest));
         };
-        left = at_most(op.left_level(), left.level(), left)?;
-        left = at_most(inner, height, left)?;
-        let right = expr(alloc, text, inner, below, after);
-        let (front, (right, right_height, after)) = with(left, right)?;
-        left = joined(alloc, op, front, right)?;
+        if left.level() > op.left_level() || height > inner.levels {
+            return Err(Failed::Syntax);
+        }
+        let (right, right_height, after) = expr(alloc, text, inner, below, after)?;
+        left = joined(alloc, op, left, right)?;
         height = 1 + height.max(right_height);
         rest = after;
     }
@@ -107,13 +103,12 @@ fn chain<'t>(
 fn prefix<'t>(
     alloc: Global,
     text: &[u8],
-    inner: u32,
+    inner: Depth,
     tokens: &'t [Token],
 ) -> Result<(Expr, u32, &'t [Token]), Failed>
-    requires depth { inner < MAX_HEIGHT }
-    ensures read { Gives (λ x. (tree_of x.0, x.2.now)) result (prefix_at (utf8_in text.now) (expr_at (utf8_in text.now) inner) inner tokens.now) }
+    ensures read { Gives (λ x. (tree_of x.0, x.2.now)) result (prefix_at (utf8_in text.now) (expr_at (utf8_in text.now) inner.levels) inner.levels tokens.now) }
     ensures measured { IfOk result (λ x. x.1 ≡ height (tree_of x.0)) }
-    ensures low { IfOk result (λ x. x.1 ≤ inner + 1) }
+    ensures low { IfOk result (λ x. x.1 ≤ inner.levels + 1) }
 {
     let [token, rest @ ..] = tokens else {
         return Err(Failed::Syntax);
@@ -133,13 +128,12 @@ fn prefix<'t>(
 fn postfix<'t>(
     alloc: Global,
     text: &[u8],
-    inner: u32,
+    inner: Depth,
     tokens: &'t [Token],
 ) -> Result<(Expr, u32, &'t [Token]), Failed>
-    requires depth { inner < MAX_HEIGHT }
-    ensures read { Gives (λ x. (tree_of x.0, x.2.now)) result (postfix_at (utf8_in text.now) (expr_at (utf8_in text.now) inner) inner tokens.now) }
+    ensures read { Gives (λ x. (tree_of x.0, x.2.now)) result (postfix_at (utf8_in text.now) (expr_at (utf8_in text.now) inner.levels) inner.levels tokens.now) }
     ensures measured { IfOk result (λ x. x.1 ≡ height (tree_of x.0)) }
-    ensures low { IfOk result (λ x. x.1 ≤ inner + 1) }
+    ensures low { IfOk result (λ x. x.1 ≤ inner.levels + 1) }
 {
     let [token, rest @ ..] = tokens else {
         return Err(Failed::Syntax);
@@ -153,24 +147,23 @@ fn postfix<'t>(
 fn parts<'t>(
     alloc: Global,
     text: &[u8],
-    inner: u32,
+    inner: Depth,
     first: Expr,
     first_height: u32,
     tokens: &'t [Token],
 ) -> Result<(Expr, u32, &'t [Token]), Failed>
-    requires depth { inner < MAX_HEIGHT }
-    requires low { first_height ≤ inner + 1 }
+    requires low { first_height ≤ inner.levels + 1 }
     requires measured { first_height ≡ height (tree_of first) }
     ensures read { Gives (λ x. (tree_of x.0, x.2.now)) result
-        (tail_at (utf8_in text.now) (expr_at (utf8_in text.now) inner) inner (inner + 1) (tree_of first) tokens.now) }
+        (tail_at (utf8_in text.now) (expr_at (utf8_in text.now) inner.levels) inner.levels (inner.levels + 1) (tree_of first) tokens.now) }
     ensures measured { IfOk result (λ x. x.1 ≡ height (tree_of x.0)) }
-    ensures low { IfOk result (λ x. x.1 ≤ inner + 1) }
+    ensures low { IfOk result (λ x. x.1 ≤ inner.levels + 1) }
 {
     let mut left = first;
     let mut height = first_height;
     let mut rest = tokens;
     // Each part makes the expression higher.
-    for _ in 0..inner + 1 {
+    for _ in 0..inner.levels + 1 {
         let ((next, more), next_height, after) = part(alloc, text, inner, left, height, rest)?;
         left = next;
         height = next_height;
@@ -188,29 +181,32 @@ fn parts<'t>(
 fn part<'t>(
     alloc: Global,
     text: &[u8],
-    inner: u32,
+    inner: Depth,
     left: Expr,
     left_height: u32,
     tokens: &'t [Token],
 ) -> Result<((Expr, bool), u32, &'t [Token]), Failed>
-    requires depth { inner < MAX_HEIGHT }
-    requires low { left_height ≤ inner + 1 }
+    requires low { left_height ≤ inner.levels + 1 }
     requires measured { left_height ≡ height (tree_of left) }
     ensures read { Gives (λ x. ((tree_of x.0.0, x.0.1), x.2.now)) result
-        (part_at (utf8_in text.now) (expr_at (utf8_in text.now) inner) inner (tree_of left) tokens.now) }
+        (part_at (utf8_in text.now) (expr_at (utf8_in text.now) inner.levels) inner.levels (tree_of left) tokens.now) }
     ensures measured { IfOk result (λ x. x.1 ≡ height (tree_of x.0.0)) }
-    ensures low { IfOk result (λ x. x.1 ≤ inner + 1) }
+    ensures low { IfOk result (λ x. x.1 ≤ inner.levels + 1) }
 {
     match skip(Sign::OpenBracket, tokens) {
         Some(rest) => {
-            let left = at_most(inner, left_height, left)?;
+            if left_height > inner.levels {
+                return Err(Failed::Syntax);
+            }
             let (tree, height, rest) = bracket(alloc, text, inner, left, left_height, rest)?;
             Ok(((tree, true), height, rest))
         }
         None => match skip(Sign::Dot, tokens) {
             Some(rest) => {
-                let left = at_most(inner, left_height, left)?;
-                let (left, (name, rest)) = with(left, name(alloc, text, rest))?;
+                if left_height > inner.levels {
+                    return Err(Failed::Syntax);
+                }
+                let (name, rest) = name(alloc, text, rest)?;
                 Ok(((field(alloc, left, name)?, true), 1 + left_height, rest))
             }
             None => Ok(((left, false), left_height, tokens)),
@@ -224,22 +220,21 @@ fn part<'t>(
 fn bracket<'t>(
     alloc: Global,
     text: &[u8],
-    inner: u32,
+    inner: Depth,
     left: Expr,
     left_height: u32,
     tokens: &'t [Token],
 ) -> Result<(Expr, u32, &'t [Token]), Failed>
-    requires depth { inner < MAX_HEIGHT }
-    requires low { left_height ≤ inner }
+    requires low { left_height ≤ inner.levels }
     requires measured { left_height ≡ height (tree_of left) }
-    ensures read { Gives (λ x. (tree_of x.0, x.2.now)) result (bracket_at (expr_at (utf8_in text.now) inner) (tree_of left) tokens.now) }
+    ensures read { Gives (λ x. (tree_of x.0, x.2.now)) result (bracket_at (expr_at (utf8_in text.now) inner.levels) (tree_of left) tokens.now) }
     ensures measured { IfOk result (λ x. x.1 ≡ height (tree_of x.0)) }
-    ensures low { IfOk result (λ x. x.1 ≤ inner + 1) }
+    ensures low { IfOk result (λ x. x.1 ≤ inner.levels + 1) }
 {
-    let (left, (at, at_height, rest)) = with(left, expr(alloc, text, inner, 5, tokens))?;
+    let (at, at_height, rest) = expr(alloc, text, inner, 5, tokens)?;
     match skip(Sign::Colon, rest) {
         None => {
-            let ((left, at), rest) = with((left, at), expect(Sign::CloseBracket, rest))?;
+            let rest = expect(Sign::CloseBracket, rest)?;
             let tree = indexed(alloc, left, at)?;
             Ok((tree, 1 + left_height.max(at_height), rest))
         }
@@ -256,21 +251,20 @@ fn bracket<'t>(
 fn slice<'t>(
     alloc: Global,
     text: &[u8],
-    inner: u32,
+    inner: Depth,
     left: Expr,
     from: Expr,
     front_height: u32,
     tokens: &'t [Token],
 ) -> Result<(Expr, u32, &'t [Token]), Failed>
-    requires depth { inner < MAX_HEIGHT }
-    requires low { front_height ≤ inner }
+    requires low { front_height ≤ inner.levels }
     requires measured { front_height ≡ max (height (tree_of left)) (height (tree_of from)) }
-    ensures read { Gives (λ x. (tree_of x.0, x.2.now)) result (slice_at (expr_at (utf8_in text.now) inner) (tree_of left) (tree_of from) tokens.now) }
+    ensures read { Gives (λ x. (tree_of x.0, x.2.now)) result (slice_at (expr_at (utf8_in text.now) inner.levels) (tree_of left) (tree_of from) tokens.now) }
     ensures measured { IfOk result (λ x. x.1 ≡ height (tree_of x.0)) }
-    ensures low { IfOk result (λ x. x.1 ≤ inner + 1) }
+    ensures low { IfOk result (λ x. x.1 ≤ inner.levels + 1) }
 {
-    let (front, (to, to_height, rest)) = with((left, from), expr(alloc, text, inner, 5, tokens))?;
-    let (((left, from), to), rest) = with((front, to), expect(Sign::CloseBracket, rest))?;
+    let (to, to_height, rest) = expr(alloc, text, inner, 5, tokens)?;
+    let rest = expect(Sign::CloseBracket, rest)?;
     let tree = sliced(alloc, left, from, to)?;
     Ok((tree, 1 + front_height.max(to_height), rest))
 }
@@ -281,15 +275,14 @@ fn slice<'t>(
 fn primary<'t>(
     alloc: Global,
     text: &[u8],
-    inner: u32,
+    inner: Depth,
     token: &Token,
     tokens: &'t [Token],
 ) -> Result<(Expr, u32, &'t [Token]), Failed>
-    requires depth { inner < MAX_HEIGHT }
     ensures read { Gives (λ x. (tree_of x.0, x.2.now)) result
-        (primary_here (utf8_in text.now) (expr_at (utf8_in text.now) inner) inner token.now token.now.kind tokens.now) }
+        (primary_here (utf8_in text.now) (expr_at (utf8_in text.now) inner.levels) inner.levels token.now token.now.kind tokens.now) }
     ensures measured { IfOk result (λ x. x.1 ≡ height (tree_of x.0)) }
-    ensures low { IfOk result (λ x. x.1 ≤ inner + 1) }
+    ensures low { IfOk result (λ x. x.1 ≤ inner.levels + 1) }
 {
     let place = token.place;
     match token.kind {
@@ -319,15 +312,14 @@ fn primary<'t>(
 fn worded<'t>(
     alloc: Global,
     text: &[u8],
-    inner: u32,
+    inner: Depth,
     place: Place,
     word: Word,
     tokens: &'t [Token],
 ) -> Result<(Expr, u32, &'t [Token]), Failed>
-    requires depth { inner < MAX_HEIGHT }
-    ensures read { Gives (λ x. (tree_of x.0, x.2.now)) result (worded (expr_at (utf8_in text.now) inner) place word tokens.now) }
+    ensures read { Gives (λ x. (tree_of x.0, x.2.now)) result (worded (expr_at (utf8_in text.now) inner.levels) place word tokens.now) }
     ensures measured { IfOk result (λ x. x.1 ≡ height (tree_of x.0)) }
-    ensures low { IfOk result (λ x. x.1 ≤ inner + 1) }
+    ensures low { IfOk result (λ x. x.1 ≤ inner.levels + 1) }
 {
     match word {
         Word::True => Ok((Expr::Literal(place, Literal::Bool(true)), 1, tokens)),
@@ -353,13 +345,12 @@ fn worded<'t>(
 pub fn condition<'t>(
     alloc: Global,
     text: &[u8],
-    inner: u32,
+    inner: Depth,
     tokens: &'t [Token],
 ) -> Result<(Expr, u32, &'t [Token]), Failed>
-    requires depth { inner < MAX_HEIGHT }
-    ensures read { Gives (λ x. (tree_of x.0, x.2.now)) result (condition_at (expr_at (utf8_in text.now) inner) tokens.now) }
+    ensures read { Gives (λ x. (tree_of x.0, x.2.now)) result (condition_at (expr_at (utf8_in text.now) inner.levels) tokens.now) }
     ensures measured { IfOk result (λ x. x.1 ≡ height (tree_of x.0)) }
-    ensures low { IfOk result (λ x. x.1 ≤ inner) }
+    ensures low { IfOk result (λ x. x.1 ≤ inner.levels) }
 {
     let rest = expect(Sign::OpenParen, tokens)?;
     closed(alloc, text, inner, rest)
@@ -371,16 +362,15 @@ pub fn condition<'t>(
 fn closed<'t>(
     alloc: Global,
     text: &[u8],
-    inner: u32,
+    inner: Depth,
     tokens: &'t [Token],
 ) -> Result<(Expr, u32, &'t [Token]), Failed>
-    requires depth { inner < MAX_HEIGHT }
-    ensures read { Gives (λ x. (tree_of x.0, x.2.now)) result (closed_at (expr_at (utf8_in text.now) inner) tokens.now) }
+    ensures read { Gives (λ x. (tree_of x.0, x.2.now)) result (closed_at (expr_at (utf8_in text.now) inner.levels) tokens.now) }
     ensures measured { IfOk result (λ x. x.1 ≡ height (tree_of x.0)) }
-    ensures low { IfOk result (λ x. x.1 ≤ inner) }
+    ensures low { IfOk result (λ x. x.1 ≤ inner.levels) }
 {
     let (tree, height, rest) = expr(alloc, text, inner, 5, tokens)?;
-    let (tree, rest) = with(tree, expect(Sign::CloseParen, rest))?;
+    let rest = expect(Sign::CloseParen, rest)?;
     Ok((tree, height, rest))
 }
 
@@ -389,14 +379,13 @@ fn closed<'t>(
 fn paren<'t>(
     alloc: Global,
     text: &[u8],
-    inner: u32,
+    inner: Depth,
     place: Place,
     tokens: &'t [Token],
 ) -> Result<(Expr, u32, &'t [Token]), Failed>
-    requires depth { inner < MAX_HEIGHT }
-    ensures read { Gives (λ x. (tree_of x.0, x.2.now)) result (paren_at (expr_at (utf8_in text.now) inner) place tokens.now) }
+    ensures read { Gives (λ x. (tree_of x.0, x.2.now)) result (paren_at (expr_at (utf8_in text.now) inner.levels) place tokens.now) }
     ensures measured { IfOk result (λ x. x.1 ≡ height (tree_of x.0)) }
-    ensures low { IfOk result (λ x. x.1 ≤ inner + 1) }
+    ensures low { IfOk result (λ x. x.1 ≤ inner.levels + 1) }
 {
     let (tree, height, rest) = closed(alloc, text, inner, tokens)?;
     Ok((Expr::Paren(place, Box::new(alloc, tree)?), 1 + height, rest))
@@ -408,20 +397,21 @@ fn paren<'t>(
 fn named<'t>(
     alloc: Global,
     text: &[u8],
-    inner: u32,
+    inner: Depth,
     name: Name,
     tokens: &'t [Token],
 ) -> Result<(Expr, u32, &'t [Token]), Failed>
-    requires depth { inner < MAX_HEIGHT }
-    ensures read { Gives (λ x. (tree_of x.0, x.2.now)) result (named_at (expr_at (utf8_in text.now) inner) inner name tokens.now) }
+    ensures read { Gives (λ x. (tree_of x.0, x.2.now)) result (named_at (expr_at (utf8_in text.now) inner.levels) inner.levels name tokens.now) }
     ensures measured { IfOk result (λ x. x.1 ≡ height (tree_of x.0)) }
-    ensures low { IfOk result (λ x. x.1 ≤ inner + 1) }
+    ensures low { IfOk result (λ x. x.1 ≤ inner.levels + 1) }
 {
     match skip(Sign::OpenParen, tokens) {
         None => Ok((Expr::Named(name), 1, tokens)),
         Some(rest) => {
-            let name = at_most(inner, 1, name)?;
-            let (name, (arguments, height, rest)) = with(name, call(alloc, text, inner, rest))?;
+            if inner.levels == 0 {
+                return Err(Failed::Syntax);
+            }
+            let (arguments, height, rest) = call(alloc, text, inner, rest)?;
             Ok((Expr::call(name, arguments), 1 + height.max(1), rest))
         }
     }
@@ -433,13 +423,12 @@ fn named<'t>(
 pub fn call<'t>(
     alloc: Global,
     text: &[u8],
-    inner: u32,
+    inner: Depth,
     tokens: &'t [Token],
 ) -> Result<(Vec<Expr>, u32, &'t [Token]), Failed>
-    requires depth { inner < MAX_HEIGHT }
-    ensures read { Gives (λ x. (exps_of (each tree_of x.0.items), x.2.now)) result (call_at (expr_at (utf8_in text.now) inner) tokens.now) }
+    ensures read { Gives (λ x. (exps_of (each tree_of x.0.items), x.2.now)) result (call_at (expr_at (utf8_in text.now) inner.levels) tokens.now) }
     ensures measured { IfOk result (λ x. x.1 ≡ heights (exps_of (each tree_of x.0.items))) }
-    ensures low { IfOk result (λ x. x.1 ≤ inner) }
+    ensures low { IfOk result (λ x. x.1 ≤ inner.levels) }
 {
     let (arguments, height, rest) = arguments(alloc, text, inner, tokens)?;
     let rest = expect(Sign::CloseParen, rest)?;
@@ -452,13 +441,12 @@ pub fn call<'t>(
 fn arguments<'t>(
     alloc: Global,
     text: &[u8],
-    inner: u32,
+    inner: Depth,
     tokens: &'t [Token],
 ) -> Result<(Vec<Expr>, u32, &'t [Token]), Failed>
-    requires depth { inner < MAX_HEIGHT }
-    ensures read { Gives (λ x. (each tree_of x.0.items, x.2.now)) result (args_at (expr_at (utf8_in text.now) inner) tokens.now) }
+    ensures read { Gives (λ x. (each tree_of x.0.items, x.2.now)) result (args_at (expr_at (utf8_in text.now) inner.levels) tokens.now) }
     ensures measured { IfOk result (λ x. x.1 ≡ heights (exps_of (each tree_of x.0.items))) }
-    ensures low { IfOk result (λ x. x.1 ≤ inner) }
+    ensures low { IfOk result (λ x. x.1 ≤ inner.levels) }
 {
     if let Some(_) = skip(Sign::CloseParen, tokens) {
         return Ok((Vec::new(alloc), 0, tokens));
@@ -472,17 +460,16 @@ fn arguments<'t>(
 fn items<'t>(
     alloc: Global,
     text: &[u8],
-    inner: u32,
+    inner: Depth,
     first: Expr,
     first_height: u32,
     tokens: &'t [Token],
 ) -> Result<(Vec<Expr>, u32, &'t [Token]), Failed>
-    requires depth { inner < MAX_HEIGHT }
-    requires low { first_height ≤ inner }
+    requires low { first_height ≤ inner.levels }
     requires measured { first_height ≡ height (tree_of first) }
-    ensures read { Gives (λ x. (each tree_of x.0.items, x.2.now)) result (items_after (expr_at (utf8_in text.now) inner) (tree_of first) tokens.now) }
+    ensures read { Gives (λ x. (each tree_of x.0.items, x.2.now)) result (items_after (expr_at (utf8_in text.now) inner.levels) (tree_of first) tokens.now) }
     ensures measured { IfOk result (λ x. x.1 ≡ heights (exps_of (each tree_of x.0.items))) }
-    ensures low { IfOk result (λ x. x.1 ≤ inner) }
+    ensures low { IfOk result (λ x. x.1 ≤ inner.levels) }
 {
     let mut items = Vec::new(alloc);
     items.push(first)?;
@@ -503,14 +490,13 @@ fn items<'t>(
 fn composite<'t>(
     alloc: Global,
     text: &[u8],
-    inner: u32,
+    inner: Depth,
     place: Place,
     tokens: &'t [Token],
 ) -> Result<(Expr, u32, &'t [Token]), Failed>
-    requires depth { inner < MAX_HEIGHT }
-    ensures read { Gives (λ x. (tree_of x.0, x.2.now)) result (composite_at (expr_at (utf8_in text.now) inner) place tokens.now) }
+    ensures read { Gives (λ x. (tree_of x.0, x.2.now)) result (composite_at (expr_at (utf8_in text.now) inner.levels) place tokens.now) }
     ensures measured { IfOk result (λ x. x.1 ≡ height (tree_of x.0)) }
-    ensures low { IfOk result (λ x. x.1 ≤ inner + 1) }
+    ensures low { IfOk result (λ x. x.1 ≤ inner.levels + 1) }
 {
     if let Some(rest) = skip(Sign::CloseBrace, tokens) {
         return Ok((Expr::list(place, Vec::new(alloc)), 1, rest));
@@ -523,10 +509,17 @@ fn composite<'t>(
     match skip(Sign::Colon, rest) {
         None => list(alloc, text, inner, place, first, height, rest),
         Some(rest) => {
-            let value = expr(alloc, text, inner, 5, rest);
-            let (key, (value, value_height, rest)) = with(first, value)?;
+            let (value, value_height, rest) = expr(alloc, text, inner, 5, rest)?;
             let height = height.max(value_height);
-            map(alloc, text, inner, place, Pair { key, value }, height, rest)
+            map(
+                alloc,
+                text,
+                inner,
+                place,
+                Pair { key: first, value },
+                height,
+                rest,
+            )
         }
     }
 }
@@ -536,18 +529,17 @@ fn composite<'t>(
 fn list<'t>(
     alloc: Global,
     text: &[u8],
-    inner: u32,
+    inner: Depth,
     place: Place,
     first: Expr,
     first_height: u32,
     tokens: &'t [Token],
 ) -> Result<(Expr, u32, &'t [Token]), Failed>
-    requires depth { inner < MAX_HEIGHT }
-    requires low { first_height ≤ inner }
+    requires low { first_height ≤ inner.levels }
     requires measured { first_height ≡ height (tree_of first) }
-    ensures read { Gives (λ x. (tree_of x.0, x.2.now)) result (list_at (expr_at (utf8_in text.now) inner) place (tree_of first) tokens.now) }
+    ensures read { Gives (λ x. (tree_of x.0, x.2.now)) result (list_at (expr_at (utf8_in text.now) inner.levels) place (tree_of first) tokens.now) }
     ensures measured { IfOk result (λ x. x.1 ≡ height (tree_of x.0)) }
-    ensures low { IfOk result (λ x. x.1 ≤ inner + 1) }
+    ensures low { IfOk result (λ x. x.1 ≤ inner.levels + 1) }
 {
     let (items, height, rest) = items(alloc, text, inner, first, first_height, tokens)?;
     let rest = expect(Sign::CloseBrace, rest)?;
@@ -559,18 +551,17 @@ fn list<'t>(
 fn map<'t>(
     alloc: Global,
     text: &[u8],
-    inner: u32,
+    inner: Depth,
     place: Place,
     first: Pair,
     first_height: u32,
     tokens: &'t [Token],
 ) -> Result<(Expr, u32, &'t [Token]), Failed>
-    requires depth { inner < MAX_HEIGHT }
-    requires low { first_height ≤ inner }
+    requires low { first_height ≤ inner.levels }
     requires measured { first_height ≡ pair_heights (pairs_of (pair_of first ∷ [])) }
-    ensures read { Gives (λ x. (tree_of x.0, x.2.now)) result (map_at (expr_at (utf8_in text.now) inner) place (pair_of first) tokens.now) }
+    ensures read { Gives (λ x. (tree_of x.0, x.2.now)) result (map_at (expr_at (utf8_in text.now) inner.levels) place (pair_of first) tokens.now) }
     ensures measured { IfOk result (λ x. x.1 ≡ height (tree_of x.0)) }
-    ensures low { IfOk result (λ x. x.1 ≤ inner + 1) }
+    ensures low { IfOk result (λ x. x.1 ≤ inner.levels + 1) }
 {
     let (pairs, height, rest) = pairs(alloc, text, inner, first, first_height, tokens)?;
     let rest = expect(Sign::CloseBrace, rest)?;
@@ -583,17 +574,16 @@ fn map<'t>(
 fn pair<'t>(
     alloc: Global,
     text: &[u8],
-    inner: u32,
+    inner: Depth,
     tokens: &'t [Token],
 ) -> Result<(Pair, u32, &'t [Token]), Failed>
-    requires depth { inner < MAX_HEIGHT }
-    ensures read { Gives (λ x. (pair_of x.0, x.2.now)) result (pair_at (expr_at (utf8_in text.now) inner) tokens.now) }
+    ensures read { Gives (λ x. (pair_of x.0, x.2.now)) result (pair_at (expr_at (utf8_in text.now) inner.levels) tokens.now) }
     ensures measured { IfOk result (λ x. x.1 ≡ pair_heights (pairs_of (pair_of x.0 ∷ []))) }
-    ensures low { IfOk result (λ x. x.1 ≤ inner) }
+    ensures low { IfOk result (λ x. x.1 ≤ inner.levels) }
 {
     let (key, key_height, rest) = expr(alloc, text, inner, 5, tokens)?;
-    let (key, rest) = with(key, expect(Sign::Colon, rest))?;
-    let (key, (value, value_height, rest)) = with(key, expr(alloc, text, inner, 5, rest))?;
+    let rest = expect(Sign::Colon, rest)?;
+    let (value, value_height, rest) = expr(alloc, text, inner, 5, rest)?;
     Ok((Pair { key, value }, key_height.max(value_height), rest))
 }
 
@@ -602,17 +592,16 @@ fn pair<'t>(
 fn pairs<'t>(
     alloc: Global,
     text: &[u8],
-    inner: u32,
+    inner: Depth,
     first: Pair,
     first_height: u32,
     tokens: &'t [Token],
 ) -> Result<(Vec<Pair>, u32, &'t [Token]), Failed>
-    requires depth { inner < MAX_HEIGHT }
-    requires low { first_height ≤ inner }
+    requires low { first_height ≤ inner.levels }
     requires measured { first_height ≡ pair_heights (pairs_of (pair_of first ∷ [])) }
-    ensures read { Gives (λ x. (each pair_of x.0.items, x.2.now)) result (pairs_after (expr_at (utf8_in text.now) inner) (pair_of first) tokens.now) }
+    ensures read { Gives (λ x. (each pair_of x.0.items, x.2.now)) result (pairs_after (expr_at (utf8_in text.now) inner.levels) (pair_of first) tokens.now) }
     ensures measured { IfOk result (λ x. x.1 ≡ pair_heights (pairs_of (each pair_of x.0.items))) }
-    ensures low { IfOk result (λ x. x.1 ≤ inner) }
+    ensures low { IfOk result (λ x. x.1 ≤ inner.levels) }
 {
     let mut pairs = Vec::new(alloc);
     pairs.push(first)?;

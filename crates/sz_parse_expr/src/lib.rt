@@ -8,10 +8,9 @@ mod nodes;
 mod operators;
 mod token;
 mod types;
-mod values;
 
 pub use expression::{call, condition, expr};
 pub use failed::Failed;
-pub use limit::MAX_HEIGHT;
+pub use limit::{Depth, MAX_HEIGHT};
 pub use token::{expect, expect_word, ident, name, skip, skip_word};
 pub use types::{elem, label, number, params, type_tree};

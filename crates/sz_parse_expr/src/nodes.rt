@@ -5,7 +5,6 @@ ghost use Rattle.sz_tree.specs.View.{tree_of};
 ghost use Rattle.sz_parse_expr.specs.Outcome.{Gives};
 
 use crate::failed::Failed;
-use crate::values::with;
 use std::alloc::Global;
 use sz_tree::{BinaryOp, Expr, Name};
 
@@ -14,8 +13,8 @@ pub fn joined(alloc: Global, op: BinaryOp, left: Expr, right: Expr) -> Result<Ex
     ensures value { Gives tree_of result (Just (binary_tree (place_of (tree_of left)) op (tree_of left) (tree_of right))) }
 {
     let place = left.place();
-    let (right, left) = with(right, Box::new(alloc, left))?;
-    let (left, right) = with(left, Box::new(alloc, right))?;
+    let left = Box::new(alloc, left)?;
+    let right = Box::new(alloc, right)?;
     Ok(Expr::Binary(place, op, left, right))
 }
 
@@ -24,8 +23,8 @@ pub fn indexed(alloc: Global, left: Expr, at: Expr) -> Result<Expr, Failed>
     ensures value { Gives tree_of result (Just (index_tree (place_of (tree_of left)) (tree_of left) (tree_of at))) }
 {
     let place = left.place();
-    let (at, left) = with(at, Box::new(alloc, left))?;
-    let (left, at) = with(left, Box::new(alloc, at))?;
+    let left = Box::new(alloc, left)?;
+    let at = Box::new(alloc, at)?;
     Ok(Expr::Index(place, left, at))
 }
 
@@ -34,9 +33,9 @@ pub fn sliced(alloc: Global, left: Expr, from: Expr, to: Expr) -> Result<Expr, F
     ensures value { Gives tree_of result (Just (slice_tree (place_of (tree_of left)) (tree_of left) (tree_of from) (tree_of to))) }
 {
     let place = left.place();
-    let ((from, to), left) = with((from, to), Box::new(alloc, left))?;
-    let ((left, to), from) = with((left, to), Box::new(alloc, from))?;
-    let ((left, from), to) = with((left, from), Box::new(alloc, to))?;
+    let left = Box::new(alloc, left)?;
+    let from = Box::new(alloc, from)?;
+    let to = Box::new(alloc, to)?;
     Ok(Expr::Slice(place, left, from, to))
 }
 
@@ -45,6 +44,6 @@ pub fn field(alloc: Global, left: Expr, name: Name) -> Result<Expr, Failed>
     ensures value { Gives tree_of result (Just (field_tree (place_of (tree_of left)) (tree_of left) name)) }
 {
     let place = left.place();
-    let (name, left) = with(name, Box::new(alloc, left))?;
+    let left = Box::new(alloc, left)?;
     Ok(Expr::Field(place, left, name))
 }

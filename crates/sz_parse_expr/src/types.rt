@@ -1,15 +1,14 @@
 //! Types.
-ghost use Rattle.std.specs.Prelude.{◌≡◌, ◌≤◌, ◌<◌, Some as Just, map as each};
-ghost use Rattle.sz_tree.specs.Types.{map_type, params_of, fields_of};
+ghost use Rattle.std.specs.Prelude.{◌≡◌, ◌<◌, Some as Just, map as each};
+ghost use Rattle.sz_tree.specs.Types.{map_type};
 ghost use Rattle.sz_tree.specs.View.{type_of, param_of, field_of, elem_of};
 ghost use Rattle.sz_parse_expr.specs.Reading.{utf8_in};
 ghost use Rattle.sz_parse_expr.specs.ReadingTypes.{number_at, label_at, maybe_name_at, elem_at, param_at, params_after, params_at, proto_field_at, proto_fields_after, proto_fields_at, array_at, map_type_at, tuple_at, proto_at, basic_of, type_worded, type_step, type_at};
 ghost use Rattle.sz_parse_expr.specs.Outcome.{Gives};
 
 use crate::failed::Failed;
-use crate::limit::MAX_HEIGHT;
+use crate::limit::Depth;
 use crate::token::{expect, expect_word, ident, name, skip};
-use crate::values::with;
 use std::alloc::Global;
 use sz_lex::{Kind, Sign, Token, Word};
 use sz_tree::{BasicType, Elem, Name, Param, ProtoField, TypeTree};
@@ -39,7 +38,8 @@ pub fn label<'t>(
     ensures value { Gives (λ x. (x.0, x.1.now)) result (label_at (utf8_in text.now) tokens.now) }
 {
     let (name, rest) = name(alloc, text, tokens)?;
-    with(name, expect(Sign::Colon, rest))
+    let rest = expect(Sign::Colon, rest)?;
+    Ok((name, rest))
 }
 
 // A name, if there is one.
@@ -78,16 +78,15 @@ fn basic_of(word: Word) -> Option<BasicType>
 pub fn type_tree<'t>(
     alloc: Global,
     text: &[u8],
-    depth: u32,
+    depth: Depth,
     tokens: &'t [Token],
 ) -> Result<(TypeTree, &'t [Token]), Failed>
-    requires depth { depth ≤ MAX_HEIGHT }
-    ensures read { Gives (λ x. (type_of x.0, x.1.now)) result (type_at (utf8_in text.now) depth tokens.now) }
+    ensures read { Gives (λ x. (type_of x.0, x.1.now)) result (type_at (utf8_in text.now) depth.levels tokens.now) }
 {
-    if depth == 0 {
+    let Some(inner) = depth.deeper() else {
         return Err(Failed::Syntax);
-    }
-    step(alloc, text, depth - 1, tokens)
+    };
+    step(alloc, text, inner, tokens)
 }
 
 // In what follows, the parts of a type have at most the height `inner`.
@@ -96,11 +95,10 @@ pub fn type_tree<'t>(
 fn step<'t>(
     alloc: Global,
     text: &[u8],
-    inner: u32,
+    inner: Depth,
     tokens: &'t [Token],
 ) -> Result<(TypeTree, &'t [Token]), Failed>
-    requires depth { inner < MAX_HEIGHT }
-    ensures read { Gives (λ x. (type_of x.0, x.1.now)) result (type_step (utf8_in text.now) (type_at (utf8_in text.now) inner) tokens.now) }
+    ensures read { Gives (λ x. (type_of x.0, x.1.now)) result (type_step (utf8_in text.now) (type_at (utf8_in text.now) inner.levels) tokens.now) }
 {
     let [token, rest @ ..] = tokens else {
         return Err(Failed::Syntax);
@@ -118,13 +116,12 @@ fn step<'t>(
 fn worded<'t>(
     alloc: Global,
     text: &[u8],
-    inner: u32,
+    inner: Depth,
     place: Place,
     word: Word,
     tokens: &'t [Token],
 ) -> Result<(TypeTree, &'t [Token]), Failed>
-    requires depth { inner < MAX_HEIGHT }
-    ensures read { Gives (λ x. (type_of x.0, x.1.now)) result (type_worded (utf8_in text.now) (type_at (utf8_in text.now) inner) place word tokens.now) }
+    ensures read { Gives (λ x. (type_of x.0, x.1.now)) result (type_worded (utf8_in text.now) (type_at (utf8_in text.now) inner.levels) place word tokens.now) }
 {
     match word {
         Word::Array => array(alloc, text, inner, place, tokens),
@@ -142,12 +139,11 @@ fn worded<'t>(
 fn array<'t>(
     alloc: Global,
     text: &[u8],
-    inner: u32,
+    inner: Depth,
     place: Place,
     tokens: &'t [Token],
 ) -> Result<(TypeTree, &'t [Token]), Failed>
-    requires depth { inner < MAX_HEIGHT }
-    ensures read { Gives (λ x. (type_of x.0, x.1.now)) result (array_at (type_at (utf8_in text.now) inner) place tokens.now) }
+    ensures read { Gives (λ x. (type_of x.0, x.1.now)) result (array_at (type_at (utf8_in text.now) inner.levels) place tokens.now) }
 {
     let rest = expect_word(Word::Of, tokens)?;
     let (of, rest) = type_tree(alloc, text, inner, rest)?;
@@ -164,8 +160,8 @@ fn mapped(
 ) -> Result<TypeTree, Failed>
     ensures value { Gives type_of result (Just (map_type place name (type_of key) (type_of value))) }
 {
-    let ((name, value), key) = with((name, value), Box::new(alloc, key))?;
-    let ((name, key), value) = with((name, key), Box::new(alloc, value))?;
+    let key = Box::new(alloc, key)?;
+    let value = Box::new(alloc, value)?;
     Ok(TypeTree::Map(place, name, key, value))
 }
 
@@ -174,19 +170,18 @@ fn mapped(
 fn map<'t>(
     alloc: Global,
     text: &[u8],
-    inner: u32,
+    inner: Depth,
     place: Place,
     tokens: &'t [Token],
 ) -> Result<(TypeTree, &'t [Token]), Failed>
-    requires depth { inner < MAX_HEIGHT }
-    ensures read { Gives (λ x. (type_of x.0, x.1.now)) result (map_type_at (utf8_in text.now) (type_at (utf8_in text.now) inner) place tokens.now) }
+    ensures read { Gives (λ x. (type_of x.0, x.1.now)) result (map_type_at (utf8_in text.now) (type_at (utf8_in text.now) inner.levels) place tokens.now) }
 {
     let rest = expect(Sign::OpenBracket, tokens)?;
     let (Elem { name, of }, rest) = elem(alloc, text, inner, rest)?;
-    let (key, rest) = with((name, of), expect(Sign::CloseBracket, rest))?;
-    let (key, rest) = with(key, expect_word(Word::Of, rest))?;
-    let ((name, key), (value, rest)) = with(key, type_tree(alloc, text, inner, rest))?;
-    Ok((mapped(alloc, place, name, key, value)?, rest))
+    let rest = expect(Sign::CloseBracket, rest)?;
+    let rest = expect_word(Word::Of, rest)?;
+    let (value, rest) = type_tree(alloc, text, inner, rest)?;
+    Ok((mapped(alloc, place, name, of, value)?, rest))
 }
 
 /// A type, with a name and a colon before it or without.
@@ -195,15 +190,14 @@ fn map<'t>(
 pub fn elem<'t>(
     alloc: Global,
     text: &[u8],
-    inner: u32,
+    inner: Depth,
     tokens: &'t [Token],
 ) -> Result<(Elem, &'t [Token]), Failed>
-    requires depth { inner < MAX_HEIGHT }
-    ensures read { Gives (λ x. (elem_of x.0, x.1.now)) result (elem_at (utf8_in text.now) (type_at (utf8_in text.now) inner) tokens.now) }
+    ensures read { Gives (λ x. (elem_of x.0, x.1.now)) result (elem_at (utf8_in text.now) (type_at (utf8_in text.now) inner.levels) tokens.now) }
 {
     match label(alloc, text, tokens) {
         Ok((name, rest)) => {
-            let (name, (of, rest)) = with(name, type_tree(alloc, text, inner, rest))?;
+            let (of, rest) = type_tree(alloc, text, inner, rest)?;
             let name = Some(name);
             Ok((Elem { name, of }, rest))
         }
@@ -220,12 +214,11 @@ pub fn elem<'t>(
 fn tuple<'t>(
     alloc: Global,
     text: &[u8],
-    inner: u32,
+    inner: Depth,
     place: Place,
     tokens: &'t [Token],
 ) -> Result<(TypeTree, &'t [Token]), Failed>
-    requires depth { inner < MAX_HEIGHT }
-    ensures read { Gives (λ x. (type_of x.0, x.1.now)) result (tuple_at (utf8_in text.now) (type_at (utf8_in text.now) inner) place tokens.now) }
+    ensures read { Gives (λ x. (type_of x.0, x.1.now)) result (tuple_at (utf8_in text.now) (type_at (utf8_in text.now) inner.levels) place tokens.now) }
 {
     let (parts, rest) = params(alloc, text, inner, tokens)?;
     let rest = expect(Sign::CloseBrace, rest)?;
@@ -237,12 +230,11 @@ fn tuple<'t>(
 fn proto<'t>(
     alloc: Global,
     text: &[u8],
-    inner: u32,
+    inner: Depth,
     place: Place,
     tokens: &'t [Token],
 ) -> Result<(TypeTree, &'t [Token]), Failed>
-    requires depth { inner < MAX_HEIGHT }
-    ensures read { Gives (λ x. (type_of x.0, x.1.now)) result (proto_at (utf8_in text.now) (type_at (utf8_in text.now) inner) place tokens.now) }
+    ensures read { Gives (λ x. (type_of x.0, x.1.now)) result (proto_at (utf8_in text.now) (type_at (utf8_in text.now) inner.levels) place tokens.now) }
 {
     let rest = expect(Sign::OpenBrace, tokens)?;
     let (fields, rest) = fields(alloc, text, inner, rest)?;
@@ -256,14 +248,13 @@ fn proto<'t>(
 fn param<'t>(
     alloc: Global,
     text: &[u8],
-    inner: u32,
+    inner: Depth,
     tokens: &'t [Token],
 ) -> Result<(Param, &'t [Token]), Failed>
-    requires depth { inner < MAX_HEIGHT }
-    ensures read { Gives (λ x. (param_of x.0, x.1.now)) result (param_at (utf8_in text.now) (type_at (utf8_in text.now) inner) tokens.now) }
+    ensures read { Gives (λ x. (param_of x.0, x.1.now)) result (param_at (utf8_in text.now) (type_at (utf8_in text.now) inner.levels) tokens.now) }
 {
     let (name, rest) = label(alloc, text, tokens)?;
-    let (name, (of, rest)) = with(name, type_tree(alloc, text, inner, rest))?;
+    let (of, rest) = type_tree(alloc, text, inner, rest)?;
     Ok((Param { name, of }, rest))
 }
 
@@ -273,11 +264,10 @@ fn param<'t>(
 pub fn params<'t>(
     alloc: Global,
     text: &[u8],
-    inner: u32,
+    inner: Depth,
     tokens: &'t [Token],
 ) -> Result<(Vec<Param>, &'t [Token]), Failed>
-    requires depth { inner < MAX_HEIGHT }
-    ensures read { Gives (λ x. (each param_of x.0.items, x.1.now)) result (params_at (utf8_in text.now) (type_at (utf8_in text.now) inner) tokens.now) }
+    ensures read { Gives (λ x. (each param_of x.0.items, x.1.now)) result (params_at (utf8_in text.now) (type_at (utf8_in text.now) inner.levels) tokens.now) }
 {
     let (first, rest) = param(alloc, text, inner, tokens)?;
     params_after(alloc, text, inner, first, rest)
@@ -287,13 +277,12 @@ pub fn params<'t>(
 fn params_after<'t>(
     alloc: Global,
     text: &[u8],
-    inner: u32,
+    inner: Depth,
     first: Param,
     tokens: &'t [Token],
 ) -> Result<(Vec<Param>, &'t [Token]), Failed>
-    requires depth { inner < MAX_HEIGHT }
     ensures read { Gives (λ x. (each param_of x.0.items, x.1.now)) result
-        (params_after (utf8_in text.now) (type_at (utf8_in text.now) inner) (param_of first) tokens.now) }
+        (params_after (utf8_in text.now) (type_at (utf8_in text.now) inner.levels) (param_of first) tokens.now) }
 {
     let mut params = Vec::new(alloc);
     params.push(first)?;
@@ -312,16 +301,15 @@ fn params_after<'t>(
 fn field<'t>(
     alloc: Global,
     text: &[u8],
-    inner: u32,
+    inner: Depth,
     tokens: &'t [Token],
 ) -> Result<(ProtoField, &'t [Token]), Failed>
-    requires depth { inner < MAX_HEIGHT }
-    ensures read { Gives (λ x. (field_of x.0, x.1.now)) result (proto_field_at (utf8_in text.now) (type_at (utf8_in text.now) inner) tokens.now) }
+    ensures read { Gives (λ x. (field_of x.0, x.1.now)) result (proto_field_at (utf8_in text.now) (type_at (utf8_in text.now) inner.levels) tokens.now) }
 {
-    let (param, rest) = param(alloc, text, inner, tokens)?;
-    let (param, rest) = with(param, expect(Sign::At, rest))?;
-    let (param, (number, rest)) = with(param, number(rest))?;
-    let (Param { name, of }, (label, rest)) = with(param, maybe_name(alloc, text, rest))?;
+    let (Param { name, of }, rest) = param(alloc, text, inner, tokens)?;
+    let rest = expect(Sign::At, rest)?;
+    let (number, rest) = number(rest)?;
+    let (label, rest) = maybe_name(alloc, text, rest)?;
     let field = ProtoField {
         name,
         of,
@@ -337,11 +325,10 @@ fn field<'t>(
 fn fields<'t>(
     alloc: Global,
     text: &[u8],
-    inner: u32,
+    inner: Depth,
     tokens: &'t [Token],
 ) -> Result<(Vec<ProtoField>, &'t [Token]), Failed>
-    requires depth { inner < MAX_HEIGHT }
-    ensures read { Gives (λ x. (each field_of x.0.items, x.1.now)) result (proto_fields_at (utf8_in text.now) (type_at (utf8_in text.now) inner) tokens.now) }
+    ensures read { Gives (λ x. (each field_of x.0.items, x.1.now)) result (proto_fields_at (utf8_in text.now) (type_at (utf8_in text.now) inner.levels) tokens.now) }
 {
     let (first, rest) = field(alloc, text, inner, tokens)?;
     fields_after(alloc, text, inner, first, rest)
@@ -351,13 +338,12 @@ fn fields<'t>(
 fn fields_after<'t>(
     alloc: Global,
     text: &[u8],
-    inner: u32,
+    inner: Depth,
     first: ProtoField,
     tokens: &'t [Token],
 ) -> Result<(Vec<ProtoField>, &'t [Token]), Failed>
-    requires depth { inner < MAX_HEIGHT }
     ensures read { Gives (λ x. (each field_of x.0.items, x.1.now)) result
-        (proto_fields_after (utf8_in text.now) (type_at (utf8_in text.now) inner) (field_of first) tokens.now) }
+        (proto_fields_after (utf8_in text.now) (type_at (utf8_in text.now) inner.levels) (field_of first) tokens.now) }
 {
     let mut fields = Vec::new(alloc);
     fields.push(first)?;

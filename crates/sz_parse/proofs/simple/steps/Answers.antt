@@ -15,14 +15,14 @@ use Rattle.sz_parse.proofs.simple.steps.Goals as goal
 pub loop-items-init : goal.loop-items-init
 loop-items-init c =
     let made : (map step_of c.new-items.result.items) ≡ [] = rw c.new-items.ensures.items refl in
-    rw made (all_start (path_step (utf8_in c.args.text.now) (expr_at (utf8_in c.args.text.now) c.args.inner)) c.args.tokens.now)
+    rw made (all_start (path_step (utf8_in c.args.text.now) (expr_at (utf8_in c.args.text.now) c.args.inner.levels)) c.args.tokens.now)
 
 pub loop-items-smaller : goal.loop-items-smaller
 loop-items-smaller c =
-    item_shorter (path_item (utf8_in c.args.text.now) (expr_at (utf8_in c.args.text.now) c.args.inner) c.args.inner
-    (expr_sound (utf8_in c.args.text.now) c.args.inner))
+    item_shorter (path_item (utf8_in c.args.text.now) (expr_at (utf8_in c.args.text.now) c.args.inner.levels) c.args.inner.levels
+    (expr_sound (utf8_in c.args.text.now) c.args.inner.levels))
     (step_of c.in_ok-item.item) c.loop-items.rest.now c.in_ok-item.after.now
-    ((step_here (utf8_in c.args.text.now) (expr_at (utf8_in c.args.text.now) c.args.inner) c.loop-items.rest.now c.in-Some.field-0.now c.in-Some.ensures.value
+    ((step_here (utf8_in c.args.text.now) (expr_at (utf8_in c.args.text.now) c.args.inner.levels) c.loop-items.rest.now c.in-Some.field-0.now c.in-Some.ensures.value
     ∙ ap just c.in_ok-item.ensures.read))
 
 pub returns-in_err-item : goal.returns-in_err-item
@@ -30,11 +30,11 @@ returns-in_err-item c =
     let p = err_from_is_err_and c.from_residual.result c.from_residual.ensures.1 in
     record {
       read = rw (p.1, p.2)
-          (all_fails c.in_err-item.field-0.0 (path_step (utf8_in c.args.text.now) (expr_at (utf8_in c.args.text.now) c.args.inner))
-          (no_step_at_end (utf8_in c.args.text.now) (expr_at (utf8_in c.args.text.now) c.args.inner)) (map step_of c.loop-items.items.items)
+          (all_fails c.in_err-item.field-0.0 (path_step (utf8_in c.args.text.now) (expr_at (utf8_in c.args.text.now) c.args.inner.levels))
+          (no_step_at_end (utf8_in c.args.text.now) (expr_at (utf8_in c.args.text.now) c.args.inner.levels)) (map step_of c.loop-items.items.items)
           c.loop-items.rest.now _ _
           (step_here (utf8_in c.args.text.now)
-          (expr_at (utf8_in c.args.text.now) c.args.inner) c.loop-items.rest.now c.in-Some.field-0.now c.in-Some.ensures.value) c.in_err-item.ensures.read
+          (expr_at (utf8_in c.args.text.now) c.args.inner.levels) c.loop-items.rest.now c.in-Some.field-0.now c.in-Some.ensures.value) c.in_err-item.ensures.read
           c.loop-items.invariant);
     }
 
@@ -42,18 +42,18 @@ pub loop-items-preserved : goal.loop-items-preserved
 loop-items-preserved c =
     let made : (map step_of c.push.new.self.items) ≡ (map step_of c.loop-items.items.items) ++ (step_of c.in_ok-item.item) ∷ [] =
     rw c.in_ok-push.ensures.items (map_push step_of c.loop-items.items.items c.in_ok-item.item) in
-    rw made (all_goes_on (path_item (utf8_in c.args.text.now) (expr_at (utf8_in c.args.text.now) c.args.inner) c.args.inner
-    (expr_sound (utf8_in c.args.text.now) c.args.inner))
-    (no_step_at_end (utf8_in c.args.text.now) (expr_at (utf8_in c.args.text.now) c.args.inner)) (map step_of c.loop-items.items.items)
+    rw made (all_goes_on (path_item (utf8_in c.args.text.now) (expr_at (utf8_in c.args.text.now) c.args.inner.levels) c.args.inner.levels
+    (expr_sound (utf8_in c.args.text.now) c.args.inner.levels))
+    (no_step_at_end (utf8_in c.args.text.now) (expr_at (utf8_in c.args.text.now) c.args.inner.levels)) (map step_of c.loop-items.items.items)
     (step_of c.in_ok-item.item) c.loop-items.rest.now c.in_ok-item.after.now _
-    ((step_here (utf8_in c.args.text.now) (expr_at (utf8_in c.args.text.now) c.args.inner) c.loop-items.rest.now c.in-Some.field-0.now c.in-Some.ensures.value
+    ((step_here (utf8_in c.args.text.now) (expr_at (utf8_in c.args.text.now) c.args.inner.levels) c.loop-items.rest.now c.in-Some.field-0.now c.in-Some.ensures.value
     ∙ ap just c.in_ok-item.ensures.read)) c.loop-items.invariant)
 
 pub returns : goal.returns
 returns c =
     record {
-      read = all_ends (path_step (utf8_in c.args.text.now) (expr_at (utf8_in c.args.text.now) c.args.inner))
+      read = all_ends (path_step (utf8_in c.args.text.now) (expr_at (utf8_in c.args.text.now) c.args.inner.levels))
           (map step_of c.loop-items.items.items) c.loop-items.rest.now _
-          (step_gone (utf8_in c.args.text.now) (expr_at (utf8_in c.args.text.now) c.args.inner) c.loop-items.rest.now c.in_default.ensures.value)
+          (step_gone (utf8_in c.args.text.now) (expr_at (utf8_in c.args.text.now) c.args.inner.levels) c.loop-items.rest.now c.in_default.ensures.value)
           c.loop-items.invariant;
     }

@@ -9,8 +9,8 @@ use Rattle.sz_parse.proofs.simple.steps.Given as goal
 -- the items so far, and those that are read from here, are all of them
 abbrev pub invariant-loop-items : goal.invariant-loop-items
 invariant-loop-items l =
-    with_items (map step_of l.items.items) (all_at (path_step (utf8_in l.text) (expr_at (utf8_in l.text) l.inner)) l.rest)
-    ≡ all_at (path_step (utf8_in l.text) (expr_at (utf8_in l.text) l.inner)) l.fn.tokens
+    with_items (map step_of l.items.items) (all_at (path_step (utf8_in l.text) (expr_at (utf8_in l.text) l.inner.levels)) l.rest)
+    ≡ all_at (path_step (utf8_in l.text) (expr_at (utf8_in l.text) l.inner.levels)) l.fn.tokens
 
 abbrev pub decreases-loop-items : goal.decreases-loop-items
 decreases-loop-items l = length l.rest

@@ -16,14 +16,14 @@ pub loop-items-init : goal.loop-items-init
 loop-items-init c =
     let made : (map quantifier_of c.push.new.self.items) ≡ (quantifier_of c.args.first) ∷ [] =
     rw (c.in_ok-push.ensures.items, c.new-items.ensures.items) refl in
-    rw made (quantifiers_start (utf8_in c.args.text.now) (type_at (utf8_in c.args.text.now) c.args.inner) (quantifier_of c.args.first) c.args.tokens.now)
+    rw made (quantifiers_start (utf8_in c.args.text.now) (type_at (utf8_in c.args.text.now) c.args.inner.levels) (quantifier_of c.args.first) c.args.tokens.now)
 
 pub loop-items-smaller : goal.loop-items-smaller
 loop-items-smaller c =
-    item_shorter (quantifier_item (utf8_in c.args.text.now) (type_at (utf8_in c.args.text.now) c.args.inner) c.args.inner
-    (type_sound (utf8_in c.args.text.now) c.args.inner))
+    item_shorter (quantifier_item (utf8_in c.args.text.now) (type_at (utf8_in c.args.text.now) c.args.inner.levels) c.args.inner.levels
+    (type_sound (utf8_in c.args.text.now) c.args.inner.levels))
     (quantifier_of c.in_ok-item.item) c.loop-items.rest.now c.in_ok-item.after.now
-    ((quantifier_here (utf8_in c.args.text.now) (type_at (utf8_in c.args.text.now) c.args.inner) c.loop-items.rest.now c.in-Some.field-0.now
+    ((quantifier_here (utf8_in c.args.text.now) (type_at (utf8_in c.args.text.now) c.args.inner.levels) c.loop-items.rest.now c.in-Some.field-0.now
     c.in-Some.ensures.value
     ∙ ap just c.in_ok-item.ensures.read))
 
@@ -32,11 +32,11 @@ returns-in_err-item c =
     let p = err_from_is_err_and c.from_residual-in_err-item.result c.from_residual-in_err-item.ensures.1 in
     record {
       read = rw (p.1, p.2)
-          (all_fails c.in_err-item.field-0.0 (quantifier_step (utf8_in c.args.text.now) (type_at (utf8_in c.args.text.now) c.args.inner))
-          (no_quantifier_at_end (utf8_in c.args.text.now) (type_at (utf8_in c.args.text.now) c.args.inner))
+          (all_fails c.in_err-item.field-0.0 (quantifier_step (utf8_in c.args.text.now) (type_at (utf8_in c.args.text.now) c.args.inner.levels))
+          (no_quantifier_at_end (utf8_in c.args.text.now) (type_at (utf8_in c.args.text.now) c.args.inner.levels))
           (map quantifier_of c.loop-items.items.items) c.loop-items.rest.now _ _
           (quantifier_here (utf8_in c.args.text.now)
-          (type_at (utf8_in c.args.text.now) c.args.inner) c.loop-items.rest.now c.in-Some.field-0.now c.in-Some.ensures.value) c.in_err-item.ensures.read
+          (type_at (utf8_in c.args.text.now) c.args.inner.levels) c.loop-items.rest.now c.in-Some.field-0.now c.in-Some.ensures.value) c.in_err-item.ensures.read
           c.loop-items.invariant);
     }
 
@@ -45,19 +45,19 @@ loop-items-preserved c =
     let made : (map quantifier_of c.push-in-Some.new.self.items) ≡ (map quantifier_of c.loop-items.items.items) ++ (quantifier_of c.in_ok-item.item) ∷
     [] = rw c.in_ok-push-2.ensures.items (map_push quantifier_of c.loop-items.items.items c.in_ok-item.item) in
     rw made (all_goes_on
-    (quantifier_item (utf8_in c.args.text.now) (type_at (utf8_in c.args.text.now) c.args.inner) c.args.inner
-    (type_sound (utf8_in c.args.text.now) c.args.inner))
-    (no_quantifier_at_end (utf8_in c.args.text.now) (type_at (utf8_in c.args.text.now) c.args.inner)) (map quantifier_of c.loop-items.items.items)
+    (quantifier_item (utf8_in c.args.text.now) (type_at (utf8_in c.args.text.now) c.args.inner.levels) c.args.inner.levels
+    (type_sound (utf8_in c.args.text.now) c.args.inner.levels))
+    (no_quantifier_at_end (utf8_in c.args.text.now) (type_at (utf8_in c.args.text.now) c.args.inner.levels)) (map quantifier_of c.loop-items.items.items)
     (quantifier_of c.in_ok-item.item) c.loop-items.rest.now c.in_ok-item.after.now _
-    ((quantifier_here (utf8_in c.args.text.now) (type_at (utf8_in c.args.text.now) c.args.inner) c.loop-items.rest.now c.in-Some.field-0.now
+    ((quantifier_here (utf8_in c.args.text.now) (type_at (utf8_in c.args.text.now) c.args.inner.levels) c.loop-items.rest.now c.in-Some.field-0.now
     c.in-Some.ensures.value
     ∙ ap just c.in_ok-item.ensures.read)) c.loop-items.invariant)
 
 pub returns : goal.returns
 returns c =
     record {
-      read = all_ends (quantifier_step (utf8_in c.args.text.now) (type_at (utf8_in c.args.text.now) c.args.inner))
+      read = all_ends (quantifier_step (utf8_in c.args.text.now) (type_at (utf8_in c.args.text.now) c.args.inner.levels))
           (map quantifier_of c.loop-items.items.items) c.loop-items.rest.now _
-          (quantifier_gone (utf8_in c.args.text.now) (type_at (utf8_in c.args.text.now) c.args.inner) c.loop-items.rest.now c.in_default.ensures.value)
+          (quantifier_gone (utf8_in c.args.text.now) (type_at (utf8_in c.args.text.now) c.args.inner.levels) c.loop-items.rest.now c.in_default.ensures.value)
           c.loop-items.invariant;
     }

@@ -16,14 +16,14 @@ use Rattle.sz_parse.proofs.table.table_indexes.Goals as goal
 pub loop-after-init : goal.loop-after-init
 loop-after-init c =
     let made : (map elem_of c.new-items.result.items) ≡ [] = rw c.new-items.ensures.items refl in
-    rw made (all_start (table_index_step (utf8_in c.args.text.now) (type_at (utf8_in c.args.text.now) c.args.inner)) c.args.tokens.now)
+    rw made (all_start (table_index_step (utf8_in c.args.text.now) (type_at (utf8_in c.args.text.now) c.args.inner.levels)) c.args.tokens.now)
 
 pub loop-after-smaller : goal.loop-after-smaller
 loop-after-smaller c =
-    item_shorter (table_index_item (utf8_in c.args.text.now) (type_at (utf8_in c.args.text.now) c.args.inner) c.args.inner
-    (type_sound (utf8_in c.args.text.now) c.args.inner))
+    item_shorter (table_index_item (utf8_in c.args.text.now) (type_at (utf8_in c.args.text.now) c.args.inner.levels) c.args.inner.levels
+    (type_sound (utf8_in c.args.text.now) c.args.inner.levels))
     (elem_of c.in_ok-item.item) c.loop-after.rest.now c.in_ok-item.after.now
-    ((table_index_here (utf8_in c.args.text.now) (type_at (utf8_in c.args.text.now) c.args.inner) c.loop-after.rest.now c.in-Some.after.now
+    ((table_index_here (utf8_in c.args.text.now) (type_at (utf8_in c.args.text.now) c.args.inner.levels) c.loop-after.rest.now c.in-Some.after.now
     c.in-Some.ensures.value
     ∙ ap just c.in_ok-item.ensures.read))
 
@@ -32,11 +32,11 @@ returns-in_err-item c =
     let p = err_from_is_err_and c.from_residual.result c.from_residual.ensures.1 in
     record {
       read = rw (p.1, p.2)
-          (all_fails c.in_err-item.field-0.0 (table_index_step (utf8_in c.args.text.now) (type_at (utf8_in c.args.text.now) c.args.inner))
-          (no_table_index_at_end (utf8_in c.args.text.now) (type_at (utf8_in c.args.text.now) c.args.inner))
+          (all_fails c.in_err-item.field-0.0 (table_index_step (utf8_in c.args.text.now) (type_at (utf8_in c.args.text.now) c.args.inner.levels))
+          (no_table_index_at_end (utf8_in c.args.text.now) (type_at (utf8_in c.args.text.now) c.args.inner.levels))
           (map elem_of c.loop-after.items.items) c.loop-after.rest.now _ _
           (table_index_here (utf8_in c.args.text.now)
-          (type_at (utf8_in c.args.text.now) c.args.inner) c.loop-after.rest.now c.in-Some.after.now c.in-Some.ensures.value) c.in_err-item.ensures.read
+          (type_at (utf8_in c.args.text.now) c.args.inner.levels) c.loop-after.rest.now c.in-Some.after.now c.in-Some.ensures.value) c.in_err-item.ensures.read
           c.loop-after.invariant);
     }
 
@@ -45,19 +45,19 @@ loop-after-preserved c =
     let made : (map elem_of c.push.new.self.items) ≡ (map elem_of c.loop-after.items.items) ++ (elem_of c.in_ok-item.item) ∷ [] =
     rw c.in_ok-push.ensures.items (map_push elem_of c.loop-after.items.items c.in_ok-item.item) in
     rw made (all_goes_on
-    (table_index_item (utf8_in c.args.text.now) (type_at (utf8_in c.args.text.now) c.args.inner) c.args.inner
-    (type_sound (utf8_in c.args.text.now) c.args.inner))
-    (no_table_index_at_end (utf8_in c.args.text.now) (type_at (utf8_in c.args.text.now) c.args.inner)) (map elem_of c.loop-after.items.items)
+    (table_index_item (utf8_in c.args.text.now) (type_at (utf8_in c.args.text.now) c.args.inner.levels) c.args.inner.levels
+    (type_sound (utf8_in c.args.text.now) c.args.inner.levels))
+    (no_table_index_at_end (utf8_in c.args.text.now) (type_at (utf8_in c.args.text.now) c.args.inner.levels)) (map elem_of c.loop-after.items.items)
     (elem_of c.in_ok-item.item) c.loop-after.rest.now c.in_ok-item.after.now _
-    ((table_index_here (utf8_in c.args.text.now) (type_at (utf8_in c.args.text.now) c.args.inner) c.loop-after.rest.now c.in-Some.after.now
+    ((table_index_here (utf8_in c.args.text.now) (type_at (utf8_in c.args.text.now) c.args.inner.levels) c.loop-after.rest.now c.in-Some.after.now
     c.in-Some.ensures.value
     ∙ ap just c.in_ok-item.ensures.read)) c.loop-after.invariant)
 
 pub returns : goal.returns
 returns c =
     record {
-      read = all_ends (table_index_step (utf8_in c.args.text.now) (type_at (utf8_in c.args.text.now) c.args.inner))
+      read = all_ends (table_index_step (utf8_in c.args.text.now) (type_at (utf8_in c.args.text.now) c.args.inner.levels))
           (map elem_of c.loop-after.items.items) c.loop-after.rest.now _
-          (table_index_gone (utf8_in c.args.text.now) (type_at (utf8_in c.args.text.now) c.args.inner) c.loop-after.rest.now c.in_default.ensures.value)
+          (table_index_gone (utf8_in c.args.text.now) (type_at (utf8_in c.args.text.now) c.args.inner.levels) c.loop-after.rest.now c.in_default.ensures.value)
           c.loop-after.invariant;
     }
