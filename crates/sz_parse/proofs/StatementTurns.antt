@@ -1,5 +1,5 @@
 -- The loops of the statements, turn by turn.
-use Rattle.std.proofs.Common.{◌≡◌, List, [], ◌∷◌, ◌++◌, Option, Some, None, refl, ap}
+use Rattle.std.proofs.Common.{◌≡◌, ℕ, suc, ◌+◌, List, [], ◌∷◌, ◌++◌, Option, Some, None, refl, ap, arith}
 use Rattle.sz_lex.specs.declared.token.Token.{Token}
 use Rattle.sz_lex.specs.declared.sign.Sign.TheVariants as signs
 use Rattle.sz_tree.specs.Names.{Ident}
@@ -11,7 +11,7 @@ use Rattle.sz_parse_expr.specs.ReadingTypes.{SubType}
 use Rattle.sz_parse.specs.ReadingTables.{table_index_at, table_index_step}
 use Rattle.sz_parse.specs.ReadingStatements.{index_at, index_step, begins_step, step_item, path_step}
 use Rattle.sz_parse.specs.ReadingTables.{name_step, names_later, begins_quantifier, quantifier_at, quantifier_step, quantifiers_after}
-use Rattle.sz_parse.specs.ReadingStatements.{begins_stm, stm_step}
+use Rattle.sz_parse.specs.ReadingStatements.{begins_stm, stm_step, step_at, stm_at, readers_at}
 use Rattle.sz_parse_expr.proofs.Steps.{choose_some, choose_none}
 
 same_read : {A : Type 0} (read : Read (List A)) → bind read (λ y. Some ([] ++ y.0, y.1)) ≡ read
@@ -137,3 +137,8 @@ stm_gone st ts c = choose_none _ _ _ _ c refl
 pub no_stm_at_end : (st : List Token → Read Stm) → stm_step st [] ≡ None
 unfolding stm_step begins_stm choose
 no_stm_at_end st = refl
+
+-- a statement of some height is what a token begins, with parts that are one level lower
+pub stm_deeper : (text : Spelling) (d n : ℕ) (ts : List Token) → n ≡ d + 1 → stm_at text n ts ≡ step_at text (readers_at text d) d ts
+unfolding stm_at
+stm_deeper text d n ts is = let up : n ≡ suc d = omega (arith, is) in ap (λ k. stm_at text k ts) up

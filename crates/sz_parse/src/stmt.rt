@@ -9,7 +9,7 @@ use crate::leaf::{
     declare, define, emit, maybe_expr, maybe_first, maybe_simple, parameters, return_statement,
     returned, simple_statement, static_statement, table_statement, type_statement,
 };
-use crate::signs::ended;
+use crate::signs::{beside, ended};
 use crate::table::quantifiers;
 use std::alloc::Global;
 use sz_lex::{Kind, Sign, Token, Word};
@@ -297,9 +297,12 @@ fn for_loop<'t>(
 {
     let rest = expect(Sign::OpenParen, tokens)?;
     let (first, rest) = maybe_first(alloc, text, inner, rest)?;
-    let (test, rest) = maybe_expr(alloc, text, inner, Sign::Semicolon, rest)?;
-    let (next, rest) = maybe_simple(alloc, text, inner, rest)?;
-    let (part, rest) = boxed(alloc, text, inner, rest)?;
+    let test = maybe_expr(alloc, text, inner, Sign::Semicolon, rest);
+    let (first, test, rest) = beside(first, test)?;
+    let next = maybe_simple(alloc, text, inner, rest);
+    let (head, next, rest) = beside((first, test), next)?;
+    let part = boxed(alloc, text, inner, rest);
+    let (((first, test), next), part, rest) = beside((head, next), part)?;
     Ok((Stmt::For(place, first, test, next, part), rest))
 }
 

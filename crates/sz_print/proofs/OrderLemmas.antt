@@ -28,5 +28,5 @@ pub merged_in_any_groups : MergesInAnyGroups
 merged_in_any_groups one other third both all rest turned front later last stands theirs others joins then_all joins_rest then_turned =
     rows_of_emits all ((front ++ later) ++ last) (then_all.joined (front ++ later) last (joins.joined front later stands theirs) others)
     ∙ ap (tables_text all.tables) (append_assoc front later last)
-    ∙ ap (λ tables. tables_text tables (front ++ later ++ last)) (then_all.same_tables ∙ joins.same_tables ∙ sym then_turned.same_tables)
-    ∙ sym (rows_of_emits turned (front ++ later ++ last) (then_turned.joined front (later ++ last) stands (joins_rest.joined later last theirs others)))
+    ∙ ap (λ tables. tables_text tables (front ++ (later ++ last))) (then_all.same_tables ∙ joins.same_tables ∙ sym then_turned.same_tables)
+    ∙ sym (rows_of_emits turned (front ++ (later ++ last)) (then_turned.joined front (later ++ last) stands (joins_rest.joined later last theirs others)))

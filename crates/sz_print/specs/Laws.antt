@@ -1,5 +1,5 @@
 -- Laws of the text of all tables.
-use Rattle.std.specs.Prelude.{◌≡◌, List, IsPermutation}
+use Rattle.std.specs.Prelude.{◌≡◌, ℕ, List, IsPermutation}
 use Rattle.sz_types.specs.Tables.{Declaration}
 use Rattle.sz_tabs.specs.Data.{EmitDatum}
 use Rattle.sz_total.specs.States.{TotalState, declarations, emit_count, shown}

@@ -21,6 +21,18 @@ pub fn text<'a>(alloc: Global, total: &Total<'a>, tables: &TableDecls) -> Result
     ensures value { (emits : List EmitDatum) → StandsFor declarations emit_count shown total.now emits
         → IfOk result (λ text. text.items ≡ tables_text tables.now emits) }
 {
+    text_of_rows(alloc, total, tables)
+}
+
+// The text of what the tables show.
+fn text_of_rows<'a>(
+    alloc: Global,
+    total: &Total<'a>,
+    tables: &TableDecls,
+) -> Result<Vec<u8>, NoMemory>
+    requires declared { tables.now ≡ total.now.tables }
+    ensures rows { IfOk result (λ text. text.items ≡ rows_text tables.now (shown total.now)) }
+{
     let mut text = Vec::new(alloc);
     for (number, table) in tables.as_slice().iter().enumerate() {
         push_table(table, total.rows(number)?.as_slice(), &mut text)?;

@@ -43,7 +43,7 @@ less_to_read : (frame : Frame) (old new : FramerData) (ending : Option Ending) (
     → left_to_read ending new < left_to_read None old
 less_to_read frame old new ending piece read before after given h none t = by ending t.fed
   where
-    low : old.cutter.place + length old.held ≤ 2 ^ 40 + 9
+    low : old.cutter.place + length old.pending ≤ 2 ^ 40 + 9
     low = read_within frame full old read given h none
 
     by : (ending : Option Ending) → IsFed frame new ending (read ++ piece) (length piece == 0) (given ++ t.added)

@@ -7,7 +7,7 @@ use Rattle.sz_parse.specs.ReadingStatements.{stm_at, stm_step}
 use Rattle.sz_parse.proofs.StatementSound.{stms_item}
 use Rattle.sz_parse_expr.proofs.Loops.{all_goes_on, all_fails, all_ends, item_shorter}
 use Rattle.sz_parse_expr.proofs.ExpressionRows.{just, map_push}
-use Rattle.sz_parse.proofs.StatementTurns.{all_start, stm_is_here, stm_gone, no_stm_at_end}
+use Rattle.sz_parse.proofs.StatementTurns.{all_start, stm_is_here, stm_gone, no_stm_at_end, stm_deeper}
 use Rattle.sz_parse.proofs.stmt.+statement.Goals as goal
 
 pub statements-loop-items-init : goal.statements-loop-items-init
@@ -47,4 +47,11 @@ statements-returns t c =
     record {
       read = all_ends (stm_step (stm_at (utf8_in c.args.text.now) c.args.inner.levels)) (map stm_of c.loop-items.items.items) c.loop-items.rest.now _
           (stm_gone (stm_at (utf8_in c.args.text.now) c.args.inner.levels) c.loop-items.rest.now c.in_default.ensures.value) c.loop-items.invariant;
+    }
+
+pub statement-returns : goal.statement-returns
+statement-returns t c =
+    record {
+      read = rw (stm_deeper (utf8_in c.args.text.now) c.in-Some.inner.levels c.args.depth.levels c.args.tokens.now c.in-Some.ensures.parts)
+          c.step.ensures.read;
     }

@@ -1,10 +1,13 @@
--- Each turn appends the lines of one table.
-use Rattle.std.proofs.Common.{◌∙◌}
-use Rattle.sz_print.proofs.TablesLemmas.{text_more}
+-- What the tables show is the text of the emits that they stand for.
+use Rattle.std.proofs.Common.{◌≡◌}
+use Rattle.std.proofs.lemmas.Result.{IfOk-weaker}
+use Rattle.sz_total.specs.States.{shown}
+use Rattle.sz_print.specs.Tables.{rows_text, tables_text}
+use Rattle.sz_print.proofs.TablesLemmas.{text_of_emits}
 use Rattle.sz_print.proofs.tables.text.Goals as goal
 
-pub loop-number-preserved : goal.loop-number-preserved
-loop-number-preserved c =
-    text_more c.as_slice-table-items.result.now c.args.total.now c.loop-number.number c.loop-number.text.items c.push_table.new.out.items c.table-item.result
-    c.as_slice.result.now c.loop-number-test.true c.table-item.is (c.as_slice.ensures.value ∙ c.in_ok-rows.ensures.value)
-    c.in_ok-push_table.ensures.value c.loop-number.invariant
+pub returns-clause-value : goal.returns-clause-value
+returns-clause-value c = λ emits stands.
+    IfOk-weaker c.text_of_rows.result (λ text. text.items ≡ rows_text c.args.tables.now (shown c.args.total.now))
+    (λ text. text.items ≡ tables_text c.args.tables.now emits)
+    (λ text is. text_of_emits c.args.total.now c.args.tables.now text.items c.requires.declared is emits stands) c.text_of_rows.ensures.rows
