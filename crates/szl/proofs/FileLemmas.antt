@@ -87,6 +87,7 @@ module _ {F : Type 0} (the_files : files.Ghosts F) (job : Job) (s : RunSettings)
       -- and it is at its end
       pub read_to_end : IsAtEnd (the_files.left new file) → IfSome (the_files.held old s.input) (λ _. IsSome (the_files.left new file))
           → ReadToEnd the_files old new s.input
+      unfolding opens_one
       read_to_end at_end told = record {
         file = file;
         not_before = fresh;

@@ -152,11 +152,11 @@ opened_failure the_files old new asked most _ _ told told_now (no_room output pa
 module _ {F O E : Type 0} (the_files : files.Ghosts F) (the_out : sink.Ghosts O) (the_err : sink.Ghosts E) (words : List (List ℕ))
     (old new : F) (out new_out : O) (err : E) where
   -- all was printed, and nothing is told
-  pub means_done : (made : Result (List ℕ) Failure) → Answers the_files (settings_in words) old new made
-      → Prints {T = Unit {0}} (the_out.taken out) (the_out.taken new_out) made (Ok tt) → PrintsNothing made out new_out
+  pub means_done : (made : Result (List ℕ) Failure) (done : Unit {0}) → Answers the_files (settings_in words) old new made
+      → Prints {T = Unit {0}} (the_out.taken out) (the_out.taken new_out) made (Ok done) → PrintsNothing made out new_out
       → MeansSource the_files the_out the_err words status.Done old new out new_out err err
-  means_done (Err f) a printed nothing = absurd printed
-  means_done (Ok output) a printed nothing =
+  means_done (Err f) done a printed nothing = absurd printed
+  means_done (Ok output) done a printed nothing =
       let o = outcome words a.reading a.cut in
       let fit = fits_done o output (the_out.taken out) (the_out.taken new_out) a.decides printed in
       let no_line : [] ≡ o.line = sym (ap (λ (x : Answer). x.line) a.decides) in
