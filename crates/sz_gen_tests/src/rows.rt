@@ -145,7 +145,7 @@ type M = proto { a: int @ 1 };
 m: M = input;
 k: M = M(m);
 x: int = k.a;
-=> type Proto(Fields { held: [Field { name: Text { string: "a" }, ty: Int, number: 1, code: Plain }] }) | record 0 of 3 | 0 Input +1 2:8
+=> type Proto(Fields { fields: [Field { name: Text { string: "a" }, ty: Int, number: 1, code: Plain }] }) | record 0 of 3 | 0 Input +1 2:8
    1 Decode(0) +1 2:8 | 2 Keep(0) +1 2:1 | 3 Local(0) +1 3:10 | 4 Tick +1 3:8 | 5 Keep(1) +1 3:1 | 6 Local(1) +1 4:10
    7 Field(0) +1 4:10 | 8 Keep(2) +1 4:1 | 9 EndRecord +0 1:1
 
@@ -153,7 +153,7 @@ type M = proto { t: time @ 2 fixed64 };
 f: function(s: string): M { return M(bytes(s)); }
 x: int = f("ab").t;
 => constant 0 | constant "ab" | type Bytes
-   type Proto(Fields { held: [Field { name: Text { string: "t" }, ty: Time, number: 2, code: Fixed64 }] }) | type Int | function 0 1 1
+   type Proto(Fields { fields: [Field { name: Text { string: "t" }, ty: Time, number: 2, code: Fixed64 }] }) | type Int | function 0 1 1
    record 8 of 1 | 0 Local(0) +1 2:44 | 1 Convert(0) +1 2:38 | 2 Decode(1) +1 2:36 | 3 Return +1 2:29 | 4 Push(0) +0 1:1
    5 Push(0) +0 1:1 | 6 Binary(Div) +0 1:1 | 7 Return +0 1:1 | 8 Push(1) +1 3:12 | 9 Call(0) +1 3:10 | 10 Field(0) +1 3:10
    11 Convert(2) +1 3:10 | 12 Keep(0) +1 3:1 | 13 EndRecord +0 1:1"#;

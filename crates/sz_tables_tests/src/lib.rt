@@ -2,8 +2,6 @@
 #![tactic(auto)]
 
 #[cfg(test)]
-mod chosen;
-#[cfg(test)]
 mod dealing;
 #[cfg(test)]
 mod flat;

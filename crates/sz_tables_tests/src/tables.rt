@@ -58,25 +58,6 @@ pub(crate) fn indexed_table(
     })
 }
 
-/// A table of sums of whole numbers with two whole numbers as its indexes.
-#[tactic(auto, using(sz_types::proofs::ForCallers::seen_int))]
-pub(crate) fn sums_under_two(alloc: Global) -> Result<TableDecl, NoMemory>
-    ensures element { IfOk result (λ table. (seen_table table).element ≡ Shape.int) }
-    ensures indexes { IfOk result (λ table. (seen_table table).indexes ≡ Shape.int ∷ Shape.int ∷ []) }
-    ensures weights { IfOk result (λ table. HasItsWeights (seen_table table)) }
-{
-    let name = Text::from_str(alloc, "sums")?;
-    let indexes = Tys::from_vec(vec![in alloc; Ty::Int, Ty::Int]?);
-    Ok(TableDecl {
-        name,
-        kind: TableKind::Sum,
-        limit: 0,
-        indexes,
-        element: Ty::Int,
-        weight: weights_of(TableKind::Sum),
-    })
-}
-
 // The type of the weights that a kind of table needs.
 fn weights_of(kind: TableKind) -> Option<Ty>
     ensures some { ranks kind ≡ true → is_some result ≡ true }
