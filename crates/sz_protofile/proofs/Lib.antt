@@ -1,0 +1,5 @@
+mod Holds
+pub mod LengthLemmas
+pub mod LineLemmas
+pub mod LoopLemmas
+pub mod SkipLemmas

@@ -1,0 +1,7 @@
+//! Tests of `.proto` files: rows of data, which one short loop runs.
+#![tactic(auto)]
+
+#[cfg(test)]
+mod lines;
+#[cfg(test)]
+mod tokens;
