@@ -1,18 +1,19 @@
 -- Emits whose parts are on the operands.
 use Rattle.std.proofs.Common.{◌≡◌, ◌∙◌, ℕ, suc, ◌+◌, List, [], ◌∷◌, ◌++◌, length, drop, ◌≤◌, Option, Some, None, true, false, refl, sym, ap, subst, arith}
 use Rattle.std.specs.Option.{option_map}
+use Rattle.std.specs.Prelude.{is_some}
 use Rattle.sz_types.specs.declared.place.Place.{Place}
 use Rattle.sz_value.specs.Data.{Datum}
 use Rattle.sz_value.specs.Weight.{weight_of}
 use Rattle.sz_instr.specs.declared.instr.Instr.TheVariants.{Emit}
 use Rattle.sz_instr.specs.declared.code.Code.{Code}
-use Rattle.sz_world_rules.specs.World.{spend}
+use Rattle.sz_world_rules.specs.World.{World, spend, budget_passed}
 use Rattle.sz_world_rules.specs.Slots.{Slot, all_defined}
-use Rattle.sz_world_rules.specs.Ticks.{weight_of_all}
+use Rattle.sz_world_rules.specs.Ticks.{weight_of_all, result_weight}
 use Rattle.sz_world_rules.specs.Emits.{emit_by_weight, emit_weight, emit_weighted, with_emit, weight_number, weight_if_all, listed}
-use Rattle.sz_machine_rules.specs.States.{State, Goes, popped}
+use Rattle.sz_machine_rules.specs.States.{State, Goes, popped, faults}
 use Rattle.sz_machine.specs.Acting.{when_paid, weighs_and_acts}
-use Rattle.sz_machine.specs.Emitting.{parts_weight, emits_parts, emits_on_top}
+use Rattle.sz_machine.specs.Emitting.{parts_weight, emits_paid, emits_parts, emits_on_top}
 
 -- nothing is emitted without indexes
 pub no_indexes : (table : ℕ) (value : Slot) (weight : Option Slot) → emit_by_weight table None value weight ≡ None
@@ -32,6 +33,35 @@ no_value table (Some ds) (Some w) = by (weight_number w)
     by : (n : _) → emit_weighted table (Some ds) None n ≡ None
     by None = refl
     by (Some n) = refl
+
+-- what an emit adds whose parts are all there
+pub weighs_plain : (o : Option (List Datum)) (x : Slot) → is_some o ≡ true → is_some x ≡ true → weight_if_all o + result_weight x ≡ parts_weight o x None
+weighs_plain None x e f = absurd (cc)
+weighs_plain (Some ds) None e f = absurd (cc)
+weighs_plain (Some ds) (Some v) e f = refl
+
+pub weighs_weighted : (o : Option (List Datum)) (x w : Slot) → is_some o ≡ true → is_some x ≡ true → is_some w ≡ true
+    → weight_if_all o + result_weight x + result_weight w ≡ parts_weight o x (Some w)
+weighs_weighted None x w e f g = absurd (cc)
+weighs_weighted (Some ds) None w e f g = absurd (cc)
+weighs_weighted (Some ds) (Some v) None e f g = absurd (cc)
+weighs_weighted (Some ds) (Some v) (Some w) e f g = refl
+
+-- one whose parts aren't all there adds nothing
+pub without_value : (o : Option (List Datum)) (x : Slot) (w : Option Slot) → is_some x ≡ false → 0 ≡ parts_weight o x w
+without_value None x w e = refl
+without_value (Some ds) None w e = refl
+without_value (Some ds) (Some v) w e = absurd (cc)
+
+pub without_indexes : (o : Option (List Datum)) (x : Slot) (w : Option Slot) → is_some o ≡ false → 0 ≡ parts_weight o x w
+without_indexes None x w e = refl
+without_indexes (Some ds) x w e = absurd (cc)
+
+pub without_weight : (o : Option (List Datum)) (x w : Slot) → is_some w ≡ false → 0 ≡ parts_weight o x (Some w)
+without_weight None x w e = refl
+without_weight (Some ds) None w e = refl
+without_weight (Some ds) (Some v) None e = refl
+without_weight (Some ds) (Some v) (Some w) e = absurd (cc)
 
 -- the values of two lists, if all are there
 abbrev joined : Option (List Datum) → Option (List Datum) → Option (List Datum)
@@ -133,6 +163,34 @@ module _ (code : Code) (table n : ℕ) (place : Place) where
           → weighs_and_acts code (Emit table n true) place s ≡ emits_on_top table n (Some weight) place (record s { stack = below })
       by [] f = absurd (omega (arith, within, ap length e, ap length f))
       by (x ∷ stack) f = emit_with_weight s weight x below stack e f
+
+module _ (table n : ℕ) (w : Option Slot) (place : Place) (s : State) (x : Slot) (stack : List Slot) (is : s.stack ≡ x ∷ stack) where
+  -- an emit whose weight isn't left
+  pub top_unpaid : spend (parts_weight (all_defined (popped n stack)) x w) s.world ≡ None → emits_on_top table n w place s ≡ faults budget_passed place
+  top_unpaid none = at_hand s.stack is
+    where
+      at_hand : (l : List Slot) → l ≡ x ∷ stack → emits_on_top table n w place (record s { stack = l }) ≡ faults budget_passed place
+      at_hand l e = subst (λ l. emits_on_top table n w place (record s { stack = l }) ≡ faults budget_passed place) (sym e)
+          (ap (λ o. when_paid place o (λ v. Goes (record s {
+            at = suc s.at;
+            stack = drop n stack;
+            world = with_emit (emit_by_weight table (all_defined (popped n stack)) x w) v;
+          }))) none)
+
+  -- one whose weight is taken
+  pub top_paid : (v : World) → spend (parts_weight (all_defined (popped n stack)) x w) s.world ≡ Some v
+      → emits_on_top table n w place s ≡ emits_paid table (all_defined (popped n stack)) x w place (record s { stack = drop n stack; world = v })
+  top_paid v some = at_hand s.stack is
+    where
+      at_hand : (l : List Slot) → l ≡ x ∷ stack → emits_on_top table n w place (record s { stack = l })
+          ≡ emits_paid table (all_defined (popped n stack)) x w place (record s { stack = drop n stack; world = v })
+      at_hand l e = subst (λ l. emits_on_top table n w place (record s { stack = l })
+          ≡ emits_paid table (all_defined (popped n stack)) x w place (record s { stack = drop n stack; world = v })) (sym e)
+          (ap (λ o. when_paid place o (λ v. Goes (record s {
+            at = suc s.at;
+            stack = drop n stack;
+            world = with_emit (emit_by_weight table (all_defined (popped n stack)) x w) v;
+          }))) some)
 
 module _ (code : Code) (table : ℕ) (place : Place) where
   -- a value alone

@@ -3,6 +3,7 @@ pub mod EmitLemmas
 pub mod FlowLemmas
 pub mod CoverLemmas
 pub mod StepLemmas
+pub mod LineLemmas
 pub mod RunLemmas
 pub mod StoreLemmas
 pub mod NumberLemmas

@@ -1,10 +1,20 @@
 -- Ticks that are taken one after the other are taken together.
-use Rattle.std.proofs.Common.{◌≡◌, ◌∙◌, ℕ, zero, suc, ◌+◌, ◌-◌, ◌<◌, ◌≤◌, nat_lt, nat_le, if◌then◌else◌, List, Bool, true, false, Option, Some, None, unwrap_or, refl, sym, ap, arith}
+use Rattle.std.proofs.Common.{◌≡◌, ◌∙◌, ℕ, zero, suc, ◌+◌, ◌-◌, ◌<◌, ◌≤◌, nat_lt, nat_le, if◌then◌else◌, List, Bool, true, false, Option, Some, None, unwrap_or, refl, sym, ap, arith, subst}
+use Rattle.std.specs.Option.{option_map}
+use Rattle.sz_value.specs.Data.{Datum, array, tuple, data_of}
+use Rattle.sz_world_rules.specs.Ticks.{result_weight}
+use Rattle.sz_machine_cells.specs.Results.{composite_weight}
 use Rattle.std.proofs.lemmas.Bool.{leb-true, leb-false, le-leb, lt-leb}
 use Rattle.sz_tabs.specs.Data.{EmitDatum}
-use Rattle.sz_world_rules.specs.World.{World, spend}
-use Rattle.sz_machine.specs.Acting.{Paid}
-use Rattle.sz_machine.specs.declared.held.Held.{Held}
+use Rattle.sz_world_rules.specs.World.{World, spend, budget_passed}
+use Rattle.sz_types.specs.declared.place.Place.{Place}
+use Rattle.sz_instr.specs.declared.instr.Instr.{Instr}
+use Rattle.sz_instr.specs.declared.code.Code.{Code}
+use Rattle.sz_machine_rules.specs.States.{State, faults}
+use Rattle.sz_machine_rules.specs.Rows.{act}
+use Rattle.sz_machine_rules.specs.Runs.{weight_added}
+use Rattle.sz_machine.specs.Acting.{Paid, when_paid, weighs_and_acts}
+use Rattle.sz_machine.specs.declared.run_state.RunState.{RunState}
 
 -- a world
 abbrev pub world : ℕ → List EmitDatum → World
@@ -53,7 +63,8 @@ unspent n left emits e = by (nat_le n left) refl (sym (spend_is n left emits) �
 there : (n left : ℕ) (emits : List EmitDatum) → n ≤ left → spend n (world left emits) ≡ Some (world (left - n) emits)
 there n left emits h = spend_is n left emits ∙ ap (after n left emits) (le-leb n left h)
 
-not_there : (n left : ℕ) (emits : List EmitDatum) → left < n → spend n (world left emits) ≡ None
+-- where fewer are left they aren't there
+pub not_there : (n left : ℕ) (emits : List EmitDatum) → left < n → spend n (world left emits) ≡ None
 not_there n left emits h = spend_is n left emits ∙ ap (after n left emits) (lt-leb n left h)
 
 -- the second ticks are taken of what the first ones left
@@ -75,12 +86,36 @@ pub spend_less : (a b left : ℕ) (emits : List EmitDatum) → spend a (world le
 spend_less a b left emits e = let short = unspent a left emits e in not_there (a + b) left emits (omega (arith, short))
 
 -- ticks are taken twice
-pub paid_more : (a b : ℕ) (old mid new : Held) (p : Bool) → Paid a old true mid → Paid b mid p new → Paid (a + b) old p new
+pub paid_more : (a b : ℕ) (old mid new : RunState) (p : Bool) → Paid a old true mid → Paid b mid p new → Paid (a + b) old p new
 paid_more a b old mid new p h k =
-    let both : Held → Held = λ held. record held { left = new.left } in
+    let both : RunState → RunState = λ h. record h { left = new.left } in
     let kept : new ≡ both old = k.kept ∙ ap both h.kept in
     record { spent = spend_more a b old.left mid.left old.emits mid.emits h.spent ∙ k.spent; kept = kept }
 
 -- the first ones weren't there
-pub paid_less : (a b : ℕ) (old mid : Held) → Paid a old false mid → Paid (a + b) old false mid
+pub paid_less : (a b : ℕ) (old mid : RunState) → Paid a old false mid → Paid (a + b) old false mid
 paid_less a b old mid h = record { spent = spend_less a b old.left old.emits h.spent; kept = h.kept }
+
+-- as many ticks
+pub pays_as : (a b : ℕ) (old new : RunState) (p : Bool) → a ≡ b → Paid a old p new → Paid b old p new
+pays_as a b old new p e h = subst (λ n. Paid n old p new) e h
+
+-- what an array of parts weighs
+pub weighs_array : (o : Option (List Datum)) → composite_weight o ≡ result_weight (option_map (λ ds. array (data_of ds)) o)
+weighs_array None = refl
+weighs_array (Some ds) = refl
+
+-- what a tuple of parts weighs
+pub weighs_tuple : (o : Option (List Datum)) → composite_weight o ≡ result_weight (option_map (λ ds. tuple (data_of ds)) o)
+weighs_tuple None = refl
+weighs_tuple (Some ds) = refl
+
+module _ (code : Code) (instr : Instr) (place : Place) (s : State) where
+  -- a row whose weight isn't left
+  pub row_unpaid : spend (weight_added code instr s.stack) s.world ≡ None → weighs_and_acts code instr place s ≡ faults budget_passed place
+  row_unpaid none = ap (λ o. when_paid place o (λ v. act code instr place (record s { world = v }))) none
+
+  -- one whose weight is taken
+  pub row_paid : (v : World) → spend (weight_added code instr s.stack) s.world ≡ Some v
+      → weighs_and_acts code instr place s ≡ act code instr place (record s { world = v })
+  row_paid v some = ap (λ o. when_paid place o (λ v. act code instr place (record s { world = v }))) some

@@ -1,5 +1,5 @@
 -- From a state that comes to its end each line is there and covers the state, and what it leads to comes to the same end.
-use Rattle.std.proofs.Common.{◌≡◌, ◌∙◌, ℕ, zero, suc, ◌<◌, ◌≤◌, length, drop, slice_get, Option, Some, None, unwrap_or, refl, sym, ap, subst}
+use Rattle.std.proofs.Common.{true, ◌≡◌, ◌∙◌, ℕ, zero, suc, ◌<◌, ◌≤◌, length, drop, slice_get, Option, Some, None, unwrap_or, refl, sym, ap, subst}
 use Rattle.sz_value.specs.Data.{bytes}
 use Rattle.sz_tabs.specs.Data.{EmitDatum}
 use Rattle.std.specs.Prelude.{List, [], ◌∷◌}
@@ -8,17 +8,19 @@ use Rattle.sz_instr.specs.declared.line.Line.{Line}
 use Rattle.sz_instr.specs.declared.routine.Routine.{Routine}
 use Rattle.sz_world_rules.specs.World.{World, new_world, Fault, Outcome, Done, Faulted}
 use Rattle.sz_world_rules.specs.Slots.{Slot, undefined_slots}
-use Rattle.sz_machine_rules.specs.States.{State, After, Goes, Halts, Faults, Stuck, faults, IsOver}
+use Rattle.sz_machine_rules.specs.States.{State, After, Goes, Halts, Faults, Stuck, faults, IsOver, entered}
 use Rattle.sz_machine_rules.specs.Covering.{Covers}
 use Rattle.sz_machine_rules.specs.Runs.{LeadsBy, GoesOn, RunsFor, ComesTo, EndsRecord, EndsStatic, RoutinesRunTo, RunsTo, record_start, does}
 use Rattle.sz_machine.specs.CodeRuns.{Ends, IsOnTheWay, OfEnds, LineDoes, EndsSo}
 use Rattle.sz_machine.specs.Ends.{RunEnds, seen_fault}
 use Rattle.sz_machine.specs.declared.ends.Fault.{Fault as RunFault}
 use Rattle.sz_machine.specs.Acting.{Around, world_of, state_of, in_record, in_static}
-use Rattle.sz_machine.specs.declared.held.Held.{Held}
-use Rattle.sz_machine.specs.declared.held.Next.TheVariants.{On, To, End, Fault as NextFault}
+use Rattle.sz_machine.specs.declared.run_state.RunState.{RunState}
+use Rattle.sz_machine.specs.declared.run_state.Next.TheVariants.{On, To, End, Fault as NextFault}
+use Rattle.sz_machine.specs.LinesLeft.{line_leads, lines_left, ends_within, routines_end_within, IsOnTheWayWithin}
+use Rattle.sz_machine.proofs.LineLemmas.{leads_on, next_within, next_less, first_within, rest_within}
 use Rattle.sz_machine.proofs.CoverLemmas.{found_within, drop_found, drop_past}
-use Rattle.sz_machine_rules.proofs.OneEnd.{over_of}
+use Rattle.sz_machine_rules.proofs.OneEnd.{over_of, static_over}
 
 module _ (code : Code) where
   -- a first line, and so many lines that carry on what it leads to
@@ -100,7 +102,7 @@ module _ (code : Code) where
       → IsOnTheWay code start s → OfEnds code start (λ x. y ≡ x)
   is_last start s line y is e over_y way x over comes = last_line s line y is e over_y x over (way x over comes)
 
-module _ (code : Code) (start : State) (a b : Around) (old new : Held) (line : Line) where
+module _ (code : Code) (start : State) (a b : Around) (old new : RunState) (line : Line) where
   -- the run goes on after the line
   pub goes_on_after : (at : ℕ) → slice_get code.lines a.at ≡ Some line → LineDoes code a b old On new → at ≡ suc b.at
       → IsOnTheWay code start (state_of old a) → IsOnTheWay code start (state_of new (record b { at = at }))
@@ -114,6 +116,44 @@ module _ (code : Code) (start : State) (a b : Around) (old new : Held) (line : L
   goes_on_at at to is does_so e way =
       subst (λ k. IsOnTheWay code start (state_of new (record b { at = k }))) (sym e)
       (goes_further code start (state_of old a) (state_of new (record b { at = to })) line is (does_so line is) way)
+
+  next_after : (at : ℕ) → slice_get code.lines a.at ≡ Some line → LineDoes code a b old On new → at ≡ suc b.at
+      → line_leads code (state_of old a) ≡ Goes (state_of new (record b { at = at }))
+  next_after at is does_so e =
+      subst (λ k. line_leads code (state_of old a) ≡ Goes (state_of new (record b { at = k }))) (sym e)
+      (leads_on code (state_of old a) (state_of new (record b { at = suc b.at })) line is (does_so line is))
+
+  next_at : (at to : ℕ) → slice_get code.lines a.at ≡ Some line → LineDoes code a b old (To to) new → at ≡ to
+      → line_leads code (state_of old a) ≡ Goes (state_of new (record b { at = at }))
+  next_at at to is does_so e =
+      subst (λ k. line_leads code (state_of old a) ≡ Goes (state_of new (record b { at = k }))) (sym e)
+      (leads_on code (state_of old a) (state_of new (record b { at = to })) line is (does_so line is))
+
+  -- where it goes on after the line, it does so within as many lines, and has fewer left
+  pub on_within : (n at : ℕ) → slice_get code.lines a.at ≡ Some line → LineDoes code a b old On new → at ≡ suc b.at
+      → IsOnTheWayWithin code n start (state_of old a) → IsOnTheWayWithin code n start (state_of new (record b { at = at }))
+  on_within n at is does_so e h = record {
+    way = goes_on_after at is does_so e h.way;
+    within = next_within code n (state_of old a) (state_of new (record b { at = at })) (next_after at is does_so e) h.within;
+  }
+
+  pub on_less : (n at : ℕ) → slice_get code.lines a.at ≡ Some line → LineDoes code a b old On new → at ≡ suc b.at
+      → IsOnTheWayWithin code n start (state_of old a)
+      → lines_left code n (Goes (state_of new (record b { at = at }))) < lines_left code n (Goes (state_of old a))
+  on_less n at is does_so e h = next_less code n (state_of old a) (state_of new (record b { at = at })) (next_after at is does_so e) h.within
+
+  -- the same where it goes on at a place
+  pub to_within : (n at to : ℕ) → slice_get code.lines a.at ≡ Some line → LineDoes code a b old (To to) new → at ≡ to
+      → IsOnTheWayWithin code n start (state_of old a) → IsOnTheWayWithin code n start (state_of new (record b { at = at }))
+  to_within n at to is does_so e h = record {
+    way = goes_on_at at to is does_so e h.way;
+    within = next_within code n (state_of old a) (state_of new (record b { at = at })) (next_at at to is does_so e) h.within;
+  }
+
+  pub to_less : (n at to : ℕ) → slice_get code.lines a.at ≡ Some line → LineDoes code a b old (To to) new → at ≡ to
+      → IsOnTheWayWithin code n start (state_of old a)
+      → lines_left code n (Goes (state_of new (record b { at = at }))) < lines_left code n (Goes (state_of old a))
+  to_less n at to is does_so e h = next_less code n (state_of old a) (state_of new (record b { at = at })) (next_at at to is does_so e) h.within
 
   -- it ends
   pub halts_there : slice_get code.lines a.at ≡ Some line → LineDoes code a b old End new
@@ -141,15 +181,8 @@ one_outcome (Halts w statics) r q h k = k ∙ sym h
 one_outcome (Faults fault) r q h k = k ∙ sym h
 one_outcome Stuck r q h k = absurd h
 
--- what ends a static's run is an end
-pub static_over : (end : After) (P : World → List Slot → Type 0) (r : Outcome (List Slot)) → EndsStatic end P r → IsOver end
-static_over (Goes s) P r h = absurd h
-static_over (Halts w statics) P r h = tt
-static_over (Faults fault) P r h = tt
-static_over Stuck P r h = absurd h
-
 -- a routine has begun in place, with these emits and so many ticks
-abbrev pub begun : Routine → World → Held
+abbrev pub begun : Routine → World → RunState
 begun r w = record {
   operands = [];
   calls = record { locals = undefined_slots r.locals; lists = []; callers = [] };
@@ -157,7 +190,7 @@ begun r w = record {
   left = w.left;
 }
 
-module _ (code : Code) (input : List ℕ) (statics : List Slot) (budget : ℕ) (h : Held) (is : h ≡ begun code.main (new_world budget)) where
+module _ (code : Code) (input : List ℕ) (statics : List Slot) (budget : ℕ) (h : RunState) (is : h ≡ begun code.main (new_world budget)) where
   begins_so : (x : After) → ComesTo code (record_start code input statics budget) x
       → ComesTo code (state_of h (in_record code.main.entry statics (Some (bytes input)))) x
   begins_so x comes = subst (λ k. ComesTo code (state_of k (in_record code.main.entry statics (Some (bytes input)))) x) (sym is) comes
@@ -166,12 +199,17 @@ module _ (code : Code) (input : List ℕ) (statics : List Slot) (budget : ℕ) (
   pub record_ends : RunEnds code input statics budget → Ends code (state_of h (in_record code.main.entry statics (Some (bytes input))))
   record_ends r = record { end = r.ends.end; over = over_of r.ends.end r.outcome r.ends.is; comes = begins_so r.ends.end r.ends.comes }
 
+  -- it does so within the lines of the run that is asked for
+  pub record_within : (n : ℕ) → ends_within code n (Goes (record_start code input statics budget)) ≡ true
+      → ends_within code n (Goes (state_of h (in_record code.main.entry statics (Some (bytes input))))) ≡ true
+  record_within n e = subst (λ k. ends_within code n (Goes (state_of k (in_record code.main.entry statics (Some (bytes input))))) ≡ true) (sym is) e
+
   -- what it ends with is the outcome of the run
   pub record_outcome : (q o : Outcome (List EmitDatum)) → RunsTo code input statics budget o
       → OfEnds code (state_of h (in_record code.main.entry statics (Some (bytes input)))) (λ x. EndsRecord x q) → q ≡ o
   record_outcome q o r ends = one_outcome r.end o q r.is (ends r.end (over_of r.end o r.is) (begins_so r.end r.comes))
 
-module _ (code : Code) (r : Routine) (rest : List Routine) (w : World) (statics : List Slot) (o : Outcome (List Slot)) (h : Held)
+module _ (code : Code) (r : Routine) (rest : List Routine) (w : World) (statics : List Slot) (o : Outcome (List Slot)) (h : RunState)
     (is : h ≡ begun r w) (runs : RoutinesRunTo code (r ∷ rest) w statics o) where
   static_over_here : IsOver runs.0
   static_over_here = static_over runs.0 (λ next slots. RoutinesRunTo code rest next slots o) o runs.2
@@ -182,6 +220,20 @@ module _ (code : Code) (r : Routine) (rest : List Routine) (w : World) (statics 
   -- the run of a static that begins in place comes to its end
   pub static_ends : Ends code (state_of h (in_static r.entry statics))
   static_ends = record { end = runs.0; over = static_over_here; comes = static_begins_so }
+
+  -- it does so within the lines of the runs that are asked for
+  pub static_within : (n : ℕ) → routines_end_within code n (r ∷ rest) w statics ≡ true
+      → ends_within code n (Goes (state_of h (in_static r.entry statics))) ≡ true
+  static_within n e =
+      subst (λ k. ends_within code n (Goes (state_of k (in_static r.entry statics))) ≡ true) (sym is) (first_within code n r rest w statics e)
+
+  -- where it halts, so do the others
+  pub others_within : (n : ℕ) (new : World) (slots : List Slot) → OfEnds code (state_of h (in_static r.entry statics)) (EndsSo None new slots)
+      → routines_end_within code n (r ∷ rest) w statics ≡ true → routines_end_within code n rest new slots ≡ true
+  others_within n new slots ends e =
+      let halts : Halts new slots ≡ runs.0 = ends runs.0 static_over_here static_begins_so in
+      rest_within code n runs.1.steps r rest w new statics slots e
+      (subst (λ x. RunsFor code runs.1.steps (entered r statics None w) x) (sym halts) runs.1.runs)
 
   -- the next statics run on
   pub statics_go_on : (new : World) (slots : List Slot) → OfEnds code (state_of h (in_static r.entry statics)) (EndsSo None new slots)
@@ -201,6 +253,13 @@ pub at_routine : (code : Code) (i m : ℕ) (r : Routine) (w : World) (statics : 
     → RoutinesRunTo code (r ∷ drop m code.statics) w statics o
 at_routine code i m r w statics o is e runs =
     subst (λ l. RoutinesRunTo code l w statics o) (drop_found code.statics i r is ∙ ap (λ k. r ∷ drop k code.statics) (sym e)) runs
+
+-- the same of the lines within which they end
+pub at_routine_within : (code : Code) (i m n : ℕ) (r : Routine) (w : World) (statics : List Slot)
+    → slice_get code.statics i ≡ Some r → m ≡ suc i → routines_end_within code n (drop i code.statics) w statics ≡ true
+    → routines_end_within code n (r ∷ drop m code.statics) w statics ≡ true
+at_routine_within code i m n r w statics is e within =
+    subst (λ l. routines_end_within code n l w statics ≡ true) (drop_found code.statics i r is ∙ ap (λ k. r ∷ drop k code.statics) (sym e)) within
 
 -- no routine is left
 pub none_left : (code : Code) (i : ℕ) (w : World) (statics : List Slot) (o : Outcome (List Slot)) → length code.statics ≤ i

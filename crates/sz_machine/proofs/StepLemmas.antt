@@ -11,8 +11,8 @@ use Rattle.sz_machine_rules.specs.States.{State}
 use Rattle.sz_machine_rules.specs.Rows.{act}
 use Rattle.sz_machine_rules.specs.Covering.{Covers}
 use Rattle.sz_machine_rules.specs.Runs.{weight_added, charge_of, charged, does}
-use Rattle.sz_machine.specs.declared.held.Held.{Held}
-use Rattle.sz_machine.specs.declared.held.Next.{Next as Going}
+use Rattle.sz_machine.specs.declared.run_state.RunState.{RunState}
+use Rattle.sz_machine.specs.declared.run_state.Next.{Next as Going}
 use Rattle.sz_machine.specs.CodeRuns.{LineDoes}
 use Rattle.sz_machine.specs.Acting.{Around, world_of, state_of, when_paid, weighs_and_acts, leads, DoesFromTo, Paid, base_charge, TakesCandidate}
 use Rattle.sz_machine.proofs.CoverLemmas.{list_there}
@@ -62,7 +62,7 @@ splits code ticks Leave s = record { charge = refl; covers = λ w h. h; lists = 
 splits code ticks (Meets to) s = record { charge = refl; covers = λ w h. h; lists = λ h t. absurd t }
 splits code ticks (Fails to) s = record { charge = refl; covers = λ w h. h; lists = λ h t. absurd t }
 
-module _ (code : Code) (line : Line) (old : Held) (a b : Around) where
+module _ (code : Code) (line : Line) (old : RunState) (a b : Around) where
   -- what is done once all ticks were taken
   then_acts : (m : Option World) → charged code line (state_of old a) m
       ≡ when_paid line.place m (λ w. act code line.instr line.place (record (state_of old a) { world = w }))
@@ -70,7 +70,7 @@ module _ (code : Code) (line : Line) (old : Held) (a b : Around) where
   then_acts (Some w) = refl
 
   -- the line is done in place, with so many ticks left once its charge is taken
-  with_left : (left : ℕ) (new : Held) (next : Going)
+  with_left : (left : ℕ) (new : RunState) (next : Going)
       → spend (base_charge line.charge line.instr old.calls.lists) (world_of old) ≡ Some (world left old.emits)
       → DoesFromTo a b (weighs_and_acts code line.instr) (record old { left = left }) next new
       → does code line (state_of old a) ≡ leads next line.place b new
@@ -81,7 +81,7 @@ module _ (code : Code) (line : Line) (old : Held) (a b : Around) where
       let taken = ap (λ n. spend n (world_of old)) split.charge ∙ spend_more ticks weight old.left left old.emits old.emits spent in
       ap (charged code line (state_of old a)) taken ∙ then_acts (spend weight (world left old.emits)) ∙ acts line.place
 
-  pub step_does : (mid new : Held) (next : Going) → Paid (base_charge line.charge line.instr old.calls.lists) old true mid
+  pub step_does : (mid new : RunState) (next : Going) → Paid (base_charge line.charge line.instr old.calls.lists) old true mid
       → DoesFromTo a b (weighs_and_acts code line.instr) mid next new → does code line (state_of old a) ≡ leads next line.place b new
   step_does mid new next paid acts =
       let ticks = base_charge line.charge line.instr old.calls.lists in
@@ -89,21 +89,21 @@ module _ (code : Code) (line : Line) (old : Held) (a b : Around) where
       (subst (λ h. DoesFromTo a b (weighs_and_acts code line.instr) h next new) paid.kept acts)
 
   -- its row covers the state whose charge is taken
-  pub still_covered : (mid : Held) → Paid (base_charge line.charge line.instr old.calls.lists) old true mid → Covers code line.instr (state_of old a)
+  pub still_covered : (mid : RunState) → Paid (base_charge line.charge line.instr old.calls.lists) old true mid → Covers code line.instr (state_of old a)
       → Covers code line.instr (state_of mid a)
   still_covered mid paid h =
-      subst (λ held. Covers code line.instr (state_of held a)) (sym paid.kept)
+      subst (λ h. Covers code line.instr (state_of h a)) (sym paid.kept)
       ((splits code line.charge line.instr (state_of old a)).covers (world mid.left old.emits) h)
 
   -- what the line that is there does, each line there does
-  line_does : (new : Held) (next : Going) → slice_get code.lines a.at ≡ Some line → does code line (state_of old a) ≡ leads next line.place b new
+  line_does : (new : RunState) (next : Going) → slice_get code.lines a.at ≡ Some line → does code line (state_of old a) ≡ leads next line.place b new
       → LineDoes code a b old next new
   line_does new next found e l is =
       let same : line ≡ l = ap (λ o. unwrap_or o line) (sym found ∙ is) in
       subst (λ k. does code k (state_of old a) ≡ leads next k.place b new) same e
 
   -- a line whose charge is there goes on by its instruction
-  pub line_goes : (mid new : Held) (next : Going) → slice_get code.lines a.at ≡ Some line
+  pub line_goes : (mid new : RunState) (next : Going) → slice_get code.lines a.at ≡ Some line
       → Paid (base_charge line.charge line.instr old.calls.lists) old true mid → DoesFromTo a b (weighs_and_acts code line.instr) mid next new
       → LineDoes code a b old next new
   line_goes mid new next found paid acts = line_does new next found (step_does mid new next paid acts)

@@ -13,9 +13,9 @@ use Rattle.sz_machine_rules.specs.States.{State, After, Goes, Halts, faults}
 use Rattle.sz_machine_rules.specs.Rows.{act}
 use Rattle.sz_machine_rules.specs.Covering.{Covers}
 use Rattle.sz_machine_rules.specs.Runs.{weight_added, candidate_charge}
-use Rattle.sz_machine.specs.declared.held.Held.{Held}
-use Rattle.sz_machine.specs.declared.held.Next.{Next}
-use Rattle.sz_machine.specs.declared.held.Next.TheVariants.{On, To, End, Fault}
+use Rattle.sz_machine.specs.declared.run_state.RunState.{RunState}
+use Rattle.sz_machine.specs.declared.run_state.Next.{Next}
+use Rattle.sz_machine.specs.declared.run_state.Next.TheVariants.{On, To, End, Fault}
 
 -- what a run in place has around it: the place of the next line, the statics, and the record
 pub record Around : Type 0 where
@@ -24,11 +24,11 @@ pub record Around : Type 0 where
   pub input : Slot
 
 -- the world of a run in place
-abbrev pub world_of : Held → World
+abbrev pub world_of : RunState → World
 world_of h = record { left = h.left; emits = h.emits }
 
 -- the state of the machine that a run in place stands for
-abbrev pub state_of : Held → Around → State
+abbrev pub state_of : RunState → Around → State
 state_of h a = record {
   at = a.at;
   stack = h.operands;
@@ -51,14 +51,14 @@ weighs_and_acts code instr place s =
     when_paid place (spend (weight_added code instr s.stack) s.world) (λ w. act code instr place (record s { world = w }))
 
 -- what a run in place leads to: it goes on after the line or at a place, it ends, or it faults
-abbrev pub leads : Next → Place → Around → Held → After
+abbrev pub leads : Next → Place → Around → RunState → After
 leads On place a h = Goes (state_of h (record a { at = suc a.at }))
 leads (To at) place a h = Goes (state_of h (record a { at = at }))
 leads End place a h = Halts (world_of h) a.statics
 leads (Fault kind) place a h = faults kind place
 
 -- whatever is around it, and wherever in the text, the old run in place leads by this to the new one
-abbrev pub Does : (Place → State → After) → Held → Next → Held → Type 0
+abbrev pub Does : (Place → State → After) → RunState → Next → RunState → Type 0
 Does row old next new = (place : Place) (a : Around) → row place (state_of old a) ≡ leads next place a new
 
 -- the world, if ticks were taken
@@ -67,15 +67,15 @@ paid_world true w = Some w
 paid_world false w = None
 
 -- the same from these surroundings to those
-abbrev pub DoesFromTo : Around → Around → (Place → State → After) → Held → Next → Held → Type 0
+abbrev pub DoesFromTo : Around → Around → (Place → State → After) → RunState → Next → RunState → Type 0
 DoesFromTo a b row old next new = (place : Place) → row place (state_of old a) ≡ leads next place b new
 
 -- the same where this holds of what is around it
-abbrev pub DoesWhere : (Around → Type 0) → (Place → State → After) → Held → Next → Held → Type 0
+abbrev pub DoesWhere : (Around → Type 0) → (Place → State → After) → RunState → Next → RunState → Type 0
 DoesWhere holds row old next new = (place : Place) (a : Around) → holds a → row place (state_of old a) ≡ leads next place a new
 
 -- so many ticks were taken, or weren't there
-pub record Paid (ticks : ℕ) (old : Held) (paid : Bool) (new : Held) : Type 0 where
+pub record Paid (ticks : ℕ) (old : RunState) (paid : Bool) (new : RunState) : Type 0 where
   pub spent : spend ticks (world_of old) ≡ paid_world paid (world_of new)
   pub kept : new ≡ record old { left = new.left }
 
@@ -120,7 +120,7 @@ IsApart (Fails to) = Unit {0}
 IsApart _ = ⊥
 
 -- its row covers the run in place, whatever is around it but for the place of the line
-pub record IsCovered (code : Code) (instr : Instr) (h : Held) : Type 0 where
+pub record IsCovered (code : Code) (instr : Instr) (h : RunState) : Type 0 where
   pub around : Around
   pub covers : Covers code instr (state_of h around)
 

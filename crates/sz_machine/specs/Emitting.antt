@@ -16,7 +16,12 @@ parts_weight (Some ds) (Some value) None = weight_of_all ds + weight_of value
 parts_weight (Some ds) (Some value) (Some (Some w)) = weight_of_all ds + weight_of value + weight_of w
 parts_weight _ _ _ = 0
 
--- these parts are emitted, if they are all there, and their weight is taken
+-- these parts are emitted, if they are all there
+abbrev pub emits_paid : ℕ → Option (List Datum) → Slot → Option Slot → Place → State → After
+emits_paid table indexes value weight place s =
+    Goes (record s { at = suc s.at; world = with_emit (emit_by_weight table indexes value weight) s.world })
+
+-- the same, and their weight is taken
 abbrev pub emits_parts : ℕ → Option (List Datum) → Slot → Option Slot → Place → State → After
 emits_parts table indexes value weight place s =
     when_paid place (spend (parts_weight indexes value weight) s.world)

@@ -5,3 +5,5 @@ pub mod Acting
 pub mod Emitting
 pub mod Storing
 pub mod CodeRuns
+pub mod Leasts
+pub mod LinesLeft

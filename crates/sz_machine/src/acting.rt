@@ -7,13 +7,13 @@ ghost use Rattle.sz_machine_rules.specs.Covering.{Covers};
 ghost use Rattle.sz_machine.specs.Acting.{Around, DoesFromTo, DoesWhere, state_of, weighs_and_acts, base_charge, TakesCandidate};
 ghost use Rattle.sz_machine.specs.Acting.{IsInside, IsApart, IsCovered, in_record, in_static};
 
-use crate::held::{Held, Next, again};
+use crate::run_state::{Next, RunState, again};
 use std::alloc::Global;
 use sz_instr::{Code, Instr};
 use sz_machine_cells::Cell;
 use sz_value::{NoMemory, Slots};
 
-impl Held {
+impl RunState {
     /// Pushes a copy of the static.
     #[inline(always)]
     pub fn push_static(&mut self, alloc: Global, statics: &Slots, n: u32) -> Result<Next, NoMemory>

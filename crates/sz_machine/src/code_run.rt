@@ -2,16 +2,19 @@
 ghost use Rattle.std.specs.Prelude.{◌≡◌, ◌≤◌, ◌<◌, ◌^◌, IfOk, OnOk, [], true, length, slice_get, Some, IsSome, List, Option};
 ghost use Rattle.sz_value.specs.Data.{Datum};
 ghost use Rattle.sz_tabs.specs.Data.{EmitDatum};
-ghost use Rattle.sz_world_rules.specs.World.{Outcome};
+ghost use Rattle.sz_world_rules.specs.World.{Outcome, new_world};
 ghost use Rattle.sz_world_rules.specs.Slots.{undefined_slots};
 ghost use Rattle.sz_instr.specs.WellFormed.{is_well_formed};
 ghost use Rattle.sz_machine_rules.specs.Runs.{EndsRecord, RunsTo, StaticsRunTo};
 ghost use Rattle.sz_machine.specs.Acting.{state_of, world_of, in_record, in_static};
 ghost use Rattle.sz_machine.specs.Ends.{seen_end, seen_statics_end, RunEnds, StaticsRunEnds};
+ghost use Rattle.sz_machine_rules.specs.States.{Goes};
 ghost use Rattle.sz_machine.specs.CodeRuns.{Ends, OfEnds, EndsSo, LineDoes};
+ghost use Rattle.sz_machine.specs.LinesLeft.{ends_within, routines_end_within};
 
+use crate::asked::{RecordRun, StaticsRun};
 use crate::ends::{Fault, RunEnd, StaticsEnd};
-use crate::held::{BUDGET_PASSED, Held, Next};
+use crate::run_state::{BUDGET_PASSED, Next, RunState};
 use std::alloc::Global;
 use std::mem;
 use sz_instr::{Code, Line, Routine};
@@ -22,7 +25,7 @@ use sz_value::{NoMemory, Slot, Slots};
 /// Room for runs: what a run has at hand lies in it, and the memory that one run took is kept for the next.
 pub struct Room {
     alloc: Global,
-    held: Held,
+    state: RunState,
     input: Cell,
 }
 
@@ -30,7 +33,7 @@ impl Drop for Room {
     fn drop(self) {
         let Room {
             alloc: _,
-            held: _,
+            state: _,
             input: _,
         } = self;
     }
@@ -41,7 +44,7 @@ impl Room {
     pub fn new(alloc: Global) -> Room {
         Room {
             alloc,
-            held: Held::new(alloc, 0),
+            state: RunState::new(alloc, 0),
             input: Cell::undefined(),
         }
     }
@@ -60,25 +63,37 @@ impl Room {
         requires ends { RunEnds code.now input.now statics.now budget }
         ensures value { (o : Outcome (List EmitDatum)) → RunsTo code.now input.now statics.now budget o → IfOk result (λ end. seen_end end ≡ o) }
     {
-        self.held.renew(budget);
-        self.held.begin(&code.main)?;
+        let asked = RecordRun {
+            code,
+            input,
+            statics,
+            budget,
+        };
+        self.state.renew(budget);
+        self.state.begin(&code.main)?;
         self.input.set_bytes(self.alloc, input)?;
-        self.held
-            .run_record(self.alloc, code, statics, &self.input, code.main.entry)
+        self.state.run_record(
+            self.alloc,
+            code,
+            statics,
+            &self.input,
+            code.main.entry,
+            &asked,
+        )
     }
 
     /// Gives the list of a run's emits back, so that the next run needs no memory for its own.
     pub fn take_back(&mut self, emits: Emits) {
-        self.held.emits = emits;
+        self.state.emits = emits;
     }
 }
 
-impl Held {
+impl RunState {
     /// Nothing in place yet but so many ticks, which takes no memory.
-    fn new(alloc: Global, budget: u64) -> Held
+    fn new(alloc: Global, budget: u64) -> RunState
         ensures value { result ≡ record { operands = []; calls = record { locals = []; lists = []; callers = [] }; emits = []; left = budget } }
     {
-        Held {
+        RunState {
             operands: Operands::new(alloc),
             calls: Calls::new(alloc),
             emits: Emits::new(alloc),
@@ -156,14 +171,16 @@ impl Held {
         statics: &Slots,
         input: &Cell,
         start: usize,
+        asked: &RecordRun<'_>,
     ) -> Result<RunEnd, NoMemory>
         requires there { IsSome input.now }
         requires ends { Ends code.now (state_of self.old (in_record start statics.now input.now)) }
+        requires within { ends_within code.now asked.now.lines.0 (Goes (state_of self.old (in_record start statics.now input.now))) ≡ true }
         ensures value { IfOk result (λ end.
             OfEnds code.now (state_of self.old (in_record start statics.now input.now)) (λ x. EndsRecord x (seen_end end))) }
     {
         let mut at = start;
-        for _ in 0..u64::MAX {
+        loop {
             let line = line_at(code, at);
             match self.step_in_record(alloc, code, statics, input, at)? {
                 Next::On => at += 1,
@@ -178,7 +195,6 @@ impl Held {
                 })),
             }
         }
-        Err(NoMemory)
     }
 
     /// The run of a static from a place to its end: the fault, if it ends in one.
@@ -188,13 +204,15 @@ impl Held {
         code: &Code,
         statics: &mut Slots,
         start: usize,
+        asked: &StaticsRun<'_>,
     ) -> Result<Option<Fault>, NoMemory>
         requires ends { Ends code.now (state_of self.old (in_static start statics.old)) }
+        requires within { ends_within code.now asked.now.lines.0 (Goes (state_of self.old (in_static start statics.old))) ≡ true }
         ensures value { IfOk result (λ fault.
             OfEnds code.now (state_of self.old (in_static start statics.old)) (EndsSo fault (world_of self.new) statics.new)) }
     {
         let mut at = start;
-        for _ in 0..u64::MAX {
+        loop {
             let line = line_at(code, at);
             match self.step_in_static(alloc, code, statics, at)? {
                 Next::On => at += 1,
@@ -206,7 +224,6 @@ impl Held {
                 })),
             }
         }
-        Err(NoMemory)
     }
 }
 
@@ -232,8 +249,6 @@ fn undefined(alloc: Global, count: usize) -> Result<Slots, NoMemory>
 }
 
 /// Runs the code for a record of these bytes, with these statics and `budget` ticks.
-///
-/// A run of more than 2^64 - 1 lines, which would take centuries, is given up like one without memory.
 pub fn run(
     alloc: Global,
     code: &Code,
@@ -251,8 +266,6 @@ pub fn run(
 }
 
 /// Runs the code that computes the statics, all of them with `budget` ticks.
-///
-/// A run of more than 2^64 - 1 lines, which would take centuries, is given up like one without memory.
 pub fn run_statics(alloc: Global, code: &Code, budget: u64) -> Result<StaticsEnd, NoMemory>
     requires formed { is_well_formed code.now ≡ true }
     requires least { 1 ≤ budget }
@@ -260,13 +273,28 @@ pub fn run_statics(alloc: Global, code: &Code, budget: u64) -> Result<StaticsEnd
     requires ends { StaticsRunEnds code.now budget }
     ensures value { (o : Outcome (List (Option Datum))) → StaticsRunTo code.now budget o → IfOk result (λ end. seen_statics_end end ≡ o) }
 {
-    let mut held = Held::new(alloc, budget);
+    let asked = StaticsRun { code, budget };
+    run_each(alloc, code, budget, &asked)
+}
+
+// Runs the code of each static, as it is asked for.
+fn run_each(
+    alloc: Global,
+    code: &Code,
+    budget: u64,
+    asked: &StaticsRun<'_>,
+) -> Result<StaticsEnd, NoMemory>
+    requires ends { StaticsRunEnds code.now budget }
+    requires within { routines_end_within code.now asked.now.lines.0 code.now.statics (new_world budget) (undefined_slots (length code.now.statics)) ≡ true }
+    ensures value { (o : Outcome (List (Option Datum))) → StaticsRunTo code.now budget o → IfOk result (λ end. seen_statics_end end ≡ o) }
+{
+    let mut state = RunState::new(alloc, budget);
     let count = code.statics.len();
     let mut statics = undefined(alloc, count)?;
     for i in 0..count {
         let routine = code.statics.get(i);
-        held.begin(routine)?;
-        if let Some(fault) = held.run_static(alloc, code, &mut statics, routine.entry)? {
+        state.begin(routine)?;
+        if let Some(fault) = state.run_static(alloc, code, &mut statics, routine.entry, asked)? {
             return Ok(StaticsEnd::Fault(fault));
         }
     }

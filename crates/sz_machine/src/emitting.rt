@@ -1,24 +1,25 @@
 //! Emits.
-ghost use Rattle.std.specs.Prelude.{◌≡◌, ◌+◌, ◌<◌, ◌≤◌, ◌∷◌, length, drop, map, false, IfOk, Some, None, Option, List, []};
+ghost use Rattle.std.specs.Prelude.{◌≡◌, ◌+◌, ◌<◌, ◌≤◌, ◌∷◌, length, drop, false, IfOk, Some, None, Option, List, []};
 ghost use Rattle.sz_instr.specs.declared.code.Code.{Code};
 ghost use Rattle.sz_instr.specs.declared.instr.Instr.TheVariants as instr;
 ghost use Rattle.sz_value.specs.Seen.{seen};
 ghost use Rattle.sz_value.specs.Data.{Datum, int};
-ghost use Rattle.sz_value.specs.Weight.{weight_of};
-ghost use Rattle.sz_world_rules.specs.Ticks.{weight_of_all};
-ghost use Rattle.sz_world_rules.specs.Emits.{weight_number};
+ghost use Rattle.sz_world_rules.specs.Slots.{all_defined};
+ghost use Rattle.sz_world_rules.specs.Ticks.{result_weight};
+ghost use Rattle.sz_world_rules.specs.Emits.{weight_number, weight_if_all};
+ghost use Rattle.sz_machine_rules.specs.States.{popped};
 ghost use Rattle.sz_machine_rules.specs.Rows.{emit_operands};
 ghost use Rattle.sz_machine.specs.Acting.{Paid, Does, weighs_and_acts};
-ghost use Rattle.sz_machine.specs.Emitting.{emits_parts, emits_on_top};
+ghost use Rattle.sz_machine.specs.Emitting.{parts_weight, emits_paid, emits_parts, emits_on_top};
 
-use crate::held::{BUDGET_PASSED, Held, Next, again};
+use crate::run_state::{BUDGET_PASSED, Next, RunState, again};
 use std::alloc::Global;
 use std::mem;
-use sz_machine_cells::Cell;
+use sz_machine_cells::{Cell, result_weight};
 use sz_tabs::{Emit, Emits};
-use sz_value::{List, NoMemory, Value, weight};
+use sz_value::{List, NoMemory, Value};
 
-impl Held {
+impl RunState {
     /// Pops the parts of an emit to the table, and emits them if all are defined. A whole number alone is emitted in line.
     #[inline(always)]
     pub fn emit(
@@ -88,7 +89,7 @@ impl Held {
         }
     }
 
-    // Emits a whole number, which weighs one tick. The vector after the list is taken out for the push, which then stands in line: the
+    // Emits a whole number, which weighs one tick. The vector of the list is taken out for the push, which then stands in line: the
     // emit is written where it stays, and not copied there.
     #[inline(always)]
     fn emit_number(&mut self, alloc: Global, table: u32, number: i64) -> Result<Next, NoMemory>
@@ -109,6 +110,7 @@ impl Held {
     }
 
     // Pops the value and the indexes of an emit with this weight.
+    #[tactic(auto, using(crate::proofs::EmitLemmas::top_unpaid, crate::proofs::EmitLemmas::top_paid))]
     fn emit_on_top(
         &mut self,
         alloc: Global,
@@ -120,8 +122,59 @@ impl Held {
         ensures value { IfOk result (λ next. Does (emits_on_top table indexes weight) self.old next self.new) }
     {
         let value = self.operands.pop();
+        if !self.pay_parts(indexes as usize, &value, &weight) {
+            return Ok(Next::Fault(BUDGET_PASSED));
+        }
         let indexes = self.operands.pop_values(alloc, indexes as usize)?;
         self.emit_parts(alloc, table, indexes, value, weight)
+    }
+
+    // Takes what so many topmost operands, the value and the weight weigh, if they are all there. They are weighed where they are, so that
+    // nothing is copied that isn't paid.
+    #[tactic(auto, using(crate::proofs::PayLemmas::pays_as, crate::proofs::EmitLemmas::weighs_plain, crate::proofs::EmitLemmas::weighs_weighted, crate::proofs::EmitLemmas::without_value, crate::proofs::EmitLemmas::without_indexes, crate::proofs::EmitLemmas::without_weight))]
+    fn pay_parts(&mut self, indexes: usize, value: &Cell, weight: &Option<Cell>) -> bool
+        requires within { indexes ≤ length self.old.operands }
+        ensures value { Paid (parts_weight (all_defined (popped indexes self.old.operands)) value.now weight.now) self.old result self.new }
+    {
+        if !self.operands.are_defined(indexes) || !value.is_defined() {
+            return true;
+        }
+        match weight {
+            None => self.pay_plain(indexes, value),
+            Some(weight) if weight.is_defined() => self.pay_weighted(indexes, value, weight),
+            Some(_) => true,
+        }
+    }
+
+    // Takes what so many topmost operands, the value and the weight weigh.
+    #[tactic(auto, using(crate::proofs::PayLemmas::paid_more, crate::proofs::PayLemmas::paid_less))]
+    fn pay_weighted(&mut self, indexes: usize, value: &Cell, weight: &Cell) -> bool
+        requires within { indexes ≤ length self.old.operands }
+        ensures value { Paid (weight_if_all (all_defined (popped indexes self.old.operands)) + result_weight value.now + result_weight weight.now)
+            self.old result self.new }
+    {
+        self.pay_plain(indexes, value) && self.pay(result_weight(weight))
+    }
+
+    // Takes what so many topmost operands and the value weigh.
+    #[tactic(auto, using(crate::proofs::PayLemmas::paid_more, crate::proofs::PayLemmas::paid_less))]
+    fn pay_plain(&mut self, indexes: usize, value: &Cell) -> bool
+        requires within { indexes ≤ length self.old.operands }
+        ensures value { Paid (weight_if_all (all_defined (popped indexes self.old.operands)) + result_weight value.now) self.old result self.new }
+    {
+        self.pay_indexes(indexes) && self.pay(result_weight(value))
+    }
+
+    // Takes what so many topmost operands weigh, if they are all there.
+    #[tactic(auto, using(crate::proofs::PayLemmas::pays_as, crate::proofs::PayLemmas::not_there))]
+    fn pay_indexes(&mut self, indexes: usize) -> bool
+        requires within { indexes ≤ length self.old.operands }
+        ensures value { Paid (weight_if_all (all_defined (popped indexes self.old.operands))) self.old result self.new }
+    {
+        match self.operands.parts_weight(indexes, self.left) {
+            Some(weight) => self.pay(weight),
+            None => false,
+        }
     }
 
     // Emits these parts, if they are all there.
@@ -134,7 +187,7 @@ impl Held {
         value: Cell,
         weight: Option<Cell>,
     ) -> Result<Next, NoMemory>
-        ensures value { IfOk result (λ next. Does (emits_parts table indexes value weight) self.old next self.new) }
+        ensures value { IfOk result (λ next. Does (emits_paid table indexes value weight) self.old next self.new) }
     {
         let Some(indexes) = indexes else {
             return Ok(Next::On);
@@ -153,11 +206,8 @@ impl Held {
 
     // Emits a value under indexes.
     fn emit_plain(&mut self, table: u32, indexes: List, value: Value) -> Result<Next, NoMemory>
-        ensures value { IfOk result (λ next. Does (emits_parts table (Some indexes) (Some (seen value)) None) self.old next self.new) }
+        ensures value { IfOk result (λ next. Does (emits_paid table (Some indexes) (Some (seen value)) None) self.old next self.new) }
     {
-        if !self.pay_parts(&indexes, &value) {
-            return Ok(Next::Fault(BUDGET_PASSED));
-        }
         self.emits.push(Emit {
             table,
             indexes,
@@ -176,11 +226,8 @@ impl Held {
         given: &Value,
     ) -> Result<Next, NoMemory>
         ensures value { IfOk result (λ next.
-            Does (emits_parts table (Some indexes) (Some (seen value)) (Some (Some (seen given.now)))) self.old next self.new) }
+            Does (emits_paid table (Some indexes) (Some (seen value)) (Some (Some (seen given.now)))) self.old next self.new) }
     {
-        if !self.pay_weighted(&indexes, &value, given) {
-            return Ok(Next::Fault(BUDGET_PASSED));
-        }
         if let Some(weight) = weight_number(given) {
             self.emits.push(Emit {
                 table,
@@ -190,33 +237,6 @@ impl Held {
             })?;
         }
         Ok(Next::On)
-    }
-
-    // Takes what the indexes, the value and the weight weigh.
-    #[tactic(auto, using(crate::proofs::PayLemmas::paid_more, crate::proofs::PayLemmas::paid_less))]
-    fn pay_weighted(&mut self, indexes: &List, value: &Value, given: &Value) -> bool
-        ensures value { Paid (weight_of_all indexes.now + weight_of (seen value.now) + weight_of (seen given.now)) self.old result self.new }
-    {
-        self.pay_parts(indexes, value) && self.pay(weight(given))
-    }
-
-    // Takes what the indexes and the value weigh.
-    #[tactic(auto, using(crate::proofs::PayLemmas::paid_more, crate::proofs::PayLemmas::paid_less))]
-    fn pay_parts(&mut self, indexes: &List, value: &Value) -> bool
-        ensures value { Paid (weight_of_all indexes.now + weight_of (seen value.now)) self.old result self.new }
-    {
-        self.pay_all(indexes.as_slice()) && self.pay(weight(value))
-    }
-
-    // Takes what all of the values weigh.
-    #[tactic(auto, using(crate::proofs::PayLemmas::paid_more, crate::proofs::PayLemmas::paid_less))]
-    fn pay_all(&mut self, values: &[Value]) -> bool
-        ensures value { Paid (weight_of_all (map seen values.now)) self.old result self.new }
-    {
-        match values {
-            [] => true,
-            [first, rest @ ..] => self.pay(weight(first)) && self.pay_all(rest),
-        }
     }
 }
 

@@ -5,7 +5,7 @@ ghost use Rattle.sz_instr.specs.declared.instr.Instr.TheVariants as instr;
 ghost use Rattle.sz_machine_rules.specs.Rows.{act, call_routine};
 ghost use Rattle.sz_machine.specs.Acting.{Around, Does, DoesWhere};
 
-use crate::held::{CALLS_TOO_DEEP, Held, Next, UNDEFINED_USED};
+use crate::run_state::{CALLS_TOO_DEEP, Next, RunState, UNDEFINED_USED};
 use std::alloc::Global;
 use sz_instr::Routine;
 use sz_machine_cells::{Candidates, Cell};
@@ -14,7 +14,7 @@ use sz_value::NoMemory;
 // How many calls can be open.
 const MOST_OPEN_CALLS: usize = 128;
 
-impl Held {
+impl RunState {
     /// Pops a slot and goes to the place where it is false.
     #[inline(always)]
     pub fn test(&mut self, to: usize) -> Next

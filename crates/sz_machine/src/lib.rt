@@ -2,12 +2,13 @@
 #![tactic(auto)]
 
 mod acting;
+mod asked;
 mod code_run;
 mod emitting;
 mod ends;
 mod flow;
-mod held;
 mod rows;
+mod run_state;
 mod storing;
 
 pub use code_run::{Room, run, run_statics};

@@ -5,9 +5,12 @@ ghost use Rattle.sz_instr.specs.declared.instr.Instr.TheVariants as instr;
 ghost use Rattle.sz_value.specs.Data.{int};
 ghost use Rattle.sz_machine_rules.specs.Rows.{act};
 ghost use Rattle.sz_types.specs.Rows.{arity};
-ghost use Rattle.sz_machine.specs.Acting.{Does, weighs_and_acts};
+ghost use Rattle.sz_world_rules.specs.Operations.{array_of, tuple_of};
+ghost use Rattle.sz_world_rules.specs.Ticks.{result_weight};
+ghost use Rattle.sz_machine_rules.specs.States.{popped};
+ghost use Rattle.sz_machine.specs.Acting.{Paid, Does, weighs_and_acts};
 
-use crate::held::{Held, Next, again};
+use crate::run_state::{BUDGET_PASSED, Next, RunState, again};
 use std::alloc::Global;
 use sz_instr::Code;
 use sz_machine_cells::{
@@ -18,7 +21,7 @@ use sz_machine_cells::{
 use sz_types::{BinOp, Builtin, UnOp};
 use sz_value::NoMemory;
 
-impl Held {
+impl RunState {
     /// Pushes a copy of the constant.
     #[inline(always)]
     pub fn push(&mut self, alloc: Global, code: &Code, constant: u32) -> Result<Next, NoMemory>
@@ -189,28 +192,50 @@ impl Held {
         self.finish(made, weight)
     }
 
+    // Takes what an array or a tuple of so many topmost operands weighs, if it is left. They are weighed where they are, so that nothing
+    // is copied that isn't paid.
+    #[tactic(auto, using(crate::proofs::PayLemmas::pays_as, crate::proofs::PayLemmas::not_there, crate::proofs::PayLemmas::weighs_array, crate::proofs::PayLemmas::weighs_tuple))]
+    fn pay_composite(&mut self, count: usize) -> bool
+        requires within { count ≤ length self.old.operands }
+        ensures array { Paid (result_weight (array_of (popped count self.old.operands))) self.old result self.new }
+        ensures tuple { Paid (result_weight (tuple_of (popped count self.old.operands))) self.old result self.new }
+    {
+        match self.operands.composite_weight(count, self.left) {
+            Some(weight) => self.pay(weight),
+            None => false,
+        }
+    }
+
     /// Pops the elements and pushes the array of them.
     #[inline(never)]
+    #[tactic(auto, using(crate::proofs::PayLemmas::row_unpaid, crate::proofs::PayLemmas::row_paid))]
     pub fn make_array(&mut self, alloc: Global, count: u32) -> Result<Next, NoMemory>
         requires within { count ≤ length self.old.operands }
         ensures value { (code : Code) → IfOk result (λ next. Does (weighs_and_acts code (instr.MakeArray count)) self.old next self.new) }
     {
+        if !self.pay_composite(count as usize) {
+            return Ok(Next::Fault(BUDGET_PASSED));
+        }
         let elements = self.operands.pop_values(alloc, count as usize)?;
         let made = array_of(alloc, elements)?;
-        let weight = result_weight(&made);
-        self.finish(made, weight)
+        self.operands.push(made)?;
+        Ok(Next::On)
     }
 
     /// Pops the parts and pushes the tuple of them.
     #[inline(never)]
+    #[tactic(auto, using(crate::proofs::PayLemmas::row_unpaid, crate::proofs::PayLemmas::row_paid))]
     pub fn make_tuple(&mut self, alloc: Global, count: u32) -> Result<Next, NoMemory>
         requires within { count ≤ length self.old.operands }
         ensures value { (code : Code) → IfOk result (λ next. Does (weighs_and_acts code (instr.MakeTuple count)) self.old next self.new) }
     {
+        if !self.pay_composite(count as usize) {
+            return Ok(Next::Fault(BUDGET_PASSED));
+        }
         let parts = self.operands.pop_values(alloc, count as usize)?;
         let made = tuple_of(alloc, parts)?;
-        let weight = result_weight(&made);
-        self.finish(made, weight)
+        self.operands.push(made)?;
+        Ok(Next::On)
     }
 
     /// Pops the keys and values and pushes the map of them.

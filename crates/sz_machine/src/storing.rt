@@ -5,13 +5,13 @@ ghost use Rattle.sz_machine_rules.specs.Rows.{indexes_in, store};
 ghost use Rattle.sz_machine.specs.Acting.{Does};
 ghost use Rattle.sz_machine.specs.Storing.{stores_values};
 
-use crate::held::{Held, Next, STORE_OUTSIDE, UNDEFINED_USED, again};
+use crate::run_state::{Next, RunState, STORE_OUTSIDE, UNDEFINED_USED, again};
 use std::alloc::Global;
 use sz_instr::{Step, Steps};
 use sz_machine_cells::{indexes_in, stored_in};
 use sz_value::{List, NoMemory, Value};
 
-impl Held {
+impl RunState {
     /// Pops a value and the indexes of the path, and puts the value where the path leads in the local.
     #[inline(always)]
     pub fn store(&mut self, alloc: Global, n: u32, path: &Steps) -> Result<Next, NoMemory>

@@ -7,17 +7,30 @@ use Rattle.sz_machine_rules.specs.Runs.{EndsRecord}
 use Rattle.sz_machine.specs.Acting.{state_of, in_record}
 use Rattle.sz_machine.specs.Ends.{seen_end}
 use Rattle.sz_machine.specs.CodeRuns.{OfEnds}
-use Rattle.sz_machine.proofs.RunLemmas.{begun, record_ends, record_outcome}
+use Rattle.sz_machine.proofs.LineLemmas.{record_lines}
+use Rattle.sz_machine.proofs.RunLemmas.{begun, record_ends, record_within, record_outcome}
 use Rattle.sz_machine.proofs.code_run.Room.run.Goals as goal
 
-pub run_record-requires : goal.run_record-requires
-run_record-requires c =
+pub run_record-requires-clause-there : goal.run_record-requires-clause-there
+run_record-requires-clause-there c =
+    let record_is : c.set_bytes.new.self ≡ Some (bytes c.args.input.now) = search rules in
+    rw record_is refl
+
+pub run_record-requires-clause-ends : goal.run_record-requires-clause-ends
+run_record-requires-clause-ends c =
     let is : c.begin.new.self ≡ begun c.args.code.now.main (new_world c.args.budget) = search rules in
     let record_is : c.set_bytes.new.self ≡ Some (bytes c.args.input.now) = search rules in
-    record {
-      there = rw record_is refl;
-      ends = rw record_is (record_ends c.args.code.now c.args.input.now c.args.statics.now c.args.budget c.begin.new.self is c.requires.ends);
-    }
+    rw record_is (record_ends c.args.code.now c.args.input.now c.args.statics.now c.args.budget c.begin.new.self is c.requires.ends)
+
+pub run_record-requires-clause-within : goal.run_record-requires-clause-within
+run_record-requires-clause-within c =
+    let is : c.begin.new.self ≡ begun c.args.code.now.main (new_world c.args.budget) = search rules in
+    let record_is : c.set_bytes.new.self ≡ Some (bytes c.args.input.now) = search rules in
+    rw record_is (record_within c.args.code.now c.args.input.now c.args.statics.now c.args.budget c.begin.new.self is _ (search rules))
+
+-- the run ends after some number of lines
+pub invariant_of-asked : goal.invariant_of-asked
+invariant_of-asked c = record { lines = record_lines c.args.code.now c.args.input.now c.args.statics.now c.args.budget c.requires.ends }
 
 pub returns : goal.returns
 returns c =

@@ -1,6 +1,0 @@
--- The values are fewer each time.
-use Rattle.std.proofs.Common.{length}
-use Rattle.sz_machine.proofs.held.Held.+pay_all.Given as goal
-
-abbrev pub decreases-pay_all : goal.decreases-pay_all
-decreases-pay_all l = length l.values.now

@@ -1,0 +1,27 @@
+-- The weight is popped first, if there is one.
+use Rattle.std.proofs.Common.{rules, ◌≡◌, ◌∙◌, ◌≤◌, ◌+◌, true, false, length}
+use Rattle.std.proofs.lemmas.Result.{IfOk-weaker}
+use Rattle.sz_machine.specs.Acting.{state_of}
+use Rattle.sz_machine.proofs.EmitLemmas.{emits_without, emits_with_weight}
+use Rattle.sz_machine.proofs.run_state.RunState.emit_any.Goals as goal
+
+pub returns-then-weighted : goal.returns-then-weighted
+returns-then-weighted c =
+    let weighted : c.args.weighted ≡ true = search rules in
+    let within : c.args.indexes + 2 ≤ length c.args.self.now.operands = rw weighted at c.requires.within in
+    record {
+      value = λ code. IfOk-weaker c.emit_on_top.result _ _
+          (λ next does place a. rw weighted (emits_with_weight code c.args.table c.args.indexes place (state_of c.args.self.now a) c.pop-weight.result
+          c.pop-weight.new.self c.pop-weight.ensures.value within ∙ does place a))
+          c.emit_on_top.ensures.value;
+    }
+
+pub returns-else-weighted : goal.returns-else-weighted
+returns-else-weighted c =
+    let weighted : c.args.weighted ≡ false = search rules in
+    let within : c.args.indexes + 1 ≤ length c.args.self.now.operands = rw weighted at c.requires.within in
+    record {
+      value = λ code. IfOk-weaker c.emit_on_top-else-weighted.result _ _
+          (λ next does place a. rw weighted (emits_without code c.args.table c.args.indexes place (state_of c.args.self.now a) within ∙ does place a))
+          c.emit_on_top-else-weighted.ensures.value;
+    }

@@ -1,0 +1,86 @@
+//! A run in place: what lines change.
+ghost use Rattle.std.specs.Prelude.{◌≡◌, ◌<◌, ◌∷◌, length, drop, IfOk, OnOk};
+ghost use Rattle.sz_value.specs.Data.{Datum};
+ghost use Rattle.sz_machine.specs.Acting.{Paid, Does, results};
+
+use std::alloc::Global;
+use sz_machine_cells::{Calls, Cell, Operands};
+use sz_tabs::Emits;
+use sz_value::NoMemory;
+
+/// A run in place: its operands and open calls, the emits so far, and the ticks that are left.
+pub struct RunState {
+    pub operands: Operands,
+    pub calls: Calls,
+    pub emits: Emits,
+    pub left: u64,
+}
+
+impl Drop for RunState {
+    fn drop(self) {
+        let RunState {
+            operands: _,
+            calls: _,
+            emits: _,
+            left: _,
+        } = self;
+    }
+}
+
+/// Where a run goes: on after the line, to a place, to its end, or to a fault of this kind.
+#[derive(Clone, Copy)]
+pub enum Next {
+    On,
+    To(usize),
+    End,
+    Fault(u8),
+}
+
+/// An undefined value was used.
+pub const UNDEFINED_USED: u8 = 1;
+/// A store led outside of the value.
+pub const STORE_OUTSIDE: u8 = 2;
+/// A call was made while as many as possible were open.
+pub const CALLS_TOO_DEEP: u8 = 3;
+/// More ticks were needed than were left.
+pub const BUDGET_PASSED: u8 = 4;
+
+impl RunState {
+    /// Takes so many ticks, if they are left.
+    #[inline(always)]
+    pub fn pay(&mut self, ticks: u64) -> bool
+        ensures value { Paid ticks self.old result self.new }
+    {
+        if ticks > self.left {
+            return false;
+        }
+        self.left -= ticks;
+        true
+    }
+
+    /// Takes the weight of a result, and leaves the result on the operands.
+    #[inline(always)]
+    pub fn finish(&mut self, made: Cell, weight: u64) -> Result<Next, NoMemory>
+        ensures value { IfOk result (λ next. Does (results weight made) self.old next self.new) }
+    {
+        if !self.pay(weight) {
+            return Ok(Next::Fault(BUDGET_PASSED));
+        }
+        self.operands.push(made)?;
+        Ok(Next::On)
+    }
+}
+
+/// The answer of a row that stands out of line, taken apart and made anew: so the loop's own answer never has a place in memory.
+#[inline(always)]
+pub fn again(answer: Result<Next, NoMemory>) -> Result<Next, NoMemory>
+    ensures value { result ≡ answer }
+{
+    match answer {
+        Ok(Next::On) => Ok(Next::On),
+        Ok(Next::To(to)) => Ok(Next::To(to)),
+        Ok(Next::End) => Ok(Next::End),
+        Ok(Next::Fault(kind)) => Ok(Next::Fault(kind)),
+        Err(error) => Err(error),
+    }
+}
