@@ -1,7 +1,7 @@
 -- What a run emits is paid for: the parts of each emit weigh no more than the budget.
 use Rattle.std.proofs.Common.{◌≡◌, ◌∙◌, ℕ, zero, suc, ◌+◌, ◌<◌, ◌≤◌, Bool, true, false, Option, Some, None, List, [], ◌∷◌, ◌++◌, All, IfSome, nat_lt, arith}
-use Rattle.std.proofs.Common.{refl, sym, ap, subst}
-use Rattle.std.specs.Prelude.{ℤ, ◌-◌, slice_get, if◌then◌else◌, drop, length}
+use Rattle.std.proofs.Common.{refl, sym, ap, subst, inl, inr}
+use Rattle.std.specs.Prelude.{ℤ, ◌-◌, slice_get, if◌then◌else◌, drop, length, ◌⊎◌}
 use Rattle.std.specs.Option.{option_map}
 use Rattle.std.proofs.lemmas.Bool.Decides.{nat_tests}
 use Rattle.std.proofs.lemmas.List.Elements.{All-nil, All-push}
@@ -19,10 +19,10 @@ use Rattle.sz_instr.specs.declared.code.Code.{Code}
 use Rattle.sz_world_rules.specs.World.{World, new_world, spend, Outcome, Done, Faulted, calls_too_deep, most_open_calls}
 use Rattle.sz_world_rules.specs.Slots.{Slot, all_defined}
 use Rattle.sz_world_rules.specs.Ticks.{weight_of_all}
-use Rattle.sz_world_rules.specs.Emits.{EmitParts, listed, slots_of, emit_with, emit_weighted, emit_by_weight, emit_of, weight_number, weight_if_all, emit_weight, with_emit}
+use Rattle.sz_world_rules.specs.Emits.{EmitParts, listed, slots_of, emit_with, emit_weighted, emit_by_weight, emit_of, weight_number, weight_if_all, emit_weight, line_emit, emit_or_line, with_emit}
 use Rattle.sz_world_rules.specs.Stores.{Stored, Holds, Undefined, Outside}
 use Rattle.sz_machine_rules.specs.States.{Caller, State, After, Goes, Halts, Faults, Stuck, goes_to, goes_on, faults, on_one, on_two, on_three, popped}
-use Rattle.sz_machine_rules.specs.Rows.{after_store, if_true_or_fault, if_true, if_false, if_defined, enter}
+use Rattle.sz_machine_rules.specs.Rows.{pass_over, after_store, by_truth, if_true, if_false, if_defined, enter}
 use Rattle.sz_machine_rules.specs.Rows.{call_with, call_routine, leave_to, next_candidate, drop_list, emit_parts, act}
 use Rattle.sz_machine_rules.specs.Runs.{charged, does, charge_of, LeadsBy, GoesOn, RunsFor, EndsRecord, RunsTo}
 
@@ -50,11 +50,15 @@ weight_append : (ds es : List Datum) → weight_of_all (ds ++ es) ≡ weight_of_
 weight_append [] es = omega arith
 weight_append (d ∷ ds) es = omega (arith, weight_append ds es)
 
+-- the emit counts a line
+abbrev pub CountsLine : EmitDatum → Type 0
+CountsLine e = (table : ℕ) × (place : Place) × (e ≡ line_emit table place)
+
 -- the weight of an emit's parts is among its ticks
 module _ (budget : ℕ) where
-  -- the ticks of an emit are enough for its indexes and its value
+  -- the ticks of an emit are enough for its indexes and its value, or it counts a line
   abbrev pub IsPaid : EmitDatum → Type 0
-  IsPaid e = parts_weight e ≤ budget
+  IsPaid e = (parts_weight e ≤ budget) ⊎ CountsLine e
 
   -- an emit whose parts weigh no more is paid
   module _ (table : ℕ) (indexes : List Slot) where
@@ -66,7 +70,7 @@ module _ (budget : ℕ) where
     plain_paid (Some ds) is (Some v) others es are less weight =
         let all = appended indexes (Some v ∷ others) ds (v ∷ es) is (ap (option_map (λ l. v ∷ l)) are) in
         let sum = ap weight_if_all all ∙ weight_append ds (v ∷ es) in
-        omega (arith, less, sum)
+        inl (omega (arith, less, sum))
 
     weighted_paid : (value : Slot) (x : Datum) → weight_if_all (all_defined (indexes ++ value ∷ Some x ∷ [])) ≤ budget → (weight : Option ℤ)
         → IfSome (emit_weighted table (all_defined indexes) value weight) IsPaid
@@ -115,18 +119,29 @@ module _ (budget : ℕ) where
   on_top_three (z ∷ y ∷ []) go keeps = tt
   on_top_three (z ∷ y ∷ x ∷ rest) go keeps = keeps x y z rest
 
-  either_or_fault : (x : Slot) (place : Place) (first second : After) → KeepsAfter first → KeepsAfter second
-      → KeepsAfter (if_true_or_fault x place first second)
-  either_or_fault None place first second f s = tt
-  either_or_fault (Some (truth true)) place first second f s = f
-  either_or_fault (Some (truth false)) place first second f s = s
-  either_or_fault (Some (int n)) place first second f s = s
-  either_or_fault (Some (time n)) place first second f s = s
-  either_or_fault (Some (str n)) place first second f s = s
-  either_or_fault (Some (bytes n)) place first second f s = s
-  either_or_fault (Some (array n)) place first second f s = s
-  either_or_fault (Some (tuple n)) place first second f s = s
-  either_or_fault (Some (mapping n)) place first second f s = s
+  one_of_three : (x : Slot) (first second unknown : After) → KeepsAfter first → KeepsAfter second → KeepsAfter unknown
+      → KeepsAfter (by_truth x first second unknown)
+  one_of_three None first second unknown f s u = u
+  one_of_three (Some (truth true)) first second unknown f s u = f
+  one_of_three (Some (truth false)) first second unknown f s u = s
+  one_of_three (Some (int n)) first second unknown f s u = s
+  one_of_three (Some (time n)) first second unknown f s u = s
+  one_of_three (Some (str n)) first second unknown f s u = s
+  one_of_three (Some (bytes n)) first second unknown f s u = s
+  one_of_three (Some (array n)) first second unknown f s u = s
+  one_of_three (Some (tuple n)) first second unknown f s u = s
+  one_of_three (Some (mapping n)) first second unknown f s u = s
+
+  -- where a statement is passed over, what is emitted counts a line
+  passed_keeps : (counting : Option ℕ) (place : Place) (s : State) (to : ℕ) (stack : List Slot) → Keeps s.world
+      → KeepsAfter (pass_over counting place s to stack)
+  passed_keeps None place s to stack keeps = tt
+  passed_keeps (Some table) place s to stack keeps = with_paid s.world (Some (line_emit table place)) keeps (inr (table, place, refl))
+
+  or_line_paid : (found : Option EmitDatum) (counting : Option ℕ) (place : Place) → IfSome found IsPaid → IfSome (emit_or_line found counting place) IsPaid
+  or_line_paid (Some e) counting place paid = paid
+  or_line_paid None None place paid = tt
+  or_line_paid None (Some table) place paid = inr (table, place, refl)
 
   either_true : (x : Slot) (first second : After) → KeepsAfter first → KeepsAfter second → KeepsAfter (if_true x first second)
   either_true None first second f s = s
@@ -152,14 +167,15 @@ module _ (budget : ℕ) where
   either_false (Some (tuple n)) first second f s = s
   either_false (Some (mapping n)) first second f s = s
 
-  or_fault : (x : Slot) (place : Place) (next : After) → KeepsAfter next → KeepsAfter (if_defined x place next)
-  or_fault None place next f = tt
-  or_fault (Some d) place next f = f
+  either_defined : (x : Slot) (next unknown : After) → KeepsAfter next → KeepsAfter unknown → KeepsAfter (if_defined x next unknown)
+  either_defined None next unknown f u = u
+  either_defined (Some d) next unknown f u = f
 
-  stored_keeps : (found : Stored) (place : Place) (n : ℕ) (s : State) (stack : List Slot) → Keeps s.world → KeepsAfter (after_store found place n s stack)
-  stored_keeps (Holds d) place n s stack keeps = keeps
-  stored_keeps Undefined place n s stack keeps = tt
-  stored_keeps Outside place n s stack keeps = tt
+  stored_keeps : (counting : Option ℕ) (found : Stored) (place : Place) (n : ℕ) (s : State) (stack : List Slot) → Keeps s.world
+      → KeepsAfter (after_store counting found place n s stack)
+  stored_keeps counting (Holds d) place n s stack keeps = keeps
+  stored_keeps counting Undefined place n s stack keeps = passed_keeps counting place s (suc s.at) stack keeps
+  stored_keeps counting Outside place n s stack keeps = tt
 
   called_keeps : (found : Option Routine) (place : Place) (s : State) → Keeps s.world → KeepsAfter (call_routine found place s)
   called_keeps None place s keeps = tt
@@ -202,7 +218,7 @@ module _ (budget : ℕ) where
     act_keeps (Keep n) place s w takes keeps = on_top s.stack _ (λ x rest. keeps)
     act_keeps (KeepStatic n) place s w takes keeps = on_top s.stack _ (λ x rest. keeps)
     act_keeps (Clear n) place s w takes keeps = keeps
-    act_keeps (Store n path) place s w takes keeps = on_top s.stack _ (λ x rest. stored_keeps _ place n (record s { world = w }) _ keeps)
+    act_keeps (Store n path) place s w takes keeps = on_top s.stack _ (λ x rest. stored_keeps code.ignore _ place n (record s { world = w }) _ keeps)
     act_keeps (Unary op) place s w takes keeps = on_top s.stack _ (λ x rest. keeps)
     act_keeps (Binary op) place s w takes keeps = on_top_two s.stack _ (λ x y rest. keeps)
     act_keeps (Apply b) place s w takes keeps = keeps
@@ -217,15 +233,17 @@ module _ (budget : ℕ) where
     act_keeps Def place s w takes keeps = on_top s.stack _ (λ x rest. keeps)
     act_keeps Tick place s w takes keeps = keeps
     act_keeps (Jump to) place s w takes keeps = keeps
-    act_keeps (Test to) place s w takes keeps = on_top s.stack _ (λ x rest. either_or_fault x place _ _ keeps keeps)
+    act_keeps (Test to past) place s w takes keeps =
+        on_top s.stack _ (λ x rest. one_of_three x _ _ _ keeps keeps (passed_keeps code.ignore place (record s { world = w }) past rest keeps))
     act_keeps (AndTest to) place s w takes keeps = on_top s.stack _ (λ x rest. either_true x _ _ keeps keeps)
     act_keeps (OrTest to) place s w takes keeps = on_top s.stack _ (λ x rest. either_false x _ _ keeps keeps)
     act_keeps (Call function) place s w takes keeps = called_keeps (slice_get code.functions function) place (record s { world = w }) keeps
     act_keeps Return place s w takes keeps = on_top s.stack _ (λ x rest. left_keeps s.callers x (record s { world = w }) rest keeps)
     act_keeps EndRecord place s w takes keeps = keeps
-    act_keeps Discard place s w takes keeps = on_top s.stack _ (λ x rest. or_fault x place _ keeps)
+    act_keeps Discard place s w takes keeps =
+        on_top s.stack _ (λ x rest. either_defined x _ _ keeps (passed_keeps code.ignore place (record s { world = w }) (suc s.at) rest keeps))
     act_keeps (Emit table indexes weighted) place s w takes keeps =
-        with_paid w _ keeps (emit_paid table (emit_parts indexes weighted s.stack) takes)
+        with_paid w _ keeps (or_line_paid _ code.ignore place (emit_paid table (emit_parts indexes weighted s.stack) takes))
     act_keeps (Enter slice) place s w takes keeps = on_top s.stack _ (λ x rest. keeps)
     act_keeps (Next n to) place s w takes keeps = next_keeps s.lists n to (record s { world = w }) keeps
     act_keeps Leave place s w takes keeps = dropped_keeps s.lists (record s { world = w }) keeps

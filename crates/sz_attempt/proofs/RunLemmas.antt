@@ -5,11 +5,11 @@ use Rattle.std.specs.Prelude.{slice_get}
 use Rattle.std.specs.List.{slice_range}
 use Rattle.std.proofs.lemmas.List.Elements.{All-get_or}
 use Rattle.std.proofs.lemmas.Option.{slice_get_within}
-use Rattle.sz_core.specs.Programs.{tables_of}
 use Rattle.sz_tabs.specs.Data.{EmitDatum}
 use Rattle.sz_tabs.specs.Fitting.{IsEmitTo}
 use Rattle.sz_instr.specs.declared.code.Code.{Code}
 use Rattle.sz_world_rules.specs.World.{Fault, Outcome, Done, Faulted}
+use Rattle.sz_mean.specs.Marked.{all_tables}
 use Rattle.sz_mean.specs.Programs.{mean}
 use Rattle.sz_mean.specs.Records.{Emitted, FaultedAt}
 use Rattle.sz_mean.proofs.EmitCosts.{emits_are_paid}
@@ -122,7 +122,7 @@ module _ (job : Job) (code : Code) (compiled : IsCompiled job.compiled code) (is
 
   -- its emits fit the program's tables
   pub fit_tables : (es : List EmitDatum) → mean job.compiled job.statics job.budget input ≡ Done es
-      → All (IsEmitTo (tables_of job.compiled.items)) es
+      → All (IsEmitTo (all_tables job.compiled)) es
   fit_tables es means =
       subst (λ ts. All (IsEmitTo ts) es) compiled.tables
       (emits_fit code input job.statics job.budget es (subst (RunsTo code input job.statics job.budget) means runs))

@@ -1,5 +1,5 @@
 -- What weighs no more than a budget has short lengths.
-use Rattle.std.proofs.Common.{◌≡◌, ℕ, ◌+◌, ◌<◌, ◌≤◌, ◌^◌, List, [], ◌∷◌, length, All, arith}
+use Rattle.std.proofs.Common.{◌≡◌, ℕ, ◌+◌, ◌<◌, ◌≤◌, ◌^◌, List, [], ◌∷◌, length, All, sym, subst, inl, inr, arith}
 use Rattle.std.proofs.lemmas.List.Elements.{All-weaker}
 use Rattle.sz_value.specs.Data.{Datum, truth, int, time, str, bytes, array, tuple, mapping, Data, no_data, datum, data_of, parts_of, Entries, no_entries, entry, pairs_of}
 use Rattle.sz_value.specs.Weight.{full_weight, data_weight, entries_weight, weight_of}
@@ -53,8 +53,11 @@ list_short : (ds : List Datum) → weight_of_all ds ≤ 2 ^ 32 → HaveShortLeng
 list_short [] h = tt
 list_short (d ∷ ds) h = (value_short d (omega (arith, h)), list_short ds (omega (arith, h)))
 
--- emits whose ticks were within a budget have short lengths
+-- emits whose ticks were within a budget have short lengths, and so has the count of a line
 pub emits_short : (budget : ℕ) → budget ≤ 2 ^ 32 → (emits : List EmitDatum) → All (IsPaid budget) emits → All HasShortParts emits
-emits_short budget most emits =
-    All-weaker (IsPaid budget) HasShortParts
-    (λ e paid. record { indexes = list_short e.indexes (omega (arith, paid, most)); value = value_short e.value (omega (arith, paid, most)) }) emits
+emits_short budget most emits = All-weaker (IsPaid budget) HasShortParts parts_short emits
+  where
+    parts_short : (e : EmitDatum) → IsPaid budget e → HasShortParts e
+    parts_short e (inl paid) =
+        record { indexes = list_short e.indexes (omega (arith, paid, most)); value = value_short e.value (omega (arith, paid, most)) }
+    parts_short e (inr counts) = subst HasShortParts (sym counts.2) (record { indexes = (tt, tt); value = tt })

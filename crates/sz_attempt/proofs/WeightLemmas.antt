@@ -1,6 +1,6 @@
 -- Tables of a sound program have their weights.
 use Rattle.std.proofs.Common.{◌≡◌, ℕ, List, [], ◌∷◌, ◌++◌, Bool, true, false, ◌&&◌, Option, Some, None, is_some, refl}
-use Rattle.std.proofs.lemmas.List.Elements.{All-nil, All-cons}
+use Rattle.std.proofs.lemmas.List.Elements.{All-nil, All-cons, All-push}
 use Rattle.sz_types.specs.Data.{Shape}
 use Rattle.sz_types.specs.Tables.{Declaration}
 use Rattle.sz_types.specs.declared.table.TableKind.{TableKind}
@@ -9,6 +9,7 @@ use Rattle.sz_core.specs.Programs.{Item, Core, tables_of}
 use Rattle.sz_core.specs.Programs as items
 use Rattle.sz_core.specs.Sound.{IsSound, AreItems, Declared, nothing_declared, record_sight, seen_after}
 use Rattle.sz_core.specs.WellFormed.{kind_allows, is_weight, is_between}
+use Rattle.sz_mean.specs.Marked.{Marked, table_of_lines, with_lines, all_tables}
 use Rattle.sz_total.specs.Weights.{ranks, HasItsWeights, HaveTheirWeights}
 
 both_true : (a b : Bool) → (a && b) ≡ true → b ≡ true
@@ -41,5 +42,15 @@ items_have_weights locals seen d (items.statement s ∷ rest) sound =
     items_have_weights locals (seen_after (record_sight locals seen d) s).seen d rest sound.1
 
 -- each table of a sound program has weights if it ranks its values by them
-pub have_their_weights : (program : Core) → IsSound program → HaveTheirWeights (tables_of program.items)
-have_their_weights program sound = items_have_weights program.locals [] nothing_declared program.items sound.items
+declared_have_weights : (core : Core) → IsSound core → HaveTheirWeights (tables_of core.items)
+declared_have_weights core sound = items_have_weights core.locals [] nothing_declared core.items sound.items
+
+-- the table of lines ranks nothing
+pub have_their_weights : (program : Marked) → IsSound program.core → HaveTheirWeights (all_tables program)
+have_their_weights program sound = by program.ignoring
+  where
+    by : (ignoring : Bool) → HaveTheirWeights (with_lines ignoring (tables_of program.core.items))
+    by false = declared_have_weights program.core sound
+    by true =
+        All-push HasItsWeights (tables_of program.core.items) table_of_lines (declared_have_weights program.core sound)
+        (λ ranked. absurd (cc))

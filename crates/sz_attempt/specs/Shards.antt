@@ -9,8 +9,8 @@ use Rattle.sz_attempt.specs.declared.job.Shard.{Shard}
 
 -- the program is sound, its statics have their types, and a record may have this budget
 pub record IsJob (job : Job) : Type 0 where
-  pub sound : IsSound job.compiled
-  pub statics : AllFit job.statics (static_types job.compiled)
+  pub sound : IsSound job.compiled.core
+  pub statics : AllFit job.statics (static_types job.compiled.core)
   pub budget : IsBudget job.budget
 
 -- the shard lies among these records, and none of its records has a number above 2^31

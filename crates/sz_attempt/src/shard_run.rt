@@ -1,6 +1,6 @@
 //! Attempts, run.
 ghost use Rattle.std.specs.Prelude.{◌≡◌, ◌+◌, ◌-◌, ◌*◌, ◌<◌, ◌≤◌, ◌^◌, [], ◌∷◌, length, take, All, IfOk, OnOk};
-ghost use Rattle.sz_core.specs.Programs.{tables_of};
+ghost use Rattle.sz_mean.specs.Marked.{all_tables};
 ghost use Rattle.sz_tabs.specs.Fitting.{IsEmitTo};
 ghost use Rattle.sz_total.specs.Short.{HasShortParts};
 ghost use Rattle.sz_attempt.specs.Shards.{shard_at, records_of, IsShardIn, IsJob};
@@ -134,7 +134,7 @@ fn run_record<'a>(
     part: &mut Total<'a>,
 ) -> Result<Option<Fault>, NoMemory>
     requires job { IsJob job.now }
-    requires tables { part.old.tables ≡ tables_of job.now.compiled.items }
+    requires tables { part.old.tables ≡ all_tables job.now.compiled }
     requires few { part.old.count + 2 ^ 32 ≤ 2 ^ 63 }
     ensures value { IfOk result (λ fault. RunsRecord job.now input.now part.old part.new fault) }
 {

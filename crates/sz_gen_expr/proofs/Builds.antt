@@ -1,5 +1,5 @@
 -- How pieces of code in the making are put together.
-use Rattle.std.proofs.Common.{◌≡◌, ◌∙◌, ℕ, suc, ◌+◌, ◌<◌, ◌≤◌, List, [], ◌∷◌, ◌++◌, length, Bool, true, false, refl, sym, ap, subst, append_assoc, append-nil, length-append, if◌then◌else◌, arith, map}
+use Rattle.std.proofs.Common.{◌≡◌, ◌∙◌, ℕ, suc, ◌+◌, ◌<◌, ◌≤◌, List, [], ◌∷◌, ◌++◌, length, Bool, true, false, Option, refl, sym, ap, subst, append_assoc, append-nil, length-append, if◌then◌else◌, arith, map}
 use Rattle.std.specs.Ordering.{is_eq}
 use Rattle.sz_types.specs.Data.{Shape}
 use Rattle.sz_types.specs.Same.{alike}
@@ -21,7 +21,7 @@ use Rattle.sz_types.specs.Seen.{seen as shape_of}
 use Rattle.sz_core.specs.Nodes.{Node, Form, nodes_of, pairings_of}
 use Rattle.sz_core.specs.declared.expr.CoreExpr.{CoreExpr}
 use Rattle.sz_core.specs.View.{node_of, form_of}
-use Rattle.sz_gen_expr.specs.Building.{with_constant, with_type, aimed, tables_made, Grows, Appends, AppendsLine, AppendsNode, AppendsClosed, AppendsList, Lands, Nothing}
+use Rattle.sz_gen_expr.specs.Building.{with_constant, with_type, aimed, tables_made, Grows, Appends, AppendsLine, AppendsNode, AppendsClosed, AppendsList, LandsBy, Lands, Nothing}
 
 begins_itself : {A : Type 0} (xs : List A) → BeginsWith xs xs
 begins_itself xs = ([], sym (append-nil xs))
@@ -43,8 +43,9 @@ pub grows_same : (a b : Tables) → b.constants ≡ a.constants → b.types ≡ 
 grows_same a b c t = record { constants = ([], c ∙ sym (append-nil a.constants)); types = ([], t ∙ sym (append-nil a.types)) }
 
 -- a line that was given its target
-pub landed_grows : {old new : Builder} {at : ℕ} → Lands old new at → Grows (tables_made old) (tables_made new)
-landed_grows {old} {new} h = grows_same (tables_made old) (tables_made new) h.constants h.types
+pub landed_grows : {change : Instr → ℕ → Option Instr} {old new : Builder} {at : ℕ} → LandsBy change old new at
+    → Grows (tables_made old) (tables_made new)
+landed_grows {change} {old} {new} h = grows_same (tables_made old) (tables_made new) h.constants h.types
 
 -- one line
 pub pushed : (old new : Builder) (i : Instr) (charge : ℕ) (place : Place) → new.lines ≡ old.lines ++ line i charge place ∷ []

@@ -7,28 +7,29 @@ use Rattle.sz_types.specs.declared.place.Place.{Place}
 use Rattle.sz_instr.specs.declared.instr.Instr.TheVariants.{Tick}
 use Rattle.sz_gen_rules.specs.ExpressionCode.{decided}
 use Rattle.sz_gen_rules.specs.Tables.{line}
-use Rattle.sz_gen_expr.specs.Building.{with_target, aimed, with_instr, patched}
+use Rattle.sz_gen_expr.specs.Building.{with_target, aimed, with_instr, changed, patched}
 
-pub patched_set : (lines : List Line) (at to : ℕ) (l : Line) (i : Instr) → slice_get lines at ≡ Some l → with_target l.instr to ≡ Some i
-    → slice_set lines at (line i l.charge l.place) ≡ patched lines at to
-patched_set [] at to l i found is = absurd cc
-patched_set (k ∷ lines) zero to l i found is =
-    let same : k ≡ l = cc in
-    sym (ap (λ (m : Line). with_instr (with_target m.instr to) m ∷ lines) same ∙ ap (λ o. with_instr o l ∷ lines) is)
-patched_set (k ∷ lines) (suc at) to l i found is = ap (λ ls. k ∷ ls) (patched_set lines at to l i found is)
+module _ (change : Instr → ℕ → Option Instr) where
+  pub changed_set : (lines : List Line) (at to : ℕ) (l : Line) (i : Instr) → slice_get lines at ≡ Some l → change l.instr to ≡ Some i
+      → slice_set lines at (line i l.charge l.place) ≡ changed change lines at to
+  changed_set [] at to l i found is = absurd cc
+  changed_set (k ∷ lines) zero to l i found is =
+      let same : k ≡ l = cc in
+      sym (ap (λ (m : Line). with_instr (change m.instr to) m ∷ lines) same ∙ ap (λ o. with_instr o l ∷ lines) is)
+  changed_set (k ∷ lines) (suc at) to l i found is = ap (λ ls. k ∷ ls) (changed_set lines at to l i found is)
 
-pub patched_none : (lines : List Line) (at to : ℕ) (l : Line) → slice_get lines at ≡ Some l → with_target l.instr to ≡ None
-    → patched lines at to ≡ lines
-patched_none [] at to l found is = absurd cc
-patched_none (k ∷ lines) zero to l found is =
-    let same : k ≡ l = cc in
-    ap (λ (m : Line). with_instr (with_target m.instr to) m ∷ lines) same ∙ ap (λ o. with_instr o l ∷ lines) is ∙ ap (λ m. m ∷ lines) (sym same)
-patched_none (k ∷ lines) (suc at) to l found is = ap (λ ls. k ∷ ls) (patched_none lines at to l found is)
+  pub changed_none : (lines : List Line) (at to : ℕ) (l : Line) → slice_get lines at ≡ Some l → change l.instr to ≡ None
+      → changed change lines at to ≡ lines
+  changed_none [] at to l found is = absurd cc
+  changed_none (k ∷ lines) zero to l found is =
+      let same : k ≡ l = cc in
+      ap (λ (m : Line). with_instr (change m.instr to) m ∷ lines) same ∙ ap (λ o. with_instr o l ∷ lines) is ∙ ap (λ m. m ∷ lines) (sym same)
+  changed_none (k ∷ lines) (suc at) to l found is = ap (λ ls. k ∷ ls) (changed_none lines at to l found is)
 
--- the line after others
-pub patched_after : (a b : List Line) (to : ℕ) → patched (a ++ b) (length a) to ≡ a ++ patched b 0 to
-patched_after [] b to = refl
-patched_after (l ∷ a) b to = ap (λ ls. l ∷ ls) (patched_after a b to)
+  -- the line after others
+  pub changed_after : (a b : List Line) (to : ℕ) → changed change (a ++ b) (length a) to ≡ a ++ changed change b 0 to
+  changed_after [] b to = refl
+  changed_after (l ∷ a) b to = ap (λ ls. l ∷ ls) (changed_after a b to)
 
 aimed_line : (i : Instr) (to charge : ℕ) (place : Place) → with_instr (with_target i to) (line i charge place) ≡ line (aimed i to) charge place
 aimed_line i to charge place = by (with_target i to)
@@ -49,6 +50,6 @@ decided_lines l0 l1 l2 l3 l4 right test place at is_at e1 e2 e3 e4 =
     let f2 : l2 ≡ l0 ++ (front ∷ code) = e2 ∙ (λ j. e1 j ++ right (n1 j)) ∙ append_assoc l0 (front ∷ []) code in
     let n2 : length l2 ≡ start + length code = omega (arith, ap length f2, length-append l0 (front ∷ code)) in
     let tested = line (aimed test (start + length code)) 0 place in
-    let f3 : l3 ≡ l0 ++ (tested ∷ code) = e3 ∙ (λ j. patched (f2 j) (is_at j) (n2 j)) ∙ patched_after l0 (front ∷ code) (start + length code)
+    let f3 : l3 ≡ l0 ++ (tested ∷ code) = e3 ∙ (λ j. patched (f2 j) (is_at j) (n2 j)) ∙ changed_after with_target l0 (front ∷ code) (start + length code)
     ∙ ap (λ l. l0 ++ (l ∷ code)) (aimed_line test (start + length code) 0 place) in
     e4 ∙ ap (λ l. l ++ line Tick 1 place ∷ []) f3 ∙ append_assoc l0 (tested ∷ code) (line Tick 1 place ∷ [])

@@ -28,13 +28,18 @@ with_type ts t = if list_any (λ s. alike s t) ts then ts else ts ++ t ∷ []
 -- the instruction with another target, if it has one
 abbrev pub with_target : Instr → ℕ → Option Instr
 with_target (Jump p) to = Some (Jump to)
-with_target (Test p) to = Some (Test to)
+with_target (Test p past) to = Some (Test to past)
 with_target (AndTest p) to = Some (AndTest to)
 with_target (OrTest p) to = Some (OrTest to)
 with_target (Next n p) to = Some (Next n to)
 with_target (Meets p) to = Some (Meets to)
 with_target (Fails p) to = Some (Fails to)
 with_target i to = None
+
+-- the test with another place for where it is undefined, if it is a test
+abbrev pub with_past : Instr → ℕ → Option Instr
+with_past (Test p past) to = Some (Test p to)
+with_past i to = None
 
 -- the instruction with this target, if it has one
 abbrev pub aimed : Instr → ℕ → Instr
@@ -45,11 +50,15 @@ abbrev pub with_instr : Option Instr → Line → Line
 with_instr None l = l
 with_instr (Some i) l = line i l.charge l.place
 
+-- the lines with the instruction at a place changed to lead to a line, if it can be
+abbrev pub changed : (Instr → ℕ → Option Instr) → List Line → ℕ → ℕ → List Line
+changed change [] at to = []
+changed change (l ∷ lines) zero to = with_instr (change l.instr to) l ∷ lines
+changed change (l ∷ lines) (suc at) to = l ∷ changed change lines at to
+
 -- the lines with another target in the one at a place
 abbrev pub patched : List Line → ℕ → ℕ → List Line
-patched [] at to = []
-patched (l ∷ lines) zero to = with_instr (with_target l.instr to) l ∷ lines
-patched (l ∷ lines) (suc at) to = l ∷ patched lines at to
+patched lines at to = changed with_target lines at to
 
 -- the tables of code in the making
 abbrev pub tables_made : Builder → Tables
@@ -69,13 +78,21 @@ pub record Appends (old new : Builder) (code : Tables → ℕ → List Line) (na
   pub functions : new.functions ≡ old.functions
   pub statics : new.statics ≡ old.statics
 
--- the line at the place leads to the next line now, if it leads anywhere, and all else is as before
-pub record Lands (old new : Builder) (at : ℕ) : Type 0 where
-  pub lines : new.lines ≡ patched old.lines at (length old.lines)
+-- the line at the place is changed to lead to the next line, if it can be, and all else is as before
+pub record LandsBy (change : Instr → ℕ → Option Instr) (old new : Builder) (at : ℕ) : Type 0 where
+  pub lines : new.lines ≡ changed change old.lines at (length old.lines)
   pub functions : new.functions ≡ old.functions
   pub statics : new.statics ≡ old.statics
   pub constants : new.constants ≡ old.constants
   pub types : new.types ≡ old.types
+
+-- the line at the place leads to the next line now, if it leads anywhere
+abbrev pub Lands : Builder → Builder → ℕ → Type 0
+Lands old new at = LandsBy with_target old new at
+
+-- the test at the place leads to the next line now where it is undefined
+abbrev pub LandsPast : Builder → Builder → ℕ → Type 0
+LandsPast old new at = LandsBy with_past old new at
 
 -- one line more, which may name something
 abbrev pub AppendsLine : Builder → Builder → (Tables → Instr) → (charge : ℕ) → Place → (Tables → Type 0) → Type 0

@@ -7,7 +7,7 @@ ghost use Rattle.sz_instr.specs.declared.instr.Instr.TheVariants.{Push};
 ghost use Rattle.sz_gen_rules.specs.Tables.{line, constant_number, type_number_in, HasConstant};
 ghost use Rattle.sz_gen_rules.specs.ExpressionCode.{changing, conversion};
 ghost use Rattle.sz_gen_rules.specs.Named.{HasTarget};
-ghost use Rattle.sz_gen_expr.specs.Building.{with_type, with_target, patched, Lands, AppendsLine, Nothing};
+ghost use Rattle.sz_gen_expr.specs.Building.{with_type, with_target, with_past, changed, patched, Lands, LandsPast, AppendsLine, Nothing};
 
 use crate::NoMemory;
 use crate::constants::Constants;
@@ -119,6 +119,38 @@ impl Builder {
     {
         let to = self.here();
         self.patch(at, to);
+    }
+
+    /// Gives the test at a place another place for where it is undefined. Another line stays as it is.
+    pub fn patch_past(&mut self, at: usize, past: usize)
+        requires within { at < length self.old.lines }
+        ensures lines { self.new.lines ≡ changed with_past self.old.lines at past }
+        ensures functions { self.new.functions ≡ self.old.functions }
+        ensures statics { self.new.statics ≡ self.old.statics }
+        ensures constants { self.new.constants ≡ self.old.constants }
+        ensures types { self.new.types ≡ self.old.types }
+    {
+        let line = self.lines.get(at);
+        let (charge, place) = (line.charge, line.place);
+        if let Some(instr) = passing(&line.instr, past) {
+            self.lines.set(
+                at,
+                Line {
+                    instr,
+                    charge,
+                    place,
+                },
+            );
+        }
+    }
+
+    /// Gives the test at a place the next line for where it is undefined.
+    pub fn land_past(&mut self, at: usize)
+        requires within { at < length self.old.lines }
+        ensures made { LandsPast self.old self.new at }
+    {
+        let past = self.here();
+        self.patch_past(at, past);
     }
 
     /// The allocator of the lists.
@@ -237,12 +269,22 @@ fn aimed(instr: &Instr, to: usize) -> Option<Instr>
 {
     match instr {
         Instr::Jump(_) => Some(Instr::Jump(to)),
-        Instr::Test(_) => Some(Instr::Test(to)),
+        Instr::Test(_, past) => Some(Instr::Test(to, *past)),
         Instr::AndTest(_) => Some(Instr::AndTest(to)),
         Instr::OrTest(_) => Some(Instr::OrTest(to)),
         Instr::Next(local, _) => Some(Instr::Next(*local, to)),
         Instr::Meets(_) => Some(Instr::Meets(to)),
         Instr::Fails(_) => Some(Instr::Fails(to)),
+        _ => None,
+    }
+}
+
+// The test with another place for where it is undefined, if it is a test.
+fn passing(instr: &Instr, past: usize) -> Option<Instr>
+    ensures value { result ≡ with_past instr.now past }
+{
+    match instr {
+        Instr::Test(to, _) => Some(Instr::Test(*to, past)),
         _ => None,
     }
 }

@@ -1,5 +1,5 @@
 -- The code of a program's functions does what its calls mean.
-use Rattle.std.proofs.Common.{◌≡◌, ◌∙◌, ℕ, zero, suc, ◌+◌, List, [], ◌∷◌, length, map, Bool, true, false, Some, None, refl, sym, ap, subst, arith}
+use Rattle.std.proofs.Common.{◌≡◌, ◌∙◌, ℕ, zero, suc, ◌+◌, List, [], ◌∷◌, length, map, Bool, true, false, Option, Some, None, refl, sym, ap, subst, arith}
 use Rattle.std.specs.Prelude.{slice_get, nat_lt, pos, if◌then◌else◌}
 use Rattle.std.proofs.lemmas.Bool.{lt-ltb}
 use Rattle.std.proofs.lemmas.Option.{slice_get_within}
@@ -29,6 +29,7 @@ use Rattle.sz_gen_rules.specs.StatementCode.{no_exits, statements_code}
 use Rattle.sz_gen_rules.specs.FreeLines.{free}
 use Rattle.sz_gen_rules.specs.ProgramCode.{zero_pushed, returns_undefined}
 use Rattle.sz_gen_rules.specs.Backward.{AfterExec, IsFixed}
+use Rattle.sz_gen_laws.proofs.Outcomes.{Counts}
 use Rattle.sz_gen_laws.proofs.Slots.{fit_at, fit_fresh}
 use Rattle.sz_gen_laws.proofs.Declared.{IsFrontOf, signed, Stands}
 use Rattle.sz_gen_laws.proofs.Statements.{all_run}
@@ -90,7 +91,8 @@ module _ (code : Code) (t : Shape) (types : List Shape) (x : After) (has_zero : 
 
 module _ (code : Code) (functions : List Function) (whole : Declared)
     (all_stand : (f : ℕ) (h : Function) → slice_get functions f ≡ Some h → Stands (tables_in code) code.lines code.functions whole f h)
-    (signatures : whole.functions ≡ map (λ (h : Function). h.signature) functions) (tables_same : code.tables ≡ whole.tables)
+    (signatures : whole.functions ≡ map (λ (h : Function). h.signature) functions) (tables_there : IsFrontOf whole.tables code.tables)
+    (counting : Option ℕ) (counts : Counts code counting)
     (slots : List Slot) (typed : AllFit slots whole.statics) where
   found : (f : ℕ) (g : Signature) → slice_get whole.functions f ≡ Some g → (h : Function) × (slice_get functions f ≡ Some h) × (h.signature ≡ g)
   found f g is = signed functions f g (subst (λ l. slice_get l f ≡ Some g) signatures is)
@@ -106,7 +108,7 @@ module _ (code : Code) (functions : List Function) (whole : Declared)
             (λ (q : Signature). length q.parameters) h.2,
       )
 
-  pub calls_run : (room limit : ℕ) → CallsBelow code whole.functions slots room limit (calls_at functions slots room)
+  pub calls_run : (room limit : ℕ) → CallsBelow code whole.functions slots room limit (calls_at functions counting slots room)
   calls_run zero limit = record {
     known = calls_known;
     runs = λ f g r place arguments s stack x is known fit same deep few h.
@@ -122,8 +124,8 @@ module _ (code : Code) (functions : List Function) (whole : Declared)
         let lines = code.lines in
         let tables = tables_in code in
         let sight = function_sight st.declared fn in
-        let calls = calls_at functions slots room in
-        let set : Setting = function_setting functions calls slots in
+        let calls = calls_at functions counting slots room in
+        let set : Setting = function_setting functions counting calls slots in
         let entered : Routine = record { entry = st.entry; params = length fn.signature.parameters; locals = length fn.locals } in
         let routine : r ≡ entered = some_same r entered (sym known ∙ st.known) in
         let b : nat_lt (length s.callers) most_open_calls ≡ true = lt-ltb (length s.callers) most_open_calls (omega (arith, deep)) in
@@ -140,9 +142,9 @@ module _ (code : Code) (functions : List Function) (whole : Declared)
         let h1 : AfterEval code fn.signature.result (record s { stack = stack }) (suc s.at) x
         (and_then (exec_all set fn.body locals s.world) (λ e. give (returned e))) =
         subst (λ o. AfterEval code fn.signature.result (record s { stack = stack }) (suc s.at) x
-        (run_function functions o calls slots arguments s.world)) hf.1
+        (run_function functions counting o calls slots arguments s.world)) hf.1
         (subst (λ (q : Signature). AfterEval code q.result (record s { stack = stack }) (suc s.at) x
-        (run_function functions (slice_get functions f) calls slots arguments s.world)) (sym hf.2) h) in
+        (run_function functions counting (slice_get functions f) calls slots arguments s.world)) (sym hf.2) h) in
         let fit1 : AllFit locals fn.locals = fit_fresh arguments fn.signature.parameters fn.locals st.sound.parameters.0 st.sound.parameters.1
         (subst (λ (q : Signature). AllFit (map (λ d. Some d) arguments) q.parameters) (sym hf.2) fit) in
         let below : (limit1 : ℕ) → CallsBelow code sight.functions slots room limit1 calls =
@@ -155,8 +157,8 @@ module _ (code : Code) (functions : List Function) (whole : Declared)
         } in
         subst (λ (y : Bool). NextComes code (if y then enter r arguments s stack else faults calls_too_deep place) x) (sym b)
         (subst (λ y. NextComes code (enter y arguments s stack) x) (sym routine)
-        (all_run code sight set room below
-        (λ n d e. subst (λ l. slice_get l n ≡ Some d) (sym tables_same) (st.before.tables n d e)) x fn.body sight
+        (all_run code sight set room below counts
+        (λ n d e. tables_there n d (st.before.tables n d e)) x fn.body sight
         (record { result = Some fn.signature.result; loop = false }) no_exits s1 at1
         st.sound.body st.names fit1 fixed tt tt (has_front lines st.entry front (returns_undefined tables) st.has) refl
         (body_ends code fn.signature.result fn.locals x st.zero s stack st.entry at1 locals (has_back lines st.entry front (returns_undefined tables) st.has)

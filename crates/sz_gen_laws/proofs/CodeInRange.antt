@@ -1,5 +1,5 @@
 -- The code of a sound program is well formed.
-use Rattle.std.proofs.Common.{◌≡◌, ◌∙◌, ℕ, zero, suc, ◌+◌, ◌<◌, ◌≤◌, List, [], ◌∷◌, ◌++◌, length, map, true, false, Some, refl, ap, subst, sym, arith, length-append}
+use Rattle.std.proofs.Common.{◌≡◌, ◌∙◌, ℕ, zero, suc, ◌+◌, ◌<◌, ◌≤◌, List, [], ◌∷◌, ◌++◌, length, map, Bool, true, false, Some, refl, ap, subst, sym, arith, length-append}
 use Rattle.std.specs.Prelude.{slice_get, pos}
 use Rattle.std.specs.List.{list_all}
 use Rattle.std.proofs.lemmas.Bool.{lt-ltb, le-leb}
@@ -9,17 +9,18 @@ use Rattle.sz_types.specs.Data.{Shape}
 use Rattle.sz_types.specs.Tables.{Declaration}
 use Rattle.sz_value.specs.Data.{Datum}
 use Rattle.sz_builtin.proofs.TypeLemmas.{both_in}
-use Rattle.sz_core.specs.Programs.{Signature, Function, Static, Item, Core, functions_of, statics_of, statements_of}
+use Rattle.sz_core.specs.Programs.{Signature, Function, Static, Item, Core, functions_of, statics_of, statements_of, tables_of}
 use Rattle.sz_core.specs.Programs as items
 use Rattle.sz_core.specs.Statements.{stms_of}
 use Rattle.sz_core.specs.Sound.{Declared, IsSound, AreItems, BeginsWith, function_sight, static_sight, record_sight, seen_after, nothing_declared}
 use Rattle.sz_core.specs.Typing.{Sight}
-use Rattle.sz_instr.specs.WellFormed.{most_of, most_locals, is_in_range, is_routine, is_well_formed}
+use Rattle.sz_instr.specs.WellFormed.{most_of, most_locals, is_in_range, is_routine, is_table_if_named, is_well_formed}
 use Rattle.sz_instr.proofs.ForCallers.{well_formed_by_list, most_locals_by_list}
 use Rattle.sz_instr.specs.declared.instr.Instr.TheVariants.{KeepStatic, EndRecord}
 use Rattle.sz_instr.specs.declared.line.Line.{Line}
 use Rattle.sz_instr.specs.declared.routine.Routine.{Routine}
 use Rattle.sz_instr.specs.declared.code.Code.{Code}
+use Rattle.sz_mean.specs.Marked.{Marked, table_of_lines, with_lines, counting_behind}
 use Rattle.sz_mean.specs.Programs.{body_of}
 use Rattle.sz_gen_rules.specs.Tables.{tables_in, constant_number, line, HasConstant}
 use Rattle.sz_gen_rules.specs.ExpressionCode.{expression_code}
@@ -32,7 +33,7 @@ use Rattle.sz_gen_laws.proofs.Statics.{type_at}
 use Rattle.sz_gen_laws.proofs.Records.{top}
 use Rattle.sz_gen_laws.proofs.ExpressionsInRange.{AreInRange, both_in_range, IsRoomFor, front_fits, back_fits, node_in_range}
 use Rattle.sz_gen_laws.proofs.StatementsInRange.{stm_in_range, stms_in_range}
-use Rattle.sz_gen_laws.proofs.Simulation.{all_whole, all_stand, whole, routines_counted}
+use Rattle.sz_gen_laws.proofs.Simulation.{all_whole, all_stand, whole, tables_there, routines_counted}
 
 -- each routine begins at a line, and its parameters are among its locals
 abbrev AreRoutines : Code → List Routine → Type 0
@@ -175,12 +176,24 @@ signatures_counted : (tables : _) (fs : List Function) (at : ℕ) → length (fu
 signatures_counted tables [] at = refl
 signatures_counted tables (f ∷ fs) at = ap suc (signatures_counted tables fs _)
 
-pub code_well_formed : (core : Core) (code : Code) → IsSound core → IsCodeOf core code → is_well_formed code ≡ true
-code_well_formed core code sound is =
+-- the table of lines is there
+table_in_range : (program : Marked) (code : Code) → IsCodeOf program code → is_table_if_named code code.ignore ≡ true
+table_in_range program code is = subst (λ c. is_table_if_named code c ≡ true) (sym is.ignore) (by program.ignoring is.tables)
+  where
+    by : (ignoring : Bool) → code.tables ≡ with_lines ignoring (tables_of program.core.items)
+        → is_table_if_named code (counting_behind ignoring (length (tables_of program.core.items))) ≡ true
+    by false e = refl
+    by true e =
+        lt-ltb (length (tables_of program.core.items)) (length code.tables)
+        (omega (arith, ap length e, length-append (tables_of program.core.items) (table_of_lines ∷ [])))
+
+pub code_well_formed : (program : Marked) (code : Code) → IsSound program.core → IsCodeOf program code → is_well_formed code ≡ true
+code_well_formed program code sound is =
+    let core : Core = program.core in
     let tables = tables_in code in
     let fs = functions_of core.items in
     let ss = statics_of core.items in
-    let all : Declared = whole core code sound is in
+    let all : Declared = whole program code sound is in
     let fl = functions_code tables fs 0 in
     let sl = statics_code tables 0 ss (length fl) in
     let rl = record_code tables core code.main.entry in
@@ -208,17 +221,17 @@ code_well_formed core code sound is =
       signatures_counted tables fs 0,
     ) in
     let tables_there : (n : ℕ) (d : Declaration) → slice_get all.tables n ≡ Some d → n < length code.tables =
-    λ n d e. omega (arith, slice_get_within all.tables n d e, ap length is.tables) in
+    λ n d e. slice_get_within code.tables n d (tables_there program code sound is n d e) in
     let function_locals : (n : ℕ) (h : Function) → slice_get fs n ≡ Some h → length h.locals ≤ most_locals code =
-    λ n h e. omega (arith, by, most_at code.functions n _ (all_stand core code sound is n h e).known) in
+    λ n h e. omega (arith, by, most_at code.functions n _ (all_stand program code sound is n h e).known) in
     let main_locals : length core.locals ≤ most_locals code = omega (arith, by, ap (λ (r : Routine). r.locals) is.main) in
     let f = functions_in_range code all statics_there functions_there tables_there core.locals core.items [] nothing_declared 0 sound.items
-    (all_whole core code sound is)
+    (all_whole program code sound is)
     is.names.functions (omega (arith, total)) function_locals in
     let s = statics_in_range code all statics_there functions_there tables_there core.locals core.items [] nothing_declared 0 (length fl) sound.items
-    (all_whole core code sound is) refl
+    (all_whole program code sound is) refl
     is.names.statics (omega (arith, total)) in
-    let b = body_in_range code all statics_there functions_there tables_there core.locals main_locals core.items [] nothing_declared code.main.entry sound.items (all_whole core code sound is)
+    let b = body_in_range code all statics_there functions_there tables_there core.locals main_locals core.items [] nothing_declared code.main.entry sound.items (all_whole program code sound is)
     is.names.body (omega (arith, total, entry)) in
     let lines : AreInRange code code.lines =
     subst (λ l. AreInRange code l) (sym is.lines)
@@ -229,4 +242,5 @@ code_well_formed core code sound is =
     let main : is_routine code code.main ≡ true =
     both_in (lt-ltb code.main.entry (length code.lines) (omega (arith, total, entry))) (le-leb code.main.params code.main.locals (omega (arith, first))) in
     well_formed_by_list code
-    ∙ both_in (both_in (both_in (all_routines code code.functions functions) (all_routines code code.statics statics)) main) (all_lines code code.lines lines)
+    ∙ both_in (both_in (both_in (both_in (all_routines code code.functions functions) (all_routines code code.statics statics)) main)
+    (table_in_range program code is)) (all_lines code code.lines lines)

@@ -19,7 +19,7 @@ use Rattle.sz_gen_rules.specs.NamedStatements.{StmsHaveNames, FunctionsHaveNames
 abbrev pub IsFrontOf : {A : Type 0} → List A → List A → Type 0
 IsFrontOf {A} front whole = (n : ℕ) (x : A) → slice_get front n ≡ Some x → slice_get whole n ≡ Some x
 
-front_of : {A : Type 0} (front rest : List A) → IsFrontOf front (front ++ rest)
+pub front_of : {A : Type 0} (front rest : List A) → IsFrontOf front (front ++ rest)
 front_of [] rest n x h = absurd cc
 front_of (y ∷ front) rest zero x h = h
 front_of (y ∷ front) rest (suc n) x h = front_of front rest n x h

@@ -1,5 +1,5 @@
 -- What has to hold after each way in which a statement ends, seen from before and from later.
-use Rattle.std.proofs.Common.{◌≡◌, ℕ, zero, suc, ◌+◌, ◌≤◌, List, [], ◌∷◌, length, Bool, true, false, Option, Some, None, subst, arith, drop}
+use Rattle.std.proofs.Common.{◌≡◌, ℕ, zero, suc, ◌+◌, ◌≤◌, List, [], ◌∷◌, length, Bool, true, false, Option, Some, None, sym, subst, arith, drop}
 use Rattle.sz_types.specs.Data.{Shape}
 use Rattle.sz_types.specs.declared.place.Place.{Place}
 use Rattle.sz_value.specs.Data.{truth, int, time, str, bytes, array, tuple, mapping}
@@ -10,9 +10,11 @@ use Rattle.sz_instr.specs.declared.code.Code.{Code}
 use Rattle.sz_instr.specs.declared.instr.Instr.TheVariants.{Discard}
 use Rattle.sz_world_rules.specs.World.{World, Given, Gives, Stops, Doing, and_then, give, spend, paid}
 use Rattle.sz_world_rules.specs.Slots.{Slot}
-use Rattle.sz_mean.specs.Endings.{Ending, Normal, Breaks, Continues, Returns, Running, then_run, then_loop, chosen}
+use Rattle.sz_world_rules.specs.Typed.{AllFit}
+use Rattle.sz_mean.specs.Endings.{Ending, Normal, Breaks, Continues, Returns, Running, then_run, then_loop, passed_over, chosen}
 use Rattle.sz_machine_rules.specs.States.{State, After}
-use Rattle.sz_machine_rules.specs.Rows.{act, if_true_or_fault}
+use Rattle.sz_machine_rules.specs.Rows.{act, pass_over, by_truth}
+use Rattle.sz_machine_rules.specs.Covering.{CanCount}
 use Rattle.sz_machine_rules.specs.Runs.{charged, ComesTo}
 use Rattle.sz_gen_rules.specs.Tables.{line}
 use Rattle.sz_gen_rules.specs.Runs.{Kept, AllKept, NextComes, AfterEval, AfterAll, with_all, HasAt}
@@ -20,6 +22,11 @@ use Rattle.sz_gen_laws.proofs.Steps.{at_line, spend_left}
 use Rattle.sz_gen_rules.specs.FreeLines.{no_place}
 use Rattle.sz_gen_rules.specs.StatementCode.{Exits, in_loop, discards}
 use Rattle.sz_gen_rules.specs.Backward.{IfIn, AreFlags, AfterReturn, AfterExec}
+
+-- the code counts lines as this says, in a table that takes them
+pub record Counts (code : Code) (counting : Option ℕ) : Type 0 where
+  pub same : code.ignore ≡ counting
+  pub can : CanCount code code.ignore
 
 pub if_in : (b : Bool) (P Q : Type 0) → (P → Q) → IfIn b P → IfIn b Q
 if_in true P Q f h = f h
@@ -92,20 +99,35 @@ module _ (code : Code) (types : List Shape) (x : After) where
     pays_for s s1 end l n go None e next h = h
     pays_for s s1 end l n go (Some w) e next h = next w (spend_left n s1.world w e) h
 
-    -- the first of two ways where the slot is true, the second where it is false
-    pub chosen_by : (s : State) (end : ℕ) (p : Place) (w : World) (first second : Doing Ending) (one other : After)
+    -- where an undefined value was used: a fault, or the line is counted and the run goes past the statement
+    pub passes_over : (counting : Option ℕ) → Counts code counting → (s : State) (end past at : ℕ) (p : Place) (stack l : List Slot) (w : World)
+        → w.left ≤ s.world.left → AllFit l types
+        → ((w1 : World) → ComesTo code (record s { at = end; locals = l; world = w1 }) x → ComesTo code (record s { at = past; locals = l; world = w1 }) x)
+        → AfterExec code a types out s end x (passed_over counting p l w)
+        → NextComes code (pass_over code.ignore p (record s { at = at; stack = stack; locals = l; world = w }) past s.stack) x
+    passes_over counting counts s end past at p stack l w le fit reaches h =
+        subst (λ c. NextComes code (pass_over c p (record s { at = at; stack = stack; locals = l; world = w }) past s.stack) x) (sym counts.same) (by counting h)
+      where
+        by : (c : Option ℕ) → AfterExec code a types out s end x (passed_over c p l w)
+            → NextComes code (pass_over c p (record s { at = at; stack = stack; locals = l; world = w }) past s.stack) x
+        by None h1 = h1
+        by (Some table) h1 = reaches _ (h1 (record { left = le; typed = fit }))
+
+    -- the first of three ways where the slot is true, the second where it is false, the third where it is undefined
+    pub chosen_by : (s : State) (end : ℕ) (w : World) (first second unknown : Doing Ending) (one other past : After)
         → (AfterExec code a types out s end x (first w) → NextComes code one x) → (AfterExec code a types out s end x (second w) → NextComes code other x)
-        → (v : Slot) → AfterExec code a types out s end x (chosen v p first second w) → NextComes code (if_true_or_fault v p one other) x
-    chosen_by s end p w first second one other f g None h = h
-    chosen_by s end p w first second one other f g (Some (truth true)) h = f h
-    chosen_by s end p w first second one other f g (Some (truth false)) h = g h
-    chosen_by s end p w first second one other f g (Some (int n)) h = g h
-    chosen_by s end p w first second one other f g (Some (time n)) h = g h
-    chosen_by s end p w first second one other f g (Some (str b)) h = g h
-    chosen_by s end p w first second one other f g (Some (bytes b)) h = g h
-    chosen_by s end p w first second one other f g (Some (array ds)) h = g h
-    chosen_by s end p w first second one other f g (Some (tuple ds)) h = g h
-    chosen_by s end p w first second one other f g (Some (mapping es)) h = g h
+        → (AfterExec code a types out s end x (unknown w) → NextComes code past x)
+        → (v : Slot) → AfterExec code a types out s end x (chosen v first second unknown w) → NextComes code (by_truth v one other past) x
+    chosen_by s end w first second unknown one other past f g u None h = u h
+    chosen_by s end w first second unknown one other past f g u (Some (truth true)) h = f h
+    chosen_by s end w first second unknown one other past f g u (Some (truth false)) h = g h
+    chosen_by s end w first second unknown one other past f g u (Some (int n)) h = g h
+    chosen_by s end w first second unknown one other past f g u (Some (time n)) h = g h
+    chosen_by s end w first second unknown one other past f g u (Some (str b)) h = g h
+    chosen_by s end w first second unknown one other past f g u (Some (bytes b)) h = g h
+    chosen_by s end w first second unknown one other past f g u (Some (array ds)) h = g h
+    chosen_by s end w first second unknown one other past f g u (Some (tuple ds)) h = g h
+    chosen_by s end w first second unknown one other past f g u (Some (mapping es)) h = g h
 
     -- what follows a statement that begins in a later state
     pub after_then : (s : State) (end end1 at : ℕ) (l1 : List Slot) (w1 : World) (next : Running) → w1.left ≤ s.world.left

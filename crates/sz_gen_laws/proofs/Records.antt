@@ -1,5 +1,5 @@
 -- The code of a program's statements does what they mean for a record.
-use Rattle.std.proofs.Common.{◌≡◌, ℕ, ◌+◌, List, [], ◌∷◌, ◌++◌, length, false, Some, None, refl, sym, subst, arith, length-append}
+use Rattle.std.proofs.Common.{◌≡◌, ℕ, ◌+◌, List, [], ◌∷◌, ◌++◌, length, false, Option, Some, None, refl, sym, subst, arith, length-append}
 use Rattle.std.specs.Prelude.{slice_get}
 use Rattle.sz_types.specs.Data.{Shape}
 use Rattle.sz_value.specs.Data.{bytes}
@@ -24,10 +24,10 @@ use Rattle.sz_gen_rules.specs.StatementCode.{no_exits, statement_code, statement
 use Rattle.sz_gen_rules.specs.FreeLines.{free}
 use Rattle.sz_gen_rules.specs.Backward.{AfterExec, IsFixed}
 use Rattle.sz_gen_rules.specs.NamedStatements.{StmsHaveNames}
-use Rattle.sz_gen_laws.proofs.Outcomes.{from_later, after_then}
+use Rattle.sz_gen_laws.proofs.Outcomes.{Counts, from_later, after_then}
 use Rattle.sz_gen_laws.proofs.Slots.{fit_at}
 use Rattle.sz_gen_laws.proofs.Statements.{exec_runs}
-use Rattle.sz_gen_laws.proofs.Declared.{IsWhole, after_table, after_function, after_static, is_before}
+use Rattle.sz_gen_laws.proofs.Declared.{IsFrontOf, IsWhole, after_table, after_function, after_static, is_before}
 use Rattle.sz_gen_laws.proofs.Calls.{calls_front}
 use Rattle.sz_instr.specs.declared.instr.Instr.TheVariants.{EndRecord}
 
@@ -54,16 +54,16 @@ record_ends code types s end last (Gives (Continues l) w) = tt
 record_ends code types s end last (Gives (Returns v) w) = refl
 record_ends code types s end last (Stops fault) = refl
 
-module _ (code : Code) (functions : List Function) (whole : Declared)
+module _ (code : Code) (functions : List Function) (counting : Option ℕ) (counts : Counts code counting) (whole : Declared)
     (calls_run : (slots : List Slot) → AllFit slots whole.statics → (room limit : ℕ)
-    → CallsBelow code whole.functions slots room limit (calls_at functions slots room))
-    (tables_same : code.tables ≡ whole.tables) (locals : List Shape) (slots : List Slot) (typed : AllFit slots whole.statics) (input : List ℕ) (x : After) where
+    → CallsBelow code whole.functions slots room limit (calls_at functions counting slots room))
+    (tables_there : IsFrontOf whole.tables code.tables) (locals : List Shape) (slots : List Slot) (typed : AllFit slots whole.statics) (input : List ℕ) (x : After) where
   pub body_runs : (rest : List Item) (seen : List ℕ) (d : Declared) (s : State) (end : ℕ) → AreItems locals seen d rest → IsWhole d rest whole
       → StmsHaveNames (tables_in code) (stms_of (statements_of rest)) → AllFit s.locals locals → s.statics ≡ slots → s.input ≡ Some (bytes input)
       → length s.callers + most_open_calls ≡ most_open_calls → HasAt code.lines s.at
       (statements_code (tables_in code) (stms_of (statements_of rest)) no_exits s.at)
       → s.at + length (statements_code (tables_in code) (stms_of (statements_of rest)) no_exits s.at) ≡ end
-      → AfterExec code top locals no_exits s end x (exec_all (outer_setting functions slots (Some (bytes input)))
+      → AfterExec code top locals no_exits s end x (exec_all (outer_setting functions counting slots (Some (bytes input)))
       (stms_of (statements_of rest)) s.locals s.world) → ComesTo code s x
   unfolding AreItems
   body_runs [] seen d s end sound is of fit same there room has en h =
@@ -80,7 +80,7 @@ module _ (code : Code) (functions : List Function) (whole : Declared)
       let lines = code.lines in
       let tables = tables_in code in
       let g = record_sight locals seen d in
-      let set : Setting = outer_setting functions slots (Some (bytes input)) in
+      let set : Setting = outer_setting functions counting slots (Some (bytes input)) in
       let before = is_before d (items.statement c ∷ rest) whole is in
       let front = statement_code tables c no_exits s.at in
       let at1 = s.at + length front in
@@ -96,7 +96,7 @@ module _ (code : Code) (functions : List Function) (whole : Declared)
         input_seen = λ yes. (there, refl, refl);
         room_left = room;
       } in
-      exec_runs code g set most_open_calls below (λ n t e. subst (λ l. slice_get l n ≡ Some t) (sym tables_same) (before.tables n t e)) x
+      exec_runs code g set most_open_calls below counts (λ n t e. tables_there n t (before.tables n t e)) x
       c g top no_exits s at1 sound.0 of.0 fit fixed tt tt (has_front lines s.at front later has) refl
       (after_then code locals x top no_exits s end at1 s.at s.locals s.world (exec_all set after) (omega arith)
       (λ l w k h1. (let le = k.left in

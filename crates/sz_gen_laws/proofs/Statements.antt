@@ -29,7 +29,7 @@ use Rattle.sz_gen_rules.specs.FreeLines.{no_place, goes}
 use Rattle.sz_gen_rules.specs.StatementCode.{Exits, in_loop, in_search, variable_code_of, discards, bare_step, statement_code, statements_code}
 use Rattle.sz_gen_rules.specs.NamedStatements.{BasesHaveNames, StmHasNames, StmsHaveNames}
 use Rattle.sz_gen_rules.specs.Backward.{seeing, IfIn, AreFlags, MayReturn, AfterReturn, AfterExec, IsFixed}
-use Rattle.sz_gen_laws.proofs.Outcomes.{from_later, ends_at, after_value, after_some, after_values, pays_for, after_then, discards_run}
+use Rattle.sz_gen_laws.proofs.Outcomes.{Counts, from_later, ends_at, after_value, after_some, after_values, pays_for, after_then, discards_run}
 use Rattle.sz_gen_laws.proofs.Parts.{leads_on, nodes_counted, expression_runs, nodes_run, steps_run}
 use Rattle.sz_gen_laws.proofs.Indexes.{index_types, indexes_of_path}
 use Rattle.sz_gen_laws.proofs.Slots.{fit_set, fit_clear, fit_at}
@@ -58,6 +58,7 @@ some_weight g None e h = absurd h
 some_weight g (Some t) e h = (h.0, λ v k. subst (λ u. Fits v u) h.1 k)
 
 module _ (code : Code) (g : Sight) (set : Setting) (room : ℕ) (below : (limit : ℕ) → CallsBelow code g.functions set.statics room limit set.calls)
+    (counts : Counts code set.counting)
     (tables_there : (n : ℕ) (d : Declaration) → slice_get g.tables n ≡ Some d → slice_get code.tables n ≡ Some d) (x : After) where
   -- the weight of an emit, if it has one, and the emit
   weight_runs : (seen : Sight) (w : Option Node) (a : Around) (out : Exits) (s : State) (end at at1 : ℕ) (p : Place) (table n : ℕ) (d : Declaration)
@@ -68,11 +69,11 @@ module _ (code : Code) (g : Sight) (set : Setting) (room : ℕ) (below : (limit 
       → slice_get code.lines at1 ≡ Some (line (Emit table n (is_some w)) 1 p)
       → suc at1 ≡ end → w1.left ≤ s.world.left → slice_get code.tables table ≡ Some d → AllFit indexes d.indexes → Fits value d.element → length d.indexes ≡ n
       → AfterExec code a g.locals out s end x (and_then (eval_if_some set s.locals w w1)
-      (λ weight. emits p table (record { indexes = indexes; value = value; weight = weight }) s.locals))
+      (λ weight. emits set.counting p table (record { indexes = indexes; value = value; weight = weight }) s.locals))
       → ComesTo code (record s { at = at; stack = value ∷ with_all indexes s.stack; world = w1 }) x
   weight_runs seen None a out s end at at1 p table n d indexes value w1 sound of fit fixed has en found len le there fi fv count h =
       let same : at1 ≡ at = omega (arith, en) in
-      emit_runs code g.locals x a out s end at (ap suc (sym same) ∙ len) fit p table n d indexes value None w1 le there fi fv
+      emit_runs code set.counting counts g.locals x a out s end at (ap suc (sym same) ∙ len) fit p table n d indexes value None w1 le there fi fv
       (no_weight (seeing g seen) d.weight sound) count
       (subst (λ k. slice_get code.lines k ≡ Some (line (Emit table n false) 1 p)) same found) h
   weight_runs seen (Some e) a out s end at at1 p table n d indexes value w1 sound of fit fixed has en found len le there fi fv count h =
@@ -81,7 +82,7 @@ module _ (code : Code) (g : Sight) (set : Setting) (room : ℕ) (below : (limit 
       expression_runs code g set room below seen e s1 at1 x weight.0 of fit fixed has en
       (after_some code g.locals x a out (type_of e) s s1 end at1 _ (λ v w2 k h1.
       let le1 = k.left in
-      emit_runs code g.locals x a out s end at1 len fit p table n d indexes value (Some v) w2 (omega arith) there fi fv (weight.1 v k.typed) count found h1)
+      emit_runs code set.counting counts g.locals x a out s end at1 len fit p table n d indexes value (Some v) w2 (omega arith) there fi fv (weight.1 v k.typed) count found h1)
       (eval set s.locals e w1) h)
 
   -- what is known of the variables of a `when`, each of which sees those before it
@@ -145,7 +146,7 @@ module _ (code : Code) (g : Sight) (set : Setting) (room : ℕ) (below : (limit 
         (omega (arith, length-append ci ce))
         (after_value code g.locals x a out (type_of e) s s1 end at2 _ (λ v w2 k2 h2.
         let le1 = k1.left in let le2 = k2.left in
-        store_runs code g.locals x a out s end at2 len fit p n steps t (type_of e) vs v w2 (omega arith) sound.2.1
+        store_runs code set.counting counts g.locals x a out s end at2 len fit p n steps t (type_of e) vs v w2 (omega arith) sound.2.1
         (leads_on (seeing g seen) t steps (type_of e) sound.2.2) k1.typed k2.typed (has_back lines s.at (ci ++ ce) (l ∷ []) has).0 h2)
         (eval set s.locals e w1) h1)) (eval_indexes set s.locals steps s.world) h)
     exec_runs (evaluate p e) seen a out s end sound of fit fixed may flags has en h =
@@ -155,7 +156,7 @@ module _ (code : Code) (g : Sight) (set : Setting) (room : ℕ) (below : (limit 
         let len : suc at1 ≡ end = omega (arith, en, length-append ce (l ∷ [])) in
         expression_runs code g set room below seen e s at1 x sound.0 of fit fixed (has_front code.lines s.at ce (l ∷ []) has) refl
         (after_value code g.locals x a out (type_of e) s s end at1 _ (λ v w1 k h1.
-        discard_runs code g.locals x a out s end at1 len fit p v w1 k.left (has_back code.lines s.at ce (l ∷ []) has).0 (idle s.locals)
+        discard_runs code set.counting counts g.locals x a out s end at1 len fit p v w1 k.left (has_back code.lines s.at ce (l ∷ []) has).0 (idle s.locals)
         (λ h2. h2 (record { left = k.left; typed = fit })) h1) (eval set s.locals e s.world) h)
     exec_runs (branch p e c d) seen a out s end sound of fit fixed may flags has en h =
         let lines = code.lines in
@@ -165,8 +166,9 @@ module _ (code : Code) (g : Sight) (set : Setting) (room : ℕ) (below : (limit 
         let at2 = start + length one in
         let away = at2 + 1 in
         let other = statement_code (tables_in code) d out away in
-        let t = line (Test away) 1 p in
-        let skip = goes (away + length other) in
+        let past = away + length other in
+        let t = line (Test away past) 1 p in
+        let skip = goes past in
         let rest = one ++ skip ∷ other in
         let asked = ce ++ t ∷ [] in
         let len : away + length other ≡ end = omega (arith, en, length-append ce (t ∷ rest), length-append one (skip ∷ other)) in
@@ -175,7 +177,7 @@ module _ (code : Code) (g : Sight) (set : Setting) (room : ℕ) (below : (limit 
         let has2 : HasAt lines start rest = subst (λ k. HasAt lines k rest) tested (has_back lines s.at asked rest has1) in
         let has3 = has_back lines start one (skip ∷ other) has2 in
         let next : suc at2 ≡ away = omega arith in
-        test_runs code g set room below seen x a out (Some e) p s end s.at start away sound.0 of.0 fixed (has_front lines s.at asked rest has1) tested
+        test_runs code g set room below counts seen x a out (Some e) p s end s.at start away past sound.0 of.0 fixed (has_front lines s.at asked rest has1) tested
         s.locals s.world _ _ fit
         (λ w2 le2 h2. exec_runs c seen a out (record s { at = start; world = w2 }) at2 sound.1 of.1 fit fixed may flags
         (has_front lines start one (skip ∷ other) has2) refl
@@ -185,9 +187,10 @@ module _ (code : Code) (g : Sight) (set : Setting) (room : ℕ) (below : (limit 
         (exec set c s.locals w2) h2))
         (λ w2 le2 h2. exec_runs d seen a out (record s { at = away; world = w2 }) end sound.2 of.2 fit fixed may flags
         (subst (λ k. HasAt lines k other) next has3.1) len
-        (from_later code g.locals x a out s end away s.locals w2 (omega arith) (exec set d s.locals w2) h2)) h
+        (from_later code g.locals x a out s end away s.locals w2 (omega arith) (exec set d s.locals w2) h2))
+        (λ w2 k. subst (λ m. ComesTo code (record s { at = m; world = w2 }) x) (sym len) k) (omega arith) h
     exec_runs (while p e c) seen a out s end sound of fit fixed may flags has en h =
-        loop_runs code g set room below seen x a out s end p (Some e) sound.0 of.0 fit fixed (λ _. [])
+        loop_runs code g set room below counts seen x a out s end p (Some e) sound.0 of.0 fit fixed (λ _. [])
         (statement_code (tables_in code) c (in_loop out (s.at + 1) (s.at + 2)))
         idle (exec set c) has en
         (λ at end1 l w fit1 has1 en1 h1. (let same : at ≡ end1 = omega (arith, en1) in subst
@@ -195,12 +198,12 @@ module _ (code : Code) (g : Sight) (set : Setting) (room : ℕ) (below : (limit 
         (λ at end1 l w fit1 has1 en1 h1. exec_runs c seen _ (in_loop out (s.at + 1) (s.at + 2))
         (record s { at = at; locals = l; world = w }) end1 sound.1 of.1 fit1 fixed may flags has1 en1 h1) h
     exec_runs (do_while p c e) seen a out s end sound of fit fixed may flags has en h =
-        loop_after_runs code g set room below seen x a out s end p (Some e) sound.1 of.1 fit fixed
+        loop_after_runs code g set room below counts seen x a out s end p (Some e) sound.1 of.1 fit fixed
         (statement_code (tables_in code) c (in_loop out (s.at + 1) (s.at + 2))) (exec set c) has en
         (λ at end1 l w fit1 has1 en1 h1. exec_runs c seen _ (in_loop out (s.at + 1) (s.at + 2))
         (record s { at = at; locals = l; world = w }) end1 sound.0 of.0 fit1 fixed may flags has1 en1 h1) h
     exec_runs (for_loop p e t c) seen a out s end sound of fit fixed may flags has en h =
-        loop_runs code g set room below seen x a out s end p e sound.0 of.0 fit fixed (statement_code (tables_in code) t out)
+        loop_runs code g set room below counts seen x a out s end p e sound.0 of.0 fit fixed (statement_code (tables_in code) t out)
         (statement_code (tables_in code) c (in_loop out (s.at + 1) (s.at + 2)))
         (exec set t) (exec set c) has en
         (λ at end1 l w fit1 has1 en1 h1. exec_runs t seen a out (record s {

@@ -14,12 +14,13 @@ use Rattle.sz_instr.specs.WellFormed.{most_locals}
 use Rattle.sz_instr.specs.declared.instr.Instr.TheVariants.{Keep, Store, Tick, Test, Return, Discard, Emit}
 use Rattle.sz_instr.specs.declared.line.Line.{Line}
 use Rattle.sz_instr.specs.declared.code.Code.{Code}
+use Rattle.sz_builtin.proofs.TypeLemmas.{both_in}
 use Rattle.sz_gen_rules.specs.Tables.{tables_in, line}
 use Rattle.sz_gen_rules.specs.ExpressionCode.{expression_code, expressions_code, indexes_code, code_if_some, count_of}
 use Rattle.sz_gen_rules.specs.Named.{HasNames}
 use Rattle.sz_gen_laws.proofs.Indexes.{indexes_of_path}
 use Rattle.sz_gen_rules.specs.FreeLines.{goes}
-use Rattle.sz_gen_rules.specs.StatementCode.{Exits, in_loop, in_search, discards, bare_step, test_code, loop_code, loop_after_code, statement_code, statements_code}
+use Rattle.sz_gen_rules.specs.StatementCode.{Exits, in_loop, in_search, discards, bare_step, loop_test_code, loop_code, loop_after_code, statement_code, statements_code}
 use Rattle.sz_gen_rules.specs.NamedStatements.{BasesHaveNames, StmHasNames, StmsHaveNames}
 use Rattle.sz_gen_laws.proofs.Statements.{seen_more, bound_more}
 use Rattle.sz_gen_laws.proofs.ExpressionsInRange.{AreInRange, both_in_range, IsRoomFor, local_in_range, closed_in_range, front_fits, back_fits}
@@ -101,16 +102,16 @@ module _ (code : Code) where
       )
 
 module _ (code : Code) (g : Sight) (room : IsRoomFor code g) where
-  test_in_range : (seen : Sight) (e : Option Node) (p : Place) (away at : ℕ) → IfSome e (IsTest (seeing g seen))
+  test_in_range : (seen : Sight) (e : Option Node) (p : Place) (start at : ℕ) → IfSome e (IsTest (seeing g seen))
       → IfSome e (HasNames (tables_in code))
-      → away < length code.lines → at + length (test_code (tables_in code) p e away at) ≤ length code.lines
-      → AreInRange code (test_code (tables_in code) p e away at)
-  test_in_range seen None p away at sound names few fits = (refl, tt)
-  test_in_range seen (Some e) p away at sound names few fits =
+      → start + 1 < length code.lines → at + length (loop_test_code (tables_in code) p e start at) ≤ length code.lines
+      → AreInRange code (loop_test_code (tables_in code) p e start at)
+  test_in_range seen None p start at sound names few fits = (refl, tt)
+  test_in_range seen (Some e) p start at sound names few fits =
       let ce = expression_code (tables_in code) e at in
-      both_in_range code ce (line (Test away) 1 p ∷ []) (node_in_range code g room seen e at sound.0 names
-      (front_fits code ce (line (Test away) 1 p ∷ []) at fits))
-      (lt-ltb away (length code.lines) few, tt)
+      let t = line (Test (start + 1) (start + 1)) 1 p in
+      let there = lt-ltb (start + 1) (length code.lines) few in
+      both_in_range code ce (t ∷ []) (node_in_range code g room seen e at sound.0 names (front_fits code ce (t ∷ []) at fits)) (both_in there there, tt)
 
   variables_in_range : (vs : List Quantified) (seen : Sight) → AreQuantified (seeing g seen) vs → BasesHaveNames (tables_in code) vs → AllInRange code vs
   variables_in_range [] seen sound names = tt
@@ -154,38 +155,39 @@ module _ (code : Code) (g : Sight) (room : IsRoomFor code g) where
         let one = statement_code (tables_in code) c out start in
         let away = start + length one + 1 in
         let other = statement_code (tables_in code) d out away in
-        let t = line (Test away) 1 p in
-        let skip = goes (away + length other) in
+        let past = away + length other in
+        let t = line (Test away past) 1 p in
+        let skip = goes past in
         let a1 = length-append ce (t ∷ (one ++ skip ∷ other)) in
         let a2 = length-append one (skip ∷ other) in
         let all : at + length ce + length one + length other + 2 < length code.lines = omega (arith, fits, a1, a2) in
         both_in_range code ce (t ∷ (one ++ skip ∷ other)) (node_in_range code g room seen e at sound.0.0 names.0 (omega (arith, all))) (
-          lt-ltb away (length code.lines) (omega (arith, all)),
+          both_in (lt-ltb away (length code.lines) (omega (arith, all))) (lt-ltb past (length code.lines) (omega (arith, all))),
           both_in_range code one (skip ∷ other) (stm_in_range c seen a out start sound.1 names.1 b k (omega (arith, all)))
-              (lt-ltb (away + length other) (length code.lines) (omega (arith, all)), stm_in_range d seen a out away sound.2 names.2 b k (omega (arith, all))),
+              (lt-ltb past (length code.lines) (omega (arith, all)), stm_in_range d seen a out away sound.2 names.2 b k (omega (arith, all))),
         )
     stm_in_range (while p e c) seen a out at sound names b k fits =
-        let few : at + 2 < length code.lines = begins_low code p (λ _. []) (test_code (tables_in code) p (Some e) (at + 1))
+        let few : at + 2 < length code.lines = begins_low code p (λ _. []) (loop_test_code (tables_in code) p (Some e) at)
         (statement_code (tables_in code) c (in_loop out (at + 1) (at + 2))) at fits in
-        loop_in_range code p (λ _. []) (test_code (tables_in code) p (Some e) (at + 1))
+        loop_in_range code p (λ _. []) (loop_test_code (tables_in code) p (Some e) at)
         (statement_code (tables_in code) c (in_loop out (at + 1) (at + 2))) at fits
         (λ h. tt)
-        (λ n h. test_in_range seen (Some e) p (at + 1) n sound.0 names.0 (omega (arith, few)) h)
+        (λ n h. test_in_range seen (Some e) p at n sound.0 names.0 (omega (arith, few)) h)
         (λ n h. stm_in_range c seen (inner a) (in_loop out (at + 1) (at + 2)) n sound.1 names.1 (omega (arith, few)) few h)
     stm_in_range (do_while p c e) seen a out at sound names b k fits =
         let few : at + 2 < length code.lines = begins_low_after code p (statement_code (tables_in code) c (in_loop out (at + 1) (at + 2)))
-        (test_code (tables_in code) p (Some e) (at + 1)) at fits in
-        loop_after_in_range code p (statement_code (tables_in code) c (in_loop out (at + 1) (at + 2))) (test_code (tables_in code) p (Some e) (at + 1)) at fits
-        (λ n h. test_in_range seen (Some e) p (at + 1) n sound.1 names.1 (omega (arith, few)) h)
+        (loop_test_code (tables_in code) p (Some e) at) at fits in
+        loop_after_in_range code p (statement_code (tables_in code) c (in_loop out (at + 1) (at + 2))) (loop_test_code (tables_in code) p (Some e) at) at fits
+        (λ n h. test_in_range seen (Some e) p at n sound.1 names.1 (omega (arith, few)) h)
         (λ n h. stm_in_range c seen (inner a) (in_loop out (at + 1) (at + 2)) n sound.0 names.0 (omega (arith, few)) few h)
     stm_in_range (for_loop p e t c) seen a out at sound names b k fits =
         let few : at + 2 < length code.lines =
-        begins_low code p (statement_code (tables_in code) t out) (test_code (tables_in code) p e (at + 1))
+        begins_low code p (statement_code (tables_in code) t out) (loop_test_code (tables_in code) p e at)
         (statement_code (tables_in code) c (in_loop out (at + 1) (at + 2))) at fits in
-        loop_in_range code p (statement_code (tables_in code) t out) (test_code (tables_in code) p e (at + 1))
+        loop_in_range code p (statement_code (tables_in code) t out) (loop_test_code (tables_in code) p e at)
         (statement_code (tables_in code) c (in_loop out (at + 1) (at + 2))) at fits
         (λ h. stm_in_range t seen a out (at + 2) sound.1 names.1 b k h)
-        (λ n h. test_in_range seen e p (at + 1) n sound.0 names.0 (omega (arith, few)) h)
+        (λ n h. test_in_range seen e p at n sound.0 names.0 (omega (arith, few)) h)
         (λ n h. stm_in_range c seen (inner a) (in_loop out (at + 1) (at + 2)) n sound.3 names.2 (omega (arith, few)) few h)
     stm_in_range break seen a out at sound names b k fits = (lt-ltb out.on_break (length code.lines) b, tt)
     stm_in_range continue seen a out at sound names b k fits = (lt-ltb out.on_continue (length code.lines) k, tt)

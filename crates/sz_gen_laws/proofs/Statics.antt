@@ -116,17 +116,17 @@ pub type_at : (front rest : List Shape) (t : Shape) → slice_get (front ++ t �
 type_at [] rest t = refl
 type_at (u ∷ front) rest t = type_at front rest t
 
-module _ (code : Code) (functions : List Function) (whole : Declared)
+module _ (code : Code) (functions : List Function) (counting : Option ℕ) (whole : Declared)
     (calls_run : (slots : List Slot) → AllFit slots whole.statics → (room limit : ℕ)
-    → CallsBelow code whole.functions slots room limit (calls_at functions slots room))
+    → CallsBelow code whole.functions slots room limit (calls_at functions counting slots room))
     (locals : List Shape) where
   pub statics_run : (rest : List Item) (seen : List ℕ) (d : Declared) (n at : ℕ) (slots : List Slot) (w : World) → AreItems locals seen d rest
       → IsWhole d rest whole
       → n ≡ length d.statics → StaticsHaveNames (tables_in code) (statics_of rest) → AllFit slots whole.statics
       → HasAt code.lines at (statics_code (tables_in code) n (statics_of rest) at)
       → RoutinesRunTo code (static_routines (tables_in code) n (statics_of rest) at) w slots
-      (slots_given (initialised functions (statics_of rest) n slots w))
-      × SlotsFit (slots_given (initialised functions (statics_of rest) n slots w)) whole.statics
+      (slots_given (initialised functions counting (statics_of rest) n slots w))
+      × SlotsFit (slots_given (initialised functions counting (statics_of rest) n slots w)) whole.statics
   unfolding AreItems
   statics_run [] seen d n at slots w sound is count of fit has = (refl, fit)
   statics_run (items.table t ∷ rest) seen d n at slots w sound is count of fit has =
@@ -140,7 +140,7 @@ module _ (code : Code) (functions : List Function) (whole : Declared)
       let lines = code.lines in
       let tables = tables_in code in
       let g = static_sight d in
-      let set : Setting = outer_setting functions slots None in
+      let set : Setting = outer_setting functions counting slots None in
       let before = is_before d (items.static v ∷ rest) whole is in
       let s0 : State = entered (record { entry = at; params = 0; locals = 0 }) slots None w in
       let ce = expression_code tables v.value at in
@@ -168,7 +168,7 @@ module _ (code : Code) (functions : List Function) (whole : Declared)
       (has_front lines at ce (keep ∷ free EndRecord ∷ []) own_has) refl h in
       let fits = gives_typed code (type_of v.value) s0 at1 (eval set [] v.value w) comes in
       static_follows v.place slots n code whole.statics v.type s0 (static_routines tables (suc n) (statics_of rest) later)
-      (λ x w2. initialised functions (statics_of rest) (suc n) (slice_set slots n x) w2)
+      (λ x w2. initialised functions counting (statics_of rest) (suc n) (slice_set slots n x) w2)
       (λ x w2 f. statics_run rest seen (record d { statics = d.statics ++ v.type ∷ [] }) (suc n) later (slice_set slots n x) w2 sound.1
       (after_static d v rest whole is)
       (omega (arith, count, length-append d.statics (v.type ∷ []))) of.1 (fit_set slots whole.statics n x v.type fit typed f)

@@ -5,10 +5,11 @@ use Rattle.sz_types.specs.Data.{Shape}
 use Rattle.sz_value.specs.Data.{truth, int, str}
 use Rattle.sz_tabs.specs.Data.{EmitDatum}
 use Rattle.sz_core.specs.Statements.{some, each, all}
-use Rattle.sz_core.specs.Programs.{Core, functions_of, statics_of, tables_of}
+use Rattle.sz_core.specs.Programs.{Core, functions_of, statics_of}
 use Rattle.sz_instr.specs.declared.line.Line.{Line}
 use Rattle.sz_instr.specs.declared.code.Code.{Code}
 use Rattle.sz_world_rules.specs.World.{Outcome, Done, Faulted}
+use Rattle.sz_mean.specs.Marked.{Marked, marked, all_tables, counting_table}
 use Rattle.sz_mean.specs.Programs.{mean}
 use Rattle.sz_mean.proofs.WorkedTrees.{at, number, emits_sum, joins_texts, counts_down, counts_up, emits_if, stores_outside, calls_on}
 use Rattle.sz_mean.proofs.WorkedTrees.{emits_without_weight, undefined_left, nothing, emits_place, emits_seven, searches}
@@ -42,8 +43,9 @@ tables = record {
   types = Shape.int ∷ [];
 }
 
-code_of : Core → Code
-code_of core =
+code_of : Marked → Code
+code_of program =
+    let core : Core = program.core in
     let functions = functions_code tables (functions_of core.items) 0 in
     let front = functions ++ statics_code tables 0 (statics_of core.items) (length functions) in
     record {
@@ -53,14 +55,22 @@ code_of core =
       main = record { entry = length front; params = 0; locals = length core.locals };
       constants = tables.constants;
       types = tables.types;
-      tables = tables_of core.items;
+      tables = all_tables program;
+      ignore = counting_table program;
     }
 
 ends : Core → ℕ → List ℕ → Option (Outcome (List EmitDatum))
-ends core budget input = outcome (run (code_of core) 2000 (record_start (code_of core) input [] budget))
+ends core budget input = outcome (run (code_of (marked core false)) 2000 (record_start (code_of (marked core false)) input [] budget))
 
 means : Core → ℕ → List ℕ → Option (Outcome (List EmitDatum))
-means core budget input = Some (mean core [] budget input)
+means core budget input = Some (mean (marked core false) [] budget input)
+
+-- the same of the program that is ignoring
+ends_ignoring : Core → ℕ → List ℕ → Option (Outcome (List EmitDatum))
+ends_ignoring core budget input = outcome (run (code_of (marked core true)) 2000 (record_start (code_of (marked core true)) input [] budget))
+
+means_ignoring : Core → ℕ → List ℕ → Option (Outcome (List EmitDatum))
+means_ignoring core budget input = Some (mean (marked core true) [] budget input)
 
 sum_enough : ends emits_sum 5 [] ≡ means emits_sum 5 []
 unfolding ends means outcome code_of tables run carry_on step_by int_wrap
@@ -117,6 +127,19 @@ weight_less = refl
 undefined_test : ends emits_if 100 [] ≡ means emits_if 100 []
 unfolding ends means outcome code_of tables run carry_on step_by int_wrap
 undefined_test = refl
+
+-- what is passed over is counted
+ignored_test : ends_ignoring emits_if 7 [] ≡ means_ignoring emits_if 7 []
+unfolding ends_ignoring means_ignoring outcome code_of tables run carry_on step_by int_wrap
+ignored_test = refl
+
+ignored_test_less : ends_ignoring emits_if 6 [] ≡ means_ignoring emits_if 6 []
+unfolding ends_ignoring means_ignoring outcome code_of tables run carry_on step_by int_wrap
+ignored_test_less = refl
+
+ignored_emit : ends_ignoring emits_without_weight 5 [] ≡ means_ignoring emits_without_weight 5 []
+unfolding ends_ignoring means_ignoring outcome code_of tables run carry_on step_by int_wrap
+ignored_emit = refl
 
 outside_enough : ends stores_outside 8 [] ≡ means stores_outside 8 []
 unfolding ends means outcome code_of tables run carry_on step_by int_wrap

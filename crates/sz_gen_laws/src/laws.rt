@@ -1,9 +1,10 @@
 //! The laws.
 ghost use Rattle.std.specs.Prelude.{◌≡◌, [], ◌∷◌};
-ghost use Rattle.sz_core.specs.Programs.{Core, core_of};
+ghost use Rattle.sz_core.specs.Programs.{core_of};
 ghost use Rattle.sz_core.specs.Sound.{IsSound};
 ghost use Rattle.sz_instr.specs.declared.code.Code.{Code};
 ghost use Rattle.sz_instr.specs.declared.instr.Instr.TheVariants.{EndRecord};
+ghost use Rattle.sz_mean.specs.Marked.{Marked};
 ghost use Rattle.sz_gen_rules.specs.Tables.{Tables};
 ghost use Rattle.sz_gen_rules.specs.ExpressionCode.{expression_code};
 ghost use Rattle.sz_gen_rules.specs.Runs.{CodeDoesWhatIsMeant};
@@ -30,5 +31,5 @@ pub fn an_empty_program_has_code()
 
 /// The code of a sound program is the program compiled: it simulates the program, and it is well formed.
 pub fn code_of_a_sound_program_is_compiled()
-    ensures value { (program : Core) (code : Code) → IsSound program → IsCodeOf program code → IsCompiled program code }
+    ensures value { (program : Marked) (code : Code) → IsSound program.core → IsCodeOf program code → IsCompiled program code }
 {}

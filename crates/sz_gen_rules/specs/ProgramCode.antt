@@ -2,11 +2,12 @@
 use Rattle.std.specs.Prelude.{◌≡◌, ℕ, suc, ◌+◌, pos, List, [], ◌∷◌, ◌++◌, length}
 use Rattle.sz_types.specs.declared.operator.BinOp.TheVariants.{Div}
 use Rattle.sz_value.specs.Data.{Datum}
-use Rattle.sz_core.specs.Programs.{Function, Static, Core, functions_of, statics_of, tables_of}
+use Rattle.sz_core.specs.Programs.{Function, Static, Core, functions_of, statics_of}
 use Rattle.sz_instr.specs.declared.instr.Instr.TheVariants.{Push, KeepStatic, Binary, Return, EndRecord}
 use Rattle.sz_instr.specs.declared.line.Line.{Line}
 use Rattle.sz_instr.specs.declared.routine.Routine.{Routine}
 use Rattle.sz_instr.specs.declared.code.Code.{Code}
+use Rattle.sz_mean.specs.Marked.{Marked, all_tables, counting_table}
 use Rattle.sz_mean.specs.Programs.{body_of}
 use Rattle.sz_gen_rules.specs.Tables.{Tables, tables_in, constant_number, line}
 use Rattle.sz_gen_rules.specs.ExpressionCode.{expression_code}
@@ -62,18 +63,20 @@ module _ (tables : Tables) where
   abbrev pub record_code : Core → ℕ → List Line
   record_code core at = statements_code tables (body_of core) no_exits at ++ free EndRecord ∷ []
 
--- the code is that of the program: functions first, then statics, then the record. It has the constants and the types that its lines name.
-pub record IsCodeOf (core : Core) (code : Code) : Type 0 where
-  pub lines : code.lines ≡ functions_code (tables_in code) (functions_of core.items) 0
-      ++ (statics_code (tables_in code) 0 (statics_of core.items) (length (functions_code (tables_in code) (functions_of core.items) 0))
-      ++ record_code (tables_in code) core code.main.entry)
-  pub functions : code.functions ≡ function_routines (tables_in code) (functions_of core.items) 0
-  pub statics : code.statics ≡ static_routines (tables_in code) 0 (statics_of core.items) (length (functions_code (tables_in code) (functions_of core.items) 0))
+-- the code is that of the program: functions first, then statics, then the record. It has the constants and the types that its lines
+-- name, and counts lines where the program is ignoring, which changes none of its lines.
+pub record IsCodeOf (program : Marked) (code : Code) : Type 0 where
+  pub lines : code.lines ≡ functions_code (tables_in code) (functions_of program.core.items) 0
+      ++ (statics_code (tables_in code) 0 (statics_of program.core.items) (length (functions_code (tables_in code) (functions_of program.core.items) 0))
+      ++ record_code (tables_in code) program.core code.main.entry)
+  pub functions : code.functions ≡ function_routines (tables_in code) (functions_of program.core.items) 0
+  pub statics : code.statics ≡ static_routines (tables_in code) 0 (statics_of program.core.items) (length (functions_code (tables_in code) (functions_of program.core.items) 0))
   pub main : code.main ≡ record {
-    entry = length (functions_code (tables_in code) (functions_of core.items) 0)
-        + length (statics_code (tables_in code) 0 (statics_of core.items) (length (functions_code (tables_in code) (functions_of core.items) 0)));
+    entry = length (functions_code (tables_in code) (functions_of program.core.items) 0)
+        + length (statics_code (tables_in code) 0 (statics_of program.core.items) (length (functions_code (tables_in code) (functions_of program.core.items) 0)));
     params = 0;
-    locals = length core.locals;
+    locals = length program.core.locals;
   }
-  pub names : ProgramHasNames (tables_in code) core
-  pub tables : code.tables ≡ tables_of core.items
+  pub names : ProgramHasNames (tables_in code) program.core
+  pub tables : code.tables ≡ all_tables program
+  pub ignore : code.ignore ≡ counting_table program

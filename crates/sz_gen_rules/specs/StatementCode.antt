@@ -43,18 +43,23 @@ abbrev pub bare_step : core.Step → Step
 bare_step (at_index e) = steps.Index
 bare_step (at_field n) = steps.Field n
 
--- a test, and code for where it is true and for where it is false
+-- a test, and code for where it is true and for where it is false; past both where it is undefined and the statement is passed over
 abbrev pub branch_code : Place → List Line → (first second : ℕ → List Line) → ℕ → List Line
 branch_code place test first second at =
     let start = at + length test + 1 in
     let one = first start in
     let other = second (start + length one + 1) in
-    test ++ line (Test (start + length one + 1)) 1 place ∷ (one ++ goes (start + length one + 1 + length other) ∷ other)
+    let past = start + length one + 1 + length other in
+    test ++ line (Test (start + length one + 1) past) 1 place ∷ (one ++ goes past ∷ other)
 
--- a test of a loop, which goes to the second line of the loop's code where it is false; a missing one takes its tick alone
-abbrev pub test_code : Tables → Place → Option Node → (away : ℕ) → ℕ → List Line
-test_code tables place None away at = line Tick 1 place ∷ []
-test_code tables place (Some e) away at = expression_code tables e at ++ line (Test away) 1 place ∷ []
+-- a test, which goes to a line where it is false, and to one where it is undefined; a missing one takes its tick alone
+abbrev pub test_code : Tables → Place → Option Node → (away past : ℕ) → ℕ → List Line
+test_code tables place None away past at = line Tick 1 place ∷ []
+test_code tables place (Some e) away past at = expression_code tables e at ++ line (Test away past) 1 place ∷ []
+
+-- a test of a loop, which goes to the second line of the loop's code where it isn't true
+abbrev pub loop_test_code : Tables → Place → Option Node → (start : ℕ) → ℕ → List Line
+loop_test_code tables place e start at = test_code tables place e (start + 1) (start + 1) at
 
 -- a loop that is tested before each turn: a jump to the test; a jump past the loop, to which `break` and the test go; what is done
 -- between turns, to which `continue` goes, and the loop return; the test; the body, and a jump to what is done between turns
@@ -100,11 +105,11 @@ module _ (tables : Tables) where
     statement_code (branch place e first second) out at =
         branch_code place (expression_code tables e at) (statement_code first out) (statement_code second out) at
     statement_code (while place e body) out at =
-        loop_code place (λ _. []) (test_code tables place (Some e) (at + 1)) (statement_code body (in_loop out (at + 1) (at + 2))) at
+        loop_code place (λ _. []) (loop_test_code tables place (Some e) at) (statement_code body (in_loop out (at + 1) (at + 2))) at
     statement_code (do_while place body e) out at =
-        loop_after_code place (statement_code body (in_loop out (at + 1) (at + 2))) (test_code tables place (Some e) (at + 1)) at
+        loop_after_code place (statement_code body (in_loop out (at + 1) (at + 2))) (loop_test_code tables place (Some e) at) at
     statement_code (for_loop place e between body) out at =
-        loop_code place (statement_code between out) (test_code tables place e (at + 1)) (statement_code body (in_loop out (at + 1) (at + 2))) at
+        loop_code place (statement_code between out) (loop_test_code tables place e at) (statement_code body (in_loop out (at + 1) (at + 2))) at
     statement_code break out at = goes out.on_break ∷ []
     statement_code continue out at = goes out.on_continue ∷ []
     statement_code (return_value place e) out at = closed (followed at (discards out.flags) (expression_code tables e)) Return place

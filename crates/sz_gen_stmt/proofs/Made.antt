@@ -14,15 +14,17 @@ use Rattle.sz_core.specs.declared.program.Item.{Item}
 use Rattle.sz_core.specs.declared.program.Item.TheVariants as items
 use Rattle.sz_core.specs.Programs as program
 use Rattle.sz_core.specs.View.{stm_of, item_of}
+use Rattle.sz_instr.specs.declared.instr.Instr.{Instr}
 use Rattle.sz_instr.specs.declared.instr.Instr.TheVariants.{Jump, Test, Tick, KeepStatic, EndRecord}
 use Rattle.sz_instr.specs.declared.line.Line.{Line}
 use Rattle.sz_instr.specs.declared.routine.Routine.{Routine}
 use Rattle.sz_instr.specs.declared.code.Code.{Code}
+use Rattle.sz_mean.specs.Marked.{Marked, all_tables, counting_table}
 use Rattle.sz_mean.specs.Programs.{body_of}
 use Rattle.sz_gen_expr.specs.declared.builder.Builder.{Builder}
 use Rattle.sz_gen_rules.specs.Tables.{Tables, HasConstant, line}
 use Rattle.sz_gen_rules.specs.ExpressionCode.{followed, expression_code}
-use Rattle.sz_gen_expr.specs.Building.{tables_made, Grows, Appends, AppendsLine, AppendsClosed, Lands, Nothing}
+use Rattle.sz_gen_expr.specs.Building.{tables_made, Grows, Appends, AppendsLine, AppendsClosed, LandsBy, Lands, LandsPast, Nothing}
 use Rattle.sz_gen_expr.proofs.Builds.{grows_itself, grows_on, grows_same, landed_grows, after}
 use Rattle.sz_gen_rules.specs.StatementCode as codes
 use Rattle.sz_gen_rules.specs.FreeLines.{no_place}
@@ -30,7 +32,7 @@ use Rattle.sz_gen_rules.specs.StatementCode.{no_exits, branch_code, loop_code, l
 use Rattle.sz_gen_rules.specs.ProgramCode.{IsCodeOf, returns_undefined, function_code, functions_code, function_routines, static_code, statics_code, static_routines, record_code}
 use Rattle.sz_gen_rules.specs.NamedStatements.{StmsHaveNames}
 use Rattle.sz_gen_stmt.specs.Making.{AppendsStm, AppendsStms, Extends, ExtendsFunction, ExtendsFunctions, ExtendsStatic, ExtendsStatics}
-use Rattle.sz_gen_stmt.proofs.Patches.{length-patched, branch_lines, loop_lines, loop_after_lines}
+use Rattle.sz_gen_stmt.proofs.Patches.{length-changed, branch_lines, loop_lines, loop_after_lines}
 
 -- a statement of this form
 pub of_stm : {old new : Builder} (out : codes.Exits) (s : CoreStmt) (x : Stm) → stm_of s ≡ x → AppendsStm old new x out → AppendsStm old new (stm_of s) out
@@ -47,17 +49,19 @@ lent_is f (Some a) o is = ap (option_map f) is
 -- ---- where a line gets its target
 
 -- a line stays where another one gets its target
-pub stays_landed : {old new : Builder} {at to : ℕ} → at < length old.lines → Lands old new to → at < length new.lines
-stays_landed {old} {new} {at} {to} within h = omega (arith, within, ap length h.lines, length-patched old.lines to (length old.lines))
+pub stays_landed : {change : Instr → ℕ → Option Instr} {old new : Builder} {at to : ℕ} → at < length old.lines → LandsBy change old new to
+    → at < length new.lines
+stays_landed {change} {old} {new} {at} {to} within h = omega (arith, within, ap length h.lines, length-changed change old.lines to (length old.lines))
 
-pub branch_made : {old m1 m2 m3 m4 m5 m6 new : Builder} {test first second : Tables → ℕ → List Line} {named1 named2 named3 : Tables → Type 0}
+pub branch_made : {old m1 m2 m3 m4 m5 m6 m7 new : Builder} {test first second : Tables → ℕ → List Line} {named1 named2 named3 : Tables → Type 0}
     (place : Place) (skip over : ℕ)
-    → Appends old m1 test named1 → skip ≡ length m1.lines → AppendsLine m1 m2 (λ tables. Test 0) 1 place Nothing → Appends m2 m3 first named2
-    → over ≡ length m3.lines → AppendsLine m3 m4 (λ tables. Jump 0) 0 no_place Nothing → Lands m4 m5 skip → Appends m5 m6 second named3 → Lands m6 new over
+    → Appends old m1 test named1 → skip ≡ length m1.lines → AppendsLine m1 m2 (λ tables. Test 0 0) 1 place Nothing → Appends m2 m3 first named2
+    → over ≡ length m3.lines → AppendsLine m3 m4 (λ tables. Jump 0) 0 no_place Nothing → Lands m4 m5 skip → Appends m5 m6 second named3 → Lands m6 m7 over
+    → LandsPast m7 new skip
     → Appends old new (λ tables at. branch_code place (test tables at) (first tables) (second tables) at)
     (λ tables. named1 tables × named2 tables × named3 tables)
-branch_made {old} {m1} {m2} {m3} {m4} {m5} {m6} {new} {test} {first} {second} place skip over h1 k1 h2 h3 k2 h4 l1 h5 l2 =
-    let g6 = landed_grows l2 in
+branch_made {old} {m1} {m2} {m3} {m4} {m5} {m6} {m7} {new} {test} {first} {second} place skip over h1 k1 h2 h3 k2 h4 l1 h5 l2 l3 =
+    let g6 = grows_on (landed_grows l2) (landed_grows l3) in
     let g4 = grows_on (landed_grows l1) (grows_on h5.grows g6) in
     let g3 = grows_on h4.grows g4 in
     let g2 = grows_on h3.grows g3 in
@@ -65,12 +69,12 @@ branch_made {old} {m1} {m2} {m3} {m4} {m5} {m6} {new} {test} {first} {second} pl
     record {
       grows = grows_on h1.grows g1;
       lines = λ tables g. branch_lines old.lines (test tables (length old.lines)) (first tables) (second tables)
-          m1.lines m2.lines m3.lines m4.lines m5.lines m6.lines new.lines place skip over
+          m1.lines m2.lines m3.lines m4.lines m5.lines m6.lines m7.lines new.lines place skip over
           (h1.lines tables (grows_on g1 g)) k1 (h2.lines tables (grows_on g2 g)) (h3.lines tables (grows_on g3 g)) k2
-          (h4.lines tables (grows_on g4 g)) l1.lines (h5.lines tables (grows_on g6 g)) l2.lines;
+          (h4.lines tables (grows_on g4 g)) l1.lines (h5.lines tables (grows_on g6 g)) l2.lines l3.lines;
       names = λ tables g. (h1.names tables (grows_on g1 g), h3.names tables (grows_on g3 g), h5.names tables (grows_on g6 g));
-      functions = l2.functions ∙ h5.functions ∙ l1.functions ∙ h4.functions ∙ h3.functions ∙ h2.functions ∙ h1.functions;
-      statics = l2.statics ∙ h5.statics ∙ l1.statics ∙ h4.statics ∙ h3.statics ∙ h2.statics ∙ h1.statics;
+      functions = l3.functions ∙ l2.functions ∙ h5.functions ∙ l1.functions ∙ h4.functions ∙ h3.functions ∙ h2.functions ∙ h1.functions;
+      statics = l3.statics ∙ l2.statics ∙ h5.statics ∙ l1.statics ∙ h4.statics ∙ h3.statics ∙ h2.statics ∙ h1.statics;
     }
 
 pub loop_made : {old m1 m2 m3 m4 m5 m6 m7 m8 new : Builder} {between : Tables → ℕ → List Line} {named1 named2 named3 : Tables → Type 0}
@@ -233,11 +237,11 @@ static_made old m1 m2 new s n is statics lines functions constants types h k =
     }
 
 -- a whole program: its functions, its statics and its record
-pub program_made : (core : Core) (code : Code) (m0 m1 m2 m3 : Builder) (entry locals : ℕ) (tables : List Declaration)
+pub program_made : (marked : Marked) (code : Code) (m0 m1 m2 m3 : Builder) (entry locals : ℕ) (tables : List Declaration) (ignore : Option ℕ)
     → m0.lines ≡ [] → m0.functions ≡ [] → m0.statics ≡ []
-    → ExtendsFunctions m0 m1 (functions_of core.items) → ExtendsStatics m1 m2 (length m1.statics) (statics_of core.items)
-    → entry ≡ length m2.lines → Appends m2 m3 (λ tables at. record_code tables core at) (λ tables. StmsHaveNames tables (body_of core))
-    → locals ≡ length core.locals → tables ≡ tables_of core.items
+    → ExtendsFunctions m0 m1 (functions_of marked.core.items) → ExtendsStatics m1 m2 (length m1.statics) (statics_of marked.core.items)
+    → entry ≡ length m2.lines → Appends m2 m3 (λ tables at. record_code tables marked.core at) (λ tables. StmsHaveNames tables (body_of marked.core))
+    → locals ≡ length marked.core.locals → tables ≡ all_tables marked → ignore ≡ counting_table marked
     → code ≡ record {
       lines = m3.lines;
       functions = m3.functions;
@@ -246,14 +250,16 @@ pub program_made : (core : Core) (code : Code) (m0 m1 m2 m3 : Builder) (entry lo
       constants = m3.constants;
       types = m3.types;
       tables = tables;
+      ignore = ignore;
     }
-    → IsCodeOf core code
-program_made core code m0 m1 m2 m3 entry locals tables no_lines no_functions no_statics h k is_entry l is_locals is_tables is_code =
+    → IsCodeOf marked code
+program_made marked code m0 m1 m2 m3 entry locals tables ignore no_lines no_functions no_statics h k is_entry l is_locals is_tables is_ignore is_code =
+    let core : Core = marked.core in
     let t : Tables = tables_made m3 in
     let g2 = grows_on l.grows (grows_itself t) in
     let g1 = grows_on k.grows g2 in
-    let fs = functions_of core.items in
-    let ss = statics_of core.items in
+    let fs = functions_of marked.core.items in
+    let ss = statics_of marked.core.items in
     let first = functions_code t fs 0 in
     let second = statics_code t 0 ss (length first) in
     let lines1 : m1.lines ≡ first = h.lines t g1 ∙ (λ j. (no_lines j) ++ functions_code t fs (length (no_lines j))) in
@@ -261,7 +267,7 @@ program_made core code m0 m1 m2 m3 entry locals tables no_lines no_functions no_
     let lines2 : m2.lines ≡ first ++ second = k.lines t g2 ∙ (λ j. (lines1 j) ++ statics_code t (length (statics1 j)) ss (length (lines1 j))) in
     let lines3 = l.lines t (grows_itself t) ∙ ap (λ n. m2.lines ++ record_code t core n) (sym is_entry)
     ∙ ap (λ ls. ls ++ record_code t core entry) lines2 ∙ append_assoc first second (record_code t core entry) in
-    subst (IsCodeOf core) (sym is_code) record {
+    subst (IsCodeOf marked) (sym is_code) record {
       lines = lines3;
       functions = l.functions ∙ k.functions t g2 ∙ append-nil m1.functions ∙ h.functions t g1
           ∙ (λ j. (no_functions j) ++ function_routines t fs (length (no_lines j)));
@@ -269,6 +275,7 @@ program_made core code m0 m1 m2 m3 entry locals tables no_lines no_functions no_
       main = λ j. record { entry = (is_entry ∙ ap length lines2 ∙ length-append first second) j; params = 0; locals = is_locals j };
       names = record { functions = h.names t g1; statics = k.names t g2; body = l.names t (grows_itself t) };
       tables = is_tables;
+      ignore = is_ignore;
     }
 
 -- ---- items of other kinds

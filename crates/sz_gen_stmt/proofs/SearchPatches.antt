@@ -4,10 +4,10 @@ use Rattle.sz_instr.specs.declared.instr.Instr.TheVariants.{Enter, Next, Leave, 
 use Rattle.sz_instr.specs.declared.line.Line.{Line}
 use Rattle.sz_types.specs.declared.place.Place.{Place}
 use Rattle.sz_gen_rules.specs.Tables.{Tables, line}
-use Rattle.sz_gen_expr.specs.Building.{patched}
+use Rattle.sz_gen_expr.specs.Building.{with_target, patched}
 use Rattle.sz_gen_rules.specs.FreeLines.{free, goes}
 use Rattle.sz_gen_rules.specs.SearchCode.{VariableCode, flag, some_code, each_code, all_code}
-use Rattle.sz_gen_expr.proofs.Patches.{patched_after}
+use Rattle.sz_gen_expr.proofs.Patches.{changed_after}
 use Rattle.sz_gen_stmt.proofs.Patches.{patches}
 
 pub some_lines : (base : List Line) (v : VariableCode) (cr : ℕ → ℕ → List Line) (c2 c3 c4 c5 : List Line) (p : Place) (top fail : ℕ)
@@ -59,7 +59,7 @@ each_lines tables base v cr c2 c3 c4 c5 c6 c7 c8 c9 c10 p top fail e2 e3 m e4 e5
     ) in
     let g9 : c9 ≡ c3 ++ (next (suc t + length tried + 3) ∷ tail t) =
     e9 ∙ ap (λ i. patched c8 i (length c8)) m ∙ ap (λ l. patched l (length c3) (length c8)) g8
-    ∙ patched_after c3 (next 0 ∷ tail top) (length c8) ∙ (λ j. c3 ++ (next (end j) ∷ tail (n j))) in
+    ∙ changed_after with_target c3 (next 0 ∷ tail top) (length c8) ∙ (λ j. c3 ++ (next (end j) ∷ tail (n j))) in
     simp (e10, g9, e3, e2, append_assoc)
 
 pub all_lines : (base : List Line) (v : VariableCode) (cr : ℕ → ℕ → List Line) (c2 c3 c4 c5 c6 c7 c8 c9 c10 : List Line) (p : Place)
@@ -79,7 +79,7 @@ all_lines base v cr c2 c3 c4 c5 c6 c7 c8 c9 c10 p entry away top fail e2 m1 e3 m
     let g5 : c5 ≡ c2 ++ out 0 = simp (e5, e4, e3, append_assoc) in
     let n5 : length c5 ≡ a + 2 = omega (arith, n2, ap length g5, length-append c2 (out 0)) in
     let g6 : c6 ≡ c2 ++ out (a + 2) =
-    e6 ∙ ap (λ i. patched c5 i (length c5)) m1 ∙ ap (λ l. patched l (length c2) (length c5)) g5 ∙ patched_after c2 (out 0) (length c5)
+    e6 ∙ ap (λ i. patched c5 i (length c5)) m1 ∙ ap (λ l. patched l (length c2) (length c5)) g5 ∙ changed_after with_target c2 (out 0) (length c5)
     ∙ ap (λ i. c2 ++ out i) n5 in
     let n6 : top ≡ a + 2 = omega (arith, m3, n2, ap length g6, length-append c2 (out (a + 2))) in
     let n7 : length c7 ≡ a + 3 = omega (arith, n6, m3, ap length e7, length-append c6 (next 0 ∷ [])) in
@@ -97,7 +97,7 @@ all_lines base v cr c2 c3 c4 c5 c6 c7 c8 c9 c10 p entry away top fail e2 m1 e3 m
     ) in
     let g10 : c10 ≡ c6 ++ (next (a + 3 + length tried + 1) ∷ tail (a + 2)) =
     e10 ∙ ap (λ i. patched c9 i (length c9)) m3 ∙ ap (λ l. patched l (length c6) (length c9)) g9
-    ∙ patched_after c6 (next 0 ∷ tail top) (length c9) ∙ (λ j. c6 ++ (next (n9 j) ∷ tail (n6 j))) in
+    ∙ changed_after with_target c6 (next 0 ∷ tail top) (length c9) ∙ (λ j. c6 ++ (next (n9 j) ∷ tail (n6 j))) in
     simp (g10, g6, e2, append_assoc)
 
 pub when_lines : (base : List Line) (cs : ℕ → ℕ → List Line) (c1 c2 c3 c4 c5 : List Line) (entry past : ℕ)

@@ -19,7 +19,7 @@ use Rattle.sz_gen_rules.specs.ExpressionCode.{expression_code, indexes_code}
 use Rattle.sz_gen_rules.specs.Named.{HasNames, StepsHaveNames}
 use Rattle.sz_gen_expr.specs.Building.{tables_made, Grows, Appends}
 use Rattle.sz_gen_rules.specs.StatementCode as codes
-use Rattle.sz_gen_rules.specs.StatementCode.{in_loop, in_search, test_code, loop_code, variable_code_of, statement_code, statements_code}
+use Rattle.sz_gen_rules.specs.StatementCode.{in_loop, in_search, test_code, loop_test_code, loop_code, variable_code_of, statement_code, statements_code}
 use Rattle.sz_gen_rules.specs.FreeLines.{free}
 use Rattle.sz_gen_rules.specs.SearchCode.{holds_code, search_code}
 use Rattle.sz_gen_rules.specs.NamedStatements.{FlagsHaveNames, BasesHaveNames, StmHasNames, StmsHaveNames, FunctionsHaveNames, StaticsHaveNames}
@@ -54,14 +54,14 @@ AppendsStms old new ss out = Appends old new (λ tables at. statements_code tabl
 abbrev pub AppendsIfAny : Builder → Builder → Option Stm → codes.Exits → Type 0
 AppendsIfAny old new s out = Appends old new (λ tables at. code_if_any tables s out at) (λ tables. IfSome s (StmHasNames tables))
 
--- the code of a loop's test more, which goes to a line where it is false
+-- the code of a loop's test more, which goes to a line where it isn't true
 abbrev pub AppendsTest : Builder → Builder → Place → Option Node → (away : ℕ) → Type 0
-AppendsTest old new place test away = Appends old new (λ tables at. test_code tables place test away at) (λ tables. IfSome test (HasNames tables))
+AppendsTest old new place test away = Appends old new (λ tables at. test_code tables place test away away at) (λ tables. IfSome test (HasNames tables))
 
 -- the code of a loop that is tested before each turn more
 abbrev pub AppendsLoop : Builder → Builder → Place → (test : Option Node) → (between : Option Stm) → (body : Stm) → codes.Exits → Type 0
 AppendsLoop old new place test between body out = Appends old new
-    (λ tables at. loop_code place (code_if_any tables between out) (test_code tables place test (at + 1))
+    (λ tables at. loop_code place (code_if_any tables between out) (loop_test_code tables place test at)
     (statement_code tables body (in_loop out (at + 1) (at + 2))) at)
     (λ tables. IfSome test (HasNames tables) × IfSome between (StmHasNames tables) × StmHasNames tables body)
 

@@ -1,6 +1,6 @@
 //! Compiled programs.
 ghost use Rattle.std.specs.Prelude.{◌≡◌, IfOk};
-ghost use Rattle.sz_core.specs.Programs.{tables_of};
+ghost use Rattle.sz_mean.specs.Marked.{marked, all_tables};
 ghost use Rattle.sz_gen_rules.specs.Compiled.{IsCompiled};
 
 use crate::program::gen_program;
@@ -15,10 +15,11 @@ use sz_value::NoMemory;
 
 /// The code of a program, which does what the program means, as `IsCompiled` of `sz_gen_rules` says.
 ///
-/// At run time there is the code alone, with the declarations of the tables. Contracts see the program.
+/// At run time there is the code alone, with the declarations of the tables. Contracts see the program, and whether it is ignoring.
 pub struct Compiled {
     code: Code,
     program: Snapshot<Program>,
+    ignore: Snapshot<bool>,
 }
 
 impl Drop for Compiled {
@@ -26,22 +27,23 @@ impl Drop for Compiled {
         let Compiled {
             code: _,
             program: _,
+            ignore: _,
         } = self;
     }
 }
 
 impl Model for Compiled {
-    ghost use Rattle.sz_core.specs.Programs.{Core};
-    ghost use Rattle.sz_core.specs.ProgramCode.{core_code};
+    ghost use Rattle.sz_mean.specs.Marked.{Marked, marked};
+    ghost use Rattle.sz_gen_stmt.specs.MarkedCode.{marked_code};
     ghost use Rattle.sz_gen_rules.specs.Compiled.{IsCompiled};
 
-    ghost Value = { Core };
+    ghost Value = { Marked };
 
-    ghost coded = { core_code };
+    ghost coded = { marked_code };
 
-    ghost view = { λ c. c.program.value };
+    ghost view = { λ c. marked c.program.value c.ignore.value };
 
-    ghost invariant = { λ c. IsCompiled c.program.value c.code };
+    ghost invariant = { λ c. IsCompiled (marked c.program.value c.ignore.value) c.code };
 }
 
 impl Compiled {
@@ -52,22 +54,23 @@ impl Compiled {
         &self.code
     }
 
-    /// The declarations of the tables, in order.
+    /// The declarations of the tables, in order, and that of the table of lines last, where the program is ignoring.
     pub fn tables(&self) -> &TableDecls
-        ensures value { result.now ≡ tables_of self.now.items }
+        ensures value { result.now ≡ all_tables self.now }
     {
         &self.code.tables
     }
 }
 
-/// The code of a program. That it is the program compiled is a law of its definition.
-pub fn compile(alloc: Global, program: Program) -> Result<Compiled, NoMemory>
-    ensures value { IfOk result (λ compiled. compiled ≡ program) }
+/// The code of a program, which is to be an ignoring one or not. That it is the program compiled is a law of its definition.
+pub fn compile(alloc: Global, program: Program, ignore: bool) -> Result<Compiled, NoMemory>
+    ensures value { IfOk result (λ compiled. compiled ≡ marked program ignore) }
 {
-    let code = gen_program(alloc, &program)?;
+    let code = gen_program(alloc, &program, ignore)?;
     code_of_a_sound_program_is_compiled();
     Ok(Compiled {
         code,
         program: Snapshot::of(&program),
+        ignore: Snapshot::of(&ignore),
     })
 }

@@ -77,12 +77,13 @@ fn gen_branch(
         (branch place (node_of test.now) (stm_of first.now) (stm_of second.now)) (exits_of out)) }
 {
     gen_expr(test, into)?;
-    let skip = into.push(Instr::Test(0), 1, place)?;
+    let skip = into.push(Instr::Test(0, 0), 1, place)?;
     gen_stmt(first, out, into)?;
     let over = jump(into)?;
     into.land(skip);
     gen_stmt(second, out, into)?;
     into.land(over);
+    into.land_past(skip);
     Ok(())
 }
 

@@ -2,6 +2,7 @@
 #![tactic(auto)]
 
 mod compiled;
+mod counting;
 mod generate;
 mod parts;
 mod program;

@@ -53,7 +53,7 @@ pub fn gen_discards(count: u32, into: &mut Builder) -> Result<(), NoMemory>
     Ok(())
 }
 
-/// Appends the code of a test of a loop, which goes to a line where it is false. A missing one takes its tick alone.
+/// Appends the code of a test of a loop, which goes to a line where it isn't true. A missing one takes its tick alone.
 pub fn gen_test(
     place: Place,
     test: Option<&CoreExpr>,
@@ -63,7 +63,7 @@ pub fn gen_test(
     ensures made { OnOk result (AppendsTest into.old into.new place (node_if_some test.entry) away) }
 {
     match test {
-        Some(test) => gen_closed(test, Instr::Test(away), place, into),
+        Some(test) => gen_closed(test, Instr::Test(away, away), place, into),
         None => into.close(Instr::Tick, place),
     }
 }

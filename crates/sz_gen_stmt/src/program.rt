@@ -5,12 +5,14 @@ ghost use Rattle.sz_core.specs.Statements.{stms_of};
 ghost use Rattle.sz_core.specs.Programs.{functions_of, statics_of, statements_of, tables_of};
 ghost use Rattle.sz_core.specs.Sound.{IsSound};
 ghost use Rattle.sz_core.specs.View.{item_of, function_of, static_of};
+ghost use Rattle.sz_mean.specs.Marked.{marked};
 ghost use Rattle.sz_gen_rules.specs.Tables.{HasConstant};
 ghost use Rattle.sz_gen_expr.specs.Building.{Appends};
 ghost use Rattle.sz_gen_rules.specs.StatementCode.{no_exits};
 ghost use Rattle.sz_gen_rules.specs.ProgramCode.{IsCodeOf, returns_undefined};
 ghost use Rattle.sz_gen_stmt.specs.Making.{AppendsStms, ExtendsFunction, ExtendsFunctions, ExtendsStatic, ExtendsStatics};
 
+use crate::counting::count_lines;
 use crate::generate::{Exits, gen_stmt, gen_stmts};
 use crate::parts::free;
 use std::alloc::Global;
@@ -20,9 +22,10 @@ use sz_instr::{Code, Instr, Routine};
 use sz_types::{BinOp, Place, TableDecls, copy_table};
 use sz_value::{NoMemory, Value};
 
-/// The code of a program: that of its functions, of its statics and of the record, one after the other.
-pub fn gen_program(alloc: Global, program: &Program) -> Result<Code, NoMemory>
-    ensures value { IfOk result (λ code. IsCodeOf program.now code) }
+/// The code of a program: that of its functions, of its statics and of the record, one after the other. It counts lines where the
+/// program is to be an ignoring one.
+pub fn gen_program(alloc: Global, program: &Program, ignore: bool) -> Result<Code, NoMemory>
+    ensures value { IfOk result (λ code. IsCodeOf (marked program.now ignore) code) }
     ensures sound { IsSound program.now }
 {
     let items = program.items();
@@ -37,12 +40,18 @@ pub fn gen_program(alloc: Global, program: &Program) -> Result<Code, NoMemory>
         params: 0,
         locals: small(program.locals().len())?,
     };
-    let tables = copied_tables(alloc, items)?;
-    finished(into, main, tables)
+    let mut tables = copied_tables(alloc, items)?;
+    let counting = count_lines(alloc, ignore, &mut tables)?;
+    finished(into, main, tables, counting)
 }
 
 // The code that was made.
-fn finished(into: Builder, main: Routine, tables: TableDecls) -> Result<Code, NoMemory>
+fn finished(
+    into: Builder,
+    main: Routine,
+    tables: TableDecls,
+    counting: Option<u32>,
+) -> Result<Code, NoMemory>
     ensures value { IfOk result (λ code. code ≡ record {
       lines = into.lines;
       functions = into.functions;
@@ -51,6 +60,7 @@ fn finished(into: Builder, main: Routine, tables: TableDecls) -> Result<Code, No
       constants = into.constants;
       types = into.types;
       tables = tables;
+      ignore = counting;
     }) }
 {
     let constants = into.constants.copied()?;
@@ -69,6 +79,7 @@ fn finished(into: Builder, main: Routine, tables: TableDecls) -> Result<Code, No
         constants,
         types,
         tables,
+        ignore: counting,
     })
 }
 

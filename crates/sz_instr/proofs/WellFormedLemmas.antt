@@ -6,7 +6,7 @@ use Rattle.std.proofs.lemmas.List.Folds.{list_all-append}
 use Rattle.std.proofs.lemmas.List.Sums.{AllPass-from_list_all}
 use Rattle.std.proofs.lemmas.List.Elements.{All-get_or}
 use Rattle.std.proofs.lemmas.Option.{slice_get_within, get_or_from_slice_get}
-use Rattle.sz_instr.specs.WellFormed.{routines_of, most_of, most_locals, is_in_range, is_routine, is_well_formed}
+use Rattle.sz_instr.specs.WellFormed.{routines_of, most_of, most_locals, is_in_range, is_routine, is_table_if_named, is_well_formed}
 use Rattle.sz_instr.specs.Example.{example}
 use Rattle.sz_instr.specs.declared.line.Line.{Line}
 use Rattle.sz_instr.specs.declared.routine.Routine.{Routine}
@@ -37,10 +37,11 @@ all_of_three p xs ys z = grind (arith, list_all-append p xs (ys ++ z ∷ []), li
 
 pub well_formed_by_list : (code : Code) → is_well_formed code
     ≡ (list_all (is_routine code) code.functions && list_all (is_routine code) code.statics && is_routine code code.main
-    && list_all (λ line. is_in_range code line.instr) code.lines)
+    && is_table_if_named code code.ignore && list_all (λ line. is_in_range code line.instr) code.lines)
 unfolding is_well_formed
 well_formed_by_list code =
-    ap (λ b. b && list_all (λ line. is_in_range code line.instr) code.lines) (all_of_three (is_routine code) code.functions code.statics code.main)
+    ap (λ b. b && is_table_if_named code code.ignore && list_all (λ line. is_in_range code line.instr) code.lines)
+    (all_of_three (is_routine code) code.functions code.statics code.main)
 
 -- where all elements pass, so does the one at a place
 passes_at : {X : Type 0} (p : X → Bool) (xs : List X) (i : ℕ) (x : X) → list_all p xs ≡ true → slice_get xs i ≡ Some x → p x ≡ true
@@ -53,13 +54,16 @@ module _ (code : Code) (formed : is_well_formed code ≡ true) where
   unfolding is_well_formed
   routines_in_range =
       AllPass-from_list_all (is_routine code) (routines_of code)
-      (first_so (list_all (is_routine code) (routines_of code)) (list_all (λ line. is_in_range code line.instr) code.lines) formed)
+      (first_so (list_all (is_routine code) (routines_of code)) (is_table_if_named code code.ignore)
+      (first_so (list_all (is_routine code) (routines_of code) && is_table_if_named code code.ignore)
+      (list_all (λ line. is_in_range code line.instr) code.lines) formed))
 
   pub line_in_range : (at : ℕ) (line : Line) → slice_get code.lines at ≡ Some line → is_in_range code line.instr ≡ true
   unfolding is_well_formed
   line_in_range at line is =
       passes_at (λ line. is_in_range code line.instr) code.lines at line
-      (second_so (list_all (is_routine code) (routines_of code)) (list_all (λ line. is_in_range code line.instr) code.lines) formed) is
+      (second_so (list_all (is_routine code) (routines_of code) && is_table_if_named code code.ignore)
+      (list_all (λ line. is_in_range code line.instr) code.lines) formed) is
 
 pub example_is_well_formed : is_well_formed example ≡ true
 unfolding is_well_formed most_locals

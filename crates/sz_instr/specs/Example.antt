@@ -37,4 +37,5 @@ example = record {
   constants = Datum.int (pos 1) ∷ [];
   types = Shape.int ∷ [];
   tables = sum_named (codes "count") ∷ sum_named (codes "total") ∷ sum_named (codes "sum_of_squares") ∷ [];
+  ignore = None;
 }

@@ -1,5 +1,5 @@
 -- What it is that code is well formed: each number in it is that of something that the code has.
-use Rattle.std.specs.Prelude.{ℕ, List, [], ◌∷◌, ◌++◌, Bool, true, false, ◌&&◌, length, max, nat_lt, nat_le, slice_get, Option, Some}
+use Rattle.std.specs.Prelude.{ℕ, List, [], ◌∷◌, ◌++◌, Bool, true, false, ◌&&◌, length, max, nat_lt, nat_le, slice_get, Option, Some, None}
 use Rattle.std.specs.List.{list_all}
 use Rattle.sz_types.specs.Data.{Shape}
 use Rattle.sz_instr.specs.declared.instr.Instr.{Instr}
@@ -53,7 +53,7 @@ is_in_range code (Field part) = true
 is_in_range code Def = true
 is_in_range code Tick = true
 is_in_range code (Jump to) = nat_lt to (length code.lines)
-is_in_range code (Test to) = nat_lt to (length code.lines)
+is_in_range code (Test to past) = nat_lt to (length code.lines) && nat_lt past (length code.lines)
 is_in_range code (AndTest to) = nat_lt to (length code.lines)
 is_in_range code (OrTest to) = nat_lt to (length code.lines)
 is_in_range code (Call function) = nat_lt function (length code.functions)
@@ -71,6 +71,13 @@ is_in_range code (Fails to) = nat_lt to (length code.lines)
 abbrev pub is_routine : Code → Routine → Bool
 is_routine code r = nat_lt r.entry (length code.lines) && nat_le r.params r.locals
 
--- whether the code is well formed: its routines are routines in it, and each line's instruction is in range
+-- whether the table is one of the code, where one is named
+abbrev pub is_table_if_named : Code → Option ℕ → Bool
+is_table_if_named code None = true
+is_table_if_named code (Some table) = nat_lt table (length code.tables)
+
+-- whether the code is well formed: its routines are routines in it, the table that counts lines is one of its tables, and each line's
+-- instruction is in range
 unfoldable pub is_well_formed : Code → Bool
-is_well_formed code = list_all (is_routine code) (routines_of code) && list_all (λ line. is_in_range code line.instr) code.lines
+is_well_formed code =
+    list_all (is_routine code) (routines_of code) && is_table_if_named code code.ignore && list_all (λ line. is_in_range code line.instr) code.lines

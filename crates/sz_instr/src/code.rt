@@ -23,6 +23,8 @@ pub struct Code {
     pub types: Tys,
     /// The tables that `Emit` emits to, in the order of their declarations.
     pub tables: TableDecls,
+    /// The table that counts the lines of the text at which an undefined value was used, if they are counted: one of `tables`.
+    pub ignore: Option<u32>,
 }
 
 impl Drop for Code {
@@ -35,6 +37,7 @@ impl Drop for Code {
             constants: _,
             types: _,
             tables: _,
+            ignore: _,
         } = self;
     }
 }

@@ -8,6 +8,9 @@ use sz_types::{BinOp, Builtin, UnOp};
 /// All numbers count from 0. A place is that of a line in its code. A local is one of the routine that runs, and constants,
 /// statics, types, functions and tables are those of the code. What is pushed is undefined where an operand or a part was
 /// undefined, or where the operation has no result. Candidate lists belong to the routine that runs, the innermost first.
+///
+/// Where the code names a table that counts lines, an undefined value that is used is no fault of a run: the line of the
+/// program's text is emitted to that table. So is the line of an emit that has an undefined part.
 pub enum Instr {
     /// Pushes the constant.
     Push(u32),
@@ -24,7 +27,8 @@ pub enum Instr {
     /// Makes the local undefined.
     Clear(u32),
     /// Pops a value, and then an index or key for each such step of the path, the last one first, and puts the value into the
-    /// local, or where the path leads in it. An undefined one of them is a fault, and so is a path that leads outside.
+    /// local, or where the path leads in it. Where one of them is undefined, nothing is put anywhere: that is a fault, unless lines
+    /// are counted. A path that leads outside is a fault.
     Store(u32, Steps),
     /// Pops the operand and pushes what the operator makes of it.
     Unary(UnOp),
@@ -54,8 +58,9 @@ pub enum Instr {
     Tick,
     /// Goes to the place.
     Jump(usize),
-    /// Pops a slot and goes to the place where it is false. An undefined one is a fault.
-    Test(usize),
+    /// Pops a slot and goes to the first place where it is false. An undefined one is a fault; where lines are counted, the run
+    /// goes to the second place.
+    Test(usize, usize),
     /// Goes to the place where the slot on top is false or undefined, and leaves it; else pops it.
     AndTest(usize),
     /// Goes to the place where the slot on top is true or undefined, and leaves it; else pops it.
@@ -67,7 +72,7 @@ pub enum Instr {
     Return,
     /// Ends the run.
     EndRecord,
-    /// Pops a slot. An undefined one is a fault.
+    /// Pops a slot. An undefined one is a fault, unless lines are counted.
     Discard,
     /// Of a table, how many indexes there are, and whether there is a weight: pops the weight if there is one, the value, and
     /// the indexes, the last one first, and emits them to the table if all are defined.
@@ -110,7 +115,7 @@ impl Drop for Instr {
             | Instr::Def
             | Instr::Tick
             | Instr::Jump(_)
-            | Instr::Test(_)
+            | Instr::Test(_, _)
             | Instr::AndTest(_)
             | Instr::OrTest(_)
             | Instr::Call(_)

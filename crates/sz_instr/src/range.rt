@@ -2,7 +2,7 @@
 ghost use Rattle.std.specs.Prelude.{◌≡◌, slice_get, Some};
 ghost use Rattle.std.specs.List.{list_all};
 ghost use Rattle.sz_types.specs.Seen.{seen};
-ghost use Rattle.sz_instr.specs.WellFormed.{most_of, most_locals, is_message_type, is_in_range, is_routine, is_well_formed};
+ghost use Rattle.sz_instr.specs.WellFormed.{most_of, most_locals, is_message_type, is_in_range, is_routine, is_table_if_named, is_well_formed};
 
 use crate::code::Code;
 use crate::instr::Instr;
@@ -10,8 +10,8 @@ use crate::line::Line;
 use crate::routine::Routine;
 use sz_types::Ty;
 
-/// Whether the code is well formed: each routine begins at a line and has its parameters among its locals, and each number of
-/// an instruction is in range. A place is in range where a line stands there, a local where some routine has as many, and a type
+/// Whether the code is well formed: each routine begins at a line and has its parameters among its locals, the table that counts
+/// lines is one of the code, and each number of an instruction is in range. A place is in range where a line stands there, a local where some routine has as many, and a type
 /// that a message is decoded by where it is a proto type.
 #[tactic(auto, using(crate::proofs::WellFormedLemmas::well_formed_by_list))]
 pub fn well_formed(code: &Code) -> bool
@@ -20,6 +20,7 @@ pub fn well_formed(code: &Code) -> bool
     are_routines(code, code.functions.as_slice())
         && are_routines(code, code.statics.as_slice())
         && is_routine(code, &code.main)
+        && is_table_if_named(code)
         && are_in_range(code, most_locals(code), code.lines.as_slice())
 }
 
@@ -35,6 +36,16 @@ fn is_routine(code: &Code, routine: &Routine) -> bool
     ensures value { result ≡ is_routine code.now routine.now }
 {
     routine.entry < code.lines.len() && routine.params <= routine.locals
+}
+
+// Whether the table that counts lines is one of the code, where there is one.
+fn is_table_if_named(code: &Code) -> bool
+    ensures value { result ≡ is_table_if_named code.now code.now.ignore }
+{
+    match code.ignore {
+        None => true,
+        Some(table) => (table as usize) < code.tables.len(),
+    }
 }
 
 // The greatest number of locals of any routine.
@@ -108,9 +119,8 @@ fn is_in_range(code: &Code, locals: u32, instr: &Instr) -> bool
         Instr::Decode(ty) => is_message_number(code, *ty as usize),
         Instr::Call(function) => (*function as usize) < code.functions.len(),
         Instr::Next(n, to) => *n < locals && *to < code.lines.len(),
-        Instr::Jump(to) | Instr::Test(to) | Instr::Meets(to) | Instr::Fails(to) => {
-            *to < code.lines.len()
-        }
+        Instr::Test(to, past) => *to < code.lines.len() && *past < code.lines.len(),
+        Instr::Jump(to) | Instr::Meets(to) | Instr::Fails(to) => *to < code.lines.len(),
         Instr::AndTest(to) | Instr::OrTest(to) => *to < code.lines.len(),
         Instr::Emit(table, _, _) => (*table as usize) < code.tables.len(),
         Instr::Input

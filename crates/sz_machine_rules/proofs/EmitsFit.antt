@@ -1,7 +1,7 @@
 -- What a run emits fits the tables of its code.
 use Rattle.std.proofs.Common.{◌≡◌, ◌∙◌, ℕ, zero, suc, Bool, true, false, cond, Option, Some, None, List}
 use Rattle.std.proofs.Common.{[], ◌∷◌, ◌++◌, All, IfSome, refl, sym, ap, subst, is_some, ◌&&◌, nat_lt, arith}
-use Rattle.std.specs.Prelude.{ℤ, ◌-◌, slice_get, if◌then◌else◌, drop, length}
+use Rattle.std.specs.Prelude.{ℤ, pos, ◌-◌, slice_get, if◌then◌else◌, drop, length}
 use Rattle.std.specs.Option.{option_map}
 use Rattle.std.proofs.lemmas.List.Elements.{All-nil, All-push}
 use Rattle.sz_types.specs.Data.{Shape}
@@ -22,12 +22,12 @@ use Rattle.sz_instr.specs.declared.code.Code.{Code}
 use Rattle.sz_world_rules.specs.World.{World, new_world, spend, Outcome, Done, Faulted, calls_too_deep, most_open_calls}
 use Rattle.sz_world_rules.specs.Slots.{Slot, slot_at, all_defined}
 use Rattle.sz_world_rules.specs.Typed.{Fits, AllFit}
-use Rattle.sz_world_rules.specs.Emits.{EmitParts, emit_with, emit_weighted, emit_by_weight, emit_of, weight_number, with_emit}
+use Rattle.sz_world_rules.specs.Emits.{EmitParts, emit_with, emit_weighted, emit_by_weight, emit_of, weight_number, line_emit, emit_or_line, with_emit}
 use Rattle.sz_world_rules.specs.Stores.{Stored, Holds, Undefined, Outside, stored}
 use Rattle.sz_machine_rules.specs.States.{Caller, State, After, Goes, Halts, Faults, Stuck, goes_to, goes_on, faults, on_one, on_two, on_three, popped}
-use Rattle.sz_machine_rules.specs.Rows.{after_store, if_true_or_fault, if_true, if_false, if_defined, enter, call}
+use Rattle.sz_machine_rules.specs.Rows.{pass_over, after_store, by_truth, if_true, if_false, if_defined, enter, call}
 use Rattle.sz_machine_rules.specs.Rows.{call_with, call_routine, leave_to, next_candidate, drop_list, emit_parts, act}
-use Rattle.sz_machine_rules.specs.Covering.{Covers, WeightFits, PartsFit}
+use Rattle.sz_machine_rules.specs.Covering.{OnOne, IfUndefined, TakesLines, CanCount, Covers, WeightFits, PartsFit}
 use Rattle.sz_machine_rules.specs.Runs.{charged, does, charge_of, LeadsBy, Leads, GoesOn, RunsFor, ComesTo, record_start, EndsRecord, RunsTo}
 
 -- indexes that are all defined have their types
@@ -71,6 +71,17 @@ emit_fits tables table parts None is fit = absurd fit
 emit_fits tables table parts (Some d) is fit =
     by_weight tables table d is (all_defined parts.indexes) parts.value (indexes_typed parts.indexes d.indexes fit.0) fit.1 parts.weight d.weight refl fit.2
 
+-- a line with its count fits the table of lines
+line_fits_table : (tables : List Declaration) (table : ℕ) (place : Place) (found : Option Declaration) → slice_get tables table ≡ found
+    → TakesLines found → IsEmitTo tables (line_emit table place)
+line_fits_table tables table place None is takes = absurd takes
+line_fits_table tables table place (Some d) is takes = record {
+  table = d;
+  declared = is;
+  indexes = subst (λ ts. have_types (int (pos place.line) ∷ []) ts ≡ true) (sym takes.0) refl;
+  fits = record { element = subst (λ t. has_type (int (pos 1)) t ≡ true) (sym takes.1) refl; weight = sym (ap is_some takes.2) };
+}
+
 module _ (code : Code) where
   -- each of the emits fits the tables
   abbrev AllFitTables : List EmitDatum → Type 0
@@ -104,17 +115,33 @@ module _ (code : Code) where
   on_top_three (z ∷ y ∷ []) go fits = tt
   on_top_three (z ∷ y ∷ x ∷ rest) go fits = fits x y z rest
 
-  either_or_fault : (x : Slot) (place : Place) (first second : After) → FitsAfter first → FitsAfter second → FitsAfter (if_true_or_fault x place first second)
-  either_or_fault None place first second f s = tt
-  either_or_fault (Some (truth true)) place first second f s = f
-  either_or_fault (Some (truth false)) place first second f s = s
-  either_or_fault (Some (int n)) place first second f s = s
-  either_or_fault (Some (time n)) place first second f s = s
-  either_or_fault (Some (str n)) place first second f s = s
-  either_or_fault (Some (bytes n)) place first second f s = s
-  either_or_fault (Some (array n)) place first second f s = s
-  either_or_fault (Some (tuple n)) place first second f s = s
-  either_or_fault (Some (mapping n)) place first second f s = s
+  one_of_three : (x : Slot) (first second unknown : After) → FitsAfter first → FitsAfter second → FitsAfter unknown
+      → FitsAfter (by_truth x first second unknown)
+  one_of_three None first second unknown f s u = u
+  one_of_three (Some (truth true)) first second unknown f s u = f
+  one_of_three (Some (truth false)) first second unknown f s u = s
+  one_of_three (Some (int n)) first second unknown f s u = s
+  one_of_three (Some (time n)) first second unknown f s u = s
+  one_of_three (Some (str n)) first second unknown f s u = s
+  one_of_three (Some (bytes n)) first second unknown f s u = s
+  one_of_three (Some (array n)) first second unknown f s u = s
+  one_of_three (Some (tuple n)) first second unknown f s u = s
+  one_of_three (Some (mapping n)) first second unknown f s u = s
+
+  -- the line that is counted where a statement is passed over
+  passed_fits : (ignore : Option ℕ) (place : Place) (s : State) (to : ℕ) (stack : List Slot) → CanCount code ignore → AllFitTables s.world.emits
+      → FitsAfter (pass_over ignore place s to stack)
+  passed_fits None place s to stack can all = tt
+  passed_fits (Some table) place s to stack can all =
+      All-push (IsEmitTo code.tables) s.world.emits (line_emit table place) all
+      (line_fits_table code.tables table place (slice_get code.tables table) refl can)
+
+  -- the line of an emit with an undefined part
+  or_line_fits : (found : Option EmitDatum) (ignore : Option ℕ) (place : Place) → IfSome found (IsEmitTo code.tables) → CanCount code ignore
+      → IfSome (emit_or_line found ignore place) (IsEmitTo code.tables)
+  or_line_fits (Some e) ignore place fits can = fits
+  or_line_fits None None place fits can = tt
+  or_line_fits None (Some table) place fits can = line_fits_table code.tables table place (slice_get code.tables table) refl can
 
   either_true : (x : Slot) (first second : After) → FitsAfter first → FitsAfter second → FitsAfter (if_true x first second)
   either_true None first second f s = s
@@ -140,15 +167,23 @@ module _ (code : Code) where
   either_false (Some (tuple n)) first second f s = s
   either_false (Some (mapping n)) first second f s = s
 
-  or_fault : (x : Slot) (place : Place) (next : After) → FitsAfter next → FitsAfter (if_defined x place next)
-  or_fault None place next f = tt
-  or_fault (Some d) place next f = f
+  discarded_fits : (x : Slot) (next : After) (ignore : Option ℕ) (place : Place) (s : State) (to : ℕ) (stack : List Slot)
+      → IfUndefined (CanCount code ignore) x → AllFitTables s.world.emits → FitsAfter next
+      → FitsAfter (if_defined x next (pass_over ignore place s to stack))
+  discarded_fits None next ignore place s to stack can all f = passed_fits ignore place s to stack can all
+  discarded_fits (Some d) next ignore place s to stack can all f = f
 
-  stored_fits : (found : Stored) (place : Place) (n : ℕ) (s : State) (stack : List Slot) → AllFitTables s.world.emits
-      → FitsAfter (after_store found place n s stack)
-  stored_fits (Holds d) place n s stack all = all
-  stored_fits Undefined place n s stack all = tt
-  stored_fits Outside place n s stack all = tt
+  stored_fits : (found : Stored) (place : Place) (n : ℕ) (s : State) (stack : List Slot) → CanCount code code.ignore → AllFitTables s.world.emits
+      → FitsAfter (after_store code.ignore found place n s stack)
+  stored_fits (Holds d) place n s stack can all = all
+  stored_fits Undefined place n s stack can all = passed_fits code.ignore place s (suc s.at) stack can all
+  stored_fits Outside place n s stack can all = tt
+
+  -- what is known of the topmost operand
+  on_top_with : (stack : List Slot) (P : Slot → Type 0) (go : Slot → List Slot → After) → OnOne stack P
+      → ((x : Slot) (rest : List Slot) → P x → FitsAfter (go x rest)) → FitsAfter (on_one stack go)
+  on_top_with [] P go has fits = absurd has
+  on_top_with (x ∷ rest) P go has fits = fits x rest has
 
   called_fits : (found : Option Routine) (place : Place) (s : State) → AllFitTables s.world.emits → FitsAfter (call_routine found place s)
   called_fits None place s all = tt
@@ -185,7 +220,7 @@ module _ (code : Code) where
   act_fits (Keep n) place s w covers all = on_top s.stack _ (λ x rest. all)
   act_fits (KeepStatic n) place s w covers all = on_top s.stack _ (λ x rest. all)
   act_fits (Clear n) place s w covers all = all
-  act_fits (Store n path) place s w covers all = on_top s.stack _ (λ x rest. stored_fits _ place n (record s { world = w }) _ all)
+  act_fits (Store n path) place s w covers all = on_top s.stack _ (λ x rest. stored_fits _ place n (record s { world = w }) _ covers.2 all)
   act_fits (Unary op) place s w covers all = on_top s.stack _ (λ x rest. all)
   act_fits (Binary op) place s w covers all = on_top_two s.stack _ (λ x y rest. all)
   act_fits (Apply b) place s w covers all = all
@@ -200,15 +235,18 @@ module _ (code : Code) where
   act_fits Def place s w covers all = on_top s.stack _ (λ x rest. all)
   act_fits Tick place s w covers all = all
   act_fits (Jump to) place s w covers all = all
-  act_fits (Test to) place s w covers all = on_top s.stack _ (λ x rest. either_or_fault x place _ _ all all)
+  act_fits (Test to past) place s w covers all =
+      on_top s.stack _ (λ x rest. one_of_three x _ _ _ all all (passed_fits code.ignore place (record s { world = w }) past rest covers.1 all))
   act_fits (AndTest to) place s w covers all = on_top s.stack _ (λ x rest. either_true x _ _ all all)
   act_fits (OrTest to) place s w covers all = on_top s.stack _ (λ x rest. either_false x _ _ all all)
   act_fits (Call function) place s w covers all = called_fits (slice_get code.functions function) place (record s { world = w }) all
   act_fits Return place s w covers all = on_top s.stack _ (λ x rest. left_fits s.callers x (record s { world = w }) rest all)
   act_fits EndRecord place s w covers all = all
-  act_fits Discard place s w covers all = on_top s.stack _ (λ x rest. or_fault x place _ all)
+  act_fits Discard place s w covers all =
+      on_top_with s.stack _ _ covers (λ x rest can. discarded_fits x _ code.ignore place (record s { world = w }) (suc s.at) rest can all all)
   act_fits (Emit table indexes weighted) place s w covers all =
-      with_fitting w _ all (emit_fits code.tables table (emit_parts indexes weighted s.stack) (slice_get code.tables table) refl covers.1)
+      with_fitting w _ all (or_line_fits _ code.ignore place
+      (emit_fits code.tables table (emit_parts indexes weighted s.stack) (slice_get code.tables table) refl covers.1) covers.2)
   act_fits (Enter slice) place s w covers all = on_top s.stack _ (λ x rest. all)
   act_fits (Next n to) place s w covers all = next_fits s.lists n to (record s { world = w }) all
   act_fits Leave place s w covers all = dropped_fits s.lists (record s { world = w }) all

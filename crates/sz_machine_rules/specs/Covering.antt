@@ -118,6 +118,21 @@ abbrev pub PartsFit : Option Declaration → EmitParts → Type 0
 PartsFit None parts = ⊥
 PartsFit (Some d) parts = AllFit parts.indexes d.indexes × Fits parts.value d.element × WeightFits parts.weight d.weight
 
+-- the table takes lines with counts: one index and the element are whole numbers, and there is no weight
+abbrev pub TakesLines : Option Declaration → Type 0
+TakesLines None = ⊥
+TakesLines (Some d) = (d.indexes ≡ Shape.int ∷ []) × (d.element ≡ Shape.int) × (d.weight ≡ None)
+
+-- where the code counts lines, its table for them takes them
+abbrev pub CanCount : Code → Option ℕ → Type 0
+CanCount code None = Unit {0}
+CanCount code (Some table) = TakesLines (slice_get code.tables table)
+
+-- where the operand is undefined, this holds
+abbrev pub IfUndefined : Type 0 → Slot → Type 0
+IfUndefined P None = P
+IfUndefined P (Some d) = Unit {0}
+
 -- whether a value has candidates: for bounds of slices, or for indexes and keys
 abbrev pub is_base : Bool → Datum → Bool
 is_base slice (array ds) = true
@@ -142,7 +157,7 @@ HasList [] = ⊥
 HasList (cs ∷ lists) = Unit {0}
 
 -- the row of the instruction covers the state. The record is pushed only where there is one, and statics are kept only where there
--- is none, which is while they are computed.
+-- is none, which is while they are computed. What may use an undefined value needs a table for lines, where they are counted.
 abbrev pub Covers : Code → Instr → State → Type 0
 Covers code (Push constant) s = constant < length code.constants
 Covers code (Local n) s = n < length s.locals
@@ -151,7 +166,7 @@ Covers code Input s = IsSome s.input
 Covers code (Keep n) s = (n < length s.locals) × OnOne s.stack Any
 Covers code (KeepStatic n) s = (n < length s.statics) × OnOne s.stack Any × IsNone s.input
 Covers code (Clear n) s = n < length s.locals
-Covers code (Store n path) s = (n < length s.locals) × StoresInto path (slot_at s.locals n) s.stack
+Covers code (Store n path) s = (n < length s.locals) × StoresInto path (slot_at s.locals n) s.stack × CanCount code code.ignore
 Covers code (Unary op) s = OnOne s.stack (HasUnaryRow op)
 Covers code (Binary op) s = OnTwo s.stack (HasBinaryRow op)
 Covers code (Apply b) s = OnMany (arity b) s.stack (HasBuiltinRow b)
@@ -166,15 +181,16 @@ Covers code (Field n) s = OnOne s.stack (HasPart n)
 Covers code Def s = OnOne s.stack Any
 Covers code Tick s = Unit {0}
 Covers code (Jump to) s = Unit {0}
-Covers code (Test to) s = OnOne s.stack IsTest
+Covers code (Test to past) s = OnOne s.stack IsTest × CanCount code code.ignore
 Covers code (AndTest to) s = OnOne s.stack IsTest
 Covers code (OrTest to) s = OnOne s.stack IsTest
 Covers code (Call function) s = HasArguments (slice_get code.functions function) s.stack
 Covers code Return s = OnOne s.stack Any × HasCaller s.callers
 Covers code EndRecord s = Unit {0}
-Covers code Discard s = OnOne s.stack Any
+Covers code Discard s = OnOne s.stack (IfUndefined (CanCount code code.ignore))
 Covers code (Emit table indexes weighted) s =
     (emit_operands indexes weighted ≤ length s.stack) × PartsFit (slice_get code.tables table) (emit_parts indexes weighted s.stack)
+    × CanCount code code.ignore
 Covers code (Enter slice) s = OnOne s.stack (λ x. IfSome x (λ d. is_base slice d ≡ true))
 Covers code (Next n to) s = (n < length s.locals) × HasList s.lists
 Covers code Leave s = HasList s.lists

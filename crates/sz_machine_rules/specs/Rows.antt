@@ -17,7 +17,7 @@ use Rattle.sz_world_rules.specs.Slots.{Slot, slot_at, all_defined, fresh}
 use Rattle.sz_world_rules.specs.Operations.{unary_of, binary_of, applied, converted_plainly, decoded_as, array_of, tuple_of, map_of}
 use Rattle.sz_types.specs.Rows.{arity}
 use Rattle.sz_world_rules.specs.Operations.{element_of, slice_of, part_of, definedness}
-use Rattle.sz_world_rules.specs.Emits.{EmitParts, emit_of, with_emit}
+use Rattle.sz_world_rules.specs.Emits.{EmitParts, emit_of, line_emit, emit_or_line, with_emit}
 use Rattle.sz_world_rules.specs.Candidates.{candidates}
 use Rattle.sz_world_rules.specs.Stores.{by_index, by_field, Stored, Holds, Undefined, Outside, stored}
 use Rattle.sz_world_rules.specs.Stores as stores
@@ -39,22 +39,28 @@ abbrev pub by_type : (Shape → Slot → Slot) → Option Shape → Slot → Slo
 by_type made None x = None
 by_type made (Some t) x = made t x
 
+-- an undefined value was used: a fault, but where lines are counted, the line is, and the run goes to a place with these operands
+abbrev pub pass_over : Option ℕ → Place → State → ℕ → List Slot → After
+pass_over None place s to stack = faults undefined_used place
+pass_over (Some table) place s to stack = goes_to (record s { world = with_emit (Some (line_emit table place)) s.world }) to stack
+
 -- the local holds what came of a store, or the store's fault
-abbrev pub after_store : Stored → Place → ℕ → State → List Slot → After
-after_store (Holds d) place n s stack = Goes (record s { at = suc s.at; stack = stack; locals = slice_set s.locals n (Some d) })
-after_store Undefined place n s stack = faults undefined_used place
-after_store Outside place n s stack = faults store_outside place
+abbrev pub after_store : Option ℕ → Stored → Place → ℕ → State → List Slot → After
+after_store counting (Holds d) place n s stack = Goes (record s { at = suc s.at; stack = stack; locals = slice_set s.locals n (Some d) })
+after_store counting Undefined place n s stack = pass_over counting place s (suc s.at) stack
+after_store counting Outside place n s stack = faults store_outside place
 
 -- a store of the topmost operand, with so many indexes below it
-abbrev pub store : List Step → ℕ → Place → ℕ → State → After
-store path indexes place n s =
-    on_one s.stack (λ x stack. after_store (stored (slot_at s.locals n) (map step_of path) (popped indexes stack) x) place n s (drop indexes stack))
+abbrev pub store : Option ℕ → List Step → ℕ → Place → ℕ → State → After
+store counting path indexes place n s =
+    on_one s.stack (λ x stack.
+    after_store counting (stored (slot_at s.locals n) (map step_of path) (popped indexes stack) x) place n s (drop indexes stack))
 
--- the first where the slot is true, the second where it is false; an undefined one is a fault
-abbrev pub if_true_or_fault : Slot → Place → After → After → After
-if_true_or_fault None place first second = faults undefined_used place
-if_true_or_fault (Some (truth true)) place first second = first
-if_true_or_fault (Some _) place first second = second
+-- the first where the slot is true, the second where it is false, the third where it is undefined
+abbrev pub by_truth : Slot → (first second unknown : After) → After
+by_truth None first second unknown = unknown
+by_truth (Some (truth true)) first second unknown = first
+by_truth (Some _) first second unknown = second
 
 -- the first where the slot is true, else the second
 abbrev pub if_true : Slot → After → After → After
@@ -66,10 +72,10 @@ abbrev pub if_false : Slot → After → After → After
 if_false (Some (truth false)) first second = first
 if_false _ first second = second
 
--- a fault where the slot is undefined
-abbrev pub if_defined : Slot → Place → After → After
-if_defined None place next = faults undefined_used place
-if_defined (Some d) place next = next
+-- the first where the slot is defined, else the second
+abbrev pub if_defined : Slot → (next unknown : After) → After
+if_defined None next unknown = unknown
+if_defined (Some d) next unknown = next
 
 -- a function is entered with its arguments, and the routine that runs waits
 abbrev pub enter : Routine → List Datum → State → List Slot → After
@@ -133,7 +139,7 @@ act code Input place s = goes_on s (s.input ∷ s.stack)
 act code (Keep n) place s = on_one s.stack (λ x stack. Goes (record s { at = suc s.at; stack = stack; locals = slice_set s.locals n x }))
 act code (KeepStatic n) place s = on_one s.stack (λ x stack. Goes (record s { at = suc s.at; stack = stack; statics = slice_set s.statics n x }))
 act code (Clear n) place s = Goes (record s { at = suc s.at; locals = slice_set s.locals n None })
-act code (Store n path) place s = store path (indexes_in path) place n s
+act code (Store n path) place s = store code.ignore path (indexes_in path) place n s
 act code (Unary op) place s = on_one s.stack (λ x stack. goes_on s (unary_of op x ∷ stack))
 act code (Binary op) place s = on_two s.stack (λ x y stack. goes_on s (binary_of op x y ∷ stack))
 act code (Apply b) place s = goes_on s (applied b (popped (arity b) s.stack) ∷ drop (arity b) s.stack)
@@ -148,17 +154,18 @@ act code (Field n) place s = on_one s.stack (λ x stack. goes_on s (part_of n x 
 act code Def place s = on_one s.stack (λ x stack. goes_on s (definedness x ∷ stack))
 act code Tick place s = goes_on s s.stack
 act code (Jump to) place s = goes_to s to s.stack
-act code (Test to) place s = on_one s.stack (λ x stack. if_true_or_fault x place (goes_on s stack) (goes_to s to stack))
+act code (Test to past) place s =
+    on_one s.stack (λ x stack. by_truth x (goes_on s stack) (goes_to s to stack) (pass_over code.ignore place s past stack))
 act code (AndTest to) place s = on_one s.stack (λ x stack. if_true x (goes_on s stack) (goes_to s to (x ∷ stack)))
 act code (OrTest to) place s = on_one s.stack (λ x stack. if_false x (goes_on s stack) (goes_to s to (x ∷ stack)))
 act code (Call function) place s = call_routine (slice_get code.functions function) place s
 act code Return place s = on_one s.stack (λ x stack. leave_to s.callers x s stack)
 act code EndRecord place s = Halts s.world s.statics
-act code Discard place s = on_one s.stack (λ x stack. if_defined x place (goes_on s stack))
+act code Discard place s = on_one s.stack (λ x stack. if_defined x (goes_on s stack) (pass_over code.ignore place s (suc s.at) stack))
 act code (Emit table indexes weighted) place s = Goes (record s {
   at = suc s.at;
   stack = drop (emit_operands indexes weighted) s.stack;
-  world = with_emit (emit_of table (emit_parts indexes weighted s.stack)) s.world;
+  world = with_emit (emit_or_line (emit_of table (emit_parts indexes weighted s.stack)) code.ignore place) s.world;
 })
 act code (Enter slice) place s = on_one s.stack (λ x stack. Goes (record s { at = suc s.at; stack = stack; lists = candidates slice x ∷ s.lists }))
 act code (Next n to) place s = next_candidate s.lists n to s

@@ -11,15 +11,16 @@ use Rattle.sz_core.specs.Nodes.{Node, node, Form, constant, local, static, input
 use Rattle.sz_core.specs.Nodes.{both, either, Nodes, no_nodes, with_node, Pairings, no_pairings, with_pairing}
 use Rattle.sz_core.specs.Statements.{Step, at_index, at_field, Stm, Stms, no_stms, with_stm, block, clear, keep, store, evaluate, branch, while, do_while, for_loop, break, continue}
 use Rattle.sz_core.specs.Statements.{return_value, end_record, emit, Quantity, some, each, all, Quantified, when}
-use Rattle.sz_core.specs.Programs.{Core, Function, functions_of}
-use Rattle.sz_world_rules.specs.World.{most_open_calls, World, new_world, Given, Gives, Stops, Doing, and_then, ◌>>=◌, give, fails, spend, paid, pay, Done}
+use Rattle.sz_core.specs.Programs.{Function, functions_of}
+use Rattle.sz_world_rules.specs.World.{most_open_calls, World, new_world, Given, Gives, Stops, Doing, and_then, ◌>>=◌, ◌>>◌, give, fails, spend, paid, pay, Done}
 use Rattle.sz_world_rules.specs.Slots.{Slot, slot_at, all_defined}
 use Rattle.sz_world_rules.specs.Operations.{unary_of, binary_of, applied, element_of, slice_of, part_of, definedness, converted, array_of, tuple_of, map_of}
 use Rattle.sz_world_rules.specs.Ticks.{no_weight, result_weight, binary_weight, builtin_weight, conversion_weight}
-use Rattle.sz_world_rules.specs.Emits.{EmitParts, emit_weight, emit_of, with_emit}
+use Rattle.sz_world_rules.specs.Emits.{EmitParts, emit_weight, emit_of, line_emit, emit_or_line, with_emit}
 use Rattle.sz_world_rules.specs.Stores.{Stored, Holds, Undefined, Outside}
+use Rattle.sz_mean.specs.Marked.{Marked, counting_table}
 use Rattle.sz_mean.specs.Expressions.{Setting, results, called, if_true, if_false, eval, eval_form, eval_all, eval_pairings, eval_indexes, eval_if_some}
-use Rattle.sz_mean.specs.Endings.{Ending, Normal, Breaks, Continues, Returns, Running, then_run, then_loop, chosen, turns, turns_after}
+use Rattle.sz_mean.specs.Endings.{Ending, Normal, Breaks, Continues, Returns, Running, with_local, then_run, then_loop, passed_over, chosen, turns, turns_after}
 use Rattle.sz_mean.specs.Search.{Variable, Finding, Succeeds, Misses, Leaves, Searching, or_else, and_also, and_each, found_one, if_met, if_refuted, succeeded}
 use Rattle.sz_mean.specs.Search.{ending_of, tried, any_of, each_of, all_of, holds, search_by, search, exec_when}
 use Rattle.sz_mean.specs.Statements.{assigned, if_defined, emits, test_of, idle, variable_of, exec, exec_all}
@@ -64,8 +65,90 @@ left_after (suc n) place w = by (nat_lt n w.left) refl
 ticks : (n : ℕ) (place : Place) → Paying (pay n place)
 ticks n place = record { pays = left_after n place }
 
-result : (place : Place) (added : Slot → ℕ) (x : Slot) → Paying (results place added x)
-result place added x = then_pays (pay (1 + added x) place) (λ _. give x) (ticks (1 + added x) place) (λ _. given x)
+-- the same with a tick to spare, whatever the world is
+abbrev Takes : {X : Type 0} → World → Given X → Type 0
+Takes w (Gives x after) = suc (length after.emits + after.left) ≤ length w.emits + w.left
+Takes w (Stops fault) = Unit {0}
+
+record Taking {X : Type 0} (doing : Doing X) : Type 0 where
+  takes : (w : World) → Takes w (doing w)
+
+-- the same with a tick that is still owed
+abbrev Owes : {X : Type 0} → World → Given X → Type 0
+Owes w (Gives x after) = length after.emits + after.left ≤ suc (length w.emits + w.left)
+Owes w (Stops fault) = Unit {0}
+
+record Owing {X : Type 0} (doing : Doing X) : Type 0 where
+  owes : (w : World) → Owes w (doing w)
+
+-- what has a tick to spare is paid
+spared : {X : Type 0} (doing : Doing X) → Taking doing → Paying doing
+spared {X} doing h = record { pays = λ w. by w (doing w) (h.takes w) }
+  where
+    by : (w : World) (r : Given X) → Takes w r → Pays w r
+    by w (Stops fault) m = tt
+    by w (Gives x after) m = omega (arith, m)
+
+-- what is paid owes no more than a tick
+not_more : {X : Type 0} (doing : Doing X) → Paying doing → Owing doing
+not_more {X} doing h = record { owes = λ w. by w (doing w) (h.pays w) }
+  where
+    by : (w : World) (r : Given X) → Pays w r → Owes w r
+    by w (Stops fault) m = tt
+    by w (Gives x after) m = omega (arith, m)
+
+-- one thing after the other, of which the second has a tick to spare
+later_takes : {X Y : Type 0} (first : Doing X) (second : X → Doing Y) → Paying first → ((x : X) → Taking (second x)) → Taking (first >>= second)
+later_takes {X} {Y} first second h k = record { takes = λ w. by w (first w) (h.pays w) }
+  where
+    with_both : (w after : World) (r : Given Y) → length after.emits + after.left ≤ length w.emits + w.left → Takes after r → Takes w r
+    with_both w after (Stops fault) m n = tt
+    with_both w after (Gives y last) m n = omega (arith, m, n)
+
+    by : (w : World) (r : Given X) → Pays w r → Takes w (and_then r second)
+    by w (Stops fault) m = tt
+    by w (Gives x after) m = with_both w after (second x after) m ((k x).takes after)
+
+-- one thing after the other, of which the first has a tick to spare
+first_takes : {X Y : Type 0} (first : Doing X) (second : X → Doing Y) → Taking first → ((x : X) → Paying (second x)) → Taking (first >>= second)
+first_takes {X} {Y} first second h k = record { takes = λ w. by w (first w) (h.takes w) }
+  where
+    with_both : (w after : World) (r : Given Y) → suc (length after.emits + after.left) ≤ length w.emits + w.left → Pays after r → Takes w r
+    with_both w after (Stops fault) m n = tt
+    with_both w after (Gives y last) m n = omega (arith, m, n)
+
+    by : (w : World) (r : Given X) → Takes w r → Takes w (and_then r second)
+    by w (Stops fault) m = tt
+    by w (Gives x after) m = with_both w after (second x after) m ((k x).pays after)
+
+-- one thing after the other, of which the first has the tick that the second owes
+settled : {X Y : Type 0} (first : Doing X) (second : X → Doing Y) → Taking first → ((x : X) → Owing (second x)) → Paying (first >>= second)
+settled {X} {Y} first second h k = record { pays = λ w. by w (first w) (h.takes w) }
+  where
+    with_both : (w after : World) (r : Given Y) → suc (length after.emits + after.left) ≤ length w.emits + w.left → Owes after r → Pays w r
+    with_both w after (Stops fault) m n = tt
+    with_both w after (Gives y last) m n = omega (arith, m, n)
+
+    by : (w : World) (r : Given X) → Takes w r → Pays w (and_then r second)
+    by w (Stops fault) m = tt
+    by w (Gives x after) m = with_both w after (second x after) m ((k x).owes after)
+
+-- ticks are to spare
+taken_after : (n : ℕ) (place : Place) (w : World) → Takes w (pay (suc n) place w)
+taken_after n place w = by (nat_lt n w.left) refl
+  where
+    by : (b : Bool) → nat_lt n w.left ≡ b → Takes w (paid place (if b then Some (record w { left = w.left - suc n }) else None))
+    by true e = let less : n < w.left = grind (arith, nat_tests) in omega (arith, less)
+    by false e = tt
+
+tick : (place : Place) → Taking (pay 1 place)
+tick place = record { takes = taken_after 0 place }
+
+result : (place : Place) (added : Slot → ℕ) (x : Slot) → Taking (results place added x)
+result place added x =
+    let more : suc (added x) ≡ 1 + added x = omega arith in
+    first_takes (pay (1 + added x) place) (λ _. give x)
+    (subst (λ n. Taking (pay n place)) more (record { takes = taken_after (added x) place })) (λ _. given x)
 
 -- what calls do
 abbrev CallsPay : Setting → Type 0
@@ -101,37 +184,40 @@ false_pays (Some (datum.mapping es)) right h = given {X = Slot} (Some (datum.map
 
 module _ (s : Setting) (calls : CallsPay s) (locals : List Slot) where
   mutual
-    eval_pays : (e : Node) → Paying (eval s locals e)
-    eval_pays (node place t form) = form_pays place t form
+    eval_takes : (e : Node) → Taking (eval s locals e)
+    eval_takes (node place t form) = form_takes place t form
 
-    form_pays : (place : Place) (t : Shape) (form : Form) → Paying (eval_form s locals place t form)
-    form_pays place t (constant d) = result place no_weight (Some d)
-    form_pays place t (local n) = result place no_weight (slot_at locals n)
-    form_pays place t (static n) = result place no_weight (slot_at s.statics n)
-    form_pays place t input = result place no_weight s.input
-    form_pays place t (call f es) =
-        then_pays (eval_all s locals es) _ (all_pay es) (λ xs. then_pays (pay 1 place) _ (ticks 1 place) (λ _. call_pays s calls f place (all_defined xs)))
-    form_pays place t (builtin b es) = then_pays (eval_all s locals es) _ (all_pay es) (λ xs. result place (builtin_weight b) (applied b xs))
-    form_pays place t (def e) = then_pays (eval s locals e) _ (eval_pays e) (λ x. result place no_weight (definedness x))
-    form_pays place t (convert e) = then_pays (eval s locals e) _ (eval_pays e) (λ x. result place (conversion_weight t x) (converted t x))
-    form_pays place t (array es) = then_pays (eval_all s locals es) _ (all_pay es) (λ xs. result place result_weight (array_of xs))
-    form_pays place t (tuple es) = then_pays (eval_all s locals es) _ (all_pay es) (λ xs. result place result_weight (tuple_of xs))
-    form_pays place t (mapping ps) = then_pays (eval_pairings s locals ps) _ (pairings_pay ps) (λ xs. result place result_weight (map_of xs))
-    form_pays place t (index e i) =
-        then_pays (eval s locals e) _ (eval_pays e) (λ x. then_pays (eval s locals i) _ (eval_pays i) (λ y. result place no_weight (element_of x y)))
-    form_pays place t (slice e i j) =
-        then_pays (eval s locals e) _ (eval_pays e)
-        (λ x. then_pays (eval s locals i) _ (eval_pays i) (λ y. then_pays (eval s locals j) _ (eval_pays j) (λ z. result place result_weight (slice_of x y z))))
-    form_pays place t (field e n) = then_pays (eval s locals e) _ (eval_pays e) (λ x. result place no_weight (part_of n x))
-    form_pays place t (unary o e) = then_pays (eval s locals e) _ (eval_pays e) (λ x. result place no_weight (unary_of o x))
-    form_pays place t (binary o a b) =
-        then_pays (eval s locals a) _ (eval_pays a) (λ x. then_pays (eval s locals b) _ (eval_pays b) (λ y. result place (binary_weight o) (binary_of o x y)))
-    form_pays place t (both a b) =
-        then_pays (eval s locals a) _ (eval_pays a)
-        (λ x. then_pays (if_true x (eval s locals b)) _ (true_pays x _ (eval_pays b)) (λ y. result place no_weight y))
-    form_pays place t (either a b) =
-        then_pays (eval s locals a) _ (eval_pays a)
-        (λ x. then_pays (if_false x (eval s locals b)) _ (false_pays x _ (eval_pays b)) (λ y. result place no_weight y))
+    eval_pays : (e : Node) → Paying (eval s locals e)
+    eval_pays (node place t form) = spared (eval s locals (node place t form)) (form_takes place t form)
+
+    form_takes : (place : Place) (t : Shape) (form : Form) → Taking (eval_form s locals place t form)
+    form_takes place t (constant d) = result place no_weight (Some d)
+    form_takes place t (local n) = result place no_weight (slot_at locals n)
+    form_takes place t (static n) = result place no_weight (slot_at s.statics n)
+    form_takes place t input = result place no_weight s.input
+    form_takes place t (call f es) =
+        later_takes (eval_all s locals es) _ (all_pay es) (λ xs. first_takes (pay 1 place) _ (tick place) (λ _. call_pays s calls f place (all_defined xs)))
+    form_takes place t (builtin b es) = later_takes (eval_all s locals es) _ (all_pay es) (λ xs. result place (builtin_weight b) (applied b xs))
+    form_takes place t (def e) = later_takes (eval s locals e) _ (eval_pays e) (λ x. result place no_weight (definedness x))
+    form_takes place t (convert e) = later_takes (eval s locals e) _ (eval_pays e) (λ x. result place (conversion_weight t x) (converted t x))
+    form_takes place t (array es) = later_takes (eval_all s locals es) _ (all_pay es) (λ xs. result place result_weight (array_of xs))
+    form_takes place t (tuple es) = later_takes (eval_all s locals es) _ (all_pay es) (λ xs. result place result_weight (tuple_of xs))
+    form_takes place t (mapping ps) = later_takes (eval_pairings s locals ps) _ (pairings_pay ps) (λ xs. result place result_weight (map_of xs))
+    form_takes place t (index e i) =
+        later_takes (eval s locals e) _ (eval_pays e) (λ x. later_takes (eval s locals i) _ (eval_pays i) (λ y. result place no_weight (element_of x y)))
+    form_takes place t (slice e i j) =
+        later_takes (eval s locals e) _ (eval_pays e)
+        (λ x. later_takes (eval s locals i) _ (eval_pays i) (λ y. later_takes (eval s locals j) _ (eval_pays j) (λ z. result place result_weight (slice_of x y z))))
+    form_takes place t (field e n) = later_takes (eval s locals e) _ (eval_pays e) (λ x. result place no_weight (part_of n x))
+    form_takes place t (unary o e) = later_takes (eval s locals e) _ (eval_pays e) (λ x. result place no_weight (unary_of o x))
+    form_takes place t (binary o a b) =
+        later_takes (eval s locals a) _ (eval_pays a) (λ x. later_takes (eval s locals b) _ (eval_pays b) (λ y. result place (binary_weight o) (binary_of o x y)))
+    form_takes place t (both a b) =
+        later_takes (eval s locals a) _ (eval_pays a)
+        (λ x. later_takes (if_true x (eval s locals b)) _ (true_pays x _ (eval_pays b)) (λ y. result place no_weight y))
+    form_takes place t (either a b) =
+        later_takes (eval s locals a) _ (eval_pays a)
+        (λ x. later_takes (if_false x (eval s locals b)) _ (false_pays x _ (eval_pays b)) (λ y. result place no_weight y))
 
     all_pay : (es : Nodes) → Paying (eval_all s locals es)
     all_pay no_nodes = given []
@@ -170,48 +256,58 @@ then_loop_pays (Breaks locals) next h = given (Normal locals)
 then_loop_pays (Continues locals) next h = h locals
 then_loop_pays (Returns x) next h = given (Returns x)
 
-chosen_pays : (x : Slot) (place : Place) (first second : Doing Ending) → Paying first → Paying second → Paying (chosen x place first second)
-chosen_pays None place first second h k = failed _ place
-chosen_pays (Some (truth true)) place first second h k = h
-chosen_pays (Some (truth false)) place first second h k = k
-chosen_pays (Some (int n)) place first second h k = k
-chosen_pays (Some (time n)) place first second h k = k
-chosen_pays (Some (str t)) place first second h k = k
-chosen_pays (Some (bytes t)) place first second h k = k
-chosen_pays (Some (datum.array ds)) place first second h k = k
-chosen_pays (Some (datum.tuple ds)) place first second h k = k
-chosen_pays (Some (datum.mapping es)) place first second h k = k
+-- a line that is counted is owed a tick
+passed_owes : (counting : Option ℕ) (place : Place) (locals : List Slot) → Owing (passed_over counting place locals)
+passed_owes None place locals = record { owes = λ w. tt }
+passed_owes (Some table) place locals = record { owes = λ w. omega (arith, length-append w.emits (line_emit table place ∷ [])) }
 
-turns_pay : (place : Place) (test : List Slot → Doing Slot) (between body : Running) → ((locals : List Slot) → Paying (test locals))
-    → RunPays between → RunPays body → (n : ℕ) → RunPays (turns place test between body n)
-turns_pay place test between body t b d zero locals = failed _ place
-turns_pay place test between body t b d (suc n) locals =
-    let next = turns place test between body n in
-    let again = turns_pay place test between body t b d n in
+chosen_owes : (x : Slot) (first second unknown : Doing Ending) → Paying first → Paying second → Owing unknown → Owing (chosen x first second unknown)
+chosen_owes None first second unknown h k u = u
+chosen_owes (Some (truth true)) first second unknown h k u = not_more first h
+chosen_owes (Some (truth false)) first second unknown h k u = not_more second k
+chosen_owes (Some (int n)) first second unknown h k u = not_more second k
+chosen_owes (Some (time n)) first second unknown h k u = not_more second k
+chosen_owes (Some (str t)) first second unknown h k u = not_more second k
+chosen_owes (Some (bytes t)) first second unknown h k u = not_more second k
+chosen_owes (Some (datum.array ds)) first second unknown h k u = not_more second k
+chosen_owes (Some (datum.tuple ds)) first second unknown h k u = not_more second k
+chosen_owes (Some (datum.mapping es)) first second unknown h k u = not_more second k
+
+-- a test's tick, and what follows by the test
+tested_pays : (counting : Option ℕ) (place : Place) (locals : List Slot) (x : Slot) (first second : Doing Ending) → Paying first → Paying second
+    → Paying (pay 1 place >> chosen x first second (passed_over counting place locals))
+tested_pays counting place locals x first second h k =
+    settled (pay 1 place) _ (tick place) (λ _. chosen_owes x first second _ h k (passed_owes counting place locals))
+
+turns_pay : (counting : Option ℕ) (place : Place) (test : List Slot → Doing Slot) (between body : Running) → ((locals : List Slot) → Paying (test locals))
+    → RunPays between → RunPays body → (n : ℕ) → RunPays (turns counting place test between body n)
+turns_pay counting place test between body t b d zero locals = failed _ place
+turns_pay counting place test between body t b d (suc n) locals =
+    let next = turns counting place test between body n in
+    let again = turns_pay counting place test between body t b d n in
     then_pays (test locals) _ (t locals)
-    (λ x. then_pays (pay 1 place) _ (ticks 1 place)
-    (λ _. chosen_pays x place _ _
+    (λ x. tested_pays counting place locals x _ _
     (then_pays (body locals) _ (d locals)
     (λ ending. then_loop_pays ending _
     (λ after. then_pays (between after) _ (b after)
     (λ stepped. then_run_pays stepped _ (λ l. then_pays (pay 1 place) (λ _. next l) (ticks 1 place) (λ _. again l))))))
-    (given (Normal locals))))
+    (given (Normal locals)))
 
-turns_after_pay : (place : Place) (body : Running) (test : List Slot → Doing Slot) → RunPays body → ((locals : List Slot) → Paying (test locals))
-    → (n : ℕ) → RunPays (turns_after place body test n)
-turns_after_pay place body test d t zero locals = failed _ place
-turns_after_pay place body test d t (suc n) locals =
-    let next = turns_after place body test n in
-    let again = turns_after_pay place body test d t n in
+turns_after_pay : (counting : Option ℕ) (place : Place) (body : Running) (test : List Slot → Doing Slot) → RunPays body
+    → ((locals : List Slot) → Paying (test locals)) → (n : ℕ) → RunPays (turns_after counting place body test n)
+turns_after_pay counting place body test d t zero locals = failed _ place
+turns_after_pay counting place body test d t (suc n) locals =
+    let next = turns_after counting place body test n in
+    let again = turns_after_pay counting place body test d t n in
     then_pays (body locals) _ (d locals)
     (λ ending. then_loop_pays ending _
     (λ after. then_pays (test after) _ (t after)
-    (λ x. then_pays (pay 1 place) _ (ticks 1 place)
-    (λ _. chosen_pays x place _ _ (then_pays (pay 1 place) (λ _. next after) (ticks 1 place) (λ _. again after)) (given (Normal after))))))
+    (λ x. tested_pays counting place after x _ _
+    (then_pays (pay 1 place) (λ _. next after) (ticks 1 place) (λ _. again after)) (given (Normal after)))))
 
 -- an emit has a tick of its own
-emits_pay : (place : Place) (table : ℕ) (parts : EmitParts) → RunPays (emits place table parts)
-emits_pay place table parts locals = record { pays = λ w. by w (spend (1 + emit_weight parts) w) refl }
+emits_pay : (counting : Option ℕ) (place : Place) (table : ℕ) (parts : EmitParts) → RunPays (emits counting place table parts)
+emits_pay counting place table parts locals = record { pays = λ w. by w (spend (1 + emit_weight parts) w) refl }
   where
     added : (e : Option EmitDatum) (after : World) → length (with_emit e after).emits ≤ suc (length after.emits)
     added None after = omega arith
@@ -232,22 +328,22 @@ emits_pay place table parts locals = record { pays = λ w. by w (spend (1 + emit
     taken n w after false t e = absurd (cc)
 
     by : (w : World) (m : Option World) → spend (1 + emit_weight parts) w ≡ m
-        → Pays w (and_then (paid place m) (λ _ after. Gives (Normal locals) (with_emit (emit_of table parts) after)))
+        → Pays w (and_then (paid place m) (λ _ after. Gives (Normal locals) (with_emit (emit_or_line (emit_of table parts) counting place) after)))
     by w None e = tt
     by w (Some after) e =
         let more : 1 + emit_weight parts ≡ suc (emit_weight parts) = omega arith in
         let less = taken (emit_weight parts) w after (nat_lt (emit_weight parts) w.left) refl (subst (λ n. spend n w ≡ Some after) more e) in
-        let few = added (emit_of table parts) after in
-        let left = same_left (emit_of table parts) after in omega (arith, less, few, left)
+        let few = added (emit_or_line (emit_of table parts) counting place) after in
+        let left = same_left (emit_or_line (emit_of table parts) counting place) after in omega (arith, less, few, left)
 
-assigned_pays : (stored : Stored) (place : Place) (n : ℕ) → RunPays (assigned stored place n)
-assigned_pays (Holds d) place n locals = given _
-assigned_pays Undefined place n locals = failed _ place
-assigned_pays Outside place n locals = failed _ place
+assigned_owes : (counting : Option ℕ) (stored : Stored) (place : Place) (n : ℕ) (locals : List Slot) → Owing (assigned counting stored place n locals)
+assigned_owes counting (Holds d) place n locals = not_more (give (Normal (with_local n (Some d) locals))) (given (Normal (with_local n (Some d) locals)))
+assigned_owes counting Undefined place n locals = passed_owes counting place locals
+assigned_owes counting Outside place n locals = record { owes = λ w. tt }
 
-defined_pays : (x : Slot) (place : Place) (next : Doing Ending) → Paying next → Paying (if_defined x place next)
-defined_pays None place next h = failed _ place
-defined_pays (Some d) place next h = h
+defined_owes : (x : Slot) (next unknown : Doing Ending) → Paying next → Owing unknown → Owing (if_defined x next unknown)
+defined_owes None next unknown h u = u
+defined_owes (Some d) next unknown h u = not_more next h
 
 test_pays : (s : Setting) → CallsPay s → (e : Option Node) (locals : List Slot) → Paying (test_of s e locals)
 test_pays s calls None locals = given {X = Slot} (Some (truth true))
@@ -369,18 +465,19 @@ module _ (s : Setting) (calls : CallsPay s) where
     exec_pays (store place n steps e) locals =
         then_pays (eval_indexes s locals steps) _ (indexes_pay s calls locals steps)
         (λ xs. then_pays (eval s locals e) _ (eval_pays s calls locals e)
-        (λ x. then_pays (pay 1 place) _ (ticks 1 place) (λ _. assigned_pays _ place n locals)))
+        (λ x. settled (pay 1 place) _ (tick place) (λ _. assigned_owes s.counting _ place n locals)))
     exec_pays (evaluate place e) locals =
-        then_pays (eval s locals e) _ (eval_pays s calls locals e) (λ x. defined_pays x place _ (given (Normal locals)))
+        settled (eval s locals e) _ (eval_takes s calls locals e)
+        (λ x. defined_owes x _ _ (given (Normal locals)) (passed_owes s.counting place locals))
     exec_pays (branch place e first second) locals =
         then_pays (eval s locals e) _ (eval_pays s calls locals e)
-        (λ x. then_pays (pay 1 place) _ (ticks 1 place) (λ _. chosen_pays x place _ _ (exec_pays first locals) (exec_pays second locals)))
+        (λ x. tested_pays s.counting place locals x _ _ (exec_pays first locals) (exec_pays second locals))
     exec_pays (while place e body) locals =
-        record { pays = λ w. (turns_pay place (λ l. eval s l e) idle (exec s body) (λ l. eval_pays s calls l e) (λ l. given (Normal l)) (exec_pays body) (suc w.left) locals).pays w }
+        record { pays = λ w. (turns_pay s.counting place (λ l. eval s l e) idle (exec s body) (λ l. eval_pays s calls l e) (λ l. given (Normal l)) (exec_pays body) (suc w.left) locals).pays w }
     exec_pays (do_while place body e) locals =
-        record { pays = λ w. (turns_after_pay place (exec s body) (λ l. eval s l e) (exec_pays body) (λ l. eval_pays s calls l e) (suc w.left) locals).pays w }
+        record { pays = λ w. (turns_after_pay s.counting place (exec s body) (λ l. eval s l e) (exec_pays body) (λ l. eval_pays s calls l e) (suc w.left) locals).pays w }
     exec_pays (for_loop place e between body) locals =
-        record { pays = λ w. (turns_pay place (test_of s e) (exec s between) (exec s body) (test_pays s calls e) (exec_pays between) (exec_pays body) (suc w.left) locals).pays w }
+        record { pays = λ w. (turns_pay s.counting place (test_of s e) (exec s between) (exec s body) (test_pays s calls e) (exec_pays between) (exec_pays body) (suc w.left) locals).pays w }
     exec_pays break locals = given _
     exec_pays continue locals = given _
     exec_pays (return_value place e) locals =
@@ -389,7 +486,7 @@ module _ (s : Setting) (calls : CallsPay s) where
     exec_pays (emit place table es e weight) locals =
         then_pays (eval_all s locals es) _ (all_pay s calls locals es)
         (λ xs. then_pays (eval s locals e) _ (eval_pays s calls locals e)
-        (λ x. then_pays (eval_if_some s locals weight) _ (optional_pays s calls locals weight) (λ y. emits_pay place table (record { indexes = xs; value = x; weight = y }) locals)))
+        (λ x. then_pays (eval_if_some s locals weight) _ (optional_pays s calls locals weight) (λ y. emits_pay s.counting place table (record { indexes = xs; value = x; weight = y }) locals)))
     exec_pays (when place vs c body) locals =
         when_pays place (λ l. eval s l c) (exec s body) (λ l. eval_pays s calls l c) (exec_pays body) (map (variable_of s) vs) (bases_pay vs) locals
 
@@ -398,21 +495,23 @@ module _ (s : Setting) (calls : CallsPay s) where
     all_run_pays (with_stm first rest) locals =
         then_pays (exec s first locals) _ (exec_pays first locals) (λ ending. then_run_pays ending _ (all_run_pays rest))
 
-module _ (functions : List Function) (statics : List Slot) where
-  function_pays : (f : Option Function) (room : ℕ) → ((g : ℕ) (place : Place) (arguments : List Datum) → Paying (calls_at functions statics room g place arguments))
-      → (arguments : List Datum) → Paying (run_function functions f (calls_at functions statics room) statics arguments)
+module _ (functions : List Function) (counting : Option ℕ) (statics : List Slot) where
+  function_pays : (f : Option Function) (room : ℕ) → ((g : ℕ) (place : Place) (arguments : List Datum) → Paying (calls_at functions counting statics room g place arguments))
+      → (arguments : List Datum) → Paying (run_function functions counting f (calls_at functions counting statics room) statics arguments)
   function_pays None room calls arguments = given {X = Slot} None
   function_pays (Some f) room calls arguments = then_pays _ _ (all_run_pays _ calls f.body _) (λ ending. given _)
 
-  calls_pay : (room : ℕ) (f : ℕ) (place : Place) (arguments : List Datum) → Paying (calls_at functions statics room f place arguments)
+  calls_pay : (room : ℕ) (f : ℕ) (place : Place) (arguments : List Datum) → Paying (calls_at functions counting statics room f place arguments)
   calls_pay zero f place arguments = failed _ place
   calls_pay (suc room) f place arguments = function_pays (slice_get functions f) room (calls_pay room) arguments
 
 -- a record has at most as many emits as its budget has ticks
-pub emits_are_paid : (core : Core) (slots : List Slot) (budget : ℕ) (text : List ℕ) (es : List EmitDatum)
-    → mean core slots budget text ≡ Done es → length es ≤ budget
-emits_are_paid core slots budget text es is =
-    by (run_record core slots budget text) ((all_run_pays _ (calls_pay (functions_of core.items) slots most_open_calls) (body_of core) _).pays (new_world budget)) is
+pub emits_are_paid : (program : Marked) (slots : List Slot) (budget : ℕ) (text : List ℕ) (es : List EmitDatum)
+    → mean program slots budget text ≡ Done es → length es ≤ budget
+emits_are_paid program slots budget text es is =
+    by (run_record program slots budget text)
+    ((all_run_pays _ (calls_pay (functions_of program.core.items) (counting_table program) slots most_open_calls) (body_of program.core) _).pays
+    (new_world budget)) is
   where
     same : (a b : List EmitDatum) → Done a ≡ Done b → a ≡ b
     same a b e = cc

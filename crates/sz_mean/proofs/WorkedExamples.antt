@@ -1,5 +1,5 @@
 -- Worked examples: each program with the budget that is enough, and what it comes to with one tick less.
-use Rattle.std.specs.Prelude.{◌≡◌, ℕ, ◌^◌, pos, List, [], ◌∷◌, None, codes, refl}
+use Rattle.std.specs.Prelude.{◌≡◌, ℕ, ◌^◌, pos, List, [], ◌∷◌, None, true, false, codes, refl}
 use Rattle.std.specs.Int.{int_wrap}
 use Rattle.sz_types.specs.declared.place.Place.{Place}
 use Rattle.sz_value.specs.Data.{Datum}
@@ -7,13 +7,14 @@ use Rattle.sz_tabs.specs.Data.{EmitDatum}
 use Rattle.sz_core.specs.Statements.{some, each, all}
 use Rattle.sz_core.specs.Programs.{Core}
 use Rattle.sz_world_rules.specs.World.{Outcome, Done, Faulted, budget_passed, undefined_used, store_outside, calls_too_deep}
+use Rattle.sz_mean.specs.Marked.{marked}
 use Rattle.sz_mean.specs.Programs.{mean}
 use Rattle.sz_mean.specs.Records.{FaultedAt, mean_all}
 use Rattle.sz_mean.proofs.WorkedTrees.{at, number, emits_sum, joins_texts, counts_down, counts_up, emits_if, stores_outside, calls_on}
 use Rattle.sz_mean.proofs.WorkedTrees.{emits_without_weight, undefined_left, nothing, emits_place, emits_seven, searches}
 
 ends : Core → ℕ → List ℕ → Outcome (List EmitDatum)
-ends core budget input = mean core [] budget input
+ends core budget input = mean (marked core false) [] budget input
 
 fault : ℕ → Place → Outcome (List EmitDatum)
 fault kind place = Faulted (record { kind = kind; place = place })
@@ -79,8 +80,36 @@ undefined_test : ends emits_if 100 [] ≡ fault undefined_used (at 3 1)
 unfolding ends fault
 undefined_test = refl
 
+-- the same programs, ignoring: the line is counted in the table behind the one that is declared, for the same ticks
+ends_ignoring : Core → ℕ → List ℕ → Outcome (List EmitDatum)
+ends_ignoring core budget input = mean (marked core true) [] budget input
+
+line_counted : ℕ → ℕ → EmitDatum
+line_counted table row = record { table = table; indexes = Datum.int (pos row) ∷ []; value = Datum.int (pos 1); weight = None }
+
+ignored_test : ends_ignoring emits_if 7 [] ≡ Done (line_counted 1 3 ∷ [])
+unfolding ends_ignoring line_counted
+ignored_test = refl
+
+ignored_test_less : ends_ignoring emits_if 6 [] ≡ fault budget_passed (at 3 1)
+unfolding ends_ignoring fault
+ignored_test_less = refl
+
+ignored_emit : ends_ignoring emits_without_weight 5 [] ≡ Done (line_counted 1 2 ∷ [])
+unfolding ends_ignoring line_counted int_wrap
+ignored_emit = refl
+
+ignored_emit_less : ends_ignoring emits_without_weight 4 [] ≡ fault budget_passed (at 2 1)
+unfolding ends_ignoring fault int_wrap
+ignored_emit_less = refl
+
+-- a store outside of the value stays a fault
+ignored_outside : ends_ignoring stores_outside 8 [] ≡ fault store_outside (at 2 1)
+unfolding ends_ignoring fault
+ignored_outside = refl
+
 -- a fault is a fault of all records
-second_faults : mean_all emits_if [] 100 (codes "1" ∷ [] ∷ codes "1" ∷ []) ≡ FaultedAt 2 (record { kind = undefined_used; place = at 3 1 })
+second_faults : mean_all (marked emits_if false) [] 100 (codes "1" ∷ [] ∷ codes "1" ∷ []) ≡ FaultedAt 2 (record { kind = undefined_used; place = at 3 1 })
 second_faults = refl
 
 -- the budget is asked before where a store leads

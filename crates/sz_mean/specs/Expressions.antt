@@ -15,11 +15,13 @@ use Rattle.sz_world_rules.specs.Ticks.{no_weight, result_weight, binary_weight, 
 abbrev pub Calls : Type 0
 Calls = ℕ → Place → List Datum → Doing Slot
 
--- what stays fixed while statements run: what calls do, the statics, and the record
+-- what stays fixed while statements run: what calls do, the statics, the record, and the table that counts the lines that are passed
+-- over, if they are
 pub record Setting : Type 0 where
   pub calls : Calls
   pub statics : List Slot
   pub input : Slot
+  pub counting : Option ℕ
 
 -- an expression's own tick is taken, with what its result adds to it, and then it gives the result
 abbrev pub results : Place → (Slot → ℕ) → Slot → Doing Slot

@@ -1,4 +1,5 @@
 -- what the public contracts rest on
+pub mod Marked
 pub mod Expressions
 pub mod Endings
 pub mod Search

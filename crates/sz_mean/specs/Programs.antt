@@ -7,6 +7,7 @@ use Rattle.sz_core.specs.Programs.{Function, Static, Core, functions_of, statics
 use Rattle.sz_world_rules.specs.World.{new_world, calls_too_deep, most_open_calls, Given, Gives, Stops, Doing, ◌>>=◌, ◌>>◌, give, pay, fails}
 use Rattle.sz_world_rules.specs.World.{Outcome, Done, Faulted}
 use Rattle.sz_world_rules.specs.Slots.{Slot, undefined_slots, fresh}
+use Rattle.sz_mean.specs.Marked.{Marked, counting_table}
 use Rattle.sz_mean.specs.Expressions.{Calls, Setting, eval}
 use Rattle.sz_mean.specs.Endings.{Ending, Normal, Breaks, Continues, Returns}
 use Rattle.sz_mean.specs.Statements.{exec_all}
@@ -18,11 +19,11 @@ returned (Breaks locals) = None
 returned (Continues locals) = None
 returned (Returns result) = result
 
--- the functions of the program
-module _ (functions : List Function) where
+-- the functions of the program, and the table that counts the lines that are passed over, if they are
+module _ (functions : List Function) (counting : Option ℕ) where
   -- what a function sees: no record
   abbrev pub function_setting : Calls → List Slot → Setting
-  function_setting calls statics = record { calls = calls; statics = statics; input = None }
+  function_setting calls statics = record { calls = calls; statics = statics; input = None; counting = counting }
 
   -- a function's statements run with its arguments as its first variables
   abbrev pub run_function : Option Function → Calls → List Slot → List Datum → Doing Slot
@@ -38,7 +39,7 @@ module _ (functions : List Function) where
 
   -- what statements and statics see while no call is open
   abbrev pub outer_setting : List Slot → Slot → Setting
-  outer_setting statics input = record { calls = calls_at statics most_open_calls; statics = statics; input = input }
+  outer_setting statics input = record { calls = calls_at statics most_open_calls; statics = statics; input = input; counting = counting }
 
   -- the statics from this number on get their values in order; each sees those before it
   abbrev pub initialised : List Static → ℕ → List Slot → Doing (List Slot)
@@ -58,22 +59,22 @@ abbrev pub emits_given : Given Ending → Outcome (List EmitDatum)
 emits_given (Gives ending w) = Done w.emits
 emits_given (Stops fault) = Faulted fault
 
--- the slots of a program's statics, computed with one budget, or their fault
-abbrev pub statics : Core → ℕ → Outcome (List Slot)
-statics core budget =
-    let all = statics_of core.items in
-    slots_given (initialised (functions_of core.items) all 0 (undefined_slots (length all)) (new_world budget))
+-- the slots of a program's statics, computed with one budget, or their fault. What is passed over meanwhile isn't counted.
+abbrev pub statics : Marked → ℕ → Outcome (List Slot)
+statics program budget =
+    let all = statics_of program.core.items in
+    slots_given (initialised (functions_of program.core.items) (counting_table program) all 0 (undefined_slots (length all)) (new_world budget))
 
 -- the statements that a program runs for each record
 abbrev pub body_of : Core → Stms
 body_of core = stms_of (statements_of core.items)
 
 -- what a program does with a record: its statements run on the record's bytes, with fresh variables and a new budget
-abbrev pub run_record : Core → List Slot → ℕ → List ℕ → Given Ending
-run_record core slots budget input =
-    exec_all (outer_setting (functions_of core.items) slots (Some (bytes input))) (body_of core)
-    (undefined_slots (length core.locals)) (new_world budget)
+abbrev pub run_record : Marked → List Slot → ℕ → List ℕ → Given Ending
+run_record program slots budget input =
+    exec_all (outer_setting (functions_of program.core.items) (counting_table program) slots (Some (bytes input))) (body_of program.core)
+    (undefined_slots (length program.core.locals)) (new_world budget)
 
 -- what a program means for a record, with these statics: its emits in order, or its fault
-abbrev pub mean : Core → List Slot → ℕ → List ℕ → Outcome (List EmitDatum)
-mean core slots budget input = emits_given (run_record core slots budget input)
+abbrev pub mean : Marked → List Slot → ℕ → List ℕ → Outcome (List EmitDatum)
+mean program slots budget input = emits_given (run_record program slots budget input)

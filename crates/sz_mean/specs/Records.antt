@@ -1,9 +1,9 @@
 -- What a program means for a list of records: all their emits, or the first record that faults.
 use Rattle.std.specs.Prelude.{ℕ, suc, List, [], ◌∷◌, ◌++◌}
 use Rattle.sz_tabs.specs.Data.{EmitDatum}
-use Rattle.sz_core.specs.Programs.{Core}
 use Rattle.sz_world_rules.specs.World.{Fault, Outcome, Done, Faulted}
 use Rattle.sz_world_rules.specs.Slots.{Slot}
+use Rattle.sz_mean.specs.Marked.{Marked}
 use Rattle.sz_mean.specs.Programs.{mean}
 
 -- what comes of records: the emits of all of them in order, or the number of the first that faults, and its fault
@@ -22,11 +22,11 @@ then_records number (Done emits) rest = after_emits emits rest
 then_records number (Faulted fault) rest = FaultedAt number fault
 
 -- what a program means for records with these statics, of which the first has this number
-abbrev pub mean_from : Core → List Slot → ℕ → ℕ → List (List ℕ) → Records
-mean_from core slots budget number [] = Emitted []
-mean_from core slots budget number (record_bytes ∷ rest) =
-    then_records number (mean core slots budget record_bytes) (mean_from core slots budget (suc number) rest)
+abbrev pub mean_from : Marked → List Slot → ℕ → ℕ → List (List ℕ) → Records
+mean_from program slots budget number [] = Emitted []
+mean_from program slots budget number (record_bytes ∷ rest) =
+    then_records number (mean program slots budget record_bytes) (mean_from program slots budget (suc number) rest)
 
 -- what a program means for all records, which are numbered from 1
-abbrev pub mean_all : Core → List Slot → ℕ → List (List ℕ) → Records
-mean_all core slots budget records = mean_from core slots budget 1 records
+abbrev pub mean_all : Marked → List Slot → ℕ → List (List ℕ) → Records
+mean_all program slots budget records = mean_from program slots budget 1 records

@@ -5,13 +5,13 @@ use Rattle.sz_value.specs.Data.{truth}
 use Rattle.sz_core.specs.Nodes.{Node}
 use Rattle.sz_core.specs.Statements.{Step, at_index, at_field, Stm, block, clear, keep, store, evaluate, branch, while, do_while, for_loop, break, continue}
 use Rattle.sz_core.specs.Statements.{return_value, end_record, emit, Quantified, when, Stms, no_stms, with_stm}
-use Rattle.sz_world_rules.specs.World.{Gives, Doing, ◌>>=◌, ◌>>◌, give, pay, fails, undefined_used, store_outside}
+use Rattle.sz_world_rules.specs.World.{Gives, Doing, ◌>>=◌, ◌>>◌, give, pay, fails, store_outside}
 use Rattle.sz_world_rules.specs.Slots.{Slot, slot_at}
-use Rattle.sz_world_rules.specs.Emits.{EmitParts, emit_of, emit_weight, with_emit}
+use Rattle.sz_world_rules.specs.Emits.{EmitParts, emit_of, emit_weight, emit_or_line, with_emit}
 use Rattle.sz_world_rules.specs.Stores.{by_index, by_field, Stored, Holds, Undefined, Outside, stored}
 use Rattle.sz_world_rules.specs.Stores as stores
 use Rattle.sz_mean.specs.Expressions.{Setting, eval, eval_all, eval_indexes, eval_if_some}
-use Rattle.sz_mean.specs.Endings.{Ending, Normal, Breaks, Continues, Returns, Running, with_local, then_run, chosen, turns, turns_after}
+use Rattle.sz_mean.specs.Endings.{Ending, Normal, Breaks, Continues, Returns, Running, with_local, then_run, passed_over, chosen, turns, turns_after}
 use Rattle.sz_mean.specs.Search.{Variable, exec_when}
 
 -- a step without its index
@@ -20,21 +20,22 @@ bare (at_index e) = by_index
 bare (at_field n) = by_field n
 
 -- the variables with what came of a store into one of them, or the store's fault
-abbrev pub assigned : Stored → Place → ℕ → Running
-assigned (Holds d) place n locals = give (Normal (with_local n (Some d) locals))
-assigned Undefined place n locals = fails undefined_used place
-assigned Outside place n locals = fails store_outside place
+abbrev pub assigned : Option ℕ → Stored → Place → ℕ → Running
+assigned counting (Holds d) place n locals = give (Normal (with_local n (Some d) locals))
+assigned counting Undefined place n locals = passed_over counting place locals
+assigned counting Outside place n locals = fails store_outside place
 
--- the run goes on with a defined value; an undefined one is a fault
-abbrev pub if_defined : Slot → Place → Doing Ending → Doing Ending
-if_defined None place next = fails undefined_used place
-if_defined (Some d) place next = next
+-- the first where the value is defined, else the second
+abbrev pub if_defined : Slot → (next unknown : Doing Ending) → Doing Ending
+if_defined None next unknown = unknown
+if_defined (Some d) next unknown = next
 
--- the ticks of an emit are taken, and then it is added to the emits, unless a part is undefined
-abbrev pub emits : Place → ℕ → EmitParts → Running
-emits place table parts locals = do
+-- the ticks of an emit are taken, and then it is added to the emits; where a part is undefined nothing is, but for its line, where lines
+-- are counted
+abbrev pub emits : Option ℕ → Place → ℕ → EmitParts → Running
+emits counting place table parts locals = do
   pay (1 + emit_weight parts) place
-  λ w. Gives (Normal locals) (with_emit (emit_of table parts) w)
+  λ w. Gives (Normal locals) (with_emit (emit_or_line (emit_of table parts) counting place) w)
 
 -- the test of a loop: a missing one is true
 abbrev pub test_of : Setting → Option Node → List Slot → Doing Slot
@@ -67,17 +68,17 @@ module _ (s : Setting) where
       indexes ← eval_indexes s locals steps
       x ← eval s locals e
       pay 1 place
-      assigned (stored (slot_at locals n) (map bare steps) indexes x) place n locals
+      assigned s.counting (stored (slot_at locals n) (map bare steps) indexes x) place n locals
     exec (evaluate place e) locals = do
       x ← eval s locals e
-      if_defined x place (idle locals)
+      if_defined x (idle locals) (passed_over s.counting place locals)
     exec (branch place e first second) locals = do
       x ← eval s locals e
       pay 1 place
-      chosen x place (exec first locals) (exec second locals)
-    exec (while place e body) locals = while_ticks (turns place (λ l. eval s l e) idle (exec body)) locals
-    exec (do_while place body e) locals = while_ticks (turns_after place (exec body) (λ l. eval s l e)) locals
-    exec (for_loop place e between body) locals = while_ticks (turns place (test_of s e) (exec between) (exec body)) locals
+      chosen x (exec first locals) (exec second locals) (passed_over s.counting place locals)
+    exec (while place e body) locals = while_ticks (turns s.counting place (λ l. eval s l e) idle (exec body)) locals
+    exec (do_while place body e) locals = while_ticks (turns_after s.counting place (exec body) (λ l. eval s l e)) locals
+    exec (for_loop place e between body) locals = while_ticks (turns s.counting place (test_of s e) (exec between) (exec body)) locals
     exec break locals = give (Breaks locals)
     exec continue locals = give (Continues locals)
     exec (return_value place e) locals = do
@@ -91,7 +92,7 @@ module _ (s : Setting) where
       indexes ← eval_all s locals es
       value ← eval s locals e
       weight ← eval_if_some s locals w
-      emits place table (record { indexes = indexes; value = value; weight = weight }) locals
+      emits s.counting place table (record { indexes = indexes; value = value; weight = weight }) locals
     exec (when place vs c body) locals = exec_when place (λ l. eval s l c) (exec body) (map variable_of vs) locals
 
     -- what statements do, one after the other

@@ -1,20 +1,20 @@
 //! Laws of the definitions, each a function that does nothing and whose contract is the law.
 ghost use Rattle.std.specs.Prelude.{◌≡◌, ◌≤◌, ℕ, List, length};
 ghost use Rattle.sz_tabs.specs.Data.{EmitDatum};
-ghost use Rattle.sz_core.specs.Programs.{Core};
 ghost use Rattle.sz_world_rules.specs.World.{Fault, Done};
 ghost use Rattle.sz_world_rules.specs.Slots.{Slot};
+ghost use Rattle.sz_mean.specs.Marked.{Marked};
 ghost use Rattle.sz_mean.specs.Programs.{mean};
 ghost use Rattle.sz_mean.specs.Records.{FaultedAt, mean_all};
 
 /// A record has at most as many emits as its budget has ticks: each takes one.
 pub fn each_emit_takes_a_tick()
-    ensures few { (core : Core) (slots : List Slot) (budget : ℕ) (input : List ℕ) (emits : List EmitDatum)
-        → mean core slots budget input ≡ Done emits → length emits ≤ budget }
+    ensures few { (program : Marked) (slots : List Slot) (budget : ℕ) (input : List ℕ) (emits : List EmitDatum)
+        → mean program slots budget input ≡ Done emits → length emits ≤ budget }
 {}
 
 /// Records are numbered from 1: the number 0 is free for a fault in a static.
 pub fn records_are_numbered_from_one()
-    ensures number { (core : Core) (slots : List Slot) (budget : ℕ) (records : List (List ℕ)) (number : ℕ) (fault : Fault)
-        → mean_all core slots budget records ≡ FaultedAt number fault → 1 ≤ number }
+    ensures number { (program : Marked) (slots : List Slot) (budget : ℕ) (records : List (List ℕ)) (number : ℕ) (fault : Fault)
+        → mean_all program slots budget records ≡ FaultedAt number fault → 1 ≤ number }
 {}

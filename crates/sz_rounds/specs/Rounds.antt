@@ -1,6 +1,6 @@
 -- Rounds, and what contracts see of how they end.
 use Rattle.std.specs.Prelude.{◌≡◌, ℕ, suc, ◌+◌, ◌-◌, ◌^◌, ◌≤◌, List, [], ◌∷◌, length, All}
-use Rattle.sz_core.specs.Programs.{Core}
+use Rattle.sz_mean.specs.Marked.{Marked}
 use Rattle.sz_tabs.specs.Data.{EmitDatum}
 use Rattle.sz_machine.specs.Ends.{seen_fault}
 use Rattle.sz_attempt.specs.declared.job.Shard.{Shard}
@@ -34,7 +34,7 @@ pub record IsRound (round : Round) : Type 0 where
   pub next : (place : ℕ) × (first : ℕ) × AreNext place first round.shards
 
 -- the answer tells what comes of the shards: the tables stand for just the emits
-abbrev pub EndsRound : Core → ShardsEnd → RoundEnd → Type 0
+abbrev pub EndsRound : Marked → ShardsEnd → RoundEnd → Type 0
 EndsRound program end (ends.Tables total) = (emits : List EmitDatum) × (end ≡ emitted emits) × StandForEmits program total emits
 EndsRound program end (ends.Fault number fault) = end ≡ faulted number (seen_fault fault)
 EndsRound program end (ends.Lost shard) = end ≡ lost shard

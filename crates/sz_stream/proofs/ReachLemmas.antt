@@ -6,7 +6,7 @@ use Rattle.std.proofs.KnownBytes.{Consumes-trans}
 use Rattle.std.specs.Prelude.{is_some, ◌==◌, Result, Ok, Err, OnOk, if◌then◌else◌}
 use Rattle.std.specs.Io.KnownBytes.{Consumes, IsAtEnd}
 use Rattle.sz_types.specs.declared.frame.Frame.{Frame}
-use Rattle.sz_core.specs.Programs.{tables_of}
+use Rattle.sz_mean.specs.Marked.{all_tables}
 use Rattle.sz_tabs.specs.Data.{EmitDatum}
 use Rattle.sz_total.specs.States.{TotalState, declarations, emit_count, shown}
 use Rattle.sz_total.specs.Totals.{IsNew, Joins}
@@ -83,7 +83,7 @@ module _ (job : Job) (frame : Frame) (most : ℕ) (total : TotalState) where
 
   -- before anything is read
   pub reach_starts : (intake : Intake) (start : Option (List ℕ)) → 1 ≤ most → IsEmpty frame most intake
-      → IsNew declarations emit_count shown (tables_of job.compiled.items) total → Reaches job frame most intake total start start
+      → IsNew declarations emit_count shown (all_tables job.compiled) total → Reaches job frame most intake total start start
   reach_starts intake start low empty new = record {
     read = [];
     over = false;

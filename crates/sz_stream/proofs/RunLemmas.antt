@@ -4,7 +4,7 @@ use Rattle.std.proofs.Common.{Option, Some, None, refl, sym, ap, ◌∙◌, subs
 use native.Mathlib.Nat.{mul-add}
 use Rattle.std.specs.Prelude.{is_some, ◌==◌, Result, Ok, Err}
 use Rattle.sz_types.specs.declared.frame.Frame.{Frame}
-use Rattle.sz_core.specs.Programs.{tables_of}
+use Rattle.sz_mean.specs.Marked.{all_tables}
 use Rattle.sz_tabs.specs.Data.{EmitDatum}
 use Rattle.sz_world_rules.specs.World.{Fault}
 use Rattle.sz_total.specs.States.{TotalState, declarations, emit_count, shown}
@@ -60,7 +60,7 @@ length_cut most at_end number first records (n ∷ ns) a =
 
 -- before anything is read
 module _ (job : Job) (frame : Frame) (most : ℕ) (intake : Intake) (total : TotalState) where
-  pub starts : 1 ≤ most → IsEmpty frame most intake → IsNew declarations emit_count shown (tables_of job.compiled.items) total
+  pub starts : 1 ≤ most → IsEmpty frame most intake → IsNew declarations emit_count shown (all_tables job.compiled) total
       → IsRunning job frame most intake total [] false
   starts low empty new = record {
     given = [];

@@ -2,7 +2,7 @@
 use Rattle.std.specs.Prelude.{◌≡◌, ℕ, ◌^◌, ⊤, Bool, true, List, [], ◌++◌, Option, Result, Ok, Err}
 use Rattle.std.specs.Io.KnownBytes.{Consumes, IsAtEnd}
 use Rattle.sz_types.specs.declared.frame.Frame.{Frame}
-use Rattle.sz_core.specs.Programs.{Core}
+use Rattle.sz_mean.specs.Marked.{Marked}
 use Rattle.sz_tabs.specs.Data.{EmitDatum}
 use Rattle.sz_total.specs.States.{TotalState}
 use Rattle.sz_machine.specs.Ends.{seen_fault}
@@ -34,7 +34,7 @@ GivesAll outcome = (emits : List EmitDatum) × (outcome ≡ emitted emits)
 
 -- The answer is that of records with this ending, of whose shards comes this: the first shard that faults or is lost decides, and then the
 -- ending. The tables stand for just the emits
-abbrev pub EndsInput : Core → Ending → ShardsEnd → Result TotalState Stop → Type 0
+abbrev pub EndsInput : Marked → Ending → ShardsEnd → Result TotalState Stop → Type 0
 EndsInput program ending outcome (Ok total) =
     (ending ≡ endings.Whole) × ((emits : List EmitDatum) × (outcome ≡ emitted emits) × StandForEmits program total emits)
 EndsInput program ending outcome (Err (Fault number fault)) = outcome ≡ faulted number (seen_fault fault)

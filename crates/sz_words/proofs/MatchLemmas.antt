@@ -15,7 +15,7 @@ use Rattle.std.specs.Borrow.{Bor}
 use Rattle.sz_words.specs.Asked.{asked_bare, asked_option, with_options}
 use Rattle.sz_words.specs.Parts.{Parts, parts_of, values_of}
 use Rattle.sz_words.specs.Matches.{HasParts, names_in, values_in}
-use Rattle.sz_words.specs.Settings.{Values, check_settings, command_settings, line_settings, run_settings, stand_at_most, run_with, selftest_settings}
+use Rattle.sz_words.specs.Settings.{Values, check_settings, command_settings, plain_settings, run_settings, stand_at_most, run_with, selftest_settings}
 use Rattle.sz_words.specs.declared.settings.Settings.{Settings}
 
 -- the first value is the first of all
@@ -137,5 +137,5 @@ settings_same command m parts has =
 -- what is asked for by words whose parts were found
 pub line_is : (command : List ℕ) (words : List (List ℕ)) (m : ArgMatches)
     → ((parts : Parts) × (parts_of words ≡ Some parts) × HasParts m parts)
-    → line_settings command words ≡ command_settings command (values_in m) (names_in m)
+    → plain_settings command words ≡ command_settings command (values_in m) (names_in m)
 line_is command words m p = rw p.1 (sym (settings_same command m p.0 p.2))

@@ -2,6 +2,7 @@
 pub mod Texts
 pub mod Lists
 pub mod Parts
+pub mod Flags
 pub mod Settings
 pub mod Bounds
 -- what the functions inside the crate promise each other

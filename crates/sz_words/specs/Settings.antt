@@ -1,5 +1,5 @@
 -- Which words are a command line, and what they ask for.
-use Rattle.std.specs.Prelude.{ℕ, ◌-◌, ◌^◌, List, [], ◌∷◌, length, Bool, not, ◌&&◌, nat_eq, nat_le, Option, Some, None, bytes_eq, codes, if◌then◌else◌}
+use Rattle.std.specs.Prelude.{ℕ, zero, suc, ◌-◌, ◌^◌, List, [], ◌∷◌, length, Bool, true, false, not, ◌&&◌, nat_eq, nat_le, Option, Some, None, bytes_eq, codes, if◌then◌else◌}
 use Rattle.std.specs.Prelude.{option_and_then, option_map, slice_get}
 use Rattle.std.specs.List.{list_all}
 use Rattle.sz_types.specs.declared.frame.Frame.{Frame}
@@ -7,6 +7,7 @@ use Rattle.sz_types.specs.declared.frame.Frame.TheVariants.{Lines, Delimited}
 use Rattle.sz_words.specs.Texts.{number_in}
 use Rattle.sz_words.specs.Lists.{kills_in, shards_in}
 use Rattle.sz_words.specs.Parts.{option_names, values_of, parts_of}
+use Rattle.sz_words.specs.Flags.{plain_words, flags_in}
 use Rattle.sz_words.specs.declared.reading.Numbers.{Numbers}
 use Rattle.sz_words.specs.declared.settings.RunSettings.{RunSettings}
 use Rattle.sz_words.specs.declared.settings.Kill.{Kill}
@@ -76,7 +77,7 @@ numbers_in given =
     (number_or 4 1 64 (value_of given (codes "workers"))))
     (frame_in (value_of given (codes "frame")))
 
--- what is asked for by `run` with these options, a program and an input
+-- what is asked for by `run` with these options, a program and an input, where the flag doesn't stand
 unfoldable pub run_with : Values → List ℕ → List ℕ → Option RunSettings
 run_with given program input =
     option_and_then (λ numbers.
@@ -92,6 +93,7 @@ run_with given program input =
       budget = numbers.budget;
       kills = kills;
       twice = twice;
+      ignore_undefs = false;
     }))
     (shards_or_none (value_of given (codes "twice"))))
     (kills_or_none (value_of given (codes "kill"))))
@@ -128,10 +130,20 @@ command_settings command given names =
     else if bytes_eq command (codes "check") then check_settings given names
     else if bytes_eq command (codes "selftest") then selftest_settings given names else None
 
+-- what is asked for by a command and the words after it that aren't the flag
+abbrev pub plain_settings : List ℕ → List (List ℕ) → Option Settings
+plain_settings command words =
+    option_and_then (λ parts. command_settings command (λ name. values_of name parts.options) parts.names) (parts_of words)
+
+-- the same where the flag stands so many times: `run` takes it, once
+abbrev pub with_flag : ℕ → Settings → Option Settings
+with_flag zero settings = Some settings
+with_flag (suc zero) (Run s) = Some (Run (record s { ignore_undefs = true }))
+with_flag _ settings = None
+
 -- what is asked for by a command and the words after it
 abbrev pub line_settings : List ℕ → List (List ℕ) → Option Settings
-line_settings command words =
-    option_and_then (λ parts. command_settings command (λ name. values_of name parts.options) parts.names) (parts_of words)
+line_settings command words = option_and_then (λ settings. with_flag (flags_in words) settings) (plain_settings command (plain_words words))
 
 -- what a command line asks for; other words have no settings
 abbrev pub settings_in : List (List ℕ) → Option Settings

@@ -2,6 +2,7 @@
 #![tactic(auto)]
 
 mod error;
+mod flags;
 mod lists;
 mod numbers;
 mod reading;

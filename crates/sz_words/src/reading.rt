@@ -1,16 +1,17 @@
 //! What a command line asks for.
 ghost use Rattle.std.specs.Prelude.{◌≡◌, ◌≤◌, ◌^◌, map, string_bytes, IfOk, IfErr, MatchOption, Some, None};
-ghost use Rattle.std.specs.Prelude.{option_map, IfSome};
+ghost use Rattle.std.specs.Prelude.{option_map, IfSome, if◌then◌else◌};
 ghost use Rattle.sz_words.specs.Matches.{names_in, values_in};
 ghost use Rattle.sz_words.specs.Settings.{settings_in, frame_in, number_or, kills_or_none, shards_or_none, are_files};
 ghost use Rattle.sz_words.specs.Settings.{value_of};
 ghost use Rattle.sz_words.specs.Settings.{numbers_in, files_in, run_with, run_settings, check_settings};
-ghost use Rattle.sz_words.specs.Settings.{selftest_settings, command_settings, line_settings};
+ghost use Rattle.sz_words.specs.Settings.{selftest_settings, command_settings, plain_settings, with_flag, line_settings};
 ghost use Rattle.sz_words.specs.Bounds.{HasBounds, InRange, IsBounded, NumbersHaveBounds};
 ghost use Rattle.sz_words.specs.declared.error.WordsError.TheVariants.{Usage};
 ghost use Rattle.sz_words.specs.declared.settings.Settings.TheVariants.{Run};
 
 use crate::error::WordsError;
+use crate::flags::plain_words;
 use crate::lists::{kills_in, shards_in};
 use crate::numbers::{number_in, small_number_in};
 use crate::settings::{DEFAULT_SHARD, Kills, RunSettings, Settings, Twice};
@@ -38,6 +39,48 @@ pub fn read_words(alloc: Global, words: &[String]) -> Result<Settings, WordsErro
 fn line_settings(alloc: Global, command: &str, words: &[String]) -> Result<Settings, WordsError>
     ensures value { IfOk result (λ s. line_settings command.now (map string_bytes words.now) ≡ Some s) }
     ensures usage { IfErr result (λ e. e ≡ Usage → line_settings command.now (map string_bytes words.now) ≡ None) }
+    ensures bounds { IfOk result IsBounded }
+{
+    let plain = plain_words(alloc, words)?;
+    let mut settings = plain_settings(alloc, command, &plain)?;
+    if take_flags(&mut settings, words.len() - plain.len()) {
+        Ok(settings)
+    } else {
+        Err(WordsError::Usage)
+    }
+}
+
+// Whether the settings take the flag so many times. A run takes it once, and ignores undefined values then.
+fn take_flags(settings: &mut Settings, flags: usize) -> bool
+    ensures value { with_flag flags settings.old ≡ (if result then Some settings.new else None) }
+    ensures bounds { IsBounded settings.old → IsBounded settings.new }
+{
+    match flags {
+        0 => true,
+        1 => take_flag(settings),
+        _ => false,
+    }
+}
+
+// The same of one flag.
+fn take_flag(settings: &mut Settings) -> bool
+    ensures value { with_flag 1 settings.old ≡ (if result then Some settings.new else None) }
+    ensures bounds { IsBounded settings.old → IsBounded settings.new }
+{
+    match settings {
+        Settings::Run(run) => {
+            run.ignore_undefs = true;
+            true
+        }
+        Settings::Check(_) => false,
+        Settings::Selftest { .. } => false,
+    }
+}
+
+// What is asked for by a command and the words after it that aren't the flag.
+fn plain_settings(alloc: Global, command: &str, words: &[String]) -> Result<Settings, WordsError>
+    ensures value { IfOk result (λ s. plain_settings command.now (map string_bytes words.now) ≡ Some s) }
+    ensures usage { IfErr result (λ e. e ≡ Usage → plain_settings command.now (map string_bytes words.now) ≡ None) }
     ensures bounds { IfOk result IsBounded }
 {
     let matches = matches_of(alloc, words)?;
@@ -121,6 +164,7 @@ fn run_with(
         budget: numbers.budget,
         kills,
         twice,
+        ignore_undefs: false,
     })
 }
 

@@ -46,6 +46,8 @@ pub struct RunSettings {
     pub kills: Kills,
     /// The shards with a second ticket.
     pub twice: Twice,
+    /// Whether a statement that uses an undefined value is passed over and counted.
+    pub ignore_undefs: bool,
 }
 
 impl Drop for RunSettings {
@@ -60,6 +62,7 @@ impl Drop for RunSettings {
             budget: _,
             kills: _,
             twice: _,
+            ignore_undefs: _,
         } = self;
     }
 }

@@ -6,7 +6,7 @@ use Rattle.std.specs.Prelude.{slice_get, IsPermutation}
 use Rattle.std.proofs.lemmas.List.Sorted.{IsPermutation-append_comm, length_permutation}
 use Rattle.sz_tabs.specs.Data.{EmitDatum}
 use Rattle.sz_mean.specs.Records.{Records, Emitted, FaultedAt}
-use Rattle.sz_core.specs.Programs.{tables_of}
+use Rattle.sz_mean.specs.Marked.{all_tables}
 use Rattle.sz_total.specs.States.{TotalState, declarations, emit_count, shown}
 use Rattle.sz_total.specs.Totals.{StandsFor, IsNew, Joins}
 use Rattle.sz_total.specs.Laws.{ForgetsOrder}
@@ -88,7 +88,7 @@ few_gathered job round ss job_is round_is d counts =
 
 -- new tables hold no shard
 pub holds_none : (job : Job) (round : Round) (total : TotalState) → IsJob job → IsRound round
-    → IsNew declarations emit_count shown (tables_of job.compiled.items) total → HoldsShards job round total []
+    → IsNew declarations emit_count shown (all_tables job.compiled) total → HoldsShards job round total []
 holds_none job round total job_is round_is new = record {
   job_is = job_is;
   round_is = round_is;

@@ -1,5 +1,6 @@
 -- Emits: what the evaluated parts of an emit add to the emits so far, and how many ticks they take.
-use Rattle.std.specs.Prelude.{ℕ, ℤ, List, [], ◌∷◌, ◌++◌, Option, Some, None}
+use Rattle.std.specs.Prelude.{ℕ, ℤ, pos, List, [], ◌∷◌, ◌++◌, Option, Some, None}
+use Rattle.sz_types.specs.declared.place.Place.{Place}
 use Rattle.sz_value.specs.Data.{Datum, int, time}
 use Rattle.sz_tabs.specs.Data.{EmitDatum}
 use Rattle.sz_world_rules.specs.World.{World}
@@ -55,7 +56,17 @@ weight_if_all (Some ds) = weight_of_all ds
 abbrev pub emit_weight : EmitParts → ℕ
 emit_weight parts = weight_if_all (all_defined (slots_of parts))
 
--- the world with one emit more, if there is one: what is emitted with an undefined part is ignored
+-- the emit that counts the line of a place of the text, to a table of lines
+abbrev pub line_emit : ℕ → Place → EmitDatum
+line_emit table place = record { table = table; indexes = int (pos place.line) ∷ []; value = int (pos 1); weight = None }
+
+-- what is emitted at a place: the emit, if there is one, else the one that counts the line, where there is a table of lines
+abbrev pub emit_or_line : Option EmitDatum → Option ℕ → Place → Option EmitDatum
+emit_or_line (Some e) counting place = Some e
+emit_or_line None None place = None
+emit_or_line None (Some table) place = Some (line_emit table place)
+
+-- the world with one emit more, if there is one
 abbrev pub with_emit : Option EmitDatum → World → World
 with_emit None w = w
 with_emit (Some e) w = record w { emits = w.emits ++ e ∷ [] }

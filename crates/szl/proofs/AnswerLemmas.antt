@@ -7,6 +7,8 @@ use Rattle.sz_io.specs.Rose.{Rose}
 use Rattle.sz_io.specs.declared.files.Files as files
 use Rattle.sz_tree.specs.Statements.{Stms}
 use Rattle.sz_core.specs.Programs.{Core}
+use Rattle.sz_mean.specs.Marked.{Marked}
+use Rattle.szl.specs.Reserved.{runnable}
 use Rattle.sz_world_rules.specs.World.{Fault, Done}
 use Rattle.sz_world_rules.specs.Slots.{Slot}
 use Rattle.sz_mean.specs.Programs.{statics}
@@ -99,7 +101,7 @@ module _ (job : Job) where
       ∙ ap (λ o. if is_lost job s then lost s.number else then_shards (shard_means job s) o) (same_outcome twice shards)
 
 -- the outcome of shards opens two files, and is no bad command line
-opens_two : (program : Core) (ending : Ending) (o : ShardsEnd) → ((k : ℕ) (f : Fault) → o ≡ faulted k f → 1 ≤ k)
+opens_two : (program : Marked) (ending : Ending) (o : ShardsEnd) → ((k : ℕ) (f : Fault) → o ≡ faulted k f → 1 ≤ k)
     → (outcome_of_shards program ending o).opens ≡ 2
 opens_two program Whole (emitted es) numbered = refl
 opens_two program (Damaged byte) (emitted es) numbered = refl
@@ -108,7 +110,7 @@ opens_two program ending (faulted zero f) numbered = let le = numbered 0 f refl 
 opens_two program ending (faulted (suc k) f) numbered = refl
 opens_two program ending (lost n) numbered = refl
 
-pub no_usage : (program : Core) (ending : Ending) (o : ShardsEnd) → (outcome_of_shards program ending o).status ≢ status.Usage
+pub no_usage : (program : Marked) (ending : Ending) (o : ShardsEnd) → (outcome_of_shards program ending o).status ≢ status.Usage
 no_usage program Whole (emitted es) = λ e. cc
 no_usage program (Damaged byte) (emitted es) = λ e. cc
 no_usage program (Limit byte) (emitted es) = λ e. cc
@@ -116,8 +118,8 @@ no_usage program ending (faulted k f) = λ e. cc
 no_usage program ending (lost n) = λ e. cc
 
 -- what was compiled makes a job, with its statics, within the bounds of settings
-pub is_job : (program : Core) (slots : List Slot) (s : RunSettings) (job : Job) → IsJobOf program slots s job → IsSound program
-    → AllFit slots (static_types program) → HasBounds s → IsJob job
+pub is_job : (program : Marked) (slots : List Slot) (s : RunSettings) (job : Job) → IsJobOf program slots s job → IsSound program.core
+    → AllFit slots (static_types program.core) → HasBounds s → IsJob job
 is_job program slots s job is sound fit bounds =
     subst IsJob (sym is.same)
     (record { sound = sound; statics = fit; budget = record { least = bounds.least_budget; most = bounds.most_budget } })
@@ -172,7 +174,7 @@ module _ {F : Type 0} (the_files : files.Ghosts F) (frame : Frame) (name : List 
   no_code outcome_on = answers_unopened outcome_on failure.NoMemory (λ e. cc) (λ cut read memory. absurd (memory refl)) (λ cut. tt)
 
   -- a static faults
-  pub static_fails : (program : Core) (s : RunSettings) (f : Failure) → GivesStatics program s.budget (Err f)
+  pub static_fails : (program : Marked) (s : RunSettings) (f : Failure) → GivesStatics program s.budget (Err f)
       → AnswersOn the_files frame (outcome_of_program program s) name old old (Err f)
   static_fails program s (failure.Faulted n f) h =
       answers_unopened _ (failure.Faulted n f) (λ e. cc)
@@ -188,7 +190,7 @@ module _ {F : Type 0} (the_files : files.Ghosts F) (frame : Frame) (name : List 
   static_fails program s failure.WriteFailed h = absurd h
 
 -- the statics are these
-module _ (program : Core) (s : RunSettings) (slots : List Slot) (begun : statics program s.budget ≡ Done slots) where
+module _ (program : Marked) (s : RunSettings) (slots : List Slot) (begun : statics program s.budget ≡ Done slots) where
   abbrev of_cut : Cut → ShardsEnd
   of_cut cut = outcome_of (job_of program slots s) (shards_in s.shard cut.records)
 
@@ -209,7 +211,7 @@ module _ (program : Core) (s : RunSettings) (slots : List Slot) (begun : statics
       ∙ ap (outcome_of_shards program cut.ending) (same_outcome (job_of program slots s) job.twice (shards_in s.shard cut.records))
       ∙ sym (on_shards cut)
 
-module _ {F : Type 0} (the_files : files.Ghosts F) (old new : F) (program : Core) (s : RunSettings) (slots : List Slot)
+module _ {F : Type 0} (the_files : files.Ghosts F) (old new : F) (program : Marked) (s : RunSettings) (slots : List Slot)
     (begun : statics program s.budget ≡ Done slots) where
   -- the program was run over the input, or that couldn't be read
   pub input_run : (answer : Result (List ℕ) Failure) (job : Job) → IsJobOf program slots s job → GivesFile the_files job s old new answer
@@ -226,8 +228,8 @@ module _ {F : Type 0} (the_files : files.Ghosts F) (old new : F) (program : Core
   }
 
 -- the outcome of running the text that spells a program is the program's
-pub program_answers : {F : Type 0} (the_files : files.Ghosts F) (s : RunSettings) (text : List ℕ) (old new : F) (ss : Stms) (p : Core)
-    (answer : Result (List ℕ) Failure) → IsShort text → HasStatements text ss → checked ss ≡ Ok p
+pub program_answers : {F : Type 0} (the_files : files.Ghosts F) (s : RunSettings) (text : List ℕ) (old new : F) (ss : Stms) (p : Marked)
+    (answer : Result (List ℕ) Failure) → IsShort text → HasStatements text ss → runnable s.ignore_undefs ss ≡ Ok p
     → AnswersOn the_files s.frame (outcome_of_program p s) s.input old new answer → AnswersText the_files s text old new answer
 program_answers the_files s text old new ss p answer short has is a = record {
   reading = spells ss;
@@ -269,7 +271,7 @@ module _ {F : Type 0} (the_files : files.Ghosts F) (s : RunSettings) (text : Lis
   text_refused failure.WriteFailed h = absurd h
 
   -- the text's statements are refused
-  pub statements_refused : (ss : Stms) (f : Failure) → IsShort text → HasStatements text ss → IsFailureOn (checked ss) f
+  pub statements_refused : (ss : Stms) (f : Failure) → IsShort text → HasStatements text ss → IsFailureOn (runnable s.ignore_undefs ss) f
       → AnswersText the_files s text old old (Err f)
   statements_refused ss (failure.Refused r) short has h = record {
     reading = spells ss;

@@ -3,7 +3,7 @@ use Rattle.std.proofs.Common.{◌≡◌, ◌≤◌, ℕ, List, [], sym, ap, ◌�
 use Rattle.std.specs.Prelude.{Option, Some, None, Result, Ok, Err, IfSome, IsSome, unwrap_or}
 use Rattle.std.specs.Io.KnownBytes.{Consumes, IsAtEnd}
 use Rattle.sz_types.specs.declared.frame.Frame.{Frame}
-use Rattle.sz_core.specs.Programs.{tables_of}
+use Rattle.sz_mean.specs.Marked.{all_tables}
 use Rattle.sz_tabs.specs.Data.{EmitDatum}
 use Rattle.sz_total.specs.States.{TotalState, declarations, emit_count, shown}
 use Rattle.sz_total.specs.Totals.{StandsFor}
@@ -60,7 +60,7 @@ module _ (job : Job) (most : ℕ) (frame : Frame) (input : List ℕ) (rose : Typ
           is_cut = c.is_cut;
           decides =
               ap (outcome_of_shards job.compiled c.cut.ending) h.1.1
-              ∙ ap (λ e. outcome_of_ending e (tables_text (tables_of job.compiled.items) h.1.0)) h.0;
+              ∙ ap (λ e. outcome_of_ending e (tables_text (all_tables job.compiled) h.1.0)) h.0;
         }
     input_stops (stops.Limit b) runs failed =
         let c = cut_of frame input in
@@ -70,19 +70,19 @@ module _ (job : Job) (most : ℕ) (frame : Frame) (input : List ℕ) (rose : Typ
           is_cut = c.is_cut;
           decides =
               ap (outcome_of_shards job.compiled c.cut.ending) h.1.1
-              ∙ ap (λ e. outcome_of_ending e (tables_text (tables_of job.compiled.items) h.1.0)) h.0;
+              ∙ ap (λ e. outcome_of_ending e (tables_text (all_tables job.compiled) h.1.0)) h.0;
         }
     input_stops stops.ReadFailed runs failed = read_fails (failed refl)
     input_stops stops.NoMemory runs failed = no_memory_at_all
 
     module _ (total : TotalState) (runs : RunsInput job most frame input (Ok total)) where
       -- the tables are those of the program
-      pub tables_declared : total.tables ≡ tables_of job.compiled.items
+      pub tables_declared : total.tables ≡ all_tables job.compiled
       tables_declared = let c = cut_of frame input in let h = ends_so (Ok total) runs c.cut c.is_cut in h.1.2.tables
 
       -- all records are whole, and the text is that of all emits
       pub input_ends : (text : List ℕ)
-          → ((emits : List EmitDatum) → StandsFor declarations emit_count shown total emits → text ≡ tables_text (tables_of job.compiled.items) emits)
+          → ((emits : List EmitDatum) → StandsFor declarations emit_count shown total emits → text ≡ tables_text (all_tables job.compiled) emits)
           → GivesTables job most frame input rose (Ok text)
       input_ends text told =
           let c = cut_of frame input in
@@ -92,7 +92,7 @@ module _ (job : Job) (most : ℕ) (frame : Frame) (input : List ℕ) (rose : Typ
             is_cut = c.is_cut;
             decides =
                 ap (outcome_of_shards job.compiled c.cut.ending) h.1.1
-                ∙ ap (λ e. outcome_of_ending e (tables_text (tables_of job.compiled.items) h.1.0)) h.0
+                ∙ ap (λ e. outcome_of_ending e (tables_text (all_tables job.compiled) h.1.0)) h.0
                 ∙ ap success (sym (told h.1.0 h.1.2.stands));
           }
 
@@ -147,12 +147,12 @@ module _ (job : Job) (most : ℕ) (frame : Frame) (before after : Option (List �
     file_stops (stops.Limit b) r failed = by_read (stops.Limit b) r failed
 
     module _ (total : TotalState) (r : RunsFile job most frame before after (Ok total)) where
-      pub file_declared : total.tables ≡ tables_of job.compiled.items
+      pub file_declared : total.tables ≡ all_tables job.compiled
       file_declared =
           let p = picks before after r.read r.over r.consumed r.at_end in tables_declared job most frame p.input rose low total (r.runs p.input p.on)
 
       pub file_ends : (text : List ℕ)
-          → ((emits : List EmitDatum) → StandsFor declarations emit_count shown total emits → text ≡ tables_text (tables_of job.compiled.items) emits)
+          → ((emits : List EmitDatum) → StandsFor declarations emit_count shown total emits → text ≡ tables_text (all_tables job.compiled) emits)
           → GivesRead job most frame before rose (Ok text)
       file_ends text told =
           let p = picks before after r.read r.over r.consumed r.at_end in

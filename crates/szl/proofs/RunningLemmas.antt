@@ -1,10 +1,10 @@
 -- How the statics of a program are run.
 use Rattle.std.proofs.Common.{◌≡◌, ℕ, ◌^◌, ◌≤◌, List, sym, ap, ◌∙◌}
-use Rattle.sz_core.specs.Programs.{Core}
 use Rattle.sz_instr.specs.declared.code.Code.{Code}
 use Rattle.sz_world_rules.specs.World.{Outcome}
 use Rattle.sz_world_rules.specs.Slots.{Slot}
 use Rattle.sz_world_rules.specs.Typed.{AllFit}
+use Rattle.sz_mean.specs.Marked.{Marked}
 use Rattle.sz_mean.specs.Programs.{statics}
 use Rattle.sz_machine_rules.specs.Runs.{StaticsRunTo}
 use Rattle.sz_value.specs.declared.slots.Slots.{Slots}
@@ -15,7 +15,7 @@ use Rattle.sz_gen_rules.specs.Simulates.{static_types}
 use Rattle.sz_gen_rules.specs.Compiled.{IsCompiled}
 
 -- what the code does is what the program means
-module _ (program : Core) (code : Code) (compiled : IsCompiled program code) (budget : ℕ) (least : 1 ≤ budget) (most : budget ≤ 2 ^ 32) where
+module _ (program : Marked) (code : Code) (compiled : IsCompiled program code) (budget : ℕ) (least : 1 ≤ budget) (most : budget ≤ 2 ^ 32) where
   pub statics_run : StaticsRunTo code budget (statics program budget)
   statics_run = compiled.simulates.statics_end budget (record { least = least; most = most })
 
@@ -24,6 +24,6 @@ module _ (program : Core) (code : Code) (compiled : IsCompiled program code) (bu
 
   -- the statics that come of the run have their types
   pub statics_have_types : (end : StaticsEnd) (slots : Slots) → ((o : Outcome (List Slot)) → StaticsRunTo code budget o → seen_statics_end end ≡ o)
-      → end ≡ statics_ends.Done slots → AllFit slots (static_types program)
+      → end ≡ statics_ends.Done slots → AllFit slots (static_types program.core)
   statics_have_types end slots runs is =
       compiled.statics_fit budget slots (sym (sym (ap seen_statics_end is) ∙ runs (statics program budget) statics_run))

@@ -6,7 +6,8 @@ use Rattle.sz_io.specs.declared.files.Files as files
 use Rattle.sz_feed.specs.Feed.{file_of}
 use Rattle.sz_feed.specs.Program.{program_text}
 use Rattle.sz_tree.specs.Statements.{Stms}
-use Rattle.sz_core.specs.Programs.{Core}
+use Rattle.sz_mean.specs.Marked.{Marked}
+use Rattle.szl.specs.Reserved.{runnable}
 use Rattle.sz_world_rules.specs.World.{Done}
 use Rattle.sz_world_rules.specs.Slots.{Slot}
 use Rattle.sz_mean.specs.Programs.{statics}
@@ -16,7 +17,6 @@ use Rattle.sz_words.specs.declared.settings.Settings.TheVariants.{Selftest}
 use Rattle.sz_attempt.specs.declared.job.Job.{Job}
 use Rattle.szl.specs.declared.failure.Failure.{Failure}
 use Rattle.szl.specs.declared.failure.Failure.TheVariants as failure
-use Rattle.szl.specs.Checking.{checked}
 use Rattle.szl.specs.Judgement.{IsShort, HasStatements, most_program_bytes, refused, spells}
 use Rattle.szl.specs.Judging.{IsFailureOf, IsFailureOn}
 use Rattle.szl.specs.Opening.{Decides, Answers, AnswersOver, AnswersTextOver, status_of_answer}
@@ -46,7 +46,7 @@ has_bounds workers within = record {
   most_attempts = omega arith;
 }
 
-module _ (program : Core) (s : RunSettings) (input : List ℕ) where
+module _ (program : Marked) (s : RunSettings) (input : List ℕ) where
   -- there was no memory
   pub no_memory_over : AnswersOver program s input (Err failure.NoMemory)
   no_memory_over = let c = cut_of s.frame input in record { cut = c.cut; is_cut = c.is_cut; decides = tt }
@@ -104,7 +104,7 @@ module _ (s : RunSettings) (text input : List ℕ) where
 
   module _ (ss : Stms) (short : IsShort text) (has : HasStatements text ss) where
     -- its statements are refused
-    pub statements_refused_over : (f : Failure) → IsFailureOn (checked ss) f → AnswersTextOver s text input (Err f)
+    pub statements_refused_over : (f : Failure) → IsFailureOn (runnable s.ignore_undefs ss) f → AnswersTextOver s text input (Err f)
     statements_refused_over (failure.Refused r) h = let c = cut_of s.frame input in record {
       reading = spells ss;
       read = (short, has);
@@ -122,7 +122,7 @@ module _ (s : RunSettings) (text input : List ℕ) where
     statements_refused_over failure.WriteFailed h = absurd h
 
     -- they are a program, which was run
-    pub program_over : (p : Core) → checked ss ≡ Ok p → (answer : Result (List ℕ) Failure) → AnswersOver p s input answer
+    pub program_over : (p : Marked) → runnable s.ignore_undefs ss ≡ Ok p → (answer : Result (List ℕ) Failure) → AnswersOver p s input answer
         → AnswersTextOver s text input answer
     program_over p is answer a = record {
       reading = spells ss;

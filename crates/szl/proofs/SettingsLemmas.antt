@@ -11,6 +11,8 @@ use Rattle.sz_io.specs.Calls.{NamesGain, OpensOne, ReadToEnd}
 use Rattle.sz_io.proofs.ForCallers.{rose_later}
 use Rattle.sz_io.specs.declared.files.Files as files
 use Rattle.sz_core.specs.Programs.{Core}
+use Rattle.sz_mean.specs.Marked.{Marked}
+use Rattle.szl.specs.Reserved.{runnable}
 use Rattle.sz_world_rules.specs.World.{Done, Faulted}
 use Rattle.sz_world_rules.specs.World as world
 use Rattle.sz_world_rules.specs.Slots.{Slot}
@@ -51,7 +53,7 @@ record IsAnswered (a : Answer) : Type 0 where
   opens : 1 ≤ a.opens
   other : a.status ≢ status.Usage
 
-answered_shards : (program : Core) (ending : Ending) (o : ShardsEnd) → IsAnswered (outcome_of_shards program ending o)
+answered_shards : (program : Marked) (ending : Ending) (o : ShardsEnd) → IsAnswered (outcome_of_shards program ending o)
 answered_shards program Whole (emitted es) = record { opens = omega arith; other = λ e. cc }
 answered_shards program (Damaged b) (emitted es) = record { opens = omega arith; other = λ e. cc }
 answered_shards program (Limit b) (emitted es) = record { opens = omega arith; other = λ e. cc }
@@ -59,7 +61,7 @@ answered_shards program ending (faulted zero f) = record { opens = omega arith; 
 answered_shards program ending (faulted (suc k) f) = record { opens = omega arith; other = λ e. cc }
 answered_shards program ending (lost n) = record { opens = omega arith; other = λ e. cc }
 
-answered_statics : (program : Core) (s : RunSettings) (cut : Cut) (o : world.Outcome (List Slot)) → IsAnswered (outcome_of_statics program s cut o)
+answered_statics : (program : Marked) (s : RunSettings) (cut : Cut) (o : world.Outcome (List Slot)) → IsAnswered (outcome_of_statics program s cut o)
 answered_statics program s cut (Faulted f) = record { opens = omega arith; other = λ e. cc }
 answered_statics program s cut (Done slots) =
     answered_shards program cut.ending (outcome_of (job_of program slots s) (shards_in s.shard cut.records))
@@ -67,13 +69,13 @@ answered_statics program s cut (Done slots) =
 answered_refused : (r : Refusal) → IsAnswered (outcome_refused r)
 answered_refused r = record { opens = omega arith; other = λ e. cc }
 
-answered_checked_run : (s : RunSettings) (cut : Cut) (found : Result Core Refusal) → IsAnswered (outcome_of_checked_run s cut found)
+answered_checked_run : (s : RunSettings) (cut : Cut) (found : Result Marked Refusal) → IsAnswered (outcome_of_checked_run s cut found)
 answered_checked_run s cut (Ok p) = answered_statics p s cut (statics p s.budget)
 answered_checked_run s cut (Err r) = answered_refused r
 
 answered_run : (s : RunSettings) (cut : Cut) (reading : Reading) → IsAnswered (outcome_of_run s cut reading)
 answered_run s cut (readings.refused r) = answered_refused r
-answered_run s cut (spells ss) = answered_checked_run s cut (checked ss)
+answered_run s cut (spells ss) = answered_checked_run s cut (runnable s.ignore_undefs ss)
 
 answered_checked : (found : Result Core Refusal) → IsAnswered (outcome_of_checked found)
 answered_checked (Ok p) = record { opens = omega arith; other = λ e. cc }

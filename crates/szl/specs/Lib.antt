@@ -4,6 +4,7 @@ pub mod Records
 pub mod Shards
 pub mod Judgement
 pub mod Checking
+pub mod Reserved
 pub mod Outcome
 pub mod Promise
 -- what the functions inside the crate promise each other

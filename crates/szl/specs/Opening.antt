@@ -9,7 +9,7 @@ use Rattle.szl.specs.declared.failure.Failure.TheVariants.{Usage, Refused, Fault
 use Rattle.szl.specs.declared.refusal.Cause.TheVariants.{TooLong}
 use Rattle.sz_lex.specs.Tokens.{first_place}
 use Rattle.sz_types.specs.declared.frame.Frame.{Frame}
-use Rattle.sz_core.specs.Programs.{Core}
+use Rattle.sz_mean.specs.Marked.{Marked}
 use Rattle.sz_machine.specs.Ends.{seen_fault}
 use Rattle.sz_words.specs.declared.settings.RunSettings.{RunSettings}
 use Rattle.sz_words.specs.declared.settings.Settings.{Settings}
@@ -102,7 +102,7 @@ pub record AnswersCheck (text : List ℕ) (answer : Result (List ℕ) Failure) :
   pub decides : Decides answer (outcome_of_check reading) ⊥
 
 -- the answer is that of running the program over these bytes, as these settings ask for it
-pub record AnswersOver (program : Core) (s : RunSettings) (input : List ℕ) (answer : Result (List ℕ) Failure) : Type 0 where
+pub record AnswersOver (program : Marked) (s : RunSettings) (input : List ℕ) (answer : Result (List ℕ) Failure) : Type 0 where
   pub cut : Cut
   pub is_cut : IsCutInto s.frame input cut
   pub decides : Decides answer (outcome_of_program program s cut) ⊥

@@ -2,10 +2,11 @@
 use Rattle.std.specs.Prelude.{ℕ, zero, suc, List, [], ◌∷◌, ◌++◌, slice_index_or, Option, Some, None, Result, Ok, Err, codes}
 use Rattle.std.specs.Fmt.{decimal}
 use Rattle.sz_types.specs.declared.place.Place.{Place}
-use Rattle.sz_core.specs.Programs.{Core, tables_of}
+use Rattle.sz_core.specs.Programs.{Core}
 use Rattle.sz_world_rules.specs.World.{Fault, Done, Faulted}
 use Rattle.sz_world_rules.specs.World as world
 use Rattle.sz_world_rules.specs.Slots.{Slot}
+use Rattle.sz_mean.specs.Marked.{Marked, all_tables}
 use Rattle.sz_mean.specs.Programs.{statics}
 use Rattle.sz_print.specs.Tables.{tables_text}
 use Rattle.sz_records.specs.declared.ending.Ending.{Ending}
@@ -20,10 +21,11 @@ use Rattle.szl.specs.declared.status.Status.TheVariants as status
 use Rattle.szl.specs.declared.refusal.Cause.{Cause}
 use Rattle.szl.specs.declared.refusal.Cause.TheVariants.{BadChar, BadLiteral, NotUtf8, TooLong, Syntax, UnknownName, Redeclared, WrongKind, WrongType, NoType, NoField}
 use Rattle.szl.specs.declared.refusal.Cause.TheVariants.{WrongCount, WrongWeight, NotAssignable, Misplaced, LeftOut, BadTable, BadProto, Unbounded, QuantOrder, TooMany}
-use Rattle.szl.specs.declared.refusal.Cause.TheVariants.{EmitHere}
+use Rattle.szl.specs.declared.refusal.Cause.TheVariants.{EmitHere, ReservedName}
 use Rattle.szl.specs.declared.refusal.Refusal.{Refusal}
 use Rattle.szl.specs.Judgement.{Reading, refused, spells}
 use Rattle.szl.specs.Checking.{checked}
+use Rattle.szl.specs.Reserved.{runnable}
 use Rattle.szl.specs.Settings.{selftest_run}
 use Rattle.szl.specs.Records.{Cut}
 use Rattle.szl.specs.Shards.{shards_in, job_of}
@@ -103,19 +105,19 @@ abbrev pub outcome_lost : ℕ → Answer
 outcome_lost shard = refusal status.ShardLost (lost_line shard) 2
 
 -- the answer to what comes of the shards: the first that faults or is lost decides, and then how the records end
-abbrev pub outcome_of_shards : Core → Ending → ShardsEnd → Answer
-outcome_of_shards program ending (emitted emits) = outcome_of_ending ending (tables_text (tables_of program.items) emits)
+abbrev pub outcome_of_shards : Marked → Ending → ShardsEnd → Answer
+outcome_of_shards program ending (emitted emits) = outcome_of_ending ending (tables_text (all_tables program) emits)
 outcome_of_shards program ending (faulted number fault) = outcome_faulted number fault
 outcome_of_shards program ending (lost shard) = outcome_lost shard
 
 -- the answer to what the statics are: a fault in one decides, and then the shards of the records, with these statics
-abbrev pub outcome_of_statics : Core → RunSettings → Cut → world.Outcome (List Slot) → Answer
+abbrev pub outcome_of_statics : Marked → RunSettings → Cut → world.Outcome (List Slot) → Answer
 outcome_of_statics program s cut (Faulted fault) = outcome_faulted 0 fault
 outcome_of_statics program s cut (Done slots) =
     outcome_of_shards program cut.ending (outcome_of (job_of program slots s) (shards_in s.shard cut.records))
 
 -- the outcome of a program over an input, which is cut into records so. Neither the number of workers nor a doubled shard plays a part
-abbrev pub outcome_of_program : Core → RunSettings → Cut → Answer
+abbrev pub outcome_of_program : Marked → RunSettings → Cut → Answer
 outcome_of_program program s cut = outcome_of_statics program s cut (statics program s.budget)
 
 -- the text of a cause
@@ -142,6 +144,7 @@ cause_text Unbounded = codes "unbounded variable"
 cause_text QuantOrder = codes "all must come last"
 cause_text TooMany = codes "too many tables"
 cause_text EmitHere = codes "emit not allowed here"
+cause_text ReservedName = codes "reserved name: _undefs"
 
 -- the name of a refusal after the text of its cause, if it has one
 abbrev pub name_text : Option (List ℕ) → List ℕ
@@ -156,15 +159,15 @@ refusal_line r = codes "program: " ++ (cause_text r.cause ++ (name_text r.name +
 abbrev pub outcome_refused : Refusal → Answer
 outcome_refused r = refusal status.Program (refusal_line r) 1
 
--- the outcome of running a program that was checked, over an input that is cut so
-abbrev pub outcome_of_checked_run : RunSettings → Cut → Result Core Refusal → Answer
+-- the outcome of running a program that can be run, over an input that is cut so
+abbrev pub outcome_of_checked_run : RunSettings → Cut → Result Marked Refusal → Answer
 outcome_of_checked_run s cut (Ok program) = outcome_of_program program s cut
 outcome_of_checked_run s cut (Err r) = outcome_refused r
 
 -- the outcome of running what was read
 abbrev pub outcome_of_run : RunSettings → Cut → Reading → Answer
 outcome_of_run s cut (refused r) = outcome_refused r
-outcome_of_run s cut (spells statements) = outcome_of_checked_run s cut (checked statements)
+outcome_of_run s cut (spells statements) = outcome_of_checked_run s cut (runnable s.ignore_undefs statements)
 
 -- the outcome of checking
 abbrev pub outcome_of_checked : Result Core Refusal → Answer

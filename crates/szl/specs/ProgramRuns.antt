@@ -5,9 +5,9 @@ use Rattle.sz_io.specs.declared.files.Files as files
 use Rattle.sz_io.specs.declared.error.OutsideError.{OutsideError}
 use Rattle.sz_io.specs.declared.error.OutsideError.TheVariants as outside
 use Rattle.sz_types.specs.declared.frame.Frame.{Frame}
-use Rattle.sz_core.specs.Programs.{Core}
 use Rattle.sz_world_rules.specs.World.{Done, Faulted}
 use Rattle.sz_world_rules.specs.Slots.{Slot}
+use Rattle.sz_mean.specs.Marked.{Marked}
 use Rattle.sz_mean.specs.Programs.{statics}
 use Rattle.sz_machine.specs.Ends.{seen_fault}
 use Rattle.sz_words.specs.declared.settings.RunSettings.{RunSettings}
@@ -29,7 +29,7 @@ vec_items_of (Ok bytes) = Ok bytes.items
 vec_items_of (Err failure) = Err failure
 
 -- the statics that a program means, or the fault in one, which is that of record 0; or want of memory
-abbrev pub GivesStatics : Core → ℕ → Result (List Slot) Failure → Type 0
+abbrev pub GivesStatics : Marked → ℕ → Result (List Slot) Failure → Type 0
 GivesStatics program budget (Ok slots) = statics program budget ≡ Done slots
 GivesStatics program budget (Err (failure.Faulted number fault)) = (number ≡ 0) × (statics program budget ≡ Faulted (seen_fault fault))
 GivesStatics program budget (Err failure.NoMemory) = ⊤
@@ -63,5 +63,5 @@ pub record GivesFile {F : Type 0} (the_files : files.Ghosts F) (job : Job) (s : 
   pub opened : OpensFiles the_files old new (s.input ∷ []) 1 (status_of_answer answer)
 
 -- the job is what the outcome knows of the run, with some shards doubled
-pub record IsJobOf (program : Core) (slots : List Slot) (s : RunSettings) (job : Job) : Type 0 where
+pub record IsJobOf (program : Marked) (slots : List Slot) (s : RunSettings) (job : Job) : Type 0 where
   pub same : job ≡ record (job_of program slots s) { twice = job.twice }

@@ -1,5 +1,5 @@
 -- What a command line asks for: how its input is cut, and what a self test asks of its run.
-use Rattle.std.specs.Prelude.{ℕ, ◌^◌, [], Option, Some}
+use Rattle.std.specs.Prelude.{ℕ, ◌^◌, [], false, Option, Some}
 use Rattle.sz_types.specs.declared.frame.Frame.{Frame}
 use Rattle.sz_types.specs.declared.frame.Frame.TheVariants.{Lines, Delimited}
 use Rattle.sz_words.specs.declared.settings.RunSettings.{RunSettings}
@@ -25,4 +25,5 @@ selftest_run workers = record {
   budget = 2 ^ 24;
   kills = [];
   twice = [];
+  ignore_undefs = false;
 }

@@ -1,6 +1,6 @@
 -- The shards of an input, and what the attempts of a run have in common.
 use Rattle.std.specs.Prelude.{ℕ, zero, suc, ◌+◌, ◌^◌, ◌≤◌, List, [], ◌∷◌, length, nat_le, ◌||◌, if◌then◌else◌}
-use Rattle.sz_core.specs.Programs.{Core}
+use Rattle.sz_mean.specs.Marked.{Marked}
 use Rattle.sz_world_rules.specs.Slots.{Slot}
 use Rattle.sz_records.specs.Shards.{AreShards}
 use Rattle.sz_words.specs.declared.settings.RunSettings.{RunSettings}
@@ -36,6 +36,6 @@ SizesAreShards = (most : ℕ) (records : List (List ℕ)) → 1 ≤ most → Are
 
 -- What an outcome knows of a run: the program with its statics, the budget, the number of attempts, and which of them die. Which shards
 -- are doubled makes no outcome another, so that none is here
-abbrev pub job_of : Core → List Slot → RunSettings → Job
+abbrev pub job_of : Marked → List Slot → RunSettings → Job
 job_of program slots s =
     record { compiled = program; statics = slots; budget = s.budget; attempts = s.attempts; kills = s.kills; twice = [] }

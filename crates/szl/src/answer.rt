@@ -4,6 +4,7 @@ ghost use Rattle.sz_io.specs.Rose.{Rose};
 ghost use Rattle.sz_io.specs.Opened.{KeepsFiles};
 ghost use Rattle.sz_io.specs.Calls.{NamesGain, OpensOne, ReadToEnd};
 ghost use Rattle.sz_core.specs.Sound.{IsSound};
+ghost use Rattle.sz_mean.specs.Marked.{marked};
 ghost use Rattle.sz_words.specs.declared.settings.Settings.TheVariants.{Run, Check};
 ghost use Rattle.sz_words.specs.Settings.{settings_in};
 ghost use Rattle.szl.specs.Opening.{ReadsText, ran_out, past_program, status_of_answer, Answers, AnswersOn, AnswersText, AnswersCheck};
@@ -18,6 +19,7 @@ use crate::judge::{checked, tree_in};
 use crate::opening::read_text;
 use crate::program_run::{job_of, statics_of, tables_of_file};
 use crate::refusal::Cause;
+use crate::reserved::runnable;
 use crate::selftest::answer_selftest;
 use std::alloc::Global;
 use std::sync::Wait;
@@ -152,7 +154,7 @@ fn answer_text<R: Threads + Wait + Sync, F: Files, G: Gate + Sync>(
     ensures kept { KeepsFiles F.held F.left F.given F.faults files.old files.new }
 {
     let tree = tree_in(alloc, text)?;
-    let program = checked(alloc, &tree)?;
+    let program = runnable(alloc, &tree, settings.ignore_undefs)?;
     answer_program(rt, alloc, program, settings, files, gate)
 }
 
@@ -168,13 +170,13 @@ fn answer_program<R: Threads + Wait + Sync, F: Files, G: Gate + Sync>(
     requires sound { IsSound program }
     requires few { length (F.names files.old) < 128 }
     requires bounds { HasBounds settings.now }
-    ensures value { AnswersOn F.Files settings.now.frame (outcome_of_program program settings.now) settings.now.input
+    ensures value { AnswersOn F.Files settings.now.frame (outcome_of_program (marked program settings.now.ignore_undefs) settings.now) settings.now.input
         files.old files.new (vec_items_of result) }
     ensures end { OnOk result (ReadToEnd F.Files files.old files.new settings.now.input) }
     ensures names { OnOk result (F.names files.new ≡ F.names files.old ++ settings.now.input ∷ []) }
     ensures kept { KeepsFiles F.held F.left F.given F.faults files.old files.new }
 {
-    let compiled = compile(alloc, program)?;
+    let compiled = compile(alloc, program, settings.ignore_undefs)?;
     let statics = statics_of(alloc, &compiled, settings.budget)?;
     let job = job_of(alloc, compiled, statics, settings)?;
     tables_of_file(rt, alloc, &job, settings, files, gate)

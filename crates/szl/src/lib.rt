@@ -9,6 +9,7 @@ mod lines;
 mod opening;
 mod program_run;
 mod refusal;
+mod reserved;
 mod selftest;
 mod status;
 mod top;

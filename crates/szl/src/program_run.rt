@@ -27,7 +27,7 @@ pub fn statics_of(alloc: Global, compiled: &Compiled, budget: u64) -> Result<Slo
     requires least { 1 ≤ budget }
     requires most { budget ≤ 2 ^ 32 }
     ensures value { GivesStatics compiled.now budget result }
-    ensures fit { IfOk result (λ slots. AllFit slots (static_types compiled.now)) }
+    ensures fit { IfOk result (λ slots. AllFit slots (static_types compiled.now.core)) }
 {
     match run_statics(alloc, compiled.code(), budget)? {
         StaticsEnd::Done(slots) => Ok(slots),

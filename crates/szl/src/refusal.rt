@@ -55,6 +55,8 @@ pub enum Cause {
     TooMany,
     /// At the place something would be emitted where nothing may be.
     EmitHere,
+    /// A table has the name of the table of lines, which the run is to have. No check gives this cause.
+    ReservedName,
 }
 
 /// The causes by their numbers. No refusal has the number 0.
@@ -122,6 +124,7 @@ impl Cause {
             Cause::QuantOrder => "all must come last",
             Cause::TooMany => "too many tables",
             Cause::EmitHere => "emit not allowed here",
+            Cause::ReservedName => "reserved name: _undefs",
         }
     }
 }

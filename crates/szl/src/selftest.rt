@@ -3,14 +3,16 @@ ghost use Rattle.std.specs.Prelude.{◌≡◌, ◌≤◌, IfOk};
 ghost use Rattle.sz_core.specs.Sound.{IsSound};
 ghost use Rattle.sz_feed.specs.Feed.{file_of};
 ghost use Rattle.sz_feed.specs.Program.{program_text};
+ghost use Rattle.sz_mean.specs.Marked.{marked};
 ghost use Rattle.szl.specs.Opening.{AnswersOver, AnswersTextOver};
 ghost use Rattle.szl.specs.ProgramRuns.{vec_items_of};
 ghost use Rattle.sz_words.specs.Bounds.{HasBounds};
 ghost use Rattle.szl.specs.Settings.{selftest_run};
 
 use crate::failure::Failure;
-use crate::judge::{checked, tree_in};
+use crate::judge::tree_in;
 use crate::program_run::{job_of, statics_of, tables_of_bytes};
+use crate::reserved::runnable;
 use std::alloc::{AllocError, Global};
 use std::sync::Wait;
 use std::thread::Threads;
@@ -38,7 +40,7 @@ pub fn answer_selftest<R: Threads + Wait + Sync, G: Gate + Sync>(
     let settings = selftest_run(alloc, workers)?;
     let input = feed(alloc, seed, records)?;
     let tree = tree_in(alloc, program_bytes())?;
-    let program = checked(alloc, &tree)?;
+    let program = runnable(alloc, &tree, settings.ignore_undefs)?;
     answer_over(rt, alloc, program, &settings, &input, gate)
 }
 
@@ -56,6 +58,7 @@ fn selftest_run(alloc: Global, workers: u32) -> Result<RunSettings, AllocError>
         budget: 1 << 24,
         kills: Items::new(alloc),
         twice: Items::new(alloc),
+        ignore_undefs: false,
     })
 }
 
@@ -70,9 +73,9 @@ fn answer_over<R: Threads + Wait + Sync, G: Gate + Sync>(
 ) -> Result<Vec<u8>, Failure>
     requires sound { IsSound program }
     requires bounds { HasBounds settings.now }
-    ensures value { AnswersOver program settings.now input.now (vec_items_of result) }
+    ensures value { AnswersOver (marked program settings.now.ignore_undefs) settings.now input.now (vec_items_of result) }
 {
-    let compiled = compile(alloc, program)?;
+    let compiled = compile(alloc, program, settings.ignore_undefs)?;
     let statics = statics_of(alloc, &compiled, settings.budget)?;
     let job = job_of(alloc, compiled, statics, settings)?;
     tables_of_bytes(rt, alloc, &job, settings, input, gate)

@@ -151,11 +151,18 @@ gen_branch-land-requires-2 t c = record {
   within = stays (stays_landed (starts c.in_ok-over.ensures.at c.in_ok-over.ensures.made) c.land.ensures.made) c.in_ok-gen_stmt-2.ensures.made;
 }
 
+pub gen_branch-land_past-requires : goal.gen_branch-land_past-requires
+gen_branch-land_past-requires t c =
+    let first = stays (stays (starts c.in_ok-skip.ensures.at c.in_ok-skip.ensures.made) c.in_ok-gen_stmt.ensures.made) c.in_ok-over.ensures.made in
+    record {
+      within = stays_landed (stays (stays_landed first c.land.ensures.made) c.in_ok-gen_stmt-2.ensures.made) c.land-2.ensures.made;
+    }
+
 pub gen_branch-returns : goal.gen_branch-returns
 gen_branch-returns t c = record {
   made = branch_made c.args.place c.in_ok-skip.skip c.in_ok-over.over c.in_ok-gen_expr.ensures.made c.in_ok-skip.ensures.at c.in_ok-skip.ensures.made
       c.in_ok-gen_stmt.ensures.made c.in_ok-over.ensures.at c.in_ok-over.ensures.made c.land.ensures.made c.in_ok-gen_stmt-2.ensures.made
-      c.land-2.ensures.made;
+      c.land-2.ensures.made c.land_past.ensures.made;
 }
 
 -- ---- loops
@@ -176,7 +183,7 @@ gen_loop-land-requires-2 t c =
 
 pub gen_loop-returns : goal.gen_loop-returns
 gen_loop-returns t c = record {
-  made = loop_made (λ tables away at. test_code tables c.args.place (node_if_some c.args.test) away at)
+  made = loop_made (λ tables away at. test_code tables c.args.place (node_if_some c.args.test) away away at)
       (λ tables b k at. statement_code tables (stm_of c.args.body.now) (record { on_break = b; on_continue = k; flags = c.args.out.flags }) at)
       c.args.place c.in_ok-entry.entry c.in_ok-past.past c.here-again.result
       c.in_ok-entry.ensures.at c.in_ok-entry.ensures.made c.in_ok-past.ensures.at c.in_ok-past.ensures.made c.here-again.ensures.value
@@ -208,7 +215,7 @@ gen_do_while-land-requires-3 t c =
 
 pub gen_do_while-returns : goal.gen_do_while-returns
 gen_do_while-returns t c = record {
-  made = loop_after_made (λ tables away at. test_code tables c.args.place (Some (node_of c.args.test.now)) away at)
+  made = loop_after_made (λ tables away at. test_code tables c.args.place (Some (node_of c.args.test.now)) away away at)
       (λ tables b k at. statement_code tables (stm_of c.args.body.now) (record { on_break = b; on_continue = k; flags = c.args.out.flags }) at)
       c.args.place c.in_ok-entry.entry c.in_ok-past.past c.in_ok-to_test.to_test c.here-again.result
       c.in_ok-entry.ensures.at c.in_ok-entry.ensures.made c.in_ok-past.ensures.at c.in_ok-past.ensures.made

@@ -1,16 +1,20 @@
--- What the matches ask for is what their parts ask for.
-use Rattle.std.proofs.Common.{◌∙◌, map}
+-- There are no more words without the flag than with it.
+use Rattle.std.proofs.Common.{◌≤◌, map, length, ap, arith}
 use Rattle.std.specs.Prelude.{string_bytes}
-use Rattle.std.proofs.lemmas.Result.{IfErr-weaker, IfOk-weaker}
-use Rattle.sz_words.proofs.MatchLemmas.{line_is}
+use Rattle.std.proofs.lemmas.List.{length-map}
+use Rattle.sz_words.specs.declared.flags.Standing.TheVariants.{Free}
+use Rattle.sz_words.proofs.FlagLemmas.{plain_fewer}
 use Rattle.sz_words.proofs.reading.line_settings.Goals as goal
 
-pub returns-clause-value : goal.returns-clause-value
-returns-clause-value c =
-    let is = line_is c.args.command.now (map string_bytes c.args.words.now) c.in_ok-matches.matches c.in_ok-matches.ensures.value in
-    IfOk-weaker c.command_settings.result _ _ (λ s h. is ∙ h) c.command_settings.ensures.value
-
-pub returns-clause-usage : goal.returns-clause-usage
-returns-clause-usage c =
-    let is = line_is c.args.command.now (map string_bytes c.args.words.now) c.in_ok-matches.matches c.in_ok-matches.ensures.value in
-    IfErr-weaker c.command_settings.result _ _ (λ e h usage. is ∙ h usage) c.command_settings.ensures.usage
+pub overflow_sub-words : goal.overflow_sub-words
+overflow_sub-words c =
+    let words = c.args.words.now in
+    let plain = c.in_ok-plain.plain.items in
+    omega (
+      arith,
+      c.len.ensures,
+      ap length c.in_ok-plain.ensures.value,
+      length-map plain string_bytes,
+      length-map words string_bytes,
+      plain_fewer Free (map string_bytes words),
+    )

@@ -1,5 +1,6 @@
 use Rattle.std.proofs.lemmas.Result.{err_from_is_err_and}
 use Rattle.sz_tree.specs.View.{program_of}
+use Rattle.sz_mean.specs.Marked.{marked}
 use Rattle.szl.specs.ProgramRuns.{vec_items_of}
 use Rattle.szl.proofs.AnswerLemmas.{text_refused, statements_refused, program_answers}
 use Rattle.szl.proofs.answer.answer_text.Goals as goal
@@ -24,5 +25,5 @@ pub returns-clause-value : goal.returns-clause-value
 returns-clause-value g c =
     let s = c.args.settings.now in
     program_answers g.F.Files s c.args.text.now c.args.files.now c.answer_program.new.files (program_of c.in_ok-tree.tree)
-    c.in_ok-program.program (vec_items_of c.answer_program.result) c.requires.short c.in_ok-tree.ensures.found
+    (marked c.in_ok-program.program s.ignore_undefs) (vec_items_of c.answer_program.result) c.requires.short c.in_ok-tree.ensures.found
     c.in_ok-program.ensures.found c.answer_program.ensures.value

@@ -2,6 +2,7 @@ use Rattle.std.proofs.Common.{sym, ap, subst}
 use Rattle.std.proofs.lemmas.Result.{err_from_is_err_and}
 use Rattle.std.specs.Prelude.{Ok, Err, ◌≤◌}
 use Rattle.sz_core.specs.Sound.{IsSound}
+use Rattle.sz_mean.specs.Marked.{Marked, marked}
 use Rattle.sz_attempt.specs.declared.job.Job.{Job}
 use Rattle.szl.specs.ProgramRuns.{GivesStatics, IsJobOf, vec_items_of}
 use Rattle.szl.proofs.AnswerLemmas.{is_job}
@@ -12,7 +13,7 @@ use Rattle.szl.proofs.selftest.answer_over.Goals as goal
 pub returns-in_err-compiled : goal.returns-in_err-compiled
 returns-in_err-compiled g c =
     let p = err_from_is_err_and c.from_residual.result c.from_residual.ensures.1 in
-    record { value = rw (p.1, p.2) (no_memory_over c.args.program c.args.settings.now c.args.input.now) }
+    record { value = rw (p.1, p.2) (no_memory_over (marked c.args.program c.args.settings.now.ignore_undefs) c.args.settings.now c.args.input.now) }
 
 -- a static faults
 pub returns-in_err-statics : goal.returns-in_err-statics
@@ -21,7 +22,7 @@ returns-in_err-statics g c =
     let s = c.args.settings.now in
     let f = c.in_err-statics.field-0.0 in
     record {
-      value = rw (p.1, p.2) (static_fails_over c.args.program s c.args.input.now f
+      value = rw (p.1, p.2) (static_fails_over (marked c.args.program s.ignore_undefs) s c.args.input.now f
           (subst (λ program. GivesStatics program s.budget (Err f)) c.in_ok-compiled.ensures.value c.in_err-statics.ensures.value));
     }
 
@@ -29,13 +30,13 @@ returns-in_err-statics g c =
 pub returns-in_err-job : goal.returns-in_err-job
 returns-in_err-job g c =
     let p = err_from_is_err_and c.from_residual-in_err-job.result c.from_residual-in_err-job.ensures.1 in
-    record { value = rw (p.1, p.2) (no_memory_over c.args.program c.args.settings.now c.args.input.now) }
+    record { value = rw (p.1, p.2) (no_memory_over (marked c.args.program c.args.settings.now.ignore_undefs) c.args.settings.now c.args.input.now) }
 
 -- the job can be run
 pub tables_of_bytes-requires-clause-job : goal.tables_of_bytes-requires-clause-job
 tables_of_bytes-requires-clause-job g c κs within =
     is_job c.in_ok-compiled.compiled c.in_ok-statics.statics c.args.settings.now c.in_ok-job.job c.in_ok-job.ensures.value
-    (subst IsSound (sym c.in_ok-compiled.ensures.value) c.requires.sound) c.in_ok-statics.ensures.fit c.requires.bounds
+    (subst (λ (m : Marked). IsSound m.core) (sym c.in_ok-compiled.ensures.value) c.requires.sound) c.in_ok-statics.ensures.fit c.requires.bounds
 
 pub tables_of_bytes-requires-clause-attempts : goal.tables_of_bytes-requires-clause-attempts
 tables_of_bytes-requires-clause-attempts g c κs within =
@@ -50,4 +51,4 @@ returns g c =
     let job = c.in_ok-job.job in
     let begun = subst (λ program. GivesStatics program s.budget (Ok slots)) c.in_ok-compiled.ensures.value c.in_ok-statics.ensures.value in
     let of = subst (λ program. IsJobOf program slots s job) c.in_ok-compiled.ensures.value c.in_ok-job.ensures.value in
-    record { value = tables_over c.args.program s c.args.input.now slots begun job of (vec_items_of c.tables_of_bytes.result) c.tables_of_bytes.ensures.value }
+    record { value = tables_over (marked c.args.program s.ignore_undefs) s c.args.input.now slots begun job of (vec_items_of c.tables_of_bytes.result) c.tables_of_bytes.ensures.value }

@@ -1,10 +1,13 @@
 use Rattle.std.proofs.Common.{sym, subst}
 use Rattle.std.proofs.lemmas.Result.{err_from_is_err_and}
-use Rattle.std.specs.Prelude.{◌≤◌, length}
+use Rattle.std.specs.Prelude.{◌≡◌, ◌≤◌, length, Ok}
+use Rattle.sz_words.specs.declared.settings.RunSettings.{RunSettings}
+use Rattle.sz_mean.specs.Marked.{marked}
+use Rattle.szl.specs.Reserved.{runnable}
 use Rattle.sz_feed.specs.Feed.{file_of}
 use Rattle.sz_feed.specs.Program.{program_text}
 use Rattle.sz_tree.specs.View.{program_of}
-use Rattle.szl.specs.Judging.{IsFailureOf}
+use Rattle.szl.specs.Judging.{IsFailureOf, IsFailureOn}
 use Rattle.szl.specs.Judgement.{HasStatements, most_program_bytes}
 use Rattle.szl.specs.Opening.{AnswersOver}
 use Rattle.szl.specs.ProgramRuns.{vec_items_of}
@@ -46,7 +49,8 @@ returns-in_err-program g c =
     let has = subst (λ text. HasStatements text ss) c.program_bytes.ensures.value c.in_ok-tree.ensures.found in
     record {
       value = rw (p.1, p.2) (statements_refused_over (selftest_run c.args.workers) program_text (file_of c.args.seed c.args.records) ss is_short has
-          c.in_err-program.field-0.0 c.in_err-program.ensures.refused);
+          c.in_err-program.field-0.0 (subst (λ (s : RunSettings). IsFailureOn (runnable s.ignore_undefs ss) c.in_err-program.field-0.0)
+          c.in_ok-settings.ensures.value c.in_err-program.ensures.refused));
     }
 
 -- the settings have their bounds
@@ -59,11 +63,14 @@ returns g c =
     let ss = program_of c.in_ok-tree.tree in
     let s = selftest_run c.args.workers in
     let answer = vec_items_of c.answer_over.result in
-    let program = c.in_ok-program.program in
+    let core = c.in_ok-program.program in
+    let program = marked core s.ignore_undefs in
     let has = subst (λ text. HasStatements text ss) c.program_bytes.ensures.value c.in_ok-tree.ensures.found in
-    let over = subst (λ s. AnswersOver program s c.deref.result.now answer) c.in_ok-settings.ensures.value c.answer_over.ensures.value in
+    let over = subst (λ (s : RunSettings). AnswersOver (marked core s.ignore_undefs) s c.deref.result.now answer) c.in_ok-settings.ensures.value c.answer_over.ensures.value in
     let all = subst (λ bytes. AnswersOver program s bytes answer) c.deref.ensures.value over in
     record {
-      value = program_over s program_text (file_of c.args.seed c.args.records) ss is_short has program c.in_ok-program.ensures.found answer
+      value = program_over s program_text (file_of c.args.seed c.args.records) ss is_short has program
+          (subst (λ (s : RunSettings). runnable s.ignore_undefs ss ≡ Ok (marked core s.ignore_undefs)) c.in_ok-settings.ensures.value
+          c.in_ok-program.ensures.found) answer
           (subst (λ bytes. AnswersOver program s bytes answer) c.in_ok-input.ensures.value all);
     }
