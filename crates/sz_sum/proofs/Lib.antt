@@ -1,3 +1,3 @@
-mod WidthLemmas
+pub mod WidthLemmas
 mod GrownLemmas
 mod SumLemmas

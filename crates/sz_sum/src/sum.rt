@@ -1,8 +1,9 @@
 //! A sum, and its calls.
-ghost use Rattle.std.specs.Prelude.{◌≡◌, ◌+◌, ◌≤◌, ◌^◌, IsOk, IfOk, IfErr, OnOk};
+ghost use Rattle.std.specs.Prelude.{◌≡◌, ◌+◌, ◌*◌, ◌≤◌, ◌^◌, IsOk, IfOk, IfErr, OnOk};
 ghost use Rattle.sz_types.specs.SeenTables.{seen_table};
 ghost use Rattle.sz_types.specs.declared.table.TableKind.TheVariants as kinds;
 ghost use Rattle.sz_tabs.specs.Aggregating.{IsNew, Joins};
+ghost use Rattle.sz_tabs.specs.Bounds.{AreWithin};
 ghost use Rattle.sz_sum.specs.Data.{rows_of_sum};
 
 use crate::adding::{add_sums, add_value, width_of, zeros};
@@ -104,7 +105,11 @@ impl<'a> Aggregator for Sum<'a> {
         Ok(())
     }
 
-    fn rows(&self) -> Result<Rows, NoMemory> {
+    // As the trait asks; and no sum is further from 0 than so many emits can bring it.
+    fn rows(&self) -> Result<Rows, NoMemory>
+        ensures value { IfOk result (λ rows. rows ≡ rows_of_sum self.now) }
+        ensures within { AreWithin (2 ^ 63 * self.now.count) self.now.numbers }
+    {
         let mut rows = Rows::new(self.alloc);
         if self.count > 0 {
             rows.push(Row {

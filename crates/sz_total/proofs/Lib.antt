@@ -1,6 +1,7 @@
 mod TablesLemmas
 mod ListLemmas
 mod EntryLemmas
+mod BoundedLemmas
 mod JoiningLemmas
 mod TurnLemmas
 mod TypedLemmas

@@ -1,10 +1,11 @@
 -- The aggregator of a table of any kind, as its contracts see it.
-use Rattle.std.specs.Prelude.{◌≡◌, ⊤, ℕ, List}
+use Rattle.std.specs.Prelude.{◌≡◌, ◌*◌, ◌^◌, ⊤, ℕ, List}
 use Rattle.sz_types.specs.Tables.{Declaration}
 use Rattle.sz_types.specs.declared.table.TableKind.{TableKind}
 use Rattle.sz_types.specs.declared.table.TableKind.TheVariants as kinds
 use Rattle.sz_tabs.specs.Data.{RowDatum}
 use Rattle.sz_tabs.specs.Aggregating.{Joins}
+use Rattle.sz_tabs.specs.Bounds.{AreWithin}
 use Rattle.sz_sum.specs.Data.{rows_of_sum}
 use Rattle.sz_extreme.specs.Data.{rows_of_extremes, HasRoomFor as HasExtremeRoomFor}
 use Rattle.sz_members.specs.Data.{rows_of_members, HasRoomFor as HasMembersRoomFor}
@@ -28,6 +29,11 @@ abbrev pub shown_of : Aggregate → List RowDatum
 shown_of (Sum s) = rows_of_sum s
 shown_of (Extreme e) = rows_of_extremes e
 shown_of (Members m) = rows_of_members m
+
+-- a sum is no further from 0 than its emits can bring it
+abbrev pub IsBounded : Aggregate → Type 0
+IsBounded (Sum s) = AreWithin (2 ^ 63 * s.count) s.numbers
+IsBounded _ = ⊤
 
 -- the families of aggregators
 pub data Family : Type 0 where

@@ -12,7 +12,7 @@ use Rattle.sz_tabs.specs.Rows.{compare_indexes, brought_by, rows_of}
 use Rattle.sz_tabs.specs.Sorting.{distinct}
 use Rattle.sz_total.specs.Short.{AreShort}
 use Rattle.sz_total.specs.Tables.{Indexed}
-use Rattle.sz_total.specs.Aggregates.{declaration_of, count_of, shown_of, family_of, family_for}
+use Rattle.sz_total.specs.Aggregates.{declaration_of, count_of, shown_of, IsBounded, family_of, family_for}
 use Rattle.sz_total.specs.declared.aggregate.Aggregate.{Aggregate}
 
 -- aggregators under their index lists
@@ -52,6 +52,10 @@ pub record IsOfTable (table : Declaration) (count : ℕ) (aggregate : Aggregate)
 -- each aggregator is such
 abbrev pub AreOfTable : Declaration → ℕ → Entries → Type 0
 AreOfTable table count entries = All (IsOfTable table count) (values_of entries)
+
+-- each aggregator that is a sum is no further from 0 than its emits can bring it
+abbrev pub AreBounded : Entries → Type 0
+AreBounded entries = All IsBounded (values_of entries)
 
 -- the rows under the emit's index list are those of one emit more, those under others stay, and what was kept to still is
 pub record TakesEmit (table : Declaration) (emit : EmitDatum) (old new : Entries) : Type 0 where

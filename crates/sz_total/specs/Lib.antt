@@ -7,6 +7,7 @@ pub mod Short
 pub mod States
 pub mod Origin
 pub mod Typed
+pub mod Bounded
 -- what the functions inside the crate promise each other
 pub mod Aggregates
 pub mod Entries

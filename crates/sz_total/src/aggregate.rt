@@ -4,7 +4,7 @@ ghost use Rattle.sz_types.specs.SeenTables.{seen_table};
 ghost use Rattle.sz_value.specs.Seen.{seen};
 ghost use Rattle.sz_tabs.specs.Aggregating.{weighted, IsNew, Gains};
 ghost use Rattle.sz_tabs.specs.Fitting.{Fits};
-ghost use Rattle.sz_total.specs.Aggregates.{declaration_of, count_of, shown_of, family_of, family_for, HasRoomFor, ChangesRoomAlone, IsJoined};
+ghost use Rattle.sz_total.specs.Aggregates.{declaration_of, count_of, shown_of, IsBounded, family_of, family_for, HasRoomFor, ChangesRoomAlone, IsJoined};
 ghost use Rattle.sz_total.specs.Weights.{HasItsWeights};
 
 use crate::boxed::BoxedMembers;
@@ -104,6 +104,7 @@ pub(crate) fn merge_into<'a>(aggregate: &mut Aggregate<'a>, other: Aggregate<'a>
 // The rows, in the order in which they are printed.
 pub(crate) fn rows_shown<'a>(aggregate: &Aggregate<'a>) -> Result<Rows, NoMemory>
     ensures value { IfOk result (λ rows. rows ≡ shown_of aggregate.now) }
+    ensures bounded { IsBounded aggregate.now }
 {
     match aggregate {
         Aggregate::Sum(sum) => sum.rows(),

@@ -6,7 +6,8 @@ ghost use Rattle.indexmap.specs.IndexMap.{index_map_len, spare, IsEmpty};
 ghost use Rattle.sz_types.specs.SeenTables.{seen_table};
 ghost use Rattle.sz_tabs.specs.Fitting.{Fits};
 ghost use Rattle.sz_tabs.specs.Rows.{compare_indexes, brought_by};
-ghost use Rattle.sz_total.specs.Entries.{AreOfTable, TakesEmit, same_indexes, entry_rows, rows_in_order};
+ghost use Rattle.sz_total.specs.Aggregates.{IsBounded};
+ghost use Rattle.sz_total.specs.Entries.{AreBounded, AreOfTable, TakesEmit, same_indexes, entry_rows, rows_in_order};
 ghost use Rattle.sz_total.specs.Short.{HasShortParts};
 ghost use Rattle.sz_total.specs.Weights.{HasItsWeights};
 
@@ -118,6 +119,7 @@ fn put_emit<'a>(
 // The rows under each index list, these in value order.
 pub(crate) fn all_rows<'a>(alloc: Global, lists: &Lists<'a>) -> Result<TableRows, NoMemory>
     ensures value { IfOk result (λ rows. rows ≡ rows_in_order lists.now.entries) }
+    ensures bounded { OnOk result (AreBounded lists.now.entries) }
 {
     let mut rows = rows_as_they_came(alloc, lists)?;
     rows.sort_by(|one, two| order_lists(&one.indexes, &two.indexes))?;
@@ -135,6 +137,7 @@ fn order_lists(one: &List, other: &List) -> Ordering
 fn rows_as_they_came<'a>(alloc: Global, lists: &Lists<'a>) -> Result<Vec<IndexedRows>, NoMemory>
     ensures value { IfOk result (λ rows. rows.items ≡ map entry_rows lists.now.entries) }
     ensures apart { OnOk result (IsDistinct same_indexes (keys_of lists.now.entries)) }
+    ensures bounded { OnOk result (AreBounded lists.now.entries) }
 {
     let mut rows = Vec::with_capacity(alloc, lists.len())?;
     for (key, aggregate) in lists {
@@ -150,6 +153,7 @@ fn rows_of_entry<'a>(
     aggregate: &Aggregate<'a>,
 ) -> Result<IndexedRows, NoMemory>
     ensures value { IfOk result (λ rows. rows ≡ entry_rows (key.now, aggregate.now)) }
+    ensures bounded { OnOk result (IsBounded aggregate.now) }
 {
     let indexes = key.values(alloc)?;
     let rows = rows_shown(aggregate)?;

@@ -1,8 +1,9 @@
 //! One table, and its calls.
-ghost use Rattle.std.specs.Prelude.{◌≡◌, ◌<◌, ◌≤◌, ◌+◌, ◌^◌, [], IfOk, OnOk, OnErr};
+ghost use Rattle.std.specs.Prelude.{◌≡◌, ◌<◌, ◌≤◌, ◌+◌, ◌*◌, ◌^◌, [], IfOk, OnOk, OnErr};
 ghost use Rattle.sz_types.specs.SeenTables.{seen_table};
 ghost use Rattle.sz_tabs.specs.Fitting.{Fits};
 ghost use Rattle.sz_tabs.specs.Rows.{brought_by};
+ghost use Rattle.sz_total.specs.Bounded.{SumsAreWithin};
 ghost use Rattle.sz_total.specs.OneTable.{table_shown, GainsEmit, ChangesRoomAlone, HasRoomToMerge, JoinsTable};
 ghost use Rattle.sz_total.specs.Short.{HasShortParts};
 ghost use Rattle.sz_total.specs.Weights.{HasItsWeights};
@@ -100,6 +101,7 @@ impl<'a> OneTable<'a> {
     /// The rows, with the index lists in value order.
     pub(crate) fn rows(&self) -> Result<TableRows, NoMemory>
         ensures value { IfOk result (λ rows. rows ≡ table_shown self.now) }
+        ensures within { OnOk result (SumsAreWithin (2 ^ 63 * self.now.count) (table_shown self.now)) }
     {
         all_rows(self.alloc, &self.lists)
     }

@@ -1,6 +1,7 @@
 //! The tables of a program, and their calls.
-ghost use Rattle.std.specs.Prelude.{◌≡◌, ◌<◌, ◌≤◌, ◌+◌, ◌^◌, length, map, IfOk, IfErr, OnOk, OnErr};
+ghost use Rattle.std.specs.Prelude.{◌≡◌, ◌<◌, ◌≤◌, ◌+◌, ◌*◌, ◌^◌, length, map, IfOk, IfErr, OnOk, OnErr};
 ghost use Rattle.sz_tabs.specs.Fitting.{IsEmitTo};
+ghost use Rattle.sz_total.specs.Bounded.{SumsAreWithin};
 ghost use Rattle.sz_total.specs.OneTable.{new_table, HasRoomFor, GainsAt};
 ghost use Rattle.sz_total.specs.Merging.{AreMatched, IsMatchedAt, HasRoomAt, ChangesRoomAt, ChangeRoomAlone, HaveRoomToMerge};
 ghost use Rattle.sz_total.specs.Merging.{AreFew, MayMergeAt, MergesAt, JoinTables};
@@ -91,6 +92,7 @@ impl<'a> Total<'a> {
     pub fn rows(&self, table: usize) -> Result<TableRows, NoMemory>
         requires declared { table < length self.now.tables }
         ensures value { IfOk result (λ rows. rows ≡ shown self.now table) }
+        ensures within { OnOk result (SumsAreWithin (2 ^ 63 * self.now.count) (shown self.now table)) }
     {
         let states = &self.states[table];
         states.rows()

@@ -10,4 +10,5 @@ returns c = record {
       ∙ rows_sorted c.args.lists.now.entries c.in_ok-rows.rows.items c.sort_by.new.self.items c.in_ok-rows.ensures.apart c.in_ok-rows.ensures.value
       (c.in_ok-sort_by.ensures.sorted rows_less rows_ordered (always_returns_same _ _ _ (λ a r f called. search rules)))
       (c.sort_by.ensures.stable rows_less rows_ordered (always_returns_same _ _ _ (λ a r f called. search rules)));
+  bounded = c.in_ok-rows.ensures.bounded;
 }
