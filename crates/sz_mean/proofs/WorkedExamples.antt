@@ -9,7 +9,7 @@ use Rattle.sz_core.specs.Programs.{Core}
 use Rattle.sz_world_rules.specs.World.{Outcome, Done, Faulted, budget_passed, undefined_used, store_outside, calls_too_deep}
 use Rattle.sz_mean.specs.Marked.{marked}
 use Rattle.sz_mean.specs.Programs.{mean}
-use Rattle.sz_mean.specs.Records.{FaultedAt, mean_all}
+use Rattle.sz_mean.specs.Records.{FaultedAt, mean_from}
 use Rattle.sz_mean.proofs.WorkedTrees.{at, number, emits_sum, joins_texts, counts_down, counts_up, emits_if, stores_outside, calls_on}
 use Rattle.sz_mean.proofs.WorkedTrees.{emits_without_weight, undefined_left, nothing, emits_place, emits_seven, searches}
 
@@ -109,7 +109,7 @@ unfolding ends_ignoring fault
 ignored_outside = refl
 
 -- a fault is a fault of all records
-second_faults : mean_all (marked emits_if false) [] 100 (codes "1" ∷ [] ∷ codes "1" ∷ []) ≡ FaultedAt 2 (record { kind = undefined_used; place = at 3 1 })
+second_faults : mean_from (marked emits_if false) [] 100 1 (codes "1" ∷ [] ∷ codes "1" ∷ []) ≡ FaultedAt 2 (record { kind = undefined_used; place = at 3 1 })
 second_faults = refl
 
 -- the budget is asked before where a store leads

@@ -26,7 +26,3 @@ abbrev pub mean_from : Marked → List Slot → ℕ → ℕ → List (List ℕ) 
 mean_from program slots budget number [] = Emitted []
 mean_from program slots budget number (record_bytes ∷ rest) =
     then_records number (mean program slots budget record_bytes) (mean_from program slots budget (suc number) rest)
-
--- what a program means for all records, which are numbered from 1
-abbrev pub mean_all : Marked → List Slot → ℕ → List (List ℕ) → Records
-mean_all program slots budget records = mean_from program slots budget 1 records
