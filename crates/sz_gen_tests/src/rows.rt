@@ -43,28 +43,28 @@ x: int = 1;
 if (x > 0) { x = 2; } else ;
 if (x < 0) ;
 => constant 1 | constant 0 | constant 2 | record 0 of 1 | 0 Push(0) +1 1:10 | 1 Keep(0) +1 1:1 | 2 Local(0) +1 2:5 | 3 Push(1) +1 2:9
-   4 Binary(Greater) +1 2:5 | 5 Test(9) +1 2:1 | 6 Push(2) +1 2:18 | 7 Store(0) +1 2:14 | 8 Jump(9) +0 1:1 | 9 Local(0) +1 3:5
-   10 Push(1) +1 3:9 | 11 Binary(Less) +1 3:5 | 12 Test(14) +1 3:1 | 13 Jump(14) +0 1:1 | 14 EndRecord +0 1:1
+   4 Binary(Greater) +1 2:5 | 5 Test(9, 9) +1 2:1 | 6 Push(2) +1 2:18 | 7 Store(0) +1 2:14 | 8 Jump(9) +0 1:1 | 9 Local(0) +1 3:5
+   10 Push(1) +1 3:9 | 11 Binary(Less) +1 3:5 | 12 Test(14, 14) +1 3:1 | 13 Jump(14) +0 1:1 | 14 EndRecord +0 1:1
 
 while (true) { if (false) break; continue; }
 => constant true | constant false | record 0 of 0 | 0 Jump(3) +0 1:1 | 1 Jump(11) +0 1:1 | 2 Tick +1 1:1 | 3 Push(0) +1 1:8
-   4 Test(1) +1 1:1 | 5 Push(1) +1 1:20 | 6 Test(9) +1 1:16 | 7 Jump(1) +0 1:1 | 8 Jump(9) +0 1:1 | 9 Jump(2) +0 1:1 | 10 Jump(2) +0 1:1
+   4 Test(1, 1) +1 1:1 | 5 Push(1) +1 1:20 | 6 Test(9, 9) +1 1:16 | 7 Jump(1) +0 1:1 | 8 Jump(9) +0 1:1 | 9 Jump(2) +0 1:1 | 10 Jump(2) +0 1:1
    11 EndRecord +0 1:1
 
 while (true) { while (true) break; break; }
-=> constant true | record 0 of 0 | 0 Jump(3) +0 1:1 | 1 Jump(14) +0 1:1 | 2 Tick +1 1:1 | 3 Push(0) +1 1:8 | 4 Test(1) +1 1:1
-   5 Jump(8) +0 1:1 | 6 Jump(12) +0 1:1 | 7 Tick +1 1:16 | 8 Push(0) +1 1:23 | 9 Test(6) +1 1:16 | 10 Jump(6) +0 1:1 | 11 Jump(7) +0 1:1
+=> constant true | record 0 of 0 | 0 Jump(3) +0 1:1 | 1 Jump(14) +0 1:1 | 2 Tick +1 1:1 | 3 Push(0) +1 1:8 | 4 Test(1, 1) +1 1:1
+   5 Jump(8) +0 1:1 | 6 Jump(12) +0 1:1 | 7 Tick +1 1:16 | 8 Push(0) +1 1:23 | 9 Test(6, 6) +1 1:16 | 10 Jump(6) +0 1:1 | 11 Jump(7) +0 1:1
    12 Jump(1) +0 1:1 | 13 Jump(2) +0 1:1 | 14 EndRecord +0 1:1
 
 do { if (true) continue; if (true) break; } while (false);
 => constant true | constant false | record 0 of 0 | 0 Jump(3) +0 1:1 | 1 Jump(15) +0 1:1 | 2 Jump(11) +0 1:1 | 3 Push(0) +1 1:10
-   4 Test(7) +1 1:6 | 5 Jump(2) +0 1:1 | 6 Jump(7) +0 1:1 | 7 Push(0) +1 1:30 | 8 Test(11) +1 1:26 | 9 Jump(1) +0 1:1
-   10 Jump(11) +0 1:1 | 11 Push(1) +1 1:52 | 12 Test(1) +1 1:1 | 13 Tick +1 1:1 | 14 Jump(3) +0 1:1 | 15 EndRecord +0 1:1
+   4 Test(7, 7) +1 1:6 | 5 Jump(2) +0 1:1 | 6 Jump(7) +0 1:1 | 7 Push(0) +1 1:30 | 8 Test(11, 11) +1 1:26 | 9 Jump(1) +0 1:1
+   10 Jump(11) +0 1:1 | 11 Push(1) +1 1:52 | 12 Test(1, 1) +1 1:1 | 13 Tick +1 1:1 | 14 Jump(3) +0 1:1 | 15 EndRecord +0 1:1
 
 for (i: int = 0; i < 3; i++) { if (true) continue; break; }
 => constant 0 | constant 1 | constant 3 | constant true | record 0 of 1 | 0 Push(0) +1 1:15 | 1 Keep(0) +1 1:6 | 2 Jump(9) +0 1:1
    3 Jump(19) +0 1:1 | 4 Local(0) +1 1:25 | 5 Push(1) +1 1:25 | 6 Binary(Add) +1 1:25 | 7 Store(0) +1 1:25 | 8 Tick +1 1:1
-   9 Local(0) +1 1:18 | 10 Push(2) +1 1:22 | 11 Binary(Less) +1 1:18 | 12 Test(3) +1 1:1 | 13 Push(3) +1 1:36 | 14 Test(17) +1 1:32
+   9 Local(0) +1 1:18 | 10 Push(2) +1 1:22 | 11 Binary(Less) +1 1:18 | 12 Test(3, 3) +1 1:1 | 13 Push(3) +1 1:36 | 14 Test(17, 17) +1 1:32
    15 Jump(4) +0 1:1 | 16 Jump(17) +0 1:1 | 17 Jump(3) +0 1:1 | 18 Jump(4) +0 1:1 | 19 EndRecord +0 1:1
 
 for (;;) break;
@@ -75,7 +75,7 @@ f: function(n: int): int { if (n > 0) return f(n - 1); }
 x: int = f(3);
 f(1);
 => constant 0 | constant 1 | constant 3 | function 0 1 1 | record 14 of 1 | 0 Local(0) +1 1:32 | 1 Push(0) +1 1:36
-   2 Binary(Greater) +1 1:32 | 3 Test(10) +1 1:28 | 4 Local(0) +1 1:48 | 5 Push(1) +1 1:52 | 6 Binary(Sub) +1 1:48 | 7 Call(0) +1 1:46
+   2 Binary(Greater) +1 1:32 | 3 Test(10, 10) +1 1:28 | 4 Local(0) +1 1:48 | 5 Push(1) +1 1:52 | 6 Binary(Sub) +1 1:48 | 7 Call(0) +1 1:46
    8 Return +1 1:39 | 9 Jump(10) +0 1:1 | 10 Push(0) +0 1:1 | 11 Push(0) +0 1:1 | 12 Binary(Div) +0 1:1 | 13 Return +0 1:1
    14 Push(2) +1 2:12 | 15 Call(0) +1 2:10 | 16 Keep(0) +1 2:1 | 17 Push(1) +1 3:3 | 18 Call(0) +1 3:1 | 19 Discard +0 3:1
    20 EndRecord +0 1:1

@@ -71,6 +71,10 @@ fn next(out: &mut String, local: u32, to: usize) {
     let _ = write!(out, "Next({local}, {to})");
 }
 
+fn test(out: &mut String, to: usize, past: usize) {
+    let _ = write!(out, "Test({to}, {past})");
+}
+
 fn instr(out: &mut String, instr: &Instr) {
     match instr {
         Instr::Push(n) => number(out, "Push", *n),
@@ -95,7 +99,7 @@ fn instr(out: &mut String, instr: &Instr) {
         Instr::Def => word(out, "Def"),
         Instr::Tick => word(out, "Tick"),
         Instr::Jump(to) => place(out, "Jump", *to),
-        Instr::Test(to) => place(out, "Test", *to),
+        Instr::Test(to, past) => test(out, *to, *past),
         Instr::AndTest(to) => place(out, "AndTest", *to),
         Instr::OrTest(to) => place(out, "OrTest", *to),
         Instr::Call(n) => number(out, "Call", *n),
@@ -118,11 +122,14 @@ fn line(out: &mut String, at: usize, line: &Line) {
     let _ = write!(out, " +{charge} {}:{} | ", place.line, place.column);
 }
 
-/// The code: each name, routine and line of it, with ` | ` after it.
+/// The code: each name, routine and line of it, and the table that counts lines if there is one, with ` | ` after it.
 pub fn code(out: &mut String, code: &Code) {
     names(out, code);
     routines(out, code);
     for (at, it) in code.lines.as_slice().iter().enumerate() {
         line(out, at, it);
+    }
+    if let Some(table) = code.ignore {
+        let _ = write!(out, "ignore {table} | ");
     }
 }

@@ -46,7 +46,7 @@ is_inside (Field x) a b k = tt
 is_inside Def a b k = tt
 is_inside Tick a b k = tt
 is_inside (Jump x) a b k = tt
-is_inside (Test x) a b k = tt
+is_inside (Test x y) a b k = tt
 is_inside (AndTest x) a b k = tt
 is_inside (OrTest x) a b k = tt
 is_inside (Call x) a b k = tt
@@ -88,7 +88,7 @@ pub record IsUncommon (i : Instr) : Type 0 where
   pub no_binary : (op : BinOp) → i ≡ Binary op → ⊥
   pub no_tick : i ≡ Tick → ⊥
   pub no_jump : (n : ℕ) → i ≡ Jump n → ⊥
-  pub no_test : (n : ℕ) → i ≡ Test n → ⊥
+  pub no_test : (n past : ℕ) → i ≡ Test n past → ⊥
   pub no_andtest : (n : ℕ) → i ≡ AndTest n → ⊥
   pub no_ortest : (n : ℕ) → i ≡ OrTest n → ⊥
   pub no_emit : (t n : ℕ) (weighted : Bool) → i ≡ Emit t n weighted → ⊥
@@ -106,7 +106,7 @@ is_apart (Binary x) h k = absurd (k.no_binary x refl)
 is_apart Def h k = tt
 is_apart Tick h k = absurd (k.no_tick refl)
 is_apart (Jump x) h k = absurd (k.no_jump x refl)
-is_apart (Test x) h k = absurd (k.no_test x refl)
+is_apart (Test x y) h k = absurd (k.no_test x y refl)
 is_apart (AndTest x) h k = absurd (k.no_andtest x refl)
 is_apart (OrTest x) h k = absurd (k.no_ortest x refl)
 is_apart EndRecord h k = absurd (k.no_endrecord refl)

@@ -10,7 +10,7 @@ use Rattle.sz_instr.specs.declared.code.Code.{Code}
 use Rattle.sz_world_rules.specs.World.{World, spend, budget_passed}
 use Rattle.sz_world_rules.specs.Slots.{Slot, all_defined}
 use Rattle.sz_world_rules.specs.Ticks.{weight_of_all, result_weight}
-use Rattle.sz_world_rules.specs.Emits.{emit_by_weight, emit_weight, emit_weighted, with_emit, weight_number, weight_if_all, listed}
+use Rattle.sz_world_rules.specs.Emits.{emit_by_weight, emit_or_line, emit_weight, emit_weighted, with_emit, weight_number, weight_if_all, listed}
 use Rattle.sz_machine_rules.specs.States.{State, Goes, popped, faults}
 use Rattle.sz_machine.specs.Acting.{when_paid, weighs_and_acts}
 use Rattle.sz_machine.specs.Emitting.{parts_weight, emits_paid, emits_parts, emits_on_top}
@@ -106,100 +106,100 @@ two_more n = omega arith
 module _ (code : Code) (table n : ℕ) (place : Place) where
   -- an emit without a weight
   pub emit_without : (s : State) (x : Slot) (stack : List Slot) → s.stack ≡ x ∷ stack
-      → weighs_and_acts code (Emit table n false) place s ≡ emits_on_top table n None place s
+      → weighs_and_acts code (Emit table n false) place s ≡ emits_on_top code.ignore table n None place s
   emit_without s x stack e =
       let at_hand : (l : List Slot) → l ≡ x ∷ stack → weighs_and_acts code (Emit table n false) place (record s { stack = l })
-      ≡ emits_on_top table n None place (record s { stack = l }) =
+      ≡ emits_on_top code.ignore table n None place (record s { stack = l }) =
       λ l is. subst (λ l. weighs_and_acts code (Emit table n false) place (record s { stack = l })
-      ≡ emits_on_top table n None place (record s { stack = l })) (sym is) there in
+      ≡ emits_on_top code.ignore table n None place (record s { stack = l })) (sym is) there in
       at_hand s.stack e
     where
       dropped : drop (n + 1) (x ∷ stack) ≡ drop n stack
       dropped = ap (λ m. drop m (x ∷ stack)) (one_more n)
 
       there : weighs_and_acts code (Emit table n false) place (record s { stack = x ∷ stack })
-          ≡ emits_on_top table n None place (record s { stack = x ∷ stack })
+          ≡ emits_on_top code.ignore table n None place (record s { stack = x ∷ stack })
       there = λ i. when_paid place (spend (weight_at_hand (popped n stack) x None i) s.world) (λ w. Goes (record s {
         at = suc s.at;
         stack = dropped i;
-        world = with_emit (emit_by_weight table (all_defined (popped n stack)) x None) w;
+        world = with_emit (emit_or_line (emit_by_weight table (all_defined (popped n stack)) x None) code.ignore place) w;
       }))
 
   -- an emit with a weight, which is popped first
   pub emit_with_weight : (s : State) (weight x : Slot) (below stack : List Slot) → s.stack ≡ weight ∷ below → below ≡ x ∷ stack
-      → weighs_and_acts code (Emit table n true) place s ≡ emits_on_top table n (Some weight) place (record s { stack = below })
+      → weighs_and_acts code (Emit table n true) place s ≡ emits_on_top code.ignore table n (Some weight) place (record s { stack = below })
   emit_with_weight s weight x below stack e f =
       let at_hand : weighs_and_acts code (Emit table n true) place (record s { stack = weight ∷ x ∷ stack })
-      ≡ emits_on_top table n (Some weight) place (record s { stack = x ∷ stack }) = there in
-      subst (λ l. weighs_and_acts code (Emit table n true) place (record s { stack = l }) ≡ emits_on_top table n (Some weight) place (record s { stack = below }))
+      ≡ emits_on_top code.ignore table n (Some weight) place (record s { stack = x ∷ stack }) = there in
+      subst (λ l. weighs_and_acts code (Emit table n true) place (record s { stack = l }) ≡ emits_on_top code.ignore table n (Some weight) place (record s { stack = below }))
       (sym e)
-      (subst (λ l. weighs_and_acts code (Emit table n true) place (record s { stack = weight ∷ l }) ≡ emits_on_top table n (Some weight) place (record s { stack = l }))
+      (subst (λ l. weighs_and_acts code (Emit table n true) place (record s { stack = weight ∷ l }) ≡ emits_on_top code.ignore table n (Some weight) place (record s { stack = l }))
       (sym f) at_hand)
     where
       dropped : drop (n + 2) (weight ∷ x ∷ stack) ≡ drop n stack
       dropped = ap (λ m. drop m (weight ∷ x ∷ stack)) (two_more n)
 
       there : weighs_and_acts code (Emit table n true) place (record s { stack = weight ∷ x ∷ stack })
-          ≡ emits_on_top table n (Some weight) place (record s { stack = x ∷ stack })
+          ≡ emits_on_top code.ignore table n (Some weight) place (record s { stack = x ∷ stack })
       there = λ i. when_paid place (spend (weight_at_hand (popped n stack) x (Some weight) i) s.world) (λ w. Goes (record s {
         at = suc s.at;
         stack = dropped i;
-        world = with_emit (emit_by_weight table (all_defined (popped n stack)) x (Some weight)) w;
+        world = with_emit (emit_or_line (emit_by_weight table (all_defined (popped n stack)) x (Some weight)) code.ignore place) w;
       }))
 
   -- the same, where there are so many operands
-  pub emits_without : (s : State) → n + 1 ≤ length s.stack → weighs_and_acts code (Emit table n false) place s ≡ emits_on_top table n None place s
+  pub emits_without : (s : State) → n + 1 ≤ length s.stack → weighs_and_acts code (Emit table n false) place s ≡ emits_on_top code.ignore table n None place s
   emits_without s within = by s.stack refl within
     where
-      by : (l : List Slot) → s.stack ≡ l → n + 1 ≤ length l → weighs_and_acts code (Emit table n false) place s ≡ emits_on_top table n None place s
+      by : (l : List Slot) → s.stack ≡ l → n + 1 ≤ length l → weighs_and_acts code (Emit table n false) place s ≡ emits_on_top code.ignore table n None place s
       by [] e h = absurd (omega (arith, h))
       by (x ∷ stack) e h = emit_without s x stack e
 
   pub emits_with_weight : (s : State) (weight : Slot) (below : List Slot) → s.stack ≡ weight ∷ below → n + 2 ≤ length s.stack
-      → weighs_and_acts code (Emit table n true) place s ≡ emits_on_top table n (Some weight) place (record s { stack = below })
+      → weighs_and_acts code (Emit table n true) place s ≡ emits_on_top code.ignore table n (Some weight) place (record s { stack = below })
   emits_with_weight s weight below e within = by below refl
     where
       by : (l : List Slot) → below ≡ l
-          → weighs_and_acts code (Emit table n true) place s ≡ emits_on_top table n (Some weight) place (record s { stack = below })
+          → weighs_and_acts code (Emit table n true) place s ≡ emits_on_top code.ignore table n (Some weight) place (record s { stack = below })
       by [] f = absurd (omega (arith, within, ap length e, ap length f))
       by (x ∷ stack) f = emit_with_weight s weight x below stack e f
 
-module _ (table n : ℕ) (w : Option Slot) (place : Place) (s : State) (x : Slot) (stack : List Slot) (is : s.stack ≡ x ∷ stack) where
+module _ (counting : Option ℕ) (table n : ℕ) (w : Option Slot) (place : Place) (s : State) (x : Slot) (stack : List Slot) (is : s.stack ≡ x ∷ stack) where
   -- an emit whose weight isn't left
-  pub top_unpaid : spend (parts_weight (all_defined (popped n stack)) x w) s.world ≡ None → emits_on_top table n w place s ≡ faults budget_passed place
+  pub top_unpaid : spend (parts_weight (all_defined (popped n stack)) x w) s.world ≡ None → emits_on_top counting table n w place s ≡ faults budget_passed place
   top_unpaid none = at_hand s.stack is
     where
-      at_hand : (l : List Slot) → l ≡ x ∷ stack → emits_on_top table n w place (record s { stack = l }) ≡ faults budget_passed place
-      at_hand l e = subst (λ l. emits_on_top table n w place (record s { stack = l }) ≡ faults budget_passed place) (sym e)
+      at_hand : (l : List Slot) → l ≡ x ∷ stack → emits_on_top counting table n w place (record s { stack = l }) ≡ faults budget_passed place
+      at_hand l e = subst (λ l. emits_on_top counting table n w place (record s { stack = l }) ≡ faults budget_passed place) (sym e)
           (ap (λ o. when_paid place o (λ v. Goes (record s {
             at = suc s.at;
             stack = drop n stack;
-            world = with_emit (emit_by_weight table (all_defined (popped n stack)) x w) v;
+            world = with_emit (emit_or_line (emit_by_weight table (all_defined (popped n stack)) x w) counting place) v;
           }))) none)
 
   -- one whose weight is taken
   pub top_paid : (v : World) → spend (parts_weight (all_defined (popped n stack)) x w) s.world ≡ Some v
-      → emits_on_top table n w place s ≡ emits_paid table (all_defined (popped n stack)) x w place (record s { stack = drop n stack; world = v })
+      → emits_on_top counting table n w place s ≡ emits_paid counting table (all_defined (popped n stack)) x w place (record s { stack = drop n stack; world = v })
   top_paid v some = at_hand s.stack is
     where
-      at_hand : (l : List Slot) → l ≡ x ∷ stack → emits_on_top table n w place (record s { stack = l })
-          ≡ emits_paid table (all_defined (popped n stack)) x w place (record s { stack = drop n stack; world = v })
-      at_hand l e = subst (λ l. emits_on_top table n w place (record s { stack = l })
-          ≡ emits_paid table (all_defined (popped n stack)) x w place (record s { stack = drop n stack; world = v })) (sym e)
+      at_hand : (l : List Slot) → l ≡ x ∷ stack → emits_on_top counting table n w place (record s { stack = l })
+          ≡ emits_paid counting table (all_defined (popped n stack)) x w place (record s { stack = drop n stack; world = v })
+      at_hand l e = subst (λ l. emits_on_top counting table n w place (record s { stack = l })
+          ≡ emits_paid counting table (all_defined (popped n stack)) x w place (record s { stack = drop n stack; world = v })) (sym e)
           (ap (λ o. when_paid place o (λ v. Goes (record s {
             at = suc s.at;
             stack = drop n stack;
-            world = with_emit (emit_by_weight table (all_defined (popped n stack)) x w) v;
+            world = with_emit (emit_or_line (emit_by_weight table (all_defined (popped n stack)) x w) counting place) v;
           }))) some)
 
 module _ (code : Code) (table : ℕ) (place : Place) where
   -- a value alone
   pub emit_single : (s : State) (x : Slot) (rest : List Slot) → s.stack ≡ x ∷ rest
-      → weighs_and_acts code (Emit table 0 false) place s ≡ emits_parts table (Some []) x None place (record s { stack = rest })
+      → weighs_and_acts code (Emit table 0 false) place s ≡ emits_parts code.ignore table (Some []) x None place (record s { stack = rest })
   emit_single s x rest e = emit_without code table 0 place s x rest e ∙ at_hand s.stack e
     where
       at_hand : (l : List Slot) → l ≡ x ∷ rest
-          → emits_on_top table 0 None place (record s { stack = l }) ≡ emits_parts table (Some []) x None place (record s { stack = rest })
+          → emits_on_top code.ignore table 0 None place (record s { stack = l }) ≡ emits_parts code.ignore table (Some []) x None place (record s { stack = rest })
       at_hand l is =
-          subst (λ l. emits_on_top table 0 None place (record s { stack = l }) ≡ emits_parts table (Some []) x None place (record s { stack = rest }))
+          subst (λ l. emits_on_top code.ignore table 0 None place (record s { stack = l }) ≡ emits_parts code.ignore table (Some []) x None place (record s { stack = rest }))
           (sym is) refl

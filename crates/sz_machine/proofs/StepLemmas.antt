@@ -48,7 +48,7 @@ splits code ticks (Field n) s = record { charge = refl; covers = λ w h. h; list
 splits code ticks Def s = record { charge = refl; covers = λ w h. h; lists = λ h t. absurd t }
 splits code ticks Tick s = record { charge = refl; covers = λ w h. h; lists = λ h t. absurd t }
 splits code ticks (Jump to) s = record { charge = refl; covers = λ w h. h; lists = λ h t. absurd t }
-splits code ticks (Test to) s = record { charge = refl; covers = λ w h. h; lists = λ h t. absurd t }
+splits code ticks (Test to past) s = record { charge = refl; covers = λ w h. h; lists = λ h t. absurd t }
 splits code ticks (AndTest to) s = record { charge = refl; covers = λ w h. h; lists = λ h t. absurd t }
 splits code ticks (OrTest to) s = record { charge = refl; covers = λ w h. h; lists = λ h t. absurd t }
 splits code ticks (Call f) s = record { charge = refl; covers = λ w h. h; lists = λ h t. absurd t }
@@ -72,21 +72,21 @@ module _ (code : Code) (line : Line) (old : RunState) (a b : Around) where
   -- the line is done in place, with so many ticks left once its charge is taken
   with_left : (left : ℕ) (new : RunState) (next : Going)
       → spend (base_charge line.charge line.instr old.calls.lists) (world_of old) ≡ Some (world left old.emits)
-      → DoesFromTo a b (weighs_and_acts code line.instr) (record old { left = left }) next new
+      → DoesFromTo line.place a b (weighs_and_acts code line.instr) (record old { left = left }) next new
       → does code line (state_of old a) ≡ leads next line.place b new
   with_left left new next spent acts =
       let ticks = base_charge line.charge line.instr old.calls.lists in
       let weight = weight_added code line.instr old.operands in
       let split = splits code line.charge line.instr (state_of old a) in
       let taken = ap (λ n. spend n (world_of old)) split.charge ∙ spend_more ticks weight old.left left old.emits old.emits spent in
-      ap (charged code line (state_of old a)) taken ∙ then_acts (spend weight (world left old.emits)) ∙ acts line.place
+      ap (charged code line (state_of old a)) taken ∙ then_acts (spend weight (world left old.emits)) ∙ acts
 
   pub step_does : (mid new : RunState) (next : Going) → Paid (base_charge line.charge line.instr old.calls.lists) old true mid
-      → DoesFromTo a b (weighs_and_acts code line.instr) mid next new → does code line (state_of old a) ≡ leads next line.place b new
+      → DoesFromTo line.place a b (weighs_and_acts code line.instr) mid next new → does code line (state_of old a) ≡ leads next line.place b new
   step_does mid new next paid acts =
       let ticks = base_charge line.charge line.instr old.calls.lists in
       with_left mid.left new next (subst (λ h. spend ticks (world_of old) ≡ Some (world_of h)) paid.kept paid.spent)
-      (subst (λ h. DoesFromTo a b (weighs_and_acts code line.instr) h next new) paid.kept acts)
+      (subst (λ h. DoesFromTo line.place a b (weighs_and_acts code line.instr) h next new) paid.kept acts)
 
   -- its row covers the state whose charge is taken
   pub still_covered : (mid : RunState) → Paid (base_charge line.charge line.instr old.calls.lists) old true mid → Covers code line.instr (state_of old a)
@@ -104,6 +104,6 @@ module _ (code : Code) (line : Line) (old : RunState) (a b : Around) where
 
   -- a line whose charge is there goes on by its instruction
   pub line_goes : (mid new : RunState) (next : Going) → slice_get code.lines a.at ≡ Some line
-      → Paid (base_charge line.charge line.instr old.calls.lists) old true mid → DoesFromTo a b (weighs_and_acts code line.instr) mid next new
+      → Paid (base_charge line.charge line.instr old.calls.lists) old true mid → DoesFromTo line.place a b (weighs_and_acts code line.instr) mid next new
       → LineDoes code a b old next new
   line_goes mid new next found paid acts = line_does new next found (step_does mid new next paid acts)

@@ -9,10 +9,10 @@ use Rattle.sz_machine_rules.specs.States.{State, Goes}
 use Rattle.sz_machine_rules.specs.Rows.{after_store}
 use Rattle.sz_machine_cells.specs.Storing.{defined}
 
-module _ (place : Place) (n : ℕ) (s : State) (stack : List Slot) where
+module _ (counting : Option ℕ) (place : Place) (n : ℕ) (s : State) (stack : List Slot) where
   -- the local holds the cell
   pub holds : (x : Option Datum) (cell : Slot) → option_map defined x ≡ Some cell
-      → after_store (unless_outside x) place n s stack ≡ Goes (record s { at = suc s.at; stack = stack; locals = slice_set s.locals n cell })
+      → after_store counting (unless_outside x) place n s stack ≡ Goes (record s { at = suc s.at; stack = stack; locals = slice_set s.locals n cell })
   holds None cell e = absurd (cc)
   holds (Some d) cell e =
       ap (λ o. Goes (record s { at = suc s.at; stack = stack; locals = slice_set s.locals n (unwrap_or o (Some d)) })) e

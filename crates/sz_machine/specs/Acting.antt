@@ -10,7 +10,7 @@ use Rattle.sz_value.specs.Data.{Datum}
 use Rattle.sz_world_rules.specs.World.{World, spend, budget_passed}
 use Rattle.sz_world_rules.specs.Slots.{Slot}
 use Rattle.sz_machine_rules.specs.States.{State, After, Goes, Halts, faults}
-use Rattle.sz_machine_rules.specs.Rows.{act}
+use Rattle.sz_machine_rules.specs.Rows.{act, pass_over}
 use Rattle.sz_machine_rules.specs.Covering.{Covers}
 use Rattle.sz_machine_rules.specs.Runs.{weight_added, candidate_charge}
 use Rattle.sz_machine.specs.declared.run_state.RunState.{RunState}
@@ -61,18 +61,27 @@ leads (Fault kind) place a h = faults kind place
 abbrev pub Does : (Place → State → After) → RunState → Next → RunState → Type 0
 Does row old next new = (place : Place) (a : Around) → row place (state_of old a) ≡ leads next place a new
 
+-- the same of this place of the text
+abbrev pub DoesAt : Place → (Place → State → After) → RunState → Next → RunState → Type 0
+DoesAt place row old next new = (a : Around) → row place (state_of old a) ≡ leads next place a new
+
 -- the world, if ticks were taken
 abbrev pub paid_world : Bool → World → Option World
 paid_world true w = Some w
 paid_world false w = None
 
 -- the same from these surroundings to those
-abbrev pub DoesFromTo : Around → Around → (Place → State → After) → RunState → Next → RunState → Type 0
-DoesFromTo a b row old next new = (place : Place) → row place (state_of old a) ≡ leads next place b new
+abbrev pub DoesFromTo : Place → Around → Around → (Place → State → After) → RunState → Next → RunState → Type 0
+DoesFromTo place a b row old next new = row place (state_of old a) ≡ leads next place b new
 
 -- the same where this holds of what is around it
-abbrev pub DoesWhere : (Around → Type 0) → (Place → State → After) → RunState → Next → RunState → Type 0
-DoesWhere holds row old next new = (place : Place) (a : Around) → holds a → row place (state_of old a) ≡ leads next place a new
+abbrev pub DoesWhere : Place → (Around → Type 0) → (Place → State → After) → RunState → Next → RunState → Type 0
+DoesWhere place holds row old next new = (a : Around) → holds a → row place (state_of old a) ≡ leads next place a new
+
+-- whatever the operands were before, an undefined value that was used leads to this place by the definition
+abbrev pub PassesTo : Option ℕ → Place → (Around → ℕ) → RunState → Next → RunState → Type 0
+PassesTo counting place to old next new =
+    (before : List Slot) (a : Around) → pass_over counting place (record (state_of old a) { stack = before }) (to a) old.operands ≡ leads next place a new
 
 -- so many ticks were taken, or weren't there
 pub record Paid (ticks : ℕ) (old : RunState) (paid : Bool) (new : RunState) : Type 0 where

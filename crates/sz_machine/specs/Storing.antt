@@ -1,5 +1,5 @@
 -- Stores of values whose parts are at hand.
-use Rattle.std.specs.Prelude.{ℕ, List}
+use Rattle.std.specs.Prelude.{ℕ, List, Option}
 use Rattle.sz_types.specs.declared.place.Place.{Place}
 use Rattle.sz_value.specs.Data.{Datum}
 use Rattle.sz_instr.specs.declared.step.Step.{Step}
@@ -10,6 +10,6 @@ use Rattle.sz_machine_rules.specs.Rows.{after_store}
 use Rattle.sz_machine_cells.specs.Storing.{replaced_by}
 
 -- the local holds what came of such a store into it, or there is a fault
-abbrev pub stores_values : List Step → List Datum → Datum → ℕ → Place → State → After
-stores_values steps indexes new n place s =
-    after_store (unless_outside (replaced_by steps indexes new (slot_at s.locals n))) place n s s.stack
+abbrev pub stores_values : Option ℕ → List Step → List Datum → Datum → ℕ → Place → State → After
+stores_values counting steps indexes new n place s =
+    after_store counting (unless_outside (replaced_by steps indexes new (slot_at s.locals n))) place n s s.stack

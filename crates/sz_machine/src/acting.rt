@@ -2,6 +2,7 @@
 ghost use Rattle.std.specs.Prelude.{◌≡◌, ◌<◌, ℕ, length, IfOk, IsSome};
 ghost use Rattle.sz_instr.specs.declared.instr.Instr.TheVariants as instr;
 ghost use Rattle.sz_instr.specs.declared.code.Code.{Code};
+ghost use Rattle.sz_types.specs.declared.place.Place.{Place};
 ghost use Rattle.sz_machine_rules.specs.Rows.{act};
 ghost use Rattle.sz_machine_rules.specs.Covering.{Covers};
 ghost use Rattle.sz_machine.specs.Acting.{Around, DoesFromTo, DoesWhere, state_of, weighs_and_acts, base_charge, TakesCandidate};
@@ -11,6 +12,7 @@ use crate::run_state::{Next, RunState, again};
 use std::alloc::Global;
 use sz_instr::{Code, Instr};
 use sz_machine_cells::Cell;
+use sz_types::Place;
 use sz_value::{NoMemory, Slots};
 
 impl RunState {
@@ -18,8 +20,8 @@ impl RunState {
     #[inline(always)]
     pub fn push_static(&mut self, alloc: Global, statics: &Slots, n: u32) -> Result<Next, NoMemory>
         requires within { n < length statics.now }
-        ensures value { (code : Code) → IfOk result (λ next.
-            DoesWhere (λ a. a.statics ≡ statics.now) (act code (instr.Static n)) self.old next self.new) }
+        ensures value { (code : Code) (place : Place) → IfOk result (λ next.
+            DoesWhere place (λ a. a.statics ≡ statics.now) (act code (instr.Static n)) self.old next self.new) }
     {
         let cell = Cell::of_slot_copy(alloc, statics.get(n as usize))?;
         self.operands.push(cell)?;
@@ -29,8 +31,8 @@ impl RunState {
     /// Pushes the bytes of the record.
     #[inline(always)]
     pub fn push_input(&mut self, input: &Cell) -> Result<Next, NoMemory>
-        ensures value { (code : Code) → IfOk result (λ next.
-            DoesWhere (λ a. a.input ≡ input.now) (act code instr.Input) self.old next self.new) }
+        ensures value { (code : Code) (place : Place) → IfOk result (λ next.
+            DoesWhere place (λ a. a.input ≡ input.now) (act code instr.Input) self.old next self.new) }
     {
         let cell = input.copy()?;
         self.operands.push(cell)?;
@@ -64,8 +66,8 @@ impl RunState {
     ) -> Result<Next, NoMemory>
         requires within { n < length statics.old }
         requires some { 0 < length self.old.operands }
-        ensures value { (code : Code) (at : ℕ) → IfOk result (λ next.
-            DoesFromTo (in_static at statics.old) (in_static at statics.new) (act code (instr.KeepStatic n)) self.old next self.new) }
+        ensures value { (code : Code) (place : Place) (at : ℕ) → IfOk result (λ next.
+            DoesFromTo place (in_static at statics.old) (in_static at statics.new) (act code (instr.KeepStatic n)) self.old next self.new) }
     {
         let slot = self.operands.pop().into_slot(alloc)?;
         statics.set(n as usize, slot);
@@ -80,28 +82,31 @@ impl RunState {
         alloc: Global,
         code: &Code,
         at: usize,
+        place: Place,
         instr: &Instr,
     ) -> Result<Next, NoMemory>
         requires room { at < usize.MAX }
         requires inside { IsInside instr.now }
         requires covers { IsCovered code.now instr.now self.old }
-        ensures value { IfOk result (λ next. DoesWhere (λ a. a.at ≡ at) (weighs_and_acts code.now instr.now) self.old next self.new) }
+        ensures value { IfOk result (λ next. DoesWhere place (λ a. a.at ≡ at) (weighs_and_acts code.now instr.now) self.old next self.new) }
     {
         match instr {
             Instr::Push(n) => self.push(alloc, code, *n),
             Instr::Local(n) => self.push_local(*n),
             Instr::Keep(n) => Ok(self.keep(*n)),
             Instr::Clear(n) => Ok(self.clear(*n)),
-            Instr::Store(n, path) => self.store(alloc, *n, path),
+            Instr::Store(n, path) => self.store(alloc, code, place, *n, path),
             Instr::Binary(op) => self.binary(alloc, *op),
             Instr::Tick => Ok(Next::On),
             Instr::Jump(to) => Ok(Next::To(*to)),
-            Instr::Test(to) => Ok(self.test(*to)),
+            Instr::Test(to, past) => self.test(alloc, code, place, *to, *past),
             Instr::AndTest(to) => Ok(self.and_test(*to)),
             Instr::OrTest(to) => Ok(self.or_test(*to)),
-            Instr::Emit(table, indexes, weighted) => self.emit(alloc, *table, *indexes, *weighted),
+            Instr::Emit(table, indexes, weighted) => {
+                self.emit(alloc, code, place, *table, *indexes, *weighted)
+            }
             Instr::EndRecord => Ok(Next::End),
-            _ => self.act_apart(alloc, code, at, instr),
+            _ => self.act_apart(alloc, code, at, place, instr),
         }
     }
 
@@ -112,14 +117,15 @@ impl RunState {
         alloc: Global,
         code: &Code,
         at: usize,
+        place: Place,
         instr: &Instr,
     ) -> Result<Next, NoMemory>
         requires room { at < usize.MAX }
         requires apart { IsApart instr.now }
         requires covers { IsCovered code.now instr.now self.old }
-        ensures value { IfOk result (λ next. DoesWhere (λ a. a.at ≡ at) (weighs_and_acts code.now instr.now) self.old next self.new) }
+        ensures value { IfOk result (λ next. DoesWhere place (λ a. a.at ≡ at) (weighs_and_acts code.now instr.now) self.old next self.new) }
     {
-        again(self.act_seldom(alloc, code, at, instr))
+        again(self.act_seldom(alloc, code, at, place, instr))
     }
 
     // What one of the other instructions does.
@@ -129,12 +135,13 @@ impl RunState {
         alloc: Global,
         code: &Code,
         at: usize,
+        place: Place,
         instr: &Instr,
     ) -> Result<Next, NoMemory>
         requires room { at < usize.MAX }
         requires apart { IsApart instr.now }
         requires covers { IsCovered code.now instr.now self.old }
-        ensures value { IfOk result (λ next. DoesWhere (λ a. a.at ≡ at) (weighs_and_acts code.now instr.now) self.old next self.new) }
+        ensures value { IfOk result (λ next. DoesWhere place (λ a. a.at ≡ at) (weighs_and_acts code.now instr.now) self.old next self.new) }
     {
         match instr {
             Instr::Unary(op) => self.unary(alloc, *op),
@@ -150,7 +157,7 @@ impl RunState {
             Instr::Def => self.def(),
             Instr::Call(function) => self.call(code.functions.get(*function as usize), at),
             Instr::Return => Ok(self.give_back()),
-            Instr::Discard => Ok(self.discard()),
+            Instr::Discard => self.discard(alloc, code, place),
             Instr::Enter(slice) => self.enter_search(alloc, *slice),
             Instr::Next(n, to) => self.next_candidate(alloc, *n, *to),
             Instr::Leave => Ok(self.leave_search()),
@@ -169,19 +176,20 @@ impl RunState {
         statics: &Slots,
         input: &Cell,
         at: usize,
+        place: Place,
         instr: &Instr,
     ) -> Result<Next, NoMemory>
         requires room { at < usize.MAX }
         requires there { IsSome input.now }
         requires covers { Covers code.now instr.now (state_of self.old (in_record at statics.now input.now)) }
-        ensures value { IfOk result (λ next. DoesFromTo (in_record at statics.now input.now) (in_record at statics.now input.now)
+        ensures value { IfOk result (λ next. DoesFromTo place (in_record at statics.now input.now) (in_record at statics.now input.now)
             (weighs_and_acts code.now instr.now) self.old next self.new) }
     {
         match instr {
             Instr::Static(n) => self.push_static(alloc, statics, *n),
             Instr::Input => self.push_input(input),
             Instr::KeepStatic(_) => unreachable!(),
-            _ => self.act_inside(alloc, code, at, instr),
+            _ => self.act_inside(alloc, code, at, place, instr),
         }
     }
 
@@ -192,18 +200,19 @@ impl RunState {
         code: &Code,
         statics: &mut Slots,
         at: usize,
+        place: Place,
         instr: &Instr,
     ) -> Result<Next, NoMemory>
         requires room { at < usize.MAX }
         requires covers { Covers code.now instr.now (state_of self.old (in_static at statics.old)) }
-        ensures value { IfOk result (λ next. DoesFromTo (in_static at statics.old) (in_static at statics.new)
+        ensures value { IfOk result (λ next. DoesFromTo place (in_static at statics.old) (in_static at statics.new)
             (weighs_and_acts code.now instr.now) self.old next self.new) }
     {
         match instr {
             Instr::Static(n) => self.push_static(alloc, statics, *n),
             Instr::Input => unreachable!(),
             Instr::KeepStatic(n) => self.keep_static(alloc, statics, *n),
-            _ => self.act_inside(alloc, code, at, instr),
+            _ => self.act_inside(alloc, code, at, place, instr),
         }
     }
 }

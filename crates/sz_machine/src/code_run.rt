@@ -140,7 +140,7 @@ impl RunState {
         if !self.pay(charge) {
             return Ok(Next::Fault(BUDGET_PASSED));
         }
-        self.act_in_record(alloc, code, statics, input, at, &line.instr)
+        self.act_in_record(alloc, code, statics, input, at, line.place, &line.instr)
     }
 
     /// What the line at a place does in the run of a static.
@@ -160,7 +160,7 @@ impl RunState {
         if !self.pay(charge) {
             return Ok(Next::Fault(BUDGET_PASSED));
         }
-        self.act_in_static(alloc, code, statics, at, &line.instr)
+        self.act_in_static(alloc, code, statics, at, line.place, &line.instr)
     }
 
     /// The run for a record from a place to its end.

@@ -1,46 +1,51 @@
 //! Emits.
-ghost use Rattle.std.specs.Prelude.{◌≡◌, ◌+◌, ◌<◌, ◌≤◌, ◌∷◌, length, drop, false, IfOk, Some, None, Option, List, []};
+ghost use Rattle.std.specs.Prelude.{◌≡◌, ◌+◌, ◌<◌, ◌≤◌, ◌∷◌, ◌++◌, ℕ, length, drop, false, IfOk, OnOk, Some, None, Option, List, []};
 ghost use Rattle.sz_instr.specs.declared.code.Code.{Code};
 ghost use Rattle.sz_instr.specs.declared.instr.Instr.TheVariants as instr;
 ghost use Rattle.sz_value.specs.Seen.{seen};
 ghost use Rattle.sz_value.specs.Data.{Datum, int};
 ghost use Rattle.sz_world_rules.specs.Slots.{all_defined};
 ghost use Rattle.sz_world_rules.specs.Ticks.{result_weight};
-ghost use Rattle.sz_world_rules.specs.Emits.{weight_number, weight_if_all};
+ghost use Rattle.sz_world_rules.specs.Emits.{weight_number, weight_if_all, emit_by_weight, line_emit};
 ghost use Rattle.sz_machine_rules.specs.States.{popped};
 ghost use Rattle.sz_machine_rules.specs.Rows.{emit_operands};
-ghost use Rattle.sz_machine.specs.Acting.{Paid, Does, weighs_and_acts};
-ghost use Rattle.sz_machine.specs.Emitting.{parts_weight, emits_paid, emits_parts, emits_on_top};
+ghost use Rattle.sz_machine.specs.Acting.{Paid, Does, DoesAt, weighs_and_acts};
+ghost use Rattle.sz_machine.specs.Emitting.{parts_weight, emits_made, emits_parts, emits_on_top};
 
 use crate::run_state::{BUDGET_PASSED, Next, RunState, again};
 use std::alloc::Global;
 use std::mem;
+use sz_instr::Code;
 use sz_machine_cells::{Cell, result_weight};
 use sz_tabs::{Emit, Emits};
+use sz_types::Place;
 use sz_value::{List, NoMemory, Value};
 
 impl RunState {
-    /// Pops the parts of an emit to the table, and emits them if all are defined. A whole number alone is emitted in line.
+    /// Pops the parts of an emit to the table, and emits them if all are defined; else its line is counted, if the code counts lines.
+    /// A whole number alone is emitted in line.
     #[inline(always)]
     pub fn emit(
         &mut self,
         alloc: Global,
+        code: &Code,
+        place: Place,
         table: u32,
         indexes: u32,
         weighted: bool,
     ) -> Result<Next, NoMemory>
         requires within { emit_operands indexes weighted ≤ length self.old.operands }
-        ensures value { (code : Code) → IfOk result (λ next. Does (weighs_and_acts code (instr.Emit table indexes weighted)) self.old next self.new) }
+        ensures value { IfOk result (λ next. DoesAt place (weighs_and_acts code.now (instr.Emit table indexes weighted)) self.old next self.new) }
     {
         if weighted {
-            return self.emit_apart(alloc, table, indexes, weighted);
+            return self.emit_apart(alloc, code, place, table, indexes, weighted);
         }
         if indexes != 0 {
-            return self.emit_apart(alloc, table, indexes, weighted);
+            return self.emit_apart(alloc, code, place, table, indexes, weighted);
         }
         match self.operands.top().int() {
             Some(number) => self.emit_top(alloc, table, number),
-            None => self.emit_apart(alloc, table, indexes, weighted),
+            None => self.emit_apart(alloc, code, place, table, indexes, weighted),
         }
     }
 
@@ -59,14 +64,16 @@ impl RunState {
     fn emit_apart(
         &mut self,
         alloc: Global,
+        code: &Code,
+        place: Place,
         table: u32,
         indexes: u32,
         weighted: bool,
     ) -> Result<Next, NoMemory>
         requires within { emit_operands indexes weighted ≤ length self.old.operands }
-        ensures value { (code : Code) → IfOk result (λ next. Does (weighs_and_acts code (instr.Emit table indexes weighted)) self.old next self.new) }
+        ensures value { IfOk result (λ next. DoesAt place (weighs_and_acts code.now (instr.Emit table indexes weighted)) self.old next self.new) }
     {
-        again(self.emit_any(alloc, table, indexes, weighted))
+        again(self.emit_any(alloc, code, place, table, indexes, weighted))
     }
 
     // The same of any parts.
@@ -74,18 +81,20 @@ impl RunState {
     fn emit_any(
         &mut self,
         alloc: Global,
+        code: &Code,
+        place: Place,
         table: u32,
         indexes: u32,
         weighted: bool,
     ) -> Result<Next, NoMemory>
         requires within { emit_operands indexes weighted ≤ length self.old.operands }
-        ensures value { (code : Code) → IfOk result (λ next. Does (weighs_and_acts code (instr.Emit table indexes weighted)) self.old next self.new) }
+        ensures value { IfOk result (λ next. DoesAt place (weighs_and_acts code.now (instr.Emit table indexes weighted)) self.old next self.new) }
     {
         if weighted {
             let weight = self.operands.pop();
-            self.emit_on_top(alloc, table, indexes, Some(weight))
+            self.emit_on_top(alloc, code, place, table, indexes, Some(weight))
         } else {
-            self.emit_on_top(alloc, table, indexes, None)
+            self.emit_on_top(alloc, code, place, table, indexes, None)
         }
     }
 
@@ -93,7 +102,8 @@ impl RunState {
     // emit is written where it stays, and not copied there.
     #[inline(always)]
     fn emit_number(&mut self, alloc: Global, table: u32, number: i64) -> Result<Next, NoMemory>
-        ensures value { IfOk result (λ next. Does (emits_parts table (Some []) (Some (int number)) None) self.old next self.new) }
+        ensures value { (counting : Option ℕ) → IfOk result (λ next.
+            Does (emits_parts counting table (Some []) (Some (int number)) None) self.old next self.new) }
     {
         if !self.pay(1) {
             return Ok(Next::Fault(BUDGET_PASSED));
@@ -114,19 +124,22 @@ impl RunState {
     fn emit_on_top(
         &mut self,
         alloc: Global,
+        code: &Code,
+        place: Place,
         table: u32,
         indexes: u32,
         weight: Option<Cell>,
     ) -> Result<Next, NoMemory>
         requires within { indexes + 1 ≤ length self.old.operands }
-        ensures value { IfOk result (λ next. Does (emits_on_top table indexes weight) self.old next self.new) }
+        ensures value { IfOk result (λ next. DoesAt place (emits_on_top code.now.ignore table indexes weight) self.old next self.new) }
     {
         let value = self.operands.pop();
         if !self.pay_parts(indexes as usize, &value, &weight) {
             return Ok(Next::Fault(BUDGET_PASSED));
         }
         let indexes = self.operands.pop_values(alloc, indexes as usize)?;
-        self.emit_parts(alloc, table, indexes, value, weight)
+        let made = emit_of(alloc, table, indexes, value, weight)?;
+        self.emit_made(alloc, code, place, made)
     }
 
     // Takes what so many topmost operands, the value and the weight weigh, if they are all there. They are weighed where they are, so that
@@ -177,66 +190,83 @@ impl RunState {
         }
     }
 
-    // Emits these parts, if they are all there.
-    #[tactic(auto, using(crate::proofs::EmitLemmas::no_indexes, crate::proofs::EmitLemmas::no_value))]
-    fn emit_parts(
+    // Emits this, or else counts the line at the place of the text, if the code counts lines.
+    fn emit_made(
         &mut self,
         alloc: Global,
-        table: u32,
-        indexes: Option<List>,
-        value: Cell,
-        weight: Option<Cell>,
+        code: &Code,
+        place: Place,
+        made: Option<Emit>,
     ) -> Result<Next, NoMemory>
-        ensures value { IfOk result (λ next. Does (emits_paid table indexes value weight) self.old next self.new) }
+        ensures value { IfOk result (λ next. DoesAt place (emits_made code.now.ignore made) self.old next self.new) }
     {
-        let Some(indexes) = indexes else {
-            return Ok(Next::On);
-        };
-        let Some(value) = value.into_value(alloc)? else {
-            return Ok(Next::On);
-        };
-        match weight {
-            None => self.emit_plain(table, indexes, value),
-            Some(weight) => match weight.into_value(alloc)? {
-                Some(weight) => self.emit_weighted(table, indexes, value, &weight),
-                None => Ok(Next::On),
-            },
+        match (made, code.ignore) {
+            (Some(emit), _) => self.emits.push(emit)?,
+            (None, Some(table)) => self.count_line(alloc, table, place)?,
+            (None, None) => {}
         }
+        Ok(Next::On)
     }
 
-    // Emits a value under indexes.
-    fn emit_plain(&mut self, table: u32, indexes: List, value: Value) -> Result<Next, NoMemory>
-        ensures value { IfOk result (λ next. Does (emits_paid table (Some indexes) (Some (seen value)) None) self.old next self.new) }
+    /// Counts the line at the place of the text: the table that counts lines has one emit more.
+    pub fn count_line(&mut self, alloc: Global, table: u32, place: Place) -> Result<(), NoMemory>
+        ensures value { OnOk result (self.new ≡ record self.old { emits = self.old.emits ++ line_emit table place ∷ [] }) }
     {
+        let mut indexes = List::with_capacity(alloc, 1)?;
+        indexes.push(Value::Int(i64::from(place.line)))?;
         self.emits.push(Emit {
+            table,
+            indexes,
+            value: Value::Int(1),
+            weight: None,
+        })?;
+        Ok(())
+    }
+}
+
+// The emit of these parts to the table, if they are all there.
+#[tactic(auto, using(crate::proofs::EmitLemmas::no_indexes, crate::proofs::EmitLemmas::no_value))]
+fn emit_of(
+    alloc: Global,
+    table: u32,
+    indexes: Option<List>,
+    value: Cell,
+    weight: Option<Cell>,
+) -> Result<Option<Emit>, NoMemory>
+    ensures value { IfOk result (λ made. made ≡ emit_by_weight table indexes value weight) }
+{
+    let Some(indexes) = indexes else {
+        return Ok(None);
+    };
+    let Some(value) = value.into_value(alloc)? else {
+        return Ok(None);
+    };
+    match weight {
+        None => Ok(Some(Emit {
             table,
             indexes,
             value,
             weight: None,
-        })?;
-        Ok(Next::On)
+        })),
+        Some(weight) => match weight.into_value(alloc)? {
+            Some(given) => Ok(emit_with(table, indexes, value, &given)),
+            None => Ok(None),
+        },
     }
+}
 
-    // Emits a value under indexes with a weight.
-    fn emit_weighted(
-        &mut self,
-        table: u32,
-        indexes: List,
-        value: Value,
-        given: &Value,
-    ) -> Result<Next, NoMemory>
-        ensures value { IfOk result (λ next.
-            Does (emits_paid table (Some indexes) (Some (seen value)) (Some (Some (seen given.now)))) self.old next self.new) }
-    {
-        if let Some(weight) = weight_number(given) {
-            self.emits.push(Emit {
-                table,
-                indexes,
-                value,
-                weight: Some(weight),
-            })?;
-        }
-        Ok(Next::On)
+// The emit of a value under indexes with a weight.
+fn emit_with(table: u32, indexes: List, value: Value, given: &Value) -> Option<Emit>
+    ensures value { result ≡ emit_by_weight table (Some indexes) (Some (seen value)) (Some (Some (seen given.now))) }
+{
+    match weight_number(given) {
+        Some(weight) => Some(Emit {
+            table,
+            indexes,
+            value,
+            weight: Some(weight),
+        }),
+        None => None,
     }
 }
 

@@ -1,31 +1,76 @@
 //! What instructions do to the place of the next line: tests, calls and candidates.
-ghost use Rattle.std.specs.Prelude.{◌≡◌, ◌<◌, ◌≤◌, length, Some, IfOk};
+ghost use Rattle.std.specs.Prelude.{◌≡◌, ◌<◌, ◌≤◌, suc, length, Some, IfOk};
 ghost use Rattle.sz_instr.specs.declared.code.Code.{Code};
+ghost use Rattle.sz_types.specs.declared.place.Place.{Place};
 ghost use Rattle.sz_instr.specs.declared.instr.Instr.TheVariants as instr;
 ghost use Rattle.sz_machine_rules.specs.Rows.{act, call_routine};
-ghost use Rattle.sz_machine.specs.Acting.{Around, Does, DoesWhere};
+ghost use Rattle.sz_machine.specs.Acting.{Around, Does, DoesAt, DoesWhere, PassesTo};
 
-use crate::run_state::{CALLS_TOO_DEEP, Next, RunState, UNDEFINED_USED};
+use crate::run_state::{CALLS_TOO_DEEP, Next, RunState, UNDEFINED_USED, again};
 use std::alloc::Global;
-use sz_instr::Routine;
+use sz_instr::{Code, Routine};
 use sz_machine_cells::{Candidates, Cell};
+use sz_types::Place;
 use sz_value::NoMemory;
 
 // How many calls can be open.
 const MOST_OPEN_CALLS: usize = 128;
 
 impl RunState {
-    /// Pops a slot and goes to the place where it is false.
+    /// Pops a slot and goes to the first place where it is false. An undefined one is a fault, or leads to the second place, its line
+    /// being counted.
     #[inline(always)]
-    pub fn test(&mut self, to: usize) -> Next
+    pub fn test(
+        &mut self,
+        alloc: Global,
+        code: &Code,
+        place: Place,
+        to: usize,
+        past: usize,
+    ) -> Result<Next, NoMemory>
         requires some { 0 < length self.old.operands }
-        ensures value { (code : Code) → Does (act code (instr.Test to)) self.old result self.new }
+        ensures value { IfOk result (λ next. DoesAt place (act code.now (instr.Test to past)) self.old next self.new) }
     {
         let x = self.operands.pop();
         match x.truth() {
-            Some(true) => Next::On,
-            _ if x.is_defined() => Next::To(to),
-            _ => Next::Fault(UNDEFINED_USED),
+            Some(true) => Ok(Next::On),
+            _ if x.is_defined() => Ok(Next::To(to)),
+            _ => again(self.pass_to(alloc, code, place, past)),
+        }
+    }
+
+    /// An undefined value was used: a fault, but where the code counts lines, the one at this place of the text is counted, and the run
+    /// goes to a place of the code.
+    #[inline(never)]
+    pub fn pass_to(
+        &mut self,
+        alloc: Global,
+        code: &Code,
+        place: Place,
+        to: usize,
+    ) -> Result<Next, NoMemory>
+        ensures value { IfOk result (λ next. PassesTo code.now.ignore place (λ a. to) self.old next self.new) }
+    {
+        match code.ignore {
+            Some(table) => {
+                self.count_line(alloc, table, place)?;
+                Ok(Next::To(to))
+            }
+            None => Ok(Next::Fault(UNDEFINED_USED)),
+        }
+    }
+
+    /// The same, where the run goes on after the line.
+    #[inline(never)]
+    pub fn pass_on(&mut self, alloc: Global, code: &Code, place: Place) -> Result<Next, NoMemory>
+        ensures value { IfOk result (λ next. PassesTo code.now.ignore place (λ a. suc a.at) self.old next self.new) }
+    {
+        match code.ignore {
+            Some(table) => {
+                self.count_line(alloc, table, place)?;
+                Ok(Next::On)
+            }
+            None => Ok(Next::Fault(UNDEFINED_USED)),
         }
     }
 
@@ -85,17 +130,17 @@ impl RunState {
         }
     }
 
-    /// Pops a slot, which is to be defined.
+    /// Pops a slot, which is to be defined: an undefined one is a fault, unless its line is counted.
     #[inline(never)]
-    pub fn discard(&mut self) -> Next
+    pub fn discard(&mut self, alloc: Global, code: &Code, place: Place) -> Result<Next, NoMemory>
         requires some { 0 < length self.old.operands }
-        ensures value { (code : Code) → Does (act code instr.Discard) self.old result self.new }
+        ensures value { IfOk result (λ next. DoesAt place (act code.now instr.Discard) self.old next self.new) }
     {
         let x = self.operands.pop();
         if x.is_defined() {
-            Next::On
+            Ok(Next::On)
         } else {
-            Next::Fault(UNDEFINED_USED)
+            self.pass_on(alloc, code, place)
         }
     }
 
@@ -104,8 +149,8 @@ impl RunState {
     pub fn call(&mut self, routine: &Routine, at: usize) -> Result<Next, NoMemory>
         requires within { routine.now.params ≤ length self.old.operands }
         requires room { at < usize.MAX }
-        ensures value { IfOk result (λ next.
-            DoesWhere (λ a. a.at ≡ at) (call_routine (Some routine.now)) self.old next self.new) }
+        ensures value { IfOk result (λ next. (place : Place) →
+            DoesWhere place (λ a. a.at ≡ at) (call_routine (Some routine.now)) self.old next self.new) }
     {
         let count = routine.params as usize;
         if !self.operands.are_defined(count) {

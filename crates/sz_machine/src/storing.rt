@@ -1,72 +1,100 @@
 //! Stores into values, by a path.
-ghost use Rattle.std.specs.Prelude.{◌≡◌, ◌+◌, ◌<◌, ◌≤◌, [], length, IfOk};
+ghost use Rattle.std.specs.Prelude.{◌≡◌, ℕ, ◌+◌, ◌<◌, ◌≤◌, [], length, IfOk, Option};
 ghost use Rattle.sz_value.specs.Seen.{seen};
 ghost use Rattle.sz_machine_rules.specs.Rows.{indexes_in, store};
-ghost use Rattle.sz_machine.specs.Acting.{Does};
+ghost use Rattle.sz_machine.specs.Acting.{Does, DoesAt};
 ghost use Rattle.sz_machine.specs.Storing.{stores_values};
 
-use crate::run_state::{Next, RunState, STORE_OUTSIDE, UNDEFINED_USED, again};
+use crate::run_state::{Next, RunState, STORE_OUTSIDE, again};
 use std::alloc::Global;
-use sz_instr::{Step, Steps};
+use sz_instr::{Code, Step, Steps};
 use sz_machine_cells::{indexes_in, stored_in};
+use sz_types::Place;
 use sz_value::{List, NoMemory, Value};
 
 impl RunState {
     /// Pops a value and the indexes of the path, and puts the value where the path leads in the local.
     #[inline(always)]
-    pub fn store(&mut self, alloc: Global, n: u32, path: &Steps) -> Result<Next, NoMemory>
+    pub fn store(
+        &mut self,
+        alloc: Global,
+        code: &Code,
+        place: Place,
+        n: u32,
+        path: &Steps,
+    ) -> Result<Next, NoMemory>
         requires within { n < length self.old.calls.locals }
         requires some { indexes_in path.now + 1 ≤ length self.old.operands }
         ensures value { IfOk result (λ next.
-            Does (λ place s. store path.now (indexes_in path.now) place n s) self.old next self.new) }
+            DoesAt place (λ place s. store code.now.ignore path.now (indexes_in path.now) place n s) self.old next self.new) }
     {
         match path.as_slice() {
-            [] => Ok(self.store_whole(n)),
-            steps => self.store_apart(alloc, n, steps),
+            [] => self.store_whole(alloc, code, place, n),
+            steps => self.store_apart(alloc, code, place, n, steps),
         }
     }
 
     // Pops a value and puts it into the local.
     #[inline(always)]
-    fn store_whole(&mut self, n: u32) -> Next
+    fn store_whole(
+        &mut self,
+        alloc: Global,
+        code: &Code,
+        place: Place,
+        n: u32,
+    ) -> Result<Next, NoMemory>
         requires within { n < length self.old.calls.locals }
         requires some { 0 < length self.old.operands }
-        ensures value { Does (λ place s. store [] 0 place n s) self.old result self.new }
+        ensures value { IfOk result (λ next. DoesAt place (λ place s. store code.now.ignore [] 0 place n s) self.old next self.new) }
     {
         let new = self.operands.pop();
         if !new.is_defined() {
-            return Next::Fault(UNDEFINED_USED);
+            return again(self.pass_on(alloc, code, place));
         }
         self.calls.keep(n, new);
-        Next::On
+        Ok(Next::On)
     }
 
     // Pops a value and the indexes of the steps, and puts the value where they lead in the local, with the answer made anew.
     #[inline(always)]
-    fn store_apart(&mut self, alloc: Global, n: u32, path: &[Step]) -> Result<Next, NoMemory>
+    fn store_apart(
+        &mut self,
+        alloc: Global,
+        code: &Code,
+        place: Place,
+        n: u32,
+        path: &[Step],
+    ) -> Result<Next, NoMemory>
         requires within { n < length self.old.calls.locals }
         requires some { indexes_in path.now + 1 ≤ length self.old.operands }
         ensures value { IfOk result (λ next.
-            Does (λ place s. store path.now (indexes_in path.now) place n s) self.old next self.new) }
+            DoesAt place (λ place s. store code.now.ignore path.now (indexes_in path.now) place n s) self.old next self.new) }
     {
-        again(self.store_part(alloc, n, path))
+        again(self.store_part(alloc, code, place, n, path))
     }
 
     // Pops a value and the indexes of the steps, and puts the value where they lead in the local.
     #[inline(never)]
-    fn store_part(&mut self, alloc: Global, n: u32, path: &[Step]) -> Result<Next, NoMemory>
+    fn store_part(
+        &mut self,
+        alloc: Global,
+        code: &Code,
+        place: Place,
+        n: u32,
+        path: &[Step],
+    ) -> Result<Next, NoMemory>
         requires within { n < length self.old.calls.locals }
         requires some { indexes_in path.now + 1 ≤ length self.old.operands }
         ensures value { IfOk result (λ next.
-            Does (λ place s. store path.now (indexes_in path.now) place n s) self.old next self.new) }
+            DoesAt place (λ place s. store code.now.ignore path.now (indexes_in path.now) place n s) self.old next self.new) }
     {
         let new = self.operands.pop();
         let indexes = self.operands.pop_values(alloc, indexes_in(path))?;
         let Some(indexes) = indexes else {
-            return Ok(Next::Fault(UNDEFINED_USED));
+            return self.pass_on(alloc, code, place);
         };
         let Some(new) = new.into_value(alloc)? else {
-            return Ok(Next::Fault(UNDEFINED_USED));
+            return self.pass_on(alloc, code, place);
         };
         self.store_at(alloc, n, path, &indexes, new)
     }
@@ -81,7 +109,8 @@ impl RunState {
         new: Value,
     ) -> Result<Next, NoMemory>
         requires within { n < length self.old.calls.locals }
-        ensures value { IfOk result (λ next. Does (stores_values steps.now indexes.now (seen new) n) self.old next self.new) }
+        ensures value { (counting : Option ℕ) → IfOk result (λ next.
+            Does (stores_values counting steps.now indexes.now (seen new) n) self.old next self.new) }
     {
         let old = self.calls.take(n);
         match stored_in(alloc, steps, indexes.as_slice(), new, old)? {

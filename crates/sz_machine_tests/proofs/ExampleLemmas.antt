@@ -38,7 +38,7 @@ record_ends input = record {
   outcome = Done (record { table = 0; indexes = []; value = int (pos 5); weight = None } ∷ []);
   ends = record {
     end = Halts (record { left = 0; emits = record { table = 0; indexes = []; value = int (pos 5); weight = None } ∷ [] }) (Some (int (pos 5)) ∷ []);
-    comes = record { steps = 3; runs = (_, ((omega arith), refl), (_, ((omega arith, (tt, refl, tt)), refl), (_, (tt, refl), refl))) };
+    comes = record { steps = 3; runs = (_, ((omega arith), refl), (_, ((omega arith, (tt, refl, tt), tt), refl), (_, (tt, refl), refl))) };
     is = refl;
   };
 }

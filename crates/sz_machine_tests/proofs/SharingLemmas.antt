@@ -42,13 +42,13 @@ sharing_ends input = record {
           ((omega arith), refl),
           (
             _,
-            ((omega arith, (omega arith, (Shape.array Shape.int, Shape.array Shape.int, [], (refl, refl), tt, tt, refl))), refl),
+            ((omega arith, (omega arith, (Shape.array Shape.int, Shape.array Shape.int, [], (refl, refl), tt, tt, refl)), tt), refl),
             (
               _,
               ((omega arith), refl),
               (
                 _,
-                ((omega arith, (omega arith, (Shape.array Shape.int, Shape.array Shape.int, [], (refl, refl), tt, tt, refl))), refl),
+                ((omega arith, (omega arith, (Shape.array Shape.int, Shape.array Shape.int, [], (refl, refl), tt, tt, refl)), tt), refl),
                 (
                   _,
                   ((omega arith), refl),
@@ -57,7 +57,7 @@ sharing_ends input = record {
                     ((omega arith), refl),
                     (
                       _,
-                      ((omega arith, (omega arith, (Shape.array Shape.int, Shape.int, (Shape.int ∷ []), (refl, (refl, refl)), refl, (refl, tt), refl))), refl),
+                      ((omega arith, (omega arith, (Shape.array Shape.int, Shape.int, (Shape.int ∷ []), (refl, (refl, refl)), refl, (refl, tt), refl)), tt), refl),
                       (
                         _,
                         ((omega arith), refl),
@@ -69,7 +69,7 @@ sharing_ends input = record {
                             ((Shape.array Shape.int, Shape.int, Shape.int, refl, refl, refl), refl),
                             (
                               _,
-                              ((omega arith, (tt, refl, tt)), refl),
+                              ((omega arith, (tt, refl, tt), tt), refl),
                               (
                                 _,
                                 ((omega arith), refl),
@@ -81,7 +81,7 @@ sharing_ends input = record {
                                     ((Shape.array Shape.int, Shape.int, Shape.int, refl, refl, refl), refl),
                                     (
                                       _,
-                                      ((omega arith, (tt, refl, tt)), refl),
+                                      ((omega arith, (tt, refl, tt), tt), refl),
                                       (
                                         _,
                                         ((omega arith), refl),
@@ -93,7 +93,7 @@ sharing_ends input = record {
                                             ((Shape.int, Shape.int, Shape.int, refl, refl, refl), refl),
                                             (
                                               _,
-                                              ((omega arith, (tt, refl, tt)), refl),
+                                              ((omega arith, (tt, refl, tt), tt), refl),
                                               (
                                                 _,
                                                 ((omega arith), refl),
@@ -105,7 +105,7 @@ sharing_ends input = record {
                                                     ((Shape.int, Shape.int, Shape.int, refl, refl, refl), refl),
                                                     (
                                                       _,
-                                                      ((omega arith, (tt, refl, tt)), refl),
+                                                      ((omega arith, (tt, refl, tt), tt), refl),
                                                       (
                                                         _,
                                                         ((tt), refl),

@@ -1,5 +1,5 @@
 -- Code of six lines: a static that is 5, and a record that emits it.
-use Rattle.std.specs.Prelude.{ℕ, List, [], ◌∷◌, false, pos, codes}
+use Rattle.std.specs.Prelude.{ℕ, List, [], ◌∷◌, false, pos, codes, None}
 use Rattle.sz_value.specs.Data.{Datum}
 use Rattle.sz_instr.specs.declared.instr.Instr.TheVariants.{Push, Static, KeepStatic, EndRecord, Emit}
 use Rattle.sz_instr.specs.declared.line.Line.{Line}
@@ -27,4 +27,5 @@ example = record {
   constants = Datum.int (pos 5) ∷ [];
   types = [];
   tables = sum_named (codes "total") ∷ [];
+  ignore = None;
 }

@@ -1,5 +1,5 @@
 -- Code of a record alone: two locals hold one array, and an element of the first is changed; then two operators on whole numbers.
-use Rattle.std.specs.Prelude.{List, [], ◌∷◌, ◌++◌, false, pos, codes}
+use Rattle.std.specs.Prelude.{List, [], ◌∷◌, ◌++◌, false, pos, codes, None}
 use Rattle.sz_types.specs.declared.operator.BinOp.TheVariants.{Rem, Shl}
 use Rattle.sz_value.specs.Data.{Datum}
 use Rattle.sz_instr.specs.declared.step.Step.TheVariants as steps
@@ -38,4 +38,5 @@ sharing = record {
   constants = numbers;
   types = [];
   tables = sum_named (codes "total") ∷ [];
+  ignore = None;
 }

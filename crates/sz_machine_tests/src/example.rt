@@ -94,6 +94,7 @@ fn code_of_example(alloc: Global) -> Result<Code, NoMemory>
         constants: five(alloc)?,
         types: Tys::new(alloc),
         tables: one_table(alloc)?,
+        ignore: None,
     })
 }
 

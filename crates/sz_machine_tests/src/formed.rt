@@ -96,6 +96,7 @@ fn code_of_example(alloc: Global) -> Result<Code, NoMemory>
         constants,
         types,
         tables,
+        ignore: None,
     })
 }
 
@@ -153,13 +154,14 @@ fn one_table(alloc: Global) -> Result<TableDecls, NoMemory> {
 }
 
 // Whether code of two lines, the second with this instruction, is well formed with these routines: a function, a static, and that
-// of the record. It has one constant, two types, of which the second is a proto type, and one table.
+// of the record, and this table for lines. It has one constant, two types, of which the second is a proto type, and one table.
 fn is_formed(
     alloc: Global,
     instr: Instr,
     function: Parts,
     computes: Parts,
     main: Parts,
+    ignore: Option<u32>,
 ) -> Result<bool, NoMemory> {
     let lines = two_lines(alloc, instr)?;
     let functions = one_routine(alloc, function)?;
@@ -180,6 +182,7 @@ fn is_formed(
         constants,
         types,
         tables,
+        ignore,
     };
     let formed = well_formed(&code);
     drop(code);
@@ -188,7 +191,7 @@ fn is_formed(
 
 // The same of routines with three locals, two and one.
 fn is_instr_in_range(alloc: Global, instr: Instr) -> Result<bool, NoMemory> {
-    is_formed(alloc, instr, (0, 1, 3), (1, 0, 2), (0, 0, 1))
+    is_formed(alloc, instr, (0, 1, 3), (1, 0, 2), (0, 0, 1), None)
 }
 
 // The first of the instructions of which this isn't so, or is so if it isn't wanted, by its place.
@@ -239,7 +242,7 @@ fn up_to_the_last(alloc: Global) -> Result<Vec<Instr>, NoMemory> {
         Instr::Def,
         Instr::Tick,
         Instr::Jump(1),
-        Instr::Test(1),
+        Instr::Test(1, 1),
         Instr::AndTest(1),
         Instr::OrTest(1),
         Instr::Call(0),
@@ -270,7 +273,8 @@ fn after_the_last(alloc: Global) -> Result<Vec<Instr>, NoMemory> {
         Instr::Decode(0),
         Instr::Decode(2),
         Instr::Jump(2),
-        Instr::Test(2),
+        Instr::Test(2, 1),
+        Instr::Test(1, 2),
         Instr::AndTest(2),
         Instr::OrTest(2),
         Instr::Call(1),
@@ -316,6 +320,7 @@ fn is_local(alloc: Global, row: &Most) -> bool {
         (0, 0, function),
         (0, 0, computes),
         (0, 0, main),
+        None,
     );
     formed == Ok(wanted)
 }
@@ -343,9 +348,9 @@ fn routines() -> &'static [(Parts, bool)] {
 // Whether code is well formed with this routine as its function, as its static, and as that of the record.
 fn are_formed(alloc: Global, made: Parts) -> Result<(bool, bool, bool), NoMemory> {
     let plain = (0, 0, 0);
-    let function = is_formed(alloc, Instr::Tick, made, plain, plain)?;
-    let computes = is_formed(alloc, Instr::Tick, plain, made, plain)?;
-    let main = is_formed(alloc, Instr::Tick, plain, plain, made)?;
+    let function = is_formed(alloc, Instr::Tick, made, plain, plain, None)?;
+    let computes = is_formed(alloc, Instr::Tick, plain, made, plain, None)?;
+    let main = is_formed(alloc, Instr::Tick, plain, plain, made, None)?;
     Ok((function, computes, main))
 }
 
@@ -354,5 +359,21 @@ fn routines_begin_at_lines_and_have_their_parameters(rt: HostRuntime) {
     for (made, wanted) in routines() {
         let same = are_formed(rt.alloc(), *made) == Ok((*wanted, *wanted, *wanted));
         assert!(rt; same, "at {made:?}");
+    }
+}
+
+// The table for lines, and whether it is one of code with one table.
+const LINE_TABLES: &[(Option<u32>, bool)] = &[(None, true), (Some(0), true), (Some(1), false)];
+
+fn line_tables() -> &'static [(Option<u32>, bool)] {
+    LINE_TABLES
+}
+
+#[test]
+fn the_table_for_lines_is_one_of_the_code(rt: HostRuntime) {
+    let plain = (0, 0, 0);
+    for (table, wanted) in line_tables() {
+        let formed = is_formed(rt.alloc(), Instr::Tick, plain, plain, plain, *table);
+        assert_eq!(rt; formed, Ok(*wanted), "at {table:?}");
     }
 }

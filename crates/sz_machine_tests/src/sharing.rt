@@ -95,6 +95,7 @@ fn code_of_sharing(alloc: Global) -> Result<Code, NoMemory>
         constants: numbers(alloc)?,
         types: Tys::new(alloc),
         tables: one_table(alloc)?,
+        ignore: None,
     })
 }
 

@@ -1,7 +1,7 @@
 //! Command lines, and what each asks for.
 
 /// A row is words, ` => `, and what they ask for; `~` stands for an empty word. A run is told as its program, input, frame,
-/// workers, shard, attempts and budget, then its kills and its doubled shards.
+/// workers, shard, attempts and budget, then its kills and its doubled shards, and whether it ignores undefined values.
 pub const ROWS: &str = "\
 == commands
  => usage
@@ -263,6 +263,40 @@ run p f --twice 1.0 => usage
 run p f --twice +1 => usage
 run p f --twice ~ => usage
 run p f --twice 000000000000000000001 => usage
+== the flag of run
+run p f --ignore-undefs => run p f lines 4 1000 3 16777216 [] [] ignoring
+run --ignore-undefs p f => run p f lines 4 1000 3 16777216 [] [] ignoring
+run p --ignore-undefs f => run p f lines 4 1000 3 16777216 [] [] ignoring
+run --ignore-undefs -- p f => run p f lines 4 1000 3 16777216 [] [] ignoring
+run --ignore-undefs --frame delimited p f => run p f delimited 4 1000 3 16777216 [] [] ignoring
+run --frame=delimited --ignore-undefs p f => run p f delimited 4 1000 3 16777216 [] [] ignoring
+run p f --budget 5 --ignore-undefs --workers 2 => run p f lines 2 1000 3 5 [] [] ignoring
+run p f --twice 1 --kill 0.0.0 --ignore-undefs => run p f lines 4 1000 3 16777216 [0.0.0] [1] ignoring
+run -- p --ignore-undefs => run p --ignore-undefs lines 4 1000 3 16777216 [] []
+run --ignore-undefs -- --ignore-undefs f => run --ignore-undefs f lines 4 1000 3 16777216 [] [] ignoring
+run p f -- --ignore-undefs => usage
+run p f --ignore-undefs --ignore-undefs => usage
+run --ignore-undefs p --ignore-undefs f => usage
+run p f --ignore-undefs=x => usage
+run p f --ignore-undefs= => usage
+run p f --ignore-undefs x => usage
+run p f --ignore-undefs true => usage
+run p f --ignore-undef => usage
+run p f --ignore-undefss => usage
+run p f --Ignore-undefs => usage
+run p f -ignore-undefs => usage
+run p f --budget --ignore-undefs => usage
+run p f --budget --ignore-undefs 5 => usage
+run p f --bogus --ignore-undefs => usage
+run --ignore-undefs => usage
+run p --ignore-undefs => usage
+--ignore-undefs run p f => usage
+check p --ignore-undefs => usage
+check --ignore-undefs p => usage
+check p --ignore-undefs=x => usage
+check -- --ignore-undefs => check --ignore-undefs
+selftest 1 1 1 --ignore-undefs => usage
+selftest --ignore-undefs 1 1 1 => usage
 == check
 check p => check p
 check - => check -

@@ -71,6 +71,9 @@ fn told_run(alloc: Global, run: &RunSettings) -> Result<String, Fail> {
         write!(told, "{comma}{shard}")?;
     }
     told.push(']')?;
+    if run.ignore_undefs {
+        told.push_str(" ignoring")?;
+    }
     Ok(told)
 }
 

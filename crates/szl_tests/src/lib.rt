@@ -16,6 +16,8 @@ mod expressions;
 #[cfg(test)]
 mod gates;
 #[cfg(test)]
+mod ignoring;
+#[cfg(test)]
 mod kill_lists;
 #[cfg(test)]
 mod kill_lists_and_faults;

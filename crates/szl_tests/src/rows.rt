@@ -1,8 +1,8 @@
 //! Rows of whole runs, by subject: each run leaves what its row says.
 use crate::command::{NEVER, PLAIN, Setting, left, text_of};
 use crate::{
-    checks, expression_ticks, expressions, kill_lists, kill_lists_and_faults, kill_lists_of_pairs,
-    messages, runs, searches, statement_ticks, statements, tables, workers,
+    checks, expression_ticks, expressions, ignoring, kill_lists, kill_lists_and_faults,
+    kill_lists_of_pairs, messages, runs, searches, statement_ticks, statements, tables, workers,
 };
 use std::alloc::Global;
 use std::process::Abort;
@@ -22,7 +22,7 @@ fn rows_of_runs() -> [&'static str; 5] {
 }
 
 /// The rows of the language.
-fn rows_of_programs() -> [&'static str; 8] {
+fn rows_of_programs() -> [&'static str; 9] {
     [
         tables::RUNS,
         expressions::RUNS,
@@ -31,6 +31,7 @@ fn rows_of_programs() -> [&'static str; 8] {
         statement_ticks::RUNS,
         searches::RUNS,
         messages::RUNS,
+        ignoring::RUNS,
         checks::RUNS,
     ]
 }

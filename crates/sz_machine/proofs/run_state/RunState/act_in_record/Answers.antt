@@ -18,14 +18,14 @@ pub returns-in-Static : goal.returns-in-Static
 returns-in-Static c =
     let is : c.args.instr.now ≡ instr.Static c.in-Static.n = search rules in
     record {
-      value = IfOk-weaker c.push_static.result _ _ (λ next does place. rw is (does place (in_record c.args.at c.args.statics.now c.args.input.now) refl)) (c.push_static.ensures.value c.args.code.now);
+      value = IfOk-weaker c.push_static.result _ _ (λ next does. rw is (does (in_record c.args.at c.args.statics.now c.args.input.now) refl)) (c.push_static.ensures.value c.args.code.now c.args.place);
     }
 
 pub returns-in-Input : goal.returns-in-Input
 returns-in-Input c =
     let is : c.args.instr.now ≡ instr.Input = search rules in
     record {
-      value = IfOk-weaker c.push_input.result _ _ (λ next does place. rw is (does place (in_record c.args.at c.args.statics.now c.args.input.now) refl)) (c.push_input.ensures.value c.args.code.now);
+      value = IfOk-weaker c.push_input.result _ _ (λ next does. rw is (does (in_record c.args.at c.args.statics.now c.args.input.now) refl)) (c.push_input.ensures.value c.args.code.now c.args.place);
     }
 
 -- no static is kept while there is a record

@@ -17,10 +17,10 @@ pub returns-in-Static : goal.returns-in-Static
 returns-in-Static c =
     let is : c.args.instr.now ≡ instr.Static c.in-Static.n = search rules in
     record {
-      value = IfOk-weaker c.push_static.result _ _ (λ next does place. rw is (does place (in_static c.args.at c.args.statics.now) refl)) (c.push_static.ensures.value c.args.code.now);
+      value = IfOk-weaker c.push_static.result _ _ (λ next does. rw is (does (in_static c.args.at c.args.statics.now) refl)) (c.push_static.ensures.value c.args.code.now c.args.place);
     }
 
 pub returns-in-KeepStatic : goal.returns-in-KeepStatic
 returns-in-KeepStatic c =
     let is : c.args.instr.now ≡ instr.KeepStatic c.in-KeepStatic.n = search rules in
-    record { value = IfOk-weaker c.keep_static.result _ _ (λ next does place. rw is (does place)) (c.keep_static.ensures.value c.args.code.now c.args.at) }
+    record { value = IfOk-weaker c.keep_static.result _ _ (λ next does. rw is does) (c.keep_static.ensures.value c.args.code.now c.args.place c.args.at) }

@@ -29,39 +29,39 @@ act_apart-requires c = record {
 pub returns-in-Local : goal.returns-in-Local
 returns-in-Local c =
     let is : c.args.instr.now ≡ instr.Local c.in-Local.n = search rules in
-    record { value = IfOk-weaker c.push_local.result _ _ (λ next does place a at. rw is (does place a)) (c.push_local.ensures.value c.args.code.now) }
+    record { value = IfOk-weaker c.push_local.result _ _ (λ next does a at. rw is (does c.args.place a)) (c.push_local.ensures.value c.args.code.now) }
 
 pub returns-in-Keep : goal.returns-in-Keep
 returns-in-Keep c =
     let is : c.args.instr.now ≡ instr.Keep c.in-Keep.n = search rules in
-    record { value = λ place a at. rw is (c.keep.ensures.value c.args.code.now place a) }
+    record { value = λ a at. rw is (c.keep.ensures.value c.args.code.now c.args.place a) }
 
 pub returns-in-Clear : goal.returns-in-Clear
 returns-in-Clear c =
     let is : c.args.instr.now ≡ instr.Clear c.in-Clear.n = search rules in
-    record { value = λ place a at. rw is (c.clear.ensures.value c.args.code.now place a) }
+    record { value = λ a at. rw is (c.clear.ensures.value c.args.code.now c.args.place a) }
 
 pub returns-in-Binary : goal.returns-in-Binary
 returns-in-Binary c =
     let is : c.args.instr.now ≡ instr.Binary c.in-Binary.op = search rules in
-    record { value = IfOk-weaker c.binary.result _ _ (λ next does place a at. rw is (does place a)) (c.binary.ensures.value c.args.code.now) }
+    record { value = IfOk-weaker c.binary.result _ _ (λ next does a at. rw is (does c.args.place a)) (c.binary.ensures.value c.args.code.now) }
 
 pub returns-in-Test : goal.returns-in-Test
 returns-in-Test c =
-    let is : c.args.instr.now ≡ instr.Test c.in-Test.to = search rules in
-    record { value = λ place a at. rw is (c.test.ensures.value c.args.code.now place a) }
+    let is : c.args.instr.now ≡ instr.Test c.in-Test.to c.in-Test.past = search rules in
+    record { value = IfOk-weaker c.test.result _ _ (λ next does a at. rw is (does a)) c.test.ensures.value }
 
 pub returns-in-AndTest : goal.returns-in-AndTest
 returns-in-AndTest c =
     let is : c.args.instr.now ≡ instr.AndTest c.in-AndTest.to = search rules in
-    record { value = λ place a at. rw is (c.and_test.ensures.value c.args.code.now place a) }
+    record { value = λ a at. rw is (c.and_test.ensures.value c.args.code.now c.args.place a) }
 
 pub returns-in-OrTest : goal.returns-in-OrTest
 returns-in-OrTest c =
     let is : c.args.instr.now ≡ instr.OrTest c.in-OrTest.to = search rules in
-    record { value = λ place a at. rw is (c.or_test.ensures.value c.args.code.now place a) }
+    record { value = λ a at. rw is (c.or_test.ensures.value c.args.code.now c.args.place a) }
 
 pub returns-in-Emit : goal.returns-in-Emit
 returns-in-Emit c =
     let is : c.args.instr.now ≡ instr.Emit c.in-Emit.table c.in-Emit.indexes c.in-Emit.weighted = search rules in
-    record { value = IfOk-weaker c.emit.result _ _ (λ next does place a at. rw is (does place a)) (c.emit.ensures.value c.args.code.now) }
+    record { value = IfOk-weaker c.emit.result _ _ (λ next does a at. rw is (does a)) c.emit.ensures.value }

@@ -10,9 +10,9 @@ returns-then-weighted c =
     let weighted : c.args.weighted ≡ true = search rules in
     let within : c.args.indexes + 2 ≤ length c.args.self.now.operands = rw weighted at c.requires.within in
     record {
-      value = λ code. IfOk-weaker c.emit_on_top.result _ _
-          (λ next does place a. rw weighted (emits_with_weight code c.args.table c.args.indexes place (state_of c.args.self.now a) c.pop-weight.result
-          c.pop-weight.new.self c.pop-weight.ensures.value within ∙ does place a))
+      value = IfOk-weaker c.emit_on_top.result _ _
+          (λ next does a. rw weighted (emits_with_weight c.args.code.now c.args.table c.args.indexes c.args.place (state_of c.args.self.now a) c.pop-weight.result
+          c.pop-weight.new.self c.pop-weight.ensures.value within ∙ does a))
           c.emit_on_top.ensures.value;
     }
 
@@ -21,7 +21,7 @@ returns-else-weighted c =
     let weighted : c.args.weighted ≡ false = search rules in
     let within : c.args.indexes + 1 ≤ length c.args.self.now.operands = rw weighted at c.requires.within in
     record {
-      value = λ code. IfOk-weaker c.emit_on_top-else-weighted.result _ _
-          (λ next does place a. rw weighted (emits_without code c.args.table c.args.indexes place (state_of c.args.self.now a) within ∙ does place a))
+      value = IfOk-weaker c.emit_on_top-else-weighted.result _ _
+          (λ next does a. rw weighted (emits_without c.args.code.now c.args.table c.args.indexes c.args.place (state_of c.args.self.now a) within ∙ does a))
           c.emit_on_top-else-weighted.ensures.value;
     }

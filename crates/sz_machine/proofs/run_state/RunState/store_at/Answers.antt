@@ -20,6 +20,6 @@ returns-in-Some c =
     let kept : c.keep.new.self ≡ record calls { locals = slice_set calls.locals n c.in-Some.cell } =
     search (rules, set-set calls.locals n None c.in-Some.cell) in
     record {
-      value = λ place a. rw kept (holds place n (state_of c.args.self.now a) c.args.self.now.operands
+      value = λ counting place a. rw kept (holds counting place n (state_of c.args.self.now a) c.args.self.now.operands
           (replaced_by c.args.steps.now c.args.indexes.now (seen c.args.new) (slot_at calls.locals n)) c.in-Some.cell becomes);
     }
