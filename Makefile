@@ -1,0 +1,36 @@
+# make install PREFIX=/usr/local: the program, which ./szl builds and proves first where it has to, szl-rows, the manual pages, completions for
+# bash and zsh, and the files of editors. DESTDIR stands before every name, as packages want it. PROGRAM may name a program that is built
+# already.
+PREFIX = /usr/local
+DESTDIR =
+built = crates/szl_cli/out/szl_cli
+PROGRAM = $(built)
+
+share = $(DESTDIR)$(PREFIX)/share
+vim = $(share)/vim/vimfiles
+put = install -D -m 644
+
+all: $(built)
+
+$(built): always
+	./szl check - </dev/null
+
+install: $(PROGRAM)
+	install -D -m 755 $(PROGRAM) $(DESTDIR)$(PREFIX)/bin/szl
+	install -D -m 755 tools/szl-rows $(DESTDIR)$(PREFIX)/bin/szl-rows
+	$(put) man/szl.1 $(share)/man/man1/szl.1
+	$(put) man/szl-rows.1 $(share)/man/man1/szl-rows.1
+	$(put) completions/szl.bash $(share)/bash-completion/completions/szl
+	ln -sf szl $(share)/bash-completion/completions/szl-rows
+	$(put) completions/_szl $(share)/zsh/site-functions/_szl
+	for it in compiler ftdetect ftplugin syntax; do $(put) editors/vim/$$it/szl.vim $(vim)/$$it/szl.vim || exit; done
+	$(put) editors/szl.tmLanguage.json $(share)/szl/szl.tmLanguage.json
+
+uninstall:
+	rm -f $(DESTDIR)$(PREFIX)/bin/szl $(DESTDIR)$(PREFIX)/bin/szl-rows
+	rm -f $(share)/man/man1/szl.1 $(share)/man/man1/szl-rows.1
+	rm -f $(share)/bash-completion/completions/szl $(share)/bash-completion/completions/szl-rows $(share)/zsh/site-functions/_szl
+	rm -f $(vim)/compiler/szl.vim $(vim)/ftdetect/szl.vim $(vim)/ftplugin/szl.vim $(vim)/syntax/szl.vim
+	rm -rf $(share)/szl
+
+.PHONY: all always install uninstall

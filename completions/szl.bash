@@ -1,0 +1,38 @@
+# Completion of szl for bash: commands, options, their words, and names of files.
+_szl() {
+    local word=${COMP_WORDS[COMP_CWORD]} before=${COMP_WORDS[COMP_CWORD-1]}
+    [ "$before" = "=" ] && before=${COMP_WORDS[COMP_CWORD-2]}
+    [ "$word" = "=" ] && word=
+    COMPREPLY=()
+    if [ "$COMP_CWORD" -eq 1 ]; then
+        mapfile -t COMPREPLY < <(compgen -W "run check selftest" -- "$word")
+        return
+    fi
+    case $before in
+    --frame) mapfile -t COMPREPLY < <(compgen -W "lines delimited" -- "$word") ;;
+    --workers | --budget | --shard | --attempts | --kill | --twice) ;;
+    *)
+        if [[ $word == -* && ${COMP_WORDS[1]} == run ]]; then
+            mapfile -t COMPREPLY < <(compgen -W "--frame --workers --budget --shard --attempts --kill --twice" -- "$word")
+        elif [ "${COMP_WORDS[1]}" != selftest ]; then
+            compopt -o filenames
+            mapfile -t COMPREPLY < <(compgen -f -- "$word")
+        fi
+        ;;
+    esac
+}
+complete -F _szl szl
+
+# Completion of szl-rows.
+_szl_rows() {
+    local word=${COMP_WORDS[COMP_CWORD]}
+    COMPREPLY=()
+    [ "${COMP_WORDS[COMP_CWORD-1]}" = --table ] && return
+    if [[ $word == -* ]]; then
+        mapfile -t COMPREPLY < <(compgen -W "--json --csv --tsv --back --table" -- "$word")
+    else
+        compopt -o filenames
+        mapfile -t COMPREPLY < <(compgen -f -- "$word")
+    fi
+}
+complete -F _szl_rows szl-rows
