@@ -13,7 +13,7 @@ _szl() {
     --workers | --budget | --shard | --attempts | --kill | --twice) ;;
     *)
         if [[ $word == -* && ${COMP_WORDS[1]} == run ]]; then
-            mapfile -t COMPREPLY < <(compgen -W "--frame --workers --budget --shard --attempts --kill --twice" -- "$word")
+            mapfile -t COMPREPLY < <(compgen -W "--frame --workers --budget --shard --attempts --kill --twice --ignore-undefs" -- "$word")
         elif [ "${COMP_WORDS[1]}" != selftest ]; then
             compopt -o filenames
             mapfile -t COMPREPLY < <(compgen -f -- "$word")
