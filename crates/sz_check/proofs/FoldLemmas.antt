@@ -10,7 +10,7 @@ use Rattle.sz_check_rules.specs.Refusals.{Judged, ◌>>=◌}
 use Rattle.sz_check_rules.specs.Names.{Block}
 use Rattle.sz_check_rules.specs.Scene.{Scene, with_quantified}
 use Rattle.sz_check_names.specs.Outcome.{Stops}
-use Rattle.sz_check_names.specs.declared.error.CheckError.{CheckError}
+use Rattle.sz_check_names.specs.declared.error.JudgeError.{JudgeError}
 use Rattle.sz_check_rules.specs.EmittingTrees.{is_seen_inside}
 use Rattle.sz_check_rules.specs.Quantifying.{Variable, Declared, judge_names, judge_quantifier, judge_quantifiers, bind, bind_inside, may_follow, all_last}
 use Rattle.sz_check_names.proofs.TurnLemmas.{stops_then, goes_on}
@@ -30,7 +30,7 @@ pub record Goes {A S : Type 0} (step : A → S → Judged S) (whole : List A →
 
 module _ {A S : Type 0} {step : A → S → Judged S} {whole : List A → S → Judged S} (goes : Goes step whole) where
   -- an element that is refused stops all
-  pub fold_fails : (xs rest : List A) (x : A) (s : S) (e : CheckError) (all : Judged S) → xs ≡ x ∷ rest → Stops e (step x s) → whole xs s ≡ all → Stops e all
+  pub fold_fails : (xs rest : List A) (x : A) (s : S) (e : JudgeError) (all : Judged S) → xs ≡ x ∷ rest → Stops e (step x s) → whole xs s ≡ all → Stops e all
   fold_fails xs rest x s e all is h so_far =
       stops_then e (step x s) (whole rest) all h (sym (goes.more x rest s) ∙ ap (λ (l : List A). whole l s) (sym is) ∙ so_far)
 
@@ -55,7 +55,7 @@ names_go q t = record {
 }
 
 -- one name, which is refused or declared; its type may have another spelling
-pub name_stops : (q : Quantity) (t u : Shape) (n : Ident) (d : Declared) (e : CheckError) → u ≡ t → Stops e (with_quantified n u d.scene)
+pub name_stops : (q : Quantity) (t u : Shape) (n : Ident) (d : Declared) (e : JudgeError) → u ≡ t → Stops e (with_quantified n u d.scene)
     → Stops e (judge_names q t (n ∷ []) d)
 unfolding judge_names
 name_stops q t u n d e same h =

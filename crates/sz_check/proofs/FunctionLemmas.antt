@@ -23,7 +23,7 @@ use Rattle.sz_check_rules.specs.JudgingStatements.{judge_stms}
 use Rattle.sz_check_rules.specs.JudgingPrograms.{TopScene, Found, blocks_of, judge_parameters, innermost_on, in_function, judge_function}
 use Rattle.sz_check.specs.Functions.{front_of, judge_header, declare_parameters, Body, judge_body, finished, judge_function_by_parts}
 use Rattle.sz_check_names.specs.Outcome.{Stops}
-use Rattle.sz_check_names.specs.declared.error.CheckError.{CheckError}
+use Rattle.sz_check_names.specs.declared.error.JudgeError.{JudgeError}
 use Rattle.sz_check_rules.proofs.Holds.{good, good_is}
 use Rattle.sz_check_names.proofs.TurnLemmas.{stops_then, goes_on}
 use Rattle.sz_types.proofs.ForCallers.{rest_more}
@@ -142,7 +142,7 @@ module _ (k : TopScene) (n : Ident) (ps : Params) (t : Typ) (ss : Stms) (s : Sig
       (goes_on (judge_header (blocks_of k) n ps t ss) (by_parts k n ps t ss) (judge_function k n ps t ss) s header (sym (function_is k n ps t ss)))
 
   -- a refusal of its statements is that of the function
-  pub body_fails : (e : CheckError) → Stops e (judge_body own ps s ss) → Stops e (judge_function k n ps t ss)
+  pub body_fails : (e : JudgeError) → Stops e (judge_body own ps s ss) → Stops e (judge_function k n ps t ss)
   body_fails e h = stops_then e (judge_body own ps s ss) (λ body. Ok (finished k own s body)) (judge_function k n ps t ss) h left
 
   -- what its statements make of it is the function
@@ -168,7 +168,7 @@ module _ (s : Scene) (ps : List Param) (us : List Ty) (i : ℕ) where
   declare_turn p u within_ps within_us p_is u_is = rw (rest_more param_of ps i p within_ps p_is, rest_more seen us i u within_us u_is) refl
 
   -- a parameter that is refused stops all, with a copy of its type
-  pub declare_fails : (p : Param) (u : Ty) (v : Shape) (e : CheckError) (whole : Judged Scene) → i < length ps → i < length us → p ≡ get_or ps i p
+  pub declare_fails : (p : Param) (u : Ty) (v : Shape) (e : JudgeError) (whole : Judged Scene) → i < length ps → i < length us → p ≡ get_or ps i p
       → u ≡ get_or us i u → v ≡ seen u → Stops e (with_variable p.name v s) → rest s i ≡ whole → Stops e whole
   declare_fails p u v e whole within_ps within_us p_is u_is same h so_far =
       stops_then e (with_variable p.name (seen u) s) (λ t. rest t (i + 1)) whole (subst (λ w. Stops e (with_variable p.name w s)) same h)

@@ -2,7 +2,7 @@
 use Rattle.std.proofs.Common.{◌≡◌, ℕ, ◌+◌, ◌<◌, ◌≤◌, List, ◌++◌, length, get_or, drop, map}
 use Rattle.std.proofs.Common.{refl, sym, ap, ◌∙◌, append_assoc}
 use Rattle.std.proofs.lemmas.List.{append-nil}
-use Rattle.std.specs.Prelude.{Ok, Err, Option}
+use Rattle.std.specs.Prelude.{Ok, Err}
 use Rattle.std.specs.Global.{Vec}
 use Rattle.sz_tree.specs.declared.stmt.Stmt.{Stmt}
 use Rattle.sz_tree.specs.declared.stmt.Stmt.TheVariants as stmts
@@ -13,21 +13,15 @@ use Rattle.sz_tree.specs.Names.{Ident}
 use Rattle.sz_tree.specs.Statements.{stms_of}
 use Rattle.sz_tree.specs.View.{stm_of, param_of, type_of}
 use Rattle.sz_tree.proofs.RowLemmas.{stm_of_function}
-use Rattle.sz_core.specs.Programs.{Item}
+use Rattle.sz_core.specs.Programs.{Item, Core}
 use Rattle.sz_check_rules.specs.Refusals.{Judged, ◌>>=◌}
-use Rattle.sz_check_rules.specs.JudgingPrograms.{TopScene, Found, blocks_of, kind_of, limit_of, judge_elems, judge_weight, declaration_of, judge_table}
+use Rattle.sz_check_rules.specs.JudgingPrograms.{TopScene, Found}
 use Rattle.sz_check_rules.specs.JudgingPrograms.{judge_function, judge_top, judge_all}
-use Rattle.sz_check_rules.specs.JudgingTypes.{judge_type}
-use Rattle.sz_types.specs.Data.{Shape}
-use Rattle.sz_types.specs.Tables.{Declaration}
-use Rattle.sz_types.specs.declared.table.TableKind.{TableKind}
-use Rattle.sz_tree.specs.Statements.{TableForm}
-use Rattle.sz_check_table.specs.Tables.{judge_table_declaration}
-use Rattle.sz_check.specs.Declaring.{declare_table}
 use Rattle.sz_check.specs.Top.{with_items}
+use Rattle.sz_check.specs.Answering.{numbered, Answers}
 use Rattle.sz_check_names.specs.Outcome.{Stops}
-use Rattle.sz_check_names.specs.declared.error.CheckError.{CheckError}
-use Rattle.sz_check_names.specs.declared.error.CheckError.TheVariants as errors
+use Rattle.sz_check_names.specs.declared.error.JudgeError.{JudgeError}
+use Rattle.sz_check_names.specs.declared.error.JudgeError.TheVariants as errors
 use Rattle.sz_types.proofs.ForCallers.{rest_more, rest_none}
 
 -- the statements after the first, with what the first is
@@ -39,7 +33,7 @@ all_turn : (k : TopScene) (ts : List Stmt) (i : ℕ) (t : Stmt) → i < length t
 unfolding judge_all
 all_turn k ts i t within is = rw (rest_more stm_of ts i t within is) refl
 
-pub all_fails : (front : List Item) (k : TopScene) (ts : List Stmt) (i : ℕ) (t : Stmt) (e : CheckError) (whole : Judged Found) → i < length ts
+pub all_fails : (front : List Item) (k : TopScene) (ts : List Stmt) (i : ℕ) (t : Stmt) (e : JudgeError) (whole : Judged Found) → i < length ts
     → t ≡ get_or ts i t → Stops e (judge_top k (stm_of t)) → with_items front (judge_all k (stms_of (map stm_of (drop i ts)))) ≡ whole → Stops e whole
 all_fails front k ts i t errors.NoMemory whole within is h so_far = tt
 all_fails front k ts i t (errors.Refused n p name) whole within is h so_far =
@@ -73,18 +67,7 @@ of_function k s n params t body ps ss is ps_are ss_are =
     ap (λ (r : Stmt). judge_top k (stm_of r)) is ∙ ap (judge_top k) (stm_of_function n params t body)
     ∙ (λ i. judge_function k n (params_of (map param_of (sym ps_are i))) (type_of t) (stms_of (map stm_of (sym ss_are i))))
 
--- a declaration of a table is judged, and then declared
-judged_then : (a : Judged TableKind) (b : Judged (List Shape)) (c : Judged Shape) (d : Judged (Option Shape))
-    (e : TableKind → List Shape → Shape → Option Shape → Judged Declaration) (rest : Declaration → Judged Found)
-    → (a >>= λ k. b >>= λ indexes. c >>= λ element. d >>= λ weight. e k indexes element weight >>= rest)
-    ≡ ((a >>= λ k. b >>= λ indexes. c >>= λ element. d >>= λ weight. e k indexes element weight) >>= rest)
-judged_then (Err r) b c d e rest = refl
-judged_then (Ok k) (Err r) c d e rest = refl
-judged_then (Ok k) (Ok indexes) (Err r) d e rest = refl
-judged_then (Ok k) (Ok indexes) (Ok element) (Err r) e rest = refl
-judged_then (Ok k) (Ok indexes) (Ok element) (Ok weight) e rest = refl
-
-pub table_by_parts : (k : TopScene) (n : Ident) (f : TableForm) → judge_table k n f ≡ (judge_table_declaration (blocks_of k) n f >>= declare_table k n)
-table_by_parts k n f =
-    judged_then (kind_of f.kind) (judge_elems (blocks_of k) f.indexes) (judge_type (blocks_of k) f.of.of) (judge_weight (blocks_of k) f.weight)
-    (λ kind. declaration_of n f.kind kind (limit_of kind f.argument)) (declare_table k n)
+-- what stops the judgement is answered with its number
+pub answers_stopped : (e : JudgeError) (judged : Judged Core) → Stops e judged → Answers (Err (numbered e)) judged
+answers_stopped (errors.Refused cause p name) judged h = (cause, refl, h)
+answers_stopped errors.NoMemory judged h = tt

@@ -1,32 +1,31 @@
 -- Turns of the loops over steps, statements and parameters.
 use Rattle.std.proofs.Common.{◌≡◌, ℕ, ◌+◌, ◌<◌, ◌≤◌, List, [], ◌∷◌, ◌++◌, length, get_or, drop, map, refl, sym, ap, ◌∙◌}
 use Rattle.std.proofs.Math.Path.{fun_ext}
-use Rattle.std.specs.Prelude.{None, Ok, Err}
+use Rattle.std.specs.Prelude.{Ok, Err}
 use Rattle.sz_types.specs.Data.{Shape}
 use Rattle.sz_types.specs.declared.place.Place.{Place}
 use Rattle.sz_tree.specs.declared.stmt.Step.{Step}
 use Rattle.sz_tree.specs.declared.stmt.Stmt.{Stmt}
 use Rattle.sz_tree.specs.declared.types.Param.{Param}
-use Rattle.sz_tree.specs.Statements.{StepForm, stms_of}
+use Rattle.sz_tree.specs.Statements.{stms_of}
 use Rattle.sz_tree.specs.Statements as trees
 use Rattle.sz_tree.specs.Types.{params_of}
 use Rattle.sz_tree.specs.View.{step_of, stm_of, param_of, type_of}
-use Rattle.sz_core.specs.Statements.{Stm, with_stm}
+use Rattle.sz_core.specs.Statements.{Stm}
 use Rattle.sz_core.specs.Statements as core
 use Rattle.sz_check_rules.specs.Refusals.{Judged, ◌>>=◌}
 use Rattle.sz_check_rules.specs.Names as names
 use Rattle.sz_check_rules.specs.JudgingTypes.{judge_type}
-use Rattle.sz_check_rules.specs.JudgingParts.{field_in}
 use Rattle.sz_check_rules.specs.Scene.{Scene, with_variable}
-use Rattle.sz_check_rules.specs.Scenes.{Later, AllAfter, judge}
+use Rattle.sz_check_rules.specs.Scenes.{Later, AllAfter}
 use Rattle.sz_check_rules.specs.JudgingStatements.{Around, judge_stm, judge_stms}
-use Rattle.sz_check_rules.specs.JudgingPaths.{Target, stepped, indexed, judge_steps}
+use Rattle.sz_check_rules.specs.JudgingPaths.{Target, judge_steps}
 use Rattle.sz_check_rules.specs.JudgingPrograms.{judge_parameters}
 use Rattle.sz_check_names.specs.Turns.{following, put_all}
-use Rattle.sz_check.specs.Targets.{judge_step}
+use Rattle.sz_check_rules.specs.JudgingPaths.{judge_step}
 use Rattle.sz_check.specs.Later.{in_front}
 use Rattle.sz_check_names.specs.Outcome.{Stops}
-use Rattle.sz_check_names.specs.declared.error.CheckError.{CheckError}
+use Rattle.sz_check_names.specs.declared.error.JudgeError.{JudgeError}
 use Rattle.sz_check_names.proofs.TurnLemmas.{later_next, after_ends, turn_fails, stops_then, goes_on}
 use Rattle.sz_types.proofs.ForCallers.{rest_more, rest_none}
 
@@ -35,17 +34,12 @@ pub assoc : {A B C : Type 0} (j : Judged A) (f : A → Judged B) (g : B → Judg
 assoc (Ok x) f g = refl
 assoc (Err r) f g = refl
 
-step_turn : (s : Scene) (p : Place) (t : Target) (x : StepForm) (xs : List StepForm)
-    → judge_steps s p t (x ∷ xs) ≡ (judge_step s p t x >>= λ u. judge_steps s p u xs)
-unfolding judge_steps
-step_turn s p t (trees.at_index e) xs = assoc (judge s None e) (λ n. indexed p t t.type e n) (λ u. judge_steps s p u xs)
-step_turn s p t (trees.at_field f) xs = assoc (field_in p t.type f) (λ x. Ok (stepped t (core.at_field x.place) x.type)) (λ u. judge_steps s p u xs)
-
 steps_turn : (s : Scene) (p : Place) (t : Target) (xs : List Step) (i : ℕ) (x : Step) → i < length xs → x ≡ get_or xs i x
     → judge_steps s p t (map step_of (drop i xs)) ≡ (judge_step s p t (step_of x) >>= λ u. judge_steps s p u (map step_of (drop (i + 1) xs)))
-steps_turn s p t xs i x within is = ap (judge_steps s p t) (rest_more step_of xs i x within is) ∙ step_turn s p t (step_of x) (map step_of (drop (i + 1) xs))
+unfolding judge_steps
+steps_turn s p t xs i x within is = ap (judge_steps s p t) (rest_more step_of xs i x within is)
 
-pub steps_fail : (s : Scene) (p : Place) (t : Target) (xs : List Step) (i : ℕ) (x : Step) (e : CheckError) (whole : Judged Target) → i < length xs
+pub steps_fail : (s : Scene) (p : Place) (t : Target) (xs : List Step) (i : ℕ) (x : Step) (e : JudgeError) (whole : Judged Target) → i < length xs
     → x ≡ get_or xs i x
     → Stops e (judge_step s p t (step_of x)) → judge_steps s p t (map step_of (drop i xs)) ≡ whole → Stops e whole
 steps_fail s p t xs i x e whole within is h so_far = stops_then e _ _ whole h (sym (steps_turn s p t xs i x within is) ∙ so_far)
@@ -71,7 +65,7 @@ stms_turn : (a : Around) (s : Scene) (ts : List Stmt) (i : ℕ) (t : Stmt) → i
 unfolding judge_stms
 stms_turn a s ts i t within is = rw (rest_more stm_of ts i t within is) refl
 
-pub stms_fail : (front : List Stm) (a : Around) (s : Scene) (ts : List Stmt) (i : ℕ) (t : Stmt) (e : CheckError) (whole : Judged AllAfter) → i < length ts
+pub stms_fail : (front : List Stm) (a : Around) (s : Scene) (ts : List Stmt) (i : ℕ) (t : Stmt) (e : JudgeError) (whole : Judged AllAfter) → i < length ts
     → t ≡ get_or ts i t
     → Stops e (judge_stm a s (stm_of t)) → following in_front front (judge_stms a s (stms_of (map stm_of (drop i ts)))) ≡ whole → Stops e whole
 stms_fail front a s ts i t e whole within is h so_far = turn_fails in_front front e _ _ _ whole (stms_turn a s ts i t within is) h so_far
@@ -102,11 +96,11 @@ params_turn s ps i p within is =
     assoc (names.declare p.name (names.variable (length s.locals) u) s.blocks) (λ blocks. Ok (record { blocks = blocks; locals = s.locals ++ u ∷ [] }))
     (λ t. judge_parameters t (params_of (map param_of (drop (i + 1) ps)))))))
 
-pub param_type_fails : (s : Scene) (ps : List Param) (i : ℕ) (p : Param) (e : CheckError) (whole : Judged Scene) → i < length ps → p ≡ get_or ps i p
+pub param_type_fails : (s : Scene) (ps : List Param) (i : ℕ) (p : Param) (e : JudgeError) (whole : Judged Scene) → i < length ps → p ≡ get_or ps i p
     → Stops e (judge_type s.blocks (type_of p.of)) → judge_parameters s (params_of (map param_of (drop i ps))) ≡ whole → Stops e whole
 param_type_fails s ps i p e whole within is h so_far = stops_then e _ _ whole h (sym (params_turn s ps i p within is) ∙ so_far)
 
-pub param_fails : (s : Scene) (ps : List Param) (i : ℕ) (p : Param) (u : Shape) (e : CheckError) (whole : Judged Scene) → i < length ps → p ≡ get_or ps i p
+pub param_fails : (s : Scene) (ps : List Param) (i : ℕ) (p : Param) (u : Shape) (e : JudgeError) (whole : Judged Scene) → i < length ps → p ≡ get_or ps i p
     → judge_type s.blocks (type_of p.of) ≡ Ok u → Stops e (with_variable p.name u s) → judge_parameters s (params_of (map param_of (drop i ps))) ≡ whole
     → Stops e whole
 param_fails s ps i p u e whole within is typed h so_far =

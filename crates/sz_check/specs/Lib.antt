@@ -1,4 +1,5 @@
 -- what the public contracts rest on
+pub mod Answering
 -- what the functions inside the crate promise each other
 pub mod Targets
 pub mod Quantified
@@ -6,4 +7,3 @@ pub mod Later
 pub mod Top
 pub mod Functions
 pub mod FunctionParts
-pub mod Declaring

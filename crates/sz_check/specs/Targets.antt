@@ -1,22 +1,16 @@
 -- What contracts see of where a path has come to, and one step of it.
-use Rattle.std.specs.Prelude.{ℕ, List, map, None, false, Ok}
+use Rattle.std.specs.Prelude.{ℕ, List, map, false}
 use Rattle.sz_types.specs.Data.{Shape}
 use Rattle.sz_types.specs.Seen.{seen}
-use Rattle.sz_types.specs.declared.place.Place.{Place}
 use Rattle.sz_types.specs.declared.ty.Ty.{Ty}
 use Rattle.sz_tree.specs.Names.{Ident}
 use Rattle.sz_tree.specs.Statements.{StepForm, PathForm}
-use Rattle.sz_tree.specs.Statements as trees
 use Rattle.sz_core.specs.Nodes.{Node}
-use Rattle.sz_core.specs.Statements.{at_index, at_field}
+use Rattle.sz_core.specs.Statements.{at_index}
 use Rattle.sz_core.specs.View.{step_of}
 use Rattle.sz_check.specs.declared.target.Target.{Target as Reached}
-use Rattle.sz_check_rules.specs.Refusals.{Judged, ◌>>=◌, unless, not_assignable}
 use Rattle.sz_check_rules.specs.Agreeing.{Found}
-use Rattle.sz_check_rules.specs.JudgingParts.{field_in}
-use Rattle.sz_check_rules.specs.Scene.{Scene}
-use Rattle.sz_check_rules.specs.Scenes.{judge}
-use Rattle.sz_check_rules.specs.JudgingPaths.{Target, stepped, indexed}
+use Rattle.sz_check_rules.specs.JudgingPaths.{Target, stepped}
 
 -- where a path has come to
 abbrev pub target_seen : Reached → Target
@@ -39,18 +33,3 @@ to_part t _ n u = stepped t (at_index n) u
 -- a field by its number, and its type
 abbrev pub part_of : ℕ × Ty → Found
 part_of f = record { place = f.0; type = seen f.1 }
-
--- the next step of a path that begins at this place
-abbrev pub judge_step : Scene → Place → Target → StepForm → Judged Target
-judge_step s p t (trees.at_index e) = do
-  n ← judge s None e
-  indexed p t t.type e n
-judge_step s p t (trees.at_field f) = do
-  x ← field_in p t.type f
-  Ok (stepped t (at_field x.place) x.type)
-
--- what a path that begins with this name has come to, where it can be assigned to
-abbrev pub assignable : Ident → Target → Judged Target
-assignable n t = do
-  _ ← unless t.assignable (not_assignable n)
-  Ok t

@@ -4,13 +4,13 @@ ghost use Rattle.std.specs.Option.{option_map};
 ghost use Rattle.sz_tree.specs.Statements.{declare};
 ghost use Rattle.sz_tree.specs.View.{tree_of, type_of};
 ghost use Rattle.sz_check_rules.specs.JudgingStatements.{Around, judge_stm};
-ghost use Rattle.sz_check_names.specs.Holding.{scene_of};
+ghost use Rattle.sz_check_names.specs.Knowledge.{scene_of};
 ghost use Rattle.sz_check.specs.Later.{after_of};
 ghost use Rattle.sz_check_names.specs.Outcome.{Judges};
 
 use crate::simple::{judge_declaration, judge_initialised};
 use std::alloc::Global;
-use sz_check_names::{CheckError, Known};
+use sz_check_names::{JudgeError, Known};
 use sz_core::CoreStmt;
 use sz_tree::{Expr, Name, TypeTree};
 
@@ -22,7 +22,7 @@ pub fn judge_declared(
     name: &Name,
     tree: &TypeTree,
     value: &Option<Expr>,
-) -> Result<CoreStmt, CheckError>
+) -> Result<CoreStmt, JudgeError>
     ensures value { (a : Around) → Judges (λ s. after_of known.new s) result
         (judge_stm a (scene_of known.old) (declare name.now (type_of tree.now) (option_map tree_of value.now))) }
     ensures outside { known.new.outside ≡ known.old.outside }

@@ -1,5 +1,5 @@
 //! `emit`.
-ghost use Rattle.std.specs.Prelude.{◌≡◌, map as each};
+ghost use Rattle.std.specs.Prelude.{map as each};
 ghost use Rattle.std.specs.Option.{option_map};
 ghost use Rattle.sz_types.specs.Seen.{seen};
 ghost use Rattle.sz_types.specs.SeenTables.{seen_table};
@@ -7,14 +7,14 @@ ghost use Rattle.sz_tree.specs.Expressions.{exps_of};
 ghost use Rattle.sz_tree.specs.View.{tree_of};
 ghost use Rattle.sz_core.specs.View.{node_of, stm_of};
 ghost use Rattle.sz_check_rules.specs.Scenes.{judge_if_some};
-ghost use Rattle.sz_check_rules.specs.JudgingSimple.{table_named, weight_agrees};
-ghost use Rattle.sz_check_names.specs.Holding.{means_of, scene_of};
-ghost use Rattle.sz_check.specs.Later.{numbered_of, emitted_of, judge_emitted, emitted_fits, judge_emit_by_parts};
+ghost use Rattle.sz_check_rules.specs.JudgingSimple.{table_named, weight_agrees, judge_emitted, emitted_fits, judge_emit};
+ghost use Rattle.sz_check_names.specs.Knowledge.{means_of, scene_of};
+ghost use Rattle.sz_check.specs.Later.{numbered_of, emitted_of};
 ghost use Rattle.sz_check_names.specs.Outcome.{Judges};
 
 use std::alloc::Global;
 use sz_check_expr::{Asks, agree, agrees, counted, judge_exp, judge_exps};
-use sz_check_names::{CheckError, Known, Means, Site};
+use sz_check_names::{Cause, JudgeError, Known, Means, Site};
 use sz_core::{CoreExpr, CoreStmt};
 use sz_tree::{Expr, Name};
 use sz_types::{Place, TableDecl, Ty};
@@ -32,12 +32,12 @@ fn table_named<'k>(
     alloc: Global,
     name: &Name,
     means: Means<'k>,
-) -> Result<(u32, &'k TableDecl), CheckError>
+) -> Result<(u32, &'k TableDecl), JudgeError>
     ensures value { Judges numbered_of result (table_named name.now (means_of means.entry)) }
 {
     match means {
         Means::Table(number, table) => Ok((number, table)),
-        _ => Err(CheckError::of(alloc, 8, name)),
+        _ => Err(JudgeError::of(alloc, Cause::WrongKind, name)),
     }
 }
 
@@ -47,7 +47,7 @@ fn judge_weight(
     known: &Known,
     asked: &Option<Ty>,
     tree: &Option<Expr>,
-) -> Result<Option<CoreExpr>, CheckError>
+) -> Result<Option<CoreExpr>, JudgeError>
     ensures value { Judges (option_map node_of) result
         (judge_if_some (scene_of known.now) (option_map seen asked.now) (option_map tree_of tree.now)) }
 {
@@ -62,7 +62,7 @@ fn weight_agrees(
     asked: &Option<Ty>,
     tree: &Option<Expr>,
     node: &Option<CoreExpr>,
-) -> Result<(), CheckError>
+) -> Result<(), JudgeError>
     ensures value { Judges (λ x. x) result
         (weight_agrees (option_map seen asked.now) (option_map tree_of tree.now) (option_map node_of node.now)) }
 {
@@ -80,7 +80,7 @@ fn judge_parts(
     indexes: &[Expr],
     value: &Expr,
     weight: &Option<Expr>,
-) -> Result<Parts, CheckError>
+) -> Result<Parts, JudgeError>
     ensures value { Judges emitted_of result
         (judge_emitted (scene_of known.now) (seen_table table.now) (exps_of (each tree_of indexes.now)) (tree_of value.now)
         (option_map tree_of weight.now)) }
@@ -105,7 +105,7 @@ fn parts_fit(
     value: &Expr,
     weight: &Option<Expr>,
     parts: &Parts,
-) -> Result<(), CheckError>
+) -> Result<(), JudgeError>
     ensures value { Judges (λ x. x) result
         (emitted_fits (seen_table table.now) place name_place (exps_of (each tree_of indexes.now)) (tree_of value.now)
         (option_map tree_of weight.now) (emitted_of parts.now)) }
@@ -118,7 +118,7 @@ fn parts_fit(
     if table.weight.is_some() == weight.is_some() {
         Ok(())
     } else {
-        Err(CheckError::at(13, place))
+        Err(JudgeError::at(Cause::WrongWeight, place))
     }
 }
 
@@ -131,9 +131,9 @@ pub fn judge_emit(
     indexes: &[Expr],
     value: &Expr,
     weight: &Option<Expr>,
-) -> Result<CoreStmt, CheckError>
+) -> Result<CoreStmt, JudgeError>
     ensures value { Judges stm_of result
-        (judge_emit_by_parts (scene_of known.now) place name.now (exps_of (each tree_of indexes.now)) (tree_of value.now)
+        (judge_emit (scene_of known.now) place name.now (exps_of (each tree_of indexes.now)) (tree_of value.now)
         (option_map tree_of weight.now)) }
 {
     let (number, table) = table_named(alloc, name, known.look_up(alloc, Site::Statement, name)?)?;

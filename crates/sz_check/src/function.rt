@@ -7,7 +7,7 @@ ghost use Rattle.sz_tree.specs.View.{type_of, param_of, stm_of};
 ghost use Rattle.sz_core.specs.View.{signature_of};
 ghost use Rattle.sz_check_rules.specs.Names.{declare, function};
 ghost use Rattle.sz_check_rules.specs.JudgingPrograms.{judge_parameters, judge_function};
-ghost use Rattle.sz_check_names.specs.Holding.{blocks_of, scene_of};
+ghost use Rattle.sz_check_names.specs.Knowledge.{blocks_of, scene_of};
 ghost use Rattle.sz_check.specs.Functions.{declare_parameters, judge_header, judge_body, finished};
 ghost use Rattle.sz_check.specs.FunctionParts.{body_of};
 ghost use Rattle.sz_check.specs.Top.{found_one, top_of};
@@ -17,7 +17,7 @@ use crate::stmt::{Around, judge_stms};
 use crate::top::Top;
 use std::alloc::{AllocError, Global};
 use sz_check_emits::body_emits;
-use sz_check_names::{CheckError, Known, Meaning, judge_type, small};
+use sz_check_names::{JudgeError, Known, Meaning, judge_type, small};
 use sz_core::{CoreStmt, Function, Item, Signature};
 use sz_tree::{Name, Param, Stmt, TypeTree};
 use sz_types::{Ty, Tys, copy_ty, copy_tys};
@@ -36,7 +36,7 @@ fn copy_signature(alloc: Global, signature: &Signature) -> Result<Signature, All
 }
 
 // The parameters of a function, each a variable of it; a parameter is declared before the next one is judged.
-fn judge_parameters(alloc: Global, known: &mut Known, trees: &[Param]) -> Result<(), CheckError>
+fn judge_parameters(alloc: Global, known: &mut Known, trees: &[Param]) -> Result<(), JudgeError>
     ensures value { Judges (λ _. scene_of known.new) result
         (judge_parameters (scene_of known.old) (params_of (each param_of trees.now))) }
     ensures outside { IfOk result (λ _. known.new.outside ≡ known.old.outside) }
@@ -54,7 +54,7 @@ fn declare_parameters(
     known: &mut Known,
     trees: &[Param],
     types: &[Ty],
-) -> Result<(), CheckError>
+) -> Result<(), JudgeError>
     ensures value { Judges (λ _. scene_of known.new) result
         (declare_parameters (scene_of known.old) (params_of (each param_of trees.now)) (each seen types.now)) }
     ensures outside { IfOk result (λ _. known.new.outside ≡ known.old.outside) }
@@ -74,7 +74,7 @@ fn judge_header(
     params: &[Param],
     of: &TypeTree,
     trees: &[Stmt],
-) -> Result<Signature, CheckError>
+) -> Result<Signature, JudgeError>
     ensures value { Judges signature_of result
         (judge_header (blocks_of known.old) name.now (params_of (each param_of params.now)) (type_of of.now) (stms_of (each stm_of trees.now))) }
     ensures kept { IfOk result (λ _. known.new ≡ known.old) }
@@ -97,7 +97,7 @@ fn declare_function(
     top: &mut Top,
     name: &Name,
     signature: &Signature,
-) -> Result<(), CheckError>
+) -> Result<(), JudgeError>
     ensures value { Judges (λ _. blocks_of top.new.known) result
         (declare name.now (function (length top.old.functions.items) (signature_of signature.now)) (blocks_of top.old.known)) }
     ensures outside { top.new.known.outside ≡ top.old.known.outside }
@@ -125,7 +125,7 @@ fn judge_body(
     params: &[Param],
     signature: &Signature,
     trees: &[Stmt],
-) -> Result<Body, CheckError>
+) -> Result<Body, JudgeError>
     ensures value { Judges body_of result
         (judge_body (blocks_of known.old) (params_of (each param_of params.now)) (signature_of signature.now)
         (stms_of (each stm_of trees.now))) }
@@ -182,7 +182,7 @@ pub fn judge_function(
     params: &[Param],
     of: &TypeTree,
     trees: &[Stmt],
-) -> Result<Item, CheckError>
+) -> Result<Item, JudgeError>
     ensures value { Judges (λ i. found_one top.new i) result
         (judge_function (top_of top.old) name.now (params_of (each param_of params.now)) (type_of of.now)
         (stms_of (each stm_of trees.now))) }

@@ -4,6 +4,7 @@
 mod composed;
 mod declared;
 mod emitted;
+mod error;
 mod function;
 mod program;
 mod quantified;
@@ -13,5 +14,5 @@ mod table;
 mod target;
 mod top;
 
+pub use error::CheckError;
 pub use program::check;
-pub use sz_check_names::CheckError;

@@ -3,11 +3,12 @@ ghost use Rattle.std.specs.Prelude.{◌≡◌, ◌++◌, IfOk, map as each, None
 ghost use Rattle.sz_tree.specs.Statements.{stms_of};
 ghost use Rattle.sz_tree.specs.View.{tree_of, type_of, stm_of, program_of};
 ghost use Rattle.sz_core.specs.View.{item_of, static_of};
-ghost use Rattle.sz_check_rules.specs.JudgingPrograms.{judge_static, judge_typedef, judge_statement, judge_top, judge_all, known_at_first, judge_program};
-ghost use Rattle.sz_check.specs.Declaring.{declare_static};
+ghost use Rattle.sz_check_rules.specs.JudgingPrograms.{declare_static, judge_static, judge_typedef, judge_statement, judge_top, judge_all, known_at_first, judge_program};
 ghost use Rattle.sz_check.specs.Top.{found_all, found_one, found_with, items_in, top_of, core_seen};
+ghost use Rattle.sz_check.specs.Answering.{Answers};
 ghost use Rattle.sz_check_names.specs.Outcome.{Judges};
 
+use crate::error::CheckError;
 use crate::function::judge_function;
 use crate::stmt::{Around, judge_stm};
 use crate::table::judge_table;
@@ -15,7 +16,7 @@ use crate::top::Top;
 use std::alloc::{AllocError, Global};
 use sz_check_expr::{converted, judge_exp};
 use sz_check_laws::judged_programs_are_sound;
-use sz_check_names::{CheckError, Known, Meaning, Site, judge_type, judge_written, small};
+use sz_check_names::{JudgeError, Known, Meaning, Site, judge_type, judge_written, small};
 use sz_core::{Item, Program, Static};
 use sz_tree::{Expr, Name, Stmt, Tree, TypeTree};
 use sz_types::{Place, Tys, copy_ty};
@@ -26,7 +27,7 @@ fn declare_static(
     top: &mut Top,
     name: &Name,
     made: Static,
-) -> Result<Item, CheckError>
+) -> Result<Item, JudgeError>
     ensures value { Judges (λ i. found_one top.new i) result (declare_static (top_of top.old) name.now (static_of made)) }
 {
     let statics = small(top.statics as usize + 1)?;
@@ -44,7 +45,7 @@ fn judge_static(
     name: &Name,
     of: &TypeTree,
     tree: &Expr,
-) -> Result<Item, CheckError>
+) -> Result<Item, JudgeError>
     ensures value { Judges (λ i. found_one top.new i) result
         (judge_static (top_of top.old) place name.now (type_of of.now) (tree_of tree.now)) }
 {
@@ -55,7 +56,7 @@ fn judge_static(
 }
 
 // `type name = type;`
-fn judge_typedef(alloc: Global, top: &mut Top, name: &Name, of: &TypeTree) -> Result<(), CheckError>
+fn judge_typedef(alloc: Global, top: &mut Top, name: &Name, of: &TypeTree) -> Result<(), JudgeError>
     ensures value { Judges (λ _. found_with top.new Nothing) result (judge_typedef (top_of top.old) name.now (type_of of.now)) }
 {
     let written = judge_written(alloc, &top.known, of)?;
@@ -63,7 +64,7 @@ fn judge_typedef(alloc: Global, top: &mut Top, name: &Name, of: &TypeTree) -> Re
 }
 
 // A statement that runs for each record.
-fn judge_statement(alloc: Global, top: &mut Top, tree: &Stmt) -> Result<Item, CheckError>
+fn judge_statement(alloc: Global, top: &mut Top, tree: &Stmt) -> Result<Item, JudgeError>
     ensures value { Judges (λ i. found_one top.new i) result (judge_statement (top_of top.old) (stm_of tree.now)) }
 {
     let around = Around {
@@ -75,7 +76,7 @@ fn judge_statement(alloc: Global, top: &mut Top, tree: &Stmt) -> Result<Item, Ch
 }
 
 // A statement at the top level.
-fn judge_top(alloc: Global, top: &mut Top, tree: &Stmt) -> Result<Option<Item>, CheckError>
+fn judge_top(alloc: Global, top: &mut Top, tree: &Stmt) -> Result<Option<Item>, JudgeError>
     ensures value { Judges (λ i. found_with top.new i) result (judge_top (top_of top.old) (stm_of tree.now)) }
 {
     match tree {
@@ -106,7 +107,7 @@ fn push_found(items: &mut Vec<Item>, found: Option<Item>) -> Result<(), AllocErr
 }
 
 // Statements at the top level, in order.
-fn judge_all(alloc: Global, top: &mut Top, trees: &[Stmt]) -> Result<Vec<Item>, CheckError>
+fn judge_all(alloc: Global, top: &mut Top, trees: &[Stmt]) -> Result<Vec<Item>, JudgeError>
     ensures value { Judges (λ items. found_all top.new items.items) result
         (judge_all (top_of top.old) (stms_of (each stm_of trees.now))) }
 {
@@ -131,7 +132,7 @@ fn known_at_first(alloc: Global) -> Result<Top, AllocError>
 }
 
 // The items of a program, in order, and the types of the record's variables.
-fn judge_items(alloc: Global, tree: &Tree) -> Result<(Vec<Item>, Tys), CheckError>
+fn judge_items(alloc: Global, tree: &Tree) -> Result<(Vec<Item>, Tys), JudgeError>
     ensures value { Judges core_seen result (judge_program (program_of tree.now)) }
 {
     let mut top = known_at_first(alloc)?;
@@ -140,8 +141,9 @@ fn judge_items(alloc: Global, tree: &Tree) -> Result<(Vec<Item>, Tys), CheckErro
 }
 
 /// The checked program that the tree stands for, or its first refusal.
+#[tactic(auto, using(crate::proofs::ProgramLemmas::answers_stopped))]
 pub fn check(alloc: Global, tree: &Tree) -> Result<Program, CheckError>
-    ensures value { Judges (λ program. program) result (judge_program (program_of tree.now)) }
+    ensures value { Answers result (judge_program (program_of tree.now)) }
 {
     let (items, locals) = judge_items(alloc, tree)?;
     judged_programs_are_sound();

@@ -6,17 +6,17 @@ ghost use Rattle.sz_quant.specs.Fitting.{bounds_of as bound_forms};
 ghost use Rattle.sz_quant.specs.Seen.{bound_of};
 ghost use Rattle.sz_core.specs.Sound.{candidate_type};
 ghost use Rattle.sz_core.specs.View.{node_of, quantity_of, quantified_of};
-ghost use Rattle.sz_check_names.specs.Holding.{blocks_of, outside_of, scene_of};
+ghost use Rattle.sz_check_names.specs.Knowledge.{blocks_of, outside_of, scene_of};
 ghost use Rattle.sz_check_names.specs.Outcome.{Judges};
-ghost use Rattle.sz_check_rules.specs.Quantifying.{judge_names, judge_quantifier, judge_quantifiers, none_declared, judge_front, bind, bind_inside, judge_bound};
+ghost use Rattle.sz_check_rules.specs.Quantifying.{judge_names, judge_quantifier, judge_quantifiers, judge_front, bind, bind_inside, judge_bound};
 ghost use Rattle.sz_check_rules.specs.Quantifying.{names_of, all_bounded, may_follow, all_last, are_of, checked, judge_base, judge_bases, quantify};
-ghost use Rattle.sz_check.specs.Later.{judge_quantified};
+ghost use Rattle.sz_check_rules.specs.JudgingStatements.{judge_quantified};
 ghost use Rattle.sz_check.specs.Quantified.{variable_of, declared_of, front_of, based_of};
 
 use std::alloc::{AllocError, Global};
 use sz_check_emits::is_seen_inside;
 use sz_check_expr::{alike, judge_exp, test};
-use sz_check_names::{CheckError, Kind, Known, Meaning, Site, judge_type, type_kind};
+use sz_check_names::{Cause, JudgeError, Kind, Known, Meaning, Site, judge_type, type_kind};
 use sz_core::{CoreExpr, CoreQuantity, Quantified};
 use sz_list::Items;
 use sz_quant::{Bound, Bounds, BoundsError, Names, bounds};
@@ -47,7 +47,7 @@ fn judge_name<'t>(
     ty: &Ty,
     name: &'t Name,
     variables: &mut Vec<Variable<'t>>,
-) -> Result<(), CheckError>
+) -> Result<(), JudgeError>
     ensures value { Judges (λ _. declared_of known.new variables.new.items) result
         (judge_names quantity (seen ty.now) (name.now ∷ []) (declared_of known.old variables.old.items)) }
     ensures outside { known.new.outside ≡ known.old.outside }
@@ -71,7 +71,7 @@ fn judge_names<'t>(
     ty: &Ty,
     names: &'t [Name],
     variables: &mut Vec<Variable<'t>>,
-) -> Result<(), CheckError>
+) -> Result<(), JudgeError>
     ensures value { Judges (λ _. declared_of known.new variables.new.items) result
         (judge_names quantity (seen ty.now) names.now (declared_of known.old variables.old.items)) }
     ensures outside { IfOk result (λ _. known.new.outside ≡ known.old.outside) }
@@ -88,7 +88,7 @@ fn judge_quantifier<'t>(
     known: &mut Known,
     quantifier: &'t Quantifier,
     variables: &mut Vec<Variable<'t>>,
-) -> Result<(), CheckError>
+) -> Result<(), JudgeError>
     ensures value { Judges (λ _. declared_of known.new variables.new.items) result
         (judge_quantifier (quantifier_of quantifier.now) (declared_of known.old variables.old.items)) }
     ensures outside { IfOk result (λ _. known.new.outside ≡ known.old.outside) }
@@ -103,7 +103,7 @@ fn judge_quantifiers<'t>(
     alloc: Global,
     known: &mut Known,
     quantifiers: &'t [Quantifier],
-) -> Result<Vec<Variable<'t>>, CheckError>
+) -> Result<Vec<Variable<'t>>, JudgeError>
     ensures value { Judges (λ made. declared_of known.new made.items) result
         (judge_quantifiers (each quantifier_of quantifiers.now) (declared_of known.old [])) }
     ensures outside { IfOk result (λ _. known.new.outside ≡ known.old.outside) }
@@ -121,7 +121,7 @@ pub fn judge_front<'t>(
     known: &mut Known,
     quantifiers: &'t [Quantifier],
     condition: &Expr,
-) -> Result<Front<'t>, CheckError>
+) -> Result<Front<'t>, JudgeError>
     ensures value { Judges (λ f. front_of known.new f) result
         (judge_front (scene_of known.old) (each quantifier_of quantifiers.now) (tree_of condition.now)) }
     ensures outside { IfOk result (λ _. known.new.outside ≡ known.old.outside) }
@@ -137,7 +137,7 @@ pub fn judge_front<'t>(
 }
 
 // A variable under its name, once it has a number.
-fn bind(alloc: Global, known: &mut Known, variable: &Variable<'_>) -> Result<(), CheckError>
+fn bind(alloc: Global, known: &mut Known, variable: &Variable<'_>) -> Result<(), JudgeError>
     ensures value { Judges (λ _. blocks_of known.new) result (bind (variable_of variable.now) (blocks_of known.old)) }
     ensures outside { known.new.outside ≡ known.old.outside }
     ensures locals { known.new.locals ≡ known.old.locals }
@@ -151,7 +151,7 @@ fn bind_if_inside(
     alloc: Global,
     known: &mut Known,
     variable: &Variable<'_>,
-) -> Result<(), CheckError>
+) -> Result<(), JudgeError>
     ensures value { Judges (λ _. blocks_of known.new) result (bind_inside (variable_of variable.now ∷ []) (blocks_of known.old)) }
     ensures outside { known.new.outside ≡ known.old.outside }
     ensures locals { known.new.locals ≡ known.old.locals }
@@ -168,7 +168,7 @@ fn bind_inside(
     alloc: Global,
     known: &mut Known,
     variables: &[Variable<'_>],
-) -> Result<(), CheckError>
+) -> Result<(), JudgeError>
     ensures value { Judges (λ _. blocks_of known.new) result (bind_inside (each variable_of variables.now) (blocks_of known.old)) }
     ensures outside { IfOk result (λ _. known.new.outside ≡ known.old.outside) }
     ensures locals { IfOk result (λ _. known.new.locals ≡ known.old.locals) }
@@ -184,7 +184,7 @@ pub fn judge_bound(
     alloc: Global,
     known: &mut Known,
     variables: &[Variable<'_>],
-) -> Result<(), CheckError>
+) -> Result<(), JudgeError>
     ensures value { Judges (λ _. scene_of known.new) result (judge_bound (scene_of known.old) (each variable_of variables.now)) }
     ensures outside { IfOk result (λ _. known.new.outside ≡ outside_of known.old) }
 {
@@ -208,7 +208,7 @@ fn all_bounded(
     alloc: Global,
     variables: &[Variable<'_>],
     condition: &Expr,
-) -> Result<Bounds, CheckError>
+) -> Result<Bounds, JudgeError>
     ensures value { Judges (λ found. each bound_of found) result
         (all_bounded (each variable_of variables.now) (bound_forms (names_of (each variable_of variables.now)) (tree_of condition.now))) }
 {
@@ -216,27 +216,27 @@ fn all_bounded(
     match bounds(alloc, &names, condition) {
         Ok(found) => Ok(found),
         Err(BoundsError::Unbounded(number)) => {
-            Err(CheckError::of(alloc, 19, variables[number as usize].name))
+            Err(JudgeError::of(alloc, Cause::Unbounded, variables[number as usize].name))
         }
-        Err(BoundsError::NoMemory) => Err(CheckError::NoMemory),
+        Err(BoundsError::NoMemory) => Err(JudgeError::NoMemory),
     }
 }
 
 // Whether a variable speaks of all candidates, after one that does or doesn't.
-fn may_follow(variable: &Variable<'_>, after: bool) -> Result<bool, CheckError>
+fn may_follow(variable: &Variable<'_>, after: bool) -> Result<bool, JudgeError>
     ensures value { Judges (λ x. x) result (may_follow (variable_of variable.now) after) }
 {
     if !is_seen_inside(variable.quantity) {
         Ok(true)
     } else if after {
-        Err(CheckError::at(20, variable.name.place()))
+        Err(JudgeError::at(Cause::QuantOrder, variable.name.place()))
     } else {
         Ok(false)
     }
 }
 
 // No variable of another kind stands after one that speaks of all candidates. Whether the last one does.
-fn all_last(variables: &[Variable<'_>]) -> Result<bool, CheckError>
+fn all_last(variables: &[Variable<'_>]) -> Result<bool, JudgeError>
     ensures value { Judges (λ x. x) result (all_last (each variable_of variables.now) false) }
 {
     let mut after = false;
@@ -274,7 +274,7 @@ fn judge_base(
     known: &mut Known,
     variable: &Variable<'_>,
     bound: &Bound,
-) -> Result<Quantified, CheckError>
+) -> Result<Quantified, JudgeError>
     ensures value { Judges (λ made. based_of known.new made) result
         (judge_base (blocks_of known.old) (variable_of variable.now) (bound_of bound.now)) }
     ensures outside { known.new.outside ≡ known.old.outside }
@@ -282,7 +282,7 @@ fn judge_base(
 {
     let base = judge_exp(alloc, known, Site::Condition, None, &bound.base)?;
     if !has_candidates(bound.slice, &base.ty, &variable.ty) {
-        return Err(CheckError::at(9, variable.name.place()));
+        return Err(JudgeError::at(Cause::WrongType, variable.name.place()));
     }
     bind(alloc, known, variable)?;
     Ok(Quantified {
@@ -299,7 +299,7 @@ fn judge_bases(
     known: &mut Known,
     variables: &[Variable<'_>],
     bounds: &[Bound],
-) -> Result<Vec<Quantified>, CheckError>
+) -> Result<Vec<Quantified>, JudgeError>
     ensures value { Judges (λ made. each quantified_of made.items) result
         (judge_bases (blocks_of known.old) (each variable_of variables.now) (each bound_of bounds.now)) }
     ensures outside { IfOk result (λ _. known.new.outside ≡ known.old.outside) }
@@ -308,7 +308,7 @@ fn judge_bases(
     let mut made = Vec::new(alloc);
     for i in 0..variables.len() {
         let Some(bound) = bounds.get(i) else {
-            return Err(CheckError::of(alloc, 19, variables[i].name));
+            return Err(JudgeError::of(alloc, Cause::Unbounded, variables[i].name));
         };
         made.push(judge_base(alloc, known, &variables[i], bound)?)?;
     }
@@ -321,7 +321,7 @@ fn quantify(
     known: &mut Known,
     variables: &[Variable<'_>],
     condition: &Expr,
-) -> Result<Vec<Quantified>, CheckError>
+) -> Result<Vec<Quantified>, JudgeError>
     ensures value { Judges (λ made. each quantified_of made.items) result
         (quantify (scene_of known.old) (each variable_of variables.now) (tree_of condition.now)) }
     ensures kept { IfOk result (λ _. known.new ≡ known.old) }
@@ -340,7 +340,7 @@ pub fn judge_quantified(
     known: &mut Known,
     front: &Front<'_>,
     condition: &Expr,
-) -> Result<Vec<Quantified>, CheckError>
+) -> Result<Vec<Quantified>, JudgeError>
     ensures value { Judges (λ made. each quantified_of made.items) result
         (judge_quantified (scene_of known.old) (each variable_of front.now.variables.items) (tree_of condition.now)
         (node_of front.now.condition)) }

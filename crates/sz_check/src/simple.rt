@@ -1,6 +1,6 @@
 //! Statements that hold no others.
 ghost use Rattle.std.specs.Prelude.{◌≡◌, IfOk, None as Nothing};
-ghost use Rattle.sz_types.specs.Data.{Shape, int};
+ghost use Rattle.sz_types.specs.Data.{int};
 ghost use Rattle.std.specs.Option.{option_map};
 ghost use Rattle.sz_types.specs.Seen.{seen};
 ghost use Rattle.sz_tree.specs.View.{tree_of, type_of, path_of, simple_of, first_of};
@@ -11,7 +11,7 @@ ghost use Rattle.sz_check_rules.specs.Scenes.{judge_if_some};
 ghost use Rattle.sz_check_rules.specs.JudgingSimple.{judge_declaration, judge_initialised, judge_definition, judge_assignment, judge_change, judge_simple};
 ghost use Rattle.sz_check_rules.specs.JudgingSimple.{judge_first, judge_between, test_if_some, judge_return};
 ghost use Rattle.sz_check_expr.specs.Asking.{asked_of};
-ghost use Rattle.sz_check_names.specs.Holding.{scene_of};
+ghost use Rattle.sz_check_names.specs.Knowledge.{scene_of};
 ghost use Rattle.sz_check.specs.Later.{after_of, change_row, one_at, variable_at, changed_at};
 ghost use Rattle.sz_check_names.specs.Outcome.{Judges};
 
@@ -19,7 +19,7 @@ use crate::composed::boxed;
 use crate::target::{Target, judge_path, judge_variable};
 use std::alloc::{AllocError, Global};
 use sz_check_expr::{agrees, converted, difference_row, judge_call, judge_exp, sum_row, test};
-use sz_check_names::{CheckError, Known, Site, judge_type};
+use sz_check_names::{Cause, JudgeError, Known, Site, judge_type};
 use sz_core::{CoreExpr, CoreStmt, Form};
 use sz_tree::{Expr, First, Name, Path, Simple, TypeTree};
 use sz_types::{BinOp, Place, Ty, copy_ty};
@@ -31,7 +31,7 @@ pub fn judge_declaration(
     known: &mut Known,
     name: &Name,
     tree: &TypeTree,
-) -> Result<CoreStmt, CheckError>
+) -> Result<CoreStmt, JudgeError>
     ensures value { Judges (λ s. after_of known.new s) result
         (judge_declaration (scene_of known.old) name.now (type_of tree.now)) }
     ensures outside { known.new.outside ≡ known.old.outside }
@@ -48,7 +48,7 @@ pub fn judge_initialised(
     name: &Name,
     tree: &TypeTree,
     value: &Expr,
-) -> Result<CoreStmt, CheckError>
+) -> Result<CoreStmt, JudgeError>
     ensures value { Judges (λ s. after_of known.new s) result
         (judge_initialised (scene_of known.old) name.now (type_of tree.now) (tree_of value.now)) }
     ensures outside { known.new.outside ≡ known.old.outside }
@@ -66,7 +66,7 @@ pub fn judge_definition(
     known: &mut Known,
     name: &Name,
     value: &Expr,
-) -> Result<CoreStmt, CheckError>
+) -> Result<CoreStmt, JudgeError>
     ensures value { Judges (λ s. after_of known.new s) result
         (judge_definition (scene_of known.old) name.now (tree_of value.now)) }
     ensures outside { known.new.outside ≡ known.old.outside }
@@ -83,7 +83,7 @@ fn judge_assignment(
     known: &Known,
     path: &Path,
     value: &Expr,
-) -> Result<CoreStmt, CheckError>
+) -> Result<CoreStmt, JudgeError>
     ensures value { Judges stm_of result (judge_assignment (scene_of known.now) (path_of path.now) (tree_of value.now)) }
 {
     let target = judge_path(alloc, known, &path.name, path.steps.as_slice())?;
@@ -149,13 +149,13 @@ fn judge_change(
     known: &Known,
     name: &Name,
     op: BinOp,
-) -> Result<CoreStmt, CheckError>
+) -> Result<CoreStmt, JudgeError>
     ensures value { Judges stm_of result (judge_change (scene_of known.now) name.now op (change_row op)) }
 {
     let place = name.place();
     let target = judge_variable(alloc, known, name)?;
     let Some(ty) = changed_type(alloc, op, &target.ty)? else {
-        return Err(CheckError::at(9, place));
+        return Err(JudgeError::at(Cause::WrongType, place));
     };
     let local = target.local;
     let node = changed(alloc, place, op, ty, target)?;
@@ -163,7 +163,7 @@ fn judge_change(
 }
 
 // An assignment or a call.
-pub fn judge_simple(alloc: Global, known: &Known, tree: &Simple) -> Result<CoreStmt, CheckError>
+pub fn judge_simple(alloc: Global, known: &Known, tree: &Simple) -> Result<CoreStmt, JudgeError>
     ensures value { Judges stm_of result (judge_simple (scene_of known.now) (simple_of tree.now)) }
 {
     match tree {
@@ -189,7 +189,7 @@ pub fn judge_first(
     alloc: Global,
     known: &mut Known,
     first: &Option<First>,
-) -> Result<CoreStmt, CheckError>
+) -> Result<CoreStmt, JudgeError>
     ensures value { Judges (λ s. after_of known.new s) result
         (judge_first (scene_of known.old) (option_map first_of first.now)) }
     ensures outside { known.new.outside ≡ known.old.outside }
@@ -209,7 +209,7 @@ pub fn judge_between(
     alloc: Global,
     known: &Known,
     tree: &Option<Simple>,
-) -> Result<Box<CoreStmt>, CheckError>
+) -> Result<Box<CoreStmt>, JudgeError>
     ensures value { Judges (λ s. stm_of s.value) result
         (judge_between (scene_of known.now) (option_map simple_of tree.now)) }
 {
@@ -224,7 +224,7 @@ pub fn judge_test(
     alloc: Global,
     known: &Known,
     tree: &Option<Expr>,
-) -> Result<Option<CoreExpr>, CheckError>
+) -> Result<Option<CoreExpr>, JudgeError>
     ensures value { Judges (option_map node_of) result
         (judge_if_some (scene_of known.now) Nothing (option_map tree_of tree.now)) }
 {
@@ -235,7 +235,7 @@ pub fn judge_test(
 }
 
 // A test that may be missing is a truth value where it is there.
-pub fn test_if_some(tree: &Option<Expr>, node: &Option<CoreExpr>) -> Result<(), CheckError>
+pub fn test_if_some(tree: &Option<Expr>, node: &Option<CoreExpr>) -> Result<(), JudgeError>
     ensures value { Judges (λ x. x) result (test_if_some (option_map tree_of tree.now) (option_map node_of node.now)) }
 {
     match (tree, node) {
@@ -251,7 +251,7 @@ pub fn judge_return(
     place: Place,
     result_type: Option<&Ty>,
     tree: &Option<Expr>,
-) -> Result<CoreStmt, CheckError>
+) -> Result<CoreStmt, JudgeError>
     ensures value { Judges stm_of result
         (judge_return (scene_of known.now) place (asked_of result_type.entry) (option_map tree_of tree.now)) }
 {
@@ -262,6 +262,6 @@ pub fn judge_return(
             agrees(Some(ty), tree, &node)?;
             Ok(CoreStmt::Return(place, node))
         }
-        _ => Err(CheckError::at(15, place)),
+        _ => Err(JudgeError::at(Cause::Misplaced, place)),
     }
 }

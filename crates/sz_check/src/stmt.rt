@@ -1,12 +1,12 @@
 //! Statements.
 ghost use Rattle.std.specs.Prelude.{◌≡◌, true, false, IfOk, map as each};
 ghost use Rattle.std.specs.Option.{option_map};
-ghost use Rattle.sz_tree.specs.Statements.{stms_of, block, if_only, while, do_while, when};
+ghost use Rattle.sz_tree.specs.Statements.{stms_of, block, if_only, while, do_while, for_loop, when};
 ghost use Rattle.sz_tree.specs.View.{tree_of, stm_of, simple_of, first_of, quantifier_of};
 ghost use Rattle.sz_core.specs.View.{node_of, stm_of as core_stm_of};
 ghost use Rattle.sz_check_rules.specs.JudgingStatements.{judge_stm, judge_stms};
-ghost use Rattle.sz_check_names.specs.Holding.{scene_of};
-ghost use Rattle.sz_check.specs.Later.{after_of, all_after_of, around_of, judge_inside, judge_else, judge_turns, judge_for, judge_bound_body};
+ghost use Rattle.sz_check_names.specs.Knowledge.{scene_of};
+ghost use Rattle.sz_check.specs.Later.{after_of, all_after_of, around_of, judge_inside, judge_else, judge_turns, judge_bound_body};
 ghost use Rattle.sz_check.specs.Quantified.{variable_of};
 ghost use Rattle.sz_check_names.specs.Outcome.{Judges};
 
@@ -19,7 +19,7 @@ use crate::simple::{
 };
 use std::alloc::Global;
 use sz_check_expr::judge_exp;
-use sz_check_names::{CheckError, Known, Site};
+use sz_check_names::{Cause, JudgeError, Known, Site};
 use sz_core::{CoreExpr, CoreStmt};
 use sz_tree::{Expr, First, Quantifier, Simple, Stmt};
 use sz_types::{Place, Ty};
@@ -56,13 +56,13 @@ impl<'t> Around<'t> {
 
 // The statement.
 #[cycle(stmt)]
-#[tactic(auto, using(crate::proofs::StatementParts::for_is, crate::proofs::StatementParts::empty_is, crate::proofs::StatementParts::define_is, crate::proofs::StatementParts::static_is, crate::proofs::StatementParts::typedef_is, crate::proofs::StatementParts::table_is, crate::proofs::StatementParts::nested_is, crate::proofs::StatementParts::simple_is, crate::proofs::StatementParts::break_is, crate::proofs::StatementParts::continue_is, crate::proofs::StatementParts::return_is, crate::proofs::StatementParts::emitting_is, crate::proofs::StatementParts::if_else_is, crate::proofs::StatementParts::done_is))]
+#[tactic(auto, using(crate::proofs::StatementParts::empty_is, crate::proofs::StatementParts::define_is, crate::proofs::StatementParts::static_is, crate::proofs::StatementParts::typedef_is, crate::proofs::StatementParts::table_is, crate::proofs::StatementParts::nested_is, crate::proofs::StatementParts::simple_is, crate::proofs::StatementParts::break_is, crate::proofs::StatementParts::continue_is, crate::proofs::StatementParts::return_is, crate::proofs::StatementParts::emitting_is, crate::proofs::StatementParts::if_else_is, crate::proofs::StatementParts::done_is))]
 pub fn judge_stm(
     alloc: Global,
     known: &mut Known,
     around: Around<'_>,
     tree: &Stmt,
-) -> Result<CoreStmt, CheckError>
+) -> Result<CoreStmt, JudgeError>
     ensures value { Judges (λ s. after_of known.new s) result
         (judge_stm (around_of around.entry) (scene_of known.old) (stm_of tree.now)) }
     ensures outside { IfOk result (λ _. known.new.outside ≡ known.old.outside) }
@@ -72,9 +72,12 @@ pub fn judge_stm(
         Stmt::Block(place, trees) => { judge_block(alloc, known, around, *place, trees.as_slice()) }
         Stmt::Declare(name, of, value) => judge_declared(alloc, known, name, of, value),
         Stmt::Define(name, value) => judge_definition(alloc, known, name, value),
-        Stmt::Static(place, _, _, _) | Stmt::Type(place, _, _) => Err(CheckError::at(15, *place)),
-        Stmt::Table(name, _) | Stmt::Function(name, _, _, _) => Err(CheckError::at(
-            15,
+        Stmt::Static(place, _, _, _) | Stmt::Type(place, _, _) => Err(JudgeError::at(
+            Cause::Misplaced,
+            *place,
+        )),
+        Stmt::Table(name, _) | Stmt::Function(name, _, _, _) => Err(JudgeError::at(
+            Cause::Misplaced,
             name.place(),
         )),
         Stmt::Simple(tree) => judge_simple(alloc, known, tree),
@@ -93,8 +96,8 @@ pub fn judge_stm(
         Stmt::For(place, first, test, between, body) => {
             judge_for(alloc, known, around, *place, body, first, test, between)
         }
-        Stmt::Break(place) if !around.in_loop => Err(CheckError::at(15, *place)),
-        Stmt::Continue(place) if !around.in_loop => Err(CheckError::at(15, *place)),
+        Stmt::Break(place) if !around.in_loop => Err(JudgeError::at(Cause::Misplaced, *place)),
+        Stmt::Continue(place) if !around.in_loop => Err(JudgeError::at(Cause::Misplaced, *place)),
         Stmt::Break(_) => Ok(CoreStmt::Break),
         Stmt::Continue(_) => Ok(CoreStmt::Continue),
         Stmt::Return(place, value) => judge_return(alloc, known, *place, around.result, value),
@@ -130,7 +133,7 @@ fn judge_inside(
     known: &mut Known,
     around: Around<'_>,
     tree: &Stmt,
-) -> Result<Box<CoreStmt>, CheckError>
+) -> Result<Box<CoreStmt>, JudgeError>
     ensures value { Judges (λ s. after_of known.new s.value) result
         (judge_inside (around_of around.entry) (scene_of known.old) (stm_of tree.now)) }
     ensures outside { IfOk result (λ _. known.new.outside ≡ known.old.outside) }
@@ -149,7 +152,7 @@ fn judge_block(
     around: Around<'_>,
     place: Place,
     trees: &[Stmt],
-) -> Result<CoreStmt, CheckError>
+) -> Result<CoreStmt, JudgeError>
     ensures value { Judges (λ s. after_of known.new s) result
         (judge_stm (around_of around.entry) (scene_of known.old) (block place (stms_of (each stm_of trees.now)))) }
     ensures outside { IfOk result (λ _. known.new.outside ≡ known.old.outside) }
@@ -167,7 +170,7 @@ pub fn judge_stms(
     known: &mut Known,
     around: Around<'_>,
     trees: &[Stmt],
-) -> Result<Vec<CoreStmt>, CheckError>
+) -> Result<Vec<CoreStmt>, JudgeError>
     ensures value { Judges (λ ss. all_after_of known.new ss.items) result
         (judge_stms (around_of around.entry) (scene_of known.old) (stms_of (each stm_of trees.now))) }
     ensures outside { IfOk result (λ _. known.new.outside ≡ known.old.outside) }
@@ -181,7 +184,7 @@ pub fn judge_stms(
 }
 
 #[cycle(stmt)]
-#[tactic(auto, using(crate::proofs::StatementParts::if_only_is, crate::proofs::StatementParts::done_is))]
+#[tactic(auto, unfolding(sz_check_rules::specs::JudgingStatements::judge_stm), using(crate::proofs::StatementParts::done_is))]
 fn judge_if_only(
     alloc: Global,
     known: &mut Known,
@@ -189,7 +192,7 @@ fn judge_if_only(
     place: Place,
     taken: &Stmt,
     condition: &Expr,
-) -> Result<CoreStmt, CheckError>
+) -> Result<CoreStmt, JudgeError>
     ensures value { Judges (λ s. after_of known.new s) result
         (judge_stm (around_of around.entry) (scene_of known.old) (if_only place (tree_of condition.now) (stm_of taken.now))) }
     ensures outside { IfOk result (λ _. known.new.outside ≡ known.old.outside) }
@@ -212,7 +215,7 @@ fn judge_else(
     condition: &Expr,
     node: CoreExpr,
     taken: Box<CoreStmt>,
-) -> Result<CoreStmt, CheckError>
+) -> Result<CoreStmt, JudgeError>
     ensures value { Judges (λ s. after_of known.new s) result
         (judge_else (around_of around.entry) (scene_of known.old) place (tree_of condition.now) (node_of node)
         (core_stm_of taken.value) (stm_of other.now)) }
@@ -223,7 +226,7 @@ fn judge_else(
 }
 
 #[cycle(stmt)]
-#[tactic(auto, using(crate::proofs::StatementParts::while_is, crate::proofs::StatementParts::done_is))]
+#[tactic(auto, unfolding(sz_check_rules::specs::JudgingStatements::judge_stm), using(crate::proofs::StatementParts::done_is))]
 fn judge_while(
     alloc: Global,
     known: &mut Known,
@@ -231,7 +234,7 @@ fn judge_while(
     place: Place,
     body: &Stmt,
     condition: &Expr,
-) -> Result<CoreStmt, CheckError>
+) -> Result<CoreStmt, JudgeError>
     ensures value { Judges (λ s. after_of known.new s) result
         (judge_stm (around_of around.entry) (scene_of known.old) (while place (tree_of condition.now) (stm_of body.now))) }
     ensures outside { IfOk result (λ _. known.new.outside ≡ known.old.outside) }
@@ -242,7 +245,7 @@ fn judge_while(
 }
 
 #[cycle(stmt)]
-#[tactic(auto, using(crate::proofs::StatementParts::do_while_is, crate::proofs::StatementParts::done_is))]
+#[tactic(auto, unfolding(sz_check_rules::specs::JudgingStatements::judge_stm), using(crate::proofs::StatementParts::done_is))]
 fn judge_do_while(
     alloc: Global,
     known: &mut Known,
@@ -250,7 +253,7 @@ fn judge_do_while(
     place: Place,
     body: &Stmt,
     condition: &Expr,
-) -> Result<CoreStmt, CheckError>
+) -> Result<CoreStmt, JudgeError>
     ensures value { Judges (λ s. after_of known.new s) result
         (judge_stm (around_of around.entry) (scene_of known.old) (do_while place (stm_of body.now) (tree_of condition.now))) }
     ensures outside { IfOk result (λ _. known.new.outside ≡ known.old.outside) }
@@ -271,7 +274,7 @@ fn judge_turns(
     body: &Stmt,
     condition: &Option<Expr>,
     between: &Option<Simple>,
-) -> Result<CoreStmt, CheckError>
+) -> Result<CoreStmt, JudgeError>
     ensures value { Judges (λ s. after_of known.new s) result
         (judge_turns (around_of around.entry) (scene_of known.old) place (option_map tree_of condition.now)
         (option_map simple_of between.now) (stm_of body.now)) }
@@ -293,10 +296,10 @@ fn judge_for(
     first: &Option<First>,
     condition: &Option<Expr>,
     between: &Option<Simple>,
-) -> Result<CoreStmt, CheckError>
+) -> Result<CoreStmt, JudgeError>
     ensures value { Judges (λ s. after_of known.new s) result
-        (judge_for (around_of around.entry) (scene_of known.old) place (option_map first_of first.now)
-        (option_map tree_of condition.now) (option_map simple_of between.now) (stm_of body.now)) }
+        (judge_stm (around_of around.entry) (scene_of known.old) (for_loop place (option_map first_of first.now)
+        (option_map tree_of condition.now) (option_map simple_of between.now) (stm_of body.now))) }
     ensures outside { IfOk result (λ _. known.new.outside ≡ known.old.outside) }
 {
     known.open()?;
@@ -315,7 +318,7 @@ fn judge_bound_body(
     around: Around<'_>,
     tree: &Stmt,
     variables: &[Variable<'_>],
-) -> Result<Box<CoreStmt>, CheckError>
+) -> Result<Box<CoreStmt>, JudgeError>
     ensures value { Judges (λ s. after_of known.new s.value) result
         (judge_bound_body (around_of around.entry) (scene_of known.old) (each variable_of variables.now) (stm_of tree.now)) }
     ensures outside { IfOk result (λ _. known.new.outside ≡ known.old.outside) }
@@ -327,7 +330,7 @@ fn judge_bound_body(
 }
 
 #[cycle(stmt)]
-#[tactic(auto, using(crate::proofs::StatementParts::when_is))]
+#[tactic(auto, unfolding(sz_check_rules::specs::JudgingStatements::judge_stm))]
 fn judge_when(
     alloc: Global,
     known: &mut Known,
@@ -336,7 +339,7 @@ fn judge_when(
     body: &Stmt,
     quantifiers: &[Quantifier],
     condition: &Expr,
-) -> Result<CoreStmt, CheckError>
+) -> Result<CoreStmt, JudgeError>
     ensures value { Judges (λ s. after_of known.new s) result
         (judge_stm (around_of around.entry) (scene_of known.old)
         (when place (each quantifier_of quantifiers.now) (tree_of condition.now) (stm_of body.now))) }

@@ -1,14 +1,13 @@
 //! Declarations of tables under their names.
 ghost use Rattle.sz_types.specs.SeenTables.{seen_table};
 ghost use Rattle.sz_tree.specs.View.{table_of};
-ghost use Rattle.sz_check_rules.specs.JudgingPrograms.{judge_table};
-ghost use Rattle.sz_check.specs.Declaring.{declare_table};
+ghost use Rattle.sz_check_rules.specs.JudgingPrograms.{declare_table, judge_table};
 ghost use Rattle.sz_check.specs.Top.{found_one, top_of};
 ghost use Rattle.sz_check_names.specs.Outcome.{Judges};
 
 use crate::top::Top;
 use std::alloc::Global;
-use sz_check_names::{CheckError, Meaning};
+use sz_check_names::{Cause, JudgeError, Meaning};
 use sz_check_table::judge_table_declaration;
 use sz_core::Item;
 use sz_tree::{Name, Table};
@@ -23,11 +22,11 @@ fn declare_table(
     top: &mut Top,
     name: &Name,
     table: TableDecl,
-) -> Result<Item, CheckError>
+) -> Result<Item, JudgeError>
     ensures value { Judges (λ i. found_one top.new i) result (declare_table (top_of top.old) name.now (seen_table table)) }
 {
     if top.tables >= MOST_TABLES {
-        return Err(CheckError::at(21, name.place()));
+        return Err(JudgeError::at(Cause::TooMany, name.place()));
     }
     let meaning = Meaning::Table(top.tables, copy_table(alloc, &table)?);
     top.known.declare(alloc, name, meaning)?;
@@ -36,13 +35,12 @@ fn declare_table(
 }
 
 // `name: table kind (limit) [index].. of element weight weight;`
-#[tactic(auto, using(crate::proofs::ProgramLemmas::table_by_parts))]
 pub fn judge_table(
     alloc: Global,
     top: &mut Top,
     name: &Name,
     tree: &Table,
-) -> Result<Item, CheckError>
+) -> Result<Item, JudgeError>
     ensures value { Judges (λ i. found_one top.new i) result (judge_table (top_of top.old) name.now (table_of tree.now)) }
 {
     let table = judge_table_declaration(alloc, &top.known, name, tree)?;

@@ -4,14 +4,14 @@ ghost use Rattle.sz_types.specs.Seen.{seen};
 ghost use Rattle.sz_tree.specs.View.{tree_of, step_of};
 ghost use Rattle.sz_core.specs.View.{node_of, step_of as core_step_of};
 ghost use Rattle.sz_check_rules.specs.JudgingParts.{field_in};
-ghost use Rattle.sz_check_rules.specs.JudgingPaths.{target_of, stepped, indexed, judge_steps, judge_path};
-ghost use Rattle.sz_check_names.specs.Holding.{means_of, scene_of};
-ghost use Rattle.sz_check.specs.Targets.{target_seen, into_string, to_part, part_of, judge_step, path_form, assignable};
+ghost use Rattle.sz_check_rules.specs.JudgingPaths.{target_of, stepped, indexed, judge_step, judge_steps, assignable, judge_path};
+ghost use Rattle.sz_check_names.specs.Knowledge.{means_of, scene_of};
+ghost use Rattle.sz_check.specs.Targets.{target_seen, into_string, to_part, part_of, path_form};
 ghost use Rattle.sz_check_names.specs.Outcome.{Judges};
 
 use std::alloc::{AllocError, Global};
 use sz_check_expr::{agrees, field_in, judge_exp, whole};
-use sz_check_names::{CheckError, Kind, Known, Means, Site, small, type_kind};
+use sz_check_names::{Cause, JudgeError, Kind, Known, Means, Site, small, type_kind};
 use sz_core::{CoreExpr, CoreStep};
 use sz_tree::{Expr, Name, Step};
 use sz_types::{Place, Ty, copy_ty};
@@ -27,7 +27,7 @@ pub struct Target {
 }
 
 // Where a path begins.
-fn target_of(alloc: Global, name: &Name, means: Means<'_>) -> Result<Target, CheckError>
+fn target_of(alloc: Global, name: &Name, means: Means<'_>) -> Result<Target, JudgeError>
     ensures value { Judges target_seen result (target_of name.now (means_of means.entry)) }
 {
     let (local, ty, assignable) = match means {
@@ -36,7 +36,7 @@ fn target_of(alloc: Global, name: &Name, means: Means<'_>) -> Result<Target, Che
             (number, copy_ty(alloc, ty)?, false)
         }
         Means::Input => (0, Ty::Bytes, false),
-        _ => return Err(CheckError::of(alloc, 8, name)),
+        _ => return Err(JudgeError::of(alloc, Cause::WrongKind, name)),
     };
     Ok(Target {
         local,
@@ -87,7 +87,7 @@ fn part_type(
     target: &Target,
     tree: &Expr,
     node: &CoreExpr,
-) -> Result<Ty, CheckError>
+) -> Result<Ty, JudgeError>
     ensures value { Judges (λ ty. to_part (target_seen target.now) (seen target.now.ty) (node_of node.now) (seen ty)) result
         (indexed place (target_seen target.now) (seen target.now.ty) (tree_of tree.now) (node_of node.now)) }
 {
@@ -104,7 +104,7 @@ fn part_type(
             whole(tree, node)?;
             Ok(Ty::Int)
         }
-        _ => Err(CheckError::at(9, place)),
+        _ => Err(JudgeError::at(Cause::WrongType, place)),
     }
 }
 
@@ -115,7 +115,7 @@ fn indexed(
     target: Target,
     tree: &Expr,
     node: CoreExpr,
-) -> Result<Target, CheckError>
+) -> Result<Target, JudgeError>
     ensures value { Judges target_seen result
         (indexed place (target_seen target) (seen target.ty) (tree_of tree.now) (node_of node)) }
 {
@@ -124,7 +124,7 @@ fn indexed(
 }
 
 // The field of a value of this type: its number, and its type.
-fn field_part(alloc: Global, place: Place, of: &Ty, name: &Name) -> Result<(u32, Ty), CheckError>
+fn field_part(alloc: Global, place: Place, of: &Ty, name: &Name) -> Result<(u32, Ty), JudgeError>
     ensures value { Judges part_of result (field_in place (seen of.now) name.now) }
 {
     let (number, ty) = field_in(alloc, place, of, name)?;
@@ -138,7 +138,7 @@ fn judge_step(
     place: Place,
     target: Target,
     step: &Step,
-) -> Result<Target, CheckError>
+) -> Result<Target, JudgeError>
     ensures value { Judges target_seen result (judge_step (scene_of known.now) place (target_seen target) (step_of step.now)) }
 {
     match step {
@@ -160,7 +160,7 @@ fn judge_steps(
     place: Place,
     first: Target,
     steps: &[Step],
-) -> Result<Target, CheckError>
+) -> Result<Target, JudgeError>
     ensures value { Judges target_seen result
         (judge_steps (scene_of known.now) place (target_seen first) (each step_of steps.now)) }
 {
@@ -173,13 +173,13 @@ fn judge_steps(
 }
 
 // What a path has come to, which has to be assignable. The name is that of the path's beginning.
-fn assignable(alloc: Global, name: &Name, target: Target) -> Result<Target, CheckError>
+fn assignable(alloc: Global, name: &Name, target: Target) -> Result<Target, JudgeError>
     ensures value { Judges target_seen result (assignable name.now (target_seen target)) }
 {
     if target.assignable {
         Ok(target)
     } else {
-        Err(CheckError::of(alloc, 14, name))
+        Err(JudgeError::of(alloc, Cause::NotAssignable, name))
     }
 }
 
@@ -189,7 +189,7 @@ pub fn judge_path(
     known: &Known,
     name: &Name,
     steps: &[Step],
-) -> Result<Target, CheckError>
+) -> Result<Target, JudgeError>
     ensures value { Judges target_seen result (judge_path (scene_of known.now) (path_form name.now (each step_of steps.now))) }
 {
     let first = target_of(alloc, name, known.look_up(alloc, Site::Statement, name)?)?;
@@ -199,7 +199,7 @@ pub fn judge_path(
 
 // A path that is a name alone.
 #[tactic(auto, unfolding(sz_check_rules::specs::JudgingPaths::judge_steps))]
-pub fn judge_variable(alloc: Global, known: &Known, name: &Name) -> Result<Target, CheckError>
+pub fn judge_variable(alloc: Global, known: &Known, name: &Name) -> Result<Target, JudgeError>
     ensures value { Judges target_seen result (judge_path (scene_of known.now) (path_form name.now [])) }
 {
     let target = target_of(alloc, name, known.look_up(alloc, Site::Statement, name)?)?;

@@ -9,7 +9,7 @@ use Rattle.sz_tree.specs.Names.{Ident}
 use Rattle.sz_tree.specs.declared.expr.Expr.{Expr}
 use Rattle.sz_tree.specs.declared.expr.Pair.{Pair}
 use Rattle.sz_tree.specs.declared.name.Name.{Name}
-use Rattle.sz_tree.specs.declared.stmt.Step.{Step as HeldStep}
+use Rattle.sz_tree.specs.declared.stmt.Step.{Step as TreeStep}
 use Rattle.sz_tree.specs.declared.stmt.Stmt.{Stmt}
 use Rattle.sz_tree.specs.Expressions.{call, list, mapping, exps_of, pairs_of}
 use Rattle.sz_tree.specs.Statements.{StepForm, at_index, at_field, FirstForm, first_declare, first_define, first_simple, Stm, block, declare, define, stms_of}
@@ -45,11 +45,11 @@ module _ (emits : List ℕ → Bool) (h : List (List ℕ)) where
   step_front (at_index e) xs = ap (λ b. b || steps_emit emits h xs) (sym (or_false (exp_emits emits h e)))
   step_front (at_field n) xs = refl
 
-  pub steps_turn : (xs : List HeldStep) (i : ℕ) (x : HeldStep) → i < length xs → x ≡ get_or xs i x
+  pub steps_turn : (xs : List TreeStep) (i : ℕ) (x : TreeStep) → i < length xs → x ≡ get_or xs i x
       → steps_emit emits h (map step_of (drop i xs)) ≡ (steps_emit emits h (step_of x ∷ []) || steps_emit emits h (map step_of (drop (i + 1) xs)))
   steps_turn xs i x within is = ap (steps_emit emits h) (rest_more step_of xs i x within is) ∙ step_front (step_of x) (map step_of (drop (i + 1) xs))
 
-  pub steps_over : (xs : List HeldStep) (i : ℕ) → length xs ≤ i → steps_emit emits h (map step_of (drop i xs)) ≡ false
+  pub steps_over : (xs : List TreeStep) (i : ℕ) → length xs ≤ i → steps_emit emits h (map step_of (drop i xs)) ≡ false
   unfolding steps_emit
   steps_over xs i over = ap (steps_emit emits h) (rest_none step_of xs i over)
 

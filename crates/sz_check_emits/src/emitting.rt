@@ -2,10 +2,10 @@
 ghost use Rattle.std.specs.Prelude.{◌≡◌, ◌||◌, ◌++◌, ◌∷◌, [], take, length, map as each, IfOk, OnOk};
 ghost use Rattle.std.specs.Option.{option_map};
 ghost use Rattle.sz_tree.specs.Expressions.{exps_of, pairs_of};
-ghost use Rattle.sz_tree.specs.Statements.{stms_of, when, for_loop};
+ghost use Rattle.sz_tree.specs.Statements.{stms_of};
 ghost use Rattle.sz_tree.specs.View.{tree_of, pair_of, step_of, simple_of, first_of, quantifier_of, stm_of};
 ghost use Rattle.sz_check_rules.specs.Refusals.{has_name};
-ghost use Rattle.sz_check_names.specs.Holding.{blocks_of, maybe_means_of};
+ghost use Rattle.sz_check_names.specs.Knowledge.{blocks_of, maybe_means_of};
 ghost use Rattle.sz_check_rules.specs.EmittingTrees.{means_emitting, emits_by, is_seen_inside, texts_of, quantified_names, calls, exp_emits, exps_emit};
 ghost use Rattle.sz_check_rules.specs.EmittingTrees.{pairs_emit, part_emits, steps_emit, simple_emits, between_emits, first_emits, hidden_after_first};
 ghost use Rattle.sz_check_rules.specs.EmittingTrees.{hidden_after, stm_emits, stms_emit, for_emits, when_emits};

@@ -18,7 +18,7 @@ use Rattle.sz_check_rules.specs.JudgingExpressions.{literal_node, judge_exp, jud
 use Rattle.sz_check_names.specs.Turns.{following, put_all}
 use Rattle.sz_check_expr.specs.Lists.{with_pair, judge_pair}
 use Rattle.sz_check_names.specs.Outcome.{Stops}
-use Rattle.sz_check_names.specs.declared.error.CheckError.{CheckError}
+use Rattle.sz_check_names.specs.declared.error.JudgeError.{JudgeError}
 use Rattle.sz_check_names.proofs.TurnLemmas.{stops_then, goes_on, turn_fails, turn_goes, turn_ends}
 use Rattle.sz_types.proofs.ForCallers.{rest_more, rest_none}
 
@@ -54,7 +54,7 @@ module _ (blocks : List Block) (may_emit : Bool) where
   slice_is asked p e i j = refl
 
   -- a slice whose last bound is refused
-  pub slice_stops : (asked : Option Shape) (p : Place) (e i j : Exp) (n m : Node) (r : CheckError) → judge_exp blocks may_emit None e ≡ Ok n
+  pub slice_stops : (asked : Option Shape) (p : Place) (e i j : Exp) (n m : Node) (r : JudgeError) → judge_exp blocks may_emit None e ≡ Ok n
       → judge_exp blocks may_emit None i ≡ Ok m → Stops r (judge_exp blocks may_emit None j) → Stops r (judge_exp blocks may_emit asked (slice p e i j))
   slice_stops asked p e i j n m r h g stop =
       stops_then r (judge_exp blocks may_emit None j) (λ o. made_slice p e i j n m o) _ stop
@@ -86,7 +86,7 @@ module _ (blocks : List Block) (may_emit : Bool) where
   unfolding judge_exps
   exps_over asks es i over = rw (rest_none tree_of es i over) refl
 
-  pub exps_fails : (front : List Node) (asks : Asks) (es : List Expr) (i : ℕ) (e : Expr) (r : CheckError) (whole : Judged Nodes) → i < length es
+  pub exps_fails : (front : List Node) (asks : Asks) (es : List Expr) (i : ℕ) (e : Expr) (r : JudgeError) (whole : Judged Nodes) → i < length es
       → e ≡ get_or es i e → Stops r (judge_exp blocks may_emit (asked_first asks) (tree_of e)) → following with_node front (exps_from asks es i) ≡ whole
       → Stops r whole
   exps_fails front asks es i e r whole within is h so_far = turn_fails with_node front r _ _ _ whole (exps_turn asks es i e within is) h so_far
@@ -117,7 +117,7 @@ module _ (blocks : List Block) (may_emit : Bool) where
   unfolding judge_pairs
   pairs_over k v ps i over = rw (rest_none pair_of ps i over) refl
 
-  pub pairs_fails : (front : List (Node × Node)) (k v : Option Shape) (ps : List Pair) (i : ℕ) (p : Pair) (r : CheckError) (whole : Judged Pairings)
+  pub pairs_fails : (front : List (Node × Node)) (k v : Option Shape) (ps : List Pair) (i : ℕ) (p : Pair) (r : JudgeError) (whole : Judged Pairings)
       → i < length ps → p ≡ get_or ps i p → Stops r (judge_pair blocks may_emit k v (pair_of p))
       → following with_pair front (pairs_from k v ps i) ≡ whole → Stops r whole
   pairs_fails front k v ps i p r whole within is h so_far = turn_fails with_pair front r _ _ _ whole (pairs_turn k v ps i p within is) h so_far

@@ -14,24 +14,24 @@ use crate::asks::Asks;
 use crate::path::conversion_node;
 use crate::rows::alike;
 use std::alloc::Global;
-use sz_check_names::CheckError;
+use sz_check_names::{Cause, JudgeError};
 use sz_core::{CoreExpr, CorePair};
 use sz_tree::{Expr, Pair};
 use sz_types::{Place, Ty, copy_ty};
 
 // Nothing is refused where the test holds; else the expression has the wrong type.
-pub fn fits(holds: bool, tree: &Expr) -> Result<(), CheckError>
+pub fn fits(holds: bool, tree: &Expr) -> Result<(), JudgeError>
     ensures value { Judges (λ x. x) result (fits holds (tree_of tree.now)) }
 {
     if holds {
         Ok(())
     } else {
-        Err(CheckError::at(9, tree.place()))
+        Err(JudgeError::at(Cause::WrongType, tree.place()))
     }
 }
 
-/// The expression has the type that is asked, if one is; else refusal 9, at the expression.
-pub fn agrees(asked: Option<&Ty>, tree: &Expr, node: &CoreExpr) -> Result<(), CheckError>
+/// The expression has the type that is asked, if one is; else a wrong type, at the expression.
+pub fn agrees(asked: Option<&Ty>, tree: &Expr, node: &CoreExpr) -> Result<(), JudgeError>
     ensures value { Judges (λ x. x) result (agrees (asked_of asked.entry) (tree_of tree.now) (node_of node.now)) }
 {
     match asked {
@@ -40,8 +40,8 @@ pub fn agrees(asked: Option<&Ty>, tree: &Expr, node: &CoreExpr) -> Result<(), Ch
     }
 }
 
-/// Each expression has the type that is asked of it, as far as types are asked; else refusal 9, at the first that hasn't.
-pub fn agree(asks: Asks<'_>, trees: &[Expr], nodes: &[CoreExpr]) -> Result<(), CheckError>
+/// Each expression has the type that is asked of it, as far as types are asked; else a wrong type, at the first that hasn't.
+pub fn agree(asks: Asks<'_>, trees: &[Expr], nodes: &[CoreExpr]) -> Result<(), JudgeError>
     ensures value { Judges (λ x. x) result
         (agree (asks_of asks.entry) (exps_of (each tree_of trees.now)) (nodes_of (each node_of nodes.now))) }
 {
@@ -59,7 +59,7 @@ pub fn pairs_agree(
     value: &Ty,
     trees: &[Pair],
     nodes: &[CorePair],
-) -> Result<(), CheckError>
+) -> Result<(), JudgeError>
     ensures value { Judges (λ x. x) result
         (pairs_agree (seen key.now) (seen value.now) (pairs_of (each pair_of trees.now))
         (pairings_of (each pairing_of nodes.now))) }
@@ -72,25 +72,25 @@ pub fn pairs_agree(
     Ok(())
 }
 
-/// There are just so many expressions; else refusal 12, at the place.
+/// There are just so many expressions; else a wrong count, at the place.
 #[tactic(auto, using(crate::proofs::ListLemmas::count_is))]
-pub fn counted(count: usize, trees: &[Expr], place: Place) -> Result<(), CheckError>
+pub fn counted(count: usize, trees: &[Expr], place: Place) -> Result<(), JudgeError>
     ensures value { Judges (λ x. x) result (counted count (exps_of (each tree_of trees.now)) place) }
 {
     if trees.len() == count {
         Ok(())
     } else {
-        Err(CheckError::at(12, place))
+        Err(JudgeError::at(Cause::WrongCount, place))
     }
 }
 
-/// A value of the type that a declaration has: as it is, or converted; else refusal 9, at the value.
+/// A value of the type that a declaration has: as it is, or converted; else a wrong type, at the value.
 pub fn converted(
     alloc: Global,
     ty: &Ty,
     tree: &Expr,
     node: CoreExpr,
-) -> Result<CoreExpr, CheckError>
+) -> Result<CoreExpr, JudgeError>
     ensures value { Judges node_of result (converted (seen ty.now) (tree_of tree.now) (node_of node)) }
 {
     if alike(&node.ty, ty) {

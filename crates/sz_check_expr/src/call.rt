@@ -12,20 +12,20 @@ ghost use Rattle.sz_check_rules.specs.JudgingExpressions.{variable_node};
 ghost use Rattle.sz_check_rules.specs.JudgingCalls.{callee_of, asks_of_callee, declared_call, predeclared_call, conversion_call, made_call};
 ghost use Rattle.sz_check_expr.specs.Asking.{asks_of};
 ghost use Rattle.sz_check_expr.specs.Calling.{callee_seen, first_converts, first_converted};
-ghost use Rattle.sz_check_names.specs.Holding.{means_of};
+ghost use Rattle.sz_check_names.specs.Knowledge.{means_of};
 ghost use Rattle.sz_check_names.specs.Outcome.{Judges};
 
 use crate::agreement::{agree, counted, fits};
 use crate::asks::Asks;
 use crate::rows::{builtin_row, has_elements, has_keys_of, is_found_in, is_map, is_searched_for};
 use std::alloc::Global;
-use sz_check_names::{CheckError, Means};
+use sz_check_names::{Cause, JudgeError, Means};
 use sz_core::{CoreExpr, Form, Signature};
 use sz_tree::{Expr, Name};
 use sz_types::{Builtin, Place, Ty, converts, copy_ty};
 
 // A name as a value.
-pub fn variable_node(alloc: Global, name: &Name, means: Means<'_>) -> Result<CoreExpr, CheckError>
+pub fn variable_node(alloc: Global, name: &Name, means: Means<'_>) -> Result<CoreExpr, JudgeError>
     ensures value { Judges node_of result (variable_node name.now (means_of means.entry)) }
 {
     let (ty, form) = match means {
@@ -34,7 +34,7 @@ pub fn variable_node(alloc: Global, name: &Name, means: Means<'_>) -> Result<Cor
         }
         Means::Static(number, ty) => (copy_ty(alloc, ty)?, Form::Static(number)),
         Means::Input => (Ty::Bytes, Form::Input),
-        _ => return Err(CheckError::of(alloc, 8, name)),
+        _ => return Err(JudgeError::of(alloc, Cause::WrongKind, name)),
     };
     let place = name.place();
     Ok(CoreExpr { place, ty, form })
@@ -49,14 +49,14 @@ pub enum Callee<'k> {
 }
 
 // What the name calls.
-pub fn callee_of<'k>(alloc: Global, name: &Name, means: Means<'k>) -> Result<Callee<'k>, CheckError>
+pub fn callee_of<'k>(alloc: Global, name: &Name, means: Means<'k>) -> Result<Callee<'k>, JudgeError>
     ensures value { Judges callee_seen result (callee_of name.now (means_of means.entry)) }
 {
     match means {
         Means::Function(number, signature) => Ok(Callee::Declared(number, signature)),
         Means::Predeclared(builtin) => Ok(Callee::Predeclared(builtin)),
         Means::Type(named) => Ok(Callee::Conversion(named.write_out(alloc)?)),
-        _ => Err(CheckError::of(alloc, 8, name)),
+        _ => Err(JudgeError::of(alloc, Cause::WrongKind, name)),
     }
 }
 
@@ -86,7 +86,7 @@ fn key_fits(
     trees: &[Expr],
     node: &CoreExpr,
     nodes: &[CoreExpr],
-) -> Result<(), CheckError>
+) -> Result<(), JudgeError>
     ensures value { Judges (λ x. x) result
         (arguments_fit HasKey (more (tree_of tree.now) (exps_of (each tree_of trees.now)))
         (with_node (node_of node.now) (nodes_of (each node_of nodes.now)))) }
@@ -107,7 +107,7 @@ fn part_fits(
     trees: &[Expr],
     node: &CoreExpr,
     nodes: &[CoreExpr],
-) -> Result<(), CheckError>
+) -> Result<(), JudgeError>
     ensures value { Judges (λ x. x) result
         (arguments_fit StrFind (more (tree_of tree.now) (exps_of (each tree_of trees.now)))
         (with_node (node_of node.now) (nodes_of (each node_of nodes.now)))) }
@@ -123,7 +123,7 @@ fn part_fits(
 }
 
 // The arguments of a predeclared function have types that it takes, as far as they are there.
-fn arguments_fit(function: Builtin, trees: &[Expr], nodes: &[CoreExpr]) -> Result<(), CheckError>
+fn arguments_fit(function: Builtin, trees: &[Expr], nodes: &[CoreExpr]) -> Result<(), JudgeError>
     ensures value { Judges (λ x. x) result
         (arguments_fit function (exps_of (each tree_of trees.now)) (nodes_of (each node_of nodes.now))) }
 {
@@ -150,7 +150,7 @@ fn declared_call(
     signature: &Signature,
     trees: &[Expr],
     nodes: Vec<CoreExpr>,
-) -> Result<CoreExpr, CheckError>
+) -> Result<CoreExpr, JudgeError>
     ensures value { Judges node_of result
         (declared_call may_emit name.now number (signature_of signature.now) (exps_of (each tree_of trees.now))
         (nodes_of (each node_of nodes.items))) }
@@ -160,7 +160,7 @@ fn declared_call(
     agree(Asks::Types(parameters), trees, nodes.as_slice())?;
     counted(parameters.len(), trees, place)?;
     if signature.emits && !may_emit {
-        return Err(CheckError::at(22, place));
+        return Err(JudgeError::at(Cause::EmitHere, place));
     }
     let ty = copy_ty(alloc, &signature.result)?;
     let form = Form::call(number, nodes);
@@ -174,7 +174,7 @@ fn predeclared_call(
     function: Builtin,
     trees: &[Expr],
     nodes: Vec<CoreExpr>,
-) -> Result<CoreExpr, CheckError>
+) -> Result<CoreExpr, JudgeError>
     ensures value { Judges node_of result
         (predeclared_call name.now function (exps_of (each tree_of trees.now)) (nodes_of (each node_of nodes.items))) }
 {
@@ -186,7 +186,7 @@ fn predeclared_call(
             let form = Form::builtin(function, nodes);
             Ok(CoreExpr { place, ty, form })
         }
-        None => Err(CheckError::at(12, place)),
+        None => Err(JudgeError::at(Cause::WrongCount, place)),
     }
 }
 
@@ -197,21 +197,21 @@ fn first_converts(
     trees: &[Expr],
     nodes: &[CoreExpr],
     is_single: bool,
-) -> Result<(), CheckError>
+) -> Result<(), JudgeError>
     ensures value { Judges (λ x. x) result
         (first_converts place (seen ty.now) (exps_of (each tree_of trees.now)) (nodes_of (each node_of nodes.now)) is_single) }
 {
     let [tree, ..] = trees else {
-        return Err(CheckError::at(12, place));
+        return Err(JudgeError::at(Cause::WrongCount, place));
     };
     let [node, ..] = nodes else {
-        return Err(CheckError::at(12, place));
+        return Err(JudgeError::at(Cause::WrongCount, place));
     };
     fits(converts(&node.ty, ty), tree)?;
     if is_single {
         Ok(())
     } else {
-        Err(CheckError::at(12, place))
+        Err(JudgeError::at(Cause::WrongCount, place))
     }
 }
 
@@ -221,7 +221,7 @@ fn first_converted(
     place: Place,
     ty: Ty,
     nodes: Vec<CoreExpr>,
-) -> Result<CoreExpr, CheckError>
+) -> Result<CoreExpr, JudgeError>
     ensures value { Judges node_of result (first_converted place (seen ty) (nodes_of (each node_of nodes.items))) }
 {
     match nodes.into_iter().next() {
@@ -229,7 +229,7 @@ fn first_converted(
             let form = Form::Convert(Box::new(alloc, node)?);
             Ok(CoreExpr { place, ty, form })
         }
-        None => Err(CheckError::at(12, place)),
+        None => Err(JudgeError::at(Cause::WrongCount, place)),
     }
 }
 
@@ -241,7 +241,7 @@ fn conversion_call(
     ty: Ty,
     trees: &[Expr],
     nodes: Vec<CoreExpr>,
-) -> Result<CoreExpr, CheckError>
+) -> Result<CoreExpr, JudgeError>
     ensures value { Judges node_of result
         (conversion_call name.now (seen ty) (exps_of (each tree_of trees.now)) (nodes_of (each node_of nodes.items))) }
 {
@@ -259,7 +259,7 @@ pub fn made_call(
     callee: Callee<'_>,
     trees: &[Expr],
     nodes: Vec<CoreExpr>,
-) -> Result<CoreExpr, CheckError>
+) -> Result<CoreExpr, JudgeError>
     ensures value { Judges node_of result
         (made_call may_emit name.now (callee_seen callee.entry) (exps_of (each tree_of trees.now))
         (nodes_of (each node_of nodes.items))) }

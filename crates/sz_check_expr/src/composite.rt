@@ -14,7 +14,7 @@ ghost use Rattle.sz_check_names.specs.Outcome.{Judges};
 use crate::agreement::{agree, counted, pairs_agree};
 use crate::asks::Asks;
 use std::alloc::Global;
-use sz_check_names::{CheckError, Kind, type_kind};
+use sz_check_names::{Cause, JudgeError, Kind, type_kind};
 use sz_core::{CoreExpr, CorePair, Form};
 use sz_tree::{Expr, Pair};
 use sz_types::{Field, Place, Ty, copy_ty};
@@ -43,7 +43,7 @@ fn tuple_of(
     fields: &[Field],
     trees: &[Expr],
     nodes: Vec<CoreExpr>,
-) -> Result<CoreExpr, CheckError>
+) -> Result<CoreExpr, JudgeError>
     ensures value { Judges node_of result
         (tuple_of place (seen ty.now) (fields_of (each seen_field fields.now)) (exps_of (each tree_of trees.now))
         (nodes_of (each node_of nodes.items))) }
@@ -56,7 +56,6 @@ fn tuple_of(
 }
 
 // A tuple or a message of this type with these fields.
-#[tactic(auto, using(crate::proofs::CallLemmas::tuple_is))]
 fn made_tuple(
     alloc: Global,
     place: Place,
@@ -64,13 +63,13 @@ fn made_tuple(
     fields: &[Field],
     trees: &[Expr],
     nodes: Vec<CoreExpr>,
-) -> Result<CoreExpr, CheckError>
+) -> Result<CoreExpr, JudgeError>
     ensures value { Judges node_of result
         (made_tuple place (seen ty.now) (fields_of (each seen_field fields.now)) (exps_of (each tree_of trees.now))
         (nodes_of (each node_of nodes.items))) }
 {
     if trees.is_empty() {
-        Err(CheckError::at(9, place))
+        Err(JudgeError::at(Cause::WrongType, place))
     } else {
         tuple_of(alloc, place, ty, fields, trees, nodes)
     }
@@ -83,7 +82,7 @@ fn made_array(
     element: &Ty,
     trees: &[Expr],
     nodes: Vec<CoreExpr>,
-) -> Result<CoreExpr, CheckError>
+) -> Result<CoreExpr, JudgeError>
     ensures value { Judges node_of result
         (made_array place (seen element.now) (exps_of (each tree_of trees.now)) (nodes_of (each node_of nodes.items))) }
 {
@@ -100,19 +99,19 @@ pub fn made_list(
     asked: Option<&Ty>,
     trees: &[Expr],
     nodes: Vec<CoreExpr>,
-) -> Result<CoreExpr, CheckError>
+) -> Result<CoreExpr, JudgeError>
     ensures value { Judges node_of result
         (made_list place (asked_of asked.entry) (exps_of (each tree_of trees.now)) (nodes_of (each node_of nodes.items))) }
 {
     let Some(ty) = asked else {
-        return Err(CheckError::at(10, place));
+        return Err(JudgeError::at(Cause::NoType, place));
     };
     match type_kind(ty) {
         Kind::Array(element) => made_array(alloc, place, element, trees, nodes),
         Kind::Tuple(fields) | Kind::Proto(fields) => {
             made_tuple(alloc, place, ty, fields, trees, nodes)
         }
-        _ => Err(CheckError::at(9, place)),
+        _ => Err(JudgeError::at(Cause::WrongType, place)),
     }
 }
 
@@ -143,16 +142,16 @@ pub fn made_mapping(
     asked: Option<&Ty>,
     trees: &[Pair],
     nodes: Vec<CorePair>,
-) -> Result<CoreExpr, CheckError>
+) -> Result<CoreExpr, JudgeError>
     ensures value { Judges node_of result
         (made_mapping place (asked_of asked.entry) (pairs_of (each pair_of trees.now))
         (pairings_of (each pairing_of nodes.items))) }
 {
     let Some(ty) = asked else {
-        return Err(CheckError::at(10, place));
+        return Err(JudgeError::at(Cause::NoType, place));
     };
     let Kind::Map(key, value) = type_kind(ty) else {
-        return Err(CheckError::at(9, place));
+        return Err(JudgeError::at(Cause::WrongType, place));
     };
     pairs_agree(key, value, trees, nodes.as_slice())?;
     let ty = copy_ty(alloc, ty)?;

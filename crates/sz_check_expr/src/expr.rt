@@ -7,7 +7,7 @@ ghost use Rattle.sz_core.specs.Nodes.{nodes_of, pairings_of};
 ghost use Rattle.sz_core.specs.View.{node_of, pairing_of};
 ghost use Rattle.sz_check_rules.specs.JudgingExpressions.{judge_exp, judge_exps, judge_pairs};
 ghost use Rattle.sz_check_expr.specs.Asking.{asks_of, asked_of};
-ghost use Rattle.sz_check_names.specs.Holding.{blocks_for};
+ghost use Rattle.sz_check_names.specs.Knowledge.{blocks_for};
 ghost use Rattle.sz_check_names.specs.Sites.{may_emit};
 ghost use Rattle.sz_check_expr.specs.Lists.{judge_pair};
 ghost use Rattle.sz_check_names.specs.Outcome.{Judges};
@@ -19,7 +19,7 @@ use crate::literal::literal_node;
 use crate::operator::{asked_of_right, made_binary, made_unary};
 use crate::path::{conversion_node, made_field, made_index, made_slice};
 use std::alloc::Global;
-use sz_check_names::{CheckError, Known, Site, basic_type};
+use sz_check_names::{JudgeError, Known, Site, basic_type};
 use sz_core::{CoreExpr, CorePair, Form};
 use sz_tree::{BasicType, Expr, Name, Pair, UnaryOp};
 use sz_types::{Place, Ty};
@@ -33,7 +33,7 @@ pub fn judge_exp(
     site: Site,
     asked: Option<&Ty>,
     tree: &Expr,
-) -> Result<CoreExpr, CheckError>
+) -> Result<CoreExpr, JudgeError>
     ensures value { Judges node_of result
         (judge_exp (blocks_for known.now site) (may_emit site) (asked_of asked.entry) (tree_of tree.now)) }
 {
@@ -82,7 +82,7 @@ fn judge_part(
     site: Site,
     asked: Option<&Ty>,
     tree: &Expr,
-) -> Result<Box<CoreExpr>, CheckError>
+) -> Result<Box<CoreExpr>, JudgeError>
     ensures value { Judges (λ made. node_of made.value) result
         (judge_exp (blocks_for known.now site) (may_emit site) (asked_of asked.entry) (tree_of tree.now)) }
 {
@@ -96,7 +96,7 @@ fn judge_named(
     known: &Known,
     site: Site,
     name: &Name,
-) -> Result<CoreExpr, CheckError>
+) -> Result<CoreExpr, JudgeError>
     ensures value { (asked : Option Shape) → Judges node_of result
         (judge_exp (blocks_for known.now site) (may_emit site) asked (named name.now)) }
 {
@@ -112,7 +112,7 @@ pub fn judge_call(
     site: Site,
     name: &Name,
     arguments: &[Expr],
-) -> Result<CoreExpr, CheckError>
+) -> Result<CoreExpr, JudgeError>
     ensures value { (asked : Option Shape) → Judges node_of result
         (judge_exp (blocks_for known.now site) (may_emit site) asked (call name.now (exps_of (each tree_of arguments.now)))) }
 {
@@ -130,7 +130,7 @@ fn judge_def(
     site: Site,
     place: Place,
     tree: &Expr,
-) -> Result<CoreExpr, CheckError>
+) -> Result<CoreExpr, JudgeError>
     ensures value { (asked : Option Shape) → Judges node_of result
         (judge_exp (blocks_for known.now site) (may_emit site) asked (def place (tree_of tree.now))) }
 {
@@ -149,7 +149,7 @@ fn judge_conversion(
     place: Place,
     basic: BasicType,
     tree: &Expr,
-) -> Result<CoreExpr, CheckError>
+) -> Result<CoreExpr, JudgeError>
     ensures value { (asked : Option Shape) → Judges node_of result
         (judge_exp (blocks_for known.now site) (may_emit site) asked (convert place basic (tree_of tree.now))) }
 {
@@ -167,7 +167,7 @@ fn judge_list(
     asked: Option<&Ty>,
     place: Place,
     trees: &[Expr],
-) -> Result<CoreExpr, CheckError>
+) -> Result<CoreExpr, JudgeError>
     ensures value { Judges node_of result
         (judge_exp (blocks_for known.now site) (may_emit site) (asked_of asked.entry)
         (list place (exps_of (each tree_of trees.now)))) }
@@ -186,7 +186,7 @@ fn judge_mapping(
     asked: Option<&Ty>,
     place: Place,
     trees: &[Pair],
-) -> Result<CoreExpr, CheckError>
+) -> Result<CoreExpr, JudgeError>
     ensures value { Judges node_of result
         (judge_exp (blocks_for known.now site) (may_emit site) (asked_of asked.entry)
         (mapping place (pairs_of (each pair_of trees.now)))) }
@@ -206,7 +206,7 @@ fn judge_field(
     place: Place,
     tree: &Expr,
     name: &Name,
-) -> Result<CoreExpr, CheckError>
+) -> Result<CoreExpr, JudgeError>
     ensures value { (asked : Option Shape) → Judges node_of result
         (judge_exp (blocks_for known.now site) (may_emit site) asked (field place (tree_of tree.now) name.now)) }
 {
@@ -224,7 +224,7 @@ fn judge_unary(
     place: Place,
     op: UnaryOp,
     tree: &Expr,
-) -> Result<CoreExpr, CheckError>
+) -> Result<CoreExpr, JudgeError>
     ensures value { (asked : Option Shape) → Judges node_of result
         (judge_exp (blocks_for known.now site) (may_emit site) asked (unary place op (tree_of tree.now))) }
 {
@@ -240,7 +240,7 @@ pub fn judge_exps(
     site: Site,
     asks: Asks<'_>,
     trees: &[Expr],
-) -> Result<Vec<CoreExpr>, CheckError>
+) -> Result<Vec<CoreExpr>, JudgeError>
     ensures value { Judges (λ made. nodes_of (each node_of made.items)) result
         (judge_exps (blocks_for known.now site) (may_emit site) (asks_of asks.entry) (exps_of (each tree_of trees.now))) }
 {
@@ -263,7 +263,7 @@ fn judge_pair(
     key: Option<&Ty>,
     value: Option<&Ty>,
     tree: &Pair,
-) -> Result<CorePair, CheckError>
+) -> Result<CorePair, JudgeError>
     ensures value { Judges pairing_of result
         (judge_pair (blocks_for known.now site) (may_emit site) (asked_of key.entry) (asked_of value.entry) (pair_of tree.now)) }
 {
@@ -281,7 +281,7 @@ fn judge_pairs(
     key: Option<&Ty>,
     value: Option<&Ty>,
     trees: &[Pair],
-) -> Result<Vec<CorePair>, CheckError>
+) -> Result<Vec<CorePair>, JudgeError>
     ensures value { Judges (λ made. pairings_of (each pairing_of made.items)) result
         (judge_pairs (blocks_for known.now site) (may_emit site) (asked_of key.entry) (asked_of value.entry)
         (pairs_of (each pair_of trees.now))) }

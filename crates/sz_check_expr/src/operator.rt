@@ -12,7 +12,7 @@ ghost use Rattle.sz_check_names.specs.Outcome.{Judges};
 use crate::agreement::fits;
 use crate::rows::{alike, binary_row, unary_row};
 use std::alloc::Global;
-use sz_check_names::{CheckError, Kind, type_kind};
+use sz_check_names::{Cause, JudgeError, Kind, type_kind};
 use sz_core::{CoreExpr, Form};
 use sz_tree::{BinaryOp, Expr, UnaryOp};
 use sz_types::{BinOp, Place, Ty, UnOp};
@@ -35,7 +35,7 @@ pub fn made_unary(
     op: UnaryOp,
     tree: &Expr,
     node: Box<CoreExpr>,
-) -> Result<CoreExpr, CheckError>
+) -> Result<CoreExpr, JudgeError>
     ensures value { Judges node_of result (made_unary place op (tree_of tree.now) (node_of node.value)) }
 {
     match unary_row(unary_of(op), &node.ty) {
@@ -43,7 +43,7 @@ pub fn made_unary(
             let form = Form::Unary(unary_of(op), node);
             Ok(CoreExpr { place, ty, form })
         }
-        None => Err(CheckError::at(9, tree.place())),
+        None => Err(JudgeError::at(Cause::WrongType, tree.place())),
     }
 }
 
@@ -135,24 +135,24 @@ fn made_operator(
     right: &Expr,
     first: Box<CoreExpr>,
     second: Box<CoreExpr>,
-) -> Result<CoreExpr, CheckError>
+) -> Result<CoreExpr, JudgeError>
     ensures value { Judges node_of result
         (made_operator place op (tree_of left.now) (tree_of right.now) (node_of first.value) (node_of second.value)) }
 {
     if !takes_left(op, &first.ty) {
-        return Err(CheckError::at(9, left.place()));
+        return Err(JudgeError::at(Cause::WrongType, left.place()));
     }
     match binary_row(alloc, op, &first.ty, &second.ty)? {
         Some(ty) => {
             let form = Form::Binary(op, first, second);
             Ok(CoreExpr { place, ty, form })
         }
-        None => Err(CheckError::at(9, right.place())),
+        None => Err(JudgeError::at(Cause::WrongType, right.place())),
     }
 }
 
-/// An expression that has to be a truth value; else refusal 9, at the expression.
-pub fn test(tree: &Expr, node: &CoreExpr) -> Result<(), CheckError>
+/// An expression that has to be a truth value; else a wrong type, at the expression.
+pub fn test(tree: &Expr, node: &CoreExpr) -> Result<(), JudgeError>
     ensures value { Judges (λ x. x) result (test (tree_of tree.now) (node_of node.now)) }
 {
     fits(alike(&node.ty, &Ty::Bool), tree)
@@ -167,7 +167,7 @@ pub fn made_binary(
     right: &Expr,
     first: Box<CoreExpr>,
     second: Box<CoreExpr>,
-) -> Result<CoreExpr, CheckError>
+) -> Result<CoreExpr, JudgeError>
     ensures value { Judges node_of result
         (made_binary place (operation_of op) (tree_of left.now) (tree_of right.now) (node_of first.value) (node_of second.value)) }
 {

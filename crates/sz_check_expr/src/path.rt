@@ -14,7 +14,7 @@ ghost use Rattle.sz_check_names.specs.Outcome.{Judges};
 use crate::agreement::fits;
 use crate::rows::{alike, has_elements, has_slices, index_row};
 use std::alloc::Global;
-use sz_check_names::{CheckError, Kind, small, type_kind};
+use sz_check_names::{Cause, JudgeError, Kind, small, type_kind};
 use sz_core::{CoreExpr, Form};
 use sz_tree::{Expr, Name};
 use sz_types::{Field, Place, Ty, converts, copy_ty};
@@ -25,11 +25,11 @@ pub fn conversion_node(
     ty: Ty,
     tree: &Expr,
     node: Box<CoreExpr>,
-) -> Result<CoreExpr, CheckError>
+) -> Result<CoreExpr, JudgeError>
     ensures value { Judges node_of result (conversion_node place (seen ty) (tree_of tree.now) (node_of node.value)) }
 {
     if !converts(&node.ty, &ty) {
-        return Err(CheckError::at(9, tree.place()));
+        return Err(JudgeError::at(Cause::WrongType, tree.place()));
     }
     let form = Form::Convert(node);
     Ok(CoreExpr { place, ty, form })
@@ -43,24 +43,24 @@ pub fn made_index(
     index: &Expr,
     node: Box<CoreExpr>,
     at_node: Box<CoreExpr>,
-) -> Result<CoreExpr, CheckError>
+) -> Result<CoreExpr, JudgeError>
     ensures value { Judges node_of result
         (made_index place (tree_of tree.now) (tree_of index.now) (node_of node.value) (node_of at_node.value)) }
 {
     if !has_elements(&node.ty) {
-        return Err(CheckError::at(9, tree.place()));
+        return Err(JudgeError::at(Cause::WrongType, tree.place()));
     }
     match index_row(alloc, &node.ty, &at_node.ty)? {
         Some(ty) => {
             let form = Form::Index(node, at_node);
             Ok(CoreExpr { place, ty, form })
         }
-        None => Err(CheckError::at(9, index.place())),
+        None => Err(JudgeError::at(Cause::WrongType, index.place())),
     }
 }
 
-/// An expression that has to be a whole number; else refusal 9, at the expression.
-pub fn whole(tree: &Expr, node: &CoreExpr) -> Result<(), CheckError>
+/// An expression that has to be a whole number; else a wrong type, at the expression.
+pub fn whole(tree: &Expr, node: &CoreExpr) -> Result<(), JudgeError>
     ensures value { Judges (λ x. x) result (whole (tree_of tree.now) (node_of node.now)) }
 {
     fits(alike(&node.ty, &Ty::Int), tree)
@@ -76,13 +76,13 @@ pub fn made_slice(
     node: Box<CoreExpr>,
     first: Box<CoreExpr>,
     last: Box<CoreExpr>,
-) -> Result<CoreExpr, CheckError>
+) -> Result<CoreExpr, JudgeError>
     ensures value { Judges node_of result
         (made_slice place (tree_of tree.now) (tree_of from.now) (tree_of to.now) (node_of node.value) (node_of first.value)
         (node_of last.value)) }
 {
     if !has_slices(&node.ty) {
-        return Err(CheckError::at(9, tree.place()));
+        return Err(JudgeError::at(Cause::WrongType, tree.place()));
     }
     whole(from, &first)?;
     whole(to, &last)?;
@@ -103,22 +103,22 @@ fn field_named<'t>(name: &[u8], fields: &'t [Field]) -> Option<(usize, &'t Ty)>
     None
 }
 
-/// The field with a name in a value of this type, with its place among the fields, counted from 0; else refusal 9, at the value's place,
-/// or 11, at the name.
+/// The field with a name in a value of this type, with its place among the fields, counted from 0; else a wrong type, at the value's place,
+/// or no such field, at the name.
 pub fn field_in<'t>(
     alloc: Global,
     place: Place,
     ty: &'t Ty,
     name: &Name,
-) -> Result<(usize, &'t Ty), CheckError>
+) -> Result<(usize, &'t Ty), JudgeError>
     ensures value { Judges found_of result (field_in place (seen ty.now) name.now) }
 {
     let (Kind::Tuple(fields) | Kind::Proto(fields)) = type_kind(ty) else {
-        return Err(CheckError::at(9, place));
+        return Err(JudgeError::at(Cause::WrongType, place));
     };
     match field_named(name.text().as_bytes(), fields) {
         Some(found) => Ok(found),
-        None => Err(CheckError::of(alloc, 11, name)),
+        None => Err(JudgeError::of(alloc, Cause::NoField, name)),
     }
 }
 
@@ -129,7 +129,7 @@ pub fn made_field(
     tree: &Expr,
     node: Box<CoreExpr>,
     name: &Name,
-) -> Result<CoreExpr, CheckError>
+) -> Result<CoreExpr, JudgeError>
     ensures value { Judges node_of result (made_field place (tree_of tree.now) (node_of node.value) name.now) }
 {
     let (number, ty) = field_in(alloc, tree.place(), &node.ty, name)?;

@@ -17,13 +17,13 @@ use Rattle.sz_core.specs.Nodes.{Node, type_of}
 use Rattle.sz_core.specs.Statements as core
 use Rattle.sz_core.specs.Typing.{Sight, IsNode, HasOwnType}
 use Rattle.sz_core.specs.Sound.{BeginsWith, candidate_type, with_all_bound, bound_inside, is_for_all, are_for_all, is_all_last, AreQuantified}
-use Rattle.sz_check_rules.specs.Refusals.{◌>>=◌}
+use Rattle.sz_check_rules.specs.Refusals.{◌>>=◌, all_must_be_last}
 use Rattle.sz_check_rules.specs.Names.{Block, quantified, declare}
 use Rattle.sz_check_rules.specs.JudgingTypes.{judge_type}
 use Rattle.sz_check_rules.specs.Scene.{Scene, with_quantified}
 use Rattle.sz_check_rules.specs.JudgingExpressions.{judge_exp}
 use Rattle.sz_check_rules.specs.EmittingTrees.{is_seen_inside}
-use Rattle.sz_check_rules.specs.Quantifying.{Variable, Declared, judge_names, judge_quantifier, judge_quantifiers, bind, bind_inside, all_must_be_last, all_last}
+use Rattle.sz_check_rules.specs.Quantifying.{Variable, Declared, judge_names, judge_quantifier, judge_quantifiers, bind, bind_inside, all_last}
 use Rattle.sz_check_rules.specs.Quantifying.{are_of, checked}
 use Rattle.sz_check_rules.specs.Quantifying.{Based, judge_base, judge_bases}
 use Rattle.sz_core.proofs.ForCallers.{some_has, formed_at}

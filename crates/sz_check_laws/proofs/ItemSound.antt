@@ -11,19 +11,20 @@ use Rattle.sz_tree.specs.Types.{Typ}
 use Rattle.sz_tree.specs.Expressions.{Exp}
 use Rattle.sz_tree.specs.Statements.{TableForm, Stm}
 use Rattle.sz_core.specs.Statements as core
-use Rattle.sz_core.specs.Programs.{Signature, Function, Static, Item, Core}
+use Rattle.sz_core.specs.Programs.{Static}
 use Rattle.sz_core.specs.Programs as items
 use Rattle.sz_core.specs.Typing.{Sight}
 use Rattle.sz_core.specs.Sound.{seen_after, Declared, record_sight, static_sight, IsTable, IsStatic, AreItems}
-use Rattle.sz_check_rules.specs.Names.{Block, Meaning, only, is_seen_by_functions, is_seen_by_statics}
+use Rattle.sz_check_rules.specs.Names.{Block, Meaning, only, is_seen_by_statics}
 use Rattle.sz_check_rules.specs.Names as names
 use Rattle.sz_check_rules.specs.Agreeing.{converted}
 use Rattle.sz_check_rules.specs.JudgingTypes.{judge_type}
 use Rattle.sz_check_rules.specs.JudgingExpressions.{judge_exp}
 use Rattle.sz_check_rules.specs.JudgingPrograms.{TopScene, blocks_of, with_blocks, kind_of, limit_of, judge_elems, judge_weight, most_tables, judge_table}
+use Rattle.sz_check_rules.specs.JudgingPrograms.{TableTypes, judge_types, judge_table_declaration}
 use Rattle.sz_check_rules.specs.JudgingPrograms.{judge_static}
 use Rattle.sz_check_rules.specs.JudgingPrograms.{judge_typedef, judge_statement}
-use Rattle.sz_check_rules.proofs.Holds.{Holds, good, ok_holds, bind_holds, known, unless_holds}
+use Rattle.sz_check_rules.proofs.Holds.{Holds, good, ok_holds, bind_holds, known, weaker, unless_holds}
 use Rattle.sz_check_laws.proofs.Meanings.{kept_only}
 use Rattle.sz_check_laws.proofs.Sights.{IsFormed, AreFormed, IsTableOf, Fits, AllFit}
 use Rattle.sz_check_laws.proofs.TypeSound.{type_formed}
@@ -38,11 +39,38 @@ use Rattle.sz_check_laws.proofs.TopLemmas.{IsFoundAfter, with_static, with_table
 -- ---- tables
 
 -- how a table was judged
-record IsJudgedTable (blocks : List Block) (f : TableForm) (indexes : List Shape) (element : Shape) (weight : Option Shape) (d : Declaration) : Type 0 where
+record IsJudgedTable (blocks : List Block) (f : TableForm) (d : Declaration) : Type 0 where
+  indexes : List Shape
+  element : Shape
+  weight : Option Shape
   has_indexes : judge_elems blocks f.indexes ≡ good indexes
   has_element : judge_type blocks f.of.of ≡ good element
   has_weight : judge_weight blocks f.weight ≡ good weight
   declared : IsDeclared indexes element weight d
+
+-- the types of a table, as they were judged
+record AreJudged (blocks : List Block) (f : TableForm) (types : TableTypes) : Type 0 where
+  indexes : judge_elems blocks f.indexes ≡ good types.indexes
+  element : judge_type blocks f.of.of ≡ good types.element
+  weight : judge_weight blocks f.weight ≡ good types.weight
+
+types_judged : (blocks : List Block) (f : TableForm) → Holds (judge_types blocks f) (AreJudged blocks f)
+types_judged blocks f = bind_holds (known (judge_elems blocks f.indexes)) (λ indexes is_indexes.
+    bind_holds (known (judge_type blocks f.of.of)) (λ element is_element. bind_holds (known (judge_weight blocks f.weight)) (λ weight is_weight.
+    ok_holds (AreJudged blocks f) (record { indexes = indexes; element = element; weight = weight })
+    (record { indexes = is_indexes; element = is_element; weight = is_weight }))))
+
+declaration_judged : (blocks : List Block) (n : Ident) (f : TableForm) → Holds (judge_table_declaration blocks n f) (IsJudgedTable blocks f)
+declaration_judged blocks n f = bind_holds (known (kind_of f.kind)) (λ kind is_kind. bind_holds (types_judged blocks f) (λ types are.
+    weaker (declaration_holds n f.kind kind (limit_of kind f.argument) types.indexes types.element types.weight) (λ d is. record {
+      indexes = types.indexes;
+      element = types.element;
+      weight = types.weight;
+      has_indexes = are.indexes;
+      has_element = are.element;
+      has_weight = are.weight;
+      declared = is;
+    })))
 
 -- the types in a declaration are well formed
 record IsFormedTable (d : Declaration) : Type 0 where
@@ -50,31 +78,25 @@ record IsFormedTable (d : Declaration) : Type 0 where
   element : IsFormed d.element
   weight : IfSome d.weight IsFormed
 
-table_formed : (g : Sight) (blocks : List Block) (f : TableForm) (indexes : List Shape) (element : Shape) (weight : Option Shape) (d : Declaration)
-    → AllFit g blocks → IsJudgedTable blocks f indexes element weight d → IsFormedTable d
-table_formed g blocks f indexes element weight d fit is = record {
-  indexes = subst AreFormed (sym is.declared.has_indexes) ((elems_formed g blocks fit f.indexes).holds indexes is.has_indexes);
-  element = subst IsFormed (sym is.declared.has_element) ((type_formed g blocks fit f.of.of).holds element is.has_element);
-  weight = subst (λ w. IfSome w IsFormed) (sym is.declared.has_weight) ((weight_formed g blocks fit f.weight).holds weight is.has_weight);
+table_formed : (g : Sight) (blocks : List Block) (f : TableForm) (d : Declaration)
+    → AllFit g blocks → IsJudgedTable blocks f d → IsFormedTable d
+table_formed g blocks f d fit is = record {
+  indexes = subst AreFormed (sym is.declared.has_indexes) ((elems_formed g blocks fit f.indexes).holds is.indexes is.has_indexes);
+  element = subst IsFormed (sym is.declared.has_element) ((type_formed g blocks fit f.of.of).holds is.element is.has_element);
+  weight = subst (λ w. IfSome w IsFormed) (sym is.declared.has_weight) ((weight_formed g blocks fit f.weight).holds is.weight is.has_weight);
 }
 
 -- a table that is judged is sound
 pub table_sound : (k : TopScene) (n : Ident) (f : TableForm) → Holds (judge_table k n f) (IsFoundAfter k)
 unfolding AreItems
-table_sound k n f = bind_holds (known (kind_of f.kind)) (λ kind is_kind.
-    bind_holds (known (judge_elems (blocks_of k) f.indexes)) (λ indexes is_indexes.
-    bind_holds (known (judge_type (blocks_of k) f.of.of)) (λ element is_element.
-    bind_holds (known (judge_weight (blocks_of k) f.weight)) (λ weight is_weight.
-    bind_holds (declaration_holds n f.kind kind (limit_of kind f.argument) indexes element weight) (λ d is.
+table_sound k n f = bind_holds (declaration_judged (blocks_of k) n f) (λ d parts.
     bind_holds (unless_holds (nat_lt k.tables most_tables) _) (λ u few.
     bind_holds (known (names.declare n (names.table k.tables d) (blocks_of k))) (λ blocks is_blocks.
     ok_holds (IsFoundAfter k) (record { known = record (with_blocks k blocks) { tables = 1 + k.tables }; items = items.table d ∷ [] }) (record {
       grows = begins_itself k.scene.locals;
       carries = λ locals seen e knows final.
           let h = record_sight locals seen (with_table d e) in
-          let is_judged : IsJudgedTable (blocks_of k) f indexes element weight d =
-          record { has_indexes = is_indexes; has_element = is_element; has_weight = is_weight; declared = is } in
-          let formed = table_formed (record_sight locals seen e) (blocks_of k) f indexes element weight d knows.sees.fit is_judged in
+          let formed = table_formed (record_sight locals seen e) (blocks_of k) f d knows.sees.fit parts in
           let table_is : IsTableOf h k.tables d = record {
             here = last_is e.tables d k.tables knows.tables;
             indexes = formed.indexes;
@@ -82,7 +104,7 @@ table_sound k n f = bind_holds (known (kind_of f.kind)) (λ kind is_kind.
             weight = formed.weight;
           } in
           let table_here : IsTable e d = record {
-            allowed = is.allowed;
+            allowed = parts.declared.allowed;
             indexes = formed.indexes;
             element = formed.element;
             few = omega (arith, knows.tables, ltb-true k.tables most_tables few);
@@ -99,7 +121,7 @@ table_sound k n f = bind_holds (known (kind_of f.kind)) (λ kind is_kind.
             };
             items = λ rest are. (table_here, are);
           };
-    }))))))))
+    }))))
 
 -- ---- statics
 

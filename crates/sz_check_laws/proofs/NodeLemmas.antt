@@ -1,6 +1,6 @@
 -- What is made of parts that have their types has its type.
-use Rattle.std.proofs.Common.{◌≡◌, ℕ, Bool, true, false, Option, Some, None, refl, sym, ◌∙◌, true≢false}
-use Rattle.std.specs.Prelude.{if◌then◌else◌, ◌||◌, not, slice_get, IfSome}
+use Rattle.std.proofs.Common.{◌≡◌, ℕ, Bool, true, false, Option, Some, None, refl, sym, true≢false}
+use Rattle.std.specs.Prelude.{Ok, Err, if◌then◌else◌, ◌||◌, not, slice_get, IfSome}
 use Rattle.sz_types.specs.Data.{Shape, FieldShapes}
 use Rattle.sz_types.specs.Rows.{binary_row, index_row, builtin_row, arity}
 use Rattle.sz_types.specs.declared.place.Place.{Place}
@@ -13,11 +13,12 @@ use Rattle.sz_tree.specs.Expressions.{Lit, Exp, Exps, end, more, Pairs, place_of
 use Rattle.sz_tree.specs.Expressions as trees
 use Rattle.sz_core.specs.Nodes.{Node, node, Nodes, no_nodes, with_node, Pairings, type_of, types_of}
 use Rattle.sz_core.specs.Nodes as forms
+use Rattle.sz_core.specs.Statements.{Stm}
 use Rattle.sz_core.specs.Programs.{Signature}
 use Rattle.sz_core.specs.WellFormed.{is_well_formed}
 use Rattle.sz_core.specs.Typing.{Sight, HasFields, field_types, HasOwnType, HaveOwnTypes, IsNode, IsForm}
 use Rattle.sz_check_rules.specs.Refusals.{Judged, ◌>>=◌, wrong_type, wrong_count}
-use Rattle.sz_check_rules.specs.Names.{Block, Meaning}
+use Rattle.sz_check_rules.specs.Names.{Meaning}
 use Rattle.sz_check_rules.specs.Names as names
 use Rattle.sz_check_rules.specs.Agreeing.{Asks, nothing, each, in_turn, Found, counted, arguments_fit}
 use Rattle.sz_check_rules.specs.JudgingExpressions.{literal_node, variable_node}
@@ -26,6 +27,9 @@ use Rattle.sz_check_rules.specs.JudgingCalls.{conversion_call, made_call}
 use Rattle.sz_check_rules.specs.JudgingComposites.{asks_of_list, made_tuple, made_list, asked_of_keys, asked_of_values, made_mapping}
 use Rattle.sz_check_rules.specs.JudgingParts.{made_index, whole, made_slice, field_in, made_field}
 use Rattle.sz_check_rules.specs.JudgingOperators.{unary_of, made_unary, Operation, both, either, of, hands_type_on, asked_of_right, made_operator, test, made_binary}
+use Rattle.sz_check_rules.specs.Scene.{Scene}
+use Rattle.sz_check_rules.specs.Scenes.{Later}
+use Rattle.sz_check_rules.specs.JudgingSimple.{done}
 use Rattle.sz_check_rules.proofs.Holds.{Holds, good, by_option, ok_holds, err_holds, bind_holds, known, weaker, unless_holds, if_holds, option_holds, some_has}
 use Rattle.sz_check_laws.proofs.Sights.{IsFormed, AreFormed, Fits, IsCalled}
 use Rattle.sz_core.proofs.ForCallers.{element_formed, key_formed, value_formed, fields_formed, formed_at, unary_formed}
@@ -278,3 +282,9 @@ module _ (g : Sight) where
       by_test : (b : Bool) → IfSome (if b then Some t else None) IsFormed
       by_test true = h
       by_test false = tt
+
+-- a statement over a test, after which this is known
+pub done_after : (P : Later → Type 0) (u : Judged (Unit {0})) (s : Scene) (m : Stm) → ((x : Unit {0}) → u ≡ good x → P (record { scene = s; stm = m }))
+    → Holds (done s (u >>= λ _. Ok m)) P
+done_after P (Ok x) s m h = ok_holds P (record { scene = s; stm = m }) (h x refl)
+done_after P (Err r) s m h = err_holds P r

@@ -11,18 +11,18 @@ use Rattle.sz_tree.specs.Names.{Ident}
 use Rattle.sz_tree.specs.Expressions.{Exp}
 use Rattle.sz_tree.specs.Statements.{StepForm, PathForm}
 use Rattle.sz_tree.specs.Statements as trees
-use Rattle.sz_core.specs.Nodes.{Node, node, type_of}
+use Rattle.sz_core.specs.Nodes.{Node, node}
 use Rattle.sz_core.specs.Nodes as forms
 use Rattle.sz_core.specs.Statements.{Step, at_index, at_field}
 use Rattle.sz_core.specs.Statements as core
 use Rattle.sz_core.specs.Typing.{Sight, field_types, HasOwnType, IsNode, IsForm}
 use Rattle.sz_core.specs.Sound.{LeadTo, IsStm, Around}
 use Rattle.sz_check_rules.specs.Refusals.{wrong_type}
-use Rattle.sz_check_rules.specs.Names.{Meaning, look_up}
+use Rattle.sz_check_rules.specs.Names.{Meaning}
 use Rattle.sz_check_rules.specs.Names as names
 use Rattle.sz_check_rules.specs.Agreeing.{Found}
 use Rattle.sz_check_rules.specs.Scene.{Scene}
-use Rattle.sz_check_rules.specs.JudgingPaths.{Target, target_of, stepped, indexed, judge_steps, judge_path}
+use Rattle.sz_check_rules.specs.JudgingPaths.{Target, target_of, stepped, indexed, judge_step, judge_steps, judge_path}
 use Rattle.sz_check_rules.specs.JudgingSimple.{judge_assignment, judge_change}
 use Rattle.sz_check_rules.proofs.Holds.{Holds, good, by_option, ok_holds, err_holds, bind_holds, both_hold, unless_holds, option_holds, some_has}
 use Rattle.sz_check_laws.proofs.Meanings.{looked_up}
@@ -124,14 +124,17 @@ module _ (g : Sight) where
   indexed_target p t _ e n is h k own = err_holds _ _
 
   module _ (s : Scene) (sees : Sees g s) where
+    step_target : (p : Place) (t : Target) (step : StepForm) → IsTarget g t → Holds (judge_step s p t step) (IsTarget g)
+    step_target p t (trees.at_index e) h = bind_holds (both_hold (judged g s sees None e tt) (takes_own s.blocks true e)) (λ n k.
+        indexed_target p t t.type e n refl h k.0 k.1)
+    step_target p t (trees.at_field f) h = bind_holds (part_found g p t.type f h.formed) (λ x part.
+        ok_holds (IsTarget g) (stepped t (at_field x.place) x.type)
+        (stepped_target g t (at_field x.place) t.type x.type refl h (field_leads g t.type x part) part.formed))
+
     steps_target : (p : Place) (t : Target) (steps : List StepForm) → IsTarget g t → Holds (judge_steps s p t steps) (IsTarget g)
     unfolding judge_steps
     steps_target p t [] h = ok_holds (IsTarget g) t h
-    steps_target p t (trees.at_index e ∷ steps) h = bind_holds (both_hold (judged g s sees None e tt) (takes_own s.blocks true e)) (λ n k.
-        bind_holds (indexed_target p t t.type e n refl h k.0 k.1) (λ next l. steps_target p next steps l))
-    steps_target p t (trees.at_field f ∷ steps) h = bind_holds (part_found g p t.type f h.formed) (λ x part.
-        steps_target p (stepped t (at_field x.place) x.type) steps
-        (stepped_target g t (at_field x.place) t.type x.type refl h (field_leads g t.type x part) part.formed))
+    steps_target p t (step ∷ steps) h = bind_holds (step_target p t step h) (λ next l. steps_target p next steps l)
 
     -- a whole path
     pub record IsPath (t : Target) : Type 0 where

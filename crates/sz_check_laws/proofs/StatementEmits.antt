@@ -1,6 +1,6 @@
 -- A statement that is judged emits as its tree does.
 use Rattle.std.proofs.Common.{◌≡◌, ℕ, Bool, true, false, List, [], ◌∷◌, ◌++◌, Option, Some, None, refl, sym, ap, ◌∙◌, subst}
-use Rattle.std.specs.Prelude.{◌||◌, Ok, pos, is_some, length, if◌then◌else◌}
+use Rattle.std.specs.Prelude.{◌||◌, Ok, pos, if◌then◌else◌}
 use Rattle.sz_types.specs.Data.{Shape}
 use Rattle.sz_types.specs.declared.place.Place.{Place}
 use Rattle.sz_types.specs.Rows.{sum_row, difference_row}
@@ -13,7 +13,7 @@ use Rattle.sz_tree.specs.Expressions.{Exp, Exps, place_of}
 use Rattle.sz_tree.specs.Expressions as exps
 use Rattle.sz_tree.specs.Statements.{StepForm, PathForm, SimpleForm, assign, increment, decrement, call_of, FirstForm, first_declare, first_define}
 use Rattle.sz_tree.specs.Statements.{first_simple}
-use Rattle.sz_tree.specs.Statements.{QuantifierForm, Stm, empty, declare, define, static, typedef, table, function, simple, if_only, if_else, return, when}
+use Rattle.sz_tree.specs.Statements.{Stm, empty, declare, define, static, typedef, table, function, simple, if_only, if_else, return, when}
 use Rattle.sz_tree.specs.Statements.{Stms}
 use Rattle.sz_tree.specs.Statements as trees
 use Rattle.sz_core.specs.Nodes.{Node, node, type_of}
@@ -22,27 +22,27 @@ use Rattle.sz_core.specs.Statements as core
 use Rattle.sz_core.specs.Statements.{Step, at_index, at_field}
 use Rattle.sz_core.specs.Programs.{Signature}
 use Rattle.sz_core.specs.Emitting.{node_emits, form_emits, steps_emit as steps_emit_core, test_emits, stm_emits as core_emits, stms_emit as all_emit}
-use Rattle.sz_check_rules.specs.Refusals.{Judged, unless, wrong_type, wrong_weight}
-use Rattle.sz_check_rules.specs.Names.{Block, Meaning, look_up}
+use Rattle.sz_check_rules.specs.Refusals.{Judged, wrong_type}
+use Rattle.sz_check_rules.specs.Names.{Meaning, look_up}
 use Rattle.sz_check_rules.specs.Names as names
 use Rattle.sz_check_rules.specs.JudgingTypes.{judge_type}
 use Rattle.sz_check_rules.specs.Scene.{Scene, opened}
 use Rattle.sz_types.specs.Same.{alike}
 use Rattle.sz_types.specs.Conversions.{converts_to}
-use Rattle.sz_check_rules.specs.Agreeing.{converted, in_turn, agree, agrees, counted}
-use Rattle.sz_check_rules.specs.JudgingExpressions.{judge_exps}
+use Rattle.sz_check_rules.specs.Agreeing.{converted, agrees}
 use Rattle.sz_check_rules.specs.JudgingParts.{whole, field_in}
 use Rattle.sz_check_rules.specs.JudgingOperators.{test}
 use Rattle.sz_check_rules.specs.Scenes.{Later, AllAfter, judge, judge_if_some, closed}
 use Rattle.sz_check_rules.specs.EmittingTrees.{calls, exp_emits, exps_emit, part_emits, steps_emit, simple_emits, between_emits, first_emits, hidden_after_first}
 use Rattle.sz_check_rules.specs.EmittingTrees.{hidden_after, turns_emit, stm_emits, stms_emit, quantified_names}
-use Rattle.sz_check_rules.specs.Quantifying.{Front, none_declared, quantify}
-use Rattle.sz_check_rules.specs.JudgingPaths.{Target, target_of, stepped, indexed, judge_steps, judge_path}
+use Rattle.sz_check_rules.specs.Quantifying.{Front, none_declared}
+use Rattle.sz_check_rules.specs.JudgingPaths.{Target, target_of, stepped, indexed, judge_step, judge_steps, judge_path}
 use Rattle.sz_check_rules.specs.JudgingSimple.{judge_declaration, judge_initialised, judge_definition, judge_assignment, judge_change, judge_simple, judge_first}
-use Rattle.sz_check_rules.specs.JudgingSimple.{judge_between, test_if_some, judge_return, table_named, weight_agrees, same_presence, judge_emit, done}
-use Rattle.sz_check_rules.specs.JudgingStatements.{Around, in_block, in_loop, out_of_loops, judge_stm, judge_stms}
+use Rattle.sz_check_rules.specs.JudgingSimple.{judge_between, test_if_some, judge_return, table_named, judge_emitted, emitted_fits, judge_emit, done}
+use Rattle.sz_check_rules.specs.JudgingStatements.{Around, in_block, in_loop, out_of_loops, judge_quantified, judge_stm, judge_stms}
 use Rattle.sz_check_rules.proofs.Holds.{Holds, good, ok_holds, err_holds, bind_holds, known, weaker, both_hold, if_holds, by_option, option_holds}
 use Rattle.sz_check_laws.proofs.ExpressionEmits.{Agrees, Gives, expression_gives}
+use Rattle.sz_check_laws.proofs.NodeLemmas.{done_after}
 use Rattle.sz_check_laws.proofs.HiddenLemmas.{inside_names, variable_hides, quantifiers_hide, bound_hide, variables_of}
 use Rattle.sz_check_rules.proofs.TruthLemmas.{or_false, or_assoc}
 
@@ -132,17 +132,28 @@ module _ (fs : List Signature) (emits : List ℕ → Bool) where
     index_leads p t Shape.bytes e n = bind_holds (known (whole e n)) (λ v is. ok_holds (LeadsTo t n) _ (steps_more t.steps n))
     index_leads p t _ e n = err_holds _ _
 
+    step_leads : (p : Place) (t : Target) (step : StepForm)
+        → Holds (judge_step s p t step) (Leads (steps_emit_core fs t.steps || steps_emit emits h (step ∷ [])))
+    unfolding steps_emit
+    step_leads p t (trees.at_index e) = bind_holds (judged_gives None e) (λ n is. weaker (index_leads p t t.type e n) (λ next here.
+        here ∙ (λ i. steps_emit_core fs t.steps || is i) ∙ ap (λ b. steps_emit_core fs t.steps || b) (sym (or_false (exp_emits emits h e)))))
+    step_leads p t (trees.at_field f) = bind_holds (known (field_in p t.type f)) (λ x found.
+        ok_holds (Leads (steps_emit_core fs t.steps || false)) (stepped t (at_field x.place) x.type)
+        (fields_more t.steps x.place ∙ sym (or_false (steps_emit_core fs t.steps))))
+
+    first_of_steps : (step : StepForm) (steps : List StepForm)
+        → steps_emit emits h (step ∷ steps) ≡ (steps_emit emits h (step ∷ []) || steps_emit emits h steps)
+    unfolding steps_emit
+    first_of_steps (trees.at_index e) steps = ap (λ b. b || steps_emit emits h steps) (sym (or_false (exp_emits emits h e)))
+    first_of_steps (trees.at_field f) steps = refl
+
     steps_lead : (p : Place) (t : Target) (steps : List StepForm)
         → Holds (judge_steps s p t steps) (Leads (steps_emit_core fs t.steps || steps_emit emits h steps))
     unfolding judge_steps steps_emit
     steps_lead p t [] = ok_holds (Leads (steps_emit_core fs t.steps || false)) t (sym (or_false (steps_emit_core fs t.steps)))
-    steps_lead p t (trees.at_index e ∷ steps) = bind_holds (judged_gives None e) (λ n is. bind_holds (index_leads p t t.type e n) (λ next here.
-        weaker (steps_lead p next steps) (λ r rest.
-        rest ∙ (λ i. here i || steps_emit emits h steps) ∙ (λ i. steps_emit_core fs t.steps || is i || steps_emit emits h steps)
-        ∙ or_assoc (steps_emit_core fs t.steps) (exp_emits emits h e) (steps_emit emits h steps))))
-    steps_lead p t (trees.at_field f ∷ steps) = bind_holds (known (field_in p t.type f)) (λ x found.
-        weaker (steps_lead p (stepped t (at_field x.place) x.type) steps) (λ r rest.
-        rest ∙ ap (λ b. b || steps_emit emits h steps) (fields_more t.steps x.place)))
+    steps_lead p t (step ∷ steps) = bind_holds (step_leads p t step) (λ next here. weaker (steps_lead p next steps) (λ r rest.
+        rest ∙ ap (λ b. b || steps_emit emits h steps) here ∙ or_assoc (steps_emit_core fs t.steps) (steps_emit emits h (step ∷ [])) (steps_emit emits h steps)
+        ∙ ap (λ b. steps_emit_core fs t.steps || b) (sym (first_of_steps step steps))))
 
     path_begins : (n : Ident) (m : Meaning) → Holds (target_of n m) (Leads false)
     unfolding steps_emit_core
@@ -215,14 +226,8 @@ module _ (fs : List Signature) (emits : List ℕ → Bool) where
     emit_does : (p : Place) (n : Ident) (es : Exps) (e : Exp) (w : Option Exp) → Holds (judge_emit s p n es e w) (Does true)
     unfolding core_emits
     emit_does p n es e w = bind_holds (known (look_up n s.blocks)) (λ m found. bind_holds (known (table_named n m)) (λ t table.
-        bind_holds (known (judge_exps s.blocks true (in_turn t.declaration.indexes) es)) (λ indexes a.
-        bind_holds (known (judge s (Some t.declaration.element) e)) (λ value b. bind_holds (known (judge_if_some s t.declaration.weight w)) (λ weight c.
-        bind_holds (known (agree (in_turn t.declaration.indexes) es indexes)) (λ u d.
-        bind_holds (known (agrees (Some t.declaration.element) e value)) (λ v f.
-        bind_holds (known (weight_agrees t.declaration.weight w weight)) (λ x g.
-        bind_holds (known (counted (length t.declaration.indexes) es n.place)) (λ y i.
-        bind_holds (known (unless (same_presence (is_some t.declaration.weight) (is_some w)) (wrong_weight p))) (λ z j.
-        ok_holds (Does true) (core.emit p t.number indexes value weight) refl))))))))))
+        bind_holds (known (judge_emitted s t.declaration es e w)) (λ x parts. bind_holds (known (emitted_fits t.declaration p n.place es e w x)) (λ u fits.
+        ok_holds (Does true) (core.emit p t.number x.indexes x.value x.weight) refl))))
 
   -- a part statement, in a block of its own
   inside_does : (b : Bool) (h k : List (List ℕ)) (s : Scene) (judging : Judged Later) → Agrees fs emits h s.blocks
@@ -248,34 +253,34 @@ module _ (fs : List Signature) (emits : List ℕ → Bool) where
     statement_does h a s (function n ps t ss) g = err_holds _ _
     statement_does h a s (simple t) g = done_does h s g _ _ (simple_does h s g t)
     statement_does h a s (if_only p c t) g = bind_holds (judged_gives h s g None c) (λ n asked.
-        bind_holds (inside_does _ h _ s _ g (statement_does h a (opened s) t g)) (λ taken is. bind_holds (known (test c n)) (λ u tested.
-        ok_holds (DoesAfter (exp_emits emits h c || stm_emits emits h t) h) (record { scene = taken.scene; stm = core.branch p n taken.stm core.nothing })
-        (record { stm = or_only (node_emits fs n) (core_emits fs taken.stm) ∙ (λ i. asked i || is.stm i); agrees = is.agrees }))))
+        bind_holds (inside_does _ h _ s _ g (statement_does h a (opened s) t g)) (λ taken is.
+        done_after (DoesAfter (exp_emits emits h c || stm_emits emits h t) h) (test c n) taken.scene (core.branch p n taken.stm core.nothing) (λ u tested.
+        record { stm = or_only (node_emits fs n) (core_emits fs taken.stm) ∙ (λ i. asked i || is.stm i); agrees = is.agrees })))
     statement_does h a s (if_else p c t e) g = bind_holds (judged_gives h s g None c) (λ n asked.
         bind_holds (inside_does _ h _ s _ g (statement_does h a (opened s) t g)) (λ taken is.
         bind_holds (inside_does _ h _ taken.scene _ is.agrees (statement_does h a (opened taken.scene) e is.agrees)) (λ other also.
-        bind_holds (known (test c n)) (λ u tested.
-        ok_holds (DoesAfter (exp_emits emits h c || stm_emits emits h t || stm_emits emits h e) h)
-        (record { scene = other.scene; stm = core.branch p n taken.stm other.stm })
-        (record { stm = λ i. asked i || is.stm i || also.stm i; agrees = also.agrees })))))
+        done_after (DoesAfter (exp_emits emits h c || stm_emits emits h t || stm_emits emits h e) h) (test c n) other.scene
+        (core.branch p n taken.stm other.stm) (λ u tested. record { stm = λ i. asked i || is.stm i || also.stm i; agrees = also.agrees }))))
     statement_does h a s (trees.while p c t) g = bind_holds (judged_gives h s g None c) (λ n asked.
-        bind_holds (inside_does _ h _ s _ g (statement_does h (in_loop a) (opened s) t g)) (λ body is. bind_holds (known (test c n)) (λ u tested.
-        ok_holds (DoesAfter (exp_emits emits h c || stm_emits emits h t) h) (record { scene = body.scene; stm = core.while p n body.stm })
-        (record { stm = λ i. asked i || is.stm i; agrees = is.agrees }))))
+        bind_holds (inside_does _ h _ s _ g (statement_does h (in_loop a) (opened s) t g)) (λ body is.
+        done_after (DoesAfter (exp_emits emits h c || stm_emits emits h t) h) (test c n) body.scene (core.while p n body.stm) (λ u tested.
+        record { stm = λ i. asked i || is.stm i; agrees = is.agrees })))
     statement_does h a s (trees.do_while p t c) g = bind_holds (inside_does _ h _ s _ g (statement_does h (in_loop a) (opened s) t g)) (λ body is.
-        bind_holds (judged_gives h body.scene is.agrees None c) (λ n asked. bind_holds (known (test c n)) (λ u tested.
-        ok_holds (DoesAfter (stm_emits emits h t || exp_emits emits h c) h) (record { scene = body.scene; stm = core.do_while p body.stm n })
-        (record { stm = λ i. is.stm i || asked i; agrees = is.agrees }))))
-    statement_does h a s (trees.for_loop p f c between t) g = bind_holds (first_does h (opened s) g f) (λ first start.
-        bind_holds (part_gives (hidden_after_first h f) first.scene start.agrees None c) (λ n asked.
+        bind_holds (judged_gives h body.scene is.agrees None c) (λ n asked.
+        done_after (DoesAfter (stm_emits emits h t || exp_emits emits h c) h) (test c n) body.scene (core.do_while p body.stm n) (λ u tested.
+        record { stm = λ i. is.stm i || asked i; agrees = is.agrees })))
+    statement_does h a s (trees.for_loop p f c between t) g = bind_holds (first_does h (opened s) g f) (λ first start. bind_holds
+        (bind_holds (part_gives (hidden_after_first h f) first.scene start.agrees None c) (λ n asked.
         bind_holds (between_does (hidden_after_first h f) first.scene start.agrees between) (λ step turn.
         bind_holds (inside_does _ (hidden_after_first h f) _ first.scene _ start.agrees
         (statement_does (hidden_after_first h f) (in_loop a) (opened first.scene) t start.agrees)) (λ body is.
-        bind_holds (known (test_if_some c n)) (λ u tested.
+        done_after (λ (turns : Later). core_emits fs turns.stm
+        ≡ turns_emit emits (hidden_after_first h f) c between (stm_emits emits (hidden_after_first h f) t))
+        (test_if_some c n) body.scene (core.for_loop p n step body.stm) (λ u tested. λ i. asked i || turn i || is.stm i))))) (λ turns does.
         ok_holds (DoesAfter (first_emits emits h f
         || turns_emit emits (hidden_after_first h f) c between (stm_emits emits (hidden_after_first h f) t)) h)
-        (record { scene = closed s body.scene; stm = core.block (core.stms_of (first.stm ∷ core.for_loop p n step body.stm ∷ [])) })
-        (record { stm = (λ i. start.stm i || (asked i || turn i || is.stm i || false)) ∙ ap (λ b. first_emits emits h f || b) (or_false _); agrees = g }))))))
+        (record { scene = closed s turns.scene; stm = core.block (core.stms_of (first.stm ∷ turns.stm ∷ [])) })
+        (record { stm = (λ i. start.stm i || (does i || false)) ∙ ap (λ b. first_emits emits h f || b) (or_false _); agrees = g })))
     statement_does h a s (trees.break p) g = done_does h s g _ _ (if_holds a.loop (λ loop. ok_holds (Does false) core.break refl) (λ none. err_holds _ _))
     statement_does h a s (trees.continue p) g =
         done_does h s g _ _ (if_holds a.loop (λ loop. ok_holds (Does false) core.continue refl) (λ none. err_holds _ _))
@@ -294,10 +299,10 @@ module _ (fs : List Signature) (emits : List ℕ → Bool) where
         (statement_does (h ++ quantified_names true qs) (out_of_loops a) (opened inner) t more)) (λ body does.
         ok_holds (DoesAfter (stm_emits emits (h ++ quantified_names true qs) t) h)
         (record { scene = closed front.scene body.scene; stm = body.stm }) (record { stm = does.stm; agrees = here })))) (λ body does.
-        bind_holds (known (test c front.condition)) (λ u tested. bind_holds (known (quantify body.scene front.variables c)) (λ vs quantified.
+        bind_holds (known (judge_quantified body.scene front.variables c front.condition)) (λ vs quantified.
         ok_holds (DoesAfter (exp_emits emits (h ++ quantified_names false qs) c || stm_emits emits (h ++ quantified_names true qs) t) h)
         (record { scene = body.scene; stm = core.when p vs front.condition body.stm })
-        (record { stm = λ i. is.0 i || does.stm i; agrees = does.agrees })))))
+        (record { stm = λ i. is.0 i || does.stm i; agrees = does.agrees }))))
 
     -- so do several
     pub statements_do : (h : List (List ℕ)) (a : Around) (s : Scene) (ts : Stms) → Agrees fs emits h s.blocks

@@ -16,7 +16,7 @@ use Rattle.sz_core.specs.Statements as core
 use Rattle.sz_core.specs.Typing.{Sight}
 use Rattle.sz_core.specs.Sound.{BeginsWith, IsStm, AreStms, IsTest, IsWeightOf}
 use Rattle.sz_check_rules.specs.Refusals.{Judged}
-use Rattle.sz_check_rules.specs.Names.{Meaning, look_up}
+use Rattle.sz_check_rules.specs.Names.{Meaning}
 use Rattle.sz_check_rules.specs.Names as names
 use Rattle.sz_check_rules.specs.Agreeing.{in_turn, converted}
 use Rattle.sz_check_rules.specs.JudgingTypes.{judge_type}
@@ -25,7 +25,7 @@ use Rattle.sz_check_rules.specs.Scene.{Scene}
 use Rattle.sz_check_rules.specs.Scenes.{judge, judge_if_some}
 use Rattle.sz_check_rules.specs.JudgingStatements.{Around}
 use Rattle.sz_check_rules.specs.JudgingSimple.{judge_declaration, judge_initialised, judge_definition, judge_simple, judge_first, judge_between, test_if_some}
-use Rattle.sz_check_rules.specs.JudgingSimple.{judge_return, Numbered, table_named, weight_agrees, same_presence, judge_emit, done}
+use Rattle.sz_check_rules.specs.JudgingSimple.{judge_return, Numbered, table_named, weight_agrees, same_presence, Emitted, judge_emitted, judge_emit, done}
 use Rattle.sz_check_rules.proofs.Holds.{Holds, ok_holds, err_holds, bind_holds, known, weaker, both_hold, unless_holds}
 use Rattle.sz_check_laws.proofs.Meanings.{looked_up}
 use Rattle.sz_check_laws.proofs.Sights.{IsFormed, IsTableOf, Fits}
@@ -165,23 +165,34 @@ module _ (a : Around) (g : Sight) (s : Scene) (sees : Sees g s) where
   weight_sound (Some t) (Some e) None h = absurd h
   weight_sound (Some t) (Some e) (Some n) h = weaker (agrees_holds t e n) (λ u is same. (h.typed, is))
 
+  -- the parts of an emit have their types
+  record AreParts (es : Exps) (w : Option Exp) (x : Emitted) : Type 0 where
+    indexes : AreTyped g es x.indexes
+    value : IsTyped g x.value
+    weight : MayBeTyped w x.weight
+
   -- an `emit`
   pub emit_sound : (p : Place) (n : Ident) (es : Exps) (e : Exp) (w : Option Exp) → Holds (judge_emit s p n es e w) (IsDone g a)
   unfolding IsStm
   emit_sound p n es e w = bind_holds (looked_up (Fits g) n s.blocks sees.fit) (λ m fits. bind_holds (table_found n m fits) (λ t table.
-      bind_holds (indexes_typed t table) (λ indexes h. bind_holds (judged g s sees (Some t.declaration.element) e table.element) (λ value k.
-      bind_holds (maybe_judged t.declaration.weight w table.weight) (λ weight l.
-      bind_holds (agree_in_turn g t.declaration.indexes es indexes h) (λ u types. bind_holds (agrees_holds t.declaration.element e value) (λ v element.
-      bind_holds (weight_sound t.declaration.weight w weight l) (λ x weights. bind_holds (counted_holds _ es n.place) (λ y count.
-      bind_holds (unless_holds (same_presence (is_some t.declaration.weight) (is_some w)) _) (λ z both.
-      ok_holds (IsDone g a) (core.emit p t.number indexes value weight) (record {
-        stm = (all_nodes g es indexes h, k.typed, (t.declaration, table.here, types count, element, weights both));
+      bind_holds (parts_typed t table) (λ x h. bind_holds
+      (bind_holds (agree_in_turn g t.declaration.indexes es x.indexes h.indexes) (λ u types. bind_holds (agrees_holds t.declaration.element e x.value)
+      (λ v element. bind_holds (weight_sound t.declaration.weight w x.weight h.weight) (λ y weights. bind_holds (counted_holds _ es n.place) (λ z count.
+      weaker {Q = λ (u : Unit {0}). IsDone g a (core.emit p t.number x.indexes x.value x.weight)}
+      (unless_holds (same_presence (is_some t.declaration.weight) (is_some w)) _) (λ k both. record {
+        stm = (all_nodes g es x.indexes h.indexes, h.value.typed, (t.declaration, table.here, types count, element, weights both));
         same = refl;
-      })))))))))))
+      })))))) (λ u is. ok_holds (IsDone g a) (core.emit p t.number x.indexes x.value x.weight) is))))
     where
       indexes_typed : (t : Numbered) → IsTableOf g t.number t.declaration → Holds (judge_exps s.blocks true (in_turn t.declaration.indexes) es) (AreTyped g es)
       indexes_typed t table = subst (λ b. Holds (judge_exps s.blocks b (in_turn t.declaration.indexes) es) (AreTyped g es)) sees.emits
           (expressions_typed g s.blocks sees.fit (in_turn t.declaration.indexes) es table.indexes)
+
+      parts_typed : (t : Numbered) → IsTableOf g t.number t.declaration → Holds (judge_emitted s t.declaration es e w) (AreParts es w)
+      parts_typed t table = bind_holds (indexes_typed t table) (λ indexes h.
+          bind_holds (judged g s sees (Some t.declaration.element) e table.element) (λ value k.
+          bind_holds (maybe_judged t.declaration.weight w table.weight) (λ weight l.
+          ok_holds (AreParts es w) (record { indexes = indexes; value = value; weight = weight }) (record { indexes = h; value = k; weight = l }))))
 
 -- an assignment, a change or a call declares nothing
 pub simple_after : (a : Around) (s : Scene) (t : SimpleForm) → Holds (done s (judge_simple s t)) (IsLater a s)

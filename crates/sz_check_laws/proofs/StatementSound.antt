@@ -16,7 +16,7 @@ use Rattle.sz_check_rules.specs.JudgingStatements.{Around, in_loop, out_of_loops
 use Rattle.sz_check_rules.specs.JudgingSimple.{judge_between, judge_return, judge_emit, test_if_some}
 use Rattle.sz_check_rules.proofs.Holds.{Holds, good, ok_holds, err_holds, bind_holds, known, if_holds}
 use Rattle.sz_check_laws.proofs.Sights.{IsFormed}
-use Rattle.sz_check_laws.proofs.NodeLemmas.{test_holds}
+use Rattle.sz_check_laws.proofs.NodeLemmas.{test_holds, done_after}
 use Rattle.sz_check_laws.proofs.SceneLemmas.{Sees, sees_opened, sees_closed, locals_after, judged, begins_itself, begins_on, IsDone, IsLater, IsInside, AreAfter}
 use Rattle.sz_check_laws.proofs.WhenSound.{when_sound}
 use Rattle.sz_check_laws.proofs.StatementLemmas.{declaration_sound, initialised_sound, definition_sound, done_sound, simple_after, between_sound, maybe_judged}
@@ -34,6 +34,10 @@ inside_sound a s judging h = bind_holds h (λ b is. ok_holds (IsInside a s) (rec
 -- an expression that was judged, and is a test
 tested : (g : Sight) (s : Scene) (c : Exp) (n : Node) (u : Unit {0}) → Sees g s → judge s None c ≡ good n → test c n ≡ good u → IsTest g n
 tested g s c n u sees is_n is_test = (((judged g s sees None c tt).holds n is_n).typed, (test_holds g c n).holds u is_test)
+
+-- a `for` whose first part and whose turns were judged
+abbrev for_end : Scene → Later → Later → Later
+for_end s first turns = record { scene = closed s turns.scene; stm = core.block (core.stms_of (first.stm ∷ turns.stm ∷ [])) }
 
 mutual
   unfolding judge_stm judge_stms IsStm AreStms
@@ -61,44 +65,42 @@ mutual
   statement_sound a s (simple t) r = simple_after a s t
   statement_sound a s (if_only p c t) r = bind_holds (known (judge s None c)) (λ n is_n.
       bind_holds (inside_sound a s _ (statement_sound a (opened s) t r)) (λ taken is.
-      bind_holds (known (test c n)) (λ u is_test.
-      ok_holds (IsLater a s) (record { scene = taken.scene; stm = core.branch p n taken.stm core.nothing }) (record {
+      done_after (IsLater a s) (test c n) taken.scene (core.branch p n taken.stm core.nothing) (λ u is_test. record {
         grows = is.grows;
         is_sound = λ g sees final.
             let here = is.is_sound g sees final in
             record { stm = (tested g s c n u sees is_n is_test, here.stm, tt); sees = here.sees };
-      }))))
+      })))
   statement_sound a s (if_else p c t e) r = bind_holds (known (judge s None c)) (λ n is_n.
       bind_holds (inside_sound a s _ (statement_sound a (opened s) t r)) (λ taken is.
       bind_holds (inside_sound a taken.scene _ (statement_sound a (opened taken.scene) e r)) (λ other also.
-      bind_holds (known (test c n)) (λ u is_test. ok_holds (IsLater a s) (record { scene = other.scene; stm = core.branch p n taken.stm other.stm }) (record {
+      done_after (IsLater a s) (test c n) other.scene (core.branch p n taken.stm other.stm) (λ u is_test. record {
         grows = begins_on s.locals taken.scene.locals other.scene.locals is.grows also.grows;
         is_sound = λ g sees final.
             let here = is.is_sound g sees (begins_on taken.scene.locals other.scene.locals g.locals also.grows final) in
             let there = also.is_sound g here.sees final in
             record { stm = (tested g s c n u sees is_n is_test, here.stm, there.stm); sees = there.sees };
-      })))))
+      }))))
   statement_sound a s (trees.while p c t) r = bind_holds (known (judge s None c)) (λ n is_n.
       bind_holds (inside_sound (in_loop a) s _ (statement_sound (in_loop a) (opened s) t r)) (λ body is.
-      bind_holds (known (test c n)) (λ u is_test. ok_holds (IsLater a s) (record { scene = body.scene; stm = core.while p n body.stm }) (record {
+      done_after (IsLater a s) (test c n) body.scene (core.while p n body.stm) (λ u is_test. record {
         grows = is.grows;
         is_sound = λ g sees final.
             let here = is.is_sound g sees final in
             record { stm = (tested g s c n u sees is_n is_test, here.stm); sees = here.sees };
-      }))))
+      })))
   statement_sound a s (trees.do_while p t c) r = bind_holds (inside_sound (in_loop a) s _ (statement_sound (in_loop a) (opened s) t r)) (λ body is.
       bind_holds (known (judge body.scene None c)) (λ n is_n.
-      bind_holds (known (test c n)) (λ u is_test. ok_holds (IsLater a s) (record { scene = body.scene; stm = core.do_while p body.stm n }) (record {
+      done_after (IsLater a s) (test c n) body.scene (core.do_while p body.stm n) (λ u is_test. record {
         grows = is.grows;
         is_sound = λ g sees final.
             let here = is.is_sound g sees final in
             record { stm = (here.stm, tested g body.scene c n u here.sees is_n is_test); sees = here.sees };
-      }))))
-  statement_sound a s (trees.for_loop p f c between t) r = bind_holds (first_sound a (opened s) f) (λ first is.
-      bind_holds (known (judge_if_some first.scene None c)) (λ n is_n. bind_holds (known (judge_between first.scene between)) (λ step is_step.
+      })))
+  statement_sound a s (trees.for_loop p f c between t) r = bind_holds (first_sound a (opened s) f) (λ first is. bind_holds
+      (bind_holds (known (judge_if_some first.scene None c)) (λ n is_n. bind_holds (known (judge_between first.scene between)) (λ step is_step.
       bind_holds (inside_sound (in_loop a) first.scene _ (statement_sound (in_loop a) (opened first.scene) t r)) (λ body also.
-      bind_holds (known (test_if_some c n)) (λ u is_test. ok_holds (IsLater a s)
-      (record { scene = closed s body.scene; stm = core.block (core.stms_of (first.stm ∷ core.for_loop p n step body.stm ∷ [])) }) (record {
+      done_after (λ turns. IsLater a s (for_end s first turns)) (test_if_some c n) body.scene (core.for_loop p n step body.stm) (λ u is_test. record {
         grows = begins_on s.locals first.scene.locals body.scene.locals is.grows also.grows;
         is_sound = λ g sees final.
             let here = is.is_sound g (sees_opened g s sees) (begins_on first.scene.locals body.scene.locals g.locals also.grows final) in
@@ -112,7 +114,7 @@ mutual
               stm = (here.stm, ((is_tested, between_turns.stm, between_turns.between, inner.stm), tt));
               sees = sees_closed g s body.scene sees grows inner.sees.formed;
             };
-      }))))))
+      }))))) (λ turns sound. ok_holds (IsLater a s) (for_end s first turns) sound))
   statement_sound a s (trees.break p) r = done_sound a s _ (λ g sees.
       if_holds a.loop (λ loop. ok_holds (IsDone g a) core.break (record { stm = loop; same = refl })) (λ none. err_holds _ _))
   statement_sound a s (trees.continue p) r = done_sound a s _ (λ g sees.

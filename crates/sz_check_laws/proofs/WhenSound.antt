@@ -5,6 +5,7 @@ use Rattle.sz_types.specs.declared.place.Place.{Place}
 use Rattle.sz_tree.specs.Expressions.{Exp}
 use Rattle.sz_tree.specs.Statements.{QuantifierForm}
 use Rattle.sz_quant.specs.Fitting.{BoundForm, bounds_of}
+use Rattle.sz_core.specs.Nodes.{Node}
 use Rattle.sz_core.specs.Statements as core
 use Rattle.sz_core.specs.Typing.{Sight}
 use Rattle.sz_core.specs.Sound.{BeginsWith, Around, IsTest, IsStm, in_condition, bound_inside, is_all_last, out_of_loops}
@@ -15,7 +16,8 @@ use Rattle.sz_check_rules.specs.JudgingExpressions.{judge_exp}
 use Rattle.sz_check_rules.specs.JudgingOperators.{test}
 use Rattle.sz_check_rules.specs.Scenes.{Later, closed}
 use Rattle.sz_check_rules.specs.Quantifying.{Variable, Declared, Front, none_declared, judge_front, bind_inside, in_bound, names_of}
-use Rattle.sz_check_rules.specs.Quantifying.{all_bounded, all_last, judge_bases, quantify}
+use Rattle.sz_check_rules.specs.Quantifying.{all_bounded, all_last, judge_bases}
+use Rattle.sz_check_rules.specs.JudgingStatements.{judge_quantified}
 use Rattle.sz_check_rules.proofs.Holds.{Holds, good, ok_holds, bind_holds, known, weaker}
 use Rattle.sz_check_laws.proofs.Sights.{AreFormed, AllFit, IsWider, all_fit_wider}
 use Rattle.sz_check_laws.proofs.AgreeLemmas.{IsTyped}
@@ -39,16 +41,19 @@ front_sound s qs c = bind_holds (quantifiers_made qs (none_declared s)) (λ d ma
     ok_holds (IsFrontOf s c) (record { scene = closed s d.scene; variables = d.variables; condition = n })
     (record { declared = d; made = made; scene = refl; variables = made.variables; judged = is })))
 
--- how the variables of the checked tree were judged
-pub record IsQuantified (s : Scene) (vs : List Variable) (c : Exp) (qs : List core.Quantified) : Type 0 where
+-- how the variables of the checked tree were judged, after the test of the condition
+pub record IsQuantified (s : Scene) (vs : List Variable) (c : Exp) (n : Node) (qs : List core.Quantified) : Type 0 where
+  test_is : Unit {0}
+  tested : test c n ≡ good test_is
   bounds : List BoundForm
   after : Bool
   last : all_last vs false ≡ good after
   bases : judge_bases ([] ∷ s.blocks) vs bounds ≡ good qs
 
-quantified_as : (s : Scene) (vs : List Variable) (c : Exp) → Holds (quantify s vs c) (IsQuantified s vs c)
-quantified_as s vs c = bind_holds (known (all_bounded vs (bounds_of (names_of vs) c))) (λ bs found. bind_holds (known (all_last vs false)) (λ after last.
-    weaker (known (judge_bases ([] ∷ s.blocks) vs bs)) (λ qs is. record { bounds = bs; after = after; last = last; bases = is })))
+quantified_as : (s : Scene) (vs : List Variable) (c : Exp) (n : Node) → Holds (judge_quantified s vs c n) (IsQuantified s vs c n)
+quantified_as s vs c n = bind_holds (known (test c n)) (λ u tested. bind_holds (known (all_bounded vs (bounds_of (names_of vs) c))) (λ bs found.
+    bind_holds (known (all_last vs false)) (λ after last. weaker (known (judge_bases ([] ∷ s.blocks) vs bs)) (λ qs is.
+    record { test_is = u; tested = tested; bounds = bs; after = after; last = last; bases = is }))))
 
 -- what is seen in a condition
 condition_wider : (g : Sight) → IsWider g (in_condition g)
@@ -63,12 +68,11 @@ condition_wider g = record {
 }
 
 -- a `when` whose parts are judged
-module _ (a : Around) (s : Scene) (p : Place) (c : Exp) (front : Front) (blocks : List Block) (body : Later) (u : Unit {0}) (qs : List core.Quantified)
+module _ (a : Around) (s : Scene) (p : Place) (c : Exp) (front : Front) (blocks : List Block) (body : Later) (qs : List core.Quantified)
     (is : IsFrontOf s c front)
     (seen : bind_inside front.variables ([] ∷ front.scene.blocks) ≡ good blocks)
     (body_is : IsInside (out_of_loops a) (record { blocks = blocks; locals = front.scene.locals }) body)
-    (tested : test c front.condition ≡ good u)
-    (quantified : IsQuantified (closed front.scene body.scene) front.variables c qs) where
+    (quantified : IsQuantified (closed front.scene body.scene) front.variables c front.condition qs) where
   abbrev d : Declared
   d = is.declared
 
@@ -147,7 +151,7 @@ module _ (a : Around) (s : Scene) (p : Place) (c : Exp) (front : Front) (blocks 
     when_here = (
       based.quantified,
       subst (λ x. IsTest x front.condition) (bound_those news qs quiet based.those)
-          (condition_typed.typed, (test_holds (bound news quiet) c front.condition).holds u tested),
+          (condition_typed.typed, (test_holds (bound news quiet) c front.condition).holds quantified.test_is quantified.tested),
       last,
       subst (λ x. IsStm x (out_of_loops a) body.stm) (bound_those (inside news) (bound_inside qs) g (inside_those news qs based.those)) here.stm,
     )
@@ -183,12 +187,12 @@ body_known a front judging h =
 -- a `when`, over the judgement of the statement inside
 pub when_sound : (a : Around) (s : Scene) (p : Place) (qs : List QuantifierForm) (c : Exp) (judging : Scene → Judged Later)
     → ((inner : Scene) → Holds (judging inner) (IsInside (out_of_loops a) inner))
-    → Holds (judge_front s qs c >>= λ front. in_bound front.scene front.variables judging >>= λ body. test c front.condition
-    >>= λ _. quantify body.scene front.variables c
+    → Holds (judge_front s qs c >>= λ front. in_bound front.scene front.variables judging >>= λ body.
+    judge_quantified body.scene front.variables c front.condition
     >>= λ vs. Ok (record { scene = body.scene; stm = core.when p vs front.condition body.stm })) (IsLater a s)
 when_sound a s p qs c judging h = bind_holds (front_sound s qs c) (λ front is. bind_holds (body_known a front judging h) (λ body made.
-    bind_holds (known (test c front.condition)) (λ u tested. bind_holds (quantified_as body.scene front.variables c) (λ vs quantified.
+    bind_holds (quantified_as body.scene front.variables c front.condition) (λ vs quantified.
     ok_holds (IsLater a s) (record { scene = body.scene; stm = core.when p vs front.condition body.stm })
     (subst (λ (x : Later). IsLater a s (record { scene = x.scene; stm = core.when p vs front.condition x.stm })) (sym made.is)
-    (when_after a s p c front made.blocks made.inner u vs is made.seen made.body tested
-    (subst (λ (x : Later). IsQuantified x.scene front.variables c vs) made.is quantified)))))))
+    (when_after a s p c front made.blocks made.inner vs is made.seen made.body
+    (subst (λ (x : Later). IsQuantified x.scene front.variables c front.condition vs) made.is quantified))))))

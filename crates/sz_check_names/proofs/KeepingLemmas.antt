@@ -1,5 +1,5 @@
 -- Laws of how what is known is kept.
-use Rattle.std.proofs.Common.{◌≡◌, ℕ, zero, suc, ◌-◌, ◌<◌, ◌≤◌, Bool, true, false, not, ◌||◌, nat_le, List, [], ◌∷◌, ◌++◌, length, filter, slice_get}
+use Rattle.std.proofs.Common.{◌≡◌, ℕ, zero, suc, ◌-◌, ◌<◌, ◌≤◌, Bool, true, false, not, ◌&&◌, ◌||◌, nat_le, List, [], ◌∷◌, ◌++◌, length, filter, slice_get}
 use Rattle.std.proofs.Common.{Option, None, Some, option_map, is_some, unwrap_or, bytes_eq, refl, sym, ap, subst, ◌∙◌, ◌↔◌, IsTrue, IfOk, OnOk, OnErr}
 use Rattle.std.proofs.Common.{Result, Ok, Err, true≢false, if◌then◌else◌, arith}
 use Rattle.std.specs.Option.{option_or, option_map_or}
@@ -10,7 +10,7 @@ use Rattle.std.proofs.lemmas.List.{length_push}
 use Rattle.sz_types.specs.Data.{Shape}
 use Rattle.sz_scope.specs.Blocks as scopes
 use Rattle.sz_scope.specs.Blocks.{Declaration, found, found_in, is_declared, with_declared}
-use Rattle.sz_scope.specs.Sight.{sees, blocks_where, seen_blocks}
+use Rattle.sz_scope.specs.Sight.{is_of_record, is_table, sees, blocks_where, seen_blocks}
 use Rattle.sz_scope.specs.declared.meaning.Meaning.{Meaning as Place}
 use Rattle.sz_scope.specs.declared.error.ScopeError.{ScopeError}
 use Rattle.sz_scope.specs.declared.error.ScopeError.TheVariants.{Twice, NoMemory}
@@ -19,75 +19,67 @@ use Rattle.sz_scope.specs.declared.sight.Sight.TheVariants as sights
 use Rattle.sz_check_names.specs.declared.site.Site.{Site}
 use Rattle.sz_check_names.specs.declared.site.Site.TheVariants as sites
 use Rattle.sz_check_names.specs.declared.meaning.Meaning.{Meaning as Kept}
-use Rattle.sz_check_names.specs.declared.meaning.Meaning.TheVariants as held
-use Rattle.sz_check_rules.specs.Names.{Meaning, Named, Block, has, meaning_in, only, is_seen_by_functions, is_seen_by_statics}
+use Rattle.sz_check_names.specs.declared.meaning.Meaning.TheVariants as stored
+use Rattle.sz_check_rules.specs.Names.{Meaning, Named, Block, has, meaning_in, only, scoped, is_seen_by_functions, is_seen_by_statics}
 use Rattle.sz_check_rules.specs.Names as names
-use Rattle.sz_check_names.specs.Holding.{meaning_of, Held, blocks_of, blocks_for, in_function}
+use Rattle.sz_check_rules.proofs.TruthLemmas.{and_false}
+use Rattle.sz_check_names.specs.Knowledge.{meaning_of, Knowledge, blocks_of, blocks_for, in_function}
 use Rattle.sz_check_names.specs.Keeping.{floor_of, seen_from, sits_in, sight_for, place_of, placed, is_new, kept_at, meaning_by, block_by, blocks_by}
-use Rattle.sz_check_names.specs.Keeping.{held_of, with_name, with_type, IsPlaced, ArePlacedIn, ArePlaced, IsTyped, AreTyped, IsKept}
+use Rattle.sz_check_names.specs.Keeping.{knowledge_of, with_name, with_type, IsPlaced, ArePlacedIn, ArePlaced, IsTyped, AreTyped, IsKept}
 
 -- what is kept under a name, whose place is in the list
-record IsHeld (meanings : List Kept) (what : Place) : Type 0 where
+record IsEntry (meanings : List Kept) (what : Place) : Type 0 where
   pub place : ℕ
   pub kept : Kept
   pub here : kept_at meanings (place_of what) ≡ Some kept
   pub is : placed place kept ≡ what
 
-held_by : (meanings : List Kept) (what : Place) → IsPlaced meanings what → IsHeld meanings what
-held_by meanings what p = by (kept_at meanings (place_of what)) refl p
+entry_of : (meanings : List Kept) (what : Place) → IsPlaced meanings what → IsEntry meanings what
+entry_of meanings what p = by (kept_at meanings (place_of what)) refl p
   where
     by : (o : Option Kept) → kept_at meanings (place_of what) ≡ o
-        → option_map (placed (unwrap_or (place_of what) 0)) o ≡ Some what → IsHeld meanings what
+        → option_map (placed (unwrap_or (place_of what) 0)) o ≡ Some what → IsEntry meanings what
     by None e q = absurd (none-some what q)
     by (Some m) e q = record { place = unwrap_or (place_of what) 0; kept = m; here = e; is = same_Some _ _ q }
 
 -- who sees what is kept: the blocks say the same as the meanings
 module _ (types : List Shape) (meanings : List Kept) where
-  means : (what : Place) (h : IsHeld meanings what) → meaning_by types meanings what ≡ meaning_of types h.kept
+  means : (what : Place) (h : IsEntry meanings what) → meaning_by types meanings what ≡ meaning_of types h.kept
   means what h = ap (λ o. option_map_or (meaning_of types) o names.input) h.here
+
+  kind_is : (place : ℕ) (m : Kept) → (is_of_record (placed place m) ≡ is_of_record (scoped (meaning_of types m)))
+      × (is_table (placed place m) ≡ is_table (scoped (meaning_of types m)))
+  kind_is place (stored.Variable v t) = (refl, refl)
+  kind_is place (stored.Quantified v t) = (refl, refl)
+  kind_is place (stored.Static v t) = (refl, refl)
+  kind_is place (stored.«Type» t) = (refl, refl)
+  kind_is place (stored.Table v t) = (refl, refl)
+  kind_is place (stored.Function v t) = (refl, refl)
+  kind_is place (stored.Predeclared b) = (refl, refl)
+  kind_is place stored.Input = (refl, refl)
 
   of_routine : (sight : Sight) (count depth : ℕ) (place : ℕ) (m : Kept) → sits_in sight count ≡ true
       → sees sight depth (placed place m) ≡ (nat_le (floor_of sight) depth || is_seen_by_functions (meaning_of types m))
-  of_routine sights.Record count depth place (held.Variable v t) s = sym (ap (λ b. b || false) (le-leb 0 depth (omega arith)))
-  of_routine sights.Record count depth place (held.Quantified v t) s = sym (ap (λ b. b || false) (le-leb 0 depth (omega arith)))
-  of_routine sights.Record count depth place (held.Static v t) s = sym (ap (λ b. b || true) (le-leb 0 depth (omega arith)))
-  of_routine sights.Record count depth place (held.«Type» t) s = sym (ap (λ b. b || true) (le-leb 0 depth (omega arith)))
-  of_routine sights.Record count depth place (held.Table v t) s = sym (ap (λ b. b || true) (le-leb 0 depth (omega arith)))
-  of_routine sights.Record count depth place (held.Function v t) s = sym (ap (λ b. b || true) (le-leb 0 depth (omega arith)))
-  of_routine sights.Record count depth place (held.Predeclared b) s = sym (ap (λ b. b || true) (le-leb 0 depth (omega arith)))
-  of_routine sights.Record count depth place held.Input s = sym (ap (λ b. b || false) (le-leb 0 depth (omega arith)))
-  of_routine (sights.Function outside) count depth place (held.Variable v t) s = refl
-  of_routine (sights.Function outside) count depth place (held.Quantified v t) s = refl
-  of_routine (sights.Function outside) count depth place (held.Static v t) s = refl
-  of_routine (sights.Function outside) count depth place (held.«Type» t) s = refl
-  of_routine (sights.Function outside) count depth place (held.Table v t) s = refl
-  of_routine (sights.Function outside) count depth place (held.Function v t) s = refl
-  of_routine (sights.Function outside) count depth place (held.Predeclared b) s = refl
-  of_routine (sights.Function outside) count depth place held.Input s = refl
+  of_routine sights.Record count depth place m s =
+      sym (ap (λ b. b || is_seen_by_functions (meaning_of types m)) (le-leb 0 depth (omega arith)))
+  of_routine (sights.Function outside) count depth place m s = ap (λ b. nat_le outside depth || not b) (kind_is place m).0
   of_routine sights.Static count depth place m s = absurd (true≢false (sym s))
 
   of_static : (depth : ℕ) (place : ℕ) (m : Kept)
       → sees sights.Static depth (placed place m) ≡ is_seen_by_statics (meaning_of types m)
-  of_static depth place (held.Variable v t) = refl
-  of_static depth place (held.Quantified v t) = refl
-  of_static depth place (held.Static v t) = refl
-  of_static depth place (held.«Type» t) = refl
-  of_static depth place (held.Table v t) = refl
-  of_static depth place (held.Function v t) = refl
-  of_static depth place (held.Predeclared b) = refl
-  of_static depth place held.Input = refl
+  of_static depth place m = λ i. not ((kind_is place m).1 i) && not ((kind_is place m).0 i)
 
   routine_sees : (sight : Sight) (count depth : ℕ) (what : Place) → sits_in sight count ≡ true → IsPlaced meanings what
       → sees sight depth what ≡ (nat_le (floor_of sight) depth || is_seen_by_functions (meaning_by types meanings what))
   routine_sees sight count depth what s p =
-      let h = held_by meanings what p in
+      let h = entry_of meanings what p in
       ap (sees sight depth) (sym h.is) ∙ of_routine sight count depth h.place h.kept s
       ∙ ap (λ m. nat_le (floor_of sight) depth || is_seen_by_functions m) (sym (means what h))
 
   static_sees : (depth : ℕ) (what : Place) → IsPlaced meanings what
       → sees sights.Static depth what ≡ is_seen_by_statics (meaning_by types meanings what)
   static_sees depth what p =
-      let h = held_by meanings what p in
+      let h = entry_of meanings what p in
       ap (sees sights.Static depth) (sym h.is) ∙ of_static depth h.place h.kept ∙ ap is_seen_by_statics (sym (means what h))
 
   -- a block of which a part is seen, by a test of what the blocks keep that is a test of what it means
@@ -199,14 +191,7 @@ only_seen test strict sight (block ∷ blocks) = λ i. by (nat_le (floor_of sigh
     by false = part_of_part test strict block
 
 statics_see_less : (m : Meaning) → is_seen_by_functions m ≡ false → is_seen_by_statics m ≡ false
-statics_see_less (names.variable n t) e = refl
-statics_see_less (names.quantified n t) e = refl
-statics_see_less (names.static n t) e = e
-statics_see_less (names.type_name t) e = e
-statics_see_less (names.table n d) e = refl
-statics_see_less (names.function n s) e = e
-statics_see_less (names.predeclared b) e = e
-statics_see_less names.input e = refl
+statics_see_less m e = ap (λ b. not (is_table (scoped m)) && b) e ∙ and_false (not (is_table (scoped m)))
 
 -- a routine sits no deeper than it may
 sits_floor : (sight : Sight) (count : ℕ) → sits_in sight count ≡ true → floor_of sight ≤ count
@@ -246,7 +231,7 @@ module _ (types : List Shape) (meanings : List Kept) where
       ∷ seen_by_static blocks h.1 i
 
   seen_by_statement : (sight : Sight) (locals : List Shape) (blocks : List scopes.Block) → IsKept types meanings blocks sight
-      → blocks_by types meanings (seen_blocks sight blocks) ≡ blocks_of (held_of (blocks_by types meanings blocks) sight types locals)
+      → blocks_by types meanings (seen_blocks sight blocks) ≡ blocks_of (knowledge_of (blocks_by types meanings blocks) sight types locals)
   seen_by_statement sight locals [] k = absurd (omega (arith, k.some))
   seen_by_statement sight locals (block ∷ blocks) k =
       seen_by_routine sight (length (block ∷ blocks) - 1) k.sits (block ∷ blocks) k.placed
@@ -260,7 +245,7 @@ module _ (types : List Shape) (meanings : List Kept) where
 
   blocks_seen : (sight : Sight) (locals : List Shape) (site : Site) (blocks : List scopes.Block) → IsKept types meanings blocks sight
       → blocks_by types meanings (seen_blocks (sight_for sight site) blocks)
-      ≡ blocks_for (held_of (blocks_by types meanings blocks) sight types locals) site
+      ≡ blocks_for (knowledge_of (blocks_by types meanings blocks) sight types locals) site
   blocks_seen sight locals site [] k = absurd (omega (arith, k.some))
   blocks_seen sight locals sites.Statement blocks k = seen_by_statement sight locals blocks k
   blocks_seen sight locals sites.Condition blocks k = seen_by_statement sight locals blocks k
@@ -272,7 +257,7 @@ module _ (types : List Shape) (meanings : List Kept) where
   -- what is found by the list of meanings is what the name stands for
   pub find_is : (name : List ℕ) (locals : List Shape) (site : Site) (blocks : List scopes.Block) (sight : Sight) → IsKept types meanings blocks sight
       → (o : Option Place) → o ≡ found name (seen_blocks (sight_for sight site) blocks)
-      → option_map (meaning_by types meanings) o ≡ names.meaning_of name (blocks_for (held_of (blocks_by types meanings blocks) sight types locals) site)
+      → option_map (meaning_by types meanings) o ≡ names.meaning_of name (blocks_for (knowledge_of (blocks_by types meanings blocks) sight types locals) site)
   find_is name locals site blocks sight k o p =
       ap (option_map (meaning_by types meanings)) p
       ∙ found_means types meanings name (seen_blocks (sight_for sight site) blocks)
@@ -287,8 +272,8 @@ module _ (types : List Shape) (meanings : List Kept) where
   pub place_within : (what : Place) → IsPlaced meanings what → (place : ℕ) → place_of what ≡ Some place → place < length meanings
   place_within what p place e = slice_get_within meanings place h.kept (ap (kept_at meanings) (sym e) ∙ h.here)
     where
-      h : IsHeld meanings what
-      h = held_by meanings what p
+      h : IsEntry meanings what
+      h = entry_of meanings what p
 
   -- and what is kept there is what it means
   pub place_means : (what : Place) (place : ℕ) (m : Kept) → place_of what ≡ Some place → slice_get meanings place ≡ Some m
@@ -322,12 +307,12 @@ module _ (types : List Shape) (meanings : List Kept) (m : Kept) where
 
   placed_stays : (what : Place) → IsPlaced meanings what → IsPlaced (meanings ++ m ∷ []) what
   placed_stays what p =
-      let h = held_by meanings what p in
+      let h = entry_of meanings what p in
       ap (option_map (placed (unwrap_or (place_of what) 0))) (kept_stays (place_of what) h.kept h.here ∙ sym h.here) ∙ p
 
   means_stays : (what : Place) → IsPlaced meanings what → meaning_by types (meanings ++ m ∷ []) what ≡ meaning_by types meanings what
   means_stays what p =
-      let h = held_by meanings what p in
+      let h = entry_of meanings what p in
       ap (λ o. option_map_or (meaning_of types) o names.input) (kept_stays (place_of what) h.kept h.here ∙ sym h.here)
 
   block_stays : (block : scopes.Block) → ArePlacedIn meanings block → block_by types (meanings ++ m ∷ []) block ≡ block_by types meanings block
@@ -355,29 +340,29 @@ module _ (types : List Shape) (meanings : List Kept) (m : Kept) where
       → IsKept types (meanings ++ m ∷ []) blocks sight
   kept_more blocks sight k t = record { placed = all_stay blocks k.placed; typed = all_typed (length types) meanings k.typed t; some = k.some; sits = k.sits }
 
-  pub held_stays : (blocks : List scopes.Block) (sight : Sight) (locals : List Shape) → IsKept types meanings blocks sight
-      → held_of (blocks_by types (meanings ++ m ∷ []) blocks) sight types locals ≡ held_of (blocks_by types meanings blocks) sight types locals
-  held_stays blocks sight locals k = ap (λ (bs : List Block). held_of bs sight types locals) (blocks_stay blocks k.placed)
+  pub stays_known : (blocks : List scopes.Block) (sight : Sight) (locals : List Shape) → IsKept types meanings blocks sight
+      → knowledge_of (blocks_by types (meanings ++ m ∷ []) blocks) sight types locals ≡ knowledge_of (blocks_by types meanings blocks) sight types locals
+  stays_known blocks sight locals k = ap (λ (bs : List Block). knowledge_of bs sight types locals) (blocks_stay blocks k.placed)
 
 placed_last : (meanings : List Kept) (m : Kept) → IsPlaced (meanings ++ m ∷ []) (placed (length meanings) m)
-placed_last meanings (held.Variable v t) = ap (option_map (placed (length meanings))) (get_last meanings (held.Variable v t))
-placed_last meanings (held.Quantified v t) = ap (option_map (placed (length meanings))) (get_last meanings (held.Quantified v t))
-placed_last meanings (held.Static v t) = ap (option_map (placed (length meanings))) (get_last meanings (held.Static v t))
-placed_last meanings (held.«Type» t) = ap (option_map (placed (length meanings))) (get_last meanings (held.«Type» t))
-placed_last meanings (held.Table v t) = ap (option_map (placed (length meanings))) (get_last meanings (held.Table v t))
-placed_last meanings (held.Function v t) = ap (option_map (placed (length meanings))) (get_last meanings (held.Function v t))
-placed_last meanings (held.Predeclared b) = ap (option_map (placed (length meanings))) (get_last meanings (held.Predeclared b))
-placed_last meanings held.Input = refl
+placed_last meanings (stored.Variable v t) = ap (option_map (placed (length meanings))) (get_last meanings (stored.Variable v t))
+placed_last meanings (stored.Quantified v t) = ap (option_map (placed (length meanings))) (get_last meanings (stored.Quantified v t))
+placed_last meanings (stored.Static v t) = ap (option_map (placed (length meanings))) (get_last meanings (stored.Static v t))
+placed_last meanings (stored.«Type» t) = ap (option_map (placed (length meanings))) (get_last meanings (stored.«Type» t))
+placed_last meanings (stored.Table v t) = ap (option_map (placed (length meanings))) (get_last meanings (stored.Table v t))
+placed_last meanings (stored.Function v t) = ap (option_map (placed (length meanings))) (get_last meanings (stored.Function v t))
+placed_last meanings (stored.Predeclared b) = ap (option_map (placed (length meanings))) (get_last meanings (stored.Predeclared b))
+placed_last meanings stored.Input = refl
 
 means_last : (types : List Shape) (meanings : List Kept) (m : Kept) → meaning_by types (meanings ++ m ∷ []) (placed (length meanings) m) ≡ meaning_of types m
-means_last types meanings (held.Variable v t) = ap (λ o. option_map_or (meaning_of types) o names.input) (get_last meanings (held.Variable v t))
-means_last types meanings (held.Quantified v t) = ap (λ o. option_map_or (meaning_of types) o names.input) (get_last meanings (held.Quantified v t))
-means_last types meanings (held.Static v t) = ap (λ o. option_map_or (meaning_of types) o names.input) (get_last meanings (held.Static v t))
-means_last types meanings (held.«Type» t) = ap (λ o. option_map_or (meaning_of types) o names.input) (get_last meanings (held.«Type» t))
-means_last types meanings (held.Table v t) = ap (λ o. option_map_or (meaning_of types) o names.input) (get_last meanings (held.Table v t))
-means_last types meanings (held.Function v t) = ap (λ o. option_map_or (meaning_of types) o names.input) (get_last meanings (held.Function v t))
-means_last types meanings (held.Predeclared b) = ap (λ o. option_map_or (meaning_of types) o names.input) (get_last meanings (held.Predeclared b))
-means_last types meanings held.Input = refl
+means_last types meanings (stored.Variable v t) = ap (λ o. option_map_or (meaning_of types) o names.input) (get_last meanings (stored.Variable v t))
+means_last types meanings (stored.Quantified v t) = ap (λ o. option_map_or (meaning_of types) o names.input) (get_last meanings (stored.Quantified v t))
+means_last types meanings (stored.Static v t) = ap (λ o. option_map_or (meaning_of types) o names.input) (get_last meanings (stored.Static v t))
+means_last types meanings (stored.«Type» t) = ap (λ o. option_map_or (meaning_of types) o names.input) (get_last meanings (stored.«Type» t))
+means_last types meanings (stored.Table v t) = ap (λ o. option_map_or (meaning_of types) o names.input) (get_last meanings (stored.Table v t))
+means_last types meanings (stored.Function v t) = ap (λ o. option_map_or (meaning_of types) o names.input) (get_last meanings (stored.Function v t))
+means_last types meanings (stored.Predeclared b) = ap (λ o. option_map_or (meaning_of types) o names.input) (get_last meanings (stored.Predeclared b))
+means_last types meanings stored.Input = refl
 
 module _ (types : List Shape) (meanings : List Kept) (m : Kept) (name : List ℕ) where
   -- a name more in the innermost block
@@ -388,17 +373,18 @@ module _ (types : List Shape) (meanings : List Kept) (m : Kept) (name : List ℕ
       let more = kept_more types meanings m (block ∷ blocks) sight k t in
       record { placed = ((placed_last meanings m, more.placed.0), more.placed.1); typed = more.typed; some = omega arith; sits = k.sits }
 
-  pub held_put : (blocks : List scopes.Block) (sight : Sight) (locals : List Shape) → IsKept types meanings blocks sight
-      → held_of (blocks_by types (meanings ++ m ∷ []) (with_declared (record { name = name; what = placed (length meanings) m }) blocks)) sight types locals
-      ≡ with_name name (meaning_of types m) (held_of (blocks_by types meanings blocks) sight types locals)
-  held_put [] sight locals k = absurd (omega (arith, k.some))
-  held_put (block ∷ blocks) sight locals k =
-      λ i. held_of ((record { name = name; meaning = means_last types meanings m i } ∷ block_stays types meanings m block
+  pub put_known : (blocks : List scopes.Block) (sight : Sight) (locals : List Shape) → IsKept types meanings blocks sight
+      → knowledge_of (blocks_by types (meanings ++ m ∷ []) (with_declared (record { name = name; what = placed (length meanings) m }) blocks))
+      sight types locals
+      ≡ with_name name (meaning_of types m) (knowledge_of (blocks_by types meanings blocks) sight types locals)
+  put_known [] sight locals k = absurd (omega (arith, k.some))
+  put_known (block ∷ blocks) sight locals k =
+      λ i. knowledge_of ((record { name = name; meaning = means_last types meanings m i } ∷ block_stays types meanings m block
       k.placed.0 i) ∷ blocks_stay types meanings m blocks k.placed.1 i) sight types locals
 
 -- whether the innermost block has a name
 pub has_is : (types : List Shape) (meanings : List Kept) (name : List ℕ) (blocks : List scopes.Block) (sight : Sight) (locals : List Shape)
-    → is_declared name blocks ≡ has name (held_of (blocks_by types meanings blocks) sight types locals).innermost
+    → is_declared name blocks ≡ has name (knowledge_of (blocks_by types meanings blocks) sight types locals).innermost
 has_is types meanings name [] sight locals = refl
 has_is types meanings name (block ∷ blocks) sight locals = in_block block
   where
@@ -414,17 +400,17 @@ has_is types meanings name (block ∷ blocks) sight locals = in_block block
 -- a type more
 module _ (types : List Shape) (t : Shape) (meanings : List Kept) where
   meaning_same : (m : Kept) → IsTyped (length types) m → meaning_of (types ++ t ∷ []) m ≡ meaning_of types m
-  meaning_same (held.Variable n s) h = refl
-  meaning_same (held.Quantified n s) h = refl
-  meaning_same (held.Static n s) h = refl
-  meaning_same (held.«Type» n) h = ap (λ o. names.type_name (unwrap_or o Shape.truth)) (get_before types t n h)
-  meaning_same (held.Table n d) h = refl
-  meaning_same (held.Function n s) h = refl
-  meaning_same (held.Predeclared b) h = refl
-  meaning_same held.Input h = refl
+  meaning_same (stored.Variable n s) h = refl
+  meaning_same (stored.Quantified n s) h = refl
+  meaning_same (stored.Static n s) h = refl
+  meaning_same (stored.«Type» n) h = ap (λ o. names.type_name (unwrap_or o Shape.truth)) (get_before types t n h)
+  meaning_same (stored.Table n d) h = refl
+  meaning_same (stored.Function n s) h = refl
+  meaning_same (stored.Predeclared b) h = refl
+  meaning_same stored.Input h = refl
 
   typed_at : (count : ℕ) (ms : List Kept) (at : Option ℕ) (m : Kept) → AreTyped count ms → kept_at ms at ≡ Some m → IsTyped count m
-  typed_at count ms None m h p = subst (IsTyped count) (same_Some held.Input m p) tt
+  typed_at count ms None m h p = subst (IsTyped count) (same_Some stored.Input m p) tt
   typed_at count [] (Some n) m h p = absurd (none-some m p)
   typed_at count (k ∷ ms) (Some zero) m h p = subst (IsTyped count) (same_Some k m p) h.0
   typed_at count (k ∷ ms) (Some (suc n)) m h p = typed_at count ms (Some n) m h.1 p
@@ -432,7 +418,7 @@ module _ (types : List Shape) (t : Shape) (meanings : List Kept) where
   means_same : (what : Place) → IsPlaced meanings what → AreTyped (length types) meanings
       → meaning_by (types ++ t ∷ []) meanings what ≡ meaning_by types meanings what
   means_same what p typed =
-      let h = held_by meanings what p in
+      let h = entry_of meanings what p in
       ap (λ o. option_map_or (meaning_of (types ++ t ∷ [])) o names.input) h.here
       ∙ meaning_same h.kept (typed_at (length types) meanings (place_of what) h.kept typed h.here)
       ∙ sym (ap (λ o. option_map_or (meaning_of types) o names.input) h.here)
@@ -451,25 +437,25 @@ module _ (types : List Shape) (t : Shape) (meanings : List Kept) where
   typed_weaker (m ∷ ms) h = (one m h.0, typed_weaker ms h.1)
     where
       one : (m : Kept) → IsTyped (length types) m → IsTyped (length (types ++ t ∷ [])) m
-      one (held.Variable n s) h = tt
-      one (held.Quantified n s) h = tt
-      one (held.Static n s) h = tt
-      one (held.«Type» n) h = omega (arith, h, length_push types t)
-      one (held.Table n d) h = tt
-      one (held.Function n s) h = tt
-      one (held.Predeclared b) h = tt
-      one held.Input h = tt
+      one (stored.Variable n s) h = tt
+      one (stored.Quantified n s) h = tt
+      one (stored.Static n s) h = tt
+      one (stored.«Type» n) h = omega (arith, h, length_push types t)
+      one (stored.Table n d) h = tt
+      one (stored.Function n s) h = tt
+      one (stored.Predeclared b) h = tt
+      one stored.Input h = tt
 
   pub kept_typed : (blocks : List scopes.Block) (sight : Sight) → IsKept types meanings blocks sight → IsKept (types ++ t ∷ []) meanings blocks sight
   kept_typed blocks sight k = record { placed = k.placed; typed = typed_weaker meanings k.typed; some = k.some; sits = k.sits }
 
-  pub held_typed : (blocks : List scopes.Block) (sight : Sight) (locals : List Shape) → IsKept types meanings blocks sight
-      → held_of (blocks_by (types ++ t ∷ []) meanings blocks) sight (types ++ t ∷ []) locals
-      ≡ with_type t (held_of (blocks_by types meanings blocks) sight types locals)
-  held_typed blocks sight locals k =
-      ap (λ (bs : List Block). held_of bs sight (types ++ t ∷ []) locals) (blocks_same blocks k.placed k.typed) ∙ by (blocks_by types meanings blocks)
+  pub typed_known : (blocks : List scopes.Block) (sight : Sight) (locals : List Shape) → IsKept types meanings blocks sight
+      → knowledge_of (blocks_by (types ++ t ∷ []) meanings blocks) sight (types ++ t ∷ []) locals
+      ≡ with_type t (knowledge_of (blocks_by types meanings blocks) sight types locals)
+  typed_known blocks sight locals k =
+      ap (λ (bs : List Block). knowledge_of bs sight (types ++ t ∷ []) locals) (blocks_same blocks k.placed k.typed) ∙ by (blocks_by types meanings blocks)
     where
-      by : (bs : List Block) → held_of bs sight (types ++ t ∷ []) locals ≡ with_type t (held_of bs sight types locals)
+      by : (bs : List Block) → knowledge_of bs sight (types ++ t ∷ []) locals ≡ with_type t (knowledge_of bs sight types locals)
       by [] = refl
       by (b ∷ bs) = refl
 
@@ -483,13 +469,13 @@ module _ (types more : List Shape) (t : Shape) (meanings : List Kept) (blocks : 
       by (Ok n) p q = subst (λ ts. IsKept ts meanings blocks sight) (sym p) (kept_typed types t meanings blocks sight k)
       by (Err e) p q = subst (λ ts. IsKept ts meanings blocks sight) (sym q) k
 
-  pub held_added : (locals : List Shape) (before : Held) → held_of (blocks_by types meanings blocks) sight types locals ≡ before
-      → IfOk result (λ n. held_of (blocks_by more meanings blocks) sight more locals ≡ with_type t before)
-  held_added locals before view = by result ok
+  pub added_known : (locals : List Shape) (before : Knowledge) → knowledge_of (blocks_by types meanings blocks) sight types locals ≡ before
+      → IfOk result (λ n. knowledge_of (blocks_by more meanings blocks) sight more locals ≡ with_type t before)
+  added_known locals before view = by result ok
     where
       by : (r : Result ℕ AllocError) → IfOk r (λ n. more ≡ types ++ t ∷ [])
-          → IfOk r (λ n. held_of (blocks_by more meanings blocks) sight more locals ≡ with_type t before)
-      by (Ok n) p = (λ i. held_of (blocks_by (p i) meanings blocks) sight (p i) locals) ∙ held_typed types t meanings blocks sight locals k
+          → IfOk r (λ n. knowledge_of (blocks_by more meanings blocks) sight more locals ≡ with_type t before)
+      by (Ok n) p = (λ i. knowledge_of (blocks_by (p i) meanings blocks) sight (p i) locals) ∙ typed_known types t meanings blocks sight locals k
           ∙ ap (with_type t) view
       by (Err e) p = tt
 
@@ -527,10 +513,10 @@ module _ (types : List Shape) (meanings others : List Kept) (m : Kept) (name : L
           (kept_put types meanings m name blocks sight k typed)
       by (Err e) p q = subst (λ bs. IsKept types (meanings ++ m ∷ []) bs sight) (sym q) (kept_more types meanings m blocks sight k typed)
 
-  module _ (locals : List Shape) (before : Held) (view : held_of (blocks_by types meanings blocks) sight types locals ≡ before)
+  module _ (locals : List Shape) (before : Knowledge) (view : knowledge_of (blocks_by types meanings blocks) sight types locals ≡ before)
       (twice : (result ≡ Err Twice) ↔ IsTrue (is_declared name blocks)) where
-    stays : new ≡ blocks → held_of (blocks_by types others new) sight types locals ≡ before
-    stays q = (λ i. held_of (blocks_by types (pushed i) (q i)) sight types locals) ∙ held_stays types meanings m blocks sight locals k ∙ view
+    stays : new ≡ blocks → knowledge_of (blocks_by types others new) sight types locals ≡ before
+    stays q = (λ i. knowledge_of (blocks_by types (pushed i) (q i)) sight types locals) ∙ stays_known types meanings m blocks sight locals k ∙ view
 
     has_it : is_declared name blocks ≡ has name before.innermost
     has_it = has_is types meanings name blocks sight locals ∙ ap (λ h. has name h.innermost) view
@@ -539,22 +525,23 @@ module _ (types : List Shape) (meanings others : List Kept) (m : Kept) (name : L
     put_new = subst (λ b. IfOk (is_new result) (λ new. new ≡ not b)) has_it (new_is result (is_declared name blocks) twice)
 
     pub put_ok : IfOk (is_new result)
-        (λ new_one. held_of (blocks_by types others new) sight types locals ≡ (if new_one then with_name name (meaning_of types m) before else before))
+        (λ new_one. knowledge_of (blocks_by types others new) sight types locals ≡ (if new_one then with_name name (meaning_of types m) before else before))
     put_ok = by result ok err
       where
         by : (r : Result Unit ScopeError) → OnOk r (new ≡ with_declared (record { name = name; what = what }) blocks) → OnErr r (new ≡ blocks)
-            → IfOk (is_new r) (λ new_one. held_of (blocks_by types others new) sight types locals
+            → IfOk (is_new r) (λ new_one. knowledge_of (blocks_by types others new) sight types locals
             ≡ (if new_one then with_name name (meaning_of types m) before else before))
         by (Ok u) p q =
-            (λ i. held_of (blocks_by types (pushed i) ((p ∙ ap (λ w. with_declared (record { name = name; what = w }) blocks) what_is) i)) sight types locals)
-            ∙ held_put types meanings m name blocks sight locals k ∙ ap (with_name name (meaning_of types m)) view
+            (λ i. knowledge_of (blocks_by types (pushed i) ((p ∙ ap (λ w. with_declared (record { name = name; what = w }) blocks) what_is) i))
+            sight types locals)
+            ∙ put_known types meanings m name blocks sight locals k ∙ ap (with_name name (meaning_of types m)) view
         by (Err Twice) p q = stays q
         by (Err NoMemory) p q = tt
 
-    pub put_err : OnErr (is_new result) (held_of (blocks_by types others new) sight types locals ≡ before)
+    pub put_err : OnErr (is_new result) (knowledge_of (blocks_by types others new) sight types locals ≡ before)
     put_err = by result err
       where
-        by : (r : Result Unit ScopeError) → OnErr r (new ≡ blocks) → OnErr (is_new r) (held_of (blocks_by types others new) sight types locals ≡ before)
+        by : (r : Result Unit ScopeError) → OnErr r (new ≡ blocks) → OnErr (is_new r) (knowledge_of (blocks_by types others new) sight types locals ≡ before)
         by (Ok u) q = tt
         by (Err Twice) q = tt
         by (Err NoMemory) q = stays q
@@ -567,12 +554,12 @@ seen_outside outside (block ∷ blocks) l =
     (lt-leb outside (length blocks) (omega (arith, l))) i
     ∷ seen_outside outside blocks (omega (arith, l)) i
 
-pub held_function : (types : List Shape) (meanings : List Kept) (blocks : List scopes.Block) (sight : Sight) (locals : List Shape)
+pub function_known : (types : List Shape) (meanings : List Kept) (blocks : List scopes.Block) (sight : Sight) (locals : List Shape)
     → IsKept types meanings blocks sight
-    → held_of (blocks_by types meanings ([] ∷ blocks)) (sights.Function (length blocks)) types []
-    ≡ in_function (held_of (blocks_by types meanings blocks) sight types locals)
-held_function types meanings [] sight locals k = absurd (omega (arith, k.some))
-held_function types meanings (block ∷ blocks) sight locals k = λ i. record {
+    → knowledge_of (blocks_by types meanings ([] ∷ blocks)) (sights.Function (length blocks)) types []
+    ≡ in_function (knowledge_of (blocks_by types meanings blocks) sight types locals)
+function_known types meanings [] sight locals k = absurd (omega (arith, k.some))
+function_known types meanings (block ∷ blocks) sight locals k = λ i. record {
   innermost = [];
   outside = record {
     seen = seen i;
@@ -594,10 +581,10 @@ held_function types meanings (block ∷ blocks) sight locals k = λ i. record {
         (sym (only_seen is_seen_by_functions (λ m e. e) sight (blocks_by types meanings blocks)))
 
 -- the types that are known
-pub types_are : (types : List Shape) (meanings : List Kept) (blocks : List scopes.Block) (sight : Sight) (locals : List Shape) (before : Held)
-    → held_of (blocks_by types meanings blocks) sight types locals ≡ before → types ≡ before.outside.types
+pub types_are : (types : List Shape) (meanings : List Kept) (blocks : List scopes.Block) (sight : Sight) (locals : List Shape) (before : Knowledge)
+    → knowledge_of (blocks_by types meanings blocks) sight types locals ≡ before → types ≡ before.outside.types
 types_are types meanings blocks sight locals before view = by (blocks_by types meanings blocks) ∙ ap (λ h. h.outside.types) view
   where
-    by : (bs : List Block) → types ≡ (held_of bs sight types locals).outside.types
+    by : (bs : List Block) → types ≡ (knowledge_of bs sight types locals).outside.types
     by [] = refl
     by (b ∷ bs) = refl

@@ -5,8 +5,8 @@ use Rattle.std.specs.Prelude.{Result, Ok, Err}
 use Rattle.sz_check_rules.specs.Refusals.{Judged, ◌>>=◌, Refusal}
 use Rattle.sz_check_names.specs.Turns.{following, put_all}
 use Rattle.sz_check_names.specs.Outcome.{Stops, Judges}
-use Rattle.sz_check_names.specs.declared.error.CheckError.{CheckError}
-use Rattle.sz_check_names.specs.declared.error.CheckError.TheVariants as errors
+use Rattle.sz_check_names.specs.declared.error.JudgeError.{JudgeError}
+use Rattle.sz_check_names.specs.declared.error.JudgeError.TheVariants as errors
 
 -- one element more is in front
 pub later_next : {A B : Type 0} (put : A → B → B) (front : List A) (x : A) (rest : Judged B)
@@ -25,12 +25,12 @@ after_ends put [] y = refl
 after_ends put (a ∷ front) y = ap (λ (j : Judged _). j >>= λ y. Ok (put a y)) (after_ends put front y)
 
 -- an error that stops a judgement stops each one that begins with it, and each one that is the same
-pub stops_then : {A B : Type 0} (e : CheckError) (j : Judged A) (f : A → Judged B) (whole : Judged B) → Stops e j → (j >>= f) ≡ whole → Stops e whole
+pub stops_then : {A B : Type 0} (e : JudgeError) (j : Judged A) (f : A → Judged B) (whole : Judged B) → Stops e j → (j >>= f) ≡ whole → Stops e whole
 stops_then errors.NoMemory j f whole h same = tt
 stops_then (errors.Refused n p name) j f whole h same = sym same ∙ ap (λ (k : Judged _). k >>= f) h
 
 -- the same after a front
-pub stops_after : {A B C : Type 0} (put : A → B → B) (front : List A) (e : CheckError) (j : Judged C) (f : C → Judged B) (whole : Judged B)
+pub stops_after : {A B C : Type 0} (put : A → B → B) (front : List A) (e : JudgeError) (j : Judged C) (f : C → Judged B) (whole : Judged B)
     → Stops e j → following put front (j >>= f) ≡ whole → Stops e whole
 stops_after put front errors.NoMemory j f whole h same = tt
 stops_after put front (errors.Refused n p name) j f whole h same =
@@ -43,7 +43,7 @@ goes_on j f whole x h same = ap (λ (k : Judged _). k >>= f) (sym h) ∙ same
 -- ---- one turn of a loop that collects what it judges
 
 -- an element that is refused stops the whole
-pub turn_fails : {A B C : Type 0} (put : A → B → B) (front : List A) (e : CheckError) (j : Judged C) (f : C → Judged B) (rest whole : Judged B)
+pub turn_fails : {A B C : Type 0} (put : A → B → B) (front : List A) (e : JudgeError) (j : Judged C) (f : C → Judged B) (rest whole : Judged B)
     → rest ≡ (j >>= f) → Stops e j → following put front rest ≡ whole → Stops e whole
 turn_fails put front e j f rest whole turn h so_far = stops_after put front e j f whole h (ap (following put front) (sym turn) ∙ so_far)
 
@@ -65,6 +65,6 @@ pub map_push : {A B : Type 0} (f : A → B) (xs : List A) (x : A) → map f (xs 
 map_push f xs x = map-append f xs (x ∷ [])
 
 -- what is judged of a tree is judged of its other spelling
-pub judged_as : {X Y T : Type 0} (view : X → Y) (r : Result X CheckError) (f : T → Judged Y) (s t : T) → s ≡ t
+pub judged_as : {X Y T : Type 0} (view : X → Y) (r : Result X JudgeError) (f : T → Judged Y) (s t : T) → s ≡ t
     → Judges view r (f t) → Judges view r (f s)
 judged_as view r f s t same h = subst (λ (u : _). Judges view r (f u)) (sym same) h

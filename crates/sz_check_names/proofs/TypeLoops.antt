@@ -14,7 +14,7 @@ use Rattle.sz_check_rules.specs.JudgingTypes.{judge_type, judge_parts, judge_fie
 use Rattle.sz_check_names.specs.Turns.{following, put_all}
 use Rattle.sz_check_names.specs.Parts.{name_of, number_of, free_name, free_coding, judge_part, judge_field}
 use Rattle.sz_check_names.specs.Outcome.{Stops}
-use Rattle.sz_check_names.specs.declared.error.CheckError.{CheckError}
+use Rattle.sz_check_names.specs.declared.error.JudgeError.{JudgeError}
 use Rattle.sz_check_names.proofs.TurnLemmas.{turn_fails, turn_goes, turn_ends}
 use Rattle.sz_types.proofs.ForCallers.{rest_more, rest_none}
 
@@ -62,7 +62,7 @@ module _ (blocks : List Block) (ps : List Param) where
       rw (rest_more param_of ps i p within is)
       (part_then p.name (judge_type blocks (type_of p.of)) (has_name p.name.text taken) (λ name. parts_from (name ∷ taken) (i + 1)))
 
-  pub parts_fails : (front : List FieldShape) (taken : List (List ℕ)) (i : ℕ) (p : Param) (r : CheckError) (whole : Judged FieldShapes)
+  pub parts_fails : (front : List FieldShape) (taken : List (List ℕ)) (i : ℕ) (p : Param) (r : JudgeError) (whole : Judged FieldShapes)
       → i < length ps → p ≡ get_or ps i p → Stops r (judge_part blocks taken p.name (type_of p.of))
       → following with_field front (parts_from taken i) ≡ whole → Stops r whole
   parts_fails front taken i p r whole within is h so_far = turn_fails with_field front r _ _ _ whole (parts_turn taken i p within is) h so_far
@@ -94,7 +94,7 @@ module _ (blocks : List Block) (ps : List ProtoField) where
       (field_then p.name taken (judge_type blocks (type_of p.of)) (λ part. coding_of used part (field_number p.number) (encoding_of p.label))
       (λ name number. fields_from (name ∷ taken) (number ∷ used) (i + 1)))
 
-  pub fields_fails : (front : List FieldShape) (taken : List (List ℕ)) (used : List ℕ) (i : ℕ) (p : ProtoField) (r : CheckError) (whole : Judged FieldShapes)
+  pub fields_fails : (front : List FieldShape) (taken : List (List ℕ)) (used : List ℕ) (i : ℕ) (p : ProtoField) (r : JudgeError) (whole : Judged FieldShapes)
       → i < length ps → p ≡ get_or ps i p → Stops r (judge_field blocks taken used (field_of p))
       → following with_field front (fields_from taken used i) ≡ whole → Stops r whole
   fields_fails front taken used i p r whole within is h so_far = turn_fails with_field front r _ _ _ whole (fields_turn taken used i p within is) h so_far

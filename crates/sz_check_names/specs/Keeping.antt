@@ -14,9 +14,9 @@ use Rattle.sz_scope.specs.declared.sight.Sight.TheVariants as sights
 use Rattle.sz_check_names.specs.declared.site.Site.{Site}
 use Rattle.sz_check_names.specs.declared.site.Site.TheVariants as sites
 use Rattle.sz_check_names.specs.declared.meaning.Meaning.{Meaning as Kept}
-use Rattle.sz_check_names.specs.declared.meaning.Meaning.TheVariants as held
+use Rattle.sz_check_names.specs.declared.meaning.Meaning.TheVariants as stored
 use Rattle.sz_check_rules.specs.Names.{Meaning, Named, Block, input, is_seen_by_functions}
-use Rattle.sz_check_names.specs.Holding.{meaning_of, Held}
+use Rattle.sz_check_names.specs.Knowledge.{meaning_of, Knowledge}
 
 -- round how many blocks the routine stands
 abbrev pub floor_of : Sight → ℕ
@@ -59,14 +59,14 @@ place_of Input = None
 
 -- a meaning at a place, as the blocks keep it
 abbrev pub placed : ℕ → Kept → Place
-placed n (held.Variable v t) = Var n
-placed n (held.Quantified v t) = Quantified n
-placed n (held.Static s t) = Static n
-placed n (held.«Type» t) = TypeName n
-placed n (held.Table t d) = Table n
-placed n (held.Function f s) = Function n
-placed n (held.Predeclared b) = Builtin n
-placed n held.Input = Input
+placed n (stored.Variable v t) = Var n
+placed n (stored.Quantified v t) = Quantified n
+placed n (stored.Static s t) = Static n
+placed n (stored.«Type» t) = TypeName n
+placed n (stored.Table t d) = Table n
+placed n (stored.Function f s) = Function n
+placed n (stored.Predeclared b) = Builtin n
+placed n stored.Input = Input
 
 -- whether a name was new in its block, unless memory ran out
 abbrev pub is_new : Result Unit ScopeError → Result Bool AllocError
@@ -77,7 +77,7 @@ is_new (Err NoMemory) = Err alloc_error
 -- what is kept at a place, or of the record
 abbrev pub kept_at : List Kept → Option ℕ → Option Kept
 kept_at meanings (Some n) = slice_get meanings n
-kept_at meanings None = Some held.Input
+kept_at meanings None = Some stored.Input
 
 module _ (types : List Shape) (meanings : List Kept) where
   -- what a name stands for, by the place of its meaning; there is always one where it is asked for
@@ -92,31 +92,31 @@ module _ (types : List Shape) (meanings : List Kept) where
   blocks_by = map block_by
 
 -- what is known, by what is kept
-abbrev pub held_of : List Block → Sight → List Shape → List Shape → Held
-held_of [] sight types locals =
+abbrev pub knowledge_of : List Block → Sight → List Shape → List Shape → Knowledge
+knowledge_of [] sight types locals =
     record { innermost = []; outside = record { seen = []; all = []; own = 0; sight = sight; types = types }; locals = locals }
-held_of (block ∷ blocks) sight types locals = record {
+knowledge_of (block ∷ blocks) sight types locals = record {
   innermost = block;
   outside = record { seen = seen_from sight blocks; all = blocks; own = length blocks - floor_of sight; sight = sight; types = types };
   locals = locals;
 }
 
 -- what is known where one block is open that declares nothing
-abbrev pub at_no_name : Held
-at_no_name = held_of ([] ∷ []) sights.Record [] []
+abbrev pub at_no_name : Knowledge
+at_no_name = knowledge_of ([] ∷ []) sights.Record [] []
 
 -- what is seen, and how many blocks are the routine's own, go by who looks and by all blocks
-pub record IsBySight (k : Held) : Type 0 where
+pub record IsBySight (k : Knowledge) : Type 0 where
   pub sits : sits_in k.outside.sight (length k.outside.all) ≡ true
   pub seen : k.outside.seen ≡ seen_from k.outside.sight k.outside.all
   pub own : k.outside.own ≡ length k.outside.all - floor_of k.outside.sight
 
 -- what is known with a name more in the innermost block
-abbrev pub with_name : List ℕ → Meaning → Held → Held
+abbrev pub with_name : List ℕ → Meaning → Knowledge → Knowledge
 with_name name meaning k = record k { innermost = record { name = name; meaning = meaning } ∷ k.innermost }
 
 -- what is known with a type more
-abbrev pub with_type : Shape → Held → Held
+abbrev pub with_type : Shape → Knowledge → Knowledge
 with_type t k = record k { outside = record k.outside { types = k.outside.types ++ t ∷ [] } }
 
 -- the place of a meaning in the list is that of a meaning of this kind
@@ -133,7 +133,7 @@ ArePlaced meanings (block ∷ blocks) = ArePlacedIn meanings block × ArePlaced 
 
 -- the number of a type is one of so many
 abbrev pub IsTyped : ℕ → Kept → Type 0
-IsTyped count (held.«Type» n) = n < count
+IsTyped count (stored.«Type» n) = n < count
 IsTyped count _ = Unit {0}
 
 abbrev pub AreTyped : ℕ → List Kept → Type 0

@@ -12,7 +12,7 @@ use Rattle.sz_core.specs.OperatorCode.{builtin_code}
 use Rattle.sz_core.specs.ProgramCode.{signature_code}
 use Rattle.sz_core.specs.Programs.{Signature}
 use Rattle.sz_check_rules.specs.Names.{Meaning, Block, variable, quantified, static, type_name, table, function, predeclared, input}
-use Rattle.sz_check_names.specs.Holding.{Outside, Held}
+use Rattle.sz_check_names.specs.Knowledge.{Outside, Knowledge}
 
 -- a meaning as one of several things: a list of at most one declaration stands for a table, or for the record itself
 abbrev Kinds : Type 0
@@ -85,8 +85,8 @@ outside_code = code_by (List Block × (List Block × (ℕ × (ℕ × List Shape)
     (λ o i. record { seen = o.seen; all = o.all; own = o.own; sight = sight_again o.sight i; types = o.types })
 
 -- how what is known is stored
-abbrev pub held_code : Coded Held
-held_code = code_by (Block × (Outside × List Shape)) (coded× block_code (coded× outside_code shapes_code))
+abbrev pub knowledge_code : Coded Knowledge
+knowledge_code = code_by (Block × (Outside × List Shape)) (coded× block_code (coded× outside_code shapes_code))
     (λ k. (k.innermost, (k.outside, k.locals)))
     (λ p. record { innermost = p.0; outside = p.1.0; locals = p.1.1 })
     (λ k. refl)

@@ -3,7 +3,7 @@ pub mod Outcome
 pub mod Sites
 pub mod Written
 pub mod Kinds
-pub mod Holding
+pub mod Knowledge
 pub mod Keeping
 -- what the functions inside the crate promise each other
 pub mod Sorts

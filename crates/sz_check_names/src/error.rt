@@ -2,18 +2,19 @@
 ghost use Rattle.std.specs.Prelude.{◌≡◌, Err, None as Nothing};
 ghost use Rattle.sz_check_rules.specs.Refusals.{refused_for};
 ghost use Rattle.sz_check_names.specs.Outcome.{Stops};
-ghost use Rattle.sz_check_names.specs.declared.error.CheckError.TheVariants.{Refused as refused};
+ghost use Rattle.sz_check_names.specs.declared.error.JudgeError.TheVariants.{Refused as refused};
 
 use std::alloc::{AllocError, AllocFailed, Global};
+use sz_check_rules::Cause;
 use sz_tree::Name;
 use sz_types::{Place, Text};
 
 /// Why `check` gives no program.
 #[derive(Drop)]
-pub enum CheckError {
-    /// The first refusal: its number, the place that it names, and the name that its text has.
+pub enum JudgeError {
+    /// The first refusal: its cause, the place that it names, and the name that its text has.
     Refused {
-        number: u8,
+        cause: Cause,
         place: Place,
         name: Option<Text>,
     },
@@ -21,51 +22,51 @@ pub enum CheckError {
     NoMemory,
 }
 
-impl From<AllocError> for CheckError {
+impl From<AllocError> for JudgeError {
     ghost use Rattle.std.specs.Prelude.{◌≡◌};
-    ghost use Rattle.sz_check_names.specs.declared.error.CheckError.TheVariants.{NoMemory};
+    ghost use Rattle.sz_check_names.specs.declared.error.JudgeError.TheVariants.{NoMemory};
 
     ghost from_gives = { λ _ e. e ≡ NoMemory };
 
-    fn from(_e: AllocError) -> CheckError {
-        CheckError::NoMemory
+    fn from(_e: AllocError) -> JudgeError {
+        JudgeError::NoMemory
     }
 }
 
-impl<T: Drop> From<AllocFailed<T>> for CheckError {
+impl<T: Drop> From<AllocFailed<T>> for JudgeError {
     ghost use Rattle.std.specs.Prelude.{◌≡◌};
-    ghost use Rattle.sz_check_names.specs.declared.error.CheckError.TheVariants.{NoMemory};
+    ghost use Rattle.sz_check_names.specs.declared.error.JudgeError.TheVariants.{NoMemory};
 
     ghost from_gives = { λ _ e. e ≡ NoMemory };
 
-    fn from(_e: AllocFailed<T>) -> CheckError {
-        CheckError::NoMemory
+    fn from(_e: AllocFailed<T>) -> JudgeError {
+        JudgeError::NoMemory
     }
 }
 
-impl CheckError {
+impl JudgeError {
     /// A refusal at a place, whose text has no name.
-    pub fn at(number: u8, place: Place) -> CheckError
-        ensures value { result ≡ refused number place Nothing }
+    pub fn at(cause: Cause, place: Place) -> JudgeError
+        ensures value { result ≡ refused cause place Nothing }
     {
-        CheckError::Refused {
-            number,
+        JudgeError::Refused {
+            cause,
             place,
             name: None,
         }
     }
 
     /// A refusal at a name, which its text has; or that there is no memory to keep the name.
-    pub fn of(alloc: Global, number: u8, name: &Name) -> CheckError
-        ensures value { Stops {Y = Unit} result (refused_for number name.now) }
+    pub fn of(alloc: Global, cause: Cause, name: &Name) -> JudgeError
+        ensures value { Stops {Y = Unit} result (refused_for cause name.now) }
     {
         match Text::from_str(alloc, name.text().as_str()) {
-            Ok(text) => CheckError::Refused {
-                number,
+            Ok(text) => JudgeError::Refused {
+                cause,
                 place: name.place(),
                 name: Some(text),
             },
-            Err(_) => CheckError::NoMemory,
+            Err(_) => JudgeError::NoMemory,
         }
     }
 }

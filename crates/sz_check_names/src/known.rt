@@ -1,18 +1,16 @@
 //! What is known in front of a statement.
-ghost use Rattle.std.specs.Prelude.{◌≡◌, ◌∷◌, ◌++◌, ◌-◌, ◌<◌, [], length, not, Bool, IfOk, IfSome, OnErr, codes, if◌then◌else◌};
-ghost use Rattle.sz_types.specs.Data.{Shape};
+ghost use Rattle.std.specs.Prelude.{◌≡◌, ◌∷◌, ◌++◌, ◌-◌, ◌<◌, [], length, not, IfOk, IfSome, OnErr, if◌then◌else◌};
 ghost use Rattle.sz_types.specs.Seen.{seen};
-ghost use Rattle.sz_check_rules.specs.Names.{Block, Named, has, look_up, declare, type_name};
+ghost use Rattle.sz_check_rules.specs.Names.{Named, has, look_up, declare, type_name};
 ghost use Rattle.sz_check_rules.specs.Names as names;
 ghost use Rattle.sz_check_names.specs.Outcome.{Judges, Stops};
 ghost use Rattle.sz_check_rules.specs.Refusals.{unseen, has_name, left_out_names};
 ghost use Rattle.sz_check_rules.specs.Scene.{with_variable, with_quantified};
-ghost use Rattle.sz_check_names.specs.Holding.{at_first, meaning_of, means_of, maybe_means_of, IsOfTypes, Held, blocks_of, blocks_for, scene_of, outside_of, in_function, IsRoundFunction};
-ghost use Rattle.sz_check_names.specs.Keeping.{floor_of, sits_in, place_of, placed, sight_for, fitting, with_name, with_type, IsBySight, IsTyped, without_innermost, at_no_name};
+ghost use Rattle.sz_check_names.specs.Knowledge.{at_first, meaning_of, means_of, maybe_means_of, IsOfTypes, Knowledge, blocks_of, blocks_for, scene_of, outside_of, in_function, IsRoundFunction};
+ghost use Rattle.sz_check_names.specs.Keeping.{floor_of, place_of, placed, sight_for, fitting, with_name, with_type, IsBySight, IsTyped, without_innermost, at_no_name};
 ghost use Rattle.sz_check_names.specs.Written.{shape_in};
-ghost use Rattle.sz_scope.specs.declared.sight.Sight.TheVariants.{Static as for_static};
 
-use crate::error::CheckError;
+use crate::error::JudgeError;
 use crate::meaning::{Meaning, Means};
 use crate::number::small;
 use crate::site::Site;
@@ -22,6 +20,7 @@ use crate::written::{NamedTypes, Written};
 use std::alloc::{AllocError, Global};
 use std::marker::Model;
 use std::mem;
+use sz_check_rules::Cause;
 use sz_scope::{Scopes, Sight};
 use sz_tree::Name;
 use sz_types::{Builtin, Ty, Tys, copy_ty};
@@ -128,27 +127,27 @@ fn is_left_out(name: &[u8]) -> bool
 }
 
 // Nothing that is seen has the name: it is unknown, or left out.
-fn unseen(alloc: Global, name: &Name) -> CheckError
+fn unseen(alloc: Global, name: &Name) -> JudgeError
     ensures value { Stops {Y = Unit} result (unseen name.now) }
 {
-    let number = if is_left_out(name.text().as_bytes()) {
-        16
+    let cause = if is_left_out(name.text().as_bytes()) {
+        Cause::LeftOut
     } else {
-        6
+        Cause::UnknownName
     };
-    CheckError::of(alloc, number, name)
+    JudgeError::of(alloc, cause, name)
 }
 
 impl Model for Known {
-    ghost use Rattle.sz_check_names.specs.Holding.{Held};
-    ghost use Rattle.sz_check_names.specs.KnownCode.{held_code};
-    ghost use Rattle.sz_check_names.specs.Keeping.{blocks_by, held_of, IsKept};
+    ghost use Rattle.sz_check_names.specs.Knowledge.{Knowledge};
+    ghost use Rattle.sz_check_names.specs.KnownCode.{knowledge_code};
+    ghost use Rattle.sz_check_names.specs.Keeping.{blocks_by, knowledge_of, IsKept};
 
-    ghost Value = { Held };
+    ghost Value = { Knowledge };
 
-    ghost coded = { held_code };
+    ghost coded = { knowledge_code };
 
-    ghost view = { λ k. held_of (blocks_by k.types k.meanings.items k.scopes) k.sight k.types k.locals };
+    ghost view = { λ k. knowledge_of (blocks_by k.types k.meanings.items k.scopes) k.sight k.types k.locals };
 
     ghost invariant = { λ k. IsKept k.types k.meanings.items k.scopes k.sight };
 }
@@ -226,9 +225,9 @@ impl Known {
         }
     }
 
-    /// What the name stands for, or the refusal 6 (or 16, for a name that is left out of the language) where nothing that is seen
-    /// has it. The value of a static sees less than a statement.
-    pub fn look_up(&self, alloc: Global, site: Site, name: &Name) -> Result<Means<'_>, CheckError>
+    /// What the name stands for, or the refusal of an unknown name, or of one that is left out of the language, where
+    /// nothing that is seen has it. The value of a static sees less than a statement.
+    pub fn look_up(&self, alloc: Global, site: Site, name: &Name) -> Result<Means<'_>, JudgeError>
         ensures value { Judges means_of result (look_up name.now (blocks_for self.now site)) }
         ensures types { IfOk result (IsOfTypes self.now.outside.types) }
     {
@@ -238,13 +237,13 @@ impl Known {
         }
     }
 
-    /// A name more in the innermost block, or the refusal 7 where the block has it already.
+    /// A name more in the innermost block, or the refusal `declared twice`.
     pub fn declare(
         &mut self,
         alloc: Global,
         name: &Name,
         meaning: Meaning,
-    ) -> Result<(), CheckError>
+    ) -> Result<(), JudgeError>
         requires typed { IsTyped (length self.old.outside.types) meaning }
         ensures value { Judges (λ _. blocks_of self.new) result
             (declare name.now (meaning_of self.old.outside.types meaning) (blocks_of self.old)) }
@@ -254,17 +253,17 @@ impl Known {
         if self.put(name.text().as_str(), meaning)? {
             Ok(())
         } else {
-            Err(CheckError::of(alloc, 7, name))
+            Err(JudgeError::of(alloc, Cause::Redeclared, name))
         }
     }
 
-    /// A type by its name, as it is written, or the refusal 7 where the innermost block has the name already.
+    /// A type by its name, as it is written, or the refusal `declared twice`.
     pub fn declare_type(
         &mut self,
         alloc: Global,
         name: &Name,
         written: Written,
-    ) -> Result<(), CheckError>
+    ) -> Result<(), JudgeError>
         ensures value { Judges (λ _. blocks_of self.new) result
             (declare name.now (type_name (shape_in self.old.outside.types written)) (blocks_of self.old)) }
         ensures locals { self.new.locals ≡ self.old.locals }
@@ -289,13 +288,13 @@ impl Known {
         Ok((number, copy))
     }
 
-    /// A variable more, which has the next number of its routine, counted from 0; or the refusal 7.
+    /// A variable more, which has the next number of its routine, counted from 0; or the refusal `declared twice`.
     pub fn declare_variable(
         &mut self,
         alloc: Global,
         name: &Name,
         ty: Ty,
-    ) -> Result<u32, CheckError>
+    ) -> Result<u32, JudgeError>
         ensures value { Judges (λ _. scene_of self.new) result (with_variable name.now (seen ty) (scene_of self.old)) }
         ensures number { IfOk result (λ number. number ≡ length self.old.locals) }
         ensures outside { self.new.outside ≡ self.old.outside }
@@ -305,13 +304,14 @@ impl Known {
         Ok(number)
     }
 
-    /// A variable more that a `when` quantifies, which has the next number of all variables of its routine; or the refusal 7.
+    /// A variable more that a `when` quantifies, which has the next number of all variables of its routine; or the refusal
+    /// `declared twice`.
     pub fn declare_quantified(
         &mut self,
         alloc: Global,
         name: &Name,
         ty: Ty,
-    ) -> Result<u32, CheckError>
+    ) -> Result<u32, JudgeError>
         ensures value { Judges (λ _. scene_of self.new) result (with_quantified name.now (seen ty) (scene_of self.old)) }
         ensures number { IfOk result (λ number. number ≡ length self.old.locals) }
         ensures outside { self.new.outside ≡ self.old.outside }
@@ -330,7 +330,7 @@ impl Known {
 
     /// The end of the innermost block, if the routine opened it. The variables inside keep their numbers.
     pub fn close(&mut self)
-        ensures value { (k : Held) → self.old.outside ≡ outside_of k → self.new ≡ record k { locals = self.old.locals } }
+        ensures value { (k : Knowledge) → self.old.outside ≡ outside_of k → self.new ≡ record k { locals = self.old.locals } }
     {
         let outside = floor(self.sight);
         close_innermost(&mut self.scopes, outside);
@@ -352,7 +352,7 @@ impl Known {
 
     /// The end of a function's block, with the types of the function's variables by number.
     pub fn leave_function(&mut self, aside: Aside) -> Tys
-        ensures value { (k : Held) → IsBySight k → aside.sight ≡ k.outside.sight → aside.locals ≡ k.locals → IsRoundFunction k
+        ensures value { (k : Knowledge) → IsBySight k → aside.sight ≡ k.outside.sight → aside.locals ≡ k.locals → IsRoundFunction k
             self.old → self.new ≡ k }
         ensures locals { result ≡ self.old.locals }
     {

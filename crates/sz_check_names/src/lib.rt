@@ -14,12 +14,13 @@ mod types;
 mod waiting;
 mod written;
 
-pub use error::CheckError;
+pub use error::JudgeError;
 pub use kind::{Kind, type_kind};
 pub use known::{Aside, Known};
 pub use meaning::{Meaning, Means};
 pub use number::small;
 pub use site::Site;
+pub use sz_check_rules::Cause;
 pub use types::{judge_type, judge_written};
 pub use waiting::beside;
 pub use written::{NamedType, NamedTypes, Written, WrittenField, basic_type};

@@ -1,6 +1,6 @@
 //! What names stand for.
 ghost use Rattle.std.specs.Prelude.{◌≡◌};
-ghost use Rattle.sz_check_names.specs.Holding.{meaning_of, means_of, IsOfTypes};
+ghost use Rattle.sz_check_names.specs.Knowledge.{meaning_of, means_of, IsOfTypes};
 
 use crate::written::{NamedType, NamedTypes};
 use sz_core::Signature;

@@ -1,6 +1,5 @@
 //! What fields of a message a type makes.
 ghost use Rattle.std.specs.Prelude.{◌≡◌, Bool};
-ghost use Rattle.sz_core.specs.WellFormed.{takes_encoding};
 ghost use Rattle.sz_check_rules.specs.JudgingTypes.{shape_of};
 ghost use Rattle.sz_check_names.specs.Sorts.{as_many, sort_at, is_field, encodes};
 ghost use Rattle.sz_check_names.specs.Written.{shape_in, shapes_of};

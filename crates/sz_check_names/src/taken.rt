@@ -12,12 +12,12 @@ use sz_scope::{Meaning, ScopeError, Scopes};
 
 // Names that are taken, the newest first. They are the declarations of a block.
 pub struct TakenNames {
-    held: Scopes,
+    stored: Scopes,
 }
 
 impl Drop for TakenNames {
     fn drop(self) {
-        let TakenNames { held: _ } = self;
+        let TakenNames { stored: _ } = self;
     }
 }
 
@@ -27,9 +27,9 @@ impl Model for TakenNames {
 
     ghost Value = { List (List ℕ) };
 
-    ghost view = { λ t. names_in t.held };
+    ghost view = { λ t. names_in t.stored };
 
-    ghost invariant = { λ t. length t.held ≡ 1 };
+    ghost invariant = { λ t. length t.stored ≡ 1 };
 }
 
 // Whether a name was new in its block.
@@ -58,7 +58,7 @@ impl TakenNames {
         ensures value { IfOk result (λ made. made ≡ []) }
     {
         Ok(TakenNames {
-            held: one_block(alloc)?,
+            stored: one_block(alloc)?,
         })
     }
 
@@ -67,18 +67,18 @@ impl TakenNames {
         ensures free { IfOk result (λ free. free ≡ not (has_name name.now self.old)) }
         ensures ok { IfOk result (λ free. self.new ≡ (if free then name.now ∷ self.old else self.old)) }
     {
-        is_new(self.held.declare(name, Meaning::Input))
+        is_new(self.stored.declare(name, Meaning::Input))
     }
 }
 
 // Numbers that are taken, the newest first.
 pub struct TakenNumbers {
-    held: IndexSet<u32>,
+    stored: IndexSet<u32>,
 }
 
 impl Drop for TakenNumbers {
     fn drop(self) {
-        let TakenNumbers { held: _ } = self;
+        let TakenNumbers { stored: _ } = self;
     }
 }
 
@@ -87,7 +87,7 @@ impl Model for TakenNumbers {
 
     ghost Value = { List ℕ };
 
-    ghost view = { λ t. reverse t.held.keys };
+    ghost view = { λ t. reverse t.stored.keys };
 }
 
 impl TakenNumbers {
@@ -96,7 +96,7 @@ impl TakenNumbers {
         ensures value { result ≡ [] }
     {
         TakenNumbers {
-            held: IndexSet::new(alloc),
+            stored: IndexSet::new(alloc),
         }
     }
 
@@ -104,14 +104,14 @@ impl TakenNumbers {
     pub fn has(&self, number: u32) -> bool
         ensures value { result ≡ has_number number self.now }
     {
-        self.held.contains(&number)
+        self.stored.contains(&number)
     }
 
     // Takes a number, if it is free.
     pub fn add(&mut self, number: u32) -> Result<(), AllocError>
         ensures ok { OnOk result (self.new ≡ (if has_number number self.old then self.old else number ∷ self.old)) }
     {
-        self.held.insert(number)?;
+        self.stored.insert(number)?;
         Ok(())
     }
 }

@@ -1,17 +1,17 @@
 //! Types as they are written.
-ghost use Rattle.std.specs.Prelude.{◌≡◌, ◌∷◌, [], List, IfOk, OnOk, map as each};
+ghost use Rattle.std.specs.Prelude.{◌≡◌, ◌∷◌, IfOk, OnOk, map as each};
 ghost use Rattle.std.specs.Option.{option_map};
-ghost use Rattle.sz_types.specs.Data.{Shape, fields_of};
+ghost use Rattle.sz_types.specs.Data.{fields_of};
 ghost use Rattle.sz_types.specs.Seen.{seen};
 ghost use Rattle.sz_tree.specs.Types.{tuple, proto, params_of, fields_of as trees_of};
 ghost use Rattle.sz_tree.specs.View.{type_of, param_of, field_of};
 ghost use Rattle.sz_check_rules.specs.JudgingTypes.{type_named, field_number, encoding_of, coding_of, judge_type, judge_parts, judge_fields};
-ghost use Rattle.sz_check_names.specs.Holding.{means_of, blocks_of, IsOfTypes};
+ghost use Rattle.sz_check_names.specs.Knowledge.{means_of, blocks_of, IsOfTypes};
 ghost use Rattle.sz_check_names.specs.Parts.{free_name, free_coding, coding_seen, judge_part, judge_field};
 ghost use Rattle.sz_check_names.specs.Written.{shape_in, field_in};
 ghost use Rattle.sz_check_names.specs.Outcome.{Judges};
 
-use crate::error::CheckError;
+use crate::error::JudgeError;
 use crate::known::Known;
 use crate::meaning::Means;
 use crate::site::Site;
@@ -19,6 +19,7 @@ use crate::taken::{TakenNames, TakenNumbers};
 use crate::waiting::beside;
 use crate::written::{NamedTypes, Written, WrittenField};
 use std::alloc::Global;
+use sz_check_rules::Cause;
 use sz_tree::{Name, Param, ProtoField, TypeTree};
 use sz_types::{Encoding, Place, Text, Ty};
 
@@ -28,13 +29,13 @@ fn type_named(
     types: &NamedTypes,
     name: &Name,
     means: Means<'_>,
-) -> Result<Written, CheckError>
+) -> Result<Written, JudgeError>
     requires types { IsOfTypes types.now means }
     ensures value { Judges (shape_in types.now) result (type_named name.now (means_of means.entry)) }
 {
     match means {
         Means::Type(ty) => Ok(Written::Named(ty.number)),
-        _ => Err(CheckError::of(alloc, 8, name)),
+        _ => Err(JudgeError::of(alloc, Cause::WrongKind, name)),
     }
 }
 
@@ -95,13 +96,13 @@ fn coding_of(
 }
 
 // A name of a part or a field, which must be free, and is taken now.
-fn take_name(alloc: Global, name: &Name, taken: &mut TakenNames) -> Result<Text, CheckError>
+fn take_name(alloc: Global, name: &Name, taken: &mut TakenNames) -> Result<Text, JudgeError>
     ensures value { Judges (λ text. text) result (free_name name.now taken.old) }
     ensures taken { OnOk result (taken.new ≡ name.now.text ∷ taken.old) }
 {
     let text = name.text().as_str();
     if !taken.add(text)? {
-        return Err(CheckError::of(alloc, 18, name));
+        return Err(JudgeError::of(alloc, Cause::BadProto, name));
     }
     Ok(Text::from_str(alloc, text)?)
 }
@@ -113,7 +114,7 @@ fn judge_coding(
     tree: &ProtoField,
     ty: &Written,
     used: &TakenNumbers,
-) -> Result<(u32, Encoding), CheckError>
+) -> Result<(u32, Encoding), JudgeError>
     ensures value { Judges coding_seen result
         (free_coding tree.now.name (coding_of used.now (shape_in types.now ty.now) (field_number tree.now.number)
         (encoding_of tree.now.label))) }
@@ -121,14 +122,14 @@ fn judge_coding(
     let number = field_number(tree.number);
     match coding_of(used, types, ty, number, encoding_of(&tree.label)) {
         Some(coding) => Ok(coding),
-        None => Err(CheckError::of(alloc, 18, &tree.name)),
+        None => Err(JudgeError::of(alloc, Cause::BadProto, &tree.name)),
     }
 }
 
-/// The type of a tree, as it is written, or its first refusal: 6, 8, 16 at a name, 18 at a field or a part.
+/// The type of a tree, as it is written, or its first refusal, at a name, a field or a part.
 #[cycle(types)]
 #[tactic(auto, unfolding(sz_check_rules::specs::JudgingTypes::judge_type))]
-pub fn judge_written(alloc: Global, known: &Known, tree: &TypeTree) -> Result<Written, CheckError>
+pub fn judge_written(alloc: Global, known: &Known, tree: &TypeTree) -> Result<Written, JudgeError>
     ensures value { Judges (shape_in known.now.outside.types) result (judge_type (blocks_of known.now) (type_of tree.now)) }
 {
     match tree {
@@ -148,8 +149,8 @@ pub fn judge_written(alloc: Global, known: &Known, tree: &TypeTree) -> Result<Wr
     }
 }
 
-/// The type of a tree, with all names written out, or its first refusal: 6, 8, 16 at a name, 18 at a field or a part.
-pub fn judge_type(alloc: Global, known: &Known, tree: &TypeTree) -> Result<Ty, CheckError>
+/// The type of a tree, with all names written out, or its first refusal, at a name, a field or a part.
+pub fn judge_type(alloc: Global, known: &Known, tree: &TypeTree) -> Result<Ty, JudgeError>
     ensures value { Judges seen result (judge_type (blocks_of known.now) (type_of tree.now)) }
 {
     let written = judge_written(alloc, known, tree)?;
@@ -160,7 +161,7 @@ pub fn judge_type(alloc: Global, known: &Known, tree: &TypeTree) -> Result<Ty, C
 
 // The type on the heap, as a part of another.
 #[cycle(types)]
-fn judge_boxed(alloc: Global, known: &Known, tree: &TypeTree) -> Result<Box<Written>, CheckError>
+fn judge_boxed(alloc: Global, known: &Known, tree: &TypeTree) -> Result<Box<Written>, JudgeError>
     ensures value { Judges (λ made. shape_in known.now.outside.types made.value) result
         (judge_type (blocks_of known.now) (type_of tree.now)) }
 {
@@ -175,7 +176,7 @@ fn judge_tuple(
     known: &Known,
     place: Place,
     trees: &[Param],
-) -> Result<Written, CheckError>
+) -> Result<Written, JudgeError>
     ensures value { Judges (shape_in known.now.outside.types) result
         (judge_type (blocks_of known.now) (tuple place (params_of (each param_of trees.now)))) }
 {
@@ -193,7 +194,7 @@ fn judge_proto(
     known: &Known,
     place: Place,
     trees: &[ProtoField],
-) -> Result<Written, CheckError>
+) -> Result<Written, JudgeError>
     ensures value { Judges (shape_in known.now.outside.types) result
         (judge_type (blocks_of known.now) (proto place (trees_of (each field_of trees.now)))) }
 {
@@ -212,7 +213,7 @@ fn judge_part(
     known: &Known,
     tree: &Param,
     taken: &mut TakenNames,
-) -> Result<WrittenField, CheckError>
+) -> Result<WrittenField, JudgeError>
     ensures value { Judges (field_in known.now.outside.types) result
         (judge_part (blocks_of known.now) taken.old tree.now.name (type_of tree.now.of)) }
     ensures taken { IfOk result (λ made. taken.new ≡ made.name ∷ taken.old) }
@@ -234,7 +235,7 @@ fn judge_parts(
     known: &Known,
     trees: &[Param],
     taken: &mut TakenNames,
-) -> Result<Vec<WrittenField>, CheckError>
+) -> Result<Vec<WrittenField>, JudgeError>
     ensures value { Judges (λ made. fields_of (each (field_in known.now.outside.types) made.items)) result
         (judge_parts (blocks_of known.now) taken.old (params_of (each param_of trees.now))) }
 {
@@ -253,7 +254,7 @@ fn judge_field(
     tree: &ProtoField,
     taken: &mut TakenNames,
     used: &mut TakenNumbers,
-) -> Result<WrittenField, CheckError>
+) -> Result<WrittenField, JudgeError>
     ensures value { Judges (field_in known.now.outside.types) result
         (judge_field (blocks_of known.now) taken.old used.old (field_of tree.now)) }
     ensures taken { IfOk result (λ made. taken.new ≡ made.name ∷ taken.old) }
@@ -280,7 +281,7 @@ fn judge_fields(
     trees: &[ProtoField],
     taken: &mut TakenNames,
     used: &mut TakenNumbers,
-) -> Result<Vec<WrittenField>, CheckError>
+) -> Result<Vec<WrittenField>, JudgeError>
     ensures value { Judges (λ made. fields_of (each (field_in known.now.outside.types) made.items)) result
         (judge_fields (blocks_of known.now) taken.old used.old (trees_of (each field_of trees.now))) }
 {

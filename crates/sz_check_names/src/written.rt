@@ -77,12 +77,12 @@ impl Drop for WrittenField {
 
 /// The named types of a program by number. Contracts see them with all names written out.
 pub struct NamedTypes {
-    held: Vec<Written>,
+    stored: Vec<Written>,
 }
 
 impl Drop for NamedTypes {
     fn drop(self) {
-        let NamedTypes { held: _ } = self;
+        let NamedTypes { stored: _ } = self;
     }
 }
 
@@ -96,7 +96,7 @@ impl Model for NamedTypes {
 
     ghost coded = { shapes_code };
 
-    ghost view = { λ types. shapes_of types.held.items };
+    ghost view = { λ types. shapes_of types.stored.items };
 }
 
 /// A named type, lent with those that it is built from.
@@ -112,7 +112,7 @@ impl NamedTypes {
         ensures value { result ≡ [] }
     {
         NamedTypes {
-            held: Vec::new(alloc),
+            stored: Vec::new(alloc),
         }
     }
 
@@ -120,7 +120,7 @@ impl NamedTypes {
     pub fn len(&self) -> usize
         ensures value { result ≡ length self.now }
     {
-        self.held.len()
+        self.stored.len()
     }
 
     /// One type more, with its number.
@@ -129,8 +129,8 @@ impl NamedTypes {
         ensures ok { IfOk result (λ _. self.new ≡ self.old ++ shape_in self.old written ∷ []) }
         ensures err { OnErr result (self.new ≡ self.old) }
     {
-        let (number, written) = beside(small(self.held.len()), written)?;
-        self.held.push(written)?;
+        let (number, written) = beside(small(self.stored.len()), written)?;
+        self.stored.push(written)?;
         Ok(number)
     }
 
@@ -138,14 +138,14 @@ impl NamedTypes {
     pub fn sort_of(&self, written: &Written) -> Sort
         ensures value { result ≡ sort_at false (shape_in self.now written.now) }
     {
-        sort_of(written, self.held.as_slice(), false)
+        sort_of(written, self.stored.as_slice(), false)
     }
 
     /// The type, with all names written out.
     pub fn write_out(&self, alloc: Global, written: &Written) -> Result<Ty, AllocError>
         ensures value { IfOk result (λ ty. seen ty ≡ shape_in self.now written.now) }
     {
-        write_out(alloc, written, self.held.as_slice())
+        write_out(alloc, written, self.stored.as_slice())
     }
 }
 
@@ -205,16 +205,16 @@ fn write_out_fields(
 ) -> Result<Fields, AllocError>
     ensures value { IfOk result (λ made. seen_fields made ≡ map (field_in (shapes_of types.now)) fields.now) }
 {
-    let mut held = Vec::with_capacity(alloc, fields.len())?;
+    let mut stored = Vec::with_capacity(alloc, fields.len())?;
     for field in fields {
         let name = Text::from_str(alloc, field.name.as_str())?;
         let (ty, name) = beside(write_out(alloc, &field.ty, types), name)?;
-        held.push(Field {
+        stored.push(Field {
             name,
             ty,
             number: field.number,
             code: field.code,
         })?;
     }
-    Ok(Fields::from_vec(held))
+    Ok(Fields::from_vec(stored))
 }

@@ -52,16 +52,27 @@ indexed p t Shape.bytes e n = do
   Ok (record (stepped t (at_index n) Shape.int) { assignable = false })
 indexed p t u e n = wrong_type p
 
--- the steps of a path that begins at this place, one after the other
+-- the next step of a path that begins at this place
+abbrev pub judge_step : Scene → Place → Target → StepForm → Judged Target
+judge_step s p t (trees.at_index e) = do
+  n ← judge s None e
+  indexed p t t.type e n
+judge_step s p t (trees.at_field f) = do
+  x ← field_in p t.type f
+  Ok (stepped t (at_field x.place) x.type)
+
+-- the steps, one after the other
 unfoldable pub judge_steps : Scene → Place → Target → List StepForm → Judged Target
 judge_steps s p t [] = Ok t
-judge_steps s p t (trees.at_index e ∷ steps) = do
-  n ← judge s None e
-  next ← indexed p t t.type e n
+judge_steps s p t (step ∷ steps) = do
+  next ← judge_step s p t step
   judge_steps s p next steps
-judge_steps s p t (trees.at_field f ∷ steps) = do
-  x ← field_in p t.type f
-  judge_steps s p (stepped t (at_field x.place) x.type) steps
+
+-- what a path that begins with this name has come to, where it can be assigned to
+abbrev pub assignable : Ident → Target → Judged Target
+assignable n t = do
+  _ ← unless t.assignable (not_assignable n)
+  Ok t
 
 -- a path, as a whole
 abbrev pub judge_path : Scene → PathForm → Judged Target
@@ -69,5 +80,4 @@ judge_path s path = do
   m ← look_up path.name s.blocks
   begin ← target_of path.name m
   t ← judge_steps s path.name.place begin path.steps
-  _ ← unless t.assignable (not_assignable path.name)
-  Ok t
+  assignable path.name t

@@ -10,11 +10,11 @@ use Rattle.sz_tree.specs.Names.{Ident}
 use Rattle.sz_tree.specs.Expressions.{Exp}
 use Rattle.sz_tree.specs.Statements.{ElemForm, TableForm, Stm, static, typedef, table, function, Stms, no_stms, stm}
 use Rattle.sz_tree.specs.Types.{Typ, Params, no_params, param}
-use Rattle.sz_core.specs.Programs.{Signature, Function, Item, Core}
+use Rattle.sz_core.specs.Programs.{Signature, Static, Item, Core}
 use Rattle.sz_core.specs.Programs as items
 use Rattle.sz_core.specs.WellFormed.{is_allowed}
 use Rattle.sz_check_rules.specs.Refusals.{Judged, ◌>>=◌, unless, no_kind, bad_table, too_many}
-use Rattle.sz_check_rules.specs.Names.{Block, Meaning, only, is_seen_by_functions, is_seen_by_statics, predeclared_names}
+use Rattle.sz_check_rules.specs.Names.{Block, only, is_seen_by_functions, is_seen_by_statics, predeclared_names}
 use Rattle.sz_check_rules.specs.Names as names
 use Rattle.sz_check_rules.specs.JudgingTypes.{judge_type}
 use Rattle.sz_check_rules.specs.JudgingExpressions.{judge_exp}
@@ -93,17 +93,38 @@ declaration_of n word kind (Some limit) indexes element weight =
 abbrev pub most_tables : ℕ
 most_tables = 64
 
--- `name: table kind (limit) [index].. of element weight weight;`
-abbrev pub judge_table : TopScene → Ident → TableForm → Judged Found
-judge_table k n f = do
+-- the types of the indexes, of the element and of the weights
+pub record TableTypes : Type 0 where
+  pub indexes : List Shape
+  pub element : Shape
+  pub weight : Option Shape
+
+abbrev pub judge_types : List Block → TableForm → Judged TableTypes
+judge_types blocks f = do
+  indexes ← judge_elems blocks f.indexes
+  element ← judge_type blocks f.of.of
+  weight ← judge_weight blocks f.weight
+  Ok (record { indexes = indexes; element = element; weight = weight })
+
+-- the declaration that a table's tree stands for
+abbrev pub judge_table_declaration : List Block → Ident → TableForm → Judged Declaration
+judge_table_declaration blocks n f = do
   kind ← kind_of f.kind
-  indexes ← judge_elems (blocks_of k) f.indexes
-  element ← judge_type (blocks_of k) f.of.of
-  weight ← judge_weight (blocks_of k) f.weight
-  d ← declaration_of n f.kind kind (limit_of kind f.argument) indexes element weight
+  types ← judge_types blocks f
+  declaration_of n f.kind kind (limit_of kind f.argument) types.indexes types.element types.weight
+
+-- a table under its name, with the next number
+abbrev pub declare_table : TopScene → Ident → Declaration → Judged Found
+declare_table k n d = do
   _ ← unless (nat_lt k.tables most_tables) (too_many n.place)
   blocks ← names.declare n (names.table k.tables d) (blocks_of k)
   Ok (record { known = record (with_blocks k blocks) { tables = 1 + k.tables }; items = items.table d ∷ [] })
+
+-- `name: table kind (limit) [index].. of element weight weight;`
+abbrev pub judge_table : TopScene → Ident → TableForm → Judged Found
+judge_table k n f = do
+  d ← judge_table_declaration (blocks_of k) n f
+  declare_table k n d
 
 -- the parameters of a function, each a variable of it; a parameter is declared before the next one is judged
 unfoldable pub judge_parameters : Scene → Params → Judged Scene
@@ -136,17 +157,19 @@ judge_function k n ps t ss = do
     items = items.function (record { signature = signature; locals = body.scene.locals; body = body.stms }) ∷ [];
   })
 
+-- a static under its name, with the next number
+abbrev pub declare_static : TopScene → Ident → Static → Judged Found
+declare_static k n s = do
+  blocks ← names.declare n (names.static k.statics s.type) (blocks_of k)
+  Ok (record { known = record (with_blocks k blocks) { statics = 1 + k.statics }; items = items.static s ∷ [] })
+
 -- `static name: type = e;`
 abbrev pub judge_static : TopScene → Place → Ident → Typ → Exp → Judged Found
 judge_static k p n t e = do
   u ← judge_type (blocks_of k) t
   m ← judge_exp (only is_seen_by_statics (blocks_of k)) false (Some u) e
   value ← converted u e m
-  blocks ← names.declare n (names.static k.statics u) (blocks_of k)
-  Ok (record {
-    known = record (with_blocks k blocks) { statics = 1 + k.statics };
-    items = items.static (record { place = p; type = u; value = value }) ∷ [];
-  })
+  declare_static k n (record { place = p; type = u; value = value })
 
 -- `type name = type;`
 abbrev pub judge_typedef : TopScene → Ident → Typ → Judged Found

@@ -12,7 +12,7 @@ use Rattle.sz_tree.specs.Expressions.{Exp, Exps}
 use Rattle.sz_tree.specs.Expressions as exps
 use Rattle.sz_tree.specs.Statements.{PathForm, SimpleForm, assign, increment, decrement, call_of, FirstForm, first_declare, first_define, first_simple}
 use Rattle.sz_tree.specs.Types.{Typ}
-use Rattle.sz_core.specs.Nodes.{Node, node, type_of}
+use Rattle.sz_core.specs.Nodes.{Node, Nodes, node, type_of}
 use Rattle.sz_core.specs.Nodes as forms
 use Rattle.sz_core.specs.Statements as core
 use Rattle.sz_check_rules.specs.Refusals.{Judged, ◌>>=◌, unless, wrong_kind, wrong_type, wrong_weight, misplaced}
@@ -126,20 +126,36 @@ same_presence true b = b
 same_presence false true = false
 same_presence false false = true
 
+-- the parts of an emit
+pub record Emitted : Type 0 where
+  pub indexes : Nodes
+  pub value : Node
+  pub weight : Option Node
+
+abbrev pub judge_emitted : Scene → Declaration → Exps → Exp → Option Exp → Judged Emitted
+judge_emitted s d es e w = do
+  indexes ← judge_exps s.blocks true (in_turn d.indexes) es
+  value ← judge s (Some d.element) e
+  weight ← judge_if_some s d.weight w
+  Ok (record { indexes = indexes; value = value; weight = weight })
+
+-- the parts of an emit are as the table's declaration asks; the places are that of the emit and that of the table's name
+abbrev pub emitted_fits : Declaration → Place → Place → Exps → Exp → Option Exp → Emitted → Judged Unit
+emitted_fits d p q es e w x = do
+  _ ← agree (in_turn d.indexes) es x.indexes
+  _ ← agrees (Some d.element) e x.value
+  _ ← weight_agrees d.weight w x.weight
+  _ ← counted (length d.indexes) es q
+  unless (same_presence (is_some d.weight) (is_some w)) (wrong_weight p)
+
 -- `emit name[e].. <- e weight e;`
 abbrev pub judge_emit : Scene → Place → Ident → Exps → Exp → Option Exp → Judged core.Stm
 judge_emit s p n es e w = do
   m ← look_up n s.blocks
   t ← table_named n m
-  indexes ← judge_exps s.blocks true (in_turn t.declaration.indexes) es
-  value ← judge s (Some t.declaration.element) e
-  weight ← judge_if_some s t.declaration.weight w
-  _ ← agree (in_turn t.declaration.indexes) es indexes
-  _ ← agrees (Some t.declaration.element) e value
-  _ ← weight_agrees t.declaration.weight w weight
-  _ ← counted (length t.declaration.indexes) es n.place
-  _ ← unless (same_presence (is_some t.declaration.weight) (is_some w)) (wrong_weight p)
-  Ok (core.emit p t.number indexes value weight)
+  x ← judge_emitted s t.declaration es e w
+  _ ← emitted_fits t.declaration p n.place es e w x
+  Ok (core.emit p t.number x.indexes x.value x.weight)
 
 -- a statement that declares nothing for those after it
 abbrev pub done : Scene → Judged core.Stm → Judged Later

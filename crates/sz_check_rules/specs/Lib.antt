@@ -1,4 +1,5 @@
 -- names, types, and the answers of a judgement
+pub mod Causes
 pub mod Refusals
 pub mod Names
 pub mod JudgingTypes

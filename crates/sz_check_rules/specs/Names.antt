@@ -1,11 +1,14 @@
 -- Names while a program is judged: blocks, the innermost first, each with what it declares.
-use Rattle.std.specs.Prelude.{ℕ, List, [], ◌∷◌, map, filter, Bool, true, false, if◌then◌else◌, Option, Some, None, Ok, codes, bytes_eq}
+use Rattle.std.specs.Prelude.{ℕ, List, [], ◌∷◌, map, filter, Bool, not, ◌&&◌, if◌then◌else◌, Option, Some, None, Ok, codes, bytes_eq}
 use Rattle.std.specs.List.{list_any}
 use Rattle.std.specs.Option.{option_or}
 use Rattle.sz_types.specs.Data.{Shape}
 use Rattle.sz_types.specs.Tables.{Declaration}
 use Rattle.sz_types.specs.declared.operator.Builtin.{Builtin}
 use Rattle.sz_types.specs.declared.operator.Builtin.TheVariants.{Len, Keys, HasKey, StrFind}
+use Rattle.sz_scope.specs.declared.meaning.Meaning as scopes
+use Rattle.sz_scope.specs.declared.meaning.Meaning.TheVariants as kinds
+use Rattle.sz_scope.specs.Sight.{is_of_record, is_table}
 use Rattle.sz_tree.specs.Names.{Ident}
 use Rattle.sz_core.specs.Programs.{Signature}
 use Rattle.sz_check_rules.specs.Refusals.{Judged, unseen, declared_twice}
@@ -51,20 +54,24 @@ declare n m [] = Ok ((record { name = n.text; meaning = m } ∷ []) ∷ [])
 declare n m (block ∷ blocks) =
     if has n.text block then declared_twice n else Ok ((record { name = n.text; meaning = m } ∷ block) ∷ blocks)
 
+-- a meaning as scopes know it, where it is ruled who sees what
+abbrev pub scoped : Meaning → scopes.Meaning
+scoped (variable n t) = kinds.Var n
+scoped (quantified n t) = kinds.Quantified n
+scoped (static n t) = kinds.Static n
+scoped (type_name t) = kinds.TypeName 0
+scoped (table n d) = kinds.Table n
+scoped (function n s) = kinds.Function n
+scoped (predeclared b) = kinds.Builtin 0
+scoped input = kinds.Input
+
 -- whether a function sees what this name stands for outside it: not the record, and not its variables
 abbrev pub is_seen_by_functions : Meaning → Bool
-is_seen_by_functions (variable n t) = false
-is_seen_by_functions (quantified n t) = false
-is_seen_by_functions input = false
-is_seen_by_functions _ = true
+is_seen_by_functions m = not (is_of_record (scoped m))
 
 -- whether a static's value sees it: statics, functions and types alone
 abbrev pub is_seen_by_statics : Meaning → Bool
-is_seen_by_statics (variable n t) = false
-is_seen_by_statics (quantified n t) = false
-is_seen_by_statics input = false
-is_seen_by_statics (table n d) = false
-is_seen_by_statics _ = true
+is_seen_by_statics m = not (is_table (scoped m)) && not (is_of_record (scoped m))
 
 -- the blocks with what is seen of them: any other name counts as absent from its block
 abbrev pub only : (Meaning → Bool) → List Block → List Block

@@ -2,7 +2,6 @@
 use Rattle.std.specs.Prelude.{ℕ, List, [], ◌∷◌, ◌++◌, length, map, Bool, true, false, if◌then◌else◌, Option, Some, None, Ok}
 use Rattle.sz_types.specs.Data.{Shape}
 use Rattle.sz_types.specs.Same.{alike}
-use Rattle.sz_types.specs.declared.place.Place.{Place}
 use Rattle.sz_tree.specs.declared.stmt.Quantity.{Quantity}
 use Rattle.sz_tree.specs.declared.stmt.Quantity.TheVariants as quantities
 use Rattle.sz_tree.specs.Names.{Ident}
@@ -12,7 +11,7 @@ use Rattle.sz_quant.specs.Fitting.{BoundForm, bounds_of}
 use Rattle.sz_core.specs.Nodes.{Node, type_of}
 use Rattle.sz_core.specs.Statements as core
 use Rattle.sz_core.specs.Sound.{candidate_type}
-use Rattle.sz_check_rules.specs.Refusals.{Judged, ◌>>=◌, unless, refused_at, refused_for, wrong_type}
+use Rattle.sz_check_rules.specs.Refusals.{Judged, ◌>>=◌, unless, unbounded, all_must_be_last, wrong_type}
 use Rattle.sz_check_rules.specs.Names.{Block}
 use Rattle.sz_check_rules.specs.Names as names
 use Rattle.sz_check_rules.specs.JudgingTypes.{judge_type}
@@ -20,14 +19,6 @@ use Rattle.sz_check_rules.specs.Scene.{Scene, opened, with_quantified}
 use Rattle.sz_check_rules.specs.JudgingExpressions.{judge_exp}
 use Rattle.sz_check_rules.specs.EmittingTrees.{is_seen_inside}
 use Rattle.sz_check_rules.specs.Scenes.{Later, closed}
-
--- no part of the condition fits the variable
-abbrev pub unbounded : {A : Type 0} → Ident → Judged A
-unbounded n = refused_for 19 n
-
--- a variable of another kind stands after one that speaks of all candidates
-abbrev pub all_must_be_last : {A : Type 0} → Place → Judged A
-all_must_be_last p = refused_at 20 p
 
 -- a variable of a `when`: its name, how it is quantified, its number and its type
 pub record Variable : Type 0 where

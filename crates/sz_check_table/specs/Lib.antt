@@ -1,4 +1,2 @@
--- what the public contracts rest on
-pub mod Tables
 -- what the functions inside the crate promise each other
 pub mod Tabling

@@ -6,14 +6,10 @@ use Rattle.sz_types.specs.Seen.{seen}
 use Rattle.sz_types.specs.Tables.{Declaration}
 use Rattle.sz_types.specs.declared.table.TableKind.{TableKind}
 use Rattle.sz_tree.specs.Names.{Ident}
-use Rattle.sz_tree.specs.Statements.{TableForm}
-use Rattle.sz_check_rules.specs.Refusals.{Judged, ◌>>=◌}
-use Rattle.sz_check_rules.specs.Names.{Block}
-use Rattle.sz_check_rules.specs.JudgingTypes.{judge_type}
-use Rattle.sz_check_rules.specs.JudgingPrograms.{judge_elems, judge_weight, declaration_of}
+use Rattle.sz_check_rules.specs.JudgingPrograms.{TableTypes, declaration_of}
 use Rattle.sz_check_names.specs.Outcome.{Stops}
-use Rattle.sz_check_names.specs.declared.error.CheckError.{CheckError}
-use Rattle.sz_check_table.specs.declared.table.Types.{Types as Held}
+use Rattle.sz_check_names.specs.declared.error.JudgeError.{JudgeError}
+use Rattle.sz_check_table.specs.declared.table.Types.{Types as KeptTypes}
 
 -- a type in front of others
 abbrev pub with_type : Shape → List Shape → List Shape
@@ -25,23 +21,11 @@ is_int Shape.int = true
 is_int _ = false
 
 -- the types of the indexes, of the element and of the weights
-pub record Types : Type 0 where
-  pub indexes : List Shape
-  pub element : Shape
-  pub weight : Option Shape
-
-abbrev pub types_of : Held → Types
+abbrev pub types_of : KeptTypes → TableTypes
 types_of types = record { indexes = types.indexes; element = seen types.element; weight = option_map seen types.weight }
 
-abbrev pub judge_types : List Block → TableForm → Judged Types
-judge_types blocks f = do
-  indexes ← judge_elems blocks f.indexes
-  element ← judge_type blocks f.of.of
-  weight ← judge_weight blocks f.weight
-  Ok (record { indexes = indexes; element = element; weight = weight })
-
 -- a table by its parts
-abbrev pub made_of : Ident → TableKind → ℕ → Types → Declaration
+abbrev pub made_of : Ident → TableKind → ℕ → TableTypes → Declaration
 made_of n kind limit types = record {
   name = n.text;
   kind = kind;
@@ -52,7 +36,7 @@ made_of n kind limit types = record {
 }
 
 -- a limit as it is kept, or the refusal of each declaration that would have it
-abbrev pub IsLimit : Ident → Option ℕ → Result ℕ CheckError → Type 0
+abbrev pub IsLimit : Ident → Option ℕ → Result ℕ JudgeError → Type 0
 IsLimit word limit (Ok kept) = limit ≡ Some kept
 IsLimit word limit (Err e) =
-    (n : Ident) (kind : TableKind) (types : Types) → Stops e (declaration_of n word kind limit types.indexes types.element types.weight)
+    (n : Ident) (kind : TableKind) (types : TableTypes) → Stops e (declaration_of n word kind limit types.indexes types.element types.weight)

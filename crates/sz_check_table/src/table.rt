@@ -5,21 +5,20 @@ ghost use Rattle.sz_types.specs.Data.{fields_of};
 ghost use Rattle.sz_types.specs.Seen.{seen, seen_field};
 ghost use Rattle.sz_types.specs.SeenTables.{seen_table};
 ghost use Rattle.sz_tree.specs.View.{elem_of, table_of};
-ghost use Rattle.sz_core.specs.WellFormed.{are_whole_numbers, has_sum, is_weight, has_no_weight, is_between, is_allowed};
-ghost use Rattle.sz_check_rules.specs.JudgingPrograms.{kind_of, has_limit, limit_of, judge_elems, judge_weight, allowed};
+ghost use Rattle.sz_core.specs.WellFormed.{are_whole_numbers, has_sum, is_weight, is_between, is_allowed};
+ghost use Rattle.sz_check_rules.specs.JudgingPrograms.{kind_of, has_limit, limit_of, judge_elems, judge_weight, judge_types, allowed, judge_table_declaration};
 ghost use Rattle.sz_check_rules.specs.Refusals.{no_kind};
-ghost use Rattle.sz_check_table.specs.Tables.{judge_table_declaration};
-ghost use Rattle.sz_check_table.specs.Tabling.{is_int, judge_types, types_of, made_of, IsLimit};
-ghost use Rattle.sz_check_names.specs.Holding.{blocks_of};
+ghost use Rattle.sz_check_table.specs.Tabling.{is_int, types_of, made_of, IsLimit};
+ghost use Rattle.sz_check_names.specs.Knowledge.{blocks_of};
 ghost use Rattle.sz_check_names.specs.Outcome.{Judges, Stops};
 
 use std::alloc::{AllocError, Global};
-use sz_check_names::{CheckError, Kind, Known, beside, judge_type, type_kind};
+use sz_check_names::{Cause, JudgeError, Kind, Known, beside, judge_type, type_kind};
 use sz_tree::{Elem, Name, Table};
 use sz_types::{Field, TableDecl, TableKind, Text, Ty, Tys};
 
 // No table is of this kind: it is unknown, or left out.
-fn no_kind(alloc: Global, name: &Name) -> CheckError
+fn no_kind(alloc: Global, name: &Name) -> JudgeError
     ensures value { Stops {Y = Unit} result (no_kind name.now) }
 {
     let word = name.text().as_bytes();
@@ -33,11 +32,16 @@ fn no_kind(alloc: Global, name: &Name) -> CheckError
         || word == b"text".as_slice()
         || word == b"recordio".as_slice()
         || word == b"mrcounter".as_slice();
-    CheckError::of(alloc, if is_left_out { 16 } else { 6 }, name)
+    let cause = if is_left_out {
+        Cause::LeftOut
+    } else {
+        Cause::UnknownName
+    };
+    JudgeError::of(alloc, cause, name)
 }
 
 // The kind of table that a word is.
-fn kind_of(alloc: Global, name: &Name) -> Result<TableKind, CheckError>
+fn kind_of(alloc: Global, name: &Name) -> Result<TableKind, JudgeError>
     ensures value { Judges (λ x. x) result (kind_of name.now) }
 {
     let word = name.text().as_bytes();
@@ -83,7 +87,7 @@ fn limit_of(kind: TableKind, argument: Option<i64>) -> Option<u64>
 }
 
 // The types of a table's indexes, in order.
-fn judge_elems(alloc: Global, known: &Known, trees: &[Elem]) -> Result<Vec<Ty>, CheckError>
+fn judge_elems(alloc: Global, known: &Known, trees: &[Elem]) -> Result<Vec<Ty>, JudgeError>
     ensures value { Judges (λ made. each seen made.items) result (judge_elems (blocks_of known.now) (each elem_of trees.now)) }
 {
     let mut types = Vec::new(alloc);
@@ -95,7 +99,7 @@ fn judge_elems(alloc: Global, known: &Known, trees: &[Elem]) -> Result<Vec<Ty>, 
 }
 
 // The type of a table's weights, where it has them.
-fn judge_weight(alloc: Global, known: &Known, tree: &Option<Elem>) -> Result<Option<Ty>, CheckError>
+fn judge_weight(alloc: Global, known: &Known, tree: &Option<Elem>) -> Result<Option<Ty>, JudgeError>
     ensures value { Judges (option_map seen) result (judge_weight (blocks_of known.now) (option_map elem_of tree.now)) }
 {
     match tree {
@@ -174,7 +178,7 @@ struct Types {
 }
 
 // The types of the indexes, of the element and of the weights, in this order.
-fn judge_types(alloc: Global, known: &Known, tree: &Table) -> Result<Types, CheckError>
+fn judge_types(alloc: Global, known: &Known, tree: &Table) -> Result<Types, JudgeError>
     ensures value { Judges types_of result (judge_types (blocks_of known.now) (table_of tree.now)) }
 {
     let indexes = judge_elems(alloc, known, tree.indexes.as_slice())?;
@@ -189,15 +193,15 @@ fn judge_types(alloc: Global, known: &Known, tree: &Table) -> Result<Types, Chec
 }
 
 // The limit as a declaration keeps it, or the refusal where it is wrong, or too large for each kind.
-fn kept_limit(word: &Name, limit: Option<u64>) -> Result<u32, CheckError>
+fn kept_limit(word: &Name, limit: Option<u64>) -> Result<u32, JudgeError>
     ensures value { IsLimit word.now limit result }
 {
     match limit {
         Some(limit) => match u32::try_from(limit) {
             Ok(limit) => Ok(limit),
-            Err(_) => Err(CheckError::at(17, word.place())),
+            Err(_) => Err(JudgeError::at(Cause::BadTable, word.place())),
         },
-        None => Err(CheckError::at(17, word.place())),
+        None => Err(JudgeError::at(Cause::BadTable, word.place())),
     }
 }
 
@@ -224,23 +228,23 @@ fn made_table(
 }
 
 // The table, if its kind allows it.
-fn allowed(word: &Name, table: TableDecl) -> Result<TableDecl, CheckError>
+fn allowed(word: &Name, table: TableDecl) -> Result<TableDecl, JudgeError>
     ensures value { Judges seen_table result (allowed word.now (seen_table table)) }
 {
     if is_allowed(&table) {
         Ok(table)
     } else {
-        Err(CheckError::at(17, word.place()))
+        Err(JudgeError::at(Cause::BadTable, word.place()))
     }
 }
 
-/// The declaration of a table, or its first refusal: that of its kind, of its types, or 17 where these don't go together.
+/// The declaration of a table, or its first refusal: that of its kind, of its types, or that of a bad table where these don't go together.
 pub fn judge_table_declaration(
     alloc: Global,
     known: &Known,
     name: &Name,
     tree: &Table,
-) -> Result<TableDecl, CheckError>
+) -> Result<TableDecl, JudgeError>
     ensures value { Judges seen_table result (judge_table_declaration (blocks_of known.now) name.now (table_of tree.now)) }
 {
     let kind = kind_of(alloc, &tree.kind)?;

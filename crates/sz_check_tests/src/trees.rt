@@ -60,7 +60,7 @@ fn parts_of_expression(form: &Form) -> usize {
 
 fn statements_in(statement: &CoreStmt) -> usize {
     match statement {
-        CoreStmt::Block(held) => held.len(),
+        CoreStmt::Block(statements) => statements.len(),
         _ => 0,
     }
 }

@@ -66,7 +66,8 @@ module _ (code : Code) (counting : Option ℕ) (counts : Counts code counting) (
   pub store_runs : (p : Place) (n : ℕ) (steps : List Step) (t u : Shape) (indexes : List Slot) (v : Slot) (w : World) → w.left ≤ s.world.left
       → slice_get types n ≡ Some t → LeadsTo t (map step_of (map bare_step steps)) (index_types steps) u → AllFit indexes (index_types steps) → Fits v u
       → slice_get code.lines at ≡ Some (line (Store n (map bare_step steps)) 1 p)
-      → AfterExec code a types out s end x (and_then (paid p (spend 1 w)) (λ _. assigned counting (stored (slot_at s.locals n) (map bare steps) indexes v) p n s.locals))
+      → AfterExec code a types out s end x (and_then (paid p (spend 1 w))
+      (λ _. assigned counting (stored (slot_at s.locals n) (map bare steps) indexes v) p n s.locals))
       → ComesTo code (record s { at = at; stack = v ∷ with_all indexes s.stack; world = w }) x
   store_runs p n steps t u indexes v w le is leads fits fitv found h =
       let path = map bare_step steps in

@@ -31,7 +31,8 @@ use Rattle.sz_gen_laws.proofs.Outcomes.{Counts, passes_over, after_value, pays_f
 
 -- from a test, the run comes to x from what is done where it is true and where it is false, for which there are fewer ticks; where it is
 -- undefined the code goes to where the end of the statement is reached
-abbrev pub Asks : Code → Option ℕ → Around → List Shape → Exits → State → After → (end start at1 away past : ℕ) → Place → (List Slot → Doing Slot) → Type 0
+abbrev pub Asks : Code → Option ℕ → Around → List Shape → Exits → State → After → (end start at1 away past : ℕ) → Place → (List Slot → Doing Slot)
+    → Type 0
 Asks code counting a types out s x end start at1 away past p test =
     (l : List Slot) (w : World) (first second : Doing Ending) → AllFit l types
     → ((w2 : World) → w2.left + 1 ≤ w.left → AfterExec code a types out s end x (first w2) → ComesTo code (record s { at = at1; locals = l; world = w2 }) x)
@@ -105,7 +106,8 @@ module _ (code : Code) (counting : Option ℕ) (types : List Shape) (x : After) 
       (λ w2 le2 h2. breaks l w2 (h2 (record { left = omega arith; typed = fit }))) (breaks l) le h
     where
       -- what is done between turns, and the loop return
-      step : ((l5 : List Slot) (w5 : World) → w5.left + 1 ≤ w.left → AllFit l5 types → AfterExec code a types out s end x (turns counting p test between body n l5 w5)
+      step : ((l5 : List Slot) (w5 : World) → w5.left + 1 ≤ w.left → AllFit l5 types → AfterExec code a types out s end x
+          (turns counting p test between body n l5 w5)
           → ComesTo code (record s { at = suc b1; locals = l5; world = w5 }) x)
           → (w2 : World) → w2.left + 1 ≤ w.left → (l3 : List Slot) (w3 : World) → AllKept w2 types l3 w3
           → AfterExec code a types out s end x (and_then (between l3 w3) (λ e. then_run e (λ l4. pay 1 p >> turns counting p test between body n l4)))
@@ -139,7 +141,8 @@ module _ (code : Code) (counting : Option ℕ) (types : List Shape) (x : After) 
       (body l w) h)
     where
       -- the test and the loop return
-      tested : ((l5 : List Slot) (w5 : World) → w5.left + 1 ≤ w.left → AllFit l5 types → AfterExec code a types out s end x (turns_after counting p body test n l5 w5)
+      tested : ((l5 : List Slot) (w5 : World) → w5.left + 1 ≤ w.left → AllFit l5 types → AfterExec code a types out s end x
+          (turns_after counting p body test n l5 w5)
           → ComesTo code (record s { at = at0 + 3; locals = l5; world = w5 }) x)
           → (l3 : List Slot) (w3 : World) → AllKept w types l3 w3
           → AfterExec code a types out s end x (and_then (test l3 w3) (λ v. pay 1 p >> chosen v (pay 1 p >> turns_after counting p body test n l3)

@@ -106,7 +106,8 @@ module _ (code : Code) (types : List Shape) (x : After) where
         → AfterExec code a types out s end x (passed_over counting p l w)
         → NextComes code (pass_over code.ignore p (record s { at = at; stack = stack; locals = l; world = w }) past s.stack) x
     passes_over counting counts s end past at p stack l w le fit reaches h =
-        subst (λ c. NextComes code (pass_over c p (record s { at = at; stack = stack; locals = l; world = w }) past s.stack) x) (sym counts.same) (by counting h)
+        subst (λ c. NextComes code (pass_over c p (record s { at = at; stack = stack; locals = l; world = w }) past s.stack) x) (sym counts.same)
+        (by counting h)
       where
         by : (c : Option ℕ) → AfterExec code a types out s end x (passed_over c p l w)
             → NextComes code (pass_over c p (record s { at = at; stack = stack; locals = l; world = w }) past s.stack) x

@@ -57,7 +57,8 @@ record_ends code types s end last (Stops fault) = refl
 module _ (code : Code) (functions : List Function) (counting : Option ℕ) (counts : Counts code counting) (whole : Declared)
     (calls_run : (slots : List Slot) → AllFit slots whole.statics → (room limit : ℕ)
     → CallsBelow code whole.functions slots room limit (calls_at functions counting slots room))
-    (tables_there : IsFrontOf whole.tables code.tables) (locals : List Shape) (slots : List Slot) (typed : AllFit slots whole.statics) (input : List ℕ) (x : After) where
+    (tables_there : IsFrontOf whole.tables code.tables)
+    (locals : List Shape) (slots : List Slot) (typed : AllFit slots whole.statics) (input : List ℕ) (x : After) where
   pub body_runs : (rest : List Item) (seen : List ℕ) (d : Declared) (s : State) (end : ℕ) → AreItems locals seen d rest → IsWhole d rest whole
       → StmsHaveNames (tables_in code) (stms_of (statements_of rest)) → AllFit s.locals locals → s.statics ≡ slots → s.input ≡ Some (bytes input)
       → length s.callers + most_open_calls ≡ most_open_calls → HasAt code.lines s.at

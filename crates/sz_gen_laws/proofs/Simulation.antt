@@ -141,7 +141,8 @@ module _ (program : Marked) (code : Code) (sound : IsSound program.core) (is : I
       (statics program budget)
       × SlotsFit (statics program budget) whole.statics
   statics_both budget =
-      statics_run code fs (counting_table program) whole all_calls core.locals core.items [] nothing_declared 0 (length function_lines) (undefined_slots (length ss)) (new_world budget)
+      statics_run code fs (counting_table program) whole all_calls core.locals core.items [] nothing_declared 0 (length function_lines)
+      (undefined_slots (length ss)) (new_world budget)
       sound.items all_whole refl is.names.statics undefined_fit (has_front code.lines (length function_lines) static_lines record_lines has_after)
 
   statics_end : (budget : ℕ) → StaticsRunTo code budget (statics program budget)
@@ -171,7 +172,8 @@ module _ (program : Marked) (code : Code) (sound : IsSound program.core) (is : I
       record {
         end = x;
         comes = subst (λ n. ComesTo code (start n) x) (sym (ap (λ (r : Routine). r.locals) is.main))
-            (body_runs code fs (counting_table program) counts whole all_calls tables_there core.locals slots typed input x core.items [] nothing_declared (start (length core.locals)) at1
+            (body_runs code fs (counting_table program) counts whole all_calls tables_there core.locals slots typed input x core.items []
+            nothing_declared (start (length core.locals)) at1
             sound.items all_whole is.names.body (fit_undefined core.locals) refl refl refl
             (has_front code.lines code.main.entry body (free EndRecord ∷ []) has_record) refl
             (record_ends code core.locals (start (length core.locals)) at1 (has_back code.lines code.main.entry body

@@ -82,7 +82,8 @@ module _ (code : Code) (g : Sight) (set : Setting) (room : ℕ) (below : (limit 
       expression_runs code g set room below seen e s1 at1 x weight.0 of fit fixed has en
       (after_some code g.locals x a out (type_of e) s s1 end at1 _ (λ v w2 k h1.
       let le1 = k.left in
-      emit_runs code set.counting counts g.locals x a out s end at1 len fit p table n d indexes value (Some v) w2 (omega arith) there fi fv (weight.1 v k.typed) count found h1)
+      emit_runs code set.counting counts g.locals x a out s end at1 len fit p table n d indexes value (Some v) w2 (omega arith) there fi fv
+      (weight.1 v k.typed) count found h1)
       (eval set s.locals e w1) h)
 
   -- what is known of the variables of a `when`, each of which sees those before it
@@ -177,7 +178,8 @@ module _ (code : Code) (g : Sight) (set : Setting) (room : ℕ) (below : (limit 
         let has2 : HasAt lines start rest = subst (λ k. HasAt lines k rest) tested (has_back lines s.at asked rest has1) in
         let has3 = has_back lines start one (skip ∷ other) has2 in
         let next : suc at2 ≡ away = omega arith in
-        test_runs code g set room below counts seen x a out (Some e) p s end s.at start away past sound.0 of.0 fixed (has_front lines s.at asked rest has1) tested
+        test_runs code g set room below counts seen x a out (Some e) p s end s.at start away past sound.0 of.0 fixed
+        (has_front lines s.at asked rest has1) tested
         s.locals s.world _ _ fit
         (λ w2 le2 h2. exec_runs c seen a out (record s { at = start; world = w2 }) at2 sound.1 of.1 fit fixed may flags
         (has_front lines start one (skip ∷ other) has2) refl

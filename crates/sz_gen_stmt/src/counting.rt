@@ -3,10 +3,10 @@ ghost use Rattle.std.specs.Prelude.{◌≡◌, length, OnOk, IfOk};
 ghost use Rattle.sz_types.specs.SeenTables.{seen_table};
 ghost use Rattle.sz_mean.specs.Marked.{table_of_lines, with_lines, counting_behind};
 
+use std::alloc::Global;
 use sz_gen_expr::small;
 use sz_types::{TableDecl, TableDecls, TableKind, Text, Ty, Tys};
 use sz_value::NoMemory;
-use std::alloc::Global;
 
 /// Adds the table of lines, where the program is ignoring, and gives its number.
 pub fn count_lines(

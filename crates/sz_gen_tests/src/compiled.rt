@@ -86,6 +86,10 @@ fn an_ignoring_program_has_the_same_lines(rt: HostRuntime) {
 fn lines_are_counted_in_a_table_behind_all_others(rt: HostRuntime) {
     let none = outcome(rt.alloc(), b"", true);
     assert!(rt; none.as_str() == "record 0 of 0 | 0 EndRecord +0 1:1 | ignore 0 | ");
-    let two = outcome(rt.alloc(), b"a: table sum of int; b: table sum of int;", true);
+    let two = outcome(
+        rt.alloc(),
+        b"a: table sum of int; b: table sum of int;",
+        true,
+    );
     assert!(rt; two.as_str() == "record 0 of 0 | 0 EndRecord +0 1:1 | ignore 2 | ");
 }

@@ -11,8 +11,8 @@ use crate::routine::Routine;
 use sz_types::Ty;
 
 /// Whether the code is well formed: each routine begins at a line and has its parameters among its locals, the table that counts
-/// lines is one of the code, and each number of an instruction is in range. A place is in range where a line stands there, a local where some routine has as many, and a type
-/// that a message is decoded by where it is a proto type.
+/// lines is one of the code, and each number of an instruction is in range. A place is in range where a line stands there, a local
+/// where some routine has as many, and a type that a message is decoded by where it is a proto type.
 #[tactic(auto, using(crate::proofs::WellFormedLemmas::well_formed_by_list))]
 pub fn well_formed(code: &Code) -> bool
     ensures value { result ≡ is_well_formed code.now }

@@ -1,6 +1,7 @@
--- How a text is judged step by step: its tokens, and its tree.
-use Rattle.std.proofs.Common.{◌≡◌, ◌⊎◌, inl, inr, ℕ, List}
-use Rattle.std.proofs.Common.{refl, sym, subst}
+-- How a text is judged step by step: its tokens, its tree, and what the tree stands for.
+use Rattle.std.proofs.Common.{◌≡◌, ◌⊎◌, inl, inr, ℕ, List, Option, refl, sym, ap, ◌∙◌, subst}
+use Rattle.std.specs.Prelude.{Err}
+use Rattle.sz_types.specs.declared.place.Place.{Place}
 use Rattle.sz_lex.specs.declared.error.LexError.{LexError}
 use Rattle.sz_lex.specs.declared.error.LexError.TheVariants as lexing
 use Rattle.sz_lex.specs.Tokens.{HasTokens, IsRefused}
@@ -10,7 +11,14 @@ use Rattle.sz_parse.specs.declared.error.ParseError.{ParseError}
 use Rattle.sz_parse.specs.declared.error.ParseError.TheVariants as parsing
 use Rattle.sz_parse.specs.Program.{Spells, IsStuck}
 use Rattle.sz_parse.specs.Parsed.{OrNoMemory}
+use Rattle.sz_core.specs.Programs.{Core}
+use Rattle.sz_check_rules.specs.declared.cause.Cause.{Cause}
+use Rattle.sz_check_rules.specs.Causes.{number_of, IsNumber}
+use Rattle.sz_check_rules.specs.Refusals.{Judged}
+use Rattle.sz_check.specs.declared.error.CheckError.TheVariants as checking
+use Rattle.sz_check.specs.Answering.{Answers}
 use Rattle.szl.specs.Judgement.{IsShort, HasStatements}
+use Rattle.szl.specs.Checking.{judged_so}
 use Rattle.szl.specs.Judging.{failure_of_lexing, failure_of_parsing, IsFailureOf}
 
 -- a text without tokens is refused
@@ -41,3 +49,14 @@ has_statements text tokens ss has is h = record {
   has = has;
   spells = subst (λ t. Spells (record { text = t; tokens = tokens.tokens }) ss) is h;
 }
+
+-- a tree that is refused has the number of a cause, and is refused for it
+pub is_number : (number : ℕ) (p : Place) (name : Option (List ℕ)) (judged : Judged Core) → Answers (Err (checking.Refused number p name)) judged
+    → IsNumber number
+is_number number p name judged h = (h.0, h.1)
+
+pub refused_tree : (number : ℕ) (p : Place) (name : Option (List ℕ)) (judged : Judged Core) (cause : Cause)
+    → Answers (Err (checking.Refused number p name)) judged → ((c : Cause) → number ≡ number_of c → cause ≡ c)
+    → judged_so judged ≡ Err (record { cause = cause; place = p; name = name })
+refused_tree number p name judged cause h only =
+    ap judged_so h.2 ∙ ap (λ (c : Cause). Err (record { cause = c; place = p; name = name })) (sym (only h.0 h.1))

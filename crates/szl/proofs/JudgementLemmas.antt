@@ -13,8 +13,8 @@ use Rattle.sz_lex.proofs.LawLemmas.{one_list, no_refusal, one_refusal}
 use Rattle.sz_tree.specs.Statements.{Stms}
 use Rattle.sz_parse.specs.Program.{Spells, IsStuck}
 use Rattle.sz_parse.proofs.ForCallers.{one_tree, one_place, not_both, every_list_is_read}
-use Rattle.szl.specs.declared.refusal.Cause.{Cause}
-use Rattle.szl.specs.declared.refusal.Cause.TheVariants.{TooLong, NotUtf8, BadChar, BadLiteral, Syntax}
+use Rattle.sz_check_rules.specs.declared.cause.Cause.{Cause}
+use Rattle.sz_check_rules.specs.declared.cause.Cause.TheVariants.{TooLong, NotUtf8, BadChar, BadLiteral, Syntax}
 use Rattle.szl.specs.Judgement.{Reading, refused, spells, refusal_at, IsUnreadable, IsRead, IsShort, HasStuckTokens, HasStatements, HasReading, most_program_bytes}
 
 -- how a text is read: it is too long, it has no tokens, its tokens are stuck, or they spell statements

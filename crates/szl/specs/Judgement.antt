@@ -5,8 +5,8 @@ use Rattle.sz_lex.specs.declared.token.Token.{Token}
 use Rattle.sz_lex.specs.Tokens.{HasTokens, HasBadChar, HasBadLiteral, HasNotUtf8, first_place}
 use Rattle.sz_tree.specs.Statements.{Stms}
 use Rattle.sz_parse.specs.Program.{Spells, IsStuck}
-use Rattle.szl.specs.declared.refusal.Cause.{Cause}
-use Rattle.szl.specs.declared.refusal.Cause.TheVariants.{BadChar, BadLiteral, NotUtf8, TooLong, Syntax}
+use Rattle.sz_check_rules.specs.declared.cause.Cause.{Cause}
+use Rattle.sz_check_rules.specs.declared.cause.Cause.TheVariants.{BadChar, BadLiteral, NotUtf8, TooLong, Syntax}
 use Rattle.szl.specs.declared.refusal.Refusal.{Refusal}
 
 -- what reading a text gives: a refusal, or the statements that it spells

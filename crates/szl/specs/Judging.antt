@@ -6,14 +6,11 @@ use Rattle.sz_lex.specs.declared.error.LexError.{LexError}
 use Rattle.sz_lex.specs.declared.error.LexError.TheVariants as lexing
 use Rattle.sz_parse.specs.declared.error.ParseError.{ParseError}
 use Rattle.sz_parse.specs.declared.error.ParseError.TheVariants as parsing
-use Rattle.sz_check_names.specs.declared.error.CheckError.{CheckError}
-use Rattle.sz_check_names.specs.declared.error.CheckError.TheVariants as checking
-use Rattle.szl.specs.declared.refusal.Cause.TheVariants as causes
+use Rattle.sz_check_rules.specs.declared.cause.Cause.TheVariants as causes
 use Rattle.szl.specs.declared.failure.Failure.{Failure}
 use Rattle.szl.specs.declared.failure.Failure.TheVariants.{Usage, Refused, NoMemory}
 use Rattle.szl.specs.declared.refusal.Refusal.{Refusal}
 use Rattle.szl.specs.Judgement.{IsRead, refused, refusal_at}
-use Rattle.szl.specs.Checking.{cause_of}
 
 -- the failure for words without settings
 abbrev pub failure_of_words : WordsError → Failure
@@ -37,11 +34,6 @@ abbrev pub IsFailureOf : List ℕ → Failure → Type 0
 IsFailureOf text NoMemory = ⊤
 IsFailureOf text (Refused r) = IsRead text (refused r)
 IsFailureOf text failure = ⊥
-
--- the failure for a tree that the checker refuses
-abbrev pub failure_of_checking : CheckError → Failure
-failure_of_checking (checking.Refused number place name) = Refused (record { cause = cause_of number; place = place; name = name })
-failure_of_checking checking.NoMemory = NoMemory
 
 -- the failure is the refusal of what statements are, or want of memory
 abbrev pub IsFailureOn : {A : Type 0} → Result A Refusal → Failure → Type 0

@@ -6,7 +6,7 @@ use Rattle.szl.specs.declared.status.Status.{Status}
 use Rattle.szl.specs.declared.status.Status.TheVariants as status
 use Rattle.szl.specs.declared.failure.Failure.{Failure}
 use Rattle.szl.specs.declared.failure.Failure.TheVariants.{Usage, Refused, Faulted, Lost, Damaged, Limit, ReadFailed, WriteFailed, NoMemory}
-use Rattle.szl.specs.declared.refusal.Cause.TheVariants.{TooLong}
+use Rattle.sz_check_rules.specs.declared.cause.Cause.TheVariants.{TooLong}
 use Rattle.sz_lex.specs.Tokens.{first_place}
 use Rattle.sz_types.specs.declared.frame.Frame.{Frame}
 use Rattle.sz_mean.specs.Marked.{Marked}

@@ -18,10 +18,7 @@ use Rattle.sz_words.specs.Settings.{settings_in}
 use Rattle.sz_rounds.specs.Outcomes.{ShardsEnd, emitted, faulted, lost, outcome_of}
 use Rattle.szl.specs.declared.status.Status.{Status}
 use Rattle.szl.specs.declared.status.Status.TheVariants as status
-use Rattle.szl.specs.declared.refusal.Cause.{Cause}
-use Rattle.szl.specs.declared.refusal.Cause.TheVariants.{BadChar, BadLiteral, NotUtf8, TooLong, Syntax, UnknownName, Redeclared, WrongKind, WrongType, NoType, NoField}
-use Rattle.szl.specs.declared.refusal.Cause.TheVariants.{WrongCount, WrongWeight, NotAssignable, Misplaced, LeftOut, BadTable, BadProto, Unbounded, QuantOrder, TooMany}
-use Rattle.szl.specs.declared.refusal.Cause.TheVariants.{EmitHere, ReservedName}
+use Rattle.sz_check_rules.specs.Causes.{text_of}
 use Rattle.szl.specs.declared.refusal.Refusal.{Refusal}
 use Rattle.szl.specs.Judgement.{Reading, refused, spells}
 use Rattle.szl.specs.Checking.{checked}
@@ -120,32 +117,6 @@ outcome_of_statics program s cut (Done slots) =
 abbrev pub outcome_of_program : Marked → RunSettings → Cut → Answer
 outcome_of_program program s cut = outcome_of_statics program s cut (statics program s.budget)
 
--- the text of a cause
-abbrev pub cause_text : Cause → List ℕ
-cause_text BadChar = codes "bad character"
-cause_text BadLiteral = codes "bad literal"
-cause_text NotUtf8 = codes "not UTF-8"
-cause_text TooLong = codes "too long"
-cause_text Syntax = codes "syntax"
-cause_text UnknownName = codes "unknown name"
-cause_text Redeclared = codes "declared twice"
-cause_text WrongKind = codes "wrong kind of name"
-cause_text WrongType = codes "wrong type"
-cause_text NoType = codes "composite without a type"
-cause_text NoField = codes "no such field"
-cause_text WrongCount = codes "wrong count"
-cause_text WrongWeight = codes "wrong weight"
-cause_text NotAssignable = codes "not assignable"
-cause_text Misplaced = codes "misplaced statement"
-cause_text LeftOut = codes "not in this profile"
-cause_text BadTable = codes "bad table"
-cause_text BadProto = codes "bad proto field"
-cause_text Unbounded = codes "unbounded variable"
-cause_text QuantOrder = codes "all must come last"
-cause_text TooMany = codes "too many tables"
-cause_text EmitHere = codes "emit not allowed here"
-cause_text ReservedName = codes "reserved name: _undefs"
-
 -- the name of a refusal after the text of its cause, if it has one
 abbrev pub name_text : Option (List ℕ) → List ℕ
 name_text None = []
@@ -153,7 +124,7 @@ name_text (Some name) = codes ": " ++ name
 
 -- the line that says why a program is refused, and where
 abbrev pub refusal_line : Refusal → List ℕ
-refusal_line r = codes "program: " ++ (cause_text r.cause ++ (name_text r.name ++ (codes " at " ++ (place_text r.place ++ 10 ∷ []))))
+refusal_line r = codes "program: " ++ (text_of r.cause ++ (name_text r.name ++ (codes " at " ++ (place_text r.place ++ 10 ∷ []))))
 
 -- the outcome of a program that is refused
 abbrev pub outcome_refused : Refusal → Answer

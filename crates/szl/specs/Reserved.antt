@@ -5,7 +5,7 @@ use Rattle.sz_tree.specs.Names.{Ident}
 use Rattle.sz_tree.specs.Statements.{Stm, Stms, table, no_stms, stm}
 use Rattle.sz_core.specs.Programs.{Core}
 use Rattle.sz_mean.specs.Marked.{Marked, marked}
-use Rattle.szl.specs.declared.refusal.Cause.TheVariants.{ReservedName}
+use Rattle.sz_check_rules.specs.declared.cause.Cause.TheVariants.{ReservedName}
 use Rattle.szl.specs.declared.refusal.Refusal.{Refusal}
 use Rattle.szl.specs.Judgement.{refusal_at}
 use Rattle.szl.specs.Checking.{checked}

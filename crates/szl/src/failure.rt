@@ -4,10 +4,10 @@ ghost use Rattle.szl.specs.Failing.{status_of};
 ghost use Rattle.szl.specs.Judgement.{refusal_at};
 ghost use Rattle.szl.specs.declared.failure.Failure.TheVariants.{Refused as failed};
 
-use crate::refusal::{Cause, Refusal};
+use crate::refusal::Refusal;
 use crate::status::Status;
 use std::alloc::AllocError;
-use sz_check::CheckError;
+use sz_check_rules::Cause;
 use sz_io::OutsideError;
 use sz_lex::LexError;
 use sz_machine::Fault;
@@ -158,27 +158,6 @@ impl From<ParseError> for Failure {
         match error {
             ParseError::Syntax(place) => refused(Cause::Syntax, place),
             ParseError::NoMemory => Failure::NoMemory,
-        }
-    }
-}
-
-impl From<CheckError> for Failure {
-    ghost use Rattle.szl.specs.Judging.{failure_of_checking};
-
-    ghost from_gives = { λ error failure. failure ≡ failure_of_checking error };
-
-    fn from(error: CheckError) -> Failure {
-        match error {
-            CheckError::Refused {
-                number,
-                place,
-                name,
-            } => Failure::Refused(Refusal {
-                cause: Cause::of_number(number),
-                place,
-                name,
-            }),
-            CheckError::NoMemory => Failure::NoMemory,
         }
     }
 }

@@ -7,9 +7,11 @@ ghost use Rattle.szl.specs.Judgement.{HasStatements, most_program_bytes};
 ghost use Rattle.szl.specs.Judging.{IsFailureOf, IsFailureOn};
 
 use crate::failure::Failure;
+use crate::refusal::Refusal;
 use std::alloc::Global;
-use sz_check::check;
+use sz_check::{CheckError, check};
 use sz_check_laws::judged_programs_are_sound;
+use sz_check_rules::Cause;
 use sz_core::Program;
 use sz_lex::lex;
 use sz_parse::parse;
@@ -28,13 +30,28 @@ pub fn tree_in(alloc: Global, text: &[u8]) -> Result<Tree, Failure>
 }
 
 /// The checked program that the tree is. That it is sound is a law of the judgement.
-#[tactic(auto, unfolding(crate::specs::Checking::checked))]
+#[tactic(auto, unfolding(crate::specs::Checking::checked), using(crate::proofs::JudgeLemmas::is_number, crate::proofs::JudgeLemmas::refused_tree))]
 pub fn checked(alloc: Global, tree: &Tree) -> Result<Program, Failure>
     ensures found { IfOk result (λ program. checked (program_of tree.now) ≡ Ok program) }
     ensures sound { IfOk result (λ program. IsSound program) }
     ensures refused { IfErr result (λ failure. IsFailureOn (checked (program_of tree.now)) failure) }
 {
-    let program = check(alloc, tree)?;
-    judged_programs_are_sound();
-    Ok(program)
+    match check(alloc, tree) {
+        Ok(program) => {
+            judged_programs_are_sound();
+            Ok(program)
+        }
+        Err(
+            CheckError::Refused {
+                number,
+                place,
+                name,
+            },
+        ) => Err(Failure::Refused(Refusal {
+            cause: Cause::with_number(number),
+            place,
+            name,
+        })),
+        Err(CheckError::NoMemory) => Err(Failure::NoMemory),
+    }
 }

@@ -8,8 +8,8 @@ ghost use Rattle.szl.specs.Reserved.{if_reserved, reserved_by, reserved_in, runn
 
 use crate::failure::{Failure, refused};
 use crate::judge::checked;
-use crate::refusal::Cause;
 use std::alloc::Global;
+use sz_check_rules::Cause;
 use sz_core::Program;
 use sz_tree::{Name, Stmt, Tree};
 use sz_types::Place;

@@ -1,7 +1,7 @@
 use Rattle.std.proofs.Common.{get_or, ap, ◌∙◌, arith}
 use Rattle.std.proofs.lemmas.Result.{err_from_is_err_and}
 use Rattle.sz_types.specs.Seen.{seen}
-use Rattle.sz_check_names.specs.Holding.{scene_of}
+use Rattle.sz_check_names.specs.Knowledge.{scene_of}
 use Rattle.sz_check.proofs.FunctionLemmas.{declare_fails, declare_goes, declare_ends}
 use Rattle.sz_check.proofs.function.declare_parameters.Goals as goal
 

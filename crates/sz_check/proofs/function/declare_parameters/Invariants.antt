@@ -4,7 +4,7 @@ use Rattle.sz_types.specs.Seen.{seen}
 use Rattle.sz_tree.specs.Types.{params_of}
 use Rattle.sz_tree.specs.View.{param_of}
 use Rattle.sz_check.specs.Functions.{declare_parameters}
-use Rattle.sz_check_names.specs.Holding.{scene_of}
+use Rattle.sz_check_names.specs.Knowledge.{scene_of}
 use Rattle.sz_check.proofs.function.declare_parameters.Given as goal
 
 abbrev pub invariant-loop-i : goal.invariant-loop-i

@@ -1,7 +1,7 @@
 use Rattle.std.proofs.Common.{◌∙◌, arith}
 use Rattle.std.proofs.lemmas.Result.{err_from_is_err_and}
 use Rattle.sz_types.specs.Seen.{seen}
-use Rattle.sz_check_names.specs.Holding.{scene_of}
+use Rattle.sz_check_names.specs.Knowledge.{scene_of}
 use Rattle.sz_check.proofs.StatementLoops.{param_type_fails, param_fails, params_go, params_end}
 use Rattle.sz_check.proofs.function.judge_parameters.Goals as goal
 

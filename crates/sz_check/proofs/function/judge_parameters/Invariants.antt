@@ -3,7 +3,7 @@ use Rattle.std.proofs.Common.{◌≡◌, map, drop}
 use Rattle.sz_tree.specs.Types.{params_of}
 use Rattle.sz_tree.specs.View.{param_of}
 use Rattle.sz_check_rules.specs.JudgingPrograms.{judge_parameters}
-use Rattle.sz_check_names.specs.Holding.{scene_of}
+use Rattle.sz_check_names.specs.Knowledge.{scene_of}
 use Rattle.sz_check.proofs.function.judge_parameters.Given as goal
 
 abbrev pub invariant-loop-tree : goal.invariant-loop-tree

@@ -8,6 +8,7 @@ use Rattle.sz_quant.specs.Fitting.{bounds_of}
 use Rattle.sz_quant.specs.Seen.{bound_of}
 use Rattle.sz_check_rules.specs.Quantifying.{names_of}
 use Rattle.sz_check.specs.Quantified.{variable_of}
+use Rattle.sz_check_rules.specs.declared.cause.Cause.TheVariants.{Unbounded}
 use Rattle.sz_check.proofs.WhenLemmas.{stops_as, all_found, lacks, lack_within}
 use Rattle.sz_check.proofs.quantified.all_bounded.Goals as goal
 
@@ -39,6 +40,6 @@ returns-in-Err-Unbounded c =
     let there = slice_get-map variable_of variables number
     ∙ ap (option_map variable_of) (slice_get_read variables (length variables) number first refl within c.index-variables-number.is) in
     record {
-      value = stops_as c.of.result 19 first.name.now _ (rw (← c.index-variables-number.is) at c.of.ensures.value)
+      value = stops_as c.of.result Unbounded first.name.now _ (rw (← c.index-variables-number.is) at c.of.ensures.value)
           (lacks (map variable_of variables) _ number (variable_of first) lacking there);
     }

@@ -1,6 +1,6 @@
 -- The variables that are left, after what is known by now, are all of them; all else stays.
 use Rattle.std.proofs.Common.{◌≡◌, drop, map}
-use Rattle.sz_check_names.specs.Holding.{blocks_of}
+use Rattle.sz_check_names.specs.Knowledge.{blocks_of}
 use Rattle.sz_check_rules.specs.Quantifying.{bind_inside}
 use Rattle.sz_check.specs.Quantified.{variable_of}
 use Rattle.sz_check.proofs.quantified.bind_inside.Given as goal

@@ -3,10 +3,11 @@ use Rattle.std.proofs.lemmas.Bool.{ltb-false}
 use Rattle.std.proofs.lemmas.Result.{err_from_is_err_and}
 use Rattle.sz_quant.specs.Seen.{bound_of}
 use Rattle.sz_core.specs.View.{quantified_of}
-use Rattle.sz_check_names.specs.Holding.{blocks_of}
+use Rattle.sz_check_names.specs.Knowledge.{blocks_of}
 use Rattle.sz_check_names.proofs.TurnLemmas.{map_push}
 use Rattle.sz_types.proofs.ForCallers.{rest_more, rest_none}
 use Rattle.sz_check.specs.Quantified.{variable_of, based_of}
+use Rattle.sz_check_rules.specs.declared.cause.Cause.TheVariants.{Unbounded}
 use Rattle.sz_check.proofs.WhenLemmas.{stops_as, bases_go, bases_fail, bases_lack, bases_end}
 use Rattle.sz_check.proofs.quantified.judge_bases.Goals as goal
 
@@ -16,7 +17,7 @@ returns-in_default-clause-value c =
     let variables = c.args.variables.now in
     let first = c.index-variables-i.result in
     let over = ltb-false i (length c.args.bounds.now) (sym c.in_default.ensures.lookup.0) in
-    stops_as c.of.result 19 first.name.now _ (rw (← c.index-variables-i.is) at c.of.ensures.value)
+    stops_as c.of.result Unbounded first.name.now _ (rw (← c.index-variables-i.is) at c.of.ensures.value)
     (bases_lack (map quantified_of c.loop-i.made.items) (blocks_of c.loop-i.known) (map variable_of (drop i variables))
     (map variable_of (drop (i + 1) variables)) (map bound_of (drop i c.args.bounds.now)) (variable_of first) _
     (rest_more variable_of variables i first c.loop-i-test.true c.index-variables-i.is)

@@ -2,7 +2,7 @@
 use Rattle.std.proofs.Common.{◌≡◌, ◌∷◌, drop, map}
 use Rattle.sz_quant.specs.Seen.{bound_of}
 use Rattle.sz_core.specs.View.{quantified_of}
-use Rattle.sz_check_names.specs.Holding.{blocks_of}
+use Rattle.sz_check_names.specs.Knowledge.{blocks_of}
 use Rattle.sz_check_names.specs.Turns.{following}
 use Rattle.sz_check_rules.specs.Quantifying.{judge_bases}
 use Rattle.sz_check.specs.Quantified.{variable_of}

@@ -1,7 +1,7 @@
 use Rattle.std.proofs.Common.{map, ap, ◌∙◌}
 use Rattle.std.proofs.lemmas.Result.{err_from_is_err_and}
 use Rattle.sz_types.specs.Seen.{seen}
-use Rattle.sz_check_names.specs.Holding.{scene_of}
+use Rattle.sz_check_names.specs.Knowledge.{scene_of}
 use Rattle.sz_check_names.proofs.TurnLemmas.{map_push}
 use Rattle.sz_check_rules.specs.Quantifying.{Variable}
 use Rattle.sz_check.specs.Quantified.{variable_of, declared_of}

@@ -3,7 +3,7 @@ use Rattle.std.proofs.lemmas.Result.{err_from_is_err_and}
 use Rattle.sz_tree.specs.View.{tree_of}
 use Rattle.sz_quant.specs.Seen.{bound_of}
 use Rattle.sz_core.specs.View.{quantified_of}
-use Rattle.sz_check_names.specs.Holding.{Held}
+use Rattle.sz_check_names.specs.Knowledge.{Knowledge}
 use Rattle.sz_check.specs.Quantified.{variable_of}
 use Rattle.sz_check.proofs.WhenLemmas.{quantify_stops, quantify_made}
 use Rattle.sz_check.proofs.quantified.quantify.Goals as goal
@@ -23,5 +23,5 @@ returns-clause-value c =
 
 pub returns-clause-kept : goal.returns-clause-kept
 returns-clause-kept c =
-    c.close.ensures.value c.args.known.now (c.in_ok-made.ensures.outside ∙ ap (λ (k : Held). k.outside) c.in_ok-open.ensures.value)
-    ∙ ap (λ l. record c.args.known.now { locals = l }) (c.in_ok-made.ensures.locals ∙ ap (λ (k : Held). k.locals) c.in_ok-open.ensures.value)
+    c.close.ensures.value c.args.known.now (c.in_ok-made.ensures.outside ∙ ap (λ (k : Knowledge). k.outside) c.in_ok-open.ensures.value)
+    ∙ ap (λ l. record c.args.known.now { locals = l }) (c.in_ok-made.ensures.locals ∙ ap (λ (k : Knowledge). k.locals) c.in_ok-open.ensures.value)

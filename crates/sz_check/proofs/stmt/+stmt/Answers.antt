@@ -6,7 +6,7 @@ use Rattle.sz_tree.specs.View.{tree_of, stm_of}
 use Rattle.sz_check_names.specs.Outcome.{Stops, Judges}
 use Rattle.sz_tree.proofs.RowLemmas.{stm_of_block}
 use Rattle.sz_check_rules.specs.JudgingStatements.{judge_stm}
-use Rattle.sz_check_names.specs.Holding.{Held, scene_of}
+use Rattle.sz_check_names.specs.Knowledge.{Knowledge, scene_of}
 use Rattle.sz_check.specs.Later.{around_of, after_of, judge_else}
 use Rattle.sz_check_names.proofs.TurnLemmas.{map_push, judged_as}
 use Rattle.sz_check.specs.Quantified.{variable_of}
@@ -53,12 +53,12 @@ judge_inside-returns-clause-value t c = rw c.in_ok-boxed.ensures.value
     (inside_made (around_of c.args.around) c.args.known.now c.open.new.self c.judge_stm.new.known c.close.new.self (stm_of c.args.tree.now)
     (core_stm_of c.in_ok-statement.statement)
     c.in_ok-open.ensures.value c.in_ok-statement.ensures.value
-    (c.close.ensures.value c.args.known.now (c.in_ok-statement.ensures.outside ∙ ap (λ (k : Held). k.outside) c.in_ok-open.ensures.value)))
+    (c.close.ensures.value c.args.known.now (c.in_ok-statement.ensures.outside ∙ ap (λ (k : Knowledge). k.outside) c.in_ok-open.ensures.value)))
 
 pub judge_inside-returns-clause-outside : goal.judge_inside-returns-clause-outside
 judge_inside-returns-clause-outside t c =
-    ap (λ (k : Held). k.outside) (c.close.ensures.value c.args.known.now
-    (c.in_ok-statement.ensures.outside ∙ ap (λ (k : Held). k.outside) c.in_ok-open.ensures.value))
+    ap (λ (k : Knowledge). k.outside) (c.close.ensures.value c.args.known.now
+    (c.in_ok-statement.ensures.outside ∙ ap (λ (k : Knowledge). k.outside) c.in_ok-open.ensures.value))
 
 pub judge_block-returns-in_err-statements-clause-value : goal.judge_block-returns-in_err-statements-clause-value
 judge_block-returns-in_err-statements-clause-value t c =
@@ -72,12 +72,12 @@ judge_block-returns-clause-value t c = rw c.block.ensures.value
     (block_made (around_of c.args.around) c.args.known.now c.open.new.self c.judge_stms.new.known c.close.new.self c.args.place
     (stms_of (map stm_of c.args.trees.now)) _
     c.in_ok-open.ensures.value c.in_ok-statements.ensures.value
-    (c.close.ensures.value c.args.known.now (c.in_ok-statements.ensures.outside ∙ ap (λ (k : Held). k.outside) c.in_ok-open.ensures.value)))
+    (c.close.ensures.value c.args.known.now (c.in_ok-statements.ensures.outside ∙ ap (λ (k : Knowledge). k.outside) c.in_ok-open.ensures.value)))
 
 pub judge_block-returns-clause-outside : goal.judge_block-returns-clause-outside
 judge_block-returns-clause-outside t c =
-    ap (λ (k : Held). k.outside) (c.close.ensures.value c.args.known.now
-    (c.in_ok-statements.ensures.outside ∙ ap (λ (k : Held). k.outside) c.in_ok-open.ensures.value))
+    ap (λ (k : Knowledge). k.outside) (c.close.ensures.value c.args.known.now
+    (c.in_ok-statements.ensures.outside ∙ ap (λ (k : Knowledge). k.outside) c.in_ok-open.ensures.value))
 
 pub judge_stm-returns-in-Block-clause-value : goal.judge_stm-returns-in-Block-clause-value
 judge_stm-returns-in-Block-clause-value t c =
@@ -104,13 +104,13 @@ judge_for-returns-clause-value t c = rw (c.in_ok-joined.ensures.value, c.in_ok-f
     c.close.new.self
     (core_stm_of c.in_ok-start.start) (core_stm_of c.in_ok-turns.turns) c.in_ok-open.ensures.value c.in_ok-start.ensures.value c.in_ok-turns.ensures.value
     (c.close.ensures.value c.args.known.now (c.in_ok-turns.ensures.outside ∙ c.judge_first.ensures.outside
-    ∙ ap (λ (k : Held). k.outside) c.in_ok-open.ensures.value)))
+    ∙ ap (λ (k : Knowledge). k.outside) c.in_ok-open.ensures.value)))
 
 pub judge_for-returns-clause-outside : goal.judge_for-returns-clause-outside
 judge_for-returns-clause-outside t c =
-    ap (λ (k : Held). k.outside)
+    ap (λ (k : Knowledge). k.outside)
     (c.close.ensures.value c.args.known.now (c.in_ok-turns.ensures.outside ∙ c.judge_first.ensures.outside
-    ∙ ap (λ (k : Held). k.outside) c.in_ok-open.ensures.value))
+    ∙ ap (λ (k : Knowledge). k.outside) c.in_ok-open.ensures.value))
 
 -- ---- the statement inside a `when`
 
@@ -130,7 +130,7 @@ judge_bound_body-returns-clause-value t c =
 
 pub judge_bound_body-returns-clause-outside : goal.judge_bound_body-returns-clause-outside
 judge_bound_body-returns-clause-outside t c =
-    ap (λ (k : Held). k.outside) (c.close.ensures.value c.args.known.now (c.in_ok-statement.ensures.outside ∙ c.in_ok-judge_bound.ensures.outside))
+    ap (λ (k : Knowledge). k.outside) (c.close.ensures.value c.args.known.now (c.in_ok-statement.ensures.outside ∙ c.in_ok-judge_bound.ensures.outside))
 
 -- ---- an `if` with another part
 

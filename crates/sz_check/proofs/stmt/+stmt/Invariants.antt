@@ -4,7 +4,7 @@ use Rattle.sz_tree.specs.Statements.{stms_of}
 use Rattle.sz_tree.specs.View.{stm_of}
 use Rattle.sz_core.specs.View.{stm_of as core_stm_of}
 use Rattle.sz_check_rules.specs.JudgingStatements.{judge_stms}
-use Rattle.sz_check_names.specs.Holding.{scene_of}
+use Rattle.sz_check_names.specs.Knowledge.{scene_of}
 use Rattle.sz_check_names.specs.Turns.{following}
 use Rattle.sz_check.specs.Later.{in_front, around_of}
 use Rattle.sz_check.proofs.stmt.+stmt.Given as goal

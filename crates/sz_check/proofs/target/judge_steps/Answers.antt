@@ -1,6 +1,6 @@
 use Rattle.std.proofs.Common.{arith}
 use Rattle.std.proofs.lemmas.Result.{err_from_is_err_and}
-use Rattle.sz_check_names.specs.Holding.{scene_of}
+use Rattle.sz_check_names.specs.Knowledge.{scene_of}
 use Rattle.sz_check.specs.Targets.{target_seen}
 use Rattle.sz_check.proofs.StatementLoops.{steps_fail, steps_go, steps_end}
 use Rattle.sz_check.proofs.target.judge_steps.Goals as goal

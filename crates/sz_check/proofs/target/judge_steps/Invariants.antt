@@ -2,7 +2,7 @@
 use Rattle.std.proofs.Common.{◌≡◌, map, drop}
 use Rattle.sz_tree.specs.View.{step_of}
 use Rattle.sz_check_rules.specs.JudgingPaths.{judge_steps}
-use Rattle.sz_check_names.specs.Holding.{scene_of}
+use Rattle.sz_check_names.specs.Knowledge.{scene_of}
 use Rattle.sz_check.specs.Targets.{target_seen}
 use Rattle.sz_check.proofs.target.judge_steps.Given as goal
 

@@ -2,7 +2,7 @@
 use Rattle.std.proofs.Common.{◌≡◌, map, drop}
 use Rattle.sz_tree.specs.Expressions.{exps_of, pairs_of}
 use Rattle.sz_tree.specs.View.{tree_of, pair_of}
-use Rattle.sz_check_names.specs.Holding.{blocks_of}
+use Rattle.sz_check_names.specs.Knowledge.{blocks_of}
 use Rattle.sz_check_rules.specs.EmittingTrees.{emits_by, exps_emit, pairs_emit}
 use Rattle.sz_check_emits.specs.Hidden.{hidden_of}
 use Rattle.sz_check_emits.proofs.emitting.+emits.Given as goal

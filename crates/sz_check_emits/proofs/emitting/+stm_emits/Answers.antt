@@ -4,7 +4,7 @@ use Rattle.sz_tree.specs.Statements.{stms_of}
 use Rattle.sz_tree.specs.View.{tree_of, first_of, quantifier_of, stm_of}
 use Rattle.std.specs.Option.{option_map}
 use Rattle.sz_tree.proofs.RowLemmas.{stm_of_block}
-use Rattle.sz_check_names.specs.Holding.{blocks_of}
+use Rattle.sz_check_names.specs.Knowledge.{blocks_of}
 use Rattle.sz_check_rules.specs.EmittingTrees.{emits_by, exp_emits, stm_emits, stms_emit, quantified_names}
 use Rattle.sz_check_emits.specs.Hidden.{hidden_of}
 use Rattle.sz_check_emits.proofs.EmitLemmas.{block_emits, kept_taken, kept_later, kept_after_for, hidden_inside, kept_after_when, first_holds, second_decides}

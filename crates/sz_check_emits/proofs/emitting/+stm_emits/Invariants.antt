@@ -2,7 +2,7 @@
 use Rattle.std.proofs.Common.{◌≡◌, ◌++◌, ◌||◌, ℕ, List, map, drop}
 use Rattle.sz_tree.specs.Statements.{stms_of}
 use Rattle.sz_tree.specs.View.{stm_of}
-use Rattle.sz_check_names.specs.Holding.{blocks_of}
+use Rattle.sz_check_names.specs.Knowledge.{blocks_of}
 use Rattle.sz_check_rules.specs.EmittingTrees.{emits_by, stms_emit}
 use Rattle.sz_check_emits.specs.Hidden.{hidden_of}
 use Rattle.sz_check_emits.proofs.emitting.+stm_emits.Given as goal

@@ -1,5 +1,5 @@
 use Rattle.std.proofs.Common.{sym, ◌∙◌, arith}
-use Rattle.sz_check_names.specs.Holding.{blocks_of}
+use Rattle.sz_check_names.specs.Knowledge.{blocks_of}
 use Rattle.sz_check_rules.specs.EmittingTrees.{emits_by}
 use Rattle.sz_check_emits.specs.Hidden.{hidden_of}
 use Rattle.sz_check_emits.proofs.EmitLemmas.{steps_turn, holds_whole, rest_decides}

@@ -2,7 +2,7 @@ use Rattle.std.proofs.Common.{map, ap, sym, subst, ◌∙◌, arith}
 use Rattle.std.proofs.lemmas.Result.{err_from_is_err_and}
 use Rattle.sz_core.specs.View.{node_of, pairing_of}
 use Rattle.sz_check_expr.specs.Asking.{asks_of, asked_of}
-use Rattle.sz_check_names.specs.Holding.{blocks_for}
+use Rattle.sz_check_names.specs.Knowledge.{blocks_for}
 use Rattle.sz_check_names.specs.Sites.{may_emit}
 use Rattle.sz_check_names.specs.Outcome.{Stops}
 use Rattle.sz_tree.specs.View.{tree_of}

@@ -6,7 +6,7 @@ use Rattle.sz_core.specs.Nodes.{with_node}
 use Rattle.sz_core.specs.View.{node_of, pairing_of}
 use Rattle.sz_check_rules.specs.JudgingExpressions.{judge_exps, judge_pairs}
 use Rattle.sz_check_expr.specs.Asking.{asks_of, asked_of}
-use Rattle.sz_check_names.specs.Holding.{blocks_for}
+use Rattle.sz_check_names.specs.Knowledge.{blocks_for}
 use Rattle.sz_check_names.specs.Sites.{may_emit}
 use Rattle.sz_check_names.specs.Turns.{following}
 use Rattle.sz_check_expr.specs.Lists.{with_pair}

@@ -2,7 +2,7 @@ use Rattle.std.proofs.Common.{map, ap, ◌∙◌, arith}
 use Rattle.std.proofs.lemmas.Result.{err_from_is_err_and}
 use Rattle.sz_tree.specs.View.{type_of}
 use Rattle.sz_tree.proofs.RowLemmas.{type_of_tuple, type_of_proto}
-use Rattle.sz_check_names.specs.Holding.{blocks_of}
+use Rattle.sz_check_names.specs.Knowledge.{blocks_of}
 use Rattle.sz_check_rules.specs.JudgingTypes.{judge_type}
 use Rattle.sz_check_names.specs.Written.{shape_in, field_in}
 use Rattle.sz_check_names.proofs.TurnLemmas.{map_push, judged_as}

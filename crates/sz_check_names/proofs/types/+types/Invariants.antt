@@ -1,7 +1,7 @@
 -- What is judged, and the judgement of what is after it, are the judgement of all.
 use Rattle.std.proofs.Common.{◌≡◌, map}
 use Rattle.sz_types.specs.Data.{with_field}
-use Rattle.sz_check_names.specs.Holding.{blocks_of}
+use Rattle.sz_check_names.specs.Knowledge.{blocks_of}
 use Rattle.sz_check_names.specs.Turns.{following}
 use Rattle.sz_check_names.specs.Written.{field_in}
 use Rattle.sz_check_names.proofs.TypeLoops.{parts_from, fields_from}

@@ -1,7 +1,7 @@
 use Rattle.std.proofs.Common.{map, arith}
 use Rattle.std.proofs.lemmas.Result.{err_from_is_err_and}
 use Rattle.sz_types.specs.Seen.{seen}
-use Rattle.sz_check_names.specs.Holding.{blocks_of}
+use Rattle.sz_check_names.specs.Knowledge.{blocks_of}
 use Rattle.sz_check_names.proofs.TurnLemmas.{map_push}
 use Rattle.sz_check_table.proofs.TableLemmas.{elems_fail, elems_go, elems_end}
 use Rattle.sz_check_table.proofs.table.judge_elems.Goals as goal

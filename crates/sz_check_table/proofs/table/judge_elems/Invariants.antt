@@ -3,7 +3,7 @@ use Rattle.std.proofs.Common.{◌≡◌, map, drop}
 use Rattle.sz_types.specs.Seen.{seen}
 use Rattle.sz_tree.specs.View.{elem_of}
 use Rattle.sz_check_rules.specs.JudgingPrograms.{judge_elems}
-use Rattle.sz_check_names.specs.Holding.{blocks_of}
+use Rattle.sz_check_names.specs.Knowledge.{blocks_of}
 use Rattle.sz_check_names.specs.Turns.{following}
 use Rattle.sz_check_table.specs.Tabling.{with_type}
 use Rattle.sz_check_table.proofs.table.judge_elems.Given as goal

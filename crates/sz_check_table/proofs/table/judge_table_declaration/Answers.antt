@@ -1,7 +1,7 @@
 use Rattle.std.proofs.Common.{subst}
 use Rattle.std.proofs.lemmas.Result.{err_from_is_err_and}
 use Rattle.sz_tree.specs.View.{table_of}
-use Rattle.sz_check_names.specs.Holding.{blocks_of}
+use Rattle.sz_check_names.specs.Knowledge.{blocks_of}
 use Rattle.sz_check_table.specs.Tabling.{types_of, IsLimit}
 use Rattle.sz_check_table.proofs.TableLemmas.{wrong_limit}
 use Rattle.sz_check_table.proofs.table.judge_table_declaration.Goals as goal

@@ -3,7 +3,7 @@ use Rattle.std.proofs.lemmas.Option.{slice_get_read}
 use Rattle.sz_scope.specs.Blocks.{found}
 use Rattle.sz_scope.specs.Sight.{seen_blocks}
 use Rattle.sz_check_rules.specs.Names.{meaning_of}
-use Rattle.sz_check_names.specs.Holding.{maybe_means_of, IsOfTypes, blocks_for}
+use Rattle.sz_check_names.specs.Knowledge.{maybe_means_of, IsOfTypes, blocks_for}
 use Rattle.sz_check_names.proofs.KeepingLemmas.{find_is, found_placed, place_within, place_means, record_means, types_are}
 use Rattle.sz_check_names.proofs.known.Known.find.Goals as goal
 
@@ -16,7 +16,7 @@ returns-in_err-found c =
     record {
       value = ap maybe_means_of c.from_residual.ensures
           ∙ find_is k.types k.meanings.items c.args.name.now.text k.locals c.args.site k.scopes k.sight c.self.invariant _ asked
-          ∙ ap (λ held. meaning_of c.args.name.now.text (blocks_for held c.args.site)) c.self.view_is;
+          ∙ ap (λ stored. meaning_of c.args.name.now.text (blocks_for stored c.args.site)) c.self.view_is;
       types = subst (λ o. IfSome o (IsOfTypes c.args.self.now.outside.types)) (sym c.from_residual.ensures) tt;
     }
 
@@ -44,7 +44,7 @@ returns-in-Some c =
       value = ap (λ m. Some m) (c.means.ensures.value
           ∙ place_means k.types k.meanings.items c.in_ok-found.found.now c.in-Some.place c.index.result.now placed read)
           ∙ find_is k.types k.meanings.items c.args.name.now.text k.locals c.args.site k.scopes k.sight c.self.invariant _ asked
-          ∙ ap (λ held. meaning_of c.args.name.now.text (blocks_for held c.args.site)) c.self.view_is;
+          ∙ ap (λ stored. meaning_of c.args.name.now.text (blocks_for stored c.args.site)) c.self.view_is;
       types = subst (λ ts. IsOfTypes ts c.means.result)
           (types_are k.types k.meanings.items k.scopes k.sight k.locals c.args.self.now c.self.view_is) c.means.ensures.types;
     }
@@ -58,6 +58,6 @@ returns-in-None c =
     record {
       value = ap (λ m. Some m) (record_means k.types k.meanings.items c.in_ok-found.found.now (sym c.place_of.ensures.value ∙ c.in-None.is))
           ∙ find_is k.types k.meanings.items c.args.name.now.text k.locals c.args.site k.scopes k.sight c.self.invariant _ asked
-          ∙ ap (λ held. meaning_of c.args.name.now.text (blocks_for held c.args.site)) c.self.view_is;
+          ∙ ap (λ stored. meaning_of c.args.name.now.text (blocks_for stored c.args.site)) c.self.view_is;
       types = tt;
     }

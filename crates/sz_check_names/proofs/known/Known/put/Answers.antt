@@ -1,7 +1,7 @@
 use Rattle.std.proofs.Common.{◌≡◌, ◌++◌, ◌∷◌, [], sym, subst, IfOk, OnErr, not, length, if◌then◌else◌, rules}
 use Rattle.sz_check_rules.specs.Names.{has}
-use Rattle.sz_check_names.specs.Holding.{meaning_of}
-use Rattle.sz_check_names.specs.Keeping.{held_of, blocks_by, with_name, placed, IsTyped}
+use Rattle.sz_check_names.specs.Knowledge.{meaning_of}
+use Rattle.sz_check_names.specs.Keeping.{knowledge_of, blocks_by, with_name, placed, IsTyped}
 use Rattle.sz_check_names.proofs.KeepingLemmas.{kept_by_put, put_new, put_ok, put_err, types_are}
 use Rattle.sz_check_names.proofs.known.Known.put.Goals as goal
 
@@ -44,7 +44,7 @@ pub returns-clause-ok : goal.returns-clause-ok
 returns-clause-ok c =
     let k = c.self.inside in
     let types = types_are k.types k.meanings.items k.scopes k.sight k.locals c.args.self.now c.self.view_is in
-    let after = held_of (blocks_by k.types c.push.new.self.items c.declare.new.self) k.sight k.types k.locals in
+    let after = knowledge_of (blocks_by k.types c.push.new.self.items c.declare.new.self) k.sight k.types k.locals in
     subst (λ ts. IfOk c.is_new.result
     (λ new. after ≡ (if new then with_name c.args.name.now (meaning_of ts c.args.meaning) c.args.self.now else c.args.self.now))) types
     (subst (λ r. IfOk r (λ new. after
@@ -57,7 +57,7 @@ returns-clause-ok c =
 pub returns-clause-err : goal.returns-clause-err
 returns-clause-err c =
     let k = c.self.inside in
-    let after = held_of (blocks_by k.types c.push.new.self.items c.declare.new.self) k.sight k.types k.locals in
+    let after = knowledge_of (blocks_by k.types c.push.new.self.items c.declare.new.self) k.sight k.types k.locals in
     subst (λ r. OnErr r (after ≡ c.args.self.now)) (sym c.is_new.ensures.value)
     (put_err k.types k.meanings.items c.push.new.self.items c.args.meaning c.args.name.now k.scopes c.declare.new.self k.sight c.in_ok-place.place
     c.placed-what.result

@@ -5,6 +5,6 @@ use Rattle.sz_check_names.proofs.taken.TakenNumbers.add.Goals as goal
 
 pub returns : goal.returns
 returns c = record {
-  ok = ap reverse c.in_ok-insert.ensures.keys ∙ numbers_with c.args.number c.self.inside.held.keys
+  ok = ap reverse c.in_ok-insert.ensures.keys ∙ numbers_with c.args.number c.self.inside.stored.keys
       ∙ ap (λ l. if has_number c.args.number l then l else c.args.number ∷ l) c.self.view_is;
 }

@@ -4,5 +4,5 @@ use Rattle.sz_check_names.proofs.written.NamedTypes.len.Goals as goal
 
 pub returns : goal.returns
 returns c =
-    let count = length_shapes c.self.inside.held.items in
+    let count = length_shapes c.self.inside.stored.items in
     record { value = rw (← c.self.view_is) (search (rules, sym count)) }
