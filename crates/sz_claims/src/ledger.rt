@@ -17,6 +17,7 @@ use std::marker::Model;
 use sz_book::{Claim, Closed, Event, Lane, Load, NoMemory, Plan, Receipt, Reply, Settled, Words};
 
 /// The ledger that threads share. Each call is a few single steps on one word, and none waits.
+#[derive(Drop)]
 pub struct Ledger<T: Load> {
     table: Table<Option<Lane<T>>, View, Setup, Law<T>, Global>,
     setup: Setup,
@@ -25,19 +26,6 @@ pub struct Ledger<T: Load> {
     settled: Vec<u64>,
     deaths: Vec<u64>,
     alloc: Global,
-}
-
-impl<T: Load> Drop for Ledger<T> {
-    fn drop(self) {
-        let Ledger {
-            table: _,
-            setup: _,
-            lanes: _,
-            settled: _,
-            deaths: _,
-            alloc: _,
-        } = self;
-    }
 }
 
 impl<T: Load> Model for Ledger<T> {
@@ -71,6 +59,18 @@ impl<T: Load> Model for Pass<T> {
     ghost view = { λ p. pass_data p.seat.table_id p.limit p.seat.me.0 };
 
     ghost invariant = { λ p. IsSound p.seat.me.0 p.seat.me.1 p.no_ticket p.no_number.items p.limit (map (λ r. r.items) p.room.items) };
+}
+
+impl<T: Load> Pass<T> {
+    ghost use Rattle.sz_book.specs.History.{IsLegal, calls_by};
+
+    /// What a pass has seen is a legal history, in which its own calls are just those that it made. The call does nothing.
+    pub fn saw_a_legal_history(&self)
+        ensures legal { IsLegal self.now.ledger.plan self.now.ledger.lanes self.now.seen }
+        ensures own { calls_by self.now.number self.now.seen ≡ self.now.mine }
+    {
+        let _ = &self.seat;
+    }
 }
 
 impl<T: Load> Ledger<T> {
@@ -122,6 +122,13 @@ impl<T: Load> Ledger<T> {
             alloc,
         };
         Ok((ledger, pass))
+    }
+
+    /// The plan of the ledger.
+    pub fn plan(&self) -> &Plan
+        ensures value { result.now ≡ self.now.plan }
+    {
+        &self.setup.plan
     }
 
     /// What the ledger has at its end. Each pass was joined to the first one.

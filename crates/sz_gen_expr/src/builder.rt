@@ -1,5 +1,5 @@
 //! Code in the making.
-ghost use Rattle.std.specs.Prelude.{◌≡◌, ◌<◌, [], ◌∷◌, ◌++◌, length, IfOk, OnOk};
+ghost use Rattle.std.specs.Prelude.{◌≡◌, ◌<◌, [], ◌∷◌, ◌++◌, length, IfOk, OnOk, OnErr};
 ghost use Rattle.sz_types.specs.Same.{alike};
 ghost use Rattle.sz_types.specs.Seen.{seen as shape_of};
 ghost use Rattle.sz_value.specs.Seen.{seen};
@@ -59,6 +59,7 @@ impl Builder {
     pub fn push(&mut self, instr: Instr, charge: u32, place: Place) -> Result<usize, NoMemory>
         ensures lines { OnOk result (self.new.lines ≡ self.old.lines ++ line instr charge place ∷ []) }
         ensures at { IfOk result (λ at. at ≡ length self.old.lines) }
+        ensures err { OnErr result (self.new.lines ≡ self.old.lines) }
         ensures made { OnOk result (AppendsLine self.old self.new (λ tables. instr) charge place Nothing) }
         ensures functions { self.new.functions ≡ self.old.functions }
         ensures statics { self.new.statics ≡ self.old.statics }
@@ -173,6 +174,7 @@ impl Builder {
 
     /// The next line begins a function with so many parameters and locals.
     pub fn begin_function(&mut self, params: u32, locals: u32) -> Result<(), NoMemory>
+        ensures err { OnErr result (self.new.functions ≡ self.old.functions) }
         ensures functions { OnOk result (self.new.functions ≡ self.old.functions ++ record { entry = length self.old.lines; params = params; locals = locals } ∷ []) }
         ensures lines { self.new.lines ≡ self.old.lines }
         ensures statics { self.new.statics ≡ self.old.statics }
@@ -190,6 +192,7 @@ impl Builder {
     /// The next line begins the code of a static, whose number is given.
     pub fn begin_static(&mut self) -> Result<u32, NoMemory>
         ensures number { IfOk result (λ n. n ≡ length self.old.statics) }
+        ensures err { OnErr result (self.new.statics ≡ self.old.statics) }
         ensures statics { OnOk result (self.new.statics ≡ self.old.statics ++ record { entry = length self.old.lines; params = 0; locals = 0 } ∷ []) }
         ensures lines { self.new.lines ≡ self.old.lines }
         ensures functions { self.new.functions ≡ self.old.functions }

@@ -14,12 +14,12 @@ use sz_value::{List, Value, copy};
 ///
 /// Contracts see the list of their plain data.
 pub struct Constants {
-    held: IndexSet<Value>,
+    values: IndexSet<Value>,
 }
 
 impl Drop for Constants {
     fn drop(self) {
-        let Constants { held: _ } = self;
+        let Constants { values: _ } = self;
     }
 }
 
@@ -33,7 +33,7 @@ impl Model for Constants {
 
     ghost coded = { parts_code };
 
-    ghost view = { λ constants. map seen constants.held.keys };
+    ghost view = { λ constants. map seen constants.values.keys };
 }
 
 impl Constants {
@@ -42,20 +42,20 @@ impl Constants {
         ensures value { result ≡ [] }
     {
         Constants {
-            held: IndexSet::new(alloc),
+            values: IndexSet::new(alloc),
         }
     }
 
     // The allocator of the set.
     pub(crate) fn allocator(&self) -> Global {
-        *self.held.allocator()
+        *self.values.allocator()
     }
 
     /// The constants, each copied, in order.
     pub fn copied(&self) -> Result<List, NoMemory>
         ensures value { IfOk result (λ list. list ≡ self.now) }
     {
-        copied(self.allocator(), self.held.as_slice())
+        copied(self.allocator(), self.values.as_slice())
     }
 
     /// The number of the constant, which comes to the end where it isn't there yet.
@@ -64,8 +64,8 @@ impl Constants {
         ensures kept { OnOk result (self.new ≡ with_constant self.old (seen value.now)) }
         ensures err { OnErr result (self.new ≡ self.old) }
     {
-        let value = copy(*self.held.allocator(), value)?;
-        let (number, _) = self.held.insert_full(value)?;
+        let value = copy(*self.values.allocator(), value)?;
+        let (number, _) = self.values.insert_full(value)?;
         Ok(number)
     }
 }

@@ -12,7 +12,6 @@ ghost use Rattle.sz_stream.specs.InputRuns.{CanRead, CanRun, Fills, ReadsPiece, 
 use crate::intake::Intake;
 use crate::stop::Stop;
 use std::alloc::Global;
-use std::sync::Wait;
 use std::thread::Threads;
 use sz_attempt::Job;
 use sz_io::{Failed, Files, Gate, OutsideError};
@@ -26,18 +25,19 @@ use sz_workers::run_round;
 /// How many bytes are read at most by one call.
 const PIECE_BYTES: usize = 65_536;
 
-/// The tables of all that the records of an opened file emit, by the frame, shards and workers of these settings; or why there are none.
+/// The tables of all that the records of an opened file emit, by the frame and shards of these settings; or why there
+/// are none.
 ///
 /// The file is read in pieces. A piece is read only where the ending isn't known and the records at hand don't fill a round. A round that
 /// is full is run, and its records are dropped; the first that has a shard which faults or is lost ends the run, and no more is read.
 ///
-/// Each round is run by so many workers, of which all but the first have a thread: so the call may wait. The gate is called before each
-/// attempt; tickets are counted from 0 in each round.
-pub fn run_file<'a, R: Threads + Wait + Sync, F: Files, G: Gate + Sync>(
+/// Each round is run by so many workers. The gate is called before each attempt; tickets are counted from 0 in each round.
+pub fn run_file<'a, R: Threads + Sync, F: Files, G: Gate + Sync>(
     rt: &R,
     alloc: Global,
     job: &'a Job,
     settings: &RunSettings,
+    workers: u32,
     files: &mut F,
     file: u32,
     gate: &G,
@@ -45,7 +45,7 @@ pub fn run_file<'a, R: Threads + Wait + Sync, F: Files, G: Gate + Sync>(
     requires given { IsTrue (F.given files.old file) }
     requires job { IsJob job.now }
     requires attempts { (1 ≤ job.now.attempts) × (job.now.attempts ≤ 8) }
-    requires workers { (1 ≤ settings.now.workers) × (settings.now.workers ≤ 64) }
+    requires workers { (1 ≤ workers) × (workers ≤ 64) }
     requires shard { 1 ≤ settings.now.shard }
     ensures value { RunsFile job.now settings.now.shard settings.now.frame (F.left files.old file) (F.left files.new file) result }
     ensures end { OnOk result (IsAtEnd (F.left files.new file)) }
@@ -61,30 +61,23 @@ pub fn run_file<'a, R: Threads + Wait + Sync, F: Files, G: Gate + Sync>(
         if let Some(ending) = intake.end() {
             return ended(total, ending);
         }
-        run_next(
-            rt,
-            alloc,
-            job,
-            settings.workers,
-            &mut intake,
-            &mut total,
-            gate,
-        )?;
+        run_next(rt, alloc, job, workers, &mut intake, &mut total, gate)?;
     }
 }
 
 /// The same for an input that is in memory as a whole.
-pub fn run_bytes<'a, R: Threads + Wait + Sync, G: Gate + Sync>(
+pub fn run_bytes<'a, R: Threads + Sync, G: Gate + Sync>(
     rt: &R,
     alloc: Global,
     job: &'a Job,
     settings: &RunSettings,
+    workers: u32,
     bytes: &[u8],
     gate: &G,
 ) -> Result<Total<'a>, Stop>
     requires job { IsJob job.now }
     requires attempts { (1 ≤ job.now.attempts) × (job.now.attempts ≤ 8) }
-    requires workers { (1 ≤ settings.now.workers) × (settings.now.workers ≤ 64) }
+    requires workers { (1 ≤ workers) × (workers ≤ 64) }
     requires shard { 1 ≤ settings.now.shard }
     ensures value { RunsInput job.now settings.now.shard settings.now.frame bytes.now result }
     ensures read { IsErrOf result Stop.ReadFailed → ⊥ }
@@ -97,15 +90,7 @@ pub fn run_bytes<'a, R: Threads + Wait + Sync, G: Gate + Sync>(
         if let Some(ending) = intake.end() {
             return ended(total, ending);
         }
-        run_next(
-            rt,
-            alloc,
-            job,
-            settings.workers,
-            &mut intake,
-            &mut total,
-            gate,
-        )?;
+        run_next(rt, alloc, job, workers, &mut intake, &mut total, gate)?;
     }
 }
 
@@ -166,7 +151,7 @@ fn read_piece<F: Files>(
 }
 
 /// Runs the next round by so many workers, merges its tables into the total, and moves on after it.
-fn run_next<'a, R: Threads + Wait + Sync, G: Gate + Sync>(
+fn run_next<'a, R: Threads + Sync, G: Gate + Sync>(
     rt: &R,
     alloc: Global,
     job: &'a Job,

@@ -5,35 +5,14 @@ use Rattle.std.specs.Prelude.{IsPermutation}
 use Rattle.std.proofs.lemmas.List.Sorted.{IsPermutation-refl, IsPermutation-append_left, IsPermutation-append_right, IsPermutation-append_comm, IsPermutation-trans, length_permutation}
 use mathlib.Core.Logic.{dite}
 use native.Mathlib.Decide.{ℕ_discrete}
-use Rattle.sz_book.specs.History.{IsAmong, AreDistinct, AreApart}
+use Rattle.sz_book.specs.History.{IsAmong, AreDistinct}
+use Rattle.sz_workers_loop.proofs.WonLemmas.{among_back}
 use Rattle.sz_workers.specs.Parts.{gathered}
 
 -- what a function gives for 0 and so on, below a number
 abbrev pub in_order : {A : Type 0} → (ℕ → List A) → ℕ → List A
 in_order f zero = []
 in_order f (suc n) = in_order f n ++ f n
-
-pub among_front : (s : ℕ) (ss ts : List ℕ) → IsAmong s ss → IsAmong s (ss ++ ts)
-among_front s [] ts h = absurd h
-among_front s (t ∷ ss) ts (inl h) = inl h
-among_front s (t ∷ ss) ts (inr h) = inr (among_front s ss ts h)
-
-pub among_back : (s : ℕ) (ss ts : List ℕ) → IsAmong s ts → IsAmong s (ss ++ ts)
-among_back s [] ts h = h
-among_back s (t ∷ ss) ts h = inr (among_back s ss ts h)
-
-pub among_either : (s : ℕ) (ss ts : List ℕ) → IsAmong s (ss ++ ts) → IsAmong s ss ⊎ IsAmong s ts
-among_either s [] ts h = inr h
-among_either s (t ∷ ss) ts (inl h) = inl (inl h)
-among_either s (t ∷ ss) ts (inr h) =
-    ⊎_elim (λ (a : IsAmong s ss). inl (inr a)) (λ (b : IsAmong s ts). inr b) (among_either s ss ts h)
-
-pub distinct_joined : (ss ts : List ℕ) → AreDistinct ss → AreDistinct ts → AreApart ss ts → AreDistinct (ss ++ ts)
-distinct_joined [] ts d e apart = e
-distinct_joined (s ∷ ss) ts d e apart = (
-  (λ in'. ⊎_elim (λ (a : IsAmong s ss). d.0 a) (λ (b : IsAmong s ts). apart s (inl refl) b) (among_either s ss ts in')),
-  distinct_joined ss ts d.1 e (λ t in'. apart t (inr in')),
-)
 
 -- whether a number is in a list
 among_or_not : (m : ℕ) (ss : List ℕ) → IsAmong m ss ⊎ (¬ IsAmong m ss)

@@ -21,7 +21,8 @@ use Rattle.sz_rounds.specs.Outcomes.{all_records}
 use Rattle.sz_rounds.specs.Rounds.{shards_of, IsRound}
 use Rattle.sz_rounds.proofs.CountLemmas.{fewer_records, few_records}
 use Rattle.sz_workers.specs.Parts.{given_by, given_in, emits_at, Counts, gathered, HoldsShards, JoinsEither}
-use Rattle.sz_workers.proofs.GatherLemmas.{in_order, gathered-append, gives_fewer, among_either, distinct_joined}
+use Rattle.sz_workers.proofs.GatherLemmas.{in_order, gathered-append, gives_fewer}
+use Rattle.sz_workers_loop.proofs.WonLemmas.{among_either, distinct_joined}
 
 module _ (job : Job) where
   -- a shard gives at most as many emits as its records may take ticks

@@ -1,16 +1,19 @@
 -- What the caller finds of a round once its workers are done.
-use Rattle.std.proofs.Common.{◌≡◌, ◌⊎◌, ℕ, zero, suc, ◌+◌, ◌<◌, ◌≤◌, List, [], ◌∷◌, ◌++◌, length, take, Some, true, false, refl, ap, sym, ◌∙◌, subst, inl, inr, ⊎_elim}
-use Rattle.std.proofs.Common.{arith}
-use Rattle.std.specs.Prelude.{slice_get, Bool, nat_eq, ◌||◌, if◌then◌else◌}
-use Rattle.std.proofs.lemmas.Bool.Decides.{nat_tests}
-use Rattle.sz_words.specs.Lists.{is_among}
+use Rattle.std.proofs.Common.{◌≡◌, ◌⊎◌, ℕ, zero, suc, ◌+◌, ◌-◌, ◌^◌, ◌<◌, ◌≤◌, List, [], ◌∷◌, ◌++◌, length, take, Some, true, false, refl, ap, sym, ◌∙◌, subst, inl, ⊎_elim}
+use Rattle.std.proofs.Common.{arith, le_refl, append-nil, eqb-true}
+use Rattle.std.specs.Prelude.{slice_get, slice_index, Bool, ◌&&◌, ◌==◌}
+use Rattle.std.specs.Int.{bit_at}
+use Rattle.std.proofs.lemmas.Nat.Bits.{bit_at_ones}
 use Rattle.sz_machine.specs.declared.ends.Fault.{Fault as SeenFault}
 use Rattle.sz_machine.specs.Ends.{seen_fault}
 use Rattle.sz_tabs.specs.Data.{EmitDatum}
 use Rattle.sz_world_rules.specs.World.{Fault}
 use Rattle.sz_total.specs.States.{TotalState}
 use Rattle.sz_total.specs.Laws.{ForgetsOrder}
-use Rattle.sz_book.specs.History.{IsAmong, AreApart}
+use Rattle.sz_book.specs.Lanes.{LaneData}
+use Rattle.sz_book.specs.History.{IsAmong, AreDistinct, AreApart}
+use Rattle.sz_workers_loop.specs.Closing.{shards_in, IsLeft}
+use Rattle.sz_workers_loop.proofs.WonLemmas.{among_front, among_back, among_either, parts_distinct}
 use Rattle.sz_attempt.specs.declared.job.Job.{Job}
 use Rattle.sz_attempt.specs.Shards.{ShardData, IsJob}
 use Rattle.sz_attempt.specs.declared.ends.AttemptEnd.TheVariants as answers
@@ -23,10 +26,10 @@ use Rattle.sz_workers.specs.Ends.{IsEndOf}
 use Rattle.sz_rounds.specs.declared.round.RoundEnd.TheVariants as ends
 use Rattle.sz_rounds.proofs.OutcomeLemmas.{lost_at, faulted_at, more_at, gives_means, faults_means, not_all, one_more_died, fewer_died}
 use Rattle.sz_rounds.proofs.RoundLemmas.{length-numbered, same_there, shard_there}
-use Rattle.sz_workers.specs.Parts.{given_by, given_in, emits_at, Counts, Dies, Faults, gathered, HoldsShards, are_apart}
+use Rattle.sz_workers.specs.Parts.{plan_for, given_by, given_in, emits_at, Counts, Dies, Faults, gathered, HoldsShards}
 use Rattle.sz_book.specs.Plan.{PlanData}
-use Rattle.sz_workers.specs.RoundRuns.{HasFront, NoneInFront, IsSet}
-use Rattle.sz_workers.proofs.GatherLemmas.{in_order, gives_all, among_front, among_back}
+use Rattle.sz_workers.specs.RoundRuns.{HasFront, NoneInFront, IsSet, AreWords, IsPooled}
+use Rattle.sz_workers.proofs.GatherLemmas.{in_order, gives_all}
 use Rattle.sz_workers.proofs.PartLemmas.{counts_low, holds_one, stands_in_any_order}
 
 module _ (job : Job) (shards : List ShardData) where
@@ -93,40 +96,6 @@ all_counted job round total ss forgets holds all =
       },
     )
 
-eq_is : (a b : ℕ) → nat_eq a b ≡ true → a ≡ b
-eq_is a b e = grind (arith, nat_tests)
-
-eq_not : (a b : ℕ) → nat_eq a b ≡ false → ¬ (a ≡ b)
-eq_not a b e is = grind (arith, nat_tests)
-
-pub among_is : (s : ℕ) (ss : List ℕ) → is_among s ss ≡ true → IsAmong s ss
-among_is s [] e = absurd (cc)
-among_is s (t ∷ ss) e = by (nat_eq t s) refl (is_among s ss) refl e (among_is s ss)
-  where
-    by : (b : Bool) → nat_eq t s ≡ b → (r : Bool) → is_among s ss ≡ r → (b || r) ≡ true → (is_among s ss ≡ true → IsAmong s ss) → IsAmong s (t ∷ ss)
-    by true is r rest e below = inl (eq_is t s is)
-    by false is true rest e below = inr (below rest)
-    by false is false rest e below = absurd (cc)
-
-pub among_not : (s : ℕ) (ss : List ℕ) → is_among s ss ≡ false → ¬ IsAmong s ss
-among_not s [] e in' = in'
-among_not s (t ∷ ss) e in' = by (nat_eq t s) refl (is_among s ss) refl e (among_not s ss) in'
-  where
-    by : (b : Bool) → nat_eq t s ≡ b → (r : Bool) → is_among s ss ≡ r → (b || r) ≡ false → (is_among s ss ≡ false → ¬ IsAmong s ss) → IsAmong s (t ∷ ss) → ⊥
-    by true is r rest e below in' = absurd (cc)
-    by false is true rest e below in' = absurd (cc)
-    by false is false rest e below in' = ⊎_elim (eq_not t s is) (below rest) in'
-
-pub apart_is : (ss ts : List ℕ) → are_apart ss ts ≡ true → AreApart ss ts
-apart_is [] ts e s in' other = in'
-apart_is (t ∷ ss) ts e s in' other = by (is_among t ts) refl e (apart_is ss ts) s in' other
-  where
-    by : (b : Bool) → is_among t ts ≡ b → (if b then false else are_apart ss ts) ≡ true → (are_apart ss ts ≡ true → AreApart ss ts) → (s : ℕ)
-        → IsAmong s (t ∷ ss) → IsAmong s ts → ⊥
-    by true is e below s in' other = absurd (cc)
-    by false is e below s in' other =
-        ⊎_elim (λ (here : t ≡ s). among_not t ts is (subst (λ (k : ℕ). IsAmong k ts) (sym here) other)) (λ (rest : IsAmong s ss). below e s rest other) in'
-
 pub front_with : (ss : List ℕ) (n : ℕ) → HasFront ss n → IsAmong n ss → HasFront ss (n + 1)
 front_with ss n front here s less = ⊎_elim (λ (e : n ≡ s). subst (λ (k : ℕ). IsAmong k ss) e here) (λ (l : s < n). front s l) (last_or_less n s less)
   where
@@ -136,6 +105,35 @@ front_with ss n front here s less = ⊎_elim (λ (e : n ≡ s). subst (λ (k : �
 pub front_added : (ss : List ℕ) (n : ℕ) → HasFront ss n → HasFront (ss ++ n ∷ []) (n + 1)
 front_added ss n front =
     front_with (ss ++ n ∷ []) n (λ s l. among_front s ss (n ∷ []) (front s l)) (among_back n ss (n ∷ []) (inl refl))
+
+-- the shard at a place was settled
+pub pooled_settled : (won ss : List ℕ) (n : ℕ) → IsPooled won ss n → 0 < slice_index won n → IsPooled won ss (n + 1)
+pooled_settled won ss n h some = record {
+  front = front_with ss n h.front (h.settled n some);
+  settled = h.settled;
+  only = λ s le in'. h.only s (omega (arith, le)) in';
+}
+
+-- it was not, and is in the list now
+pub pooled_added : (won ss : List ℕ) (n : ℕ) → IsPooled won ss n → IsPooled won (ss ++ n ∷ []) (n + 1)
+pooled_added won ss n h = record {
+  front = front_added ss n h.front;
+  settled = λ s some. among_front s ss (n ∷ []) (h.settled s some);
+  only = λ s le in'. ⊎_elim (λ (a : IsAmong s ss). h.only s (omega (arith, le)) a)
+      (λ (b : IsAmong s (n ∷ [])). ⊎_elim (λ (e : n ≡ s). absurd (omega (arith, le, e))) (λ (no : ⊥). absurd no) b) (among_either s ss (n ∷ []) in');
+}
+
+pub pooled_absent : (won ss : List ℕ) (n : ℕ) → IsPooled won ss n → slice_index won n ≡ 0 → ¬ IsAmong n ss
+pooled_absent won ss n h none in' = absurd (let some = h.only n (le_refl n) in' in omega (arith, some, none))
+
+-- with what the workers left in the list
+pub pooled_open : (died : ℕ → ℕ → Type 0) (p : PlanData) (lanes pockets : List LaneData) (won deaths ss : List ℕ)
+    → IsLeft died p lanes pockets won deaths → ss ≡ shards_in lanes ++ shards_in pockets → IsPooled won ss 0
+pooled_open died p lanes pockets won deaths ss h is = subst (λ (l : List ℕ). IsPooled won l 0) (sym is) (record {
+  front = λ s low. absurd (omega (arith, low));
+  settled = h.settled;
+  only = λ s le in'. h.only s in';
+})
 
 pub none_in_front : (job : Job) (round : Round) (total : TotalState) (ss : List ℕ) (n : ℕ) → HoldsShards job round total ss → HasFront ss n
     → NoneInFront job round n
@@ -215,6 +213,44 @@ lost_ends job round place n within enough all none =
     loses_by job (shards_of round) place found.shard found.there (fewer_died job found.shard job.attempts n enough (all found.shard found.there)) none
     ∙ ap lost found.has
 
+-- what the workers left tells which shards are settled, and deaths
+pub are_words : (job : Job) (round : Round) (p : PlanData) (lanes pockets : List LaneData) (won deaths : List ℕ)
+    → IsLeft (λ s k. Dies job (shards_of round) s k) p lanes pockets won deaths → p ≡ plan_for job round → AreWords job round won deaths
+are_words job round p lanes pockets won deaths h is = record {
+  rows = (h.rows.0 ∙ ap (λ (q : PlanData). q.shards) is, h.rows.1 ∙ ap (λ (q : PlanData). q.shards) is);
+  true_deaths = h.true_deaths;
+}
+
+-- of distinct shards those in front are none of the next
+pub apart_next : (ss ts rest whole : List ℕ) → AreDistinct whole → ss ++ (ts ++ rest) ≡ whole → AreApart ss ts
+apart_next ss ts rest whole d is s in' other =
+    (parts_distinct ss (ts ++ rest) (subst AreDistinct (sym is) d)).2 s in' (among_front s ts rest other)
+
+-- no lane is left
+pub poured_all : (ss whole : List ℕ) (lanes : List LaneData) → length lanes ≡ 0 → ss ++ shards_in lanes ≡ whole → ss ≡ whole
+poured_all ss whole [] none all = sym (append-nil ss) ∙ all
+poured_all ss whole (lane ∷ lanes) none all = absurd (omega (arith, none))
+
+-- the word at a place
+pub word_at : (xs : List ℕ) (i x : ℕ) → slice_get xs i ≡ Some x → slice_index xs i ≡ x
+word_at [] i x h = absurd (cc h)
+word_at (y ∷ xs) zero x h = cc h
+word_at (y ∷ xs) (suc i) x h = word_at xs i x h
+
+-- the words tell that all attempts of a shard died
+all_die_by : (job : Job) (shard : ShardData) (n : ℕ) → ((k : ℕ) → k < n → dies_at (end_of job shard k) ≡ true) → all_die job shard n ≡ true
+all_die_by job shard zero each = refl
+all_die_by job shard (suc k) each =
+    ap (λ (b : Bool). b && all_die job shard k) (each k (omega arith)) ∙ all_die_by job shard k (λ i low. each i (omega (arith, low)))
+
+pub died_by_words : (job : Job) (round : Round) (won deaths : List ℕ) (place n : ℕ) → AreWords job round won deaths
+    → slice_index deaths place ≡ 2 ^ n - 1 → AllDied job round place n
+died_by_words job round won deaths place n words all shard there =
+    all_die_by job shard n (λ k low.
+    let d = words.true_deaths place k (ap (λ (m : ℕ). bit_at m k) all ∙ bit_at_ones n k low) in
+    let same : d.shard ≡ shard = same_there (shards_of round) place d.shard shard d.there there in
+    subst (λ (q : ShardData). dies_at (end_of job q k) ≡ true) same d.dies)
+
 -- where all shards are in the tables the round ends with the tables
 pub tables_end : (named : Job) (of : Round) (job : Job) (round : Round) (p : PlanData) (total : TotalState) (ss : List ℕ) (n : ℕ) → ForgetsOrder
     → IsSet named of job round p → HoldsShards named of total ss → HasFront ss n → p.shards ≤ n
@@ -232,3 +268,54 @@ pub none_before : (named : Job) (of : Round) (job : Job) (round : Round) (p : Pl
 none_before named of job round p total ss n set holds front =
     subst (λ (j : Job). NoneInFront j round n) (sym set.job_is)
     (subst (λ (r : Round). NoneInFront named r n) (sym set.round_is) (none_in_front named of total ss n holds front))
+
+-- a job that is set has few attempts
+pub few_attempts : (named : Job) (of : Round) (job : Job) (round : Round) (p : PlanData) → IsSet named of job round p
+    → (1 ≤ job.attempts) × (job.attempts ≤ 8)
+few_attempts named of job round p set = subst (λ (j : Job). (1 ≤ j.attempts) × (j.attempts ≤ 8)) (sym set.job_is) set.attempts
+
+-- there is a word for each shard of a round that is set
+pub words_there : (named : Job) (of : Round) (job : Job) (round : Round) (p : PlanData) (won deaths : List ℕ) (place : ℕ)
+    → IsSet named of job round p → AreWords named of won deaths → place < length round.shards → (place < length won) × (place < length deaths)
+words_there named of job round p won deaths place set words within =
+    let same = ap (λ (r : Round). length r.shards) set.round_is in
+    let rows = words.rows in (omega (arith, within, same, rows.0), omega (arith, within, same, rows.1))
+
+-- a shard is lost where the words tell that all its attempts died
+pub lost_by_words : (named : Job) (of : Round) (job : Job) (round : Round) (p : PlanData) (won deaths : List ℕ) (total : TotalState) (ss : List ℕ)
+    (place : ℕ) → IsSet named of job round p → AreWords named of won deaths → HoldsShards named of total ss → HasFront ss place
+    → place < length round.shards → slice_index deaths place ≡ 2 ^ job.attempts - 1 → outcome_of job (shards_of round) ≡ lost (round.first_shard + place)
+lost_by_words named of job round p won deaths total ss place set words holds front within all =
+    let same = ap (λ (r : Round). length r.shards) set.round_is in
+    let told : slice_index deaths place ≡ 2 ^ named.attempts - 1 =
+    subst (λ (j : Job). slice_index deaths place ≡ 2 ^ j.attempts - 1) set.job_is all in
+    let died = died_by_words named of won deaths place named.attempts words told in
+    let is = lost_ends named of place named.attempts (omega (arith, within, same)) (le_refl named.attempts) died
+    (none_in_front named of total ss place holds front) in
+    subst (λ (j : Job). outcome_of j (shards_of round) ≡ lost (round.first_shard + place)) (sym set.job_is)
+    (subst (λ (r : Round). outcome_of named (shards_of r) ≡ lost (r.first_shard + place)) (sym set.round_is) is)
+
+-- what the test of a word found
+pub word_tells : (w x y : ℕ) (b : Bool) → w ≡ x → b ≡ (x == y) → b ≡ true → w ≡ y
+word_tells w x y b is test holds = is ∙ eqb-true x y (sym test ∙ holds)
+
+pub some_word : (w x : ℕ) → w ≡ x → ¬ (x ≡ 0) → 0 < w
+some_word zero x is some = absurd (some (sym is))
+some_word (suc w) x is some = omega arith
+
+-- the lanes and then the pockets are poured into a pool without shards
+pub first_poured : (ss : List ℕ) (lanes pockets : List LaneData) → ss ≡ [] → AreDistinct (shards_in lanes ++ shards_in pockets)
+    → AreDistinct (ss ++ shards_in lanes)
+first_poured ss lanes pockets none d =
+    subst (λ (l : List ℕ). AreDistinct (l ++ shards_in lanes)) (sym none) (parts_distinct (shards_in lanes) (shards_in pockets) d).0
+
+pub then_poured : (ss ts : List ℕ) (lanes pockets : List LaneData) → ss ≡ [] → ts ≡ ss ++ shards_in lanes
+    → AreDistinct (shards_in lanes ++ shards_in pockets) → AreDistinct (ts ++ shards_in pockets)
+then_poured ss ts lanes pockets none is d =
+    subst (λ (l : List ℕ). AreDistinct (l ++ shards_in pockets)) (sym (is ∙ ap (λ (l : List ℕ). l ++ shards_in lanes) none)) d
+
+pub last_poured : (died : ℕ → ℕ → Type 0) (p : PlanData) (lanes pockets : List LaneData) (won deaths ss ts us : List ℕ)
+    → IsLeft died p lanes pockets won deaths → ss ≡ [] → ts ≡ ss ++ shards_in lanes → us ≡ ts ++ shards_in pockets → IsPooled won us 0
+last_poured died p lanes pockets won deaths ss ts us left none first last =
+    pooled_open died p lanes pockets won deaths us left
+    (last ∙ ap (λ (l : List ℕ). l ++ shards_in pockets) (first ∙ ap (λ (l : List ℕ). l ++ shards_in lanes) none))

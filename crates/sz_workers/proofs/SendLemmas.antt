@@ -92,7 +92,10 @@ code_sync =
               search parts depth 30,
               (
                 search parts depth 30,
-                (tables_sync, tt),
+                (
+                  tables_sync,
+                  (search parts depth 30, tt),
+                ),
               ),
             ),
           ),
@@ -101,7 +104,11 @@ code_sync =
     )
 
 compiled_sync : IsSync Compiled.the_row
-compiled_sync = view_sync _ _ _ _ _ (declared_sync Compiled.TheInside.the_type (code_sync, (search parts depth 30, tt)))
+compiled_sync =
+    view_sync _ _ _ _ _ (declared_sync Compiled.TheInside.the_type (
+      code_sync,
+      (search parts depth 30, (search parts depth 30, tt)),
+    ))
 
 slots_sync : IsSync Slots.the_row
 slots_sync = search parts depth 30

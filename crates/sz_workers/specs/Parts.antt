@@ -1,6 +1,5 @@
 -- What tables stand for that hold the emits of some shards of a round.
-use Rattle.std.specs.Prelude.{◌≡◌, ◌⊎◌, ℕ, false, true, List, [], ◌∷◌, ◌++◌, length, Option, Some, None, slice_get, Bool, if◌then◌else◌}
-use Rattle.sz_words.specs.Lists.{is_among}
+use Rattle.std.specs.Prelude.{◌≡◌, ◌⊎◌, ℕ, false, true, List, [], ◌∷◌, ◌++◌, length, Option, Some, None, slice_get}
 use Rattle.sz_tabs.specs.Data.{EmitDatum}
 use Rattle.sz_mean.specs.Records.{Records, Emitted, FaultedAt}
 use Rattle.sz_total.specs.States.{TotalState, declarations, emit_count, shown}
@@ -75,8 +74,3 @@ pub record HoldsShards (job : Job) (round : Round) (total : TotalState) (ss : Li
 -- the new tables stand for the emits of both, in either order
 abbrev pub JoinsEither : TotalState → TotalState → TotalState → Type 0
 JoinsEither a b new = Joins declarations emit_count shown a b new ⊎ Joins declarations emit_count shown b a new
-
--- whether no shard is in both lists
-abbrev pub are_apart : List ℕ → List ℕ → Bool
-are_apart [] ts = true
-are_apart (s ∷ ss) ts = if is_among s ts then false else are_apart ss ts

@@ -11,3 +11,4 @@ mod worker;
 
 pub use part::{RoundName, RoundPart};
 pub use round_run::run_round;
+pub use worker::work;

@@ -1,5 +1,7 @@
 //! Parts of a round, which stand for shards.
-ghost use Rattle.std.specs.Prelude.{◌≡◌, ◌+◌, ◌^◌, ◌≤◌, [], IfOk, OnOk, IfErr};
+ghost use Rattle.std.specs.Prelude.{◌≡◌, ◌+◌, ◌^◌, ◌≤◌, [], false, IfOk, OnOk, IfErr};
+ghost use Rattle.sz_mean.specs.Marked.{all_tables};
+ghost use Rattle.sz_book.specs.Plan.{IsPlan};
 ghost use Rattle.sz_attempt.specs.declared.job.Job.{Job};
 ghost use Rattle.sz_attempt.specs.Shards.{IsJob};
 ghost use Rattle.sz_rounds.specs.declared.round.Round.{Round};
@@ -9,9 +11,9 @@ ghost use Rattle.sz_workers.specs.Parts.{plan_for, Dies, Faults, HoldsShards, Jo
 use std::alloc::Global;
 use std::marker::{Brand, PhantomData};
 use std::mem;
-use sz_attempt::Job;
-use sz_book::{Load, NoMemory};
+use sz_book::{Lane, Load, NoMemory, Plan};
 use sz_total::{Total, tables_forget_the_order};
+use sz_types::TableDecls;
 
 /// Names a round for contracts: a type of it has no values. Each run of a round picks one.
 pub trait RoundName {
@@ -24,7 +26,7 @@ pub trait RoundName {
 
 impl RoundName for Brand {
     ghost job = { record {
-      compiled = record { items = []; locals = [] };
+      compiled = record { core = record { items = []; locals = [] }; ignoring = false };
       statics = [];
       budget = 0;
       attempts = 0;
@@ -84,16 +86,41 @@ fn merge_into_larger<'a>(ours: &mut Total<'a>, mut theirs: Total<'a>) -> Result<
 }
 
 impl<'a, N: RoundName> RoundPart<'a, N> {
-    /// The tables before any emit.
-    pub fn empty(alloc: Global, job: &'a Job) -> Result<RoundPart<'a, N>, NoMemory>
-        requires job { (N.job ≡ job.now) × IsJob job.now }
+    /// The tables before any emit, of a round with this plan and a job with these declarations.
+    pub fn empty(
+        alloc: Global,
+        plan: &Plan,
+        decls: &'a TableDecls,
+    ) -> Result<RoundPart<'a, N>, NoMemory>
+        requires job { IsJob N.job }
         requires round { IsRound N.round }
+        requires plan { plan.now ≡ plan_for N.job N.round }
+        requires decls { decls.now ≡ all_tables N.job.compiled }
         ensures value { IfOk result (λ part. HoldsShards N.job N.round part.total []) }
     {
-        let total = Total::new(alloc, job.compiled.tables())?;
+        let _ = plan;
+        let total = Total::new(alloc, decls)?;
         Ok(RoundPart {
             total,
             of: PhantomData,
         })
     }
+}
+
+/// A lane that stands for no shards, of a round with this plan and a job with these declarations.
+pub(crate) fn empty_lane<'a, N: RoundName>(
+    alloc: Global,
+    plan: &Plan,
+    decls: &'a TableDecls,
+) -> Result<Lane<RoundPart<'a, N>>, NoMemory>
+    requires job { IsJob N.job }
+    requires round { IsRound N.round }
+    requires plan { plan.now ≡ plan_for N.job N.round }
+    requires decls { decls.now ≡ all_tables N.job.compiled }
+    ensures value { IfOk result (λ lane. lane ≡ record { plan = plan_for N.job N.round; shards = [] }) }
+    ensures plans { IsPlan plan.now }
+{
+    let shards = plan.shards();
+    let load: RoundPart<'a, N> = RoundPart::empty(alloc, plan, decls)?;
+    Lane::new(alloc, load, shards)
 }

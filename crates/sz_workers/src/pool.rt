@@ -1,18 +1,19 @@
 //! The parts of all workers together.
 ghost use Rattle.std.specs.Prelude.{◌≡◌, ◌++◌, ◌∷◌, [], IfOk, OnOk};
-ghost use Rattle.sz_words.specs.Lists.{is_among};
-ghost use Rattle.sz_book.specs.History.{IsAmong, AreApart};
+ghost use Rattle.sz_mean.specs.Marked.{all_tables};
+ghost use Rattle.sz_book.specs.History.{IsAmong, AreApart, AreDistinct};
 ghost use Rattle.sz_attempt.specs.Shards.{IsJob};
 ghost use Rattle.sz_attempt.specs.Ends.{StandForEmits};
 ghost use Rattle.sz_rounds.specs.Rounds.{shards_of, IsRound};
-ghost use Rattle.sz_workers.specs.Parts.{are_apart, emits_at, Counts, HoldsShards};
+ghost use Rattle.sz_workers_loop.specs.Closing.{shards_in};
+ghost use Rattle.sz_workers.specs.Parts.{plan_for, emits_at, Counts, HoldsShards};
 
 use crate::part::{RoundName, RoundPart};
 use std::alloc::Global;
 use std::marker::PhantomData;
-use sz_attempt::Job;
-use sz_book::{Lane, Load, NoMemory, Shards};
+use sz_book::{Lane, Load, NoMemory, Plan, Shards};
 use sz_total::Total;
+use sz_types::TableDecls;
 
 /// A part, and the shards that it stands for.
 #[derive(Drop)]
@@ -21,72 +22,53 @@ pub(crate) struct Pool<'a, N: RoundName> {
     pub(crate) shards: Shards,
 }
 
-/// Whether a shard is in the list.
-pub(crate) fn is_among(shards: &[u32], shard: u32) -> bool
-    ensures value { result ≡ is_among shard shards.now }
-{
-    for other in shards {
-        if *other == shard {
-            return true;
-        }
-    }
-    false
-}
-
-// Whether no shard is in both lists.
-fn are_apart(ours: &[u32], theirs: &[u32]) -> bool
-    ensures value { result ≡ are_apart ours.now theirs.now }
-{
-    for shard in ours {
-        if is_among(theirs, *shard) {
-            return false;
-        }
-    }
-    true
-}
-
 /// A pool without shards.
 pub(crate) fn empty_pool<'a, N: RoundName>(
     alloc: Global,
-    job: &'a Job,
+    plan: &Plan,
+    decls: &'a TableDecls,
 ) -> Result<Pool<'a, N>, NoMemory>
-    requires job { (N.job ≡ job.now) × IsJob job.now }
+    requires job { IsJob N.job }
     requires round { IsRound N.round }
-    ensures value { IfOk result (λ pool. HoldsShards N.job N.round pool.part.total pool.shards) }
+    requires plan { plan.now ≡ plan_for N.job N.round }
+    requires decls { decls.now ≡ all_tables N.job.compiled }
+    ensures holds { IfOk result (λ pool. HoldsShards N.job N.round pool.part.total pool.shards) }
+    ensures empty { IfOk result (λ pool. pool.shards ≡ []) }
 {
-    let part = RoundPart::empty(alloc, job)?;
+    let part = RoundPart::empty(alloc, plan, decls)?;
     Ok(Pool {
         part,
         shards: Shards::new(alloc),
     })
 }
 
-/// Takes in the lane of a worker. One with a shard that is there already is dropped.
-pub(crate) fn pour<'a, N: RoundName>(
+/// Takes in lanes, none of whose shards is there yet, or in another of them.
+pub(crate) fn pour_all<'a, N: RoundName>(
     pool: &mut Pool<'a, N>,
-    lane: Lane<RoundPart<'a, N>>,
+    lanes: Vec<Lane<RoundPart<'a, N>>>,
 ) -> Result<(), NoMemory>
     requires holds { HoldsShards N.job N.round pool.old.part.total pool.old.shards }
-    ensures value { OnOk result (HoldsShards N.job N.round pool.new.part.total pool.new.shards) }
+    requires distinct { AreDistinct (pool.old.shards ++ shards_in lanes.items) }
+    ensures holds { OnOk result (HoldsShards N.job N.round pool.new.part.total pool.new.shards) }
+    ensures all { OnOk result (pool.new.shards ≡ pool.old.shards ++ shards_in lanes.entry.items) }
 {
-    let (part, shards) = lane.take();
-    if are_apart(pool.shards.as_slice(), shards.as_slice()) {
-        return join(pool, part, shards);
+    for lane in lanes {
+        pour(pool, lane)?;
     }
     Ok(())
 }
 
-// Takes in a part, none of whose shards is there yet.
-fn join<'a, N: RoundName>(
+// Takes in a lane, none of whose shards is there yet.
+fn pour<'a, N: RoundName>(
     pool: &mut Pool<'a, N>,
-    part: RoundPart<'a, N>,
-    shards: Shards,
+    lane: Lane<RoundPart<'a, N>>,
 ) -> Result<(), NoMemory>
     requires holds { HoldsShards N.job N.round pool.old.part.total pool.old.shards }
-    requires part { HoldsShards N.job N.round part.total shards }
-    requires apart { AreApart pool.old.shards shards }
-    ensures value { OnOk result (HoldsShards N.job N.round pool.new.part.total pool.new.shards) }
+    requires apart { AreApart pool.old.shards lane.shards }
+    ensures holds { OnOk result (HoldsShards N.job N.round pool.new.part.total pool.new.shards) }
+    ensures all { OnOk result (pool.new.shards ≡ pool.old.shards ++ lane.entry.shards) }
 {
+    let (part, shards) = lane.take();
     match pool.part.absorb(part) {
         Ok(()) => pool.shards.append(shards),
         Err(_) => Err(NoMemory),

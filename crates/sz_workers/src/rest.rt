@@ -1,17 +1,17 @@
-//! What is left of a round once its workers are done: the shards that no worker won are run by the caller.
-ghost use Rattle.std.specs.Prelude.{◌+◌, ◌<◌, length, IfOk, IfSome, IfNone};
+//! What is left of a round once its workers are done: the shards that no worker settled.
+ghost use Rattle.std.specs.Prelude.{◌≡◌, ◌+◌, ◌-◌, ◌^◌, ◌<◌, ◌≤◌, ◌==◌, length, IfOk, IfSome, IfNone};
 ghost use Rattle.sz_attempt.specs.Shards.{IsJob};
 ghost use Rattle.sz_rounds.specs.Outcomes.{outcome_of};
 ghost use Rattle.sz_rounds.specs.Rounds.{IsRound, shards_of, EndsRound};
 ghost use Rattle.sz_workers.specs.Parts.{HoldsShards};
-ghost use Rattle.sz_workers.specs.RoundRuns.{IsSet, HasFront, RestEnds};
+ghost use Rattle.sz_workers.specs.RoundRuns.{IsSet, AreWords, IsPooled, RestEnds};
 
 use crate::attempts::run_attempt;
 use crate::part::RoundName;
-use crate::pool::{Pool, add_shard, is_among};
+use crate::pool::{Pool, add_shard};
 use std::alloc::Global;
 use sz_attempt::{AttemptEnd, Job};
-use sz_book::{NoMemory, Plan};
+use sz_book::{NoMemory, Plan, Words};
 use sz_io::Gate;
 use sz_machine::Room;
 use sz_rounds::{Round, RoundEnd};
@@ -53,7 +53,15 @@ fn run_shard<'a, G: Gate>(
     Ok(Rest::Decided(RoundEnd::Lost(round.first_shard + u64::from(place))))
 }
 
-// Runs the shard at a place, if it isn't in the pool: the end of the round, if it decides.
+// Whether all of so many attempts are in a word of deaths.
+fn all_died(deaths: u64, attempts: u32) -> bool
+    requires few { (1 ≤ attempts) × (attempts ≤ 8) }
+    ensures value { result ≡ (deaths == 2 ^ attempts - 1) }
+{
+    deaths == (1 << attempts) - 1
+}
+
+// Runs the shard at a place, if it isn't in the pool and not all of its attempts died: the end of the round, if it decides.
 fn complete<'a, G: Gate, N: RoundName>(
     alloc: Global,
     room: &mut Room,
@@ -61,19 +69,25 @@ fn complete<'a, G: Gate, N: RoundName>(
     round: &Round,
     plan: &Plan,
     gate: &G,
+    settled: &Words,
+    deaths: &Words,
     pool: &mut Pool<'a, N>,
     place: u32,
 ) -> Result<Option<RoundEnd<'a>>, NoMemory>
     requires set { IsSet N.job N.round job.now round.now plan.now }
     requires within { place < length round.now.shards }
+    requires words { AreWords N.job N.round settled.now deaths.now }
     requires holds { HoldsShards N.job N.round pool.old.part.total pool.old.shards }
-    requires front { HasFront pool.old.shards place }
+    requires pooled { IsPooled settled.now pool.old.shards place }
     ensures holds { IfOk result (λ end. IfNone end (HoldsShards N.job N.round pool.new.part.total pool.new.shards)) }
-    ensures front { IfOk result (λ end. IfNone end (HasFront pool.new.shards (place + 1))) }
+    ensures pooled { IfOk result (λ end. IfNone end (IsPooled settled.now pool.new.shards (place + 1))) }
     ensures value { IfOk result (λ end. IfSome end (λ e. EndsRound job.now.compiled (outcome_of job.now (shards_of round.now)) e)) }
 {
-    if is_among(pool.shards.as_slice(), place) {
+    if *settled.get(place as usize) != 0 {
         return Ok(None);
+    }
+    if all_died(*deaths.get(place as usize), job.attempts) {
+        return Ok(Some(RoundEnd::Lost(round.first_shard + u64::from(place))));
     }
     let ticket = plan.ticket_count() as u32;
     match run_shard(alloc, room, job, round, gate, ticket, place)? {
@@ -85,23 +99,30 @@ fn complete<'a, G: Gate, N: RoundName>(
     }
 }
 
-/// Runs each shard of the round that isn't in the pool, in order, until one decides. No ticket of the plan is drawn for it: the gate is
-/// told the number after the last.
+/// The end of a round whose workers are done, with what all of them won in the pool. A shard that none of them settled is lost, as
+/// the words tell; or it is run here, in order, until one decides: so the first that was marked comes to its fault. No ticket of the
+/// plan is drawn for it, and the gate is told the number after the last.
 pub(crate) fn finish<'a, G: Gate, N: RoundName>(
     alloc: Global,
     job: &'a Job,
     round: &Round,
     plan: &Plan,
     gate: &G,
+    settled: &Words,
+    deaths: &Words,
     mut pool: Pool<'a, N>,
 ) -> Result<RoundEnd<'a>, NoMemory>
     requires set { IsSet N.job N.round job.now round.now plan.now }
+    requires words { AreWords N.job N.round settled.now deaths.now }
     requires holds { HoldsShards N.job N.round pool.part.total pool.shards }
+    requires pooled { IsPooled settled.now pool.shards 0 }
     ensures value { IfOk result (λ end. EndsRound job.now.compiled (outcome_of job.now (shards_of round.now)) end) }
 {
     let mut room = Room::new(alloc);
     for place in 0..plan.shards() {
-        match complete(alloc, &mut room, job, round, plan, gate, &mut pool, place)? {
+        match complete(
+            alloc, &mut room, job, round, plan, gate, settled, deaths, &mut pool, place,
+        )? {
             Some(end) => return Ok(end),
             None => {}
         }

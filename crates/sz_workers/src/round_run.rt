@@ -1,35 +1,38 @@
-//! Rounds, run by several threads.
-ghost use Rattle.std.specs.Prelude.{◌≡◌, ◌<◌, ◌≤◌, IfOk};
+//! Rounds, run by workers.
+ghost use Rattle.std.specs.Prelude.{◌≡◌, ◌+◌, ◌<◌, ◌≤◌, [], ◌++◌, length, IfOk};
 ghost use denote.Param.Send.{IsSend, IsSync};
+ghost use Rattle.sz_mean.specs.Marked.{all_tables};
+ghost use Rattle.sz_claims.specs.Known.{LedgerData, AreEmpty};
 ghost use Rattle.sz_attempt.specs.Shards.{IsJob};
 ghost use Rattle.sz_rounds.specs.Outcomes.{outcome_of};
 ghost use Rattle.sz_rounds.specs.Rounds.{IsRound, shards_of, EndsRound};
-ghost use Rattle.sz_workers.specs.Parts.{HoldsShards};
+ghost use Rattle.sz_workers_loop.specs.Closing.{AreFresh, AreBack, IsAlone, IsBack, IsLeft};
+ghost use Rattle.sz_workers.specs.Parts.{plan_for, Dies};
 ghost use Rattle.sz_workers.specs.RoundRuns.{IsSet};
+ghost use Rattle.sz_workers.specs.Starting.{CanWork, lanes_for};
 
-use crate::part::{RoundName, RoundPart};
-use crate::pool::{Pool, empty_pool, pour};
+use crate::part::{RoundName, RoundPart, empty_lane};
+use crate::pool::{empty_pool, pour_all};
 use crate::rest::finish;
-use crate::worker::Worker;
+use crate::worker::{Back, Worker};
 use std::alloc::Global;
 use std::marker::Brand;
-use std::sync::Wait;
-use std::thread;
-use std::thread::{Builder, JoinHandle, Threads};
+use std::thread::Threads;
+use std::{mem, thread};
 use sz_attempt::Job;
-use sz_book::{Lane, NoMemory, Plan};
-use sz_claims::Ledger;
+use sz_book::{Closed, Lane, NoMemory, Plan};
+use sz_claims::{Ledger, Pass};
 use sz_io::Gate;
 use sz_rounds::{Round, RoundEnd, plan_of};
-
-/// How much stack a worker has: as much as the command line, since it handles the same values.
-const STACK_BYTES: usize = 2 << 30;
+use sz_types::TableDecls;
+use sz_workers_loop::close_all;
 
 /// Runs the attempts of a round by so many workers. The gate is called before each attempt, with the number of the shard in the input.
 ///
-/// The caller is a worker too. Each other one has a thread of its own, which is started here and ends here. Where a thread can't be
-/// started, the others do its work. The parts of shards that were won count; a shard that no worker won is run by the caller.
-pub fn run_round<'a, R: Threads + Wait + Sync, G: Gate + Sync>(
+/// The workers are threads, where threads can be started; else they work one after the other. Values go as deep as the types of the
+/// program, and a thread has the stack that the system gives it, so a program with high types is for one worker. The parts of shards
+/// that were won count; a shard that no worker settled is run by the caller, unless all of its attempts died.
+pub fn run_round<'a, R: Threads + Sync, G: Gate + Sync>(
     rt: &R,
     alloc: Global,
     job: &'a Job,
@@ -48,7 +51,7 @@ pub fn run_round<'a, R: Threads + Wait + Sync, G: Gate + Sync>(
 }
 
 // Runs a round that has a name.
-fn run_named<'a, R: Threads + Wait + Sync, G: Gate + Sync, N: RoundName + Send + Sync>(
+fn run_named<'a, R: Threads + Sync, G: Gate + Sync, N: RoundName + Send + Sync>(
     rt: &R,
     alloc: Global,
     job: &'a Job,
@@ -58,95 +61,121 @@ fn run_named<'a, R: Threads + Wait + Sync, G: Gate + Sync, N: RoundName + Send +
     gate: &G,
 ) -> Result<RoundEnd<'a>, NoMemory>
     requires set { IsSet N.job N.round job.now round.now plan.now }
-    requires workers { 1 ≤ workers }
+    requires workers { (1 ≤ workers) × (workers ≤ 64) }
     ensures value { IfOk result (λ end. EndsRound job.now.compiled (outcome_of job.now (shards_of round.now)) end) }
 {
-    let copy = plan.copied(alloc)?;
-    let no_lanes: Vec<Lane<RoundPart<'a, N>>> = Vec::new(alloc);
-    let (ledger, first) = Ledger::make(alloc, copy, no_lanes, workers)?;
-    let worker: Worker<'a, '_, G, N> = Worker {
+    let (mut closed, pockets) = run_all::<R, G, N>(rt, alloc, job, round, plan, workers, gate)?;
+    let lanes = mem::replace(&mut closed.lanes, Vec::new(alloc));
+    let mut pool = empty_pool(alloc, plan, job.compiled.tables())?;
+    pour_all(&mut pool, lanes)?;
+    pour_all(&mut pool, pockets)?;
+    finish(
         alloc,
         job,
         round,
         plan,
-        ledger: &ledger,
         gate,
-        pass: first,
-    };
-    let lanes = run_workers(rt, alloc, worker, workers)?;
-    let pool = pool_of(alloc, job, lanes)?;
-    finish(alloc, job, round, plan, gate, pool)
-}
-
-// The lanes of all workers together.
-fn pool_of<'a, N: RoundName>(
-    alloc: Global,
-    job: &'a Job,
-    lanes: Vec<Lane<RoundPart<'a, N>>>,
-) -> Result<Pool<'a, N>, NoMemory>
-    requires job { (N.job ≡ job.now) × IsJob job.now }
-    requires round { IsRound N.round }
-    ensures value { IfOk result (λ pool. HoldsShards N.job N.round pool.part.total pool.shards) }
-{
-    let mut pool = empty_pool(alloc, job)?;
-    for lane in lanes {
-        pour(&mut pool, lane)?;
-    }
-    Ok(pool)
-}
-
-// The lanes of so many workers, of which the first one works in this thread.
-fn run_workers<'a, 'r, R: Threads + Wait + Sync, G: Gate + Sync, N: RoundName + Send + Sync>(
-    rt: &R,
-    alloc: Global,
-    first: Worker<'a, 'r, G, N>,
-    workers: u32,
-) -> Result<Vec<Lane<RoundPart<'a, N>>>, NoMemory>
-    requires first { first ≡ 0 }
-{
-    thread::scope(
-        thread::scope_env(),
-        rt,
-        |scope|
-            requires send { IsSync G.row × IsSend N.row × IsSync N.row }
-            requires first { first ≡ 0 }
-        {
-            let mut own = first;
-            let mut children = Vec::new(alloc);
-            for _other in 1..workers {
-                let Some(worker) = own.another() else {
-                    break;
-                };
-                match Builder::new()
-                    .stack_size(STACK_BYTES)
-                    .spawn_scoped(scope, move || worker.run())
-                {
-                    Ok(child) => {
-                        if children.push(child).is_err() {
-                            break;
-                        }
-                    }
-                    Err(_) => break,
-                }
-            }
-            let lane = own.run();
-            all_lanes(rt, alloc, lane, children)
-        },
+        &closed.settled,
+        &closed.deaths,
+        pool,
     )
 }
 
-// The lane of this thread and those of the others.
-fn all_lanes<'a, R: Threads, N: RoundName>(
+// Runs the workers of a round over a ledger of its own: what they leave.
+fn run_all<'a, R: Threads + Sync, G: Gate + Sync, N: RoundName + Send + Sync>(
     rt: &R,
     alloc: Global,
-    own: Result<Lane<RoundPart<'a, N>>, NoMemory>,
-    children: Vec<JoinHandle<Result<Lane<RoundPart<'a, N>>, NoMemory>>>,
-) -> Result<Vec<Lane<RoundPart<'a, N>>>, NoMemory> {
+    job: &'a Job,
+    round: &Round,
+    plan: &Plan,
+    workers: u32,
+    gate: &G,
+) -> Result<(Closed<RoundPart<'a, N>>, Vec<Lane<RoundPart<'a, N>>>), NoMemory>
+    requires set { IsSet N.job N.round job.now round.now plan.now }
+    requires workers { (1 ≤ workers) × (workers ≤ 64) }
+    ensures left { IfOk result (λ left.
+        IsLeft (λ s k. Dies N.job (shards_of N.round) s k) plan.now left.0.lanes.items left.1.items left.0.settled left.0.deaths) }
+{
+    let copy = plan.copied(alloc)?;
+    let lanes = empty_lanes(alloc, plan, job.compiled.tables(), workers.div_ceil(2))?;
+    let (ledger, mut first) = Ledger::make(alloc, copy, lanes, workers + 1)?;
+    let ready = ready_workers(alloc, job, round, &ledger, gate, &mut first, workers)?;
+    let back = run_workers(rt, ready)?;
+    close_all(alloc, ledger, first, back)
+}
+
+// So many lanes that stand for no shards.
+fn empty_lanes<'a, N: RoundName>(
+    alloc: Global,
+    plan: &Plan,
+    decls: &'a TableDecls,
+    count: u32,
+) -> Result<Vec<Lane<RoundPart<'a, N>>>, NoMemory>
+    requires job { IsJob N.job }
+    requires round { IsRound N.round }
+    requires plan { plan.now ≡ plan_for N.job N.round }
+    requires decls { decls.now ≡ all_tables N.job.compiled }
+    ensures empty { IfOk result (λ lanes. AreEmpty plan.now lanes.items) }
+    ensures count { IfOk result (λ lanes. length lanes.items ≡ count) }
+{
     let mut lanes = Vec::new(alloc);
-    lanes.push(own?)?;
-    for child in children {
-        let lane = child.join(rt)?;
+    for _made in 0..count {
+        let lane: Lane<RoundPart<'a, N>> = empty_lane(alloc, plan, decls)?;
         lanes.push(lane)?;
     }
     Ok(lanes)
+}
+
+// So many workers, each with a pass made of the first one. Worker w, counted from 0, asks for the lane w modulo the number of lanes.
+fn ready_workers<'a, 'r, G: Gate, N: RoundName>(
+    alloc: Global,
+    job: &'a Job,
+    round: &'r Round,
+    ledger: &'r Ledger<RoundPart<'a, N>>,
+    gate: &'r G,
+    first: &mut Pass<RoundPart<'a, N>>,
+    count: u32,
+) -> Result<Vec<Worker<'a, 'r, G, N>>, NoMemory>
+    requires set { CanWork N.job N.round job.now round.now ledger.now }
+    requires lanes { (1 ≤ count) × (ledger.now.lanes ≡ lanes_for count) }
+    requires alone { IsAlone ledger.now 0 first.old }
+    ensures fresh { IfOk result (λ workers. AreFresh ledger.now 1 workers.items) }
+    ensures alone { IfOk result (λ workers. IsAlone ledger.now (length workers.items) first.new) }
+{
+    let lanes = count.div_ceil(2);
+    let mut workers = Vec::new(alloc);
+    for number in 0..count {
+        let Some(pass) = ledger.split(first) else {
+            return Ok(workers);
+        };
+        workers.push(Worker {
+            alloc,
+            job,
+            round,
+            ledger,
+            gate,
+            pass,
+            lane_no: number % lanes,
+        })?;
+    }
+    Ok(workers)
+}
+
+// What comes back of workers, each in a thread of its own where one can be started.
+fn run_workers<'a, 'r, R: Threads + Sync, G: Gate + Sync, N: RoundName + Send + Sync>(
+    rt: &R,
+    ready: Vec<Worker<'a, 'r, G, N>>,
+) -> Result<Vec<Back<'a, N>>, NoMemory>
+    requires send { IsSync G.row × IsSend N.row × IsSync N.row }
+    ensures count { IfOk result (λ back. length back.items ≡ length ready.entry.items) }
+    ensures back { IfOk result (λ back. (ledger : LedgerData) → AreFresh ledger 1 ready.entry.items → AreBack ledger 1 back.items) }
+{
+    let back = thread::map_vec(
+        rt,
+        ready,
+        &|worker: Worker<G, N>| -> Back<N>
+            ensures { IfOk result (λ back. IsBack worker.entry.ledger worker.entry.number back.0 back.1) }
+        { worker.run() },
+    )?;
+    Ok(back)
 }

@@ -1,85 +1,109 @@
 //! What one thread does for a round.
-ghost use Rattle.std.specs.Prelude.{◌≡◌};
+ghost use Rattle.std.specs.Prelude.{◌≡◌, ◌<◌, ◌≤◌, IfOk, IfErr};
+ghost use Rattle.sz_attempt.specs.Shards.{IsJob};
+ghost use Rattle.sz_rounds.specs.Rounds.{IsRound, shards_of};
+ghost use Rattle.sz_workers_loop.specs.Working.{Goes, IsInPlace};
+ghost use Rattle.sz_workers_loop.specs.Advances.{HasWorked, HasBegun};
+ghost use Rattle.sz_workers_loop.specs.Closing.{IsPocket, IsBack};
+ghost use Rattle.sz_workers.specs.Parts.{plan_for, Dies, Faults};
+ghost use Rattle.sz_workers.specs.Starting.{HoldsNothing};
 
 use crate::making::RoundMaker;
-use crate::part::{RoundName, RoundPart};
+use crate::part::{RoundName, RoundPart, empty_lane};
 use std::alloc::Global;
 use std::marker::{Model, PhantomData};
 use sz_attempt::Job;
-use sz_book::{Lane, NoMemory, Plan};
+use sz_book::{Lane, NoMemory};
 use sz_claims::{Ledger, Pass};
 use sz_io::Gate;
 use sz_machine::Room;
 use sz_rounds::Round;
-use sz_workers_loop::work;
 
-/// A worker of a round before it begins: what all workers share, and a pass of its own.
+/// Draws tickets of the ledger until none is left, and runs their attempts. The part of a shard that it wins goes into the lane with
+/// this number where that is home, and else into the pocket that is given back. The gate is called before each attempt.
+pub fn work<'a, N: RoundName, G: Gate + Sync>(
+    alloc: Global,
+    job: &'a Job,
+    round: &Round,
+    ledger: &Ledger<RoundPart<'a, N>>,
+    pass: &mut Pass<RoundPart<'a, N>>,
+    lane_no: u32,
+    gate: &G,
+) -> Result<Lane<RoundPart<'a, N>>, NoMemory>
+    requires job { (job.now ≡ N.job) × IsJob job.now }
+    requires round { (round.now ≡ N.round) × IsRound round.now }
+    requires plan { ledger.now.plan ≡ plan_for N.job N.round }
+    requires pass { (pass.old.ledger ≡ ledger.now) × HoldsNothing pass.old }
+    requires lane { lane_no < ledger.now.lanes }
+    ensures goes { Goes pass.old pass.new }
+    ensures place { IsInPlace pass.new }
+    ensures plan { IfOk result (λ pocket. pocket.plan ≡ ledger.now.plan) }
+    ensures worked { IfOk result (λ pocket. IsPocket pass.new.mine pocket × HasWorked
+        (λ s k. Dies N.job (shards_of N.round) s k) (λ s. Faults N.job (shards_of N.round) s) ledger.now.plan pass.old pass.new) }
+    ensures begun { IfErr result (λ why. HasBegun
+        (λ s k. Dies N.job (shards_of N.round) s k) (λ s. Faults N.job (shards_of N.round) s) ledger.now.plan pass.old pass.new) }
+{
+    pass.saw_a_legal_history();
+    let mut pocket: Lane<RoundPart<'a, N>> = empty_lane(
+        alloc,
+        ledger.plan(),
+        job.compiled.tables(),
+    )?;
+    let mut maker: RoundMaker<'a, '_, G, N> = RoundMaker {
+        alloc,
+        room: Room::new(alloc),
+        job,
+        round,
+        gate,
+        of: PhantomData,
+    };
+    sz_workers_loop::work(&mut maker, ledger, pass, &mut pocket, lane_no)?;
+    Ok(pocket)
+}
+
+/// A worker of a round before it begins: what all workers share, a pass of its own, and the number of the lane that it asks for.
 ///
-/// Contracts see the number of its pass.
+/// Contracts see its pass.
 #[derive(Drop)]
 pub(crate) struct Worker<'a, 'r, G: Gate, N: RoundName> {
     pub(crate) alloc: Global,
     pub(crate) job: &'a Job,
     pub(crate) round: &'r Round,
-    pub(crate) plan: &'r Plan,
     pub(crate) ledger: &'r Ledger<RoundPart<'a, N>>,
     pub(crate) gate: &'r G,
     pub(crate) pass: Pass<RoundPart<'a, N>>,
+    pub(crate) lane_no: u32,
 }
 
 impl<'a, 'r, G: Gate, N: RoundName> Model for Worker<'a, 'r, G, N> {
-    ghost use Rattle.std.specs.Prelude.{ℕ};
+    ghost use Rattle.sz_claims.specs.Known.{PassData};
     ghost use Rattle.sz_workers.specs.Starting.{IsReady};
 
-    ghost Value = { ℕ };
+    ghost Value = { PassData };
 
-    ghost view = { λ w. w.pass.number };
+    ghost view = { λ w. w.pass };
 
-    ghost invariant = { λ w. IsReady N.job N.round w.job.now w.round.now w.plan.now w.ledger.now w.pass };
+    ghost invariant = { λ w. IsReady N.job N.round w.job.now w.round.now w.ledger.now w.pass w.lane_no };
 }
 
-impl<'a, 'r, G: Gate, N: RoundName> Worker<'a, 'r, G, N> {
-    /// Another worker, made by the first one. None where all passes were made.
-    pub(crate) fn another(&mut self) -> Option<Worker<'a, 'r, G, N>>
-        requires first { self.old ≡ 0 }
-        ensures kept { self.new ≡ self.old }
-    {
-        let Some(pass) = self.ledger.split(&mut self.pass) else {
-            return None;
-        };
-        Some(Worker {
-            alloc: self.alloc,
-            job: self.job,
-            round: self.round,
-            plan: self.plan,
-            ledger: self.ledger,
-            gate: self.gate,
-            pass,
-        })
-    }
+/// What comes back of a worker: its pass and its pocket.
+pub(crate) type Back<'a, N> = Result<(Pass<RoundPart<'a, N>>, Lane<RoundPart<'a, N>>), NoMemory>;
 
-    /// Draws tickets until none is left. The lane stands for the shards that the worker won.
-    pub(crate) fn run(self) -> Result<Lane<RoundPart<'a, N>>, NoMemory> {
+impl<'a, 'r, G: Gate + Sync, N: RoundName> Worker<'a, 'r, G, N> {
+    /// Works until no ticket is left: its pass, and its pocket.
+    pub(crate) fn run(self) -> Back<'a, N>
+        ensures back { IfOk result (λ back. IsBack self.entry.ledger self.entry.number back.0 back.1) }
+    {
         let Worker {
             alloc,
             job,
             round,
-            plan,
             ledger,
             gate,
             mut pass,
+            lane_no,
         } = self;
-        let load: RoundPart<'a, N> = RoundPart::empty(alloc, job)?;
-        let mut pocket = Lane::new(alloc, load, plan.shards())?;
-        let mut maker: RoundMaker<'a, 'r, G, N> = RoundMaker {
-            alloc,
-            room: Room::new(alloc),
-            job,
-            round,
-            gate,
-            of: PhantomData,
-        };
-        work(&mut maker, ledger, &mut pass, &mut pocket)?;
-        Ok(pocket)
+        let pocket = work::<N, G>(alloc, job, round, ledger, &mut pass, lane_no, gate)?;
+        Ok((pass, pocket))
     }
 }

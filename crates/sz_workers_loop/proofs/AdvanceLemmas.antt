@@ -1,24 +1,25 @@
 -- What the calls on one ticket do, one after the other, and what a worker has done between two tickets.
-use Rattle.std.proofs.Common.{◌≡◌, ◌⊎◌, ℕ, zero, suc, ◌<◌, ◌==◌, Bool, true, false, List, [], ◌∷◌, ◌++◌, length, replicate, refl, ap, sym, ◌∙◌, subst, inl, inr, ⊎_elim, Some, None, append-nil, length-set}
+use Rattle.std.proofs.Common.{◌≡◌, ◌⊎◌, ℕ, zero, suc, ◌+◌, ◌<◌, ◌==◌, Bool, true, false, List, [], ◌∷◌, ◌++◌, length, replicate, refl, ap, sym, ◌∙◌, subst, inl, inr, ⊎_elim, Some, None, append-nil, length-set}
 use Rattle.std.specs.Prelude.{slice_set}
 use Rattle.std.proofs.lemmas.Bool.{eqb-true, eqb-false}
 use Rattle.std.proofs.lemmas.List.{append_assoc, get_or-set_same, get_or-set_other, set-get_or, set-set, length-replicate}
 use Rattle.sz_book.specs.Plan.{PlanData, count_of}
+use Rattle.sz_book.specs.Lanes.{LaneData}
 use Rattle.sz_book.specs.declared.plan.Claim.{Claim}
 use Rattle.sz_book.specs.declared.event.Event.{Event}
-use Rattle.sz_book.specs.declared.event.Event.TheVariants.{Draw, Number, Died, Settle, Bad}
+use Rattle.sz_book.specs.declared.event.Event.TheVariants.{Draw, Number, Died, Settle, LaneOut, LaneBack, Bad}
 use Rattle.sz_book.specs.declared.event.Reply.{Reply}
-use Rattle.sz_book.specs.declared.event.Reply.TheVariants.{Ticket, Number as Numbered, Noted, Won, Late}
+use Rattle.sz_book.specs.declared.event.Reply.TheVariants.{Ticket, Number as Numbered, Noted, Won, Late, Lane}
 use Rattle.sz_book.specs.declared.event.Entry.{Entry}
 use Rattle.sz_book.specs.History.{entry, HasDrawn}
 use Rattle.sz_book.specs.Orderly.{Phase, undrawn, asks, tries, ended, phase_of, Turns, TurnsAll}
-use Rattle.sz_claims.specs.Known.{PassData, Calls}
+use Rattle.sz_claims.specs.Known.{PassData, Calls, CallsWith, IsLent}
 use Rattle.sz_claims.proofs.ForCallers.{has_drawn_now}
 use Rattle.sz_workers_loop.specs.Makers.{GivesEmits}
 use Rattle.sz_workers_loop.specs.Working.{IsInPlace}
 use Rattle.sz_workers_loop.specs.Advances.{TellsTruth, AllTellTruth, HasBegun, HasWorked}
-use Rattle.sz_workers_loop.specs.Tickets.{Leads, Stops, IsBetween}
-use Rattle.sz_workers_loop.proofs.CallLemmas.{goes_self, goes_then, goes_call, in_place_call, is_claim, drawn_since}
+use Rattle.sz_workers_loop.specs.Tickets.{Leads, LeavesAll, Stops, IsBetween}
+use Rattle.sz_workers_loop.proofs.CallLemmas.{goes_self, goes_then, goes_call, goes_lent, in_place_call, in_place_with, is_claim, drawn_since}
 use Rattle.sz_workers_loop.proofs.LeftLemmas.{not_drawn, drawn_low}
 
 advances_then : (p : PlanData) (old mid new : List Phase) (es ds : List Entry) → TurnsAll p old es mid → TurnsAll p mid ds new
@@ -36,6 +37,10 @@ module _ (died : ℕ → ℕ → Type 0) (faults : ℕ → Type 0) where
   truth_then [] ds a b = b
   truth_then (e ∷ es) ds a b = (a.0, truth_then es ds a.1 b)
 
+-- a ticket that goes on from where it is stays there
+stays_there : (old : List Phase) (t : ℕ) (q : Phase) → phase_of old t ≡ q → slice_set old t q ≡ old
+stays_there old t q is = ap (λ (r : Phase). slice_set old t r) (sym is) ∙ set-get_or old t undrawn
+
 module _ (died : ℕ → ℕ → Type 0) (faults : ℕ → Type 0) (p : PlanData) where
   -- no call leaves a ticket where it is
   pub leads_self : (v : PassData) (t : ℕ) (q : Phase) → IsInPlace v → Leads died faults p v v t q q
@@ -45,7 +50,7 @@ module _ (died : ℕ → ℕ → Type 0) (faults : ℕ → Type 0) (p : PlanData
     further = [];
     later = sym (append-nil v.mine);
     truth = tt;
-    advances = λ old low is. ap (λ (r : Phase). slice_set old t r) (sym is) ∙ set-get_or old t undrawn;
+    advances = λ old low is. stays_there old t q is;
   }
 
   -- further calls on the same ticket
@@ -105,6 +110,32 @@ module _ (died : ℕ → ℕ → Type 0) (faults : ℕ → Type 0) (p : PlanData
       let claim = is_claim p v c of place drew in
       leads_call v w (Bad c.shard) Noted c.ticket (tries k) ended h place truth
       (λ old is. record { ticket = c.ticket; number = k; within = claim.ticket; shard = claim.shard; goes = (is, refl) })
+
+  -- no lane was lent
+  pub leaves_none : (v w : PassData) (i : ℕ) → Calls v (LaneOut i) (Lane false) w → IsInPlace v → LeavesAll died faults p v w
+  leaves_none v w i h place t q = leads_call v w (LaneOut i) (Lane false) t q q h place tt (λ old is. stays_there old t q is)
+
+  -- a lane was lent and given back
+  pub leaves_lent : (v w x : PassData) (i : ℕ) (lane : LaneData) (ss : List ℕ) → IsLent v i lane w → CallsWith w (LaneBack i) ss Noted 0 [] x
+      → IsInPlace v → v.lane ≡ 0 → v.lent ≡ [] → LeavesAll died faults p v x
+  leaves_lent v w x i lane ss h g place idle none t q =
+      let out : Entry = entry v.number (LaneOut i) [] (Lane true) in
+      let back : Entry = entry w.number (LaneBack i) ss Noted in
+      let mid : w.mine ≡ v.mine ++ out ∷ [] = ap (λ (u : PassData). u.mine) h.0.1 in
+      let last : x.mine ≡ w.mine ++ back ∷ [] = ap (λ (u : PassData). u.mine) g.1 in record {
+        goes = goes_lent v w x i lane ss h g idle none;
+        place = in_place_with w x (LaneBack i) ss Noted 0 [] g (in_place_with v w (LaneOut i) [] (Lane true) (i + 1) lane.shards h.0 place);
+        further = out ∷ back ∷ [];
+        later = last ∙ ap (λ (l : List Entry). l ++ back ∷ []) mid ∙ append_assoc v.mine (out ∷ []) (back ∷ []);
+        truth = (tt, (tt, tt));
+        advances = λ old low is. subst (TurnsAll p old (out ∷ back ∷ [])) (sym (stays_there old t q is)) (old, refl, (old, refl, refl));
+      }
+
+  -- the shard was won, and its part was kept
+  pub leads_kept : (v w x : PassData) (c : Claim) (k : ℕ) → Calls v (Settle c k) Won w → IsInPlace v → GivesEmits died faults c.shard k
+      → LeavesAll died faults p w x → Leads died faults p v x c.ticket (tries k) ended
+  leads_kept v w x c k h place truth leaves =
+      leads_then v w x c.ticket (tries k) ended ended (leads_won v w c k h place truth) (leaves c.ticket ended)
 
   module _ (u v w : PassData) (c : Claim) (so_far : Leads died faults p u v c.ticket asks asks) where
     -- the ticket was given a number, and the attempt ended

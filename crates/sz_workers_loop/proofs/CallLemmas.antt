@@ -1,11 +1,14 @@
 -- What a call of a pass keeps, and what a claim and a number are good for.
-use Rattle.std.proofs.Common.{◌≡◌, ℕ, ◌<◌, List, [], ◌∷◌, ◌++◌, refl, ap, sym, ◌∙◌, subst, inl, inr}
+use Rattle.std.proofs.Common.{◌≡◌, ℕ, ◌+◌, ◌<◌, true, List, [], ◌∷◌, ◌++◌, refl, ap, sym, ◌∙◌, subst, inl, inr}
 use Rattle.std.specs.Prelude.{slice_index}
 use Rattle.std.proofs.lemmas.List.{append_assoc, length-replicate}
 use Rattle.sz_book.specs.Plan.{PlanData, IsPlan, count_of}
 use Rattle.sz_book.specs.declared.plan.Claim.{Claim}
+use Rattle.sz_book.specs.Lanes.{LaneData}
 use Rattle.sz_book.specs.declared.event.Event.{Event}
+use Rattle.sz_book.specs.declared.event.Event.TheVariants.{LaneOut, LaneBack}
 use Rattle.sz_book.specs.declared.event.Reply.{Reply}
+use Rattle.sz_book.specs.declared.event.Reply.TheVariants.{Noted, Lane}
 use Rattle.sz_book.specs.declared.event.Entry.{Entry}
 use Rattle.sz_book.specs.Machine.{LedgerState, opening, after, IsDrawn}
 use Rattle.sz_book.specs.Books.{IsClaim}
@@ -13,7 +16,7 @@ use Rattle.sz_book.specs.History.{entry, state_after, IsLegal, IsLegalFrom, call
 use Rattle.sz_book.proofs.HistoryLemmas.{starts_self, starts_more}
 use Rattle.sz_book.proofs.StepLemmas.{shard_within}
 use Rattle.sz_book.proofs.GrowthLemmas.{has_drawn, has_number, own_drawn, own_number}
-use Rattle.sz_claims.specs.Known.{LedgerData, PassData, ends_in, Calls}
+use Rattle.sz_claims.specs.Known.{LedgerData, PassData, ends_in, Calls, CallsWith, IsLent}
 use Rattle.sz_workers_loop.specs.Working.{Goes, IsInPlace}
 
 starts_then : (a b c : List Entry) → StartsWith a b → StartsWith b c → StartsWith a c
@@ -56,14 +59,38 @@ goes_call v w e r h =
       seen = subst (λ (u : PassData). StartsWith u.seen v.seen) (sym h.1) (starts_more h.0 v.seen (last ∷ []) h.2);
     }
 
-pub in_place_call : (v w : PassData) (e : Event) (r : Reply) → Calls v e r w → IsInPlace v → IsInPlace w
-in_place_call v w e r h place =
+-- what a pass had seen is a beginning of what it has seen after a call
+starts_with : (v w : PassData) (e : Event) (ss : List ℕ) (r : Reply) (lane : ℕ) (lent : List ℕ) → CallsWith v e ss r lane lent w → StartsWith w.seen v.seen
+starts_with v w e ss r lane lent h =
+    subst (λ (u : PassData). StartsWith u.seen v.seen) (sym h.1) (starts_more h.0 v.seen (entry v.number e ss r ∷ []) h.2)
+
+-- a lane was lent and given back
+pub goes_lent : (v w x : PassData) (i : ℕ) (lane : LaneData) (ss : List ℕ) → IsLent v i lane w → CallsWith w (LaneBack i) ss Noted 0 [] x
+    → v.lane ≡ 0 → v.lent ≡ [] → Goes v x
+goes_lent v w x i lane ss h g idle none = record {
+  ledger = ap (λ (u : PassData). u.ledger) g.1 ∙ ap (λ (u : PassData). u.ledger) h.0.1;
+  number = ap (λ (u : PassData). u.number) g.1 ∙ ap (λ (u : PassData). u.number) h.0.1;
+  made = ap (λ (u : PassData). u.made) g.1 ∙ ap (λ (u : PassData). u.made) h.0.1;
+  limit = ap (λ (u : PassData). u.limit) g.1 ∙ ap (λ (u : PassData). u.limit) h.0.1;
+  joined = ap (λ (u : PassData). u.joined) g.1 ∙ ap (λ (u : PassData). u.joined) h.0.1;
+  lane = ap (λ (u : PassData). u.lane) g.1 ∙ sym idle;
+  lent = ap (λ (u : PassData). u.lent) g.1 ∙ sym none;
+  seen = starts_then x.seen w.seen v.seen (starts_with w x (LaneBack i) ss Noted 0 [] g)
+      (starts_with v w (LaneOut i) [] (Lane true) (i + 1) lane.shards h.0);
+}
+
+pub in_place_with : (v w : PassData) (e : Event) (ss : List ℕ) (r : Reply) (lane : ℕ) (lent : List ℕ) → CallsWith v e ss r lane lent w → IsInPlace v
+    → IsInPlace w
+in_place_with v w e ss r lane lent h place =
     let ledger : w.ledger ≡ v.ledger = ap (λ (u : PassData). u.ledger) h.1 in
     let number : w.number ≡ v.number = ap (λ (u : PassData). u.number) h.1 in record {
       plan = subst (λ (l : LedgerData). IsPlan l.plan) (sym ledger) place.plan;
       legal = subst (λ (l : LedgerData). IsLegal l.plan l.lanes w.seen) (sym ledger) h.3;
       own = subst (λ (n : ℕ). calls_by n w.seen ≡ w.mine) (sym number) h.4;
     }
+
+pub in_place_call : (v w : PassData) (e : Event) (r : Reply) → Calls v e r w → IsInPlace v → IsInPlace w
+in_place_call v w e r h place = in_place_with v w e [] r v.lane v.lent h place
 
 -- a claim that a pass drew is that of a drawn ticket
 pub claim_drawn : (v : PassData) (c : Claim) → IsInPlace v → HasDrawn c v.mine → IsDrawn v.ledger.plan (ends_in v v.seen) c

@@ -3,3 +3,4 @@ pub mod LeftLemmas
 pub mod AdvanceLemmas
 pub mod OrderLemmas
 pub mod WonLemmas
+pub mod ClosingLemmas

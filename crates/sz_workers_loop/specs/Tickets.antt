@@ -20,6 +20,10 @@ module _ (died : ℕ → ℕ → Type 0) (faults : ℕ → Type 0) (p : PlanData
     pub truth : AllTellTruth died faults further
     pub advances : (old : List Phase) → t < length old → phase_of old t ≡ from → TurnsAll p old further (slice_set old t to)
 
+  -- the further calls leave each ticket where it is
+  abbrev pub LeavesAll : PassData → PassData → Type 0
+  LeavesAll v w = (t : ℕ) (q : Phase) → Leads v w t q q
+
   -- they take it to some phase
   abbrev pub Stops : PassData → PassData → ℕ → Phase → Type 0
   Stops v w t from = (to : Phase) × Leads v w t from to

@@ -1,5 +1,5 @@
 -- What a worker knows of its pass and of its pocket.
-use Rattle.std.specs.Prelude.{◌≡◌, ◌⊎◌, ℕ, List, ◌++◌}
+use Rattle.std.specs.Prelude.{◌≡◌, ◌⊎◌, ℕ, List, [], ◌∷◌, ◌++◌, Result, Ok, Err}
 use Rattle.sz_book.specs.Plan.{IsPlan}
 use Rattle.sz_book.specs.Lanes.{LaneData}
 use Rattle.sz_book.specs.History.{IsLegal, calls_by, StartsWith, HasWon, HasGiven, IsAmong}
@@ -32,10 +32,21 @@ pub record Grows (old new : LaneData) : Type 0 where
 abbrev pub HasAllWon : PassData → LaneData → Type 0
 HasAllWon v pocket = (s : ℕ) → HasWon s v.mine → IsAmong s pocket.shards ⊎ HasGiven s v.mine
 
--- a worker's pocket has the plan of its pass's ledger, and stands for just the shards that the pass won and brought with no lane, each
--- once
+-- A worker's pocket has the plan of its pass's ledger, and stands for just the shards that the pass won and brought with no lane, each
+-- once. The pass has no lane
 pub record IsAtWork (v : PassData) (pocket : LaneData) : Type 0 where
   pub place : IsInPlace v
   pub plan : pocket.plan ≡ v.ledger.plan
   pub hand : AreInHand pocket.shards v.mine
   pub all : HasAllWon v pocket
+  pub idle : v.lane ≡ 0
+  pub none_lent : v.lent ≡ []
+
+-- the lane with these shards after its own
+abbrev pub longer_by : LaneData → List ℕ → LaneData
+longer_by lane shards = record { plan = lane.plan; shards = lane.shards ++ shards }
+
+-- the shard, where there was memory for its part
+abbrev pub added_by : {A B : Type 0} → Result A B → ℕ → List ℕ
+added_by (Ok a) s = s ∷ []
+added_by (Err e) s = []

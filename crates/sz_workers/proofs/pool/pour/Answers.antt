@@ -1,12 +1,27 @@
-use Rattle.std.proofs.Common.{sym, ap, ◌∙◌}
-use Rattle.sz_workers.specs.Parts.{are_apart}
-use Rattle.sz_workers.proofs.RestLemmas.{apart_is}
+use Rattle.std.proofs.Common.{◌++◌, List, ℕ, ap, sym, ◌∙◌, subst}
+use Rattle.std.proofs.lemmas.Result.{on_ok_weaker}
+use Rattle.sz_book.specs.History.{AreApart}
+use Rattle.sz_workers.specs.Parts.{HoldsShards}
 use Rattle.sz_workers.proofs.pool.pour.Goals as goal
 
-pub join-requires-clause-apart : goal.join-requires-clause-apart
-join-requires-clause-apart g c =
-    let ours = c.args.pool.now.shards in
-    let theirs = c.take-part.result.1 in
-    apart_is ours theirs
-    (ap (λ ss. are_apart ss theirs) (sym c.as_slice.ensures.value) ∙ ap (λ ts. are_apart c.as_slice.result.now ts) (sym c.as_slice-2.ensures.value)
-    ∙ sym c.are_apart.ensures.value ∙ c.if-are_apart.true)
+-- none of the shards is there yet
+pub absorb-requires-clause-apart : goal.absorb-requires-clause-apart
+absorb-requires-clause-apart g c =
+    let taken = c.take-part.ensures.value in (
+      c.args.pool.now.shards,
+      c.take-part.result.1,
+      c.requires.holds,
+      taken.1,
+      subst (λ (ss : List ℕ). AreApart c.args.pool.now.shards ss) (sym taken.2) c.requires.apart,
+    )
+
+pub returns-in-Ok-clause-holds : goal.returns-in-Ok-clause-holds
+returns-in-Ok-clause-holds g c =
+    let taken = c.take-part.ensures.value in
+    let apart = subst (λ (ss : List ℕ). AreApart c.args.pool.now.shards ss) (sym taken.2) c.requires.apart in
+    let both = c.in-Ok.ensures.ok.1 c.args.pool.now.shards c.take-part.result.1 c.requires.holds taken.1 apart in
+    on_ok_weaker c.append.result (λ is. subst (HoldsShards g.N.RoundName.job g.N.RoundName.round c.absorb.new.self.total) (sym is) both) c.append.ensures.ok
+
+pub returns-in-Ok-clause-all : goal.returns-in-Ok-clause-all
+returns-in-Ok-clause-all g c =
+    on_ok_weaker c.append.result (λ is. is ∙ ap (λ (ss : List ℕ). c.args.pool.now.shards ++ ss) c.take-part.ensures.value.2) c.append.ensures.ok

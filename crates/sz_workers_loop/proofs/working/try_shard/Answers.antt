@@ -65,7 +65,7 @@ loop-number-preserved g c =
     c.in-Some.ensures.call (λ s is e. is) c.loop-number.invariant.1 in (
       leads_try g.T.Load.died g.T.Load.faults c.args.ledger.now.plan c.args.pass.now c.loop-number.pass c.number.new.pass c.args.claim.now
           c.loop-number.invariant.0 c.try_once.new.pass c.in-Some.number asks c.in-Some.ensures.call led,
-      at_work_then c.number.new.pass c.try_once.new.pass c.loop-number.pocket c.try_once.new.pocket at led.goes.ledger led.place
+      at_work_then c.number.new.pass c.try_once.new.pass c.loop-number.pocket c.try_once.new.pocket at led.goes led.place
           c.try_once.ensures.grows c.try_once.ensures.hand c.in_ok-try_once.ensures.won,
       drawn_since c.number.new.pass c.try_once.new.pass c.args.claim.now led.further led.later drew,
       c.try_once.ensures.plan ∙ c.loop-number.invariant.3,

@@ -39,7 +39,7 @@ loop-claim-preserved g c =
     (λ s is e. is) c.loop-claim.invariant.1 in (
       between_then g.T.Load.died g.T.Load.faults c.args.ledger.now.plan c.args.pass.now c.loop-claim.pass c.draw.new.pass c.in-Some.claim
           c.loop-claim.invariant.0 of c.loop-claim.invariant.1.place c.in-Some.ensures.call c.try_shard.new.pass led,
-      at_work_then c.draw.new.pass c.try_shard.new.pass c.loop-claim.pocket c.try_shard.new.pocket at led.goes.ledger led.place
+      at_work_then c.draw.new.pass c.try_shard.new.pass c.loop-claim.pocket c.try_shard.new.pocket at led.goes led.place
           c.try_shard.ensures.grows c.try_shard.ensures.hand c.in_ok-try_shard.ensures.won,
       c.try_shard.ensures.plan ∙ c.loop-claim.invariant.2,
       grows_then c.args.pocket.now c.loop-claim.pocket c.try_shard.new.pocket c.loop-claim.invariant.3 c.try_shard.ensures.grows,

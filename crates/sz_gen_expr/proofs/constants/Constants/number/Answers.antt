@@ -11,7 +11,7 @@ use Rattle.sz_gen_expr.proofs.constants.Constants.number.Goals as goal
 pub returns-clause-number : goal.returns-clause-number
 returns-clause-number c =
     let d = seen c.in_ok-value.value in
-    let keys = c.self.inside.held.keys in
+    let keys = c.self.inside.values.keys in
     c.in_ok-number.ensures.index ∙ number_is seen (λ e. is_eq (compare d e)) keys
     ∙ ap (λ ds. number_in ds d) c.self.view_is ∙ ap (number_in c.args.self.now) c.in_ok-value.ensures.value
 
@@ -19,6 +19,6 @@ returns-clause-number c =
 pub returns-clause-kept : goal.returns-clause-kept
 returns-clause-kept c =
     let d = seen c.in_ok-value.value in
-    let keys = c.self.inside.held.keys in
+    let keys = c.self.inside.values.keys in
     ap (map seen) c.in_ok-number.ensures.keys ∙ kept_is seen (λ e. is_eq (compare d e)) keys c.in_ok-value.value
     ∙ ap (λ ds. with_constant ds d) c.self.view_is ∙ ap (with_constant c.args.self.now) c.in_ok-value.ensures.value

@@ -6,4 +6,4 @@ use Rattle.sz_workers.proofs.part.RoundPart.empty.Goals as goal
 -- the tables of a sound program have their weights
 pub new-requires : goal.new-requires
 new-requires g c =
-    record { weights = subst HaveTheirWeights (sym c.tables.ensures.value) (have_their_weights c.args.job.now.compiled c.requires.job.1.sound) }
+    record { weights = subst HaveTheirWeights (sym c.requires.decls) (have_their_weights g.N.RoundName.job.compiled c.requires.job.sound) }
