@@ -5,7 +5,9 @@ use Rattle.std.specs.List.{slice_range, copy_within}
 use Rattle.std.proofs.lemmas.List.{take_all, take-append-le, take-append-drop, drop-append-le, drop-drop, length-take-le}
 use Rattle.std.proofs.Math.Seq.{drop-append_seam}
 use Rattle.std.proofs.lemmas.List.Edits.{take-paste}
+use Rattle.std.proofs.lemmas.List.Sums.{sum_by-cons}
 use Rattle.sz_records.specs.Ends.{records_at, AreEnds}
+use Rattle.sz_records.specs.Shards.{bytes_in}
 
 -- what is left of a list whose rest was moved to its front
 pub left_later : {X : Type 0} (xs : List X) (k n : ℕ) → n ≡ length xs - k → k ≤ length xs → take n (copy_within xs k (length xs) 0) ≡ drop k xs
@@ -149,6 +151,45 @@ pub kept : (ends bytes : List ℕ) (n place : ℕ) → AreEnds 0 ends (length by
 kept ends bytes n place h le is =
     sym (more_after 0 (take n ends) (take place bytes) (drop place bytes) (kept_ends ends bytes n place h le is))
     ∙ ap (records_at 0 (take n ends)) (take-append-drop place bytes) ∙ sym (first_records 0 ends bytes n)
+
+-- the bytes of the first records lie between where they begin and where they end
+bytes_of_front : (from : ℕ) (ends bytes : List ℕ) (n : ℕ) → AreEnds from ends (length bytes) → n ≤ length ends
+    → bytes_in (take n (records_at from ends bytes)) + from ≡ get_or (from ∷ ends) n 0
+bytes_of_front from ends bytes zero h le = (let same : 0 + from ≡ from = omega arith in same)
+bytes_of_front from [] bytes (suc n) h le = absurd (omega (arith, le))
+bytes_of_front from (end ∷ ends) bytes (suc n) h le =
+    let more = bytes_of_front end ends bytes n h.1 (omega (arith, le)) in
+    let high = ends_rise end ends (length bytes) h.1 in
+    let low = h.0 in
+    let rest = length-drop from bytes in
+    let long = length-take-le (end - from) (drop from bytes) (omega (arith, rest, low, high)) in
+    let step = sum_by-cons length (slice_range bytes from end) (take n (records_at end ends bytes)) in
+    let there : get_or (from ∷ end ∷ ends) (suc n) 0 ≡ get_or (end ∷ ends) n 0 = refl in
+    omega (arith, step, there, more, long, low)
+
+-- places after others
+place_later : (start : ℕ) (ends : List ℕ) (n k : ℕ) → n ≤ length ends
+    → get_or (get_or (start ∷ ends) n 0 ∷ drop n ends) k 0 ≡ get_or (start ∷ ends) (n + k) 0
+place_later start ends zero k le = ap (λ (j : ℕ). get_or (start ∷ ends) j 0) (let e : k ≡ 0 + k = omega arith in e)
+place_later start [] (suc n) k le = absurd (omega (arith, le))
+place_later start (end ∷ ends) (suc n) k le =
+    place_later end ends n k (omega (arith, le))
+    ∙ ap (λ (j : ℕ). get_or (start ∷ end ∷ ends) j 0) (let e : suc (n + k) ≡ suc n + k = omega arith in e)
+
+-- the bytes of the records from one place to another
+pub bytes_held : (self : List (List ℕ)) (ends bytes : List ℕ) (from to : ℕ) → records_at 0 ends bytes ≡ self → AreEnds 0 ends (length bytes)
+    → from ≤ to → to ≤ length self → bytes_in (take (to - from) (drop from self)) + get_or (0 ∷ ends) from 0 ≡ get_or (0 ∷ ends) to 0
+bytes_held self ends bytes from to is h order le =
+    let all = ends_up_to self ends bytes to is le in
+    let front : from ≤ length ends = omega (arith, all, order) in
+    let start = get_or (0 ∷ ends) from 0 in
+    let rest = length-drop from ends in
+    let join : from + (to - from) ≡ to = omega (arith, order) in
+    ap (λ (rs : List (List ℕ)). bytes_in (take (to - from) (drop from rs)) + start) (sym is)
+    ∙ ap (λ (rs : List (List ℕ)). bytes_in (take (to - from) rs) + start) (later_records 0 ends bytes from front)
+    ∙ bytes_of_front start (drop from ends) bytes (to - from) (later_ends 0 ends (length bytes) from h front) (omega (arith, rest, all, order))
+    ∙ place_later 0 ends from (to - from) front
+    ∙ ap (λ (j : ℕ). get_or (0 ∷ ends) j 0) join
 
 -- the places in front of one are lowered, and the others are still to be
 abbrev pub AreLowered : ℕ → List ℕ → List ℕ → ℕ → Type 0

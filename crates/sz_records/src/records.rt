@@ -1,5 +1,6 @@
 //! Records that were cut from a file.
-ghost use Rattle.std.specs.Prelude.{◌≡◌, ◌==◌, ◌<◌, ◌≤◌, ◌++◌, ◌∷◌, [], length, take, drop, slice_get, OnOk, OnErr, Some};
+ghost use Rattle.std.specs.Prelude.{◌≡◌, ◌==◌, ◌-◌, ◌<◌, ◌≤◌, ◌++◌, ◌∷◌, [], length, take, drop, slice_get, OnOk, OnErr, Some};
+ghost use Rattle.sz_records.specs.Shards.{bytes_in};
 
 use crate::NoMemory;
 use crate::places::{between, drop_front, lower, place_before};
@@ -68,6 +69,17 @@ impl Records {
     {
         let from = place_before(self.ends.as_slice(), i);
         between(self.bytes.as_slice(), from, self.ends[i])
+    }
+
+    /// How many bytes the records from one place to another have together, by the places where they end.
+    pub fn bytes_between(&self, from: usize, to: usize) -> usize
+        requires order { from ≤ to }
+        requires within { to ≤ length self.now }
+        ensures value { result ≡ bytes_in (take (to - from) (drop from self.now)) }
+    {
+        let low = place_before(self.ends.as_slice(), from);
+        let high = place_before(self.ends.as_slice(), to);
+        high - low
     }
 
     /// Drops so many records from the front. It moves the bytes that stay, and their ends.

@@ -92,6 +92,12 @@ pub found_within : (records : List (List ℕ)) (from most : ℕ) (at_end : Bool)
 found_within records from most at_end None end all ends is same = omega (arith, is, same)
 found_within records from most at_end (Some found) end all ends is same = omega (arith, is, ends.within.1)
 
+pub found_after : (records : List (List ℕ)) (from most : ℕ) (at_end : Bool) (found : Option ℕ) (end all : ℕ)
+    → IfSome found (λ end. EndsShard records from most at_end end) → end ≡ unwrap_or found all → all ≡ length records → from ≤ length records
+    → from ≤ end
+found_after records from most at_end None end all ends is same low = omega (arith, is, same, low)
+found_after records from most at_end (Some found) end all ends is same low = omega (arith, is, ends.within.0)
+
 pub found_ends : (records : List (List ℕ)) (from most : ℕ) (at_end : Bool) (found : Option ℕ) (end all : ℕ)
     → IfSome found (λ end. EndsShard records from most at_end end) → end ≡ unwrap_or found all → is_some found ≡ true
     → EndsShard records from most at_end end

@@ -15,13 +15,13 @@ ghost use Rattle.szl.specs.ProgramRuns.{vec_items_of};
 ghost use Rattle.sz_words.specs.Bounds.{HasBounds, IsBounded};
 
 use crate::failure::{Failure, refused};
+use crate::heights::{declares_low, workers_for};
 use crate::judge::{checked, tree_in};
 use crate::opening::read_text;
 use crate::program_run::{job_of, statics_of, tables_of_file};
 use crate::reserved::runnable;
 use crate::selftest::answer_selftest;
 use std::alloc::Global;
-use std::sync::Wait;
 use std::thread::Threads;
 use sz_check_rules::Cause;
 use sz_core::Program;
@@ -37,7 +37,7 @@ const MOST_PROGRAM_BYTES: usize = 1_048_576;
 const FIRST_PLACE: Place = Place { line: 1, column: 1 };
 
 /// The text that the words ask for, or why there is none.
-pub fn answer<R: Threads + Wait + Sync, F: Files, G: Gate + Sync>(
+pub fn answer<R: Threads + Sync, F: Files, G: Gate + Sync>(
     rt: &R,
     alloc: Global,
     words: &[String],
@@ -54,7 +54,7 @@ pub fn answer<R: Threads + Wait + Sync, F: Files, G: Gate + Sync>(
 }
 
 /// The text that the settings ask for.
-fn answer_settings<R: Threads + Wait + Sync, F: Files, G: Gate + Sync>(
+fn answer_settings<R: Threads + Sync, F: Files, G: Gate + Sync>(
     rt: &R,
     alloc: Global,
     settings: &Settings,
@@ -98,7 +98,7 @@ fn read_program<F: Files>(alloc: Global, name: &str, files: &mut F) -> Result<Ve
 }
 
 /// The text of the tables of a program for an input, as these settings ask for it.
-fn answer_run<R: Threads + Wait + Sync, F: Files, G: Gate + Sync>(
+fn answer_run<R: Threads + Sync, F: Files, G: Gate + Sync>(
     rt: &R,
     alloc: Global,
     settings: &RunSettings,
@@ -137,7 +137,7 @@ fn check_text(alloc: Global, text: &[u8]) -> Result<Vec<u8>, Failure>
 }
 
 /// The text of the tables of the program that is spelled by a text.
-fn answer_text<R: Threads + Wait + Sync, F: Files, G: Gate + Sync>(
+fn answer_text<R: Threads + Sync, F: Files, G: Gate + Sync>(
     rt: &R,
     alloc: Global,
     text: &[u8],
@@ -159,7 +159,7 @@ fn answer_text<R: Threads + Wait + Sync, F: Files, G: Gate + Sync>(
 }
 
 /// The text of the program's tables for the input that the settings name. The input isn't opened where a static faults.
-fn answer_program<R: Threads + Wait + Sync, F: Files, G: Gate + Sync>(
+fn answer_program<R: Threads + Sync, F: Files, G: Gate + Sync>(
     rt: &R,
     alloc: Global,
     program: Program,
@@ -176,8 +176,10 @@ fn answer_program<R: Threads + Wait + Sync, F: Files, G: Gate + Sync>(
     ensures names { OnOk result (F.names files.new ≡ F.names files.old ++ settings.now.input ∷ []) }
     ensures kept { KeepsFiles F.held F.left F.given F.faults files.old files.new }
 {
+    let low = declares_low(&program);
     let compiled = compile(alloc, program, settings.ignore_undefs)?;
+    let workers = workers_for(low, &compiled, settings.workers);
     let statics = statics_of(alloc, &compiled, settings.budget)?;
     let job = job_of(alloc, compiled, statics, settings)?;
-    tables_of_file(rt, alloc, &job, settings, files, gate)
+    tables_of_file(rt, alloc, &job, settings, workers, files, gate)
 }

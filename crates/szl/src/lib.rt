@@ -3,6 +3,7 @@
 
 mod answer;
 mod failure;
+mod heights;
 mod judge;
 mod laws;
 mod lines;

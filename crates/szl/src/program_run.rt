@@ -10,7 +10,6 @@ ghost use Rattle.sz_words.specs.Bounds.{HasBounds};
 
 use crate::failure::Failure;
 use std::alloc::Global;
-use std::sync::Wait;
 use std::thread::Threads;
 use sz_attempt::Job;
 use sz_gen_stmt::Compiled;
@@ -56,12 +55,14 @@ pub fn job_of(
     })
 }
 
-/// The text of the program's tables for all records of the file that the settings name, by the frame, shards and workers that they ask for.
-pub fn tables_of_file<R: Threads + Wait + Sync, F: Files, G: Gate + Sync>(
+/// The text of the program's tables for all records of the file that the settings name, by the frame and shards that they ask for, run
+/// by so many workers.
+pub fn tables_of_file<R: Threads + Sync, F: Files, G: Gate + Sync>(
     rt: &R,
     alloc: Global,
     job: &Job,
     settings: &RunSettings,
+    workers: u32,
     files: &mut F,
     gate: &G,
 ) -> Result<Vec<u8>, Failure>
@@ -69,30 +70,33 @@ pub fn tables_of_file<R: Threads + Wait + Sync, F: Files, G: Gate + Sync>(
     requires job { IsJob job.now }
     requires attempts { (1 ≤ job.now.attempts) × (job.now.attempts ≤ 8) }
     requires bounds { HasBounds settings.now }
+    requires workers { (1 ≤ workers) × (workers ≤ 64) }
     ensures value { GivesFile F.Files job.now settings.now files.old files.new (vec_items_of result) }
     ensures end { OnOk result (ReadToEnd F.Files files.old files.new settings.now.input) }
     ensures names { OnOk result (F.names files.new ≡ F.names files.old ++ settings.now.input ∷ []) }
     ensures kept { KeepsFiles F.held F.left F.given F.faults files.old files.new }
 {
     let file = files.open_file(settings.input.as_str())?;
-    let total = run_file(rt, alloc, job, settings, files, file, gate)?;
+    let total = run_file(rt, alloc, job, settings, workers, files, file, gate)?;
     Ok(text(alloc, &total, job.compiled.tables())?)
 }
 
 /// The same for these bytes.
-pub fn tables_of_bytes<R: Threads + Wait + Sync, G: Gate + Sync>(
+pub fn tables_of_bytes<R: Threads + Sync, G: Gate + Sync>(
     rt: &R,
     alloc: Global,
     job: &Job,
     settings: &RunSettings,
+    workers: u32,
     input: &[u8],
     gate: &G,
 ) -> Result<Vec<u8>, Failure>
     requires job { IsJob job.now }
     requires attempts { (1 ≤ job.now.attempts) × (job.now.attempts ≤ 8) }
     requires bounds { HasBounds settings.now }
+    requires workers { (1 ≤ workers) × (workers ≤ 64) }
     ensures value { GivesTables job.now settings.now.shard settings.now.frame input.now ⊥ (vec_items_of result) }
 {
-    let total = run_bytes(rt, alloc, job, settings, input, gate)?;
+    let total = run_bytes(rt, alloc, job, settings, workers, input, gate)?;
     Ok(text(alloc, &total, job.compiled.tables())?)
 }

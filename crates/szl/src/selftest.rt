@@ -14,7 +14,6 @@ use crate::judge::tree_in;
 use crate::program_run::{job_of, statics_of, tables_of_bytes};
 use crate::reserved::runnable;
 use std::alloc::{AllocError, Global};
-use std::sync::Wait;
 use std::thread::Threads;
 use sz_core::Program;
 use sz_feed::{feed, program_bytes};
@@ -25,7 +24,7 @@ use sz_types::{Frame, Text};
 use sz_words::{DEFAULT_SHARD, RunSettings};
 
 /// The text of the tables of the self test's program for the file of the seed, of this many records.
-pub fn answer_selftest<R: Threads + Wait + Sync, G: Gate + Sync>(
+pub fn answer_selftest<R: Threads + Sync, G: Gate + Sync>(
     rt: &R,
     alloc: Global,
     seed: u64,
@@ -63,7 +62,7 @@ fn selftest_run(alloc: Global, workers: u32) -> Result<RunSettings, AllocError>
 }
 
 /// The text of the program's tables for these bytes, as these settings ask for it.
-fn answer_over<R: Threads + Wait + Sync, G: Gate + Sync>(
+fn answer_over<R: Threads + Sync, G: Gate + Sync>(
     rt: &R,
     alloc: Global,
     program: Program,
@@ -78,5 +77,5 @@ fn answer_over<R: Threads + Wait + Sync, G: Gate + Sync>(
     let compiled = compile(alloc, program, settings.ignore_undefs)?;
     let statics = statics_of(alloc, &compiled, settings.budget)?;
     let job = job_of(alloc, compiled, statics, settings)?;
-    tables_of_bytes(rt, alloc, &job, settings, input, gate)
+    tables_of_bytes(rt, alloc, &job, settings, settings.workers, input, gate)
 }

@@ -14,16 +14,15 @@ use crate::lines::{damaged_line, fault_line, limit_line, lost_line};
 use crate::refusal::refusal_line;
 use crate::status::Status;
 use std::alloc::{AllocError, Global};
-use std::sync::Wait;
 use std::thread::Threads;
 use sz_io::{Files, Gate, Sink, WriteError, write_whole};
 
 /// Runs the command line of these words, which come without the program's name: opens what it names in `files`,
 /// writes its text to `out`, and the line that says why there is none to `err`.
 ///
-/// Each round of shards is run by as many workers as the words ask for. All but the first have a thread, which is started for the round and
-/// ends with it: so the call may wait, and returns only if its threads do. The gate is called before each attempt.
-pub fn szl_main<R: Threads + Wait + Sync, F: Files, O: Sink, E: Sink, G: Gate + Sync>(
+/// Each round of shards is run by as many workers as the words ask for, or by one where the types of the program are very high. Each but
+/// one has a thread, which is started for the round and ends with it. The gate is called before each attempt.
+pub fn szl_main<R: Threads + Sync, F: Files, O: Sink, E: Sink, G: Gate + Sync>(
     rt: &R,
     alloc: Global,
     words: &[String],

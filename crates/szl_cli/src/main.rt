@@ -8,7 +8,6 @@ use std::alloc::{AllocError, Global};
 use std::fs::Files;
 use std::io::{self, Input, Stderr, Stdout};
 use std::process::ExitCode;
-use std::sync::Wait;
 use std::thread::{Builder, Threads};
 use std::{env, thread};
 use sz_io::{NoGate, OsFiles, OsSink, write_whole};
@@ -36,7 +35,7 @@ fn tell_no_memory(err: Stderr) -> ExitCode {
 }
 
 /// Runs the command line of these words over real files and streams, and gives the exit status.
-fn run<R: Threads + Wait + Sync + Files + Input>(
+fn run<R: Threads + Sync + Files + Input>(
     rt: &R,
     alloc: Global,
     words: &[String],

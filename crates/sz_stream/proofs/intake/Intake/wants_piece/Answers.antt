@@ -1,14 +1,16 @@
 use Rattle.std.proofs.Common.{arith, rules, ap, ◌∙◌, subst}
 use Rattle.std.specs.Prelude.{not}
 use Rattle.sz_records.specs.Shards.{EndsShard}
-use Rattle.sz_stream.proofs.ClosingLemmas.{closes_more, still_within, found_within, found_ends, found_open, answers_open}
+use Rattle.sz_stream.proofs.ClosingLemmas.{closes_more, still_within, found_within, found_after, found_ends, found_open, answers_open}
 use Rattle.sz_stream.proofs.intake.Intake.wants_piece.Goals as goal
 
 -- what is found lies among the records
-pub bytes_of-requires : goal.bytes_of-requires
-bytes_of-requires c =
+pub bytes_between-more-requires : goal.bytes_between-more-requires
+bytes_between-more-requires c =
     let now = c.loop-start.self in
     record {
+      order = found_after now.round.records now.closed now.most c.is_some-at_end.result c.shard_end-found.result c.unwrap_or-end.result c.len-all.result
+          c.shard_end-found.ensures.some c.unwrap_or-end.ensures c.len-all.ensures.value c.loop-start.invariant.within;
       within = found_within now.round.records now.closed now.most c.is_some-at_end.result c.shard_end-found.result c.unwrap_or-end.result c.len-all.result
           c.shard_end-found.ensures.some c.unwrap_or-end.ensures c.len-all.ensures.value;
     }

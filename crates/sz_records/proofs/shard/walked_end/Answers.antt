@@ -1,8 +1,8 @@
 use Rattle.std.proofs.Common.{◌+◌, ◌<◌, ◌≤◌, ◌^◌, length, arith, rules, sym, subst, inl, inr}
 use Rattle.sz_records.specs.Shards.{EndsShard}
 use Rattle.sz_records.proofs.ShardLemmas.{read_none, read_more, shard_full, all_read, shard_all, shard_open}
-use Rattle.sz_records.proofs.shard.shard_end.Goals as goal
-use Rattle.sz_records.proofs.shard.shard_end.Goals.{then-last-from-via-then-last-from, then-last-from-via-else-last-from+then-bytes-ge-SHARD_BYTES}
+use Rattle.sz_records.proofs.shard.walked_end.Goals as goal
+use Rattle.sz_records.proofs.shard.walked_end.Goals.{then-last-from-via-then-last-from, then-last-from-via-else-last-from+then-bytes-ge-SHARD_BYTES}
 
 pub loop-last-init : goal.loop-last-init
 loop-last-init c = read_none c.args.records.now c.args.from c.args.most c.requires.most (let n = c.if-from-len.false in let l = c.len.ensures.value in omega (arith, n, l))
