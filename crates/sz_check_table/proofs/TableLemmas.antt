@@ -94,7 +94,8 @@ as_kind (Err r) = Err r
 no_kind_is : (n : Ident) → as_kind (no_kind n) ≡ no_kind n
 no_kind_is n = by (has_name n.text left_out_kinds)
   where
-    by : (b : Bool) → as_kind (if b then refused_for LeftOut n else refused_for UnknownName n) ≡ (if b then refused_for LeftOut n else refused_for UnknownName n)
+    by : (b : Bool) → as_kind (if b then refused_for LeftOut n else refused_for UnknownName n)
+        ≡ (if b then refused_for LeftOut n else refused_for UnknownName n)
     by true = refl
     by false = refl
 

@@ -101,7 +101,7 @@ impl Intake {
             let found = shard_end(&self.round.records, start, self.most, at_end);
             let all = self.round.records.len();
             let end = found.unwrap_or(all);
-            let more = self.round.records.bytes_between(start, end);
+            let more = bytes_of(&self.round.records, start, end);
             let bytes = self.bytes.saturating_add(more);
             if !self.round.shards.is_empty() && is_large(end, bytes) {
                 return Ok(false);
@@ -150,4 +150,12 @@ impl Intake {
 /// Whether a round has no room for so many records with so many bytes.
 fn is_large(records: usize, bytes: usize) -> bool {
     records > MOST_RECORDS || bytes > MOST_BYTES
+}
+
+/// How many bytes the records from one place to another have.
+fn bytes_of(records: &Records, start: usize, end: usize) -> usize
+    requires order { start ≤ end }
+    requires within { end ≤ length records.now }
+{
+    records.bytes_between(start, end)
 }

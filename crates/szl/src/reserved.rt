@@ -1,7 +1,8 @@
 //! Whether a program can be run: one that is to ignore undefined values has no table of the name that the table of lines has.
-ghost use Rattle.std.specs.Prelude.{◌≡◌, IfOk, IfErr, Ok};
+ghost use Rattle.std.specs.Prelude.{◌≡◌, map, IfOk, IfErr, Ok};
 ghost use Rattle.sz_core.specs.Sound.{IsSound};
 ghost use Rattle.sz_mean.specs.Marked.{marked};
+ghost use Rattle.sz_tree.specs.Statements.{stms_of};
 ghost use Rattle.sz_tree.specs.View.{stm_of, program_of};
 ghost use Rattle.szl.specs.Judging.{IsFailureOn};
 ghost use Rattle.szl.specs.Reserved.{if_reserved, reserved_by, reserved_in, runnable};
@@ -27,11 +28,18 @@ pub fn runnable(alloc: Global, tree: &Tree, ignoring: bool) -> Result<Program, F
     }
 }
 
-// The place of the first statement that declares a table of the reserved name.
+// The place of the first statement of the tree that declares a table of the reserved name.
 fn reserved_in(tree: &Tree) -> Option<Place>
     ensures value { result ≡ reserved_in (program_of tree.now) }
 {
-    for statement in &tree.statements {
+    reserved_among(tree.statements.as_slice())
+}
+
+// The place of the first of these statements that does so.
+fn reserved_among(statements: &[Stmt]) -> Option<Place>
+    ensures value { result ≡ reserved_in (stms_of (map stm_of statements.now)) }
+{
+    for statement in statements {
         if let Some(place) = reserved_by(statement) {
             return Some(place);
         }

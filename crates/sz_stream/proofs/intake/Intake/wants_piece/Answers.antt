@@ -5,8 +5,8 @@ use Rattle.sz_stream.proofs.ClosingLemmas.{closes_more, still_within, found_with
 use Rattle.sz_stream.proofs.intake.Intake.wants_piece.Goals as goal
 
 -- what is found lies among the records
-pub bytes_between-more-requires : goal.bytes_between-more-requires
-bytes_between-more-requires c =
+pub bytes_of-more-requires : goal.bytes_of-more-requires
+bytes_of-more-requires c =
     let now = c.loop-start.self in
     record {
       order = found_after now.round.records now.closed now.most c.is_some-at_end.result c.shard_end-found.result c.unwrap_or-end.result c.len-all.result
