@@ -1,0 +1,4 @@
+mod SoundLemmas
+mod SetLemmas
+mod WordLemmas
+mod LoopLemmas

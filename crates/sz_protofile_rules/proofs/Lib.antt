@@ -1,0 +1,2 @@
+-- examples
+mod StandardFacts
