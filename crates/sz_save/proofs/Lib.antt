@@ -8,3 +8,4 @@ pub mod SavedLemmas
 pub mod NumberLemmas
 pub mod LoopLemmas
 pub mod ReadLemmas
+pub mod WritingLemmas

@@ -8,6 +8,7 @@ use Rattle.sz_types.specs.declared.encoding.Encoding.TheVariants.{Plain, Zigzag,
 use Rattle.sz_flat.specs.Spelling.{length_bytes, counted_bytes, IsShort}
 use Rattle.sz_save.specs.Names.{HasName}
 use Rattle.sz_save.specs.Types.{field_count, number_and_code, type_bytes, fields_bytes, HasNumber, HasTypeBytes, HaveFieldBytes, height, tallest}
+use Rattle.sz_save.specs.Fields.{field_bytes}
 use Rattle.sz_save.specs.Decoding.{and_then, byte_at, in_front, encoding_in, numbering_at, field_at, fields_at, type_cases, picked, type_at}
 use Rattle.sz_save.proofs.FrontLemmas.{Finds, none_some, some_is, then_some, SameFound, found_is, found_first, first_again, first_there, byte_some, in_front_some, if_some, picked_some, carried, two_parts, counted_finds}
 use Rattle.sz_save.proofs.NameLemmas.{length_finds, name_finds}
@@ -62,10 +63,6 @@ numbering_again true n rest h =
 numbering_finds : (numbered : Bool) → Finds (λ n. HasNumber numbered n.0 n.1) (numbering_bytes numbered) (numbering_at numbered)
 numbering_finds numbered = record { sound = numbering_sound numbered; again = numbering_again numbered }
 
--- the bytes of a field
-abbrev field_bytes : Bool → FieldShape → List ℕ
-field_bytes numbered (field name t number code) = counted_bytes name ++ (type_bytes t ++ numbering_bytes numbered (number, code))
-
 -- a type of at most so many levels has its bytes
 abbrev pub HasAt : ℕ → Shape → Type 0
 HasAt levels t = HasTypeBytes t × (height t ≤ levels)
@@ -118,7 +115,7 @@ pub count_of : (fs : List FieldShape) → field_count (fields_of fs) ≡ length 
 count_of [] = refl
 count_of (f ∷ fs) = omega (arith, count_of fs)
 
-bytes_of : (numbered : Bool) (fs : List FieldShape) → fields_bytes numbered (fields_of fs) ≡ flat_map (field_bytes numbered) fs
+pub bytes_of : (numbered : Bool) (fs : List FieldShape) → fields_bytes numbered (fields_of fs) ≡ flat_map (field_bytes numbered) fs
 bytes_of numbered [] = refl
 bytes_of numbered (field name t number code ∷ fs) = ap (λ l. field_bytes numbered (field name t number code) ++ l) (bytes_of numbered fs)
 

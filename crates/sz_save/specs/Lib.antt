@@ -8,5 +8,7 @@ pub mod Laws
 -- what the functions inside the crate promise each other
 pub mod Code
 pub mod Kinds
+pub mod Fields
+pub mod Short
 pub mod Decoding
 pub mod DecodingRows

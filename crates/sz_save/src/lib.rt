@@ -10,13 +10,17 @@ mod laws;
 mod names;
 mod numbers;
 mod order;
+mod put;
+mod put_rows;
 mod rows;
 mod saved;
 mod sized;
 mod types;
 mod values;
+mod writing;
 
 pub use error::SavedError;
 pub use laws::one_spelling;
 pub use saved::{Saved, SavedTables, read_saved};
 pub use sz_value::NoMemory;
+pub use writing::write_saved;

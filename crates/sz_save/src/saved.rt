@@ -2,7 +2,7 @@
 ghost use Rattle.std.specs.Prelude.{◌≡◌, length, zip, IfOk, IsErrOf};
 ghost use Rattle.sz_types.specs.SeenTables.{seen_table};
 ghost use Rattle.sz_save.specs.declared.error.SavedError.TheVariants as errors;
-ghost use Rattle.sz_save.specs.Saved.{SavedState, Saves};
+ghost use Rattle.sz_save.specs.Saved.{SavedState, CanBeSaved, Saves};
 ghost use Rattle.sz_save.specs.Decoding.{Reads, counted_at};
 ghost use Rattle.sz_save.specs.DecodingRows.{mark_at, head_at, table_at};
 
@@ -17,7 +17,7 @@ use sz_total::TableRows;
 use sz_types::{TableDecl, TableDecls};
 
 /// How saved tables begin.
-const MARK: &[u8] = b"SZTABLE1";
+pub(crate) const MARK: &[u8] = b"SZTABLE1";
 
 /// The greatest bound.
 const MOST: u64 = 1 << 63;
@@ -61,6 +61,7 @@ impl Saved {
     /// No more emits were counted than this.
     pub fn bound(&self) -> u64
         ensures value { result ≡ self.now.bound }
+        ensures can { CanBeSaved self.now }
     {
         self.bound
     }

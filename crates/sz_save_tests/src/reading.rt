@@ -3,7 +3,7 @@
 use crate::files::{saved, unsaved};
 use std::alloc::Global;
 use std::test::Fail;
-use sz_save::{Saved, SavedError, read_saved};
+use sz_save::{Saved, SavedError, read_saved, write_saved};
 use sz_tabs::{Row, RowValue};
 use sz_total::TableRows;
 
@@ -18,14 +18,30 @@ fn is_read(alloc: Global, bytes: &[u8]) -> bool {
     read_saved(alloc, bytes).is_ok()
 }
 
+// Whether the tables are written as these bytes.
+fn is_written(alloc: Global, saved: &Saved, bytes: &[u8]) -> bool {
+    match write_saved(alloc, saved) {
+        Ok(written) => written.as_slice() == bytes,
+        Err(_) => false,
+    }
+}
+
+// Whether the bytes are those of saved tables, and are written again.
+fn is_read_and_written(alloc: Global, bytes: &[u8]) -> bool {
+    match read_saved(alloc, bytes) {
+        Ok(saved) => is_written(alloc, &saved, bytes),
+        Err(_) => false,
+    }
+}
+
 fn is_refused(alloc: Global, bytes: &[u8]) -> bool {
     matches!(&read_saved(alloc, bytes), Err(SavedError::NotSaved))
 }
 
 #[test]
-fn files_of_each_kind_of_table_are_read(rt: HostRuntime) -> Result<(), Fail> {
+fn files_of_each_kind_of_table_are_read_and_written(rt: HostRuntime) -> Result<(), Fail> {
     for (what, bytes) in saved() {
-        assert!(rt; is_read(rt.alloc(), bytes), "at {what}");
+        assert!(rt; is_read_and_written(rt.alloc(), bytes), "at {what}");
     }
     Ok(())
 }
