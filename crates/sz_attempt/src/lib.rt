@@ -12,4 +12,4 @@ pub use laws::{
     attempts_end_as_listed, emits_of_records_are_few, kills_are_of_different_attempts,
     shards_are_lost_with_all_attempts,
 };
-pub use shard_run::attempt;
+pub use shard_run::{attempt, attempt_in};

@@ -19,10 +19,28 @@ use sz_value::NoMemory;
 use sz_words::Kill;
 
 /// Attempt `number`, counted from 0, of the shard `shard_no`, counted from 0. It runs the program for the shard's records, one after
-/// the other, in this room, which the caller keeps for the next attempt.
+/// the other.
 ///
 /// It dies as the kill list says, and what it had is dropped; a record that faults before that ends it first.
 pub fn attempt<'a>(
+    alloc: Global,
+    job: &'a Job,
+    records: &Records,
+    shard: &Shard,
+    shard_no: u64,
+    number: u32,
+) -> Result<AttemptEnd<'a>, NoMemory>
+    requires job { IsJob job.now }
+    requires number { number < job.now.attempts }
+    requires shard { IsShardIn records.now shard.now }
+    ensures value { IfOk result (λ end. EndsSo job.now.compiled (end_of job.now (shard_at shard_no records.now shard.now) number) end) }
+{
+    let mut room = Room::new(alloc);
+    attempt_in(alloc, &mut room, job, records, shard, shard_no, number)
+}
+
+/// The same in this room, which the caller keeps for the next attempt.
+pub fn attempt_in<'a>(
     alloc: Global,
     room: &mut Room,
     job: &'a Job,

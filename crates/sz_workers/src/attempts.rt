@@ -5,7 +5,7 @@ ghost use Rattle.sz_rounds.specs.Rounds.{IsRound};
 ghost use Rattle.sz_workers.specs.Ends.{IsEndOf};
 
 use std::alloc::Global;
-use sz_attempt::{AttemptEnd, Job, attempt};
+use sz_attempt::{AttemptEnd, Job, attempt_in};
 use sz_io::Gate;
 use sz_machine::Room;
 use sz_rounds::Round;
@@ -31,5 +31,5 @@ pub(crate) fn run_attempt<'a, G: Gate>(
     let shard_no = round.first_shard + u64::from(place);
     gate.at(ticket, shard_no, number);
     let shard = round.shards.get(place as usize);
-    attempt(alloc, room, job, &round.records, shard, shard_no, number)
+    attempt_in(alloc, room, job, &round.records, shard, shard_no, number)
 }

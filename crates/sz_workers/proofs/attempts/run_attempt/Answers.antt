@@ -15,7 +15,7 @@ returns g c =
     let there = numbered_at round.first_shard round.records round.shards place c.get-shard.result.now c.get-shard.ensures.value in
     let number = ap (λ n. round.first_shard + n) c.from.ensures in
     record {
-      value = IfOk-weaker c.attempt.result
+      value = IfOk-weaker c.attempt_in.result
           (EndsSo c.args.job.now.compiled (end_of c.args.job.now (shard_at
           (round.first_shard + c.from.result) round.records c.get-shard.result.now) c.args.number))
           (IsEndOf c.args.job.now round place c.args.number)
@@ -24,5 +24,5 @@ returns g c =
             there,
             subst (λ n. EndsSo c.args.job.now.compiled (end_of c.args.job.now (shard_at n round.records c.get-shard.result.now) c.args.number) end) number is,
           ))
-          c.attempt.ensures.value;
+          c.attempt_in.ensures.value;
     }

@@ -2,7 +2,7 @@ use Rattle.std.proofs.Common.{sym, subst}
 use Rattle.sz_total.specs.Weights.{HaveTheirWeights}
 use Rattle.sz_attempt.proofs.WeightLemmas.{have_their_weights}
 use Rattle.sz_attempt.proofs.EndLemmas.{fault_ends, death_ends, part_ends}
-use Rattle.sz_attempt.proofs.shard_run.attempt.Goals as goal
+use Rattle.sz_attempt.proofs.shard_run.attempt_in.Goals as goal
 
 -- the tables of a sound program have their weights
 pub new-requires : goal.new-requires
