@@ -8,4 +8,6 @@ mod fields;
 #[cfg(test)]
 mod lines;
 #[cfg(test)]
+mod ranks;
+#[cfg(test)]
 mod tokens;

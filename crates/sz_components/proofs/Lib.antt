@@ -1,0 +1,10 @@
+mod Places
+mod Ways
+mod Taken
+mod Opened
+mod Closed
+mod Cuts
+mod Closings
+mod Steps
+mod Sounds
+mod Ends

@@ -1,0 +1,62 @@
+-- How many steps are left, and which nodes were seen.
+use Rattle.std.proofs.Common.{◌≡◌, ◌≢◌, ℕ, zero, suc, ◌+◌, ◌<◌, ◌⊎◌, inl, inr, Bool, true, false, nat_lt, if◌then◌else◌, List, [], ◌∷◌, length, set, refl, sym, ap, ◌∙◌, arith}
+use Rattle.sz_components.specs.declared.mark.Mark.{Mark}
+use Rattle.sz_components.specs.declared.mark.Mark.TheVariants as mark
+use Rattle.sz_components.specs.Components.{links_of}
+use Rattle.sz_components.specs.Search.{mark_of, closing, IsClosing, KeepsSeen, weight, unseen_steps}
+use Rattle.sz_components.proofs.Ways.{open_unseen, closed_unseen, set_cases}
+
+pub steps_set : (marks : List Mark) (graph : List (List ℕ)) (v : ℕ) (m : Mark) → v < length marks → length marks ≡ length graph
+    → unseen_steps (set marks v m) graph + weight (mark_of marks v) (links_of graph v) ≡ unseen_steps marks graph + weight m (links_of graph v)
+steps_set [] graph v m l e = absurd (omega (arith, l))
+steps_set (n ∷ marks) [] v m l e = absurd (omega (arith, e))
+steps_set (n ∷ marks) (links ∷ graph) zero m l e = omega arith
+steps_set (n ∷ marks) (links ∷ graph) (suc v) m l e = omega (arith, steps_set marks graph v m (omega (arith, l)) (omega (arith, e)))
+
+pub steps_alike : (marks after : List Mark) (graph : List (List ℕ)) → length after ≡ length marks
+    → ((u : ℕ) → weight (mark_of after u) (links_of graph u) ≡ weight (mark_of marks u) (links_of graph u))
+    → unseen_steps after graph ≡ unseen_steps marks graph
+steps_alike [] [] graph e f = refl
+steps_alike [] (n ∷ after) graph e f = absurd (omega (arith, e))
+steps_alike (m ∷ marks) [] graph e f = absurd (omega (arith, e))
+steps_alike (m ∷ marks) (n ∷ after) [] e f = refl
+steps_alike (m ∷ marks) (n ∷ after) (links ∷ graph) e f =
+    let rest = steps_alike marks after graph (omega (arith, e)) (λ u. f (suc u)) in
+    omega (arith, f zero, rest)
+
+closing_weight : (place number : ℕ) (m : Mark) (links : List ℕ) → weight (closing place number m) links ≡ weight m links
+closing_weight place number mark.Unseen links = refl
+closing_weight place number (mark.Closed k) links = refl
+closing_weight place number (mark.Open p) links = by (nat_lt p place)
+  where
+    by : (b : Bool) → weight (if b then mark.Open p else mark.Closed number) links ≡ 0
+    by true = refl
+    by false = refl
+
+pub steps_closing : (place number : ℕ) (marks after : List Mark) (graph : List (List ℕ)) → IsClosing place number marks after
+    → unseen_steps after graph ≡ unseen_steps marks graph
+steps_closing place number marks after graph c =
+    steps_alike marks after graph c.same
+    (λ u. ap (λ m. weight m (links_of graph u)) (c.marked u) ∙ closing_weight place number (mark_of marks u) (links_of graph u))
+
+-- ---- what was seen stays so
+
+pub seen_set : (marks : List Mark) (v : ℕ) (p : ℕ) → v < length marks → KeepsSeen marks (set marks v (mark.Open p))
+seen_set marks v p l u e = by (set_cases marks v (mark.Open p) l u)
+  where
+    by : ((u ≡ v) × (mark_of (set marks v (mark.Open p)) u ≡ mark.Open p)) ⊎ ((u ≢ v) × (mark_of (set marks v (mark.Open p)) u ≡ mark_of marks u))
+        → mark_of marks u ≡ mark.Unseen
+    by (inl f) = absurd (open_unseen p (sym f.1 ∙ e))
+    by (inr f) = sym f.1 ∙ e
+
+pub seen_closing : (place number : ℕ) (marks after : List Mark) → IsClosing place number marks after → KeepsSeen marks after
+seen_closing place number marks after c u e = by (mark_of marks u) (sym (c.marked u) ∙ e)
+  where
+    by_test : (b : Bool) (p : ℕ) → (if b then mark.Open p else mark.Closed number) ≡ mark.Unseen → mark.Open p ≡ mark.Unseen
+    by_test true p f = f
+    by_test false p f = absurd (closed_unseen number f)
+
+    by : (m : Mark) → closing place number m ≡ mark.Unseen → m ≡ mark.Unseen
+    by mark.Unseen f = refl
+    by (mark.Open p) f = by_test (nat_lt p place) p f
+    by (mark.Closed k) f = absurd (closed_unseen k f)

@@ -1,0 +1,8 @@
+//! Which messages of a `.proto` file lead back to themselves.
+#![tactic(auto)]
+
+mod graph;
+mod nodes;
+mod ranks;
+
+pub use ranks::{Ranks, message_ranks};
