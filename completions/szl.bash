@@ -10,10 +10,10 @@ _szl() {
     fi
     case $before in
     --frame) mapfile -t COMPREPLY < <(compgen -W "lines delimited" -- "$word") ;;
-    --workers | --budget | --shard | --attempts | --kill | --twice) ;;
+    --workers | --budget | --skip | --shard | --attempts | --kill | --twice) ;;
     *)
         if [[ $word == -* && ${COMP_WORDS[1]} == run ]]; then
-            mapfile -t COMPREPLY < <(compgen -W "--frame --workers --budget --shard --attempts --kill --twice --ignore-undefs" -- "$word")
+            mapfile -t COMPREPLY < <(compgen -W "--frame --workers --budget --skip --shard --attempts --kill --twice --ignore-undefs" -- "$word")
         elif [ "${COMP_WORDS[1]}" != selftest ]; then
             compopt -o filenames
             mapfile -t COMPREPLY < <(compgen -f -- "$word")

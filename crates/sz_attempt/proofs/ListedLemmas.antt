@@ -10,13 +10,13 @@ use Rattle.std.proofs.lemmas.List.Elements.{Contains-push_cases, filter-append}
 use Rattle.sz_words.specs.Texts.{pieces}
 use Rattle.sz_words.specs.Lists.{kill_of, is_killed, kills_with, kills_in, most_entries}
 use Rattle.sz_words.specs.declared.settings.Kill.{Kill}
-use Rattle.sz_mean.specs.Records.{Records, Emitted, FaultedAt}
 use Rattle.sz_attempt.specs.declared.job.Job.{Job}
 use Rattle.sz_attempt.specs.Shards.{ShardData}
-use Rattle.sz_attempt.specs.Attempts.{End, gives, faults, dies, kills_of, lesser, least_of, is_clean, living_end, end_by, means, shard_means}
+use Rattle.sz_attempt.specs.Yields.{Yield}
+use Rattle.sz_attempt.specs.Attempts.{End, gives, fails, dies, kills_of, lesser, least_of, passes, living_end, end_by, shard_means, front_means}
 use Rattle.sz_attempt.specs.Attempts.{has_effect, deaths_of, end_of, DiedAfter, HasDied, IsLost, dies_at, all_die, is_lost}
 use Rattle.sz_attempt.specs.ShardRuns.{least_with}
-use Rattle.sz_attempt.proofs.DeathLemmas.{kept, least_push, effect_closed, end_by_least}
+use Rattle.sz_attempt.proofs.DeathLemmas.{kept, least_push, effect_closed, end_by_least, few_pass, passed_are_few}
 
 -- a kill of an attempt
 abbrev kill : ℕ → ℕ → ℕ → Kill
@@ -123,47 +123,45 @@ listed_least s k (one ∷ ks) i (suc n, less, at) =
 
 -- what the end of an attempt says of the kill list
 module _ (job : Job) (shard : ShardData) (k : ℕ) where
-  by_effect : (b : Bool) (after : ℕ) (r : Records) (j : ℕ) → end_by (if b then Some after else None) r ≡ dies j → (b ≡ true) × (after ≡ j)
-  by_effect true after r j e = (refl, same_dies after j e)
+  not_dying : (y : Yield) (j : ℕ) → ¬ (living_end job.skip y ≡ dies j)
+  not_dying y j e = by (passes job.skip y) e
+    where
+      by : (b : Bool) → (if b then gives y.emits y.faults else fails (take (suc job.skip) y.faults)) ≡ dies j → ⊥
+      by true h = absurd (cc)
+      by false h = absurd (cc)
+
+  by_effect : (b : Bool) (after : ℕ) (y : Yield) (j : ℕ) → end_by job.skip (if b then Some after else None) y ≡ dies j → (b ≡ true) × (after ≡ j)
+  by_effect true after y j e = (refl, same_dies after j e)
     where
       same_dies : (a b : ℕ) → dies a ≡ dies b → a ≡ b
       same_dies a b f = cc
-  by_effect false after (Emitted es) j e = absurd (cc)
-  by_effect false after (FaultedAt n f) j e = absurd (cc)
+  by_effect false after y j e = absurd (not_dying y j e)
 
   parts_of : (after : ℕ) → has_effect job shard after ≡ true
-      → (after ≤ length shard.records) × (is_clean (means job shard.first (take after shard.records)) ≡ true)
-  parts_of after h = by (nat_le after (length shard.records)) (is_clean (means job shard.first (take after shard.records))) refl refl h
+      → (after ≤ length shard.records) × (length (front_means job shard after).faults ≤ job.skip)
+  parts_of after h = by (nat_le after (length shard.records)) (passes job.skip (front_means job shard after)) refl refl h
     where
       at_most : (a b : ℕ) → nat_le a b ≡ true → a ≤ b
       at_most a b e = grind (arith, nat_tests)
 
-      by : (x y : Bool) → nat_le after (length shard.records) ≡ x → is_clean (means job shard.first (take after shard.records)) ≡ y → (x && y) ≡ true
-          → (after ≤ length shard.records) × (is_clean (means job shard.first (take after shard.records)) ≡ true)
-      by true true e f g = (at_most after (length shard.records) e, f)
+      by : (x y : Bool) → nat_le after (length shard.records) ≡ x → passes job.skip (front_means job shard after) ≡ y → (x && y) ≡ true
+          → (after ≤ length shard.records) × (length (front_means job shard after).faults ≤ job.skip)
+      by true true e f g = (at_most after (length shard.records) e, passed_are_few job.skip (front_means job shard after) f)
       by true false e f g = absurd (cc)
       by false y e f g = absurd (cc)
 
-  effect_of : (after : ℕ) → after ≤ length shard.records → ¬ (is_clean (means job shard.first (take after shard.records)) ≡ false)
-      → has_effect job shard after ≡ true
-  effect_of after le clean = by (nat_le after (length shard.records)) (is_clean (means job shard.first (take after shard.records))) refl refl
+  effect_of : (after : ℕ) → after ≤ length shard.records → length (front_means job shard after).faults ≤ job.skip → has_effect job shard after ≡ true
+  effect_of after le few =
+      ap (λ b. b && passes job.skip (front_means job shard after)) (tested after (length shard.records) le)
+      ∙ few_pass job.skip (front_means job shard after) few
     where
       tested : (a b : ℕ) → a ≤ b → nat_le a b ≡ true
       tested a b l = grind (arith, nat_tests)
-
-      by : (x y : Bool) → nat_le after (length shard.records) ≡ x → is_clean (means job shard.first (take after shard.records)) ≡ y → (x && y) ≡ true
-      by true true e f = refl
-      by true false e f = absurd (clean f)
-      by false y e f = absurd (let yes = tested after (length shard.records) le in cc)
 
   -- an attempt that ends by a death died so
   pub died_after : (j : ℕ) → end_of job shard k ≡ dies j → DiedAfter job shard k j
   died_after j is = by (least_of (kills_of shard.number k job.kills)) refl (sym (end_by_least job shard k) ∙ is)
     where
-      not_dead : (r : Records) → ¬ (living_end r ≡ dies j)
-      not_dead (Emitted es) e = absurd (cc)
-      not_dead (FaultedAt n f) e = absurd (cc)
-
       dead : (after : ℕ) → least_of (kills_of shard.number k job.kills) ≡ Some after → (has_effect job shard after ≡ true) × (after ≡ j)
           → DiedAfter job shard k j
       dead after at h =
@@ -171,37 +169,38 @@ module _ (job : Job) (shard : ShardData) (k : ℕ) where
           subst (DiedAfter job shard k) h.1 (record {
             listed = least_listed shard.number k job.kills after at;
             within = parts.0;
-            clean = λ bad. absurd (let good = parts.1 in cc);
+            few = parts.1;
           })
 
       by : (o : Option ℕ) → least_of (kills_of shard.number k job.kills) ≡ o
-          → end_by (kept (has_effect job shard) o) (shard_means job shard) ≡ dies j → DiedAfter job shard k j
-      by None at e = absurd (not_dead (shard_means job shard) e)
+          → end_by job.skip (kept (has_effect job shard) o) (shard_means job shard) ≡ dies j → DiedAfter job shard k j
+      by None at e = absurd (not_dying (shard_means job shard) j e)
       by (Some after) at e = dead after at (by_effect (has_effect job shard after) after (shard_means job shard) j e)
 
   -- an attempt that died ends by a death, at the latest after so many records
   pub dies_by : (i : ℕ) → DiedAfter job shard k i → (j : ℕ) × (end_of job shard k ≡ dies j) × (j ≤ i)
   dies_by i died =
       let h = listed_least shard.number k job.kills i died.listed in
-      let first = effect_closed job shard i h.least h.below (effect_of i died.within died.clean) in (
+      let first = effect_closed job shard i h.least h.below (effect_of i died.within died.few) in (
         h.least,
-        end_by_least job shard k ∙ ap (λ o. end_by (kept (has_effect job shard) o) (shard_means job shard)) h.is
-            ∙ ap (λ b. end_by (if b then Some h.least else None) (shard_means job shard)) first,
+        end_by_least job shard k ∙ ap (λ o. end_by job.skip (kept (has_effect job shard) o) (shard_means job shard)) h.is
+            ∙ ap (λ b. end_by job.skip (if b then Some h.least else None) (shard_means job shard)) first,
         h.below,
       )
 
   -- an attempt that didn't die gives what the records mean
-  pub lives_else : ¬ HasDied job shard k → end_of job shard k ≡ living_end (shard_means job shard)
+  pub lives_else : ¬ HasDied job shard k → end_of job shard k ≡ living_end job.skip (shard_means job shard)
   lives_else alive = by (least_of (deaths_of job shard k)) refl
     where
-      by : (o : Option ℕ) → least_of (deaths_of job shard k) ≡ o → end_by o (shard_means job shard) ≡ living_end (shard_means job shard)
+      by : (o : Option ℕ) → least_of (deaths_of job shard k) ≡ o
+          → end_by job.skip o (shard_means job shard) ≡ living_end job.skip (shard_means job shard)
       by None is = refl
-      by (Some j) is = absurd (alive (j, died_after j (ap (λ o. end_by o (shard_means job shard)) is)))
+      by (Some j) is = absurd (alive (j, died_after j (ap (λ o. end_by job.skip o (shard_means job shard)) is)))
 
   dead_end : (e : End) → end_of job shard k ≡ e → dies_at e ≡ true → HasDied job shard k
   dead_end (dies j) is h = (j, died_after j is)
-  dead_end (gives es) is h = absurd (cc)
-  dead_end (faults n f) is h = absurd (cc)
+  dead_end (gives es fs) is h = absurd (cc)
+  dead_end (fails fs) is h = absurd (cc)
 
   pub has_died : dies_at (end_of job shard k) ≡ true → HasDied job shard k
   has_died h = dead_end (end_of job shard k) refl h

@@ -1,31 +1,30 @@
 -- What a program means for records in parts.
-use Rattle.std.proofs.Common.{◌≡◌, ℕ, zero, suc, ◌+◌, ◌*◌, ◌≤◌, List, [], ◌∷◌, ◌++◌, length, take, drop, true, refl, sym, ap, ◌∙◌, arith, append-nil}
-use Rattle.std.proofs.Common.{length-append}
+use Rattle.std.proofs.Common.{◌≡◌, ℕ, zero, suc, ◌+◌, ◌*◌, ◌≤◌, List, [], ◌∷◌, ◌++◌, length, take, drop, refl, sym, ap, ◌∙◌, arith, append-nil}
+use Rattle.std.proofs.Common.{append_assoc, length-append}
 use Rattle.sz_tabs.specs.Data.{EmitDatum}
-use Rattle.sz_world_rules.specs.World.{Fault, Outcome, Done, Faulted}
+use Rattle.sz_world_rules.specs.World.{Outcome, Done, Faulted}
 use Rattle.sz_mean.specs.Programs.{mean}
-use Rattle.sz_mean.specs.Records.{Records, Emitted, FaultedAt, after_emits, then_records}
-use Rattle.sz_mean.proofs.RecordLaws.{later_both}
 use Rattle.sz_mean.proofs.EmitCosts.{emits_are_paid}
 use Rattle.sz_attempt.specs.declared.job.Job.{Job}
-use Rattle.sz_attempt.specs.Attempts.{means, is_clean}
+use Rattle.sz_attempt.specs.Yields.{Faulting, Yield, both, yield_of, means}
 
--- what comes of records after which others come
-abbrev pub joined : Records → Records → Records
-joined (Emitted es) r = after_emits es r
-joined (FaultedAt n f) r = FaultedAt n f
+-- what comes of no records
+abbrev pub nothing : Yield
+nothing = record { emits = []; faults = [] }
 
-after_nothing : (r : Records) → r ≡ after_emits [] r
-after_nothing (Emitted es) = refl
-after_nothing (FaultedAt n f) = refl
+abbrev yield : List EmitDatum → List Faulting → Yield
+yield es fs = record { emits = es; faults = fs }
 
-after_joined : (es : List EmitDatum) (a b : Records) → after_emits es (joined a b) ≡ joined (after_emits es a) b
-after_joined es (Emitted fs) b = later_both es fs b
-after_joined es (FaultedAt n f) b = refl
+pub both_nothing : (y : Yield) → y ≡ both nothing y
+both_nothing y = refl
 
-then_joined : (n : ℕ) (o : Outcome (List EmitDatum)) (a b : Records) → then_records n o (joined a b) ≡ joined (then_records n o a) b
-then_joined n (Done es) a b = after_joined es a b
-then_joined n (Faulted f) a b = refl
+pub nothing_both : (y : Yield) → both y nothing ≡ y
+nothing_both y = ap (λ es. yield es (y.faults ++ [])) (append-nil y.emits) ∙ ap (yield y.emits) (append-nil y.faults)
+
+pub both_assoc : (a b c : Yield) → both a (both b c) ≡ both (both a b) c
+both_assoc a b c =
+    ap (λ es. yield es (a.faults ++ (b.faults ++ c.faults))) (sym (append_assoc a.emits b.emits c.emits))
+    ∙ ap (yield ((a.emits ++ b.emits) ++ c.emits)) (sym (append_assoc a.faults b.faults c.faults))
 
 -- a list in front of a place and after it
 pub take_and_drop : {A : Type 0} (n : ℕ) (xs : List A) → xs ≡ take n xs ++ drop n xs
@@ -50,68 +49,71 @@ take_whole zero (x ∷ xs) le = absurd (omega arith)
 take_whole (suc n) [] le = refl
 take_whole (suc n) (x ∷ xs) le = ap (λ ys. x ∷ ys) (take_whole n xs (omega arith))
 
+-- so many items of the front of a list
+pub take_front : {A : Type 0} (n : ℕ) (xs ys : List A) → n ≤ length xs → take n (xs ++ ys) ≡ take n xs
+take_front zero xs ys le = refl
+take_front (suc n) [] ys le = absurd (omega arith)
+take_front (suc n) (x ∷ xs) ys le = ap (λ zs. x ∷ zs) (take_front n xs ys (omega arith))
+
+-- the front of a list is no longer than the list
+pub take_shorter : {A : Type 0} (n : ℕ) (xs : List A) → length (take n xs) ≤ length xs
+take_shorter zero xs = omega arith
+take_shorter (suc n) [] = omega arith
+take_shorter (suc n) (x ∷ xs) = let rest = take_shorter n xs in omega (arith, rest)
+
+-- a list is short whose front is
+pub take_short : {A : Type 0} (n : ℕ) (xs : List A) → length (take (suc n) xs) ≤ n → length xs ≤ n
+take_short n [] le = omega arith
+take_short zero (x ∷ xs) le = absurd (omega (arith, le))
+take_short (suc n) (x ∷ xs) le = let rest = take_short n xs (omega (arith, le)) in omega (arith, rest)
+
 module _ (job : Job) where
-  pub means-append : (n : ℕ) (xs ys : List (List ℕ)) → means job n (xs ++ ys) ≡ joined (means job n xs) (means job (n + length xs) ys)
+  pub means-append : (n : ℕ) (xs ys : List (List ℕ)) → means job n (xs ++ ys) ≡ both (means job n xs) (means job (n + length xs) ys)
   means-append n [] ys =
       let same : n + 0 ≡ n = omega arith in
-      after_nothing (means job n ys) ∙ ap (λ m. after_emits [] (means job m ys)) (sym same)
+      both_nothing (means job n ys) ∙ ap (λ m. both nothing (means job m ys)) (sym same)
   means-append n (x ∷ xs) ys =
       let same : suc n + length xs ≡ n + suc (length xs) = omega arith in
-      let one = mean job.compiled job.statics job.budget x in
-      ap (then_records n one) (means-append (suc n) xs ys)
-      ∙ then_joined n one (means job (suc n) xs) (means job (suc n + length xs) ys)
-      ∙ ap (λ m. joined (then_records n one (means job (suc n) xs)) (means job m ys)) same
+      let one = yield_of n (mean job.compiled job.statics job.budget x) in
+      ap (both one) (means-append (suc n) xs ys)
+      ∙ both_assoc one (means job (suc n) xs) (means job (suc n + length xs) ys)
+      ∙ ap (λ m. both (both one (means job (suc n) xs)) (means job m ys)) same
 
-  -- one record more that gives its emits
-  pub means_more : (n : ℕ) (xs : List (List ℕ)) (x : List ℕ) (es more : List EmitDatum) → means job n xs ≡ Emitted es
-      → mean job.compiled job.statics job.budget x ≡ Done more → means job n (xs ++ x ∷ []) ≡ Emitted (es ++ more)
-  means_more n xs x es more front last =
-      means-append n xs (x ∷ []) ∙ ap (λ r. joined r (means job (n + length xs) (x ∷ []))) front
-      ∙ ap (λ o. after_emits es (then_records (n + length xs) o (Emitted []))) last
-      ∙ ap (λ fs. Emitted (es ++ fs)) (append-nil more)
+  -- one record more
+  pub means_more : (n : ℕ) (xs : List (List ℕ)) (x : List ℕ)
+      → means job n (xs ++ x ∷ []) ≡ both (means job n xs) (yield_of (n + length xs) (mean job.compiled job.statics job.budget x))
+  means_more n xs x =
+      means-append n xs (x ∷ [])
+      ∙ ap (both (means job n xs)) (nothing_both (yield_of (n + length xs) (mean job.compiled job.statics job.budget x)))
 
-  -- one record more that faults
-  pub means_fault : (n : ℕ) (xs : List (List ℕ)) (x : List ℕ) (es : List EmitDatum) (f : Fault) → means job n xs ≡ Emitted es
-      → mean job.compiled job.statics job.budget x ≡ Faulted f → means job n (xs ++ x ∷ []) ≡ FaultedAt (n + length xs) f
-  means_fault n xs x es f front last =
-      means-append n xs (x ∷ []) ∙ ap (λ r. joined r (means job (n + length xs) (x ∷ []))) front
-      ∙ ap (λ o. after_emits es (then_records (n + length xs) o (Emitted []))) last
+  -- the records that fault of all are those of the first ones and those of the others
+  pub faults_in_front : (n i : ℕ) (xs : List (List ℕ))
+      → (means job n xs).faults ≡ (means job n (take i xs)).faults ++ (means job (n + length (take i xs)) (drop i xs)).faults
+  faults_in_front n i xs = ap (λ (y : Yield). y.faults) (ap (means job n) (take_and_drop i xs) ∙ means-append n (take i xs) (drop i xs))
 
-  -- a fault among the first records is that of them all
-  pub fault_stays : (n i k : ℕ) (xs : List (List ℕ)) (f : Fault) → means job n (take i xs) ≡ FaultedAt k f → means job n xs ≡ FaultedAt k f
-  fault_stays n i k xs f is =
-      ap (means job n) (take_and_drop i xs) ∙ means-append n (take i xs) (drop i xs)
-      ∙ ap (λ r. joined r (means job (n + length (take i xs)) (drop i xs))) is
+  -- of fewer records fewer fault
+  pub fewer_faults : (n i j : ℕ) (xs : List (List ℕ)) → j ≤ i → length (means job n (take j xs)).faults ≤ length (means job n (take i xs)).faults
+  fewer_faults n i j xs le =
+      let parts = ap length (faults_in_front n j (take i xs)) in
+      let same = ap (λ ys. length (means job n ys).faults) (take_of_take j i xs le) in
+      let both = length-append (means job n (take j (take i xs))).faults (means job (n + length (take j (take i xs))) (drop j (take i xs))).faults in
+      omega (arith, parts, same, both)
 
-  -- the first records don't fault where more of them don't
-  pub clean_front : (n i j : ℕ) (xs : List (List ℕ)) → j ≤ i → is_clean (means job n (take i xs)) ≡ true → is_clean (means job n (take j xs)) ≡ true
-  clean_front n i j xs le clean = by (means job n (take j xs)) refl
-    where
-      by : (r : Records) → means job n (take j xs) ≡ r → is_clean r ≡ true
-      by (Emitted es) is = refl
-      by (FaultedAt k f) is =
-          let stays = fault_stays n j k (take i xs) f (ap (means job n) (take_of_take j i xs le) ∙ is) in
-          sym (ap is_clean stays) ∙ clean
+  pub fewer_than_all : (n i : ℕ) (xs : List (List ℕ)) → length (means job n (take i xs)).faults ≤ length (means job n xs).faults
+  fewer_than_all n i xs =
+      let parts = ap length (faults_in_front n i xs) in
+      let both = length-append (means job n (take i xs)).faults (means job (n + length (take i xs)) (drop i xs)).faults in
+      omega (arith, parts, both)
 
   -- each record has at most as many emits as it may take ticks
-  pub few_emits : (n : ℕ) (rs : List (List ℕ)) (es : List EmitDatum) → means job n rs ≡ Emitted es → length es ≤ job.budget * length rs
-  few_emits n [] es is = let none = ap length (same [] es is) in omega (arith, none)
+  pub few_emits : (n : ℕ) (rs : List (List ℕ)) → length (means job n rs).emits ≤ job.budget * length rs
+  few_emits n [] = omega arith
+  few_emits n (r ∷ rs) = by (mean job.compiled job.statics job.budget r) refl (few_emits (suc n) rs)
     where
-      same : (a b : List EmitDatum) → Emitted a ≡ Emitted b → a ≡ b
-      same a b e = cc
-  few_emits n (r ∷ rs) es is =
-      by (mean job.compiled job.statics job.budget r) (means job (suc n) rs) refl (few_emits (suc n) rs) is
-    where
-      same : (a b : List EmitDatum) → Emitted a ≡ Emitted b → a ≡ b
-      same a b e = cc
-
-      by : (o : Outcome (List EmitDatum)) (rest : Records) → mean job.compiled job.statics job.budget r ≡ o
-          → ((fs : List EmitDatum) → rest ≡ Emitted fs → length fs ≤ job.budget * length rs) → then_records n o rest ≡ Emitted es
-          → length es ≤ job.budget * suc (length rs)
-      by (Done front) (Emitted fs) paid few e =
-          let first = emits_are_paid job.compiled job.statics job.budget r front paid in
-          let later = few fs refl in
-          let both = sym (ap length (same (front ++ fs) es e)) in
-          omega (arith, first, later, both, length-append front fs)
-      by (Done front) (FaultedAt k f) paid few e = absurd (cc)
-      by (Faulted f) rest paid few e = absurd (cc)
+      by : (o : Outcome (List EmitDatum)) → mean job.compiled job.statics job.budget r ≡ o
+          → length (means job (suc n) rs).emits ≤ job.budget * length rs
+          → length (both (yield_of n o) (means job (suc n) rs)).emits ≤ job.budget * suc (length rs)
+      by (Done es) paid rest =
+          let first = emits_are_paid job.compiled job.statics job.budget r es paid in
+          omega (arith, first, rest, length-append es (means job (suc n) rs).emits)
+      by (Faulted f) paid rest = omega (arith, rest)

@@ -1,6 +1,6 @@
 -- What a run emits is paid for: the parts of each emit weigh no more than the budget.
 use Rattle.std.proofs.Common.{◌≡◌, ◌∙◌, ℕ, zero, suc, ◌+◌, ◌<◌, ◌≤◌, Bool, true, false, Option, Some, None, List, [], ◌∷◌, ◌++◌, All, IfSome, nat_lt, arith}
-use Rattle.std.proofs.Common.{refl, sym, ap, subst, inl, inr}
+use Rattle.std.proofs.Common.{refl, ap, subst, inl, inr}
 use Rattle.std.specs.Prelude.{ℤ, ◌-◌, slice_get, if◌then◌else◌, drop, length, ◌⊎◌}
 use Rattle.std.specs.Option.{option_map}
 use Rattle.std.proofs.lemmas.Bool.Decides.{nat_tests}
@@ -16,12 +16,12 @@ use Rattle.sz_instr.specs.declared.instr.Instr.TheVariants.{AndTest, OrTest, Cal
 use Rattle.sz_instr.specs.declared.routine.Routine.{Routine}
 use Rattle.sz_instr.specs.declared.line.Line.{Line}
 use Rattle.sz_instr.specs.declared.code.Code.{Code}
-use Rattle.sz_world_rules.specs.World.{World, new_world, spend, Outcome, Done, Faulted, calls_too_deep, most_open_calls}
+use Rattle.sz_world_rules.specs.World.{World, spend, Done, calls_too_deep, most_open_calls}
 use Rattle.sz_world_rules.specs.Slots.{Slot, all_defined}
 use Rattle.sz_world_rules.specs.Ticks.{weight_of_all}
-use Rattle.sz_world_rules.specs.Emits.{EmitParts, listed, slots_of, emit_with, emit_weighted, emit_by_weight, emit_of, weight_number, weight_if_all, emit_weight, line_emit, emit_or_line, with_emit}
+use Rattle.sz_world_rules.specs.Emits.{EmitParts, listed, emit_with, emit_weighted, emit_by_weight, emit_of, weight_number, weight_if_all, emit_weight, line_emit, emit_or_line, with_emit}
 use Rattle.sz_world_rules.specs.Stores.{Stored, Holds, Undefined, Outside}
-use Rattle.sz_machine_rules.specs.States.{Caller, State, After, Goes, Halts, Faults, Stuck, goes_to, goes_on, faults, on_one, on_two, on_three, popped}
+use Rattle.sz_machine_rules.specs.States.{Caller, State, After, Goes, Halts, Faults, Stuck, faults, on_one, on_two, on_three, popped}
 use Rattle.sz_machine_rules.specs.Rows.{pass_over, after_store, by_truth, if_true, if_false, if_defined, enter}
 use Rattle.sz_machine_rules.specs.Rows.{call_with, call_routine, leave_to, next_candidate, drop_list, emit_parts, act}
 use Rattle.sz_machine_rules.specs.Runs.{charged, does, charge_of, LeadsBy, GoesOn, RunsFor, EndsRecord, RunsTo}

@@ -1,34 +1,36 @@
 -- How the records of a shard are run one after the other.
-use Rattle.std.proofs.Common.{◌≡◌, ℕ, zero, suc, ◌+◌, ◌-◌, ◌*◌, ◌^◌, ◌<◌, ◌≤◌, List, [], ◌∷◌, ◌++◌, length, get_or, take, drop, Some, All, refl, sym}
+use Rattle.std.proofs.Common.{◌≡◌, ℕ, zero, suc, ◌+◌, ◌-◌, ◌*◌, ◌^◌, ◌<◌, ◌≤◌, List, [], ◌∷◌, ◌++◌, length, get_or, take, drop, Some, All, inl, inr, refl, sym}
 use Rattle.std.proofs.Common.{ap, ◌∙◌, subst, arith, append_assoc, append-nil, length-append}
 use Rattle.std.specs.Prelude.{slice_get}
 use Rattle.std.specs.List.{slice_range}
 use Rattle.std.proofs.lemmas.List.Elements.{All-get_or}
+use Rattle.std.proofs.lemmas.List.{length-map, map-append}
 use Rattle.std.proofs.lemmas.Option.{slice_get_within}
 use Rattle.sz_tabs.specs.Data.{EmitDatum}
 use Rattle.sz_tabs.specs.Fitting.{IsEmitTo}
 use Rattle.sz_instr.specs.declared.code.Code.{Code}
-use Rattle.sz_world_rules.specs.World.{Fault, Outcome, Done, Faulted}
+use Rattle.sz_world_rules.specs.World.{Outcome, Done, Faulted}
 use Rattle.sz_mean.specs.Marked.{all_tables}
 use Rattle.sz_mean.specs.Programs.{mean}
-use Rattle.sz_mean.specs.Records.{Emitted, FaultedAt}
 use Rattle.sz_mean.proofs.EmitCosts.{emits_are_paid}
 use Rattle.sz_machine_rules.specs.Runs.{RunsTo}
 use Rattle.sz_machine_rules.proofs.EmitsFit.{emits_fit}
 use Rattle.sz_machine.specs.declared.ends.RunEnd.{RunEnd}
-use Rattle.sz_machine.specs.Ends.{seen_end, RunEnds}
+use Rattle.sz_machine.specs.declared.ends.Fault.{Fault}
+use Rattle.sz_machine.specs.Ends.{seen_end, seen_fault, RunEnds}
 use Rattle.sz_gen_rules.specs.Compiled.{IsCompiled}
 use Rattle.sz_total.specs.Short.{HasShortParts}
 use Rattle.sz_total.specs.Totals.{StandsFor, Gains}
 use Rattle.sz_total.specs.States.{TotalState, declarations, emit_count, shown}
 use Rattle.sz_attempt.specs.declared.job.Job.{Job}
 use Rattle.sz_attempt.specs.Shards.{IsJob}
-use Rattle.sz_attempt.specs.Attempts.{means}
-use Rattle.sz_attempt.specs.Ends.{StandForEmits}
-use Rattle.sz_attempt.specs.ShardRuns.{GainsAll}
+use Rattle.sz_attempt.specs.declared.ends.Skipped.{Skipped}
+use Rattle.sz_attempt.specs.Yields.{Faulting, Yield, both, yield_of, means}
+use Rattle.sz_attempt.specs.Ends.{StandForEmits, seen_skipped, seen_faults}
+use Rattle.sz_attempt.specs.ShardRuns.{GainsAll, RunsRecord, RunsRecords}
 use Rattle.sz_attempt.proofs.PaidLemmas.{emits_paid}
 use Rattle.sz_attempt.proofs.ShortLemmas.{emits_short}
-use Rattle.sz_attempt.proofs.MeansLemmas.{means_more, means_fault, fault_stays, take_of_take, length-take_within}
+use Rattle.sz_attempt.proofs.MeansLemmas.{means_more, faults_in_front, take_of_take, take_whole, take_front, length-take_within}
 
 -- one item more of a list in front
 take_suc : {A : Type 0} (xs : List A) (i : ℕ) (x : A) → slice_get xs i ≡ Some x → take (suc i) xs ≡ take i xs ++ x ∷ []
@@ -138,31 +140,121 @@ module _ (job : Job) (code : Code) (compiled : IsCompiled job.compiled code) (is
   few_of_record es means =
       let paid = emits_are_paid job.compiled job.statics job.budget input es means in omega (arith, paid, is.budget.most)
 
--- so many of the records were run, and gave few emits
-pub record IsRunUpTo (job : Job) (first : ℕ) (records : List (List ℕ)) (i : ℕ) (total : TotalState) : Type 0 where
-  pub emits : List EmitDatum
-  pub means : means job first (take i records) ≡ Emitted emits
-  pub holds : StandForEmits job.compiled total emits
-  pub few : total.count ≤ 2 ^ 32 * i
+-- so many of the records were run, no more of them fault than may be passed over, and they gave few emits
+pub record IsRunUpTo (job : Job) (first : ℕ) (records : List (List ℕ)) (i : ℕ) (total : TotalState) (faults : List Skipped) : Type 0 where
+  pub few : length faults ≤ job.skip
+  pub passed : seen_faults faults ≡ (means job first (take i records)).faults
+  pub holds : StandForEmits job.compiled total (means job first (take i records)).emits
+  pub count : total.count ≤ 2 ^ 32 * i
 
 module _ (job : Job) (first : ℕ) (records : List (List ℕ)) where
-  -- one record more was run
-  pub run_more : (i : ℕ) (old new : TotalState) (r : List ℕ) (es : List EmitDatum) → IsJob job → slice_get records i ≡ Some r
-      → mean job.compiled job.statics job.budget r ≡ Done es → GainsAll old new es → IsRunUpTo job first records i old
-      → IsRunUpTo job first records (i + 1) new
-  run_more i old new r es is there gives gains h = record {
-    emits = h.emits ++ es;
-    means = ap (means job first) (take_got records i r there) ∙ means_more job first (take i records) r h.emits es h.means gives;
-    holds = record { tables = gains.tables ∙ h.holds.tables; stands = gains.appended h.emits h.holds.stands };
-    few = omega (arith, gains.count, h.few, is.budget.most, emits_are_paid job.compiled job.statics job.budget r es gives);
-  }
+  -- nothing is run yet
+  pub run_none : (total : TotalState) → StandForEmits job.compiled total [] → total.count ≡ 0 → IsRunUpTo job first records 0 total []
+  run_none total holds none = record { few = omega arith; passed = refl; holds = holds; count = omega (arith, none) }
 
-  -- a record faults, and so do all up to any place after it
-  pub run_fails : (i n : ℕ) (old : TotalState) (r : List ℕ) (f : Fault) → slice_get records i ≡ Some r → i < n
-      → mean job.compiled job.statics job.budget r ≡ Faulted f → IsRunUpTo job first records i old
-      → means job first (take n records) ≡ FaultedAt (first + i) f
-  run_fails i n old r f there less fails h =
-      let here = ap (means job first) (take_got records i r there) ∙ means_fault job first (take i records) r h.emits f h.means fails
-      ∙ ap (λ k. FaultedAt (first + k) f) (length-take_within i records (omega (arith, slice_get_within records i r there))) in
-      fault_stays job first (i + 1) (first + i) (take n records) f
-      (ap (means job first) (take_of_take (i + 1) n records (omega (arith, less))) ∙ here)
+  -- what comes of one record more
+  means_next : (i : ℕ) (r : List ℕ) (o : Outcome (List EmitDatum)) → slice_get records i ≡ Some r → mean job.compiled job.statics job.budget r ≡ o
+      → means job first (take (i + 1) records) ≡ both (means job first (take i records)) (yield_of (first + i) o)
+  means_next i r o there is =
+      ap (means job first) (take_got records i r there) ∙ means_more job first (take i records) r
+      ∙ ap (λ q. both (means job first (take i records)) (yield_of (first + length (take i records)) q)) is
+      ∙ ap (λ k. both (means job first (take i records)) (yield_of (first + k) o))
+      (let within = slice_get_within records i r there in length-take_within i records (omega (arith, within)))
+
+  -- one record more was run
+  pub run_more : (i : ℕ) (old new : TotalState) (faults : List Skipped) (r : List ℕ) (es : List EmitDatum) → IsJob job → slice_get records i ≡ Some r
+      → mean job.compiled job.statics job.budget r ≡ Done es → GainsAll old new es → IsRunUpTo job first records i old faults
+      → IsRunUpTo job first records (i + 1) new faults
+  run_more i old new faults r es is there gives gains h =
+      let next = means_next i r (Done es) there gives in
+      let emits = ap (λ (y : Yield). y.emits) next in
+      record {
+        few = h.few;
+        passed = h.passed ∙ sym (append-nil (means job first (take i records)).faults) ∙ sym (ap (λ (y : Yield). y.faults) next);
+        holds = subst (StandForEmits job.compiled new) (sym emits) (record {
+          tables = gains.tables ∙ h.holds.tables;
+          stands = gains.appended (means job first (take i records)).emits h.holds.stands;
+        });
+        count = omega (arith, gains.count, h.count, is.budget.most, emits_are_paid job.compiled job.statics job.budget r es gives);
+      }
+
+  -- one record more faults
+  module _ (i : ℕ) (total : TotalState) (faults : List Skipped) (r : List ℕ) (f : Fault) (there : slice_get records i ≡ Some r)
+      (fails : mean job.compiled job.statics job.budget r ≡ Faulted (seen_fault f)) (h : IsRunUpTo job first records i total faults)
+      (one : Skipped) (number : one.record_no ≡ first + i) (same : one.fault ≡ f) where
+    abbrev more : List Skipped
+    more = faults ++ one ∷ []
+
+    one_is : seen_skipped one ≡ record { number = first + i; fault = seen_fault f }
+    one_is =
+        ap (λ n. record { number = n; fault = seen_fault one.fault }) number
+        ∙ ap (λ (g : Fault). record { number = first + i; fault = seen_fault g }) same
+
+    next : means job first (take (i + 1) records) ≡ both (means job first (take i records)) (yield_of (first + i) (Faulted (seen_fault f)))
+    next = means_next i r (Faulted (seen_fault f)) there fails
+
+    more_passed : seen_faults more ≡ (means job first (take (i + 1) records)).faults
+    more_passed =
+        map-append seen_skipped faults (one ∷ []) ∙ ap (λ fs. fs ++ seen_skipped one ∷ []) h.passed
+        ∙ ap (λ (q : Faulting). (means job first (take i records)).faults ++ q ∷ []) one_is
+        ∙ sym (ap (λ (y : Yield). y.faults) next)
+
+    -- and is passed over
+    pub run_over : length more ≤ job.skip → IsRunUpTo job first records (i + 1) total more
+    run_over few = record {
+      few = few;
+      passed = more_passed;
+      holds = subst (StandForEmits job.compiled total)
+          (sym (append-nil (means job first (take i records)).emits) ∙ sym (ap (λ (y : Yield). y.emits) next)) h.holds;
+      count = omega (arith, h.count);
+    }
+
+    -- or is one too many, of any more records
+    pub run_fails : (n : ℕ) → i < n → job.skip < length more → RunsRecords job (means job first (take n records)) total more
+    run_fails n less many =
+        let long : length more ≡ suc job.skip = omega (arith, many, h.few, length-append faults (one ∷ [])) in
+        let seen : length (means job first (take (i + 1) records)).faults ≡ suc job.skip =
+        sym (ap length more_passed) ∙ length-map more seen_skipped ∙ long in
+        let all = faults_in_front job first (i + 1) (take n records) in
+        let front = ap (λ rs. (means job first rs).faults) (take_of_take (i + 1) n records (omega (arith, less))) in
+        let rest = (means job (first + length (take (i + 1) (take n records))) (drop (i + 1) (take n records))).faults in
+        let here = (means job first (take (i + 1) records)).faults in
+        record {
+          first = more_passed ∙ sym (take_whole (suc job.skip) here (omega (arith, seen)))
+              ∙ sym (take_front (suc job.skip) here rest (omega (arith, seen)))
+              ∙ sym (ap (λ fs. take (suc job.skip) (fs ++ rest)) front) ∙ sym (ap (take (suc job.skip)) all);
+          stand = λ few. absurd (omega (arith, few, many));
+        }
+
+  -- the next record was run
+  module _ (i : ℕ) (old new : TotalState) (before after : List Skipped) (r : List ℕ) (is : IsJob job) (there : slice_get records i ≡ Some r)
+      (h : IsRunUpTo job first records i old before) where
+    -- and too many records fault by now
+    pub run_stop : (n : ℕ) → i < n → RunsRecord job (first + i) r old new before after → job.skip < length after
+        → RunsRecords job (means job first (take n records)) new after
+    run_stop n less (inl (es, gives, gains, same)) many = let as_before = ap length same in absurd (omega (arith, as_before, many, h.few))
+    run_stop n less (inr (f, fails, kept, later)) many =
+        let one : Skipped = record { record_no = first + i; fault = f } in
+        subst (λ t. RunsRecords job (means job first (take n records)) t after) (sym kept)
+        (subst (RunsRecords job (means job first (take n records)) old) (sym later)
+        (run_fails i old before r f there fails h one refl refl n less (subst (λ fs. job.skip < length fs) later many)))
+
+    -- or not
+    pub run_on : RunsRecord job (first + i) r old new before after → length after ≤ job.skip → IsRunUpTo job first records (i + 1) new after
+    run_on (inl (es, gives, gains, same)) few =
+        subst (IsRunUpTo job first records (i + 1) new) (sym same) (run_more i old new before r es is there gives gains h)
+    run_on (inr (f, fails, kept, later)) few =
+        let one : Skipped = record { record_no = first + i; fault = f } in
+        subst (λ t. IsRunUpTo job first records (i + 1) t after) (sym kept)
+        (subst (IsRunUpTo job first records (i + 1) old) (sym later)
+        (run_over i old before r f there fails h one refl refl (subst (λ fs. length fs ≤ job.skip) later few)))
+
+  -- all were run
+  pub run_all : (n : ℕ) (total : TotalState) (faults : List Skipped) → IsRunUpTo job first records n total faults
+      → RunsRecords job (means job first (take n records)) total faults
+  run_all n total faults h =
+      let long = sym (ap length h.passed) ∙ length-map faults seen_skipped in
+      record {
+        first = h.passed ∙ sym (take_whole (suc job.skip) (means job first (take n records)).faults (omega (arith, long, h.few)));
+        stand = λ few. h.holds;
+      }

@@ -1,5 +1,5 @@
 -- What weighs no more than a budget has short lengths.
-use Rattle.std.proofs.Common.{◌≡◌, ℕ, ◌+◌, ◌<◌, ◌≤◌, ◌^◌, List, [], ◌∷◌, length, All, sym, subst, inl, inr, arith}
+use Rattle.std.proofs.Common.{ℕ, ◌≤◌, ◌^◌, List, [], ◌∷◌, length, All, sym, subst, inl, inr, arith}
 use Rattle.std.proofs.lemmas.List.Elements.{All-weaker}
 use Rattle.sz_value.specs.Data.{Datum, truth, int, time, str, bytes, array, tuple, mapping, Data, no_data, datum, data_of, parts_of, Entries, no_entries, entry, pairs_of}
 use Rattle.sz_value.specs.Weight.{full_weight, data_weight, entries_weight, weight_of}

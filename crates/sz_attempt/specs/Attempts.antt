@@ -1,18 +1,18 @@
--- Which attempts die, what the others give, and which shards are lost or fault.
-use Rattle.std.specs.Prelude.{◌≡◌, ℕ, zero, suc, ◌<◌, ◌≤◌, List, [], ◌∷◌, length, take, map, filter, min, Bool, true, false, ◌&&◌, nat_eq, nat_le}
-use Rattle.std.specs.Prelude.{Option, Some, None}
+-- Which attempts die, what the others give, and which shards are lost or bad.
+use Rattle.std.specs.Prelude.{ℕ, zero, suc, ◌<◌, ◌≤◌, List, [], ◌∷◌, length, take, map, filter, min, Bool, true, false, ◌&&◌, nat_eq, nat_le}
+use Rattle.std.specs.Prelude.{Option, Some, None, if◌then◌else◌}
 use Rattle.std.specs.List.{Contains}
 use Rattle.sz_tabs.specs.Data.{EmitDatum}
-use Rattle.sz_world_rules.specs.World.{Fault}
-use Rattle.sz_mean.specs.Records.{Records, Emitted, FaultedAt, mean_from}
 use Rattle.sz_words.specs.declared.settings.Kill.{Kill}
 use Rattle.sz_attempt.specs.declared.job.Job.{Job}
 use Rattle.sz_attempt.specs.Shards.{ShardData}
+use Rattle.sz_attempt.specs.Yields.{Faulting, Yield, means}
 
--- how an attempt ends: it gives emits, a record with this number faults, or it dies after so many records
+-- How an attempt ends: it gives emits and the records that were passed over; or too many records fault, of which it gives the first ones;
+-- or it dies after so many records
 pub data End : Type 0 where
-  gives : (emits : List EmitDatum) → End
-  faults : (number : ℕ) (fault : Fault) → End
+  gives : (emits : List EmitDatum) (passed : List Faulting) → End
+  fails : (faults : List Faulting) → End
   dies : (after : ℕ) → End
 
 -- after how many records attempt k of shard s is to die, by each entry of the list for it
@@ -29,43 +29,41 @@ abbrev pub least_of : List ℕ → Option ℕ
 least_of [] = None
 least_of (n ∷ ns) = Some (lesser n (least_of ns))
 
--- whether none of the records faults
-abbrev pub is_clean : Records → Bool
-is_clean (Emitted emits) = true
-is_clean (FaultedAt number fault) = false
+-- whether no more of the records fault than may be passed over
+abbrev pub passes : ℕ → Yield → Bool
+passes skip yield = nat_le (length yield.faults) skip
 
--- one of the records faults
-abbrev pub HasFault : Records → Type 0
-HasFault r = is_clean r ≡ false
+-- more of the records fault than may be passed over
+abbrev pub HasTooMany : ℕ → Yield → Type 0
+HasTooMany skip yield = skip < length yield.faults
 
--- what an attempt gives that doesn't die
-abbrev pub living_end : Records → End
-living_end (Emitted emits) = gives emits
-living_end (FaultedAt number fault) = faults number fault
+-- what an attempt gives that doesn't die. Of too many records that fault it gives the first: one more than may be passed over
+abbrev pub living_end : ℕ → Yield → End
+living_end skip yield = if passes skip yield then gives yield.emits yield.faults else fails (take (suc skip) yield.faults)
 
 -- how an attempt ends that dies after so many records, if it dies
-abbrev pub end_by : Option ℕ → Records → End
-end_by (Some after) r = dies after
-end_by None r = living_end r
+abbrev pub end_by : ℕ → Option ℕ → Yield → End
+end_by skip (Some after) yield = dies after
+end_by skip None yield = living_end skip yield
 
 -- whether an attempt ends by its death
 abbrev pub dies_at : End → Bool
 dies_at (dies after) = true
-dies_at (gives emits) = false
-dies_at (faults number fault) = false
+dies_at (gives emits passed) = false
+dies_at (fails faults) = false
 
 module _ (job : Job) where
-  -- what the program means for records, of which the first has this number: the emits of all of them in order, or the first that faults
-  abbrev pub means : ℕ → List (List ℕ) → Records
-  means first records = mean_from job.compiled job.statics job.budget first records
+  -- what the program means for a shard's records
+  abbrev pub shard_means : ShardData → Yield
+  shard_means shard = means job shard.first shard.records
 
-  -- what it means for a shard's records
-  abbrev pub shard_means : ShardData → Records
-  shard_means shard = means shard.first shard.records
+  -- what it means for so many of them
+  abbrev pub front_means : ShardData → ℕ → Yield
+  front_means shard count = means job shard.first (take count shard.records)
 
-  -- whether a death after so many records of the shard has effect: there are as many, and none of them faults
+  -- whether a death after so many records of the shard has effect: there are as many, and no more of them fault than may be passed over
   abbrev pub has_effect : ShardData → ℕ → Bool
-  has_effect shard after = nat_le after (length shard.records) && is_clean (means shard.first (take after shard.records))
+  has_effect shard after = nat_le after (length shard.records) && passes job.skip (front_means shard after)
 
   -- after how many records attempt k of the shard dies, by each entry of the kill list that has effect
   abbrev pub deaths_of : ShardData → ℕ → List ℕ
@@ -73,13 +71,14 @@ module _ (job : Job) where
 
   -- How attempt k of the shard ends. Where more than one entry has effect it dies by the least, which comes first
   abbrev pub end_of : ShardData → ℕ → End
-  end_of shard k = end_by (least_of (deaths_of shard k)) (shard_means shard)
+  end_of shard k = end_by job.skip (least_of (deaths_of shard k)) (shard_means shard)
 
-  -- attempt k of the shard died after j records: the kill list says so, there are as many records, and none of the first j faults
+  -- attempt k of the shard died after j records: the kill list says so, there are as many records, and no more of the first j fault than
+  -- may be passed over
   pub record DiedAfter (shard : ShardData) (k j : ℕ) : Type 0 where
     pub listed : Contains job.kills (record { shard = shard.number; number = k; after = j })
     pub within : j ≤ length shard.records
-    pub clean : ¬ HasFault (means shard.first (take j shard.records))
+    pub few : length (front_means shard j).faults ≤ job.skip
 
   -- attempt k of the shard died
   abbrev pub HasDied : ShardData → ℕ → Type 0
@@ -89,9 +88,9 @@ module _ (job : Job) where
   abbrev pub IsLost : ShardData → Type 0
   IsLost shard = (k : ℕ) → k < job.attempts → HasDied shard k
 
-  -- the shard faults: one of its records does, and it isn't lost
-  abbrev pub DoesFault : ShardData → Type 0
-  DoesFault shard = HasFault (shard_means shard) × ¬ IsLost shard
+  -- the shard is bad: more of its records fault than may be passed over, and it isn't lost
+  abbrev pub IsBad : ShardData → Type 0
+  IsBad shard = HasTooMany job.skip (shard_means shard) × ¬ IsLost shard
 
   -- whether all attempts of the shard below a number die
   abbrev pub all_die : ShardData → ℕ → Bool

@@ -1,4 +1,5 @@
 -- what the public contracts rest on
+pub mod Yields
 pub mod Shards
 pub mod Attempts
 pub mod Ends

@@ -12,6 +12,8 @@ pub struct Job {
     pub statics: Slots,
     /// The ticks that a record may take: 1 to 2^32.
     pub budget: u64,
+    /// How many records that fault are passed over.
+    pub skip: u32,
     /// The number of attempts on a shard.
     pub attempts: u32,
     /// The attempts that die.
@@ -26,6 +28,7 @@ impl Drop for Job {
             compiled: _,
             statics: _,
             budget: _,
+            skip: _,
             attempts: _,
             kills: _,
             twice: _,

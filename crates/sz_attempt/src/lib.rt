@@ -6,7 +6,7 @@ mod job;
 mod laws;
 mod shard_run;
 
-pub use ends::AttemptEnd;
+pub use ends::{AttemptEnd, Faults, Skipped};
 pub use job::{Job, Shard, ShardRanges};
 pub use laws::{
     attempts_end_as_listed, emits_of_records_are_few, kills_are_of_different_attempts,

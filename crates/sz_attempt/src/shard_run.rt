@@ -4,14 +4,16 @@ ghost use Rattle.sz_mean.specs.Marked.{all_tables};
 ghost use Rattle.sz_tabs.specs.Fitting.{IsEmitTo};
 ghost use Rattle.sz_total.specs.Short.{HasShortParts};
 ghost use Rattle.sz_attempt.specs.Shards.{shard_at, records_of, IsShardIn, IsJob};
+ghost use Rattle.sz_attempt.specs.Yields.{means};
 ghost use Rattle.sz_attempt.specs.Attempts.{kills_of, lesser, least_of, end_of};
 ghost use Rattle.sz_attempt.specs.Ends.{EndsSo};
 ghost use Rattle.sz_attempt.specs.ShardRuns.{IsDeath, least_with, run_of, GainsAll, RunsRecord, RunsRecords, HoldsNothing};
 
-use crate::ends::AttemptEnd;
+use crate::ends::{AttemptEnd, Faults, Skipped};
 use crate::job::{Job, Shard};
 use std::alloc::Global;
-use sz_machine::{Fault, Room, RunEnd};
+use sz_list::Items;
+use sz_machine::{Room, RunEnd};
 use sz_records::Records;
 use sz_tabs::Emit;
 use sz_total::Total;
@@ -21,7 +23,8 @@ use sz_words::Kill;
 /// Attempt `number`, counted from 0, of the shard `shard_no`, counted from 0. It runs the program for the shard's records, one after
 /// the other.
 ///
-/// It dies as the kill list says, and what it had is dropped; a record that faults before that ends it first.
+/// It dies as the kill list says, and what it had is dropped. Records that fault are passed over, with no emits, as many as the job says;
+/// one more before the death ends it first.
 pub fn attempt<'a>(
     alloc: Global,
     job: &'a Job,
@@ -58,12 +61,13 @@ pub fn attempt_in<'a>(
     let death = death_of(job.kills.as_slice(), shard_no, number, all);
     let count = run_of(death, all);
     let mut part = Total::new(alloc, job.compiled.tables())?;
-    match run_records(room, job, records, shard, count, &mut part)? {
-        Some((record_no, fault)) => Ok(AttemptEnd::Fault { record_no, fault }),
-        None => match death {
-            Some(after) => Ok(AttemptEnd::Died(after)),
-            None => Ok(AttemptEnd::Part(part)),
-        },
+    let faults = run_records(alloc, room, job, records, shard, count, &mut part)?;
+    if faults.len() > job.skip as usize {
+        return Ok(AttemptEnd::Bad(faults));
+    }
+    match death {
+        Some(after) => Ok(AttemptEnd::Died(after)),
+        None => Ok(AttemptEnd::Part(part, faults)),
     }
 }
 
@@ -118,51 +122,59 @@ fn lesser(number: u32, other: Option<u32>) -> u32
     }
 }
 
-/// Runs the program for the first so many records of the shard, and adds what they emit to the part, which holds nothing yet. It ends
-/// at the first record that faults, with its number.
+/// Runs the program for the first so many records of the shard, and adds what they emit to the part, which holds nothing yet. The records
+/// that fault are passed over; it ends at the first that is one too many.
 fn run_records<'a>(
+    alloc: Global,
     room: &mut Room,
     job: &Job,
     records: &Records,
     shard: &Shard,
     count: usize,
     part: &mut Total<'a>,
-) -> Result<Option<(u64, Fault)>, NoMemory>
+) -> Result<Faults, NoMemory>
     requires job { IsJob job.now }
     requires shard { IsShardIn records.now shard.now }
     requires count { count ≤ shard.now.end - shard.now.start }
     requires nothing { HoldsNothing job.now part.old }
-    ensures value { IfOk result (λ found. RunsRecords job.now shard.now.first (take count (records_of records.now shard.now)) part.new found) }
+    ensures value { IfOk result (λ faults. RunsRecords job.now (means job.now shard.now.first (take count (records_of records.now shard.now)))
+        part.new faults) }
 {
+    let mut faults = Items::new(alloc);
     for i in 0..count {
         let input = records.get(shard.start + i);
-        match run_record(room, job, input, part)? {
-            Some(fault) => return Ok(Some((shard.first + i as u64, fault))),
-            None => {}
+        run_record(room, job, input, shard.first + i as u64, part, &mut faults)?;
+        if faults.len() > job.skip as usize {
+            return Ok(faults);
         }
     }
-    Ok(None)
+    Ok(faults)
 }
 
-/// Runs the program for a record, and adds what it emits to the part; or its fault.
+/// Runs the program for the record with this number, and adds what it emits to the part; or it is one more of the records that fault.
 fn run_record<'a>(
     room: &mut Room,
     job: &Job,
     input: &[u8],
+    record_no: u64,
     part: &mut Total<'a>,
-) -> Result<Option<Fault>, NoMemory>
+    faults: &mut Faults,
+) -> Result<(), NoMemory>
     requires job { IsJob job.now }
     requires tables { part.old.tables ≡ all_tables job.now.compiled }
     requires few { part.old.count + 2 ^ 32 ≤ 2 ^ 63 }
-    ensures value { IfOk result (λ fault. RunsRecord job.now input.now part.old part.new fault) }
+    ensures value { OnOk result (RunsRecord job.now record_no input.now part.old part.new faults.old faults.new) }
 {
     match room.run(job.compiled.code(), input, &job.statics, job.budget)? {
         RunEnd::Done(emits) => {
             add_all(part, emits.as_slice())?;
             room.take_back(emits);
-            Ok(None)
+            Ok(())
         }
-        RunEnd::Fault(fault) => Ok(Some(fault)),
+        RunEnd::Fault(fault) => {
+            faults.push(Skipped { record_no, fault })?;
+            Ok(())
+        }
     }
 }
 

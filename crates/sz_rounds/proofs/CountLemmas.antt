@@ -1,18 +1,17 @@
 -- Rounds have few emits.
-use Rattle.std.proofs.Common.{◌≡◌, ℕ, zero, suc, ◌+◌, ◌-◌, ◌*◌, ◌^◌, ◌≤◌, List, [], ◌∷◌, ◌++◌, length, take, Bool, true, false, All}
-use Rattle.std.proofs.Common.{refl, sym, ap, ◌∙◌, arith, length-append}
+use Rattle.std.proofs.Common.{◌≡◌, ℕ, zero, suc, ◌+◌, ◌-◌, ◌*◌, ◌^◌, ◌≤◌, List, [], ◌∷◌, ◌++◌, length, take, All}
+use Rattle.std.proofs.Common.{ap, ◌∙◌, arith, length-append}
 use native.Mathlib.Nat.{mul-add}
-use Rattle.std.specs.Prelude.{if◌then◌else◌}
 use Rattle.std.proofs.lemmas.List.Elements.{All-head, All-tail}
 use Rattle.sz_tabs.specs.Data.{EmitDatum}
-use Rattle.sz_mean.specs.Records.{Records, Emitted, FaultedAt}
 use Rattle.sz_attempt.specs.declared.job.Job.{Job}
 use Rattle.sz_attempt.specs.declared.job.Shard.{Shard}
 use Rattle.sz_attempt.specs.Shards.{ShardData, IsShardIn, shard_at}
-use Rattle.sz_attempt.specs.Attempts.{shard_means, is_lost}
+use Rattle.sz_attempt.specs.Attempts.{shard_means}
 use Rattle.sz_attempt.proofs.ForCallers.{few_emits, length_of_range}
 use Rattle.sz_rounds.specs.declared.round.Round.{Round}
-use Rattle.sz_rounds.specs.Outcomes.{ShardsEnd, emitted, faulted, lost, then_shards, outcome_of, all_records}
+use Rattle.sz_rounds.specs.Outcomes.{emitted, outcome_from, all_records}
+use Rattle.sz_rounds.proofs.OutcomeLemmas.{emits_in, emitted_yields}
 use Rattle.sz_rounds.specs.Rounds.{numbered, shards_of, AreNext, IsRound}
 
 together : (b f g e m n t : ℕ) → f ≤ b * m → g ≤ b * n → e ≡ f + g → t ≡ m + n → e ≤ b * t
@@ -20,30 +19,20 @@ together b f g e m n t first rest both all =
     let sum : b * t ≡ b * m + b * n = ap (λ k. b * k) all ∙ mul-add b m n in omega (arith, first, rest, both, sum)
 
 -- shards have at most as many emits as their records may take ticks
-pub few_of_shards : (job : Job) (shards : List ShardData) (es : List EmitDatum) → outcome_of job shards ≡ emitted es
-    → length es ≤ job.budget * length (all_records shards)
-few_of_shards job [] es is = let none = ap length (same [] es is) in omega (arith, none)
-  where
-    same : (a b : List EmitDatum) → emitted a ≡ emitted b → a ≡ b
-    same a b e = cc
-few_of_shards job (s ∷ shards) es is = by (is_lost job s) (shard_means job s) refl (outcome_of job shards) (few_of_shards job shards) is
-  where
-    same : (a b : List EmitDatum) → emitted a ≡ emitted b → a ≡ b
-    same a b e = cc
+emits_are_few : (job : Job) (shards : List ShardData) → length (emits_in job shards) ≤ job.budget * length (all_records shards)
+emits_are_few job [] = omega arith
+emits_are_few job (s ∷ shards) =
+    let es = (shard_means job s).emits in
+    together job.budget (length es) (length (emits_in job shards)) (length (es ++ emits_in job shards)) (length s.records)
+    (length (all_records shards)) (length (s.records ++ all_records shards)) (few_emits job s.first s.records) (emits_are_few job shards)
+    (length-append es (emits_in job shards)) (length-append s.records (all_records shards))
 
-    by : (b : Bool) (r : Records) → shard_means job s ≡ r → (e : ShardsEnd)
-        → ((gs : List EmitDatum) → e ≡ emitted gs → length gs ≤ job.budget * length (all_records shards))
-        → (if b then lost s.number else then_shards r e) ≡ emitted es → length es ≤ job.budget * length (s.records ++ all_records shards)
-    by true r means e few h = absurd (cc)
-    by false (FaultedAt n f) means e few h = absurd (cc)
-    by false (Emitted fs) means (faulted n f) few h = absurd (cc)
-    by false (Emitted fs) means (lost n) few h = absurd (cc)
-    by false (Emitted fs) means (emitted gs) few h =
-        let first = few_emits job s.first s.records fs means in
-        let rest = few gs refl in
-        let both = sym (ap length (same (fs ++ gs) es h)) in
-        together job.budget (length fs) (length gs) (length es) (length s.records) (length (all_records shards)) (length (s.records ++ all_records shards))
-        first rest (both ∙ length-append fs gs) (length-append s.records (all_records shards))
+pub few_of_shards : (job : Job) (passed : ℕ) (shards : List ShardData) (es : List EmitDatum) (n : ℕ) → outcome_from job passed shards ≡ emitted es n
+    → length es ≤ job.budget * length (all_records shards)
+few_of_shards job passed shards es n is =
+    let few = emits_are_few job shards in
+    let same = ap length (emitted_yields job passed shards es n is).0 in
+    omega (arith, few, same)
 
 -- the first of them have at most as many records as all
 pub fewer_records : (shards : List ShardData) (n : ℕ) → length (all_records (take n shards)) ≤ length (all_records shards)

@@ -33,8 +33,9 @@ pub record IsRound (round : Round) : Type 0 where
   pub within : All (IsShardIn round.records) round.shards
   pub next : (place : ℕ) × (first : ℕ) × AreNext place first round.shards
 
--- the answer tells what comes of the shards: the tables stand for just the emits
+-- the answer tells what comes of the shards: the tables stand for just the emits, and so many records were passed over
 abbrev pub EndsRound : Marked → ShardsEnd → RoundEnd → Type 0
-EndsRound program end (ends.Tables total) = (emits : List EmitDatum) × (end ≡ emitted emits) × StandForEmits program total emits
+EndsRound program end (ends.Tables total passed) =
+    (emits : List EmitDatum) × (end ≡ emitted emits passed) × StandForEmits program total emits
 EndsRound program end (ends.Fault number fault) = end ≡ faulted number (seen_fault fault)
 EndsRound program end (ends.Lost shard) = end ≡ lost shard

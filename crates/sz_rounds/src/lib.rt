@@ -1,4 +1,4 @@
-//! Rounds of shards: what comes of them, and their plans. The first shard that faults or is lost decides.
+//! Rounds of shards: what comes of them, and their plans. The first shard that is lost, or has the first record too many that faults, decides.
 #![tactic(auto)]
 
 mod laws;

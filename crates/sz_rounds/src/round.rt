@@ -12,6 +12,8 @@ pub struct Round {
     pub shards: ShardRanges,
     /// The number of the first of them in the input, counted from 0.
     pub first_shard: u64,
+    /// How many records in front of the round were passed over.
+    pub passed: u32,
 }
 
 impl Drop for Round {
@@ -20,6 +22,7 @@ impl Drop for Round {
             records: _,
             shards: _,
             first_shard: _,
+            passed: _,
         } = self;
     }
 }
@@ -27,14 +30,14 @@ impl Drop for Round {
 /// How a round ends.
 #[derive(Drop)]
 pub enum RoundEnd<'a> {
-    /// No shard faults or is lost: the tables of all that the round's records emit.
-    Tables(Total<'a>),
-    /// The first shard that faults or is lost faults.
+    /// No shard decides: the tables of all that the round's records emit, and how many of them fault and were passed over.
+    Tables(Total<'a>, u32),
+    /// More records fault than may be passed over, and no shard up to the one with the first too many is lost.
     Fault {
-        /// The number of its first record that faults in the input, counted from 1.
+        /// The number in the input of the first record too many, counted from 1.
         record_no: u64,
         fault: Fault,
     },
-    /// The first shard that faults or is lost is lost: its number in the input, counted from 0.
+    /// The first shard that decides is lost: its number in the input, counted from 0.
     Lost(u64),
 }

@@ -8,7 +8,7 @@ use Rattle.sz_records.specs.Shards.{EndsShard, IsOpenAt, MayGoOn}
 use Rattle.sz_attempt.specs.declared.job.Shard.{Shard}
 use Rattle.sz_rounds.specs.Cuts.{ranges_of}
 use Rattle.sz_stream.specs.declared.intake.Intake.{Intake}
-use Rattle.sz_stream.specs.Intakes.{IsClosed, AreClosed, sum_of, IsAnswered, Closes}
+use Rattle.sz_stream.specs.Intakes.{IsClosed, sum_of, IsAnswered, Closes}
 use Rattle.sz_stream.proofs.ShardLemmas.{is_closed, are_more, sum_within, ranges_append, sum-append}
 
 pub closes_none : (intake : Intake) → Closes intake intake
@@ -20,6 +20,7 @@ closes_none intake = record {
   closed = (let same : intake.closed ≡ intake.closed + 0 = omega arith in same);
   records = refl;
   first_shard = refl;
+  passed = refl;
   first = refl;
   framer = refl;
   ending = refl;
@@ -57,6 +58,7 @@ module _ (old now : Intake) (c : Closes old now) (low : old.closed ≤ length ol
     closed = omega (arith, c.closed, sum-append c.sizes (n ∷ []), ends.within.0);
     records = c.records;
     first_shard = c.first_shard;
+    passed = c.passed;
     first = c.first;
     framer = c.framer;
     ending = c.ending;

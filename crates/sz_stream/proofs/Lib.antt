@@ -1,5 +1,6 @@
 pub mod ShardLemmas
 pub mod FedLemmas
 pub mod ClosingLemmas
+pub mod PassedLemmas
 pub mod RunLemmas
 pub mod ReachLemmas

@@ -1,5 +1,5 @@
 -- What is known of an input on the way: from piece to piece, and from round to round.
-use Rattle.std.proofs.Common.{◌≡◌, ◌⊎◌, ℕ, zero, suc, ◌+◌, ◌-◌, ◌^◌, ◌<◌, ◌≤◌, List, [], ◌∷◌, ◌++◌, length, take, Bool, true, false, Option, Some, None}
+use Rattle.std.proofs.Common.{◌≡◌, ℕ, zero, suc, ◌+◌, ◌^◌, ◌<◌, ◌≤◌, List, [], ◌∷◌, ◌++◌, length, take, Bool, true, false, Option, Some, None}
 use Rattle.std.proofs.Common.{refl, sym, ap, ◌∙◌, subst, arith, inl, inr, append-nil, length-append, length-take}
 use Rattle.std.proofs.lemmas.Bool.{eqb-true}
 use Rattle.std.proofs.KnownBytes.{Consumes-trans}
@@ -19,7 +19,7 @@ use Rattle.sz_records.specs.Fed.{FramerData, HasRead}
 use Rattle.sz_records.proofs.FedLemmas.{read_within}
 use Rattle.sz_attempt.specs.declared.job.Job.{Job}
 use Rattle.sz_attempt.specs.Ends.{StandForEmits}
-use Rattle.sz_rounds.specs.Outcomes.{emitted, outcome_of}
+use Rattle.sz_rounds.specs.Outcomes.{emitted, outcome_from}
 use Rattle.sz_rounds.specs.Rounds.{shards_of}
 use Rattle.sz_stream.specs.declared.intake.Intake.{Intake}
 use Rattle.sz_stream.specs.declared.stop.Stop.{Stop}
@@ -293,14 +293,14 @@ keeps_on held left given names faults file a b c first second = record {
 }
 
 -- the round was run
-pub runs_round : (job : Job) (old : Intake) (total part merged : TotalState) (es : List EmitDatum) → CanRun job old total
-    → outcome_of job (shards_of old.round) ≡ emitted es → StandForEmits job.compiled part es
-    → Joins declarations emit_count shown total part merged → RunsRound job old (moved_on old) total merged
-runs_round job old total part merged es can is standing joins = record {
+pub runs_round : (job : Job) (old : Intake) (total part merged : TotalState) (es : List EmitDatum) (n : ℕ) → CanRun job old total
+    → outcome_from job old.round.passed (shards_of old.round) ≡ emitted es n → StandForEmits job.compiled part es
+    → Joins declarations emit_count shown total part merged → RunsRound job old (moved_on n old) total merged
+runs_round job old total part merged es n can is standing joins = record {
   goes_on = λ frame most start left r. record {
     read = r.read;
     over = r.over;
-    running = moves_on job frame most old total r.read r.over r.running part es is standing merged joins;
+    running = moves_on job frame most old total r.read r.over r.running part es n is standing merged joins;
     consumed = r.consumed;
     at_end = r.at_end;
   };

@@ -2,7 +2,7 @@
 use Rattle.std.proofs.Common.{◌≡◌, ℕ, zero, suc, ◌+◌, ◌-◌, ◌*◌, ◌^◌, ◌<◌, ◌≤◌, List, [], ◌∷◌, ◌++◌, length, take, drop, Bool, true, false}
 use Rattle.std.proofs.Common.{Option, Some, None, refl, sym, ap, ◌∙◌, subst, arith, append-nil, append_assoc, length-append, length-drop}
 use native.Mathlib.Nat.{mul-add}
-use Rattle.std.specs.Prelude.{is_some, ◌==◌, Result, Ok, Err}
+use Rattle.std.specs.Prelude.{is_some, ◌==◌}
 use Rattle.sz_types.specs.declared.frame.Frame.{Frame}
 use Rattle.sz_mean.specs.Marked.{all_tables}
 use Rattle.sz_tabs.specs.Data.{EmitDatum}
@@ -12,37 +12,35 @@ use Rattle.sz_total.specs.Totals.{IsNew, Joins}
 use Rattle.sz_records.specs.declared.ending.Ending.{Ending}
 use Rattle.sz_records.specs.declared.ending.Ending.TheVariants as endings
 use Rattle.sz_records.specs.Cutting.{IsCut}
-use Rattle.sz_records.specs.Fed.{HasRead}
 use Rattle.sz_records.specs.Shards.{AreShards}
 use Rattle.sz_attempt.specs.declared.job.Job.{Job}
 use Rattle.sz_attempt.specs.declared.job.Shard.{Shard}
 use Rattle.sz_attempt.specs.Shards.{IsJob, IsShardIn, ShardData}
 use Rattle.sz_attempt.specs.Ends.{StandForEmits}
 use Rattle.sz_rounds.specs.declared.round.Round.{Round}
-use Rattle.sz_rounds.specs.Outcomes.{ShardsEnd, emitted, faulted, lost, after_front, then_outcome, outcome_of, all_records}
+use Rattle.sz_rounds.specs.Outcomes.{ShardsEnd, emitted, faulted, lost, after_front, then_outcome, outcome_from, outcome_of, all_records}
 use Rattle.sz_rounds.specs.Rounds.{shards_of, numbered, AreNext, IsRound}
 use Rattle.sz_rounds.specs.Cuts.{ranges_of, cut_into}
-use Rattle.sz_rounds.proofs.OutcomeLemmas.{outcome-append}
+use Rattle.sz_rounds.proofs.OutcomeLemmas.{after_nothing, later_both, outcome-append}
 use Rattle.sz_rounds.proofs.CountLemmas.{few_of_shards}
 use Rattle.sz_rounds.proofs.RangeLemmas.{numbered_cut}
 use Rattle.sz_stream.specs.declared.intake.Intake.{Intake}
-use Rattle.sz_stream.specs.declared.stop.Stop.{Stop}
-use Rattle.sz_stream.specs.declared.stop.Stop.TheVariants as stops
 use Rattle.sz_stream.specs.Inputs.{full, GoesOn, EndsInput, RunsInput}
 use Rattle.sz_stream.specs.Intakes.{AreClosed, sum_of, IsFed, IsEmpty, KeepsRound, HasTaken, TakesIn, Closes, moved_on}
-use Rattle.sz_stream.specs.InputRuns.{RunsOn, HasRun, IsRunning, ended_so}
+use Rattle.sz_stream.specs.InputRuns.{HasRun, IsRunning, ended_so}
 use Rattle.sz_stream.proofs.ShardLemmas.{are_longer, are_more, sum_within, fewer_shards, split, cut_append, lie, ranges_append, length-ranges, sum-append}
-use Rattle.sz_stream.proofs.FedLemmas.{begins, few_given, whole_is_over}
+use Rattle.sz_stream.proofs.FedLemmas.{begins, few_given}
+use Rattle.sz_stream.proofs.PassedLemmas.{few_passed, passed_records}
 
-after_nothing : (o : ShardsEnd) → o ≡ after_front [] o
-after_nothing (emitted es) = refl
-after_nothing (faulted n f) = refl
-after_nothing (lost n) = refl
+-- what comes of shards with these sizes, after shards with these emits of whose records so many were passed over
+abbrev rest_of : Job → List EmitDatum → ℕ → ℕ → ℕ → List (List ℕ) → List ℕ → ShardsEnd
+rest_of job emits passed number first records sizes = after_front emits passed (outcome_from job passed (cut_into number first records sizes))
 
-later_both : (front more : List EmitDatum) (o : ShardsEnd) → after_front front (after_front more o) ≡ after_front (front ++ more) o
-later_both front more (emitted es) = ap emitted (sym (append_assoc front more es))
-later_both front more (faulted n f) = refl
-later_both front more (lost n) = refl
+same_rest : {p q n m f g : ℕ} (job : Job) (emits : List EmitDatum) (rest : List (List ℕ)) (sizes : List ℕ) → p ≡ q → n ≡ m → f ≡ g
+    → rest_of job emits p n f rest sizes ≡ rest_of job emits q m g rest sizes
+same_rest {p = p} {q = q} {n = n} {m = m} {f = f} {g = g} job emits rest sizes passed number first =
+    ap (λ k. rest_of job emits k n f rest sizes) passed ∙ ap (λ k. rest_of job emits q k f rest sizes) number
+    ∙ ap (λ k. rest_of job emits q m k rest sizes) first
 
 -- the records of so many shards at the front
 length_cut : (most : ℕ) (at_end : Bool) (number first : ℕ) (records : List (List ℕ)) (ns : List ℕ) → AreClosed most at_end records ns
@@ -79,14 +77,16 @@ module _ (job : Job) (frame : Frame) (most : ℕ) (intake : Intake) (total : Tot
       stand = record { tables = new.same_tables; stands = new.empty };
       count = 0;
       begun = empty.first;
+      low = (let none = ap (λ (r : Round). r.passed) empty.round in omega (arith, none));
+      fewer = (let none = ap (λ (r : Round). r.passed) empty.round in omega (arith, none));
       few = omega arith;
       runs = λ more ends all are. record {
         sizes = all;
         are = subst (λ (r : Round). AreShards most (r.records ++ more) all) (sym empty.round) are;
         goes_on =
             after_nothing (outcome_of job (cut_into 0 1 more all))
-            ∙ ap (λ (r : Round). after_front [] (outcome_of job (cut_into r.first_shard 1 (r.records ++ more) all))) (sym empty.round)
-            ∙ ap (λ n. after_front [] (outcome_of job (cut_into intake.round.first_shard n (intake.round.records ++ more) all))) (sym empty.first);
+            ∙ ap (λ (r : Round). rest_of job [] r.passed r.first_shard 1 (r.records ++ more) all) (sym empty.round)
+            ∙ ap (λ n. rest_of job [] intake.round.passed intake.round.first_shard n (intake.round.records ++ more) all) (sym empty.first);
       };
     };
   }
@@ -130,12 +130,14 @@ module _ (job : Job) (frame : Frame) (most : ℕ) (old : Intake) (total : TotalS
     not_ended = ap is_some more_comes
 
     -- what was run stays so
-    has_run : HasRun job most (is_some new.ending) (h.given ++ has.added) new.round.records new.round.first_shard new.first total
+    has_run : HasRun job most (is_some new.ending) (h.given ++ has.added) new.round.records new.round.first_shard new.first new.round.passed total
     has_run = record {
       emits = h.run.emits;
       stand = h.run.stand;
       count = h.run.count;
       begun = kept.first ∙ h.run.begun;
+      low = omega (arith, h.run.low, kept.passed);
+      fewer = omega (arith, h.run.fewer, kept.passed);
       few = h.run.few;
       runs = λ more ends all are. (
           let before = h.run.runs (has.added ++ more) (λ e. absurd (let no = sym not_ended ∙ e in cc)) all
@@ -148,10 +150,8 @@ module _ (job : Job) (frame : Frame) (most : ℕ) (old : Intake) (total : TotalS
             goes_on =
                 ap (λ rs. outcome_of job (cut_into 0 1 rs all)) (append_assoc h.given has.added more)
                 ∙ before.goes_on
-                ∙ ap (λ rs. after_front h.run.emits (outcome_of job (cut_into old.round.first_shard old.first rs before.sizes))) records
-                ∙ ap (λ n. after_front h.run.emits (outcome_of job (cut_into n old.first (new.round.records ++ more) before.sizes))) (sym kept.first_shard)
-                ∙ ap (λ n. after_front h.run.emits (outcome_of job (cut_into new.round.first_shard n (new.round.records ++ more) before.sizes)))
-                (sym kept.first);
+                ∙ ap (λ rs. rest_of job h.run.emits old.round.passed old.round.first_shard old.first rs before.sizes) records
+                ∙ same_rest job h.run.emits (new.round.records ++ more) before.sizes (sym kept.passed) (sym kept.first_shard) (sym kept.first);
           });
     }
 
@@ -203,6 +203,8 @@ module _ (job : Job) (frame : Frame) (most : ℕ) (old : Intake) (total : TotalS
       stand = h.run.stand;
       count = h.run.count;
       begun = c.first ∙ h.run.begun;
+      low = omega (arith, h.run.low, c.passed);
+      fewer = omega (arith, h.run.fewer, c.passed);
       few = h.run.few;
       runs = λ more ends all are. (
           let before = h.run.runs more (λ e. ends (ap is_some c.ending ∙ e)) all are in
@@ -211,10 +213,8 @@ module _ (job : Job) (frame : Frame) (most : ℕ) (old : Intake) (total : TotalS
             are = subst (λ rs. AreShards most (rs ++ more) before.sizes) (sym c.records) before.are;
             goes_on =
                 before.goes_on
-                ∙ ap (λ rs. after_front h.run.emits (outcome_of job (cut_into old.round.first_shard old.first (rs ++ more) before.sizes))) (sym c.records)
-                ∙ ap (λ n. after_front h.run.emits (outcome_of job (cut_into n old.first (new.round.records ++ more) before.sizes))) (sym c.first_shard)
-                ∙ ap (λ n. after_front h.run.emits (outcome_of job (cut_into new.round.first_shard n (new.round.records ++ more) before.sizes)))
-                (sym c.first);
+                ∙ ap (λ rs. rest_of job h.run.emits old.round.passed old.round.first_shard old.first (rs ++ more) before.sizes) (sym c.records)
+                ∙ same_rest job h.run.emits (new.round.records ++ more) before.sizes (sym c.passed) (sym c.first_shard) (sym c.first);
           });
     };
   }
@@ -242,71 +242,90 @@ module _ (job : Job) (frame : Frame) (most : ℕ) (old : Intake) (total : TotalS
       ap (numbered old.round.first_shard old.round.records) h.shards
       ∙ numbered_cut old.round.first_shard old.round.records 0 old.first h.sizes
 
+  -- what comes of the shards after those of the round, where so many records of these were passed over
+  abbrev later_of : List (List ℕ) → List ℕ → ℕ → ShardsEnd
+  later_of more sizes n =
+      outcome_from job (old.round.passed + n) (cut_into (old.round.first_shard + length old.round.shards) (old.first + old.closed)
+      (drop old.closed old.round.records ++ more) sizes)
+
   -- what comes of all shards, by what comes of those of the round
   record Follows (more : List (List ℕ)) (all : List ℕ) : Type 0 where
     sizes : List ℕ
     are : AreShards most (drop old.closed old.round.records ++ more) sizes
-    goes_on : outcome_of job (cut_into 0 1 (h.given ++ more) all) ≡ after_front h.run.emits (then_outcome (outcome_of job (shards_of old.round))
-        (outcome_of job (cut_into (old.round.first_shard + length old.round.shards) (old.first + old.closed) (drop old.closed old.round.records ++ more) sizes)))
+    goes_on : outcome_of job (cut_into 0 1 (h.given ++ more) all)
+        ≡ after_front h.run.emits old.round.passed (then_outcome (outcome_from job old.round.passed (shards_of old.round)) (later_of more sizes))
 
   follows : (more : List (List ℕ)) → (is_some old.ending ≡ true → more ≡ []) → (all : List ℕ) → AreShards most (h.given ++ more) all → Follows more all
   follows more ends all are =
       let before = h.run.runs more ends all are in
       let s = split most (is_some old.ending) old.round.records more h.sizes before.sizes ends h.are before.are in
+      let p = old.round.passed in
       let n = old.round.first_shard in
-      let rest = λ (k : ℕ) (f : ℕ) (c : ℕ). outcome_of job (cut_into k f (drop c old.round.records ++ more) s.later) in
+      let with_rest = λ (shards : List ShardData) (k : ℕ) (f : ℕ) (c : ℕ). after_front h.run.emits p (then_outcome (outcome_from job p shards)
+      (λ m. outcome_from job (p + m) (cut_into k f (drop c old.round.records ++ more) s.later))) in
       record {
         sizes = s.later;
         are = subst (λ c. AreShards most (drop c old.round.records ++ more) s.later) (sym h.closed) s.are;
         goes_on =
             before.goes_on
-            ∙ ap (λ sizes. after_front h.run.emits (outcome_of job (cut_into n old.first (old.round.records ++ more) sizes))) s.same
-            ∙ ap (λ shards. after_front h.run.emits (outcome_of job shards))
+            ∙ ap (λ sizes. rest_of job h.run.emits p n old.first (old.round.records ++ more) sizes) s.same
+            ∙ ap (λ shards. after_front h.run.emits p (outcome_from job p shards))
             (cut_append most (is_some old.ending) n old.first old.round.records more h.sizes s.later h.are)
-            ∙ ap (after_front h.run.emits) (outcome-append job (cut_into n old.first old.round.records h.sizes)
+            ∙ ap (after_front h.run.emits p) (outcome-append job p (cut_into n old.first old.round.records h.sizes)
             (cut_into (n + length h.sizes) (old.first + sum_of h.sizes) (drop (sum_of h.sizes) old.round.records ++ more) s.later))
-            ∙ ap (λ shards. after_front h.run.emits (then_outcome (outcome_of job shards)
-            (rest (n + length h.sizes) (old.first + sum_of h.sizes) (sum_of h.sizes)))) (sym of_round)
-            ∙ ap (λ c. after_front h.run.emits (then_outcome (outcome_of job (shards_of old.round)) (rest (n + length h.sizes) (old.first + c) c))) (sym h.closed)
-            ∙ ap (λ k. after_front h.run.emits (then_outcome (outcome_of job (shards_of old.round)) (rest (n + k) (old.first + old.closed) old.closed)))
+            ∙ ap (λ shards. with_rest shards (n + length h.sizes) (old.first + sum_of h.sizes) (sum_of h.sizes)) (sym of_round)
+            ∙ ap (λ c. with_rest (shards_of old.round) (n + length h.sizes) (old.first + c) c) (sym h.closed)
+            ∙ ap (λ k. with_rest (shards_of old.round) (n + k) (old.first + old.closed) old.closed)
             (sym (ap length h.shards ∙ length-ranges 0 old.first h.sizes));
       }
 
   -- a shard of the round decides
-  decides : (o : ShardsEnd) → ((front : List EmitDatum) (rest : ShardsEnd) → after_front front (then_outcome o rest) ≡ o)
-      → outcome_of job (shards_of old.round) ≡ o → (input : List ℕ) → GoesOn read over input
+  decides : (o : ShardsEnd) → ((front : List EmitDatum) (n : ℕ) (rest : ℕ → ShardsEnd) → after_front front n (then_outcome o rest) ≡ o)
+      → outcome_from job old.round.passed (shards_of old.round) ≡ o → (input : List ℕ) → GoesOn read over input
       → (records : List (List ℕ)) (ending : Ending) (sizes : List ℕ) → IsCut frame full 0 0 input records ending → AreShards most records sizes
       → outcome_of job (cut_into 0 1 records sizes) ≡ o
   decides o stays is input on records ending sizes cut are =
       let b = begins frame old.framer read over h.given old.ending h.fed input on records ending cut in
       let f = follows b.more b.ends sizes (subst (λ rs. AreShards most rs sizes) b.same are) in
       ap (λ rs. outcome_of job (cut_into 0 1 rs sizes)) b.same ∙ f.goes_on
-      ∙ ap (λ p. after_front h.run.emits (then_outcome p (outcome_of job (cut_into (old.round.first_shard + length old.round.shards)
-      (old.first + old.closed) (drop old.closed old.round.records ++ b.more) f.sizes)))) is
-      ∙ stays h.run.emits _
+      ∙ ap (λ p. after_front h.run.emits old.round.passed (then_outcome p (later_of b.more f.sizes))) is
+      ∙ stays h.run.emits old.round.passed (later_of b.more f.sizes)
 
-  pub faults : (n : ℕ) (f : Fault) → outcome_of job (shards_of old.round) ≡ faulted n f → (input : List ℕ) → GoesOn read over input
+  pub faults : (n : ℕ) (f : Fault) → outcome_from job old.round.passed (shards_of old.round) ≡ faulted n f → (input : List ℕ) → GoesOn read over input
       → (records : List (List ℕ)) (ending : Ending) (sizes : List ℕ) → IsCut frame full 0 0 input records ending → AreShards most records sizes
       → outcome_of job (cut_into 0 1 records sizes) ≡ faulted n f
-  faults n f is = decides (faulted n f) (λ front rest. refl) is
+  faults n f is = decides (faulted n f) (λ front k rest. refl) is
 
-  pub loses : (n : ℕ) → outcome_of job (shards_of old.round) ≡ lost n → (input : List ℕ) → GoesOn read over input
+  pub loses : (n : ℕ) → outcome_from job old.round.passed (shards_of old.round) ≡ lost n → (input : List ℕ) → GoesOn read over input
       → (records : List (List ℕ)) (ending : Ending) (sizes : List ℕ) → IsCut frame full 0 0 input records ending → AreShards most records sizes
       → outcome_of job (cut_into 0 1 records sizes) ≡ lost n
-  loses n is = decides (lost n) (λ front rest. refl) is
+  loses n is = decides (lost n) (λ front k rest. refl) is
 
   -- none decides
-  module _ (part : TotalState) (es : List EmitDatum) (is : outcome_of job (shards_of old.round) ≡ emitted es) (standing : StandForEmits job.compiled part es) where
+  module _ (part : TotalState) (es : List EmitDatum) (n : ℕ) (is : outcome_from job old.round.passed (shards_of old.round) ≡ emitted es n)
+      (standing : StandForEmits job.compiled part es) where
     pub same_tables : part.tables ≡ total.tables
     same_tables = standing.tables ∙ sym h.run.stand.tables
+
+    -- the round has so many records
+    so_many : length (all_records (shards_of old.round)) ≡ old.closed
+    so_many =
+        ap (λ l. length (all_records l)) of_round
+        ∙ length_cut most (is_some old.ending) old.round.first_shard old.first old.round.records h.sizes h.are ∙ sym h.closed
+
+    -- no more of them fault
+    fewer_passed : n ≤ old.closed
+    fewer_passed = let few = passed_records job old.round.passed (shards_of old.round) es n is in omega (arith, few, so_many)
+
+    -- the records that were passed over can be counted
+    pub passed_fit : old.round.passed + n < 2 ^ 32
+    passed_fit = omega (arith, fewer_passed, h.run.fewer, h.run.begun, few_left, closed_within)
 
     -- all emits so far are no more than the ticks of the records
     few_emits : length (h.run.emits ++ es) ≤ job.budget * (h.run.count + old.closed)
     few_emits =
-        let few = few_of_shards job (shards_of old.round) es is in
-        let all = ap (λ l. length (all_records l)) of_round
-        ∙ length_cut most (is_some old.ending) old.round.first_shard old.first old.round.records h.sizes h.are ∙ sym h.closed in
-        let here : length es ≤ job.budget * old.closed = subst (λ n. length es ≤ job.budget * n) all few in
+        let few = few_of_shards job old.round.passed (shards_of old.round) es n is in
+        let here : length es ≤ job.budget * old.closed = subst (λ n. length es ≤ job.budget * n) so_many few in
         omega (arith, here, h.run.few, mul-add job.budget h.run.count old.closed, length-append h.run.emits es)
 
     -- there is room for those of the round
@@ -321,7 +340,7 @@ module _ (job : Job) (frame : Frame) (most : ℕ) (old : Intake) (total : TotalS
 
     -- the round was run, and the records after it are at hand
     pub moves_on : (merged : TotalState) → Joins declarations emit_count shown total part merged
-        → IsRunning job frame most (moved_on old) merged read over
+        → IsRunning job frame most (moved_on n old) merged read over
     moves_on merged joins = record {
       given = h.given;
       fed = h.fed;
@@ -344,6 +363,8 @@ module _ (job : Job) (frame : Frame) (most : ℕ) (old : Intake) (total : TotalS
         };
         count = h.run.count + old.closed;
         begun = omega (arith, h.run.begun);
+        low = few_passed job old.round.passed (shards_of old.round) es n h.run.low is;
+        fewer = omega (arith, fewer_passed, h.run.fewer);
         few = few_emits;
         runs = λ more ends all are. (
             let f = follows more ends all are in
@@ -352,10 +373,8 @@ module _ (job : Job) (frame : Frame) (most : ℕ) (old : Intake) (total : TotalS
               are = f.are;
               goes_on =
                   f.goes_on
-                  ∙ ap (λ p. after_front h.run.emits (then_outcome p (outcome_of job (cut_into (old.round.first_shard + length old.round.shards)
-                  (old.first + old.closed) (drop old.closed old.round.records ++ more) f.sizes)))) is
-                  ∙ later_both h.run.emits es (outcome_of job (cut_into (old.round.first_shard + length old.round.shards)
-                  (old.first + old.closed) (drop old.closed old.round.records ++ more) f.sizes));
+                  ∙ ap (λ p. after_front h.run.emits old.round.passed (then_outcome p (later_of more f.sizes))) is
+                  ∙ later_both h.run.emits es old.round.passed n (later_of more f.sizes n);
             });
       };
     }
@@ -369,10 +388,10 @@ module _ (job : Job) (frame : Frame) (most : ℕ) (old : Intake) (total : TotalS
       let r = h.run.runs b.more b.ends sizes (subst (λ rs. AreShards most rs sizes) b.same are) in
       let no_rest : old.round.records ++ b.more ≡ [] = ap (λ rs. old.round.records ++ rs) nothing_more ∙ append-nil old.round.records ∙ no_records old.round.records none in
       let no_sizes : r.sizes ≡ [] = without r.sizes (subst (λ rs. AreShards most rs r.sizes) no_rest r.are) in
-      let outcome : outcome_of job (cut_into 0 1 records sizes) ≡ emitted h.run.emits =
+      let outcome : outcome_of job (cut_into 0 1 records sizes) ≡ emitted h.run.emits (old.round.passed + 0) =
       ap (λ rs. outcome_of job (cut_into 0 1 rs sizes)) b.same ∙ r.goes_on
-      ∙ ap (λ l. after_front h.run.emits (outcome_of job (cut_into old.round.first_shard old.first (old.round.records ++ b.more) l))) no_sizes
-      ∙ ap emitted (append-nil h.run.emits) in
+      ∙ ap (λ l. rest_of job h.run.emits old.round.passed old.round.first_shard old.first (old.round.records ++ b.more) l) no_sizes
+      ∙ ap (λ es. emitted es (old.round.passed + 0)) (append-nil h.run.emits) in
       by e (b.ending_is e known) outcome
     where
       no_records : (rs : List (List ℕ)) → length rs ≡ 0 → rs ≡ []
@@ -383,8 +402,8 @@ module _ (job : Job) (frame : Frame) (most : ℕ) (old : Intake) (total : TotalS
       without [] a = refl
       without (n ∷ ns) a = absurd (omega (arith, a.0.some, a.0.within))
 
-      by : (e : Ending) → ending ≡ e → outcome_of job (cut_into 0 1 records sizes) ≡ emitted h.run.emits
+      by : (e : Ending) → ending ≡ e → outcome_of job (cut_into 0 1 records sizes) ≡ emitted h.run.emits (old.round.passed + 0)
           → EndsInput job.compiled ending (outcome_of job (cut_into 0 1 records sizes)) (ended_so total e)
-      by endings.Whole same outcome = (same, (h.run.emits, outcome, h.run.stand))
-      by (endings.Damaged byte) same outcome = (same, (h.run.emits, outcome))
-      by (endings.Limit byte) same outcome = (same, (h.run.emits, outcome))
+      by endings.Whole same outcome = (same, (h.run.emits, old.round.passed + 0, outcome, h.run.stand))
+      by (endings.Damaged byte) same outcome = (same, (h.run.emits, old.round.passed + 0, outcome))
+      by (endings.Limit byte) same outcome = (same, (h.run.emits, old.round.passed + 0, outcome))

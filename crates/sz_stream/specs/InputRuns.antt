@@ -13,7 +13,7 @@ use Rattle.sz_records.specs.Fed.{FramerData}
 use Rattle.sz_records.specs.Shards.{AreShards}
 use Rattle.sz_attempt.specs.declared.job.Job.{Job}
 use Rattle.sz_attempt.specs.Ends.{StandForEmits}
-use Rattle.sz_rounds.specs.Outcomes.{ShardsEnd, after_front, outcome_of}
+use Rattle.sz_rounds.specs.Outcomes.{ShardsEnd, after_front, outcome_from, outcome_of}
 use Rattle.sz_rounds.specs.Cuts.{ranges_of, cut_into}
 use Rattle.sz_stream.specs.declared.intake.Intake.{Intake}
 use Rattle.sz_stream.specs.declared.stop.Stop.{Stop}
@@ -21,22 +21,25 @@ use Rattle.sz_stream.specs.declared.stop.Stop.TheVariants.{ReadFailed, NoMemory,
 use Rattle.sz_stream.specs.Inputs.{GoesOn, RunsInput}
 use Rattle.sz_stream.specs.Intakes.{AreClosed, sum_of, IsFed}
 
--- shards in front gave these emits, and what comes of all shards is what comes of those after them, which begin with the shard of this number
--- and the record of this one
-pub record RunsOn (job : Job) (most number first : ℕ) (emits : List EmitDatum) (rest : List (List ℕ)) (outcome : ShardsEnd) : Type 0 where
+-- shards in front gave these emits, and so many of their records were passed over; what comes of all shards is what comes of those after them,
+-- which begin with the shard of this number and the record of this one
+pub record RunsOn (job : Job) (most number first passed : ℕ) (emits : List EmitDatum) (rest : List (List ℕ)) (outcome : ShardsEnd) : Type 0 where
   pub sizes : List ℕ
   pub are : AreShards most rest sizes
-  pub goes_on : outcome ≡ after_front emits (outcome_of job (cut_into number first rest sizes))
+  pub goes_on : outcome ≡ after_front emits passed (outcome_from job passed (cut_into number first rest sizes))
 
--- Of the records that were given, all but those at hand were run, shard by shard, and no shard decided. The tables stand for their emits
-pub record HasRun (job : Job) (most : ℕ) (at_end : Bool) (given records : List (List ℕ)) (number first : ℕ) (total : TotalState) : Type 0 where
+-- Of the records that were given, all but those at hand were run, shard by shard, and no shard decided: so many were passed over. The tables stand for
+-- the emits of the others
+pub record HasRun (job : Job) (most : ℕ) (at_end : Bool) (given records : List (List ℕ)) (number first passed : ℕ) (total : TotalState) : Type 0 where
   pub emits : List EmitDatum
   pub stand : StandForEmits job.compiled total emits
   pub count : ℕ
   pub begun : first ≡ suc count
+  pub low : passed ≤ job.skip
+  pub fewer : passed ≤ count
   pub few : length emits ≤ job.budget * count
   pub runs : (more : List (List ℕ)) → (at_end ≡ true → more ≡ []) → (all : List ℕ) → AreShards most (given ++ more) all
-      → RunsOn job most number first emits (records ++ more) (outcome_of job (cut_into 0 1 (given ++ more) all))
+      → RunsOn job most number first passed emits (records ++ more) (outcome_of job (cut_into 0 1 (given ++ more) all))
 
 -- These bytes were read, perhaps to their end. The records at hand are the last of those that were given, the round's shards are closed, and
 -- all shards before them were run
@@ -52,7 +55,7 @@ pub record IsRunning (job : Job) (frame : Frame) (most : ℕ) (intake : Intake) 
   pub closed : intake.closed ≡ sum_of sizes
   pub count : intake.first + length intake.round.records ≡ 1 + length given
   pub numbers : intake.round.first_shard + 1 ≤ intake.first
-  pub run : HasRun job most (is_some intake.ending) given intake.round.records intake.round.first_shard intake.first total
+  pub run : HasRun job most (is_some intake.ending) given intake.round.records intake.round.first_shard intake.first intake.round.passed total
 
 -- from what was left at the start to what is left now bytes were read, and this is known of them
 pub record Reaches (job : Job) (frame : Frame) (most : ℕ) (intake : Intake) (total : TotalState) (start left : Option (List ℕ)) : Type 0 where
@@ -117,7 +120,7 @@ pub record RunsRound (job : Job) (old new : Intake) (total merged : TotalState) 
   pub further : old.first < new.first
   pub ending : new.ending ≡ old.ending
 
--- the first shard of the round that faults or is lost decides
+-- the first shard of the round that decides does so
 abbrev pub StopsRound : Job → Intake → TotalState → Stop → Type 0
 StopsRound job intake total stop = (frame : Frame) (most : ℕ) (read : List ℕ) (over : Bool) → IsRunning job frame most intake total read over
     → (input : List ℕ) → GoesOn read over input → RunsInput job most frame input (Err stop)

@@ -30,13 +30,13 @@ pub record GoesOn (read : List ℕ) (over : Bool) (input : List ℕ) : Type 0 wh
 
 -- all shards gave their emits
 abbrev pub GivesAll : ShardsEnd → Type 0
-GivesAll outcome = (emits : List EmitDatum) × (outcome ≡ emitted emits)
+GivesAll outcome = (emits : List EmitDatum) × (passed : ℕ) × (outcome ≡ emitted emits passed)
 
--- The answer is that of records with this ending, of whose shards comes this: the first shard that faults or is lost decides, and then the
+-- The answer is that of records with this ending, of whose shards comes this: the first shard that decides, and then the
 -- ending. The tables stand for just the emits
 abbrev pub EndsInput : Marked → Ending → ShardsEnd → Result TotalState Stop → Type 0
 EndsInput program ending outcome (Ok total) =
-    (ending ≡ endings.Whole) × ((emits : List EmitDatum) × (outcome ≡ emitted emits) × StandForEmits program total emits)
+    (ending ≡ endings.Whole) × ((emits : List EmitDatum) × (passed : ℕ) × (outcome ≡ emitted emits passed) × StandForEmits program total emits)
 EndsInput program ending outcome (Err (Fault number fault)) = outcome ≡ faulted number (seen_fault fault)
 EndsInput program ending outcome (Err (Lost shard)) = outcome ≡ lost shard
 EndsInput program ending outcome (Err (Damaged byte)) = (ending ≡ endings.Damaged byte) × GivesAll outcome

@@ -37,7 +37,7 @@ IsFed frame framer (Some e) read over given =
 pub record IsEmpty (frame : Frame) (most : ℕ) (intake : Intake) : Type 0 where
   pub fed : IsFed frame intake.framer intake.ending [] false []
   pub more : intake.ending ≡ None
-  pub round : intake.round ≡ record { records = []; shards = []; first_shard = 0 }
+  pub round : intake.round ≡ record { records = []; shards = []; first_shard = 0; passed = 0 }
   pub first : intake.first ≡ 1
   pub closed : intake.closed ≡ 0
   pub limit : intake.most ≡ most
@@ -46,6 +46,7 @@ pub record IsEmpty (frame : Frame) (most : ℕ) (intake : Intake) : Type 0 where
 pub record KeepsRound (old new : Intake) : Type 0 where
   pub shards : new.round.shards ≡ old.round.shards
   pub first_shard : new.round.first_shard ≡ old.round.first_shard
+  pub passed : new.round.passed ≡ old.round.passed
   pub first : new.first ≡ old.first
   pub closed : new.closed ≡ old.closed
   pub limit : new.most ≡ old.most
@@ -78,20 +79,22 @@ pub record Closes (old new : Intake) : Type 0 where
   pub closed : new.closed ≡ old.closed + sum_of sizes
   pub records : new.round.records ≡ old.round.records
   pub first_shard : new.round.first_shard ≡ old.round.first_shard
+  pub passed : new.round.passed ≡ old.round.passed
   pub first : new.first ≡ old.first
   pub framer : new.framer ≡ old.framer
   pub ending : new.ending ≡ old.ending
   pub limit : new.most ≡ old.most
 
--- after the shards that are closed
-abbrev pub moved_on : Intake → Intake
-moved_on intake = record {
+-- after the shards that are closed, of whose records so many were passed over
+abbrev pub moved_on : ℕ → Intake → Intake
+moved_on passed intake = record {
   framer = intake.framer;
   ending = intake.ending;
   round = record {
     records = drop intake.closed intake.round.records;
     shards = [];
     first_shard = intake.round.first_shard + length intake.round.shards;
+    passed = intake.round.passed + passed;
   };
   first = intake.first + intake.closed;
   closed = 0;

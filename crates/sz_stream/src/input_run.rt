@@ -29,7 +29,8 @@ const PIECE_BYTES: usize = 65_536;
 /// are none.
 ///
 /// The file is read in pieces. A piece is read only where the ending isn't known and the records at hand don't fill a round. A round that
-/// is full is run, and its records are dropped; the first that has a shard which faults or is lost ends the run, and no more is read.
+/// is full is run, and its records are dropped. The first that has a shard which is lost, or a record too many that faults, ends the run, and
+/// no more is read.
 ///
 /// Each round is run by so many workers. The gate is called before each attempt; tickets are counted from 0 in each round.
 pub fn run_file<'a, R: Threads + Sync, F: Files, G: Gate + Sync>(
@@ -169,12 +170,14 @@ fn run_next<'a, R: Threads + Sync, G: Gate + Sync>(
     ensures read { IsErrOf result Stop.ReadFailed → ⊥ }
 {
     match run_round(rt, alloc, job, &intake.round, workers, gate)? {
-        RoundEnd::Tables(part) => merge(total, part)?,
-        RoundEnd::Fault { record_no, fault } => return Err(Stop::Fault { record_no, fault }),
-        RoundEnd::Lost(shard) => return Err(Stop::Lost(shard)),
+        RoundEnd::Tables(part, passed) => {
+            merge(total, part)?;
+            intake.move_on(passed);
+            Ok(())
+        }
+        RoundEnd::Fault { record_no, fault } => Err(Stop::Fault { record_no, fault }),
+        RoundEnd::Lost(shard) => Err(Stop::Lost(shard)),
     }
-    intake.move_on();
-    Ok(())
 }
 
 /// Merges the tables of one round more.

@@ -63,6 +63,7 @@ impl Intake {
                 records: Records::new(alloc),
                 shards: Items::new(alloc),
                 first_shard: 0,
+                passed: 0,
             },
             first: 1,
             closed: 0,
@@ -131,16 +132,18 @@ impl Intake {
         }
     }
 
-    /// Drops the shards of the round, which were run, and their records.
-    pub(crate) fn move_on(&mut self)
+    /// Drops the shards of the round, which were run, and their records, of which so many were passed over.
+    pub(crate) fn move_on(&mut self, passed: u32)
         requires within { self.old.closed ≤ length self.old.round.records }
         requires few { self.old.first + length self.old.round.records ≤ 2 ^ 31 + 1 }
         requires numbers { self.old.round.first_shard + length self.old.round.shards ≤ 2 ^ 31 + 1 }
-        ensures value { self.new ≡ moved_on self.old }
+        requires passed { self.old.round.passed + passed < 2 ^ 32 }
+        ensures value { self.new ≡ moved_on passed self.old }
     {
         self.round.records.clear(self.closed);
         self.round.first_shard += self.round.shards.len() as u64;
         self.round.shards.truncate(0);
+        self.round.passed += passed;
         self.first += self.closed as u64;
         self.closed = 0;
         self.bytes = 0;

@@ -8,13 +8,13 @@ use sz_machine::Fault;
 /// Why the run of an input ends without the tables of all its records.
 #[derive(Drop)]
 pub enum Stop {
-    /// The first shard that faults or is lost faults.
+    /// More records fault than may be passed over, and no shard up to the one with the first too many is lost.
     Fault {
-        /// The number of its first record that faults, counted from 1.
+        /// The number of the first record too many, counted from 1.
         record_no: u64,
         fault: Fault,
     },
-    /// The first shard that faults or is lost is lost: its number, counted from 0.
+    /// The first shard that decides is lost: its number, counted from 0.
     Lost(u64),
     /// The input is damaged where a record would begin, at this byte from 0.
     Damaged(u64),

@@ -96,17 +96,18 @@ pub record SameValues (given other : Values) : Type 0 where
   pub shard : given (codes "shard") ≡ other (codes "shard")
   pub attempts : given (codes "attempts") ≡ other (codes "attempts")
   pub budget : given (codes "budget") ≡ other (codes "budget")
+  pub skip : given (codes "skip") ≡ other (codes "skip")
   pub kill : given (codes "kill") ≡ other (codes "kill")
   pub twice : given (codes "twice") ≡ other (codes "twice")
 
 run_same : (given other : Values) → SameValues given other → (names : List (List ℕ)) → run_settings given names ≡ run_settings other names
 unfolding run_with
-run_same given other e names = rw (e.frame, e.workers, e.shard, e.attempts, e.budget, e.kill, e.twice) refl
+run_same given other e names = rw (e.frame, e.workers, e.shard, e.attempts, e.budget, e.skip, e.kill, e.twice) refl
 
 check_same : (given other : Values) → SameValues given other → (names : List (List ℕ))
     → check_settings given names ≡ check_settings other names
 check_same given other e [] = refl
-check_same given other e (p ∷ []) = rw (e.frame, e.workers, e.shard, e.attempts, e.budget, e.kill, e.twice) refl
+check_same given other e (p ∷ []) = rw (e.frame, e.workers, e.shard, e.attempts, e.budget, e.skip, e.kill, e.twice) refl
 check_same given other e (p ∷ i ∷ names) = refl
 
 selftest_same : (given other : Values) → SameValues given other → (names : List (List ℕ))
@@ -114,7 +115,7 @@ selftest_same : (given other : Values) → SameValues given other → (names : L
 selftest_same given other e [] = refl
 selftest_same given other e (s ∷ []) = refl
 selftest_same given other e (s ∷ r ∷ []) = refl
-selftest_same given other e (s ∷ r ∷ w ∷ []) = rw (e.frame, e.workers, e.shard, e.attempts, e.budget, e.kill, e.twice) refl
+selftest_same given other e (s ∷ r ∷ w ∷ []) = rw (e.frame, e.workers, e.shard, e.attempts, e.budget, e.skip, e.kill, e.twice) refl
 selftest_same given other e (s ∷ r ∷ w ∷ n ∷ names) = refl
 
 -- what a command asks for depends on the values of the options alone
@@ -129,6 +130,7 @@ settings_same command m parts has =
       shard = has.options (codes "shard") refl;
       attempts = has.options (codes "attempts") refl;
       budget = has.options (codes "budget") refl;
+      skip = has.options (codes "skip") refl;
       kill = has.options (codes "kill") refl;
       twice = has.options (codes "twice") refl;
     } in

@@ -27,7 +27,7 @@ has_equals text = list_any is_equals text
 -- the options of `run`, without their dashes
 abbrev pub option_names : List (List ℕ)
 option_names =
-    codes "frame" ∷ codes "workers" ∷ codes "shard" ∷ codes "attempts" ∷ codes "budget" ∷ codes "kill" ∷ codes "twice" ∷ []
+    codes "frame" ∷ codes "workers" ∷ codes "shard" ∷ codes "attempts" ∷ codes "budget" ∷ codes "skip" ∷ codes "kill" ∷ codes "twice" ∷ []
 
 -- whether this is an option of `run`
 abbrev pub is_option : List ℕ → Bool

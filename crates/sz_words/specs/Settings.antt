@@ -70,7 +70,9 @@ numbers_in given =
     option_and_then (λ shard.
     option_and_then (λ attempts.
     option_and_then (λ budget.
-    Some (record { frame = frame; workers = workers; shard = shard; attempts = attempts; budget = budget }))
+    option_and_then (λ skip.
+    Some (record { frame = frame; workers = workers; shard = shard; attempts = attempts; budget = budget; skip = skip }))
+    (number_or 0 0 1000 (value_of given (codes "skip"))))
     (number_or (2 ^ 24) 1 (2 ^ 32) (value_of given (codes "budget"))))
     (number_or 3 1 8 (value_of given (codes "attempts"))))
     (number_or default_shard 1 65536 (value_of given (codes "shard"))))
@@ -91,6 +93,7 @@ run_with given program input =
       shard = numbers.shard;
       attempts = numbers.attempts;
       budget = numbers.budget;
+      skip = numbers.skip;
       kills = kills;
       twice = twice;
       ignore_undefs = false;

@@ -162,6 +162,7 @@ fn run_with(
         shard: numbers.shard,
         attempts: numbers.attempts,
         budget: numbers.budget,
+        skip: numbers.skip,
         kills,
         twice,
         ignore_undefs: false,
@@ -176,6 +177,7 @@ pub struct Numbers {
     pub shard: u32,
     pub attempts: u32,
     pub budget: u64,
+    pub skip: u32,
 }
 
 // What the options with one number or word ask for.
@@ -188,12 +190,14 @@ fn numbers_in(options: &ArgMatches) -> Option<Numbers>
     let shard = small_number_or(DEFAULT_SHARD, 1, 65_536, value_of(options, "shard"))?;
     let attempts = small_number_or(3, 1, 8, value_of(options, "attempts"))?;
     let budget = number_or(1 << 24, 1, 1 << 32, value_of(options, "budget"))?;
+    let skip = small_number_or(0, 0, 1_000, value_of(options, "skip"))?;
     Some(Numbers {
         frame,
         workers,
         shard,
         attempts,
         budget,
+        skip,
     })
 }
 

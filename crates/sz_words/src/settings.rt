@@ -42,6 +42,8 @@ pub struct RunSettings {
     pub attempts: u32,
     /// The ticks that a record may take: 1 to 2^32.
     pub budget: u64,
+    /// How many records that fault are passed over: 0 to 1,000.
+    pub skip: u32,
     /// The attempts that die.
     pub kills: Kills,
     /// The shards with a second ticket.
@@ -60,6 +62,7 @@ impl Drop for RunSettings {
             shard: _,
             attempts: _,
             budget: _,
+            skip: _,
             kills: _,
             twice: _,
             ignore_undefs: _,

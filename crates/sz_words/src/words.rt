@@ -17,8 +17,8 @@ use clap::{Arg, ArgAction, ArgMatches, Command, Error};
 use std::alloc::{AllocError, Global};
 
 /// The options of `run`, without their dashes.
-const OPTIONS: [&str; 7] = [
-    "frame", "workers", "shard", "attempts", "budget", "kill", "twice",
+const OPTIONS: [&str; 8] = [
+    "frame", "workers", "shard", "attempts", "budget", "skip", "kill", "twice",
 ];
 
 /// The words after a command as options and names. `clap` reads them once their dashes fit, since it would read more.

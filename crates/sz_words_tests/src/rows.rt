@@ -1,7 +1,8 @@
 //! Command lines, and what each asks for.
 
 /// A row is words, ` => `, and what they ask for; `~` stands for an empty word. A run is told as its program, input, frame,
-/// workers, shard, attempts and budget, then its kills and its doubled shards, and whether it ignores undefined values.
+/// workers, shard, attempts and budget, then its kills and its doubled shards, how many records that fault it
+/// passes over where that is more than none, and whether it ignores undefined values.
 pub const ROWS: &str = "\
 == commands
  => usage
@@ -133,7 +134,6 @@ run p f --twice => usage
 run p f --twice= => usage
 run p f --workers 2 --workers 3 => usage
 run --workers=2 p f --workers=3 => usage
-run p f --skip 1 => usage
 run p f --save => usage
 run p f --proto q => usage
 run p f --journal j => usage
@@ -263,6 +263,32 @@ run p f --twice 1.0 => usage
 run p f --twice +1 => usage
 run p f --twice ~ => usage
 run p f --twice 000000000000000000001 => usage
+== records that are passed over
+run p f --skip 0 => run p f lines 4 1000 3 16777216 [] []
+run p f --skip 1 => run p f lines 4 1000 3 16777216 [] [] skipping 1
+run p f --skip=1000 => run p f lines 4 1000 3 16777216 [] [] skipping 1000
+run --skip 0007 p f => run p f lines 4 1000 3 16777216 [] [] skipping 7
+run p f --skip 2 --ignore-undefs => run p f lines 4 1000 3 16777216 [] [] skipping 2 ignoring
+run p f --kill 0.0.1 --skip=3 --twice 0 => run p f lines 4 1000 3 16777216 [0.0.1] [0] skipping 3
+run p f -- --skip => usage
+run -- p --skip => run p --skip lines 4 1000 3 16777216 [] []
+run p f --skip 1001 => usage
+run p f --skip=18446744073709551616 => usage
+run p f --skip 00000000000000001000 => run p f lines 4 1000 3 16777216 [] [] skipping 1000
+run p f --skip 000000000000000000001 => usage
+run p f --skip -1 => usage
+run p f --skip=-1 => usage
+run p f --skip=+1 => usage
+run p f --skip => usage
+run p f --skip= => usage
+run p f --skip ~ => usage
+run p f --skip --ignore-undefs => usage
+run p f --skip 1.0 => usage
+run p f --skip 1 --skip 1 => usage
+run p f --skip=1 --skip 2 => usage
+run p f --skips 1 => usage
+check p --skip 1 => usage
+selftest 1 1 1 --skip 1 => usage
 == the flag of run
 run p f --ignore-undefs => run p f lines 4 1000 3 16777216 [] [] ignoring
 run --ignore-undefs p f => run p f lines 4 1000 3 16777216 [] [] ignoring

@@ -71,6 +71,9 @@ fn told_run(alloc: Global, run: &RunSettings) -> Result<String, Fail> {
         write!(told, "{comma}{shard}")?;
     }
     told.push(']')?;
+    if run.skip > 0 {
+        write!(told, " skipping {}", run.skip)?;
+    }
     if run.ignore_undefs {
         told.push_str(" ignoring")?;
     }

@@ -1,4 +1,8 @@
+pub mod DecideLemmas
+pub mod EndLemmas
+pub mod FaultLemmas
 pub mod GatherLemmas
+pub mod LeftLemmas
 pub mod PartLemmas
 pub mod RestLemmas
 pub mod SendLemmas

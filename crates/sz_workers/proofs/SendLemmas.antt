@@ -1,6 +1,7 @@
 -- What the threads of a round share and give back may cross threads: jobs are read by all, and tables are handed over.
 -- Each type is proved from its parts, since a search through all of them stops at its limits.
 use denote.Ref.{NamedLft}
+use denote.RattleType.{RattleType}
 use denote.Param.Send.{IsSend, IsSync, sendable, view_send, view_sync}
 use denote.Param.SendFields.{declared_send, declared_sync}
 use Rattle.std.proofs.Crossing.{crosses}
@@ -20,6 +21,7 @@ use Rattle.sz_instr.proofs.routine.Routine.TheSendSync as routine
 use Rattle.sz_instr.proofs.step.Step.TheSendSync as step
 use Rattle.indexmap.proofs.map.IndexMap.TheSendSync as index_map
 use Rattle.sz_words.proofs.settings.Kill.TheSendSync as kill
+use Rattle.sz_attempt.proofs.ends.Skipped.TheSendSync as skipped
 use Rattle.sz_flat.proofs.flat_list.FlatList.TheSendSync as flat
 use Rattle.sz_types.specs.contracts.table.TableDecl as TableDecl
 use Rattle.sz_types.specs.contracts.tables.TableDecls as TableDecls
@@ -34,6 +36,8 @@ use Rattle.sz_members.specs.contracts.members.Members as Members
 use Rattle.sz_total.specs.contracts.aggregate.Aggregate as Aggregate
 use Rattle.sz_total.specs.contracts.one_table.OneTable as OneTable
 use Rattle.sz_total.specs.contracts.total.Total as Total
+use Rattle.sz_workers.specs.contracts.first_faults.FirstFaults as FirstFaults
+use Rattle.sz_workers.specs.contracts.part.RoundPart as RoundPart
 
 ruleset parts = (
   sendable,
@@ -125,11 +129,28 @@ job_sync =
             search parts depth 30,
             (
               search parts depth 30,
-              (search parts depth 30, tt),
+              (
+                search parts depth 30,
+                (search parts depth 30, tt),
+              ),
             ),
           ),
         ),
       ),
+    )
+
+first_faults_send : IsSend FirstFaults.the_row
+first_faults_send =
+    declared_send FirstFaults.the_type (
+      search parts depth 30,
+      (search (parts, skipped.the_send) depth 30, (search parts depth 30, tt)),
+    )
+
+first_faults_sync : IsSync FirstFaults.the_row
+first_faults_sync =
+    declared_sync FirstFaults.the_type (
+      search parts depth 30,
+      (search (parts, skipped.the_sync) depth 30, (search parts depth 30, tt)),
     )
 
 module _ (κ : NamedLft) where
@@ -215,7 +236,7 @@ module _ (κ : NamedLft) where
         ),
       ))
 
-  pub total_send : IsSend (Total.the_row κ)
+  total_send : IsSend (Total.the_row κ)
   total_send =
       view_send _ _ _ _ _ (declared_send (Total.TheInside.the_type κ) (
         search (parts, tables_sync) depth 30,
@@ -225,7 +246,7 @@ module _ (κ : NamedLft) where
         ),
       ))
 
-  pub total_sync : IsSync (Total.the_row κ)
+  total_sync : IsSync (Total.the_row κ)
   total_sync =
       view_sync _ _ _ _ _ (declared_sync (Total.TheInside.the_type κ) (
         search (parts, tables_sync) depth 30,
@@ -234,3 +255,9 @@ module _ (κ : NamedLft) where
           (search (parts, one_table_sync) depth 30, tt),
         ),
       ))
+
+  pub part_send : (N : RattleType) → IsSend N → IsSend (RoundPart.the_row κ N)
+  part_send N name = declared_send (RoundPart.the_type κ N) (total_send, (first_faults_send, (search parts depth 30, tt)))
+
+  pub part_sync : (N : RattleType) → IsSync N → IsSync (RoundPart.the_row κ N)
+  part_sync N name = declared_sync (RoundPart.the_type κ N) (total_sync, (first_faults_sync, (search parts depth 30, tt)))

@@ -71,14 +71,15 @@ plan_is job round p is =
     (is.tickets ∙ ap (tickets_upto job.twice round.first_shard) is.shards)
 
 -- a round is set that is named by itself
-pub is_set : (job : Job) (round : Round) (p : PlanData) → IsJob job → IsRound round → (1 ≤ job.attempts) × (job.attempts ≤ 8) → IsPlanOf job round p
-    → IsSet job round job round p
-is_set job round p job_is round_is attempts of = record {
+pub is_set : (job : Job) (round : Round) (p : PlanData) → IsJob job → IsRound round → round.passed ≤ job.skip → (1 ≤ job.attempts) × (job.attempts ≤ 8)
+    → IsPlanOf job round p → IsSet job round job round p
+is_set job round p job_is round_is passed attempts of = record {
   job_is = refl;
   round_is = refl;
   job_runs = job_is;
   round_runs = round_is;
   attempts = attempts;
+  passed = passed;
   plan = plan_is job round p of;
   plans = of.plan;
 }
@@ -91,6 +92,7 @@ can_work named of job round p ledger set is = record {
   round_is = set.round_is;
   job_runs = set.job_runs;
   round_runs = set.round_runs;
+  passed = set.passed;
   plans = subst IsPlan (sym is) set.plans;
   plan = is ∙ set.plan;
 }

@@ -1,4 +1,6 @@
 -- what the public contracts rest on
+pub mod FirstFaults
+pub mod FirstOfBoth
 pub mod Parts
 -- what the functions inside the crate promise each other
 pub mod Ends

@@ -1,5 +1,5 @@
 -- What a worker of a round begins with.
-use Rattle.std.specs.Prelude.{◌≡◌, ℕ, ◌<◌, []}
+use Rattle.std.specs.Prelude.{◌≡◌, ℕ, ◌<◌, ◌≤◌, []}
 use Rattle.std.specs.Int.{div_ceil}
 use Rattle.sz_book.specs.History.{HasWon, HasGiven}
 use Rattle.sz_book.specs.Plan.{IsPlan}
@@ -17,12 +17,13 @@ pub record HoldsNothing (v : PassData) : Type 0 where
   pub none_lent : v.lent ≡ []
   pub brought : (s : ℕ) → HasWon s v.mine → HasGiven s v.mine
 
--- the job and the round are the named ones, which can be run, and the ledger has their plan
+-- the job and the round are the named ones, which can be run, with no more records passed over in front than may be, and the ledger has their plan
 pub record CanWork (named : Job) (of : Round) (job : Job) (round : Round) (ledger : LedgerData) : Type 0 where
   pub job_is : job ≡ named
   pub round_is : round ≡ of
   pub job_runs : IsJob named
   pub round_runs : IsRound of
+  pub passed : of.passed ≤ named.skip
   pub plans : IsPlan ledger.plan
   pub plan : ledger.plan ≡ plan_for named of
 

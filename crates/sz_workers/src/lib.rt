@@ -2,6 +2,7 @@
 #![tactic(auto)]
 
 mod attempts;
+mod first_faults;
 mod making;
 mod part;
 mod pool;

@@ -4,9 +4,10 @@ ghost use Rattle.sz_attempt.specs.Shards.{IsJob};
 ghost use Rattle.sz_rounds.specs.Rounds.{IsRound, shards_of};
 ghost use Rattle.sz_workers.specs.Ends.{IsEndOf};
 ghost use Rattle.sz_workers_loop.specs.Makers.{IsTrueMiss, GivesEmits};
-ghost use Rattle.sz_workers.specs.Parts.{Dies, Faults, HoldsShards};
+ghost use Rattle.sz_workers.specs.Parts.{Dies, Bad, HoldsShards};
 
 use crate::attempts::run_attempt;
+use crate::first_faults::first_faults;
 use crate::part::{RoundName, RoundPart};
 use std::alloc::Global;
 use std::marker::{Model, PhantomData};
@@ -44,6 +45,8 @@ impl<'a, 'r, G: Gate, N: RoundName> Model for RoundMaker<'a, 'r, G, N> {
 
 // The part that an attempt gave, or why it gave none.
 fn part_of<'a, N: RoundName>(
+    alloc: Global,
+    skip: u32,
     place: u32,
     number: u32,
     end: AttemptEnd<'a>,
@@ -51,22 +54,21 @@ fn part_of<'a, N: RoundName>(
     requires job { IsJob N.job }
     requires round { IsRound N.round }
     requires number { number < N.job.attempts }
+    requires skip { skip ≡ N.job.skip }
     requires end { IsEndOf N.job N.round place number end }
-    ensures part { IfOk result (λ part. HoldsShards N.job N.round part.total (place ∷ [])) }
+    ensures part { IfOk result (λ part. HoldsShards N.job N.round part.total part.first (place ∷ [])) }
     ensures gave { OnOk result (GivesEmits
-        (λ s k. Dies N.job (shards_of N.round) s k) (λ s. Faults N.job (shards_of N.round) s) place number) }
+        (λ s k. Dies N.job (shards_of N.round) s k) (λ s. Bad N.job (shards_of N.round) s) place number) }
     ensures missed { IfErr result (λ why. IsTrueMiss
-        (λ s k. Dies N.job (shards_of N.round) s k) (λ s. Faults N.job (shards_of N.round) s) place number why) }
+        (λ s k. Dies N.job (shards_of N.round) s k) (λ s. Bad N.job (shards_of N.round) s) place number why) }
 {
     match end {
-        AttemptEnd::Part(total) => Ok(RoundPart {
+        AttemptEnd::Part(total, faults) => Ok(RoundPart {
             total,
+            first: first_faults(alloc, skip, faults),
             of: PhantomData,
         }),
-        AttemptEnd::Fault {
-            record_no: _,
-            fault: _,
-        } => Err(Missed::Bad),
+        AttemptEnd::Bad(_) => Err(Missed::Bad),
         AttemptEnd::Died(_) => Err(Missed::Died),
     }
 }
@@ -87,7 +89,7 @@ impl<'a, 'r, G: Gate, N: RoundName> Maker<RoundPart<'a, N>> for RoundMaker<'a, '
             claim.shard,
             number,
         ) {
-            Ok(end) => part_of(claim.shard, number, end),
+            Ok(end) => part_of(self.alloc, job.skip, claim.shard, number, end),
             Err(_) => Err(Missed::NoMemory),
         }
     }

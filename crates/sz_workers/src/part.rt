@@ -6,8 +6,9 @@ ghost use Rattle.sz_attempt.specs.declared.job.Job.{Job};
 ghost use Rattle.sz_attempt.specs.Shards.{IsJob};
 ghost use Rattle.sz_rounds.specs.declared.round.Round.{Round};
 ghost use Rattle.sz_rounds.specs.Rounds.{shards_of, IsRound};
-ghost use Rattle.sz_workers.specs.Parts.{plan_for, Dies, Faults, HoldsShards, JoinsEither};
+ghost use Rattle.sz_workers.specs.Parts.{plan_for, Dies, Bad, HoldsShards, JoinsEither};
 
+use crate::first_faults::{FirstFaults, first_of_both, no_faults};
 use std::alloc::Global;
 use std::marker::{Brand, PhantomData};
 use std::mem;
@@ -29,36 +30,54 @@ impl RoundName for Brand {
       compiled = record { core = record { items = []; locals = [] }; ignoring = false };
       statics = [];
       budget = 0;
+      skip = 0;
       attempts = 0;
       kills = [];
       twice = [];
     } };
 
-    ghost round = { record { records = []; shards = []; first_shard = 0 } };
+    ghost round = { record { records = []; shards = []; first_shard = 0; passed = 0 } };
 }
 
-/// The tables of what some shards of a round emit.
+/// The tables of what some shards of a round emit, and the first of their records that fault.
 #[derive(Drop)]
 pub struct RoundPart<'a, N: RoundName> {
     pub(crate) total: Total<'a>,
+    pub(crate) first: FirstFaults,
     pub(crate) of: PhantomData<N>,
 }
 
 impl<'a, N: RoundName> Load for RoundPart<'a, N> {
     ghost died = { λ s k. Dies N.job (shards_of N.round) s k };
 
-    ghost faults = { λ s. Faults N.job (shards_of N.round) s };
+    ghost faults = { λ s. Bad N.job (shards_of N.round) s };
 
     ghost plan = { λ part. plan_for N.job N.round };
 
-    ghost stands = { λ part ss. HoldsShards N.job N.round part.total ss };
+    ghost stands = { λ part ss. HoldsShards N.job N.round part.total part.first ss };
 
     fn absorb(&mut self, part: RoundPart<'a, N>) -> Result<(), RoundPart<'a, N>> {
         tables_forget_the_order();
-        match merge_into_larger(&mut self.total, part.total) {
-            Ok(()) => Ok(()),
+        let RoundPart {
+            total,
+            first,
+            of: _,
+        } = part;
+        let Ok(both) = first_of_both(&self.first, &first) else {
+            return Err(RoundPart {
+                total,
+                first,
+                of: PhantomData,
+            });
+        };
+        match merge_into_larger(&mut self.total, total) {
+            Ok(()) => {
+                self.first = both;
+                Ok(())
+            }
             Err(total) => Err(RoundPart {
                 total,
+                first,
                 of: PhantomData,
             }),
         }
@@ -96,12 +115,13 @@ impl<'a, N: RoundName> RoundPart<'a, N> {
         requires round { IsRound N.round }
         requires plan { plan.now ≡ plan_for N.job N.round }
         requires decls { decls.now ≡ all_tables N.job.compiled }
-        ensures value { IfOk result (λ part. HoldsShards N.job N.round part.total []) }
+        ensures value { IfOk result (λ part. HoldsShards N.job N.round part.total part.first []) }
     {
         let _ = plan;
         let total = Total::new(alloc, decls)?;
         Ok(RoundPart {
             total,
+            first: no_faults(alloc),
             of: PhantomData,
         })
     }

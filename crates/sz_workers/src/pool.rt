@@ -3,16 +3,13 @@ ghost use Rattle.std.specs.Prelude.{◌≡◌, ◌++◌, ◌∷◌, [], IfOk, On
 ghost use Rattle.sz_mean.specs.Marked.{all_tables};
 ghost use Rattle.sz_book.specs.History.{IsAmong, AreApart, AreDistinct};
 ghost use Rattle.sz_attempt.specs.Shards.{IsJob};
-ghost use Rattle.sz_attempt.specs.Ends.{StandForEmits};
-ghost use Rattle.sz_rounds.specs.Rounds.{shards_of, IsRound};
+ghost use Rattle.sz_rounds.specs.Rounds.{IsRound};
 ghost use Rattle.sz_workers_loop.specs.Closing.{shards_in};
-ghost use Rattle.sz_workers.specs.Parts.{plan_for, emits_at, Counts, HoldsShards};
+ghost use Rattle.sz_workers.specs.Parts.{plan_for, HoldsShards};
 
 use crate::part::{RoundName, RoundPart};
 use std::alloc::Global;
-use std::marker::PhantomData;
 use sz_book::{Lane, Load, NoMemory, Plan, Shards};
-use sz_total::Total;
 use sz_types::TableDecls;
 
 /// A part, and the shards that it stands for.
@@ -32,7 +29,7 @@ pub(crate) fn empty_pool<'a, N: RoundName>(
     requires round { IsRound N.round }
     requires plan { plan.now ≡ plan_for N.job N.round }
     requires decls { decls.now ≡ all_tables N.job.compiled }
-    ensures holds { IfOk result (λ pool. HoldsShards N.job N.round pool.part.total pool.shards) }
+    ensures holds { IfOk result (λ pool. HoldsShards N.job N.round pool.part.total pool.part.first pool.shards) }
     ensures empty { IfOk result (λ pool. pool.shards ≡ []) }
 {
     let part = RoundPart::empty(alloc, plan, decls)?;
@@ -47,9 +44,9 @@ pub(crate) fn pour_all<'a, N: RoundName>(
     pool: &mut Pool<'a, N>,
     lanes: Vec<Lane<RoundPart<'a, N>>>,
 ) -> Result<(), NoMemory>
-    requires holds { HoldsShards N.job N.round pool.old.part.total pool.old.shards }
+    requires holds { HoldsShards N.job N.round pool.old.part.total pool.old.part.first pool.old.shards }
     requires distinct { AreDistinct (pool.old.shards ++ shards_in lanes.items) }
-    ensures holds { OnOk result (HoldsShards N.job N.round pool.new.part.total pool.new.shards) }
+    ensures holds { OnOk result (HoldsShards N.job N.round pool.new.part.total pool.new.part.first pool.new.shards) }
     ensures all { OnOk result (pool.new.shards ≡ pool.old.shards ++ shards_in lanes.entry.items) }
 {
     for lane in lanes {
@@ -63,9 +60,9 @@ fn pour<'a, N: RoundName>(
     pool: &mut Pool<'a, N>,
     lane: Lane<RoundPart<'a, N>>,
 ) -> Result<(), NoMemory>
-    requires holds { HoldsShards N.job N.round pool.old.part.total pool.old.shards }
+    requires holds { HoldsShards N.job N.round pool.old.part.total pool.old.part.first pool.old.shards }
     requires apart { AreApart pool.old.shards lane.shards }
-    ensures holds { OnOk result (HoldsShards N.job N.round pool.new.part.total pool.new.shards) }
+    ensures holds { OnOk result (HoldsShards N.job N.round pool.new.part.total pool.new.part.first pool.new.shards) }
     ensures all { OnOk result (pool.new.shards ≡ pool.old.shards ++ lane.entry.shards) }
 {
     let (part, shards) = lane.take();
@@ -75,23 +72,18 @@ fn pour<'a, N: RoundName>(
     }
 }
 
-/// Takes in the tables of one shard, which isn't there yet.
+/// Takes in the part of one shard, which isn't there yet.
 pub(crate) fn add_shard<'a, N: RoundName>(
     pool: &mut Pool<'a, N>,
     place: u32,
-    total: Total<'a>,
+    part: RoundPart<'a, N>,
 ) -> Result<(), NoMemory>
-    requires holds { HoldsShards N.job N.round pool.old.part.total pool.old.shards }
+    requires holds { HoldsShards N.job N.round pool.old.part.total pool.old.part.first pool.old.shards }
     requires absent { ¬ IsAmong place pool.old.shards }
-    requires counts { Counts N.job (shards_of N.round) place }
-    requires stands { StandForEmits N.job.compiled total (emits_at N.job (shards_of N.round) place) }
-    ensures value { OnOk result (HoldsShards N.job N.round pool.new.part.total pool.new.shards) }
+    requires one { HoldsShards N.job N.round part.total part.first (place ∷ []) }
+    ensures value { OnOk result (HoldsShards N.job N.round pool.new.part.total pool.new.part.first pool.new.shards) }
     ensures more { OnOk result (pool.new.shards ≡ pool.old.shards ++ place ∷ []) }
 {
-    let part = RoundPart {
-        total,
-        of: PhantomData,
-    };
     match pool.part.absorb(part) {
         Ok(()) => pool.shards.push(place),
         Err(_) => Err(NoMemory),

@@ -1,16 +1,19 @@
 //! What is left of a round once its workers are done: the shards that no worker settled.
-ghost use Rattle.std.specs.Prelude.{◌≡◌, ◌+◌, ◌-◌, ◌^◌, ◌<◌, ◌≤◌, ◌==◌, length, IfOk, IfSome, IfNone};
+ghost use Rattle.std.specs.Prelude.{◌≡◌, ◌++◌, ◌∷◌, [], ◌+◌, ◌-◌, ◌^◌, ◌<◌, ◌≤◌, ◌==◌, length, IfOk, IfSome, IfNone};
 ghost use Rattle.sz_attempt.specs.Shards.{IsJob};
-ghost use Rattle.sz_rounds.specs.Outcomes.{outcome_of};
+ghost use Rattle.sz_rounds.specs.Outcomes.{outcome_from};
 ghost use Rattle.sz_rounds.specs.Rounds.{IsRound, shards_of, EndsRound};
 ghost use Rattle.sz_workers.specs.Parts.{HoldsShards};
-ghost use Rattle.sz_workers.specs.RoundRuns.{IsSet, AreWords, IsPooled, RestEnds};
+ghost use Rattle.sz_book.specs.History.{IsAmong};
+ghost use Rattle.sz_workers.specs.RoundRuns.{IsSet, AreWords, HasFront, IsPooled, NoneInFront, RestEnds, one_too_many, in_front};
 
 use crate::attempts::run_attempt;
-use crate::part::RoundName;
+use crate::first_faults::{first_faults, first_of_both};
+use crate::part::{RoundName, RoundPart};
 use crate::pool::{Pool, add_shard};
 use std::alloc::Global;
-use sz_attempt::{AttemptEnd, Job};
+use std::marker::PhantomData;
+use sz_attempt::{AttemptEnd, Faults, Job, Skipped};
 use sz_book::{NoMemory, Plan, Words};
 use sz_io::Gate;
 use sz_machine::Room;
@@ -20,10 +23,12 @@ use sz_total::{Total, tables_forget_the_order};
 /// What comes of a shard that the caller runs.
 #[derive(Drop)]
 pub(crate) enum Rest<'a> {
-    /// The tables of its emits.
-    Part(Total<'a>),
-    /// It decides, if no shard in front of it does.
-    Decided(RoundEnd<'a>),
+    /// The tables of its emits, and its records that fault.
+    Part(Total<'a>, Faults),
+    /// More of its records fault than may be passed over: the first of them.
+    Bad(Faults),
+    /// All attempts on it died.
+    Lost,
 }
 
 // Runs attempts of the shard at a place until one doesn't die.
@@ -44,13 +49,11 @@ fn run_shard<'a, G: Gate>(
     for number in 0..job.attempts {
         match run_attempt(alloc, room, job, round, gate, ticket, place, number)? {
             AttemptEnd::Died(_) => {}
-            AttemptEnd::Fault { record_no, fault } => {
-                return Ok(Rest::Decided(RoundEnd::Fault { record_no, fault }));
-            }
-            AttemptEnd::Part(part) => return Ok(Rest::Part(part)),
+            AttemptEnd::Bad(faults) => return Ok(Rest::Bad(faults)),
+            AttemptEnd::Part(total, faults) => return Ok(Rest::Part(total, faults)),
         }
     }
-    Ok(Rest::Decided(RoundEnd::Lost(round.first_shard + u64::from(place))))
+    Ok(Rest::Lost)
 }
 
 // Whether all of so many attempts are in a word of deaths.
@@ -61,7 +64,50 @@ fn all_died(deaths: u64, attempts: u32) -> bool
     deaths == (1 << attempts) - 1
 }
 
-// Runs the shard at a place, if it isn't in the pool and not all of its attempts died: the end of the round, if it decides.
+// The record that is one too many after those in front of the round, if there is one among these.
+fn one_too_many(job: &Job, round: &Round, faults: &[Skipped]) -> Option<Skipped>
+    requires passed { round.now.passed ≤ job.now.skip }
+    ensures value { result ≡ one_too_many job.now round.now faults.now }
+{
+    let place = (job.skip - round.passed) as usize;
+    if place < faults.len() {
+        Some(faults[place])
+    } else {
+        None
+    }
+}
+
+// That record, if it stands in front of the one with this number.
+fn one_in_front(job: &Job, round: &Round, faults: &[Skipped], first: u64) -> Option<Skipped>
+    requires passed { round.now.passed ≤ job.now.skip }
+    ensures value { result ≡ in_front first (one_too_many job.now round.now faults.now) }
+{
+    match one_too_many(job, round, faults) {
+        Some(one) if one.record_no < first => Some(one),
+        _ => None,
+    }
+}
+
+// How many records these are, which are at most so many.
+fn count_of(faults: &[Skipped], most: u32) -> u32
+    requires few { length faults.now ≤ most }
+    ensures value { result ≡ length faults.now }
+{
+    faults.len() as u32
+}
+
+// The end of a round that is decided by a record too many.
+fn fault_end<'a>(one: Skipped) -> RoundEnd<'a>
+    ensures value { result ≡ RoundEnd.Fault one.record_no one.fault }
+{
+    RoundEnd::Fault {
+        record_no: one.record_no,
+        fault: one.fault,
+    }
+}
+
+// Runs the shard at a place, if it isn't in the pool and not all of its attempts died: the end of the round, if it decides, or if a
+// shard in front does.
 fn complete<'a, G: Gate, N: RoundName>(
     alloc: Global,
     room: &mut Room,
@@ -77,23 +123,64 @@ fn complete<'a, G: Gate, N: RoundName>(
     requires set { IsSet N.job N.round job.now round.now plan.now }
     requires within { place < length round.now.shards }
     requires words { AreWords N.job N.round settled.now deaths.now }
-    requires holds { HoldsShards N.job N.round pool.old.part.total pool.old.shards }
+    requires holds { HoldsShards N.job N.round pool.old.part.total pool.old.part.first pool.old.shards }
     requires pooled { IsPooled settled.now pool.old.shards place }
-    ensures holds { IfOk result (λ end. IfNone end (HoldsShards N.job N.round pool.new.part.total pool.new.shards)) }
+    ensures holds { IfOk result (λ end. IfNone end (HoldsShards N.job N.round pool.new.part.total pool.new.part.first pool.new.shards)) }
     ensures pooled { IfOk result (λ end. IfNone end (IsPooled settled.now pool.new.shards (place + 1))) }
-    ensures value { IfOk result (λ end. IfSome end (λ e. EndsRound job.now.compiled (outcome_of job.now (shards_of round.now)) e)) }
+    ensures value { IfOk result (λ end. IfSome end (λ e.
+        EndsRound job.now.compiled (outcome_from job.now round.now.passed (shards_of round.now)) e)) }
 {
     if *settled.get(place as usize) != 0 {
         return Ok(None);
     }
+    let first = round.shards.get(place as usize).first;
+    match one_in_front(job, round, pool.part.first.faults.as_slice(), first) {
+        Some(one) => return Ok(Some(fault_end(one))),
+        None => {}
+    }
     if all_died(*deaths.get(place as usize), job.attempts) {
         return Ok(Some(RoundEnd::Lost(round.first_shard + u64::from(place))));
     }
+    run_left(alloc, room, job, round, plan, gate, pool, place)
+}
+
+// Runs the shard at a place, which isn't in the pool, while no shard in front decides: the end of the round, if it decides.
+fn run_left<'a, G: Gate, N: RoundName>(
+    alloc: Global,
+    room: &mut Room,
+    job: &'a Job,
+    round: &Round,
+    plan: &Plan,
+    gate: &G,
+    pool: &mut Pool<'a, N>,
+    place: u32,
+) -> Result<Option<RoundEnd<'a>>, NoMemory>
+    requires set { IsSet N.job N.round job.now round.now plan.now }
+    requires within { place < length round.now.shards }
+    requires holds { HoldsShards N.job N.round pool.old.part.total pool.old.part.first pool.old.shards }
+    requires front { HasFront pool.old.shards place }
+    requires absent { ¬ IsAmong place pool.old.shards }
+    requires open { NoneInFront job.now round.now place }
+    ensures holds { IfOk result (λ end. IfNone end (HoldsShards N.job N.round pool.new.part.total pool.new.part.first pool.new.shards)) }
+    ensures more { IfOk result (λ end. IfNone end (pool.new.shards ≡ pool.old.shards ++ place ∷ [])) }
+    ensures value { IfOk result (λ end. IfSome end (λ e.
+        EndsRound job.now.compiled (outcome_from job.now round.now.passed (shards_of round.now)) e)) }
+{
     let ticket = plan.ticket_count() as u32;
     match run_shard(alloc, room, job, round, gate, ticket, place)? {
-        Rest::Decided(end) => Ok(Some(end)),
-        Rest::Part(total) => {
-            add_shard(pool, place, total)?;
+        Rest::Lost => Ok(Some(RoundEnd::Lost(round.first_shard + u64::from(place)))),
+        Rest::Bad(faults) => {
+            let theirs = first_faults(alloc, job.skip, faults);
+            let both = first_of_both(&pool.part.first, &theirs)?;
+            Ok(Some(fault_end(*both.faults.get((job.skip - round.passed) as usize))))
+        }
+        Rest::Part(total, faults) => {
+            let part = RoundPart {
+                total,
+                first: first_faults(alloc, job.skip, faults),
+                of: PhantomData,
+            };
+            add_shard(pool, place, part)?;
             Ok(None)
         }
     }
@@ -114,9 +201,10 @@ pub(crate) fn finish<'a, G: Gate, N: RoundName>(
 ) -> Result<RoundEnd<'a>, NoMemory>
     requires set { IsSet N.job N.round job.now round.now plan.now }
     requires words { AreWords N.job N.round settled.now deaths.now }
-    requires holds { HoldsShards N.job N.round pool.part.total pool.shards }
+    requires holds { HoldsShards N.job N.round pool.part.total pool.part.first pool.shards }
     requires pooled { IsPooled settled.now pool.shards 0 }
-    ensures value { IfOk result (λ end. EndsRound job.now.compiled (outcome_of job.now (shards_of round.now)) end) }
+    ensures value { IfOk result (λ end.
+        EndsRound job.now.compiled (outcome_from job.now round.now.passed (shards_of round.now)) end) }
 {
     let mut room = Room::new(alloc);
     for place in 0..plan.shards() {
@@ -128,5 +216,14 @@ pub(crate) fn finish<'a, G: Gate, N: RoundName>(
         }
     }
     tables_forget_the_order();
-    Ok(RoundEnd::Tables(pool.part.total))
+    let RoundPart {
+        total,
+        first,
+        of: _,
+    } = pool.part;
+    let faults = first.faults.as_slice();
+    match one_too_many(job, round, faults) {
+        Some(one) => Ok(fault_end(one)),
+        None => Ok(RoundEnd::Tables(total, count_of(faults, job.skip))),
+    }
 }

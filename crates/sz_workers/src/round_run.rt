@@ -4,7 +4,7 @@ ghost use denote.Param.Send.{IsSend, IsSync};
 ghost use Rattle.sz_mean.specs.Marked.{all_tables};
 ghost use Rattle.sz_claims.specs.Known.{LedgerData, AreEmpty};
 ghost use Rattle.sz_attempt.specs.Shards.{IsJob};
-ghost use Rattle.sz_rounds.specs.Outcomes.{outcome_of};
+ghost use Rattle.sz_rounds.specs.Outcomes.{outcome_from};
 ghost use Rattle.sz_rounds.specs.Rounds.{IsRound, shards_of, EndsRound};
 ghost use Rattle.sz_workers_loop.specs.Closing.{AreFresh, AreBack, IsAlone, IsBack, IsLeft};
 ghost use Rattle.sz_workers.specs.Parts.{plan_for, Dies};
@@ -43,8 +43,10 @@ pub fn run_round<'a, R: Threads + Sync, G: Gate + Sync>(
     requires job { IsJob job.now }
     requires attempts { (1 ≤ job.now.attempts) × (job.now.attempts ≤ 8) }
     requires round { IsRound round.now }
+    requires passed { round.now.passed ≤ job.now.skip }
     requires workers { (1 ≤ workers) × (workers ≤ 64) }
-    ensures value { IfOk result (λ end. EndsRound job.now.compiled (outcome_of job.now (shards_of round.now)) end) }
+    ensures value { IfOk result (λ end.
+        EndsRound job.now.compiled (outcome_from job.now round.now.passed (shards_of round.now)) end) }
 {
     let plan = plan_of(alloc, job, round)?;
     run_named::<R, G, Brand>(rt, alloc, job, round, &plan, workers, gate)
@@ -62,7 +64,8 @@ fn run_named<'a, R: Threads + Sync, G: Gate + Sync, N: RoundName + Send + Sync>(
 ) -> Result<RoundEnd<'a>, NoMemory>
     requires set { IsSet N.job N.round job.now round.now plan.now }
     requires workers { (1 ≤ workers) × (workers ≤ 64) }
-    ensures value { IfOk result (λ end. EndsRound job.now.compiled (outcome_of job.now (shards_of round.now)) end) }
+    ensures value { IfOk result (λ end.
+        EndsRound job.now.compiled (outcome_from job.now round.now.passed (shards_of round.now)) end) }
 {
     let (mut closed, pockets) = run_all::<R, G, N>(rt, alloc, job, round, plan, workers, gate)?;
     let lanes = mem::replace(&mut closed.lanes, Vec::new(alloc));

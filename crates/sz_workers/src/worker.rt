@@ -5,7 +5,7 @@ ghost use Rattle.sz_rounds.specs.Rounds.{IsRound, shards_of};
 ghost use Rattle.sz_workers_loop.specs.Working.{Goes, IsInPlace};
 ghost use Rattle.sz_workers_loop.specs.Advances.{HasWorked, HasBegun};
 ghost use Rattle.sz_workers_loop.specs.Closing.{IsPocket, IsBack};
-ghost use Rattle.sz_workers.specs.Parts.{plan_for, Dies, Faults};
+ghost use Rattle.sz_workers.specs.Parts.{plan_for, Dies, Bad};
 ghost use Rattle.sz_workers.specs.Starting.{HoldsNothing};
 
 use crate::making::RoundMaker;
@@ -32,6 +32,7 @@ pub fn work<'a, N: RoundName, G: Gate + Sync>(
 ) -> Result<Lane<RoundPart<'a, N>>, NoMemory>
     requires job { (job.now ≡ N.job) × IsJob job.now }
     requires round { (round.now ≡ N.round) × IsRound round.now }
+    requires passed { round.now.passed ≤ job.now.skip }
     requires plan { ledger.now.plan ≡ plan_for N.job N.round }
     requires pass { (pass.old.ledger ≡ ledger.now) × HoldsNothing pass.old }
     requires lane { lane_no < ledger.now.lanes }
@@ -39,9 +40,9 @@ pub fn work<'a, N: RoundName, G: Gate + Sync>(
     ensures place { IsInPlace pass.new }
     ensures plan { IfOk result (λ pocket. pocket.plan ≡ ledger.now.plan) }
     ensures worked { IfOk result (λ pocket. IsPocket pass.new.mine pocket × HasWorked
-        (λ s k. Dies N.job (shards_of N.round) s k) (λ s. Faults N.job (shards_of N.round) s) ledger.now.plan pass.old pass.new) }
+        (λ s k. Dies N.job (shards_of N.round) s k) (λ s. Bad N.job (shards_of N.round) s) ledger.now.plan pass.old pass.new) }
     ensures begun { IfErr result (λ why. HasBegun
-        (λ s k. Dies N.job (shards_of N.round) s k) (λ s. Faults N.job (shards_of N.round) s) ledger.now.plan pass.old pass.new) }
+        (λ s k. Dies N.job (shards_of N.round) s k) (λ s. Bad N.job (shards_of N.round) s) ledger.now.plan pass.old pass.new) }
 {
     pass.saw_a_legal_history();
     let mut pocket: Lane<RoundPart<'a, N>> = empty_lane(

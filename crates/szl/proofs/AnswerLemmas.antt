@@ -1,7 +1,8 @@
 -- How the answer for a command line is put together: from the program's text, the program, and the input.
-use Rattle.std.proofs.Common.{◌≡◌, ◌≢◌, ℕ, zero, suc, ◌+◌, ◌-◌, ◌≤◌, List, [], ◌∷◌, take, drop, Bool, true, false}
+use Rattle.std.proofs.Common.{◌≡◌, ◌≢◌, ℕ, zero, suc, ◌+◌, ◌-◌, ◌≤◌, List, [], ◌∷◌, ◌++◌, length, take, drop, Bool, true, false, Option, Some, None}
 use Rattle.std.proofs.Common.{refl, sym, ap, ◌∙◌, subst, arith}
-use Rattle.std.specs.Prelude.{unwrap_or, Result, Ok, Err, ◌&&◌, if◌then◌else◌}
+use Rattle.std.specs.Prelude.{unwrap_or, Result, Ok, Err, slice_get, filter, nat_le, ◌&&◌, if◌then◌else◌}
+use Rattle.std.proofs.lemmas.List.Elements.{filter_agree}
 use Rattle.sz_types.specs.declared.frame.Frame.{Frame}
 use Rattle.sz_io.specs.Rose.{Rose}
 use Rattle.sz_io.specs.declared.files.Files as files
@@ -9,11 +10,10 @@ use Rattle.sz_tree.specs.Statements.{Stms}
 use Rattle.sz_core.specs.Programs.{Core}
 use Rattle.sz_mean.specs.Marked.{Marked}
 use Rattle.szl.specs.Reserved.{runnable}
-use Rattle.sz_world_rules.specs.World.{Fault, Done}
+use Rattle.sz_world_rules.specs.World.{Fault, Outcome, Done, Faulted}
 use Rattle.sz_world_rules.specs.Slots.{Slot}
-use Rattle.sz_mean.specs.Programs.{statics}
-use Rattle.sz_mean.specs.Records.{Records, Emitted, FaultedAt}
-use Rattle.sz_mean.proofs.RecordLaws.{fault_number}
+use Rattle.sz_mean.specs.Programs.{mean, statics}
+use Rattle.sz_tabs.specs.Data.{EmitDatum}
 use Rattle.sz_records.specs.declared.ending.Ending.{Ending}
 use Rattle.sz_records.specs.declared.ending.Ending.TheVariants.{Whole, Damaged, Limit}
 use Rattle.sz_records.proofs.CutLaws.{every_file_is_cut}
@@ -25,8 +25,9 @@ use Rattle.sz_core.specs.Sound.{IsSound}
 use Rattle.sz_world_rules.specs.Typed.{AllFit}
 use Rattle.sz_gen_rules.specs.Simulates.{static_types}
 use Rattle.sz_words.specs.Bounds.{HasBounds}
-use Rattle.sz_attempt.specs.Attempts.{shard_means, is_lost, all_die, dies_at, end_of}
-use Rattle.sz_rounds.specs.Outcomes.{ShardsEnd, emitted, faulted, lost, then_shards, outcome_of}
+use Rattle.sz_attempt.specs.Yields.{Faulting, Yield, both, yield_of, means}
+use Rattle.sz_attempt.specs.Attempts.{shard_means, passes, has_effect, deaths_of, least_of, kills_of, end_by, is_lost, all_die, dies_at, end_of}
+use Rattle.sz_rounds.specs.Outcomes.{ShardsEnd, emitted, faulted, lost, then_shards, outcome_from, outcome_of}
 use Rattle.sz_rounds.specs.Cuts.{cut_into}
 use Rattle.szl.specs.declared.status.Status.TheVariants as status
 use Rattle.szl.specs.declared.failure.Failure.{Failure}
@@ -58,62 +59,107 @@ cut_of frame input =
 
 -- a record that faults has a number from 1
 module _ (job : Job) where
+  at_least : (n i : ℕ) (o : Outcome (List EmitDatum)) (rest : List Faulting) (one : Faulting)
+      → ((j : ℕ) → slice_get rest j ≡ Some one → suc n ≤ one.number)
+      → slice_get ((yield_of n o).faults ++ rest) i ≡ Some one → n ≤ one.number
+  at_least n i (Done es) rest one later got = let le = later i got in omega (arith, le)
+  at_least n zero (Faulted f) rest one later got = let same = number_of n f one got in omega (arith, same)
+    where
+      number_of : (n : ℕ) (f : Fault) (one : Faulting) → Some (record { number = n; fault = f }) ≡ Some one → n ≡ one.number
+      number_of n f one e = cc
+  at_least n (suc i) (Faulted f) rest one later got = let le = later i got in omega (arith, le)
+
+  -- records that fault have numbers from that of the first record on
+  numbered_on : (n i : ℕ) (records : List (List ℕ)) (one : Faulting) → slice_get (means job n records).faults i ≡ Some one → n ≤ one.number
+  numbered_on n i [] one got = absurd (cc)
+  numbered_on n i (r ∷ rs) one got =
+      at_least n i (mean job.compiled job.statics job.budget r) (means job (suc n) rs).faults one (λ j. numbered_on (suc n) j rs one) got
+
   same_number : (k m : ℕ) (f g : Fault) → faulted m g ≡ faulted k f → m ≡ k
   same_number k m f g e = cc
 
-  pub fault_is_numbered : (number first : ℕ) (records : List (List ℕ)) (sizes : List ℕ) → 1 ≤ first → (k : ℕ) (f : Fault)
-      → outcome_of job (cut_into number first records sizes) ≡ faulted k f → 1 ≤ k
-  fault_is_numbered number first records [] low k f e = absurd (cc)
-  fault_is_numbered number first records (size ∷ sizes) low k f e =
-      by (is_lost job shard) (shard_means job shard) refl (outcome_of job rest)
-      (fault_is_numbered (suc number) (first + size) (drop size records) sizes (omega (arith, low))) e
+  pub fault_is_numbered : (passed number first : ℕ) (records : List (List ℕ)) (sizes : List ℕ) → 1 ≤ first → (k : ℕ) (f : Fault)
+      → outcome_from job passed (cut_into number first records sizes) ≡ faulted k f → 1 ≤ k
+  fault_is_numbered passed number first records [] low k f e = absurd (cc)
+  fault_is_numbered passed number first records (size ∷ sizes) low k f e =
+      by (is_lost job shard) (slice_get (shard_means job shard).faults (job.skip - passed)) refl (outcome_from job after rest)
+      (fault_is_numbered after (suc number) (first + size) (drop size records) sizes (omega (arith, low))) e
     where
       shard : ShardData
       shard = record { number = number; first = first; records = take size records }
 
+      after : ℕ
+      after = passed + length (shard_means job shard).faults
+
       rest : List ShardData
       rest = cut_into (suc number) (first + size) (drop size records) sizes
 
-      by : (b : Bool) (r : Records) → shard_means job shard ≡ r → (o : ShardsEnd) → ((m : ℕ) (g : Fault) → o ≡ faulted m g → 1 ≤ m)
-          → (if b then lost number else then_shards r o) ≡ faulted k f → 1 ≤ k
-      by true r means o after h = absurd (cc)
-      by false (FaultedAt m g) means o after h =
-          let le = fault_number job.compiled job.statics job.budget first (take size records) m g means in
-          let same = same_number k m f g h in
+      by : (b : Bool) (o : Option Faulting) → slice_get (shard_means job shard).faults (job.skip - passed) ≡ o → (end : ShardsEnd)
+          → ((m : ℕ) (g : Fault) → end ≡ faulted m g → 1 ≤ m)
+          → (if b then lost number else then_shards (shard_means job shard) o end) ≡ faulted k f → 1 ≤ k
+      by true o got end later h = absurd (cc)
+      by false (Some one) got end later h =
+          let le = numbered_on first (job.skip - passed) (take size records) one got in
+          let same = same_number k one.number f one.fault h in
           omega (arith, le, low, same)
-      by false (Emitted es) means (emitted gs) after h = absurd (cc)
-      by false (Emitted es) means (lost m) after h = absurd (cc)
-      by false (Emitted es) means (faulted m g) after h =
-          let le = after m g refl in
+      by false None got (emitted gs n) later h = absurd (cc)
+      by false None got (lost m) later h = absurd (cc)
+      by false None got (faulted m g) later h =
+          let le = later m g refl in
           let same = same_number k m f g h in
           omega (arith, le, same)
 
-  -- which shards are doubled changes nothing
-  all_die_still : (twice : List ℕ) (shard : ShardData) (n : ℕ) → all_die (record job { twice = twice }) shard n ≡ all_die job shard n
-  all_die_still twice shard zero = refl
-  all_die_still twice shard (suc n) = ap (λ b. dies_at (end_of job shard n) && b) (all_die_still twice shard n)
+-- which shards are doubled changes nothing
+module _ (job : Job) (twice : List ℕ) where
+  abbrev doubled : Job
+  doubled = record job { twice = twice }
 
-  pub same_outcome : (twice : List ℕ) (shards : List ShardData) → outcome_of (record job { twice = twice }) shards ≡ outcome_of job shards
-  same_outcome twice [] = refl
-  same_outcome twice (s ∷ shards) =
-      ap (λ b. if b then lost s.number else then_shards (shard_means job s) (outcome_of (record job { twice = twice }) shards))
-      (all_die_still twice s job.attempts)
-      ∙ ap (λ o. if is_lost job s then lost s.number else then_shards (shard_means job s) o) (same_outcome twice shards)
+  means_still : (n : ℕ) (records : List (List ℕ)) → means doubled n records ≡ means job n records
+  means_still n [] = refl
+  means_still n (r ∷ rs) = ap (both (yield_of n (mean job.compiled job.statics job.budget r))) (means_still (suc n) rs)
+
+  effect_still : (shard : ShardData) (after : ℕ) → has_effect doubled shard after ≡ has_effect job shard after
+  effect_still shard after =
+      ap (λ y. nat_le after (length shard.records) && passes job.skip y) (means_still shard.first (take after shard.records))
+
+  end_still : (shard : ShardData) (k : ℕ) → end_of doubled shard k ≡ end_of job shard k
+  end_still shard k =
+      ap (λ js. end_by job.skip (least_of js) (shard_means doubled shard))
+      (filter_agree (has_effect doubled shard) (has_effect job shard) (effect_still shard) (kills_of shard.number k job.kills))
+      ∙ ap (end_by job.skip (least_of (deaths_of job shard k))) (means_still shard.first shard.records)
+
+  all_die_still : (shard : ShardData) (n : ℕ) → all_die doubled shard n ≡ all_die job shard n
+  all_die_still shard zero = refl
+  all_die_still shard (suc n) =
+      ap (λ e. dies_at e && all_die doubled shard n) (end_still shard n) ∙ ap (λ b. dies_at (end_of job shard n) && b) (all_die_still shard n)
+
+  pub same_outcome : (passed : ℕ) (shards : List ShardData) → outcome_from doubled passed shards ≡ outcome_from job passed shards
+  same_outcome passed [] = refl
+  same_outcome passed (s ∷ shards) =
+      ap (λ y. step (is_lost doubled s) y (outcome_from doubled (passed + length y.faults) shards)) (means_still s.first s.records)
+      ∙ ap (λ b. step b (shard_means job s) (outcome_from doubled after shards)) (all_die_still s job.attempts)
+      ∙ ap (step (is_lost job s) (shard_means job s)) (same_outcome after shards)
+    where
+      after : ℕ
+      after = passed + length (shard_means job s).faults
+
+      step : Bool → Yield → ShardsEnd → ShardsEnd
+      step b y end = if b then lost s.number else then_shards y (slice_get y.faults (job.skip - passed)) end
 
 -- the outcome of shards opens two files, and is no bad command line
 opens_two : (program : Marked) (ending : Ending) (o : ShardsEnd) → ((k : ℕ) (f : Fault) → o ≡ faulted k f → 1 ≤ k)
     → (outcome_of_shards program ending o).opens ≡ 2
-opens_two program Whole (emitted es) numbered = refl
-opens_two program (Damaged byte) (emitted es) numbered = refl
-opens_two program (Limit byte) (emitted es) numbered = refl
+opens_two program Whole (emitted es n) numbered = refl
+opens_two program (Damaged byte) (emitted es n) numbered = refl
+opens_two program (Limit byte) (emitted es n) numbered = refl
 opens_two program ending (faulted zero f) numbered = let le = numbered 0 f refl in absurd (omega (arith, le))
 opens_two program ending (faulted (suc k) f) numbered = refl
 opens_two program ending (lost n) numbered = refl
 
 pub no_usage : (program : Marked) (ending : Ending) (o : ShardsEnd) → (outcome_of_shards program ending o).status ≢ status.Usage
-no_usage program Whole (emitted es) = λ e. cc
-no_usage program (Damaged byte) (emitted es) = λ e. cc
-no_usage program (Limit byte) (emitted es) = λ e. cc
+no_usage program Whole (emitted es n) = λ e. cc
+no_usage program (Damaged byte) (emitted es n) = λ e. cc
+no_usage program (Limit byte) (emitted es n) = λ e. cc
 no_usage program ending (faulted k f) = λ e. cc
 no_usage program ending (lost n) = λ e. cc
 
@@ -201,14 +247,14 @@ module _ (program : Marked) (s : RunSettings) (slots : List Slot) (begun : stati
   one_left cut =
       let two = ap (λ (a : Answer). a.opens) (on_shards cut)
       ∙ opens_two program cut.ending (of_cut cut)
-      (λ k f e. fault_is_numbered (job_of program slots s) 0 1 cut.records (shard_sizes s.shard cut.records) (omega arith) k f e) in omega (arith, two)
+      (λ k f e. fault_is_numbered (job_of program slots s) 0 0 1 cut.records (shard_sizes s.shard cut.records) (omega arith) k f e) in omega (arith, two)
 
   -- the job has this outcome
   pub of_job : (job : Job) → IsJobOf program slots s job → (cut : Cut)
       → outcome_of_shards job.compiled cut.ending (outcome_of job (shards_in s.shard cut.records)) ≡ outcome_of_program program s cut
   of_job job is cut =
       ap (λ (j : Job). outcome_of_shards j.compiled cut.ending (outcome_of j (shards_in s.shard cut.records))) is.same
-      ∙ ap (outcome_of_shards program cut.ending) (same_outcome (job_of program slots s) job.twice (shards_in s.shard cut.records))
+      ∙ ap (outcome_of_shards program cut.ending) (same_outcome (job_of program slots s) job.twice 0 (shards_in s.shard cut.records))
       ∙ sym (on_shards cut)
 
 module _ {F : Type 0} (the_files : files.Ghosts F) (old new : F) (program : Marked) (s : RunSettings) (slots : List Slot)

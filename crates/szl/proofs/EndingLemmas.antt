@@ -59,7 +59,7 @@ module _ (job : Job) (most : ℕ) (frame : Frame) (input : List ℕ) (rose : Typ
           cut = c.cut;
           is_cut = c.is_cut;
           decides =
-              ap (outcome_of_shards job.compiled c.cut.ending) h.1.1
+              ap (outcome_of_shards job.compiled c.cut.ending) h.1.2
               ∙ ap (λ e. outcome_of_ending e (tables_text (all_tables job.compiled) h.1.0)) h.0;
         }
     input_stops (stops.Limit b) runs failed =
@@ -69,7 +69,7 @@ module _ (job : Job) (most : ℕ) (frame : Frame) (input : List ℕ) (rose : Typ
           cut = c.cut;
           is_cut = c.is_cut;
           decides =
-              ap (outcome_of_shards job.compiled c.cut.ending) h.1.1
+              ap (outcome_of_shards job.compiled c.cut.ending) h.1.2
               ∙ ap (λ e. outcome_of_ending e (tables_text (all_tables job.compiled) h.1.0)) h.0;
         }
     input_stops stops.ReadFailed runs failed = read_fails (failed refl)
@@ -78,7 +78,7 @@ module _ (job : Job) (most : ℕ) (frame : Frame) (input : List ℕ) (rose : Typ
     module _ (total : TotalState) (runs : RunsInput job most frame input (Ok total)) where
       -- the tables are those of the program
       pub tables_declared : total.tables ≡ all_tables job.compiled
-      tables_declared = let c = cut_of frame input in let h = ends_so (Ok total) runs c.cut c.is_cut in h.1.2.tables
+      tables_declared = let c = cut_of frame input in let h = ends_so (Ok total) runs c.cut c.is_cut in h.1.3.tables
 
       -- all records are whole, and the text is that of all emits
       pub input_ends : (text : List ℕ)
@@ -91,9 +91,9 @@ module _ (job : Job) (most : ℕ) (frame : Frame) (input : List ℕ) (rose : Typ
             cut = c.cut;
             is_cut = c.is_cut;
             decides =
-                ap (outcome_of_shards job.compiled c.cut.ending) h.1.1
+                ap (outcome_of_shards job.compiled c.cut.ending) h.1.2
                 ∙ ap (λ e. outcome_of_ending e (tables_text (all_tables job.compiled) h.1.0)) h.0
-                ∙ ap success (sym (told h.1.0 h.1.2.stands));
+                ∙ ap success (sym (told h.1.0 h.1.3.stands));
           }
 
 -- an input that what was read may begin: the bytes that were left, where they are told, else just what was read

@@ -54,9 +54,9 @@ record IsAnswered (a : Answer) : Type 0 where
   other : a.status ≢ status.Usage
 
 answered_shards : (program : Marked) (ending : Ending) (o : ShardsEnd) → IsAnswered (outcome_of_shards program ending o)
-answered_shards program Whole (emitted es) = record { opens = omega arith; other = λ e. cc }
-answered_shards program (Damaged b) (emitted es) = record { opens = omega arith; other = λ e. cc }
-answered_shards program (Limit b) (emitted es) = record { opens = omega arith; other = λ e. cc }
+answered_shards program Whole (emitted es n) = record { opens = omega arith; other = λ e. cc }
+answered_shards program (Damaged b) (emitted es n) = record { opens = omega arith; other = λ e. cc }
+answered_shards program (Limit b) (emitted es n) = record { opens = omega arith; other = λ e. cc }
 answered_shards program ending (faulted zero f) = record { opens = omega arith; other = λ e. cc }
 answered_shards program ending (faulted (suc k) f) = record { opens = omega arith; other = λ e. cc }
 answered_shards program ending (lost n) = record { opens = omega arith; other = λ e. cc }

@@ -101,9 +101,10 @@ outcome_of_ending (Limit byte) text = refusal status.Limit (limit_line byte) 2
 abbrev pub outcome_lost : ℕ → Answer
 outcome_lost shard = refusal status.ShardLost (lost_line shard) 2
 
--- the answer to what comes of the shards: the first that faults or is lost decides, and then how the records end
+-- the answer to what comes of the shards: the first that is lost, or has the first record too many that faults, decides, and then how the records
+-- end. How many records were passed over plays no part
 abbrev pub outcome_of_shards : Marked → Ending → ShardsEnd → Answer
-outcome_of_shards program ending (emitted emits) = outcome_of_ending ending (tables_text (all_tables program) emits)
+outcome_of_shards program ending (emitted emits passed) = outcome_of_ending ending (tables_text (all_tables program) emits)
 outcome_of_shards program ending (faulted number fault) = outcome_faulted number fault
 outcome_of_shards program ending (lost shard) = outcome_lost shard
 

@@ -23,6 +23,7 @@ selftest_run workers = record {
   shard = default_shard;
   attempts = 3;
   budget = 2 ^ 24;
+  skip = 0;
   kills = [];
   twice = [];
   ignore_undefs = false;

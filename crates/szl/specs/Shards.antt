@@ -34,8 +34,8 @@ shards_in most records = cut_into 0 1 records (shard_sizes most records)
 abbrev pub SizesAreShards : Type 0
 SizesAreShards = (most : ℕ) (records : List (List ℕ)) → 1 ≤ most → AreShards most records (shard_sizes most records)
 
--- What an outcome knows of a run: the program with its statics, the budget, the number of attempts, and which of them die. Which shards
--- are doubled makes no outcome another, so that none is here
+-- What an outcome knows of a run: the program with its statics, the budget, how many records are passed over, the number of attempts, and
+-- which of them die. Which shards are doubled makes no outcome another, so that none is here
 abbrev pub job_of : Marked → List Slot → RunSettings → Job
 job_of program slots s =
-    record { compiled = program; statics = slots; budget = s.budget; attempts = s.attempts; kills = s.kills; twice = [] }
+    record { compiled = program; statics = slots; budget = s.budget; skip = s.skip; attempts = s.attempts; kills = s.kills; twice = [] }

@@ -49,6 +49,7 @@ pub fn job_of(
         compiled,
         statics,
         budget: settings.budget,
+        skip: settings.skip,
         attempts: settings.attempts,
         kills,
         twice,

@@ -55,6 +55,7 @@ fn selftest_run(alloc: Global, workers: u32) -> Result<RunSettings, AllocError>
         shard: DEFAULT_SHARD,
         attempts: 3,
         budget: 1 << 24,
+        skip: 0,
         kills: Items::new(alloc),
         twice: Items::new(alloc),
         ignore_undefs: false,

@@ -10,6 +10,8 @@ mod command;
 #[cfg(test)]
 mod drawn;
 #[cfg(test)]
+mod drawn_skips;
+#[cfg(test)]
 mod expression_ticks;
 #[cfg(test)]
 mod expressions;
@@ -22,6 +24,8 @@ mod kill_lists;
 #[cfg(test)]
 mod kill_lists_and_faults;
 #[cfg(test)]
+mod kill_lists_and_skips;
+#[cfg(test)]
 mod kill_lists_of_pairs;
 #[cfg(test)]
 mod limits;
@@ -33,6 +37,8 @@ mod rows;
 mod runs;
 #[cfg(test)]
 mod searches;
+#[cfg(test)]
+mod skipping;
 #[cfg(test)]
 mod statement_ticks;
 #[cfg(test)]

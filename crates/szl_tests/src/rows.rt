@@ -1,8 +1,9 @@
 //! Rows of whole runs, by subject: each run leaves what its row says.
 use crate::command::{NEVER, PLAIN, Setting, left, text_of};
 use crate::{
-    checks, expression_ticks, expressions, ignoring, kill_lists, kill_lists_and_faults,
-    kill_lists_of_pairs, messages, runs, searches, statement_ticks, statements, tables, workers,
+    checks, drawn_skips, expression_ticks, expressions, ignoring, kill_lists,
+    kill_lists_and_faults, kill_lists_and_skips, kill_lists_of_pairs, messages, runs, searches,
+    skipping, statement_ticks, statements, tables, workers,
 };
 use std::alloc::Global;
 use std::process::Abort;
@@ -11,13 +12,15 @@ use std::test::Fail;
 use std::thread::Threads;
 
 /// The rows of runs that die, fault, or have workers of their own. Here and below a call gives them, so that no proof sees them.
-fn rows_of_runs() -> [&'static str; 5] {
+fn rows_of_runs() -> [&'static str; 7] {
     [
         runs::RUNS,
         workers::RUNS,
+        skipping::RUNS,
         kill_lists::RUNS,
         kill_lists_of_pairs::RUNS,
         kill_lists_and_faults::RUNS,
+        kill_lists_and_skips::RUNS,
     ]
 }
 
@@ -34,6 +37,19 @@ fn rows_of_programs() -> [&'static str; 9] {
         ignoring::RUNS,
         checks::RUNS,
     ]
+}
+
+/// The rows that leave the number of workers open, and the words that ask for one.
+fn rows_of_any_workers() -> (&'static str, [&'static str; 4]) {
+    (
+        drawn_skips::RUNS,
+        [
+            " --workers 1",
+            " --workers 2",
+            " --workers 3",
+            " --workers 8",
+        ],
+    )
 }
 
 /// What is given from a line on, and what the run leaves that the line is, where it is one.
@@ -85,22 +101,29 @@ fn number_of(call: &str, device: &str) -> u64 {
     }
 }
 
-/// Whether a run leaves this.
+/// Whether a run with these words more leaves this.
 fn holds<R: Threads + Wait + Sync>(
     rt: &R,
     alloc: Global,
     given: &Setting<'_>,
+    more: &str,
     wanted: &str,
 ) -> Result<bool, Fail> {
     let program = text_of(alloc, given.program)?;
-    Ok(left(rt, alloc, given, program.as_bytes())?.as_str() == wanted)
+    let words = format!(in alloc; "{}{more}", given.words)?;
+    let given = Setting {
+        words: words.as_str(),
+        ..*given
+    };
+    Ok(left(rt, alloc, &given, program.as_bytes())?.as_str() == wanted)
 }
 
-/// Fails where a run leaves something else than its row says.
+/// Fails where a run with these words more leaves something else than its row says.
 fn all_hold<R: Abort + Threads + Wait + Sync>(
     rt: &R,
     alloc: Global,
     rows: &'static str,
+    more: &'static str,
 ) -> Result<(), Fail> {
     let mut given = PLAIN;
     for line in rows.lines() {
@@ -108,8 +131,8 @@ fn all_hold<R: Abort + Threads + Wait + Sync>(
         given = next;
         if let Some(wanted) = wanted {
             assert!(rt;
-                holds(rt, alloc, &given, wanted)?,
-                "at {line} ({})",
+                holds(rt, alloc, &given, more, wanted)?,
+                "at {line}{more} ({})",
                 given.program
             );
         }
@@ -120,7 +143,16 @@ fn all_hold<R: Abort + Threads + Wait + Sync>(
 #[test]
 fn each_run_leaves_what_its_row_says(rt: HostRuntime) -> Result<(), Fail> {
     for rows in rows_of_runs() {
-        all_hold(&rt, rt.alloc(), rows)?;
+        all_hold(&rt, rt.alloc(), rows, "")?;
+    }
+    Ok(())
+}
+
+#[test]
+fn each_run_by_any_number_of_workers_leaves_what_its_row_says(rt: HostRuntime) -> Result<(), Fail> {
+    let (rows, counts) = rows_of_any_workers();
+    for more in counts {
+        all_hold(&rt, rt.alloc(), rows, more)?;
     }
     Ok(())
 }
@@ -128,7 +160,7 @@ fn each_run_leaves_what_its_row_says(rt: HostRuntime) -> Result<(), Fail> {
 #[test]
 fn each_program_does_what_its_rows_say(rt: HostRuntime) -> Result<(), Fail> {
     for rows in rows_of_programs() {
-        all_hold(&rt, rt.alloc(), rows)?;
+        all_hold(&rt, rt.alloc(), rows, "")?;
     }
     Ok(())
 }

@@ -147,7 +147,6 @@ $ [run p f --frame lines --frame lines] => 1 ! bad command line
 $ [run p f --Budget 9] => 1 ! bad command line
 $ [run p f --bud 9] => 1 ! bad command line
 $ [run p f -budget 9] => 1 ! bad command line
-$ [run p f --skip 9] => 1 ! bad command line
 $ [--budget 9 run p f] => 1 ! bad command line
 $ [run p f -- --budget 9] => 1 ! bad command line
 

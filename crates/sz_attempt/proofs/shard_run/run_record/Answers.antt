@@ -1,4 +1,4 @@
-use Rattle.std.proofs.Common.{length, ap, sym, ◌∙◌, subst, All, arith}
+use Rattle.std.proofs.Common.{length, inl, inr, refl, ap, sym, ◌∙◌, subst, All, arith}
 use Rattle.sz_machine.specs.Ends.{seen_end}
 use Rattle.sz_tabs.specs.Fitting.{IsEmitTo}
 use Rattle.sz_world_rules.specs.World.{Done}
@@ -39,17 +39,23 @@ add_all-requires-clause-few c =
 -- they are added
 pub returns-in_ok-add_all-in-Done : goal.returns-in_ok-add_all-in-Done
 returns-in_ok-add_all-in-Done c = record {
-  value = (
+  value = inl (
     c.as_slice.result.now,
     record_means c.args.job.now c.code.result.now c.code.ensures.value c.requires.job c.args.input.now c.in_ok-emits.field-0
         c.in_ok-emits.ensures.value ∙ ap seen_end c.in-Done.is ∙ ap Done (sym c.as_slice.ensures.value),
     c.in_ok-add_all-in-Done.ensures.value,
+    refl,
   );
 }
 
 -- the record faults
-pub returns-in-Fault : goal.returns-in-Fault
-returns-in-Fault c = record {
-  value = record_means c.args.job.now c.code.result.now c.code.ensures.value c.requires.job c.args.input.now c.in_ok-emits.field-0
-      c.in_ok-emits.ensures.value ∙ ap seen_end c.in-Fault.is;
+pub returns-in_ok-push-in-Fault : goal.returns-in_ok-push-in-Fault
+returns-in_ok-push-in-Fault c = record {
+  value = inr (
+    c.in-Fault.fault,
+    record_means c.args.job.now c.code.result.now c.code.ensures.value c.requires.job c.args.input.now c.in_ok-emits.field-0
+        c.in_ok-emits.ensures.value ∙ ap seen_end c.in-Fault.is,
+    refl,
+    c.in_ok-push-in-Fault.ensures.ok,
+  );
 }

@@ -1,20 +1,19 @@
-use Rattle.std.proofs.Common.{subst, arith}
+use Rattle.std.proofs.Common.{arith}
 use Rattle.sz_attempt.specs.Shards.{records_of}
-use Rattle.sz_attempt.specs.ShardRuns.{RunsRecord}
-use Rattle.sz_attempt.proofs.RunLemmas.{got_in_range, run_more, run_fails}
+use Rattle.sz_attempt.proofs.RunLemmas.{got_in_range, run_stop, run_on}
 use Rattle.sz_attempt.proofs.shard_run.run_records.Goals as goal
 
--- a record faults
-pub returns-in-Some : goal.returns-in-Some
-returns-in-Some c =
+-- one record too many faults
+pub returns-then-len-job : goal.returns-then-len-job
+returns-then-len-job c =
     let shard = c.args.shard.now in
     let i = c.loop-i.i in
     let there = got_in_range c.args.records.now shard.start shard.end i c.get-input.result.now c.get-input.ensures.value (omega
     (arith, c.loop-i-test.true, c.requires.count)) in
-    let ran = subst (RunsRecord c.args.job.now c.get-input.result.now c.loop-i.part c.run_record.new.part) c.in-Some.is c.in_ok-fault.ensures.value in
     record {
-      value = run_fails c.args.job.now shard.first (records_of c.args.records.now shard) i c.args.count c.loop-i.part c.get-input.result.now _ there
-          c.loop-i-test.true ran c.loop-i.invariant;
+      value = run_stop c.args.job.now shard.first (records_of c.args.records.now shard) i c.loop-i.part c.run_record.new.part c.loop-i.faults
+          c.run_record.new.faults c.get-input.result.now c.requires.job there c.loop-i.invariant c.args.count c.loop-i-test.true
+          c.in_ok-run_record.ensures.value (omega (arith, c.if-len-job.true, c.len.ensures.value));
     }
 
 -- one record more was run
@@ -24,6 +23,6 @@ loop-i-preserved c =
     let i = c.loop-i.i in
     let there = got_in_range c.args.records.now shard.start shard.end i c.get-input.result.now c.get-input.ensures.value (omega
     (arith, c.loop-i-test.true, c.requires.count)) in
-    let ran = subst (RunsRecord c.args.job.now c.get-input.result.now c.loop-i.part c.run_record.new.part) c.in-None.is c.in_ok-fault.ensures.value in
-    run_more c.args.job.now shard.first (records_of c.args.records.now shard) i c.loop-i.part c.run_record.new.part c.get-input.result.now ran.0
-    c.requires.job there ran.1 ran.2 c.loop-i.invariant
+    run_on c.args.job.now shard.first (records_of c.args.records.now shard) i c.loop-i.part c.run_record.new.part c.loop-i.faults
+    c.run_record.new.faults c.get-input.result.now c.requires.job there c.loop-i.invariant c.in_ok-run_record.ensures.value
+    (omega (arith, c.if-len-job.false, c.len.ensures.value))

@@ -20,7 +20,7 @@ returns-in-Ok-clause-holds g c =
     let taken = c.take-part.ensures.value in
     let apart = subst (λ (ss : List ℕ). AreApart c.args.pool.now.shards ss) (sym taken.2) c.requires.apart in
     let both = c.in-Ok.ensures.ok.1 c.args.pool.now.shards c.take-part.result.1 c.requires.holds taken.1 apart in
-    on_ok_weaker c.append.result (λ is. subst (HoldsShards g.N.RoundName.job g.N.RoundName.round c.absorb.new.self.total) (sym is) both) c.append.ensures.ok
+    on_ok_weaker c.append.result (λ is. subst (HoldsShards g.N.RoundName.job g.N.RoundName.round c.absorb.new.self.total c.absorb.new.self.first) (sym is) both) c.append.ensures.ok
 
 pub returns-in-Ok-clause-all : goal.returns-in-Ok-clause-all
 returns-in-Ok-clause-all g c =

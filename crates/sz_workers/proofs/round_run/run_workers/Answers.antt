@@ -6,18 +6,18 @@ use Rattle.sz_claims.proofs.ledger.Ledger.TheSendSync as ledger
 use Rattle.sz_claims.proofs.ledger.Pass.TheSendSync as pass
 use Rattle.sz_rounds.proofs.round.Round.TheSendSync as round
 use Rattle.sz_workers_loop.proofs.ClosingLemmas.{all_back}
-use Rattle.sz_workers.proofs.SendLemmas.{job_sync, total_send, total_sync}
+use Rattle.sz_workers.proofs.SendLemmas.{job_sync, part_send, part_sync}
 use Rattle.sz_workers.proofs.round_run.run_workers.Goals as goal
 
 pub map_vec-requires-send-J : goal.map_vec-requires-send-J
 map_vec-requires-send-J g c κs within =
     let gate = c.requires.send.0 in let name = c.requires.send.1 in let named = c.requires.send.2 in
-    search (sendable, crosses, job_sync, total_send, total_sync, round.the_sync, ledger.the_sync, pass.the_send) depth 30
+    search (sendable, crosses, job_sync, part_send, part_sync, round.the_sync, ledger.the_sync, pass.the_send) depth 30
 
 pub map_vec-requires-send-X : goal.map_vec-requires-send-X
 map_vec-requires-send-X g c κs within =
     let name = c.requires.send.1 in let named = c.requires.send.2 in
-    search (sendable, crosses, total_send, lane.the_send, pass.the_send) depth 30
+    search (sendable, crosses, part_send, lane.the_send, pass.the_send) depth 30
 
 -- each worker came back
 pub returns-clause-back : goal.returns-clause-back
