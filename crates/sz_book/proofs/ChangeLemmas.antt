@@ -8,14 +8,14 @@ use Rattle.std.proofs.lemmas.Bool.{eqb-true, eqb-false}
 use Rattle.std.proofs.lemmas.List.{append-nil, set-get_or, length-set, length-append}
 use Rattle.std.proofs.lemmas.List.Sums.{sum_by-set, sum_by-cons}
 use Rattle.std.proofs.lemmas.Nat.Bits.{bit_at_or, bit_at-pow_same, bit_at-lt, and_pow}
-use Rattle.sz_book.specs.Plan.{PlanData, count_of}
-use Rattle.sz_book.specs.declared.event.Event.{Event}
-use Rattle.sz_book.specs.declared.event.Event.TheVariants.{Draw, Number, Died, Settle, LaneOut, LaneBack, Bad}
-use Rattle.sz_book.specs.Machine.{LedgerState, after, Fits, list_of}
-use Rattle.sz_book.specs.Counting.{once}
+use Rattle.sz_book_rules.specs.Plan.{PlanData, count_of}
+use Rattle.sz_book_rules.specs.declared.event.Event.{Event}
+use Rattle.sz_book_rules.specs.declared.event.Event.TheVariants.{Draw, Number, Died, Settle, LaneOut, LaneBack, Bad}
+use Rattle.sz_book_rules.specs.Machine.{LedgerState, after, Fits, list_of}
+use Rattle.sz_book_rules.specs.Counting.{once}
 use Rattle.sz_book.specs.Cores.{IsSound}
 use Rattle.sz_book.specs.Held.{all_home, is_change, ChangesAreSeen, deaths_in, changes_in, most_changes}
-use Rattle.sz_book.proofs.StepLemmas.{shard_within}
+use Rattle.sz_book_rules.proofs.StepLemmas.{shard_within}
 use Rattle.sz_book.proofs.RoomLemmas.{once-le, at_most, once_set, sound_won, sound_home}
 
 -- a core stays sound

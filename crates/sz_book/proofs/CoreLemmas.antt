@@ -1,16 +1,16 @@
 -- A core goes on its history, and takes all shards into a lane.
 use Rattle.std.proofs.Common.{◌≡◌, ℕ, zero, suc, ◌<◌, ◌≤◌, ◌==◌, Bool, true, false, cond, List, [], ◌∷◌, ◌++◌, set, length, map, drop, refl, ap, sym, ◌∙◌, subst, arith, ne_eqb, length-set}
 use Rattle.std.specs.Prelude.{slice_index}
-use Rattle.sz_book.specs.Plan.{PlanData}
-use Rattle.sz_book.specs.declared.event.Event.{Event}
-use Rattle.sz_book.specs.declared.event.Event.TheVariants.{Draw, Number, Died, Settle, LaneOut, LaneBack, Bad}
-use Rattle.sz_book.specs.declared.event.Reply.{Reply}
-use Rattle.sz_book.specs.declared.event.Reply.TheVariants.{Noted}
-use Rattle.sz_book.specs.declared.event.Entry.{Entry}
-use Rattle.sz_book.specs.Machine.{LedgerState, opening, after, reply_of, Fits, placed, AreUnplaced, IsReturned, list_of}
-use Rattle.sz_book.specs.History.{entry, state_after}
+use Rattle.sz_book_rules.specs.Plan.{PlanData}
+use Rattle.sz_book_rules.specs.declared.event.Event.{Event}
+use Rattle.sz_book_rules.specs.declared.event.Event.TheVariants.{Draw, Number, Died, Settle, LaneOut, LaneBack, Bad}
+use Rattle.sz_book_rules.specs.declared.event.Reply.{Reply}
+use Rattle.sz_book_rules.specs.declared.event.Reply.TheVariants.{Noted}
+use Rattle.sz_book_rules.specs.declared.event.Entry.{Entry}
+use Rattle.sz_book_rules.specs.Machine.{LedgerState, opening, after, reply_of, Fits, placed, AreUnplaced, IsReturned, list_of}
+use Rattle.sz_book_rules.specs.History.{entry, state_after}
 use Rattle.sz_book.specs.Cores.{CoreData, marked_from, brought, IsAllowed, IsSound, Takes, TakesWith, IsAfter, GoesOn}
-use Rattle.sz_book.proofs.HistoryLemmas.{state_after-snoc, legal-snoc}
+use Rattle.sz_book_rules.proofs.HistoryLemmas.{state_after-snoc, legal-snoc}
 
 -- a step goes on every history by which the core came to its state
 pub goes_on : (old new : CoreData) (event : Event) (reply : Reply) → Takes old event reply new → GoesOn old event reply new

@@ -1,12 +1,7 @@
 pub mod ChangeLemmas
 pub mod CoreLemmas
-pub mod CountLemmas
-pub mod DecideLemmas
-pub mod GrowthLemmas
-pub mod HistoryLemmas
 pub mod ReplayLemmas
 pub mod RoomLemmas
 pub mod ShelfLemmas
-pub mod StepLemmas
 pub mod TakingLemmas
 pub mod UnplacedLemmas

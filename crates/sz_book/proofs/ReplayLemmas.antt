@@ -4,21 +4,21 @@ use Rattle.std.specs.Prelude.{slice_index}
 use Rattle.std.specs.List.{sum_by}
 use Rattle.std.proofs.lemmas.List.{set-get_or, set-set, length-set, length-append, length-drop, length-replicate, get_or-set_same, take-append-le, drop-append-le, take_all}
 use Rattle.std.proofs.lemmas.List.Sums.{sum_by-cons, sum_by_push, sum_by-set}
-use Rattle.sz_book.specs.Plan.{PlanData, count_of}
+use Rattle.sz_book_rules.specs.Plan.{PlanData, count_of}
 use Rattle.sz_book.specs.declared.change.Change.{Change}
-use Rattle.sz_book.specs.declared.plan.Claim.{Claim}
-use Rattle.sz_book.specs.declared.event.Event.{Event}
-use Rattle.sz_book.specs.declared.event.Event.TheVariants.{Draw, Number, Died, Settle, LaneOut, LaneBack, Bad}
-use Rattle.sz_book.specs.declared.event.Reply.{Reply}
-use Rattle.sz_book.specs.declared.event.Reply.TheVariants.{Lane}
-use Rattle.sz_book.specs.declared.event.Entry.{Entry}
-use Rattle.sz_book.specs.Machine.{LedgerState, opening, after, reply_of, Fits, IsDrawn, IsTried, IsReturned, list_of}
-use Rattle.sz_book.specs.History.{entry, state_after, IsLegal, IsTrueReport}
+use Rattle.sz_book_rules.specs.declared.claim.Claim.{Claim}
+use Rattle.sz_book_rules.specs.declared.event.Event.{Event}
+use Rattle.sz_book_rules.specs.declared.event.Event.TheVariants.{Draw, Number, Died, Settle, LaneOut, LaneBack, Bad}
+use Rattle.sz_book_rules.specs.declared.event.Reply.{Reply}
+use Rattle.sz_book_rules.specs.declared.event.Reply.TheVariants.{Lane}
+use Rattle.sz_book_rules.specs.declared.event.Entry.{Entry}
+use Rattle.sz_book_rules.specs.Machine.{LedgerState, opening, after, reply_of, Fits, IsDrawn, IsTried, IsReturned, list_of}
+use Rattle.sz_book_rules.specs.History.{entry, state_after, IsLegal, IsTrueReport}
 use Rattle.sz_book.specs.Cores.{CoreData, ReservedData, IsSound, TakesWith}
 use Rattle.sz_book.specs.Held.{HeldData, all_home, is_change, history_after, Applies, lending, with_lendings, Replays, history_of, shards_in, changes_in, held_data, KeepsHistory}
-use Rattle.sz_book.proofs.HistoryLemmas.{state_after-snoc, legal-snoc}
-use Rattle.sz_book.proofs.StepLemmas.{HasRows, either}
-use Rattle.sz_book.proofs.CountLemmas.{death_step}
+use Rattle.sz_book_rules.proofs.HistoryLemmas.{state_after-snoc, legal-snoc}
+use Rattle.sz_book_rules.proofs.StepLemmas.{HasRows, either}
+use Rattle.sz_book_rules.proofs.CountLemmas.{death_step}
 use Rattle.sz_book.proofs.RoomLemmas.{once-le}
 use Rattle.sz_book.proofs.ChangeLemmas.{sound_after, unchanged, counts, no_more}
 

@@ -4,11 +4,11 @@ use Rattle.std.specs.Prelude.{slice_index, slice_index_or}
 use Rattle.std.specs.List.{sum_by}
 use Rattle.std.proofs.lemmas.List.{map-set, set-get_or, length-set, length-map, length-replicate, get_or-replicate}
 use Rattle.std.proofs.lemmas.List.Sums.{sum_by-set, sum_by-cons, get_or-le-sum_by}
-use Rattle.sz_book.specs.Plan.{PlanData, IsPlan}
-use Rattle.sz_book.specs.Machine.{LedgerState, opening, placed, AreUnplaced, IsReturned, list_of}
+use Rattle.sz_book_rules.specs.Plan.{PlanData, IsPlan}
+use Rattle.sz_book_rules.specs.Machine.{LedgerState, opening, placed, AreUnplaced, IsReturned, list_of}
 use Rattle.sz_book.specs.Cores.{ReservedData, core_data, IsSound, IsKept}
-use Rattle.sz_book.specs.Counting.{once}
-use Rattle.sz_book.proofs.StepLemmas.{length-placed}
+use Rattle.sz_book_rules.specs.Counting.{once}
+use Rattle.sz_book_rules.proofs.StepLemmas.{length-placed}
 
 pub no_shards : (n : ℕ) → sum_by (λ (l : List ℕ). length l) (replicate n []) ≡ 0
 no_shards zero = refl

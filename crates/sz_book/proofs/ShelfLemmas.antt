@@ -3,16 +3,16 @@ use Rattle.std.proofs.Common.{◌≡◌, ◌≢◌, ℕ, zero, suc, ◌+◌, ◌
 use Rattle.std.specs.Prelude.{slice_index, slice_index_or}
 use Rattle.std.proofs.lemmas.Bool.{eqb-true, eqb-false}
 use Rattle.std.proofs.lemmas.List.{get_or-set_same, get_or-set_other, length-set, length-map, length-replicate, append_cancel_left}
-use Rattle.sz_book.specs.Plan.{PlanData, count_of}
-use Rattle.sz_book.specs.declared.event.Event.{Event}
-use Rattle.sz_book.specs.declared.event.Event.TheVariants.{Draw, Number, Died, Settle, LaneOut, LaneBack, Bad}
-use Rattle.sz_book.specs.declared.event.Reply.{Reply}
-use Rattle.sz_book.specs.declared.event.Reply.TheVariants.{Lane}
-use Rattle.sz_book.specs.Machine.{LedgerState, opening, after, Fits, list_of}
+use Rattle.sz_book_rules.specs.Plan.{PlanData, count_of}
+use Rattle.sz_book_rules.specs.declared.event.Event.{Event}
+use Rattle.sz_book_rules.specs.declared.event.Event.TheVariants.{Draw, Number, Died, Settle, LaneOut, LaneBack, Bad}
+use Rattle.sz_book_rules.specs.declared.event.Reply.{Reply}
+use Rattle.sz_book_rules.specs.declared.event.Reply.TheVariants.{Lane}
+use Rattle.sz_book_rules.specs.Machine.{LedgerState, opening, after, Fits, list_of}
 use Rattle.sz_book.specs.Lanes.{LaneData}
 use Rattle.sz_book.specs.Held.{Applies}
 use Rattle.sz_book.specs.Books.{ShelfData, IsInPlace, AreInPlace, IsPlain, Homes, IsGiven, HaveNoShards}
-use Rattle.sz_book.proofs.StepLemmas.{either}
+use Rattle.sz_book_rules.proofs.StepLemmas.{either}
 use Rattle.sz_book.proofs.ReplayLemmas.{zero_at}
 
 in_place_same : (x y : LedgerState) (homes : List (Option LaneData)) → y.outs ≡ x.outs → y.lists ≡ x.lists → AreInPlace x homes → AreInPlace y homes

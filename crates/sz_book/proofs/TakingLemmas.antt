@@ -1,10 +1,10 @@
 -- The steps of a core, over what a contract sees of it.
 use Rattle.std.proofs.Common.{◌≡◌, ℕ, ◌+◌, ◌-◌, ◌<◌, ◌≤◌, ◌==◌, Bool, true, cond, nat_lt, List, [], set, refl, ap, sym, ◌∙◌, Some, None, lt-ltb, le-ltb, eq-eqb}
 use Rattle.std.specs.Prelude.{slice_index}
-use Rattle.sz_book.specs.declared.plan.Claim.{Claim}
-use Rattle.sz_book.specs.declared.event.Event.TheVariants.{Number, Settle}
-use Rattle.sz_book.specs.declared.event.Reply.TheVariants.{Number as Numbered, Won, Late}
-use Rattle.sz_book.specs.Machine.{IsDrawn, IsTried}
+use Rattle.sz_book_rules.specs.declared.claim.Claim.{Claim}
+use Rattle.sz_book_rules.specs.declared.event.Event.TheVariants.{Number, Settle}
+use Rattle.sz_book_rules.specs.declared.event.Reply.TheVariants.{Number as Numbered, Won, Late}
+use Rattle.sz_book_rules.specs.Machine.{IsDrawn, IsTried}
 use Rattle.sz_book.specs.Cores.{CoreData, TakesWith}
 
 -- all numbers of the shard are given

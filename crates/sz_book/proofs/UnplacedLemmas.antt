@@ -4,7 +4,7 @@ use Rattle.std.specs.Prelude.{slice_index}
 use Rattle.std.specs.List.{list_any}
 use Rattle.std.proofs.lemmas.Bool.{eqb-true, eqb-false}
 use Rattle.std.proofs.lemmas.List.{get_or-set_other, take_more}
-use Rattle.sz_book.specs.Machine.{AreUnplaced}
+use Rattle.sz_book_rules.specs.Machine.{AreUnplaced}
 use Rattle.sz_book.specs.Cores.{is_unplaced_after}
 
 pub front_unplaced : (n i : ℕ) (marks ss : List ℕ) → AreUnplaced n marks ss → AreUnplaced n marks (take i ss)

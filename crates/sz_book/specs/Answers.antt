@@ -2,8 +2,8 @@
 use Rattle.sz_book.specs.Lanes.{ReceiptData}
 use Rattle.sz_book.specs.declared.receipt.Settled.{Settled}
 use Rattle.sz_book.specs.declared.receipt.Settled.TheVariants.{Won, Late}
-use Rattle.sz_book.specs.declared.event.Reply.{Reply}
-use Rattle.sz_book.specs.declared.event.Reply.TheVariants.{Won as ReplyWon, Late as ReplyLate}
+use Rattle.sz_book_rules.specs.declared.event.Reply.{Reply}
+use Rattle.sz_book_rules.specs.declared.event.Reply.TheVariants.{Won as ReplyWon, Late as ReplyLate}
 
 -- the reply of the ledger that an answer tells
 abbrev pub told_reply : Settled → Reply

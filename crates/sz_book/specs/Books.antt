@@ -1,12 +1,12 @@
 -- What a lock round a ledger with its history keeps, and what the calls of a book say.
 use Rattle.std.specs.Prelude.{◌≡◌, ◌⊎◌, ℕ, ◌<◌, ◌≤◌, true, false, List, [], ◌∷◌, ◌++◌, length, slice_index, slice_index_or, slice_set, Option, Some, None}
-use Rattle.sz_book.specs.Plan.{PlanData, count_of}
-use Rattle.sz_book.specs.declared.plan.Claim.{Claim}
-use Rattle.sz_book.specs.declared.event.Event.{Event}
-use Rattle.sz_book.specs.declared.event.Event.TheVariants.{Draw, Number, Died, Settle, LaneOut, LaneBack, Bad}
-use Rattle.sz_book.specs.declared.event.Reply.{Reply}
-use Rattle.sz_book.specs.declared.event.Reply.TheVariants.{Noted, Lane}
-use Rattle.sz_book.specs.Machine.{LedgerState, Fits, list_of}
+use Rattle.sz_book_rules.specs.Plan.{PlanData, count_of}
+use Rattle.sz_book_rules.specs.declared.claim.Claim.{Claim}
+use Rattle.sz_book_rules.specs.declared.event.Event.{Event}
+use Rattle.sz_book_rules.specs.declared.event.Event.TheVariants.{Draw, Number, Died, Settle, LaneOut, LaneBack, Bad}
+use Rattle.sz_book_rules.specs.declared.event.Reply.{Reply}
+use Rattle.sz_book_rules.specs.declared.event.Reply.TheVariants.{Noted, Lane}
+use Rattle.sz_book_rules.specs.Machine.{LedgerState, Fits, list_of}
 use Rattle.sz_book.specs.Lanes.{LaneData}
 use Rattle.sz_book.specs.Cores.{least_or_none}
 use Rattle.sz_book.specs.Held.{HeldData, Applies, Replays}

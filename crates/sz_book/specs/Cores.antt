@@ -1,14 +1,14 @@
 -- What a contract sees of a core, and what its calls do.
 use Rattle.std.specs.Prelude.{◌≡◌, ℕ, suc, ◌+◌, ◌^◌, ◌<◌, ◌≤◌, ◌==◌, ◌&&◌, Bool, not, if◌then◌else◌, List, [], ◌∷◌, ◌++◌, length, map, replicate, slice_index, Option, Some, None}
 use Rattle.std.specs.List.{sum_by, list_any}
-use Rattle.sz_book.specs.Plan.{PlanData, IsPlan, count_of}
-use Rattle.sz_book.specs.declared.event.Event.{Event}
-use Rattle.sz_book.specs.declared.event.Event.TheVariants.{Draw, Number, Died, Settle, LaneOut, LaneBack, Bad}
-use Rattle.sz_book.specs.declared.event.Reply.{Reply}
-use Rattle.sz_book.specs.declared.event.Entry.{Entry}
-use Rattle.sz_book.specs.Machine.{LedgerState, opening, IsDrawn, IsTried, IsStep}
-use Rattle.sz_book.specs.History.{entry, state_after, IsLegal}
-use Rattle.sz_book.specs.Counting.{once}
+use Rattle.sz_book_rules.specs.Plan.{PlanData, IsPlan, count_of}
+use Rattle.sz_book_rules.specs.declared.event.Event.{Event}
+use Rattle.sz_book_rules.specs.declared.event.Event.TheVariants.{Draw, Number, Died, Settle, LaneOut, LaneBack, Bad}
+use Rattle.sz_book_rules.specs.declared.event.Reply.{Reply}
+use Rattle.sz_book_rules.specs.declared.event.Entry.{Entry}
+use Rattle.sz_book_rules.specs.Machine.{LedgerState, opening, IsDrawn, IsTried, IsStep}
+use Rattle.sz_book_rules.specs.History.{entry, state_after, IsLegal}
+use Rattle.sz_book_rules.specs.Counting.{once}
 
 -- how many shards a list has room for, and its shards
 pub record ReservedData : Type 0 where

@@ -2,16 +2,16 @@
 use Rattle.std.specs.Prelude.{◌≡◌, ◌≢◌, ◌↔◌, ℕ, ◌+◌, ◌-◌, ◌*◌, ◌^◌, ◌<◌, ◌≤◌, ◌==◌, if◌then◌else◌, true, false, Bool, nat_lt, List, [], ◌∷◌, ◌++◌, length, take, drop, replicate, slice_index}
 use Rattle.std.specs.Int.{bit_at}
 use Rattle.std.specs.List.{range_with_len, sum_by}
-use Rattle.sz_book.specs.Plan.{PlanData, IsPlan, count_of}
+use Rattle.sz_book_rules.specs.Plan.{PlanData, IsPlan, count_of}
 use Rattle.sz_book.specs.declared.change.Change.{Change}
-use Rattle.sz_book.specs.declared.event.Event.{Event}
-use Rattle.sz_book.specs.declared.event.Event.TheVariants.{Draw, Number, Died, Settle, LaneOut, LaneBack, Bad}
-use Rattle.sz_book.specs.declared.event.Reply.{Reply}
-use Rattle.sz_book.specs.declared.event.Reply.TheVariants.{Lane}
-use Rattle.sz_book.specs.declared.event.Entry.{Entry}
-use Rattle.sz_book.specs.Machine.{LedgerState, opening, after, Fits, IsStep}
-use Rattle.sz_book.specs.History.{entry, state_after, IsLegal}
-use Rattle.sz_book.specs.Counting.{once}
+use Rattle.sz_book_rules.specs.declared.event.Event.{Event}
+use Rattle.sz_book_rules.specs.declared.event.Event.TheVariants.{Draw, Number, Died, Settle, LaneOut, LaneBack, Bad}
+use Rattle.sz_book_rules.specs.declared.event.Reply.{Reply}
+use Rattle.sz_book_rules.specs.declared.event.Reply.TheVariants.{Lane}
+use Rattle.sz_book_rules.specs.declared.event.Entry.{Entry}
+use Rattle.sz_book_rules.specs.Machine.{LedgerState, opening, after, Fits, IsStep}
+use Rattle.sz_book_rules.specs.History.{entry, state_after, IsLegal}
+use Rattle.sz_book_rules.specs.Counting.{once}
 use Rattle.sz_book.specs.Cores.{CoreData, ReservedData, IsSound}
 
 -- its plan, how many lanes it has, its state, and the calls that changed it

@@ -1,6 +1,6 @@
 -- What a contract sees of a lane and of a receipt.
 use Rattle.std.specs.Prelude.{ℕ, List}
-use Rattle.sz_book.specs.Plan.{PlanData}
+use Rattle.sz_book_rules.specs.Plan.{PlanData}
 
 -- the plan of a lane's load, and the shards that the load stands for
 pub record LaneData : Type 0 where

@@ -1,19 +1,19 @@
 //! The ledger of a round that threads share by a lock.
 ghost use Rattle.std.specs.Prelude.{◌≡◌, ◌+◌, ◌<◌, ◌^◌, length, replicate, IfOk, IfSome, IfNone};
-ghost use Rattle.sz_book.specs.History.{IsTrueReport};
+ghost use Rattle.sz_book_rules.specs.History.{IsTrueReport};
 ghost use Rattle.sz_book.specs.Books.{IsClaim, IsPlain, HaveNoShards, IsLeft};
 
 use crate::NoMemory;
 use crate::closed::Closed;
-use crate::event::{Event, Reply};
 use crate::lane::Lane;
 use crate::load::Load;
-use crate::plan::{Claim, Plan};
+use crate::plan::Plan;
 use crate::receipt::{Receipt, Settled};
 use crate::shelf::Shelf;
 use std::alloc::Global;
 use std::marker::Model;
 use std::sync::{Mutex, Wait};
+use sz_book_rules::{Claim, Event, Reply};
 
 /// The ledger of a round after one lock. Each call tests under the lock whether its event fits the state. If it does, it is taken in
 /// and answered; if it doesn't, nothing changes.

@@ -1,5 +1,6 @@
 //! One line of a history as it is kept.
-use crate::event::{Event, Reply};
+
+use sz_book_rules::{Event, Reply};
 
 /// A call that changed a ledger, its answer, and how many shards came with it.
 #[derive(Clone, Copy, Debug)]

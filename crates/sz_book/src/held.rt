@@ -1,17 +1,17 @@
 //! A ledger that keeps the history that led to its state.
 ghost use Rattle.std.specs.Prelude.{◌≡◌, ◌≢◌, ◌↔◌, ◌+◌, ◌<◌, ◌≤◌, ℕ, List, true, [], ◌∷◌, ◌++◌, drop, length, slice_index, vec_len, vec_capacity, IfOk, IfSome, IfNone};
-ghost use Rattle.sz_book.specs.Machine.{opening, Fits, list_of};
-ghost use Rattle.sz_book.specs.History.{IsTrueReport};
+ghost use Rattle.sz_book_rules.specs.Machine.{opening, Fits, list_of};
+ghost use Rattle.sz_book_rules.specs.History.{IsTrueReport};
 
 use crate::NoMemory;
 use crate::change::Change;
-use crate::event::{Event, Reply};
 use crate::load::Load;
 use crate::machine::Core;
 use crate::plan::Plan;
 use crate::reserved::Reserved;
 use std::alloc::Global;
 use std::marker::{Model, PhantomData};
+use sz_book_rules::{Event, Reply};
 
 /// The ledger of a round with its history: each call that changed more than which lanes are out.
 ///

@@ -1,6 +1,6 @@
 //! A lane: a load with the list of shards that it stands for.
 ghost use Rattle.std.specs.Prelude.{◌≡◌, ◌++◌, ◌∷◌, [], IfOk, OnOk, IfErr};
-ghost use Rattle.sz_book.specs.History.{IsAmong, AreApart};
+ghost use Rattle.sz_book_rules.specs.History.{IsAmong, AreApart};
 
 use crate::NoMemory;
 use crate::load::Load;

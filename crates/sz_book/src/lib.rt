@@ -4,7 +4,6 @@
 mod book;
 mod change;
 mod closed;
-mod event;
 mod held;
 mod lane;
 mod laws;
@@ -17,14 +16,12 @@ mod shelf;
 
 pub use book::{Book, BookPass};
 pub use closed::{Closed, Words};
-pub use event::{Entry, Event, Reply};
 pub use held::Held;
 pub use lane::{Lane, Shards};
-pub use laws::{
-    changes_are_seen, each_shard_counts_once, each_shard_is_decided, noted_deaths_are_true,
-};
+pub use laws::{changes_are_seen, noted_deaths_are_true};
 pub use load::Load;
 pub use machine::Core;
-pub use plan::{Claim, Plan, Tickets};
+pub use plan::{Plan, Tickets};
 pub use receipt::{Receipt, Settled};
+pub use sz_book_rules::{Claim, Entry, Event, Reply};
 pub use sz_list::NoMemory;

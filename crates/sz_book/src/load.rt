@@ -1,7 +1,7 @@
 //! What stands for shards.
 ghost use Rattle.std.specs.Prelude.{◌≡◌, ◌++◌, ℕ, List, OnOk, IfErr};
-ghost use Rattle.sz_book.specs.Plan.{PlanData};
-ghost use Rattle.sz_book.specs.History.{AreApart};
+ghost use Rattle.sz_book_rules.specs.Plan.{PlanData};
+ghost use Rattle.sz_book_rules.specs.History.{AreApart};
 
 /// A value that stands for a list of shards, such as the emits of them all.
 pub trait Load: Sized + Drop {

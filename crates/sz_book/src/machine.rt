@@ -1,20 +1,20 @@
 //! The ledger as a value of one thread.
 ghost use Rattle.std.specs.Prelude.{◌≡◌, ◌≢◌, ◌==◌, ◌↔◌, ◌<◌, ◌≤◌, ◌^◌, ◌++◌, ℕ, List, true, not, nat_lt, [], drop, length, replicate, slice_index, IfOk, IfSome, IfNone, OnOk, OnErr};
 ghost use Rattle.std.specs.Int.{bit_at};
-ghost use Rattle.sz_book.specs.Plan.{PlanData};
-ghost use Rattle.sz_book.specs.Machine.{opening, IsDrawn, IsTried, IsReturned, AreUnplaced, Fits, list_of, placed};
+ghost use Rattle.sz_book_rules.specs.Plan.{PlanData};
+ghost use Rattle.sz_book_rules.specs.Machine.{opening, IsDrawn, IsTried, IsReturned, AreUnplaced, Fits, list_of, placed};
 ghost use Rattle.sz_book.specs.Cores.{Takes, TakesWith, GoesOn, IsAllowed, IsSound, is_unplaced_after, least_or_none, brought, marked_from};
 ghost use Rattle.sz_book.specs.Held.{is_change};
-ghost use Rattle.sz_book.specs.declared.event.Event.TheVariants as events;
-ghost use Rattle.sz_book.specs.declared.event.Reply.TheVariants as replies;
+ghost use Rattle.sz_book_rules.specs.declared.event.Event.TheVariants as events;
+ghost use Rattle.sz_book_rules.specs.declared.event.Reply.TheVariants as replies;
 
 use crate::NoMemory;
-use crate::event::{Event, Reply};
 use crate::lane::Shards;
-use crate::plan::{Claim, Plan};
+use crate::plan::Plan;
 use crate::reserved::Reserved;
 use std::alloc::Global;
 use std::marker::Model;
+use sz_book_rules::{Claim, Event, Reply};
 use sz_list::Items;
 
 /// Numbers, one for each shard or lane.

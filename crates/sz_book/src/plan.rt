@@ -1,10 +1,11 @@
-//! The plan of a round, and a claim on one of its tickets.
+//! The plan of a round.
 ghost use Rattle.std.specs.Prelude.{◌≡◌, ◌<◌, ◌^◌, slice_index, IfOk};
-ghost use Rattle.sz_book.specs.Plan.{PlanData, IsPlan, count_of};
+ghost use Rattle.sz_book_rules.specs.Plan.{PlanData, IsPlan, count_of};
 
 use crate::NoMemory;
 use std::alloc::Global;
 use std::marker::Model;
+use sz_book_rules::Claim;
 use sz_list::Items;
 
 /// The shard of each ticket. Tickets and shards are counted from 0.
@@ -33,7 +34,7 @@ impl Drop for Plan {
 }
 
 impl Model for Plan {
-    ghost use Rattle.sz_book.specs.Plan.{PlanData, IsPlan};
+    ghost use Rattle.sz_book_rules.specs.Plan.{PlanData, IsPlan};
 
     ghost Value = { PlanData };
 
@@ -109,11 +110,4 @@ impl Plan {
         let index = claim.ticket as usize;
         index < self.tickets.len() && *self.tickets.get(index) == claim.shard
     }
-}
-
-/// A ticket that was drawn, and its shard.
-#[derive(Clone, Copy, Debug, PartialEq, Eq)]
-pub struct Claim {
-    pub ticket: u32,
-    pub shard: u32,
 }

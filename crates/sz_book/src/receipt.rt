@@ -1,9 +1,10 @@
 //! Settlements, and the receipt of one that was won.
 ghost use Rattle.std.specs.Prelude.{◌≡◌, ◌<◌};
 
-use crate::plan::{Claim, Plan};
+use crate::plan::Plan;
 use std::marker::Model;
 use std::snapshot::Snapshot;
+use sz_book_rules::Claim;
 
 /// Shows that a settlement was won. It can't be copied. At run time it keeps the shard alone; contracts know the plan too.
 pub struct Receipt {

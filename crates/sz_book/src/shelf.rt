@@ -1,19 +1,19 @@
 //! What the lock of a book guards.
 ghost use Rattle.std.specs.Prelude.{◌≡◌, ◌+◌, ◌<◌, ◌≤◌, ◌^◌, [], length, vec_len, vec_capacity, map, Some, IfSome, IfNone, IfOk};
-ghost use Rattle.sz_book.specs.Machine.{opening};
-ghost use Rattle.sz_book.specs.History.{IsTrueReport};
+ghost use Rattle.sz_book_rules.specs.Machine.{opening};
+ghost use Rattle.sz_book_rules.specs.History.{IsTrueReport};
 ghost use Rattle.sz_book.specs.Books.{IsPlain, Refuses, Lends, LendsNone, IsGiven, IsLeft, HaveNoShards};
 ghost use Rattle.sz_book.specs.Books.{Takes as AsksAndTakes};
 
 use crate::NoMemory;
 use crate::closed::{Closed, Words};
-use crate::event::{Event, Reply};
 use crate::held::Held;
 use crate::lane::Lane;
 use crate::load::Load;
 use crate::plan::Plan;
 use std::alloc::Global;
 use std::marker::Model;
+use sz_book_rules::{Event, Reply};
 
 /// A ledger with its history, with the lanes that are home.
 pub struct Shelf<T: Load> {

@@ -1,7 +1,7 @@
 -- The plans of tests are plans.
 use Rattle.std.proofs.Common.{ℕ, zero, suc, ◌<◌, ◌≤◌, [], ◌∷◌, arith}
 use Rattle.std.specs.Prelude.{slice_index}
-use Rattle.sz_book.specs.Plan.{tickets_of, IsPlan}
+use Rattle.sz_book_rules.specs.Plan.{tickets_of, IsPlan}
 
 within_two : (t : ℕ) → t < 2 → slice_index (0 ∷ 0 ∷ []) t < 1
 within_two zero low = omega arith

@@ -5,19 +5,19 @@ use Rattle.std.specs.Prelude.{slice_index, slice_index_or, slice_set}
 use mathlib.Core.Option.{Option as Maybe, some, some-injective}
 use lib.ListN.{get_elem?}
 use Rattle.atomic_table.specs.Table.{State, Me, Allows, keeps}
-use Rattle.sz_book.specs.Plan.{PlanData, count_of}
-use Rattle.sz_book.specs.declared.event.Event.{Event}
-use Rattle.sz_book.specs.declared.event.Event.TheVariants.{Draw, Number, Died, Settle, LaneOut, LaneBack, Bad}
-use Rattle.sz_book.specs.declared.event.Reply.{Reply}
-use Rattle.sz_book.specs.declared.event.Entry.{Entry}
-use Rattle.sz_book.specs.Machine.{LedgerState, opening, after, reply_of, Fits, list_of}
-use Rattle.sz_book.specs.History.{entry, state_after, IsLegal, IsTrueReport}
+use Rattle.sz_book_rules.specs.Plan.{PlanData, count_of}
+use Rattle.sz_book_rules.specs.declared.event.Event.{Event}
+use Rattle.sz_book_rules.specs.declared.event.Event.TheVariants.{Draw, Number, Died, Settle, LaneOut, LaneBack, Bad}
+use Rattle.sz_book_rules.specs.declared.event.Reply.{Reply}
+use Rattle.sz_book_rules.specs.declared.event.Entry.{Entry}
+use Rattle.sz_book_rules.specs.Machine.{LedgerState, opening, after, reply_of, Fits, list_of}
+use Rattle.sz_book_rules.specs.History.{entry, state_after, IsLegal, IsTrueReport}
 use Rattle.sz_claims.specs.declared.view.Account.{Account}
 use Rattle.sz_claims.specs.declared.view.View.{View}
 use Rattle.sz_claims.specs.Rule.{Slot, Shows, IsBounded, IsOut, IsTrueOf, IsAt, HaveBorrowers, Kept, calling, looking, Follows, Called, Looked}
 use Rattle.sz_claims.specs.Moves.{MayCall}
 use Rattle.sz_book.specs.Books.{IsPlain}
-use Rattle.sz_book.proofs.HistoryLemmas.{state_after-snoc, legal-snoc, reports-snoc, calls_own, calls_other, starts_self, starts_empty, starts_more}
+use Rattle.sz_book_rules.proofs.HistoryLemmas.{state_after-snoc, legal-snoc, reports-snoc, calls_own, calls_other, starts_self, starts_empty, starts_more}
 use Rattle.sz_claims.proofs.SeatLemmas.{was, set_at, numbered_set, borrowed_set}
 use Rattle.atomic_table.proofs.Lists.{set_else}
 use mathlib.Core.Logic.{dite}

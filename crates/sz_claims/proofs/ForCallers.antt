@@ -6,20 +6,20 @@ use Rattle.std.specs.List.{sum_by, fold}
 use Rattle.std.proofs.Math.Seq.{drop-append_seam}
 use mathlib.Core.Logic.{dite}
 use native.Mathlib.Decide.{ℕ_discrete}
-use Rattle.sz_book.specs.Plan.{PlanData, IsPlan}
+use Rattle.sz_book_rules.specs.Plan.{PlanData, IsPlan}
 use Rattle.sz_book.specs.Lanes.{LaneData}
-use Rattle.sz_book.specs.Counting.{times, once}
-use Rattle.sz_book.specs.declared.plan.Claim.{Claim}
-use Rattle.sz_book.specs.declared.event.Event.{Event}
-use Rattle.sz_book.specs.declared.event.Event.TheVariants.{Draw, Number, Settle, LaneOut}
-use Rattle.sz_book.specs.declared.event.Reply.{Reply}
-use Rattle.sz_book.specs.declared.event.Reply.TheVariants.{Ticket, Number as Numbered, Won, Late, Lane}
-use Rattle.sz_book.specs.declared.event.Entry.{Entry}
-use Rattle.sz_book.specs.History.{entry, state_after, IsLegalFrom, calls_by, HasDrawn, HasNumber, HasWon, HasGiven, IsAmong}
-use Rattle.sz_book.specs.Machine.{LedgerState, opening, after, reply_of, list_of}
+use Rattle.sz_book_rules.specs.Counting.{times, once}
+use Rattle.sz_book_rules.specs.declared.claim.Claim.{Claim}
+use Rattle.sz_book_rules.specs.declared.event.Event.{Event}
+use Rattle.sz_book_rules.specs.declared.event.Event.TheVariants.{Draw, Number, Settle, LaneOut}
+use Rattle.sz_book_rules.specs.declared.event.Reply.{Reply}
+use Rattle.sz_book_rules.specs.declared.event.Reply.TheVariants.{Ticket, Number as Numbered, Won, Late, Lane}
+use Rattle.sz_book_rules.specs.declared.event.Entry.{Entry}
+use Rattle.sz_book_rules.specs.History.{entry, state_after, IsLegalFrom, calls_by, HasDrawn, HasNumber, HasWon, HasGiven, IsAmong}
+use Rattle.sz_book_rules.specs.Machine.{LedgerState, opening, after, reply_of, list_of}
 use Rattle.sz_claims.specs.Known.{LedgerData, PassData, ends_in, Calls, CallsWith, IsLent, AreInHand, further_in, MayGive}
 use Rattle.sz_claims.proofs.UnplacedLemmas.{given_is_settled, are_unplaced}
-use Rattle.sz_book.proofs.CountLemmas.{each_shard_counts_once}
+use Rattle.sz_book_rules.proofs.CountLemmas.{each_shard_counts_once}
 
 drawn_last : (c : Claim) (es : List Entry) (n : ℕ) → HasDrawn c (es ++ entry n Draw [] (Ticket (Some c)) ∷ [])
 drawn_last c [] n = inl (refl, refl)

@@ -10,17 +10,17 @@ use lib.ListN.{get_elem?}
 use prog.Atomic.{either}
 use Rattle.atomic_table.specs.Table.{Me, Allows, Act, keeps, takes, gives, Valid, stepped, carried_after, rest}
 use Rattle.atomic_table.proofs.Lists.{exchanged, set_else, set_here}
-use Rattle.sz_book.specs.Plan.{PlanData, count_of}
-use Rattle.sz_book.specs.declared.event.Event.TheVariants.{LaneOut, LaneBack}
-use Rattle.sz_book.specs.declared.event.Reply.TheVariants.{Noted, Lane}
-use Rattle.sz_book.specs.declared.event.Entry.{Entry}
-use Rattle.sz_book.specs.Machine.{LedgerState, opening, after, reply_of, list_of, placed}
-use Rattle.sz_book.specs.History.{entry, state_after, IsLegal}
+use Rattle.sz_book_rules.specs.Plan.{PlanData, count_of}
+use Rattle.sz_book_rules.specs.declared.event.Event.TheVariants.{LaneOut, LaneBack}
+use Rattle.sz_book_rules.specs.declared.event.Reply.TheVariants.{Noted, Lane}
+use Rattle.sz_book_rules.specs.declared.event.Entry.{Entry}
+use Rattle.sz_book_rules.specs.Machine.{LedgerState, opening, after, reply_of, list_of, placed}
+use Rattle.sz_book_rules.specs.History.{entry, state_after, IsLegal}
 use Rattle.sz_claims.specs.declared.view.View.{View}
 use Rattle.sz_claims.specs.Rule.{Slot, ShowsLanes, Shows, lane_data, turn_at, number_at, deaths_at, settled_at, bad_at, IsAt, Kept, calling, Called, list_seen}
 use Rattle.sz_claims.specs.Rule.{Lent, IsAsked, Given}
 use Rattle.sz_claims.specs.Known.{AreInHand}
-use Rattle.sz_book.proofs.HistoryLemmas.{state_after-snoc, legal-snoc}
+use Rattle.sz_book_rules.proofs.HistoryLemmas.{state_after-snoc, legal-snoc}
 use Rattle.sz_claims.proofs.CallLemmas.{kept_after, follows, borrowed_by}
 use Rattle.sz_claims.proofs.UnplacedLemmas.{placed_length, are_unplaced}
 use Rattle.sz_claims.proofs.WordLemmas.{set_other, bound_other}

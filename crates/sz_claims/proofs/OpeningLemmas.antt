@@ -8,18 +8,18 @@ use mathlib.Core.Logic.{dite}
 use native.Mathlib.Decide.{ℕ_discrete}
 use lib.ListN.{get_elem?}
 use Rattle.atomic_table.specs.Table.{State, Final, Seen, opening as table_opening}
-use Rattle.sz_book.specs.Plan.{PlanData}
-use Rattle.sz_book.specs.declared.event.Entry.{Entry}
+use Rattle.sz_book_rules.specs.Plan.{PlanData}
+use Rattle.sz_book_rules.specs.declared.event.Entry.{Entry}
 use Rattle.sz_claims.specs.declared.view.Account.{Account}
 use Rattle.sz_claims.specs.declared.view.View.{View}
-use Rattle.sz_book.specs.Plan.{IsPlan}
+use Rattle.sz_book_rules.specs.Plan.{IsPlan}
 use Rattle.sz_book.specs.Lanes.{LaneData}
-use Rattle.sz_book.specs.Machine.{opening, list_of}
-use Rattle.sz_book.specs.History.{state_after, IsLegal}
-use Rattle.sz_book.specs.Machine.{LedgerState}
+use Rattle.sz_book_rules.specs.Machine.{opening, list_of}
+use Rattle.sz_book_rules.specs.History.{state_after, IsLegal}
+use Rattle.sz_book_rules.specs.Machine.{LedgerState}
 use Rattle.sz_claims.specs.Rule.{lane_data, turn_at, Slot, Shows, IsTrueOf, IsAt, Kept, weights, newcomer, number_at, deaths_at, settled_at, bad_at}
 use Rattle.sz_claims.specs.Known.{PassData, pass_data, AreEmpty, IsEnd, IsClosed, least_of, ends_in}
-use Rattle.sz_book.proofs.HistoryLemmas.{starts_empty}
+use Rattle.sz_book_rules.proofs.HistoryLemmas.{starts_empty}
 use Rattle.sz_claims.proofs.WordLemmas.{below}
 use Rattle.sz_book.proofs.ReplayLemmas.{zero_at}
 use Rattle.atomic_table.specs.Seated.{TableId}

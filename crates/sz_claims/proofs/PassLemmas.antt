@@ -7,15 +7,15 @@ use native.Mathlib.Decide.{ℕ_discrete}
 use lib.ListN.{get_elem?}
 use Rattle.atomic_table.specs.Table.{Splits, Joins}
 use Rattle.atomic_table.proofs.Lists.{set_else, at_longer, at_last}
-use Rattle.sz_book.specs.Plan.{PlanData}
-use Rattle.sz_book.specs.declared.event.Entry.{Entry}
+use Rattle.sz_book_rules.specs.Plan.{PlanData}
+use Rattle.sz_book_rules.specs.declared.event.Entry.{Entry}
 use Rattle.sz_claims.specs.declared.view.Account.{Account}
 use Rattle.sz_claims.specs.declared.view.View.{View}
-use Rattle.sz_book.specs.History.{calls_by}
-use Rattle.sz_book.specs.Machine.{LedgerState, opening}
-use Rattle.sz_book.specs.History.{state_after}
+use Rattle.sz_book_rules.specs.History.{calls_by}
+use Rattle.sz_book_rules.specs.Machine.{LedgerState, opening}
+use Rattle.sz_book_rules.specs.History.{state_after}
 use Rattle.sz_claims.specs.Rule.{Slot, IsTrueOf, IsAt, AreNumbered, HaveBorrowers, Kept, weights, split_left, split_right, account, merged, spent}
-use Rattle.sz_book.proofs.HistoryLemmas.{starts_empty}
+use Rattle.sz_book_rules.proofs.HistoryLemmas.{starts_empty}
 use Rattle.sz_claims.proofs.SeatLemmas.{was, stood, stays, set_at, weights_set, lane_stays}
 
 -- an element of a list with one more at its end

@@ -7,7 +7,7 @@ use lib.ListN.{get_elem?}
 use Rattle.atomic_table.proofs.Lists.{at_set, set_else}
 use Rattle.sz_claims.specs.declared.view.Account.{Account}
 use Rattle.sz_claims.specs.declared.view.View.{View}
-use Rattle.sz_book.specs.Machine.{LedgerState}
+use Rattle.sz_book_rules.specs.Machine.{LedgerState}
 use Rattle.sz_claims.specs.Rule.{IsAt, weights, AreNumbered, HaveBorrowers}
 
 pub set_at : (vs : List View) (i : ℕ) (v w : View) → get_elem? vs i ≡ some v → get_elem? (set vs i w) i ≡ some w

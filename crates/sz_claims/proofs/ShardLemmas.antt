@@ -8,16 +8,16 @@ use mathlib.Core.Logic.{dite}
 use native.Mathlib.Decide.{ℕ_discrete}
 use prog.Atomic.{either}
 use Rattle.atomic_table.proofs.Lists.{exchanged}
-use Rattle.sz_book.specs.Plan.{PlanData}
-use Rattle.sz_book.specs.declared.plan.Claim.{Claim}
-use Rattle.sz_book.specs.declared.event.Event.{Event}
-use Rattle.sz_book.specs.declared.event.Event.TheVariants.{Draw, Number, Died, Settle, LaneOut, LaneBack, Bad}
-use Rattle.sz_book.specs.declared.event.Reply.TheVariants.{Noted, Won, Late}
-use Rattle.sz_book.specs.declared.event.Entry.{Entry}
+use Rattle.sz_book_rules.specs.Plan.{PlanData}
+use Rattle.sz_book_rules.specs.declared.claim.Claim.{Claim}
+use Rattle.sz_book_rules.specs.declared.event.Event.{Event}
+use Rattle.sz_book_rules.specs.declared.event.Event.TheVariants.{Draw, Number, Died, Settle, LaneOut, LaneBack, Bad}
+use Rattle.sz_book_rules.specs.declared.event.Reply.TheVariants.{Noted, Won, Late}
+use Rattle.sz_book_rules.specs.declared.event.Entry.{Entry}
 use Rattle.sz_claims.specs.declared.view.View.{View}
-use Rattle.sz_book.specs.Plan.{IsPlan, count_of}
-use Rattle.sz_book.specs.Machine.{LedgerState, opening, after, reply_of, Fits, IsDrawn, settle_reply}
-use Rattle.sz_book.specs.History.{entry, state_after, IsLegal, IsLegalFrom, HasDrawn, HasNumber}
+use Rattle.sz_book_rules.specs.Plan.{IsPlan, count_of}
+use Rattle.sz_book_rules.specs.Machine.{LedgerState, opening, after, reply_of, Fits, IsDrawn, settle_reply}
+use Rattle.sz_book_rules.specs.History.{entry, state_after, IsLegal, IsLegalFrom, HasDrawn, HasNumber}
 use Rattle.sz_claims.specs.Rule.{Slot, Shows, number_at, deaths_at, settled_at, bad_at, Called}
 use Rattle.sz_claims.specs.Moves.{Moved, Moves}
 use Rattle.sz_claims.proofs.SumLemmas.{dries_grow, bars_grow}

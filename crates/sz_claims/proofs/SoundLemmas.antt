@@ -7,22 +7,22 @@ use Rattle.std.proofs.lemmas.List.{get_or-set_same, get_or-set_other, length-rep
 use mathlib.Core.Logic.{dite}
 use native.Mathlib.Decide.{ℕ_discrete}
 use Rattle.atomic_table.specs.Seated.{TableId}
-use Rattle.sz_book.specs.Plan.{PlanData}
+use Rattle.sz_book_rules.specs.Plan.{PlanData}
 use Rattle.sz_book.specs.Lanes.{LaneData}
-use Rattle.sz_book.specs.declared.plan.Claim.{Claim}
-use Rattle.sz_book.specs.declared.event.Event.{Event}
-use Rattle.sz_book.specs.declared.event.Event.TheVariants.{Draw, Number, LaneOut, LaneBack}
-use Rattle.sz_book.specs.declared.event.Reply.{Reply}
-use Rattle.sz_book.specs.declared.event.Reply.TheVariants.{Ticket, Number as Numbered, Noted, Lane}
-use Rattle.sz_book.specs.declared.event.Entry.{Entry}
+use Rattle.sz_book_rules.specs.declared.claim.Claim.{Claim}
+use Rattle.sz_book_rules.specs.declared.event.Event.{Event}
+use Rattle.sz_book_rules.specs.declared.event.Event.TheVariants.{Draw, Number, LaneOut, LaneBack}
+use Rattle.sz_book_rules.specs.declared.event.Reply.{Reply}
+use Rattle.sz_book_rules.specs.declared.event.Reply.TheVariants.{Ticket, Number as Numbered, Noted, Lane}
+use Rattle.sz_book_rules.specs.declared.event.Entry.{Entry}
 use Rattle.sz_claims.specs.declared.view.View.{View}
-use Rattle.sz_book.specs.Plan.{IsPlan, count_of}
-use Rattle.sz_book.specs.Machine.{opening, IsDrawn}
-use Rattle.sz_book.specs.History.{entry, state_after, IsLegal, calls_by, HasDrawn, HasNumber}
+use Rattle.sz_book_rules.specs.Plan.{IsPlan, count_of}
+use Rattle.sz_book_rules.specs.Machine.{opening, IsDrawn}
+use Rattle.sz_book_rules.specs.History.{entry, state_after, IsLegal, calls_by, HasDrawn, HasNumber}
 use Rattle.sz_claims.specs.Rule.{Slot, any_of, draws_none, numbers_none, found_no_ticket, found_no_number, bit, looking, Called, Looked, split_left}
 use Rattle.sz_claims.specs.Rule.{split_right, merged, newcomer, IsAsked}
 use Rattle.sz_claims.specs.Known.{LedgerData, PassData, pass_data, AllBlank, IsSound}
-use Rattle.sz_book.proofs.GrowthLemmas.{has_drawn, has_number, own_drawn, own_number}
+use Rattle.sz_book_rules.proofs.GrowthLemmas.{has_drawn, has_number, own_drawn, own_number}
 
 one_bit : (b : Bool) → cond b 1 0 ≡ bit b
 one_bit true = refl

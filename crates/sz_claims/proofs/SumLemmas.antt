@@ -3,10 +3,10 @@ use Rattle.std.proofs.Common.{◌≡◌, ◌≢◌, ℕ, zero, suc, ◌+◌, ◌
 use Rattle.std.proofs.Common.{le_refl, le_trans, arith, suc-mul}
 use mathlib.Core.Logic.{dite}
 use native.Mathlib.Decide.{ℕ_discrete}
-use Rattle.sz_book.specs.declared.event.Entry.{Entry}
-use Rattle.sz_book.specs.History.{calls_by}
+use Rattle.sz_book_rules.specs.declared.event.Entry.{Entry}
+use Rattle.sz_book_rules.specs.History.{calls_by}
 use Rattle.sz_claims.specs.Rule.{sum_below, any_of, found_no_ticket, found_no_number, without_number}
-use Rattle.sz_book.proofs.HistoryLemmas.{calls_by-append, calls_own}
+use Rattle.sz_book_rules.proofs.HistoryLemmas.{calls_by-append, calls_own}
 
 pub sum_grows : (f g : ℕ → ℕ) (n : ℕ) → ((k : ℕ) → k < n → f k ≤ g k) → sum_below f n ≤ sum_below g n
 sum_grows f g zero h = omega arith

@@ -7,19 +7,19 @@ use Rattle.std.proofs.lemmas.List.{set-get_or}
 use mathlib.Core.Option.{Option as Maybe}
 use mathlib.Core.Logic.{dite}
 use native.Mathlib.Decide.{ℕ_discrete}
-use Rattle.sz_book.specs.Plan.{PlanData}
-use Rattle.sz_book.specs.declared.plan.Claim.{Claim}
-use Rattle.sz_book.specs.declared.event.Event.{Event}
-use Rattle.sz_book.specs.declared.event.Event.TheVariants.{Draw, Number, Died, Settle, LaneOut, LaneBack, Bad}
-use Rattle.sz_book.specs.declared.event.Reply.{Reply}
-use Rattle.sz_book.specs.declared.event.Entry.{Entry}
+use Rattle.sz_book_rules.specs.Plan.{PlanData}
+use Rattle.sz_book_rules.specs.declared.claim.Claim.{Claim}
+use Rattle.sz_book_rules.specs.declared.event.Event.{Event}
+use Rattle.sz_book_rules.specs.declared.event.Event.TheVariants.{Draw, Number, Died, Settle, LaneOut, LaneBack, Bad}
+use Rattle.sz_book_rules.specs.declared.event.Reply.{Reply}
+use Rattle.sz_book_rules.specs.declared.event.Entry.{Entry}
 use Rattle.sz_claims.specs.declared.view.View.{View}
-use Rattle.sz_book.specs.Plan.{count_of}
-use Rattle.sz_book.specs.Machine.{LedgerState, opening, after, reply_of, Fits, IsDrawn, draw_reply, number_reply}
-use Rattle.sz_book.specs.History.{entry, state_after, IsLegalFrom, calls_by, HasDrawn}
+use Rattle.sz_book_rules.specs.Plan.{count_of}
+use Rattle.sz_book_rules.specs.Machine.{LedgerState, opening, after, reply_of, Fits, IsDrawn, draw_reply, number_reply}
+use Rattle.sz_book_rules.specs.History.{entry, state_after, IsLegalFrom, calls_by, HasDrawn}
 use Rattle.sz_claims.specs.Rule.{Slot, Shows, IsBounded, any_of, draws_none, numbers_none, found_no_ticket, found_no_number, number_at, deaths_at}
 use Rattle.sz_claims.specs.Rule.{settled_at, bad_at}
-use Rattle.sz_book.proofs.GrowthLemmas.{drawn_stays, given_stays}
+use Rattle.sz_book_rules.proofs.GrowthLemmas.{drawn_stays, given_stays}
 use Rattle.sz_claims.specs.Moves.{Moved, Moves}
 use Rattle.sz_claims.proofs.SumLemmas.{dries, bars, dries_grow, dries_one, dries_most, bars_grow, bars_one, bars_most, any_own}
 use Rattle.sz_claims.proofs.WordLemmas.{below, by_test, ticket_some, ticket_none, one_ticket, number_some, number_none, one_number, set_same}

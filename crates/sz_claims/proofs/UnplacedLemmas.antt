@@ -5,13 +5,13 @@ use Rattle.std.specs.Prelude.{slice_index}
 use Rattle.std.proofs.lemmas.List.{get_or-set_same, get_or-set_other, length-replicate}
 use mathlib.Core.Logic.{dite}
 use native.Mathlib.Decide.{ℕ_discrete}
-use Rattle.sz_book.specs.Plan.{PlanData, IsPlan, count_of}
-use Rattle.sz_book.specs.declared.event.Event.{Event}
-use Rattle.sz_book.specs.declared.event.Event.TheVariants.{Draw, Number, Died, Settle, LaneOut, LaneBack, Bad}
-use Rattle.sz_book.specs.declared.event.Reply.TheVariants.{Won, Late}
-use Rattle.sz_book.specs.declared.event.Entry.{Entry}
-use Rattle.sz_book.specs.Machine.{LedgerState, opening, after, reply_of, Fits, placed, AreUnplaced}
-use Rattle.sz_book.specs.History.{state_after, IsLegalFrom, IsLegal, calls_by, Settles, HasWon, IsAmong, HasGiven, AreDistinct}
+use Rattle.sz_book_rules.specs.Plan.{PlanData, IsPlan, count_of}
+use Rattle.sz_book_rules.specs.declared.event.Event.{Event}
+use Rattle.sz_book_rules.specs.declared.event.Event.TheVariants.{Draw, Number, Died, Settle, LaneOut, LaneBack, Bad}
+use Rattle.sz_book_rules.specs.declared.event.Reply.TheVariants.{Won, Late}
+use Rattle.sz_book_rules.specs.declared.event.Entry.{Entry}
+use Rattle.sz_book_rules.specs.Machine.{LedgerState, opening, after, reply_of, Fits, placed, AreUnplaced}
+use Rattle.sz_book_rules.specs.History.{state_after, IsLegalFrom, IsLegal, calls_by, Settles, HasWon, IsAmong, HasGiven, AreDistinct}
 use Rattle.sz_claims.proofs.WordLemmas.{below, claimed}
 use Rattle.sz_book.proofs.ReplayLemmas.{zero_at}
 

@@ -6,17 +6,17 @@ use Rattle.std.proofs.lemmas.List.{get_or-set_same, get_or-set_other, length-rep
 use mathlib.Core.Option.{Option as Maybe}
 use mathlib.Core.Logic.{dite}
 use native.Mathlib.Decide.{dec_le}
-use Rattle.sz_book.specs.Plan.{PlanData}
-use Rattle.sz_book.specs.declared.plan.Claim.{Claim}
-use Rattle.sz_book.specs.declared.event.Reply.TheVariants.{Ticket, Number as Numbered}
-use Rattle.sz_book.specs.declared.event.Entry.{Entry}
+use Rattle.sz_book_rules.specs.Plan.{PlanData}
+use Rattle.sz_book_rules.specs.declared.claim.Claim.{Claim}
+use Rattle.sz_book_rules.specs.declared.event.Reply.TheVariants.{Ticket, Number as Numbered}
+use Rattle.sz_book_rules.specs.declared.event.Entry.{Entry}
 use Rattle.sz_claims.specs.declared.view.Account.{Account}
 use Rattle.sz_claims.specs.declared.view.View.{View}
-use Rattle.sz_book.specs.Plan.{IsPlan, count_of}
-use Rattle.sz_book.specs.Machine.{LedgerState, opening, IsDrawn, claim_of, draw_reply, number_reply}
-use Rattle.sz_book.specs.History.{state_after, IsLegal, calls_by, HasDrawn, HasNumber}
+use Rattle.sz_book_rules.specs.Plan.{IsPlan, count_of}
+use Rattle.sz_book_rules.specs.Machine.{LedgerState, opening, IsDrawn, claim_of, draw_reply, number_reply}
+use Rattle.sz_book_rules.specs.History.{state_after, IsLegal, calls_by, HasDrawn, HasNumber}
 use Rattle.sz_claims.specs.Rule.{Slot, ShowsLanes, turn_at, IsBounded, IsTrueOf, number_at}
-use Rattle.sz_book.proofs.GrowthLemmas.{has_drawn, has_number, own_drawn, own_number}
+use Rattle.sz_book_rules.proofs.GrowthLemmas.{has_drawn, has_number, own_drawn, own_number}
 use Rattle.sz_claims.proofs.SumLemmas.{bars, dries_grow, bars_grow}
 
 -- n is below m or not

@@ -4,16 +4,16 @@ use Rattle.std.specs.Prelude.{length, map, drop, replicate, slice_index_or}
 use mathlib.Core.Option.{some}
 use lib.ListN.{get_elem?}
 use Rattle.atomic_table.specs.Seated.{TableId}
-use Rattle.sz_book.specs.Plan.{PlanData, IsPlan, count_of}
+use Rattle.sz_book_rules.specs.Plan.{PlanData, IsPlan, count_of}
 use Rattle.sz_book.specs.Lanes.{LaneData}
-use Rattle.sz_book.specs.declared.event.Event.{Event}
-use Rattle.sz_book.specs.declared.event.Event.TheVariants.{LaneOut}
-use Rattle.sz_book.specs.declared.event.Reply.{Reply}
-use Rattle.sz_book.specs.declared.event.Reply.TheVariants.{Lane}
-use Rattle.sz_book.specs.declared.event.Entry.{Entry}
-use Rattle.sz_book.specs.Machine.{LedgerState, opening, list_of}
-use Rattle.sz_book.specs.History.{entry, state_after, IsLegal, calls_by, StartsWith, AreTrueReports}
-use Rattle.sz_book.specs.History.{IsAmong, AreDistinct, HasWon, HasGiven}
+use Rattle.sz_book_rules.specs.declared.event.Event.{Event}
+use Rattle.sz_book_rules.specs.declared.event.Event.TheVariants.{LaneOut}
+use Rattle.sz_book_rules.specs.declared.event.Reply.{Reply}
+use Rattle.sz_book_rules.specs.declared.event.Reply.TheVariants.{Lane}
+use Rattle.sz_book_rules.specs.declared.event.Entry.{Entry}
+use Rattle.sz_book_rules.specs.Machine.{LedgerState, opening, list_of}
+use Rattle.sz_book_rules.specs.History.{entry, state_after, IsLegal, calls_by, StartsWith, AreTrueReports}
+use Rattle.sz_book_rules.specs.History.{IsAmong, AreDistinct, HasWon, HasGiven}
 use Rattle.sz_claims.specs.declared.view.Account.{Account}
 use Rattle.sz_claims.specs.declared.view.View.{View}
 use Rattle.sz_claims.specs.declared.rule.Setup.{Setup}

@@ -1,15 +1,15 @@
 -- What is asked of one kind of step.
 use Rattle.std.specs.Prelude.{◌≡◌, ℕ, ◌^◌, ◌<◌, List, [], ◌∷◌, ◌++◌, slice_index, slice_set}
 use mathlib.Core.Option.{Option as Maybe}
-use Rattle.sz_book.specs.Plan.{PlanData, IsPlan}
+use Rattle.sz_book_rules.specs.Plan.{PlanData, IsPlan}
 use Rattle.sz_book.specs.Books.{IsPlain}
-use Rattle.sz_book.specs.declared.event.Event.{Event}
-use Rattle.sz_book.specs.declared.event.Event.TheVariants.{Draw, Number, Died, Settle, LaneOut, LaneBack, Bad}
-use Rattle.sz_book.specs.declared.event.Reply.{Reply}
-use Rattle.sz_book.specs.declared.event.Reply.TheVariants.{Noted}
-use Rattle.sz_book.specs.declared.event.Entry.{Entry}
-use Rattle.sz_book.specs.Machine.{opening, after, reply_of, Fits, draw_reply, number_reply, settle_reply}
-use Rattle.sz_book.specs.History.{entry, state_after, IsLegal, IsTrueReport}
+use Rattle.sz_book_rules.specs.declared.event.Event.{Event}
+use Rattle.sz_book_rules.specs.declared.event.Event.TheVariants.{Draw, Number, Died, Settle, LaneOut, LaneBack, Bad}
+use Rattle.sz_book_rules.specs.declared.event.Reply.{Reply}
+use Rattle.sz_book_rules.specs.declared.event.Reply.TheVariants.{Noted}
+use Rattle.sz_book_rules.specs.declared.event.Entry.{Entry}
+use Rattle.sz_book_rules.specs.Machine.{opening, after, reply_of, Fits, draw_reply, number_reply, settle_reply}
+use Rattle.sz_book_rules.specs.History.{entry, state_after, IsLegal, IsTrueReport}
 use Rattle.sz_claims.specs.declared.view.Account.{Account}
 use Rattle.sz_claims.specs.declared.view.View.{View}
 use Rattle.sz_claims.specs.Rule.{Slot, Shows, IsBounded, IsTrueOf}

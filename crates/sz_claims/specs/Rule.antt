@@ -4,15 +4,15 @@ use Rattle.std.specs.Prelude.{List, [], ◌∷◌, ◌++◌, length, slice_index
 use mathlib.Core.Option.{Option as Maybe, some}
 use lib.ListN.{get_elem?}
 use Rattle.atomic_table.specs.Table.{State, Me}
-use Rattle.sz_book.specs.Plan.{PlanData, IsPlan, count_of}
+use Rattle.sz_book_rules.specs.Plan.{PlanData, IsPlan, count_of}
 use Rattle.sz_book.specs.Lanes.{LaneData}
-use Rattle.sz_book.specs.declared.event.Event.{Event}
-use Rattle.sz_book.specs.declared.event.Event.TheVariants.{Draw, Number, LaneOut, LaneBack}
-use Rattle.sz_book.specs.declared.event.Reply.{Reply}
-use Rattle.sz_book.specs.declared.event.Reply.TheVariants.{Ticket, Number as Numbered, Noted, Lane}
-use Rattle.sz_book.specs.declared.event.Entry.{Entry}
-use Rattle.sz_book.specs.Machine.{LedgerState, opening, list_of}
-use Rattle.sz_book.specs.History.{entry, state_after, IsLegal, calls_by, StartsWith, AreTrueReports}
+use Rattle.sz_book_rules.specs.declared.event.Event.{Event}
+use Rattle.sz_book_rules.specs.declared.event.Event.TheVariants.{Draw, Number, LaneOut, LaneBack}
+use Rattle.sz_book_rules.specs.declared.event.Reply.{Reply}
+use Rattle.sz_book_rules.specs.declared.event.Reply.TheVariants.{Ticket, Number as Numbered, Noted, Lane}
+use Rattle.sz_book_rules.specs.declared.event.Entry.{Entry}
+use Rattle.sz_book_rules.specs.Machine.{LedgerState, opening, list_of}
+use Rattle.sz_book_rules.specs.History.{entry, state_after, IsLegal, calls_by, StartsWith, AreTrueReports}
 use Rattle.sz_claims.specs.declared.view.Account.{Account}
 use Rattle.sz_claims.specs.declared.view.View.{View}
 

@@ -1,8 +1,8 @@
 //! The ledger, and its passes.
 ghost use Rattle.std.specs.Prelude.{◌≡◌, ◌+◌, ◌*◌, ◌^◌, ◌<◌, ◌≤◌, ◌||◌, ℕ, false, [], ◌∷◌, ◌++◌, length, map, replicate, slice_index, IfOk};
-ghost use Rattle.sz_book.specs.Plan.{IsPlan, count_of};
-ghost use Rattle.sz_book.specs.Machine.{draw_reply, number_reply};
-ghost use Rattle.sz_book.specs.History.{HasDrawn, HasNumber};
+ghost use Rattle.sz_book_rules.specs.Plan.{IsPlan, count_of};
+ghost use Rattle.sz_book_rules.specs.Machine.{draw_reply, number_reply};
+ghost use Rattle.sz_book_rules.specs.History.{HasDrawn, HasNumber};
 ghost use Rattle.sz_claims.specs.Rule.{Called, any_of, found_no_ticket, found_no_number, bit, number_at, deaths_at, settled_at};
 ghost use Rattle.sz_claims.specs.Moves.{replies};
 
@@ -62,7 +62,7 @@ impl<T: Load> Model for Pass<T> {
 }
 
 impl<T: Load> Pass<T> {
-    ghost use Rattle.sz_book.specs.History.{IsLegal, calls_by};
+    ghost use Rattle.sz_book_rules.specs.History.{IsLegal, calls_by};
 
     /// What a pass has seen is a legal history, in which its own calls are just those that it made. The call does nothing.
     pub fn saw_a_legal_history(&self)
@@ -75,9 +75,9 @@ impl<T: Load> Pass<T> {
 
 impl<T: Load> Ledger<T> {
     ghost use Rattle.std.specs.Prelude.{◌≡◌};
-    ghost use Rattle.sz_book.specs.History.{HasDrawn, HasNumber};
+    ghost use Rattle.sz_book_rules.specs.History.{HasDrawn, HasNumber};
     ghost use Rattle.std.specs.Prelude.{◌+◌, ◌<◌, List, length, IfOk, IfSome, IfNone};
-    ghost use Rattle.sz_book.specs.declared.event.Entry.{Entry};
+    ghost use Rattle.sz_book_rules.specs.declared.event.Entry.{Entry};
     ghost use Rattle.sz_book.specs.Answers.{told_reply, IsWon};
     ghost use Rattle.sz_claims.specs.Known.{Calls, CallsWith, IsLent, MayGive, further_in, AreEmpty, IsSplit, IsJoined, IsEnd, IsClosed, first_pass, ends_in};
 

@@ -1,6 +1,6 @@
 -- Empty lanes with one more.
 use Rattle.std.proofs.Common.{◌≡◌, List, [], ◌∷◌, ◌++◌}
-use Rattle.sz_book.specs.Plan.{PlanData}
+use Rattle.sz_book_rules.specs.Plan.{PlanData}
 use Rattle.sz_book.specs.Lanes.{LaneData}
 use Rattle.sz_claims.specs.Known.{AreEmpty}
 

@@ -1,5 +1,5 @@
 -- What a pass is at, as its own calls show it.
-use Rattle.sz_book.specs.History.{HasDrawn, HasNumber}
+use Rattle.sz_book_rules.specs.History.{HasDrawn, HasNumber}
 use Rattle.sz_claims.specs.Known.{PassData}
 use Rattle.sz_claims_tests.specs.declared.progress.At.{At}
 use Rattle.sz_claims_tests.specs.declared.progress.At.TheVariants.{Rest, Ticket, Attempt}

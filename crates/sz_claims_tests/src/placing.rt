@@ -1,6 +1,6 @@
 //! What was made of a shard goes into a lane.
 ghost use Rattle.std.specs.Prelude.{◌≡◌, ◌<◌, [], ◌∷◌};
-ghost use Rattle.sz_book.specs.Plan.{IsPlan};
+ghost use Rattle.sz_book_rules.specs.Plan.{IsPlan};
 ghost use Rattle.sz_claims.specs.Known.{AreInHand};
 ghost use Rattle.sz_claims_tests.specs.Keeping.{KeepsPlace};
 

@@ -1,6 +1,6 @@
 //! Small plans.
 ghost use Rattle.std.specs.Prelude.{◌≡◌, IfOk};
-ghost use Rattle.sz_book.specs.Plan.{IsPlan};
+ghost use Rattle.sz_book_rules.specs.Plan.{IsPlan};
 
 use std::alloc::Global;
 use sz_book::{NoMemory, Plan};

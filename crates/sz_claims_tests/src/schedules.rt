@@ -1,7 +1,7 @@
 //! Random schedules of two passes, on the shared ledger and on the ledger of one thread, which answer alike.
 ghost use Rattle.std.specs.Prelude.{◌≡◌, [], IfOk};
-ghost use Rattle.sz_book.specs.Plan.{IsPlan};
-ghost use Rattle.sz_book.specs.History.{HasDrawn, HasNumber};
+ghost use Rattle.sz_book_rules.specs.Plan.{IsPlan};
+ghost use Rattle.sz_book_rules.specs.History.{HasDrawn, HasNumber};
 ghost use Rattle.sz_claims_tests.specs.Keeping.{KeepsPlace};
 ghost use Rattle.sz_claims_tests.specs.Ready.{IsReady};
 

@@ -1,6 +1,6 @@
 //! Two threads that draw, try, settle, and put what they made into lanes.
 ghost use Rattle.std.specs.Prelude.{◌≡◌, ◌<◌};
-ghost use Rattle.sz_book.specs.Plan.{IsPlan};
+ghost use Rattle.sz_book_rules.specs.Plan.{IsPlan};
 ghost use Rattle.sz_claims_tests.specs.Keeping.{KeepsPlace};
 
 use crate::placing::place;

@@ -3,7 +3,7 @@ use Rattle.std.proofs.Common.{◌≡◌, ℕ, zero, suc, ◌+◌, ◌<◌, ◌�
 use Rattle.std.proofs.Common.{◌⊎◌, inl, inr, refl, sym, ap, ◌∙◌, subst, arith, length-append, append_assoc, append-nil}
 use Rattle.std.specs.Prelude.{slice_index, ◌==◌, if◌then◌else◌}
 use Rattle.std.proofs.lemmas.Bool.Decides.{nat_tests}
-use Rattle.sz_book.specs.Plan.{IsPlan, tickets_of}
+use Rattle.sz_book_rules.specs.Plan.{IsPlan, tickets_of}
 use Rattle.sz_words.specs.Lists.{is_among}
 use Rattle.sz_attempt.specs.declared.job.Job.{Job}
 use Rattle.sz_rounds.specs.declared.round.Round.{Round}

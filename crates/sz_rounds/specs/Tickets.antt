@@ -1,6 +1,6 @@
 -- Tickets in order of shards.
 use Rattle.std.specs.Prelude.{◌≡◌, ℕ, zero, suc, ◌+◌, ◌*◌, ◌<◌, ◌≤◌, List, [], ◌∷◌, ◌++◌, length, slice_index, Bool, if◌then◌else◌}
-use Rattle.sz_book.specs.Plan.{PlanData, IsPlan, tickets_of}
+use Rattle.sz_book_rules.specs.Plan.{PlanData, IsPlan, tickets_of}
 use Rattle.sz_words.specs.Lists.{is_among}
 use Rattle.sz_attempt.specs.declared.job.Job.{Job}
 use Rattle.sz_rounds.specs.declared.round.Round.{Round}

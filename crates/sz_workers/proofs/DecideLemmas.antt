@@ -5,7 +5,7 @@ use Rattle.std.specs.Prelude.{slice_get}
 use Rattle.std.proofs.lemmas.List.{length-map}
 use Rattle.sz_machine.specs.Ends.{seen_fault}
 use Rattle.sz_total.specs.States.{TotalState}
-use Rattle.sz_book.specs.History.{IsAmong}
+use Rattle.sz_book_rules.specs.History.{IsAmong}
 use Rattle.sz_attempt.specs.declared.job.Job.{Job}
 use Rattle.sz_attempt.specs.declared.ends.Skipped.{Skipped}
 use Rattle.sz_attempt.specs.Shards.{ShardData}

@@ -6,8 +6,8 @@ use Rattle.std.proofs.lemmas.Bool.Decides.{nat_tests}
 use Rattle.sz_machine.specs.Ends.{seen_fault}
 use Rattle.sz_total.specs.States.{TotalState}
 use Rattle.sz_total.specs.Laws.{ForgetsOrder}
-use Rattle.sz_book.specs.Plan.{PlanData}
-use Rattle.sz_book.specs.History.{IsAmong}
+use Rattle.sz_book_rules.specs.Plan.{PlanData}
+use Rattle.sz_book_rules.specs.History.{IsAmong}
 use Rattle.sz_attempt.specs.declared.job.Job.{Job}
 use Rattle.sz_attempt.specs.declared.job.Shard.{Shard}
 use Rattle.sz_attempt.specs.declared.ends.Skipped.{Skipped}

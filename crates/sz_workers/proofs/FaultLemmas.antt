@@ -8,7 +8,7 @@ use Rattle.sz_world_rules.specs.World.{Outcome, Done, Faulted}
 use Rattle.sz_tabs.specs.Data.{EmitDatum}
 use Rattle.sz_mean.specs.Programs.{mean}
 use Rattle.sz_words.specs.Lists.{is_among}
-use Rattle.sz_book.specs.History.{IsAmong, AreApart}
+use Rattle.sz_book_rules.specs.History.{IsAmong, AreApart}
 use Rattle.sz_attempt.specs.declared.job.Job.{Job}
 use Rattle.sz_attempt.specs.declared.ends.Skipped.{Skipped}
 use Rattle.sz_attempt.specs.Shards.{ShardData}

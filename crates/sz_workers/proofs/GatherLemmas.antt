@@ -5,7 +5,7 @@ use Rattle.std.specs.Prelude.{IsPermutation}
 use Rattle.std.proofs.lemmas.List.Sorted.{IsPermutation-refl, IsPermutation-append_left, IsPermutation-append_right, IsPermutation-append_comm, IsPermutation-trans, length_permutation}
 use mathlib.Core.Logic.{dite}
 use native.Mathlib.Decide.{ℕ_discrete}
-use Rattle.sz_book.specs.History.{IsAmong, AreDistinct}
+use Rattle.sz_book_rules.specs.History.{IsAmong, AreDistinct}
 use Rattle.sz_workers_loop.proofs.WonLemmas.{among_back}
 use Rattle.sz_workers.specs.Parts.{gathered}
 

@@ -8,7 +8,7 @@ use Rattle.sz_tabs.specs.Data.{EmitDatum}
 use Rattle.sz_total.specs.States.{TotalState, declarations, emit_count, shown}
 use Rattle.sz_total.specs.Totals.{StandsFor}
 use Rattle.sz_total.specs.Laws.{ForgetsOrder}
-use Rattle.sz_book.specs.History.{IsAmong, AreApart}
+use Rattle.sz_book_rules.specs.History.{IsAmong, AreApart}
 use Rattle.sz_attempt.specs.declared.job.Job.{Job}
 use Rattle.sz_attempt.specs.declared.ends.Skipped.{Skipped}
 use Rattle.sz_attempt.specs.Shards.{ShardData}

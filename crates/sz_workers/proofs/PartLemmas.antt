@@ -10,7 +10,7 @@ use Rattle.sz_mean.specs.Marked.{all_tables}
 use Rattle.sz_total.specs.States.{TotalState, declarations, emit_count, shown}
 use Rattle.sz_total.specs.Totals.{StandsFor, IsNew, Joins}
 use Rattle.sz_total.specs.Laws.{ForgetsOrder}
-use Rattle.sz_book.specs.History.{IsAmong, AreDistinct, AreApart}
+use Rattle.sz_book_rules.specs.History.{IsAmong, AreDistinct, AreApart}
 use Rattle.sz_attempt.specs.declared.job.Job.{Job}
 use Rattle.sz_attempt.specs.Shards.{ShardData, IsJob, IsShardIn}
 use Rattle.sz_attempt.specs.Attempts.{shard_means}

@@ -9,7 +9,7 @@ use Rattle.std.proofs.lemmas.Nat.Bits.{bit_at_ones}
 use Rattle.sz_tabs.specs.Data.{EmitDatum}
 use Rattle.sz_total.specs.States.{TotalState}
 use Rattle.sz_book.specs.Lanes.{LaneData}
-use Rattle.sz_book.specs.History.{IsAmong, AreDistinct, AreApart}
+use Rattle.sz_book_rules.specs.History.{IsAmong, AreDistinct, AreApart}
 use Rattle.sz_workers_loop.specs.Closing.{shards_in, IsLeft}
 use Rattle.sz_workers_loop.proofs.WonLemmas.{among_front, among_back, among_either, parts_distinct}
 use Rattle.sz_attempt.specs.declared.job.Job.{Job}
@@ -28,7 +28,7 @@ use Rattle.sz_rounds.proofs.OutcomeLemmas.{lost_at, gives_means, fails_means, no
 use Rattle.sz_rounds.proofs.RoundLemmas.{length-numbered, same_there, shard_there}
 use Rattle.sz_workers.specs.declared.first_faults.FirstFaults.{FirstFaults}
 use Rattle.sz_workers.specs.Parts.{plan_for, yield_in, emits_at, faults_at, Counts, Dies, Bad, HoldsShards}
-use Rattle.sz_book.specs.Plan.{PlanData}
+use Rattle.sz_book_rules.specs.Plan.{PlanData}
 use Rattle.sz_workers.specs.RoundRuns.{HasFront, NoneInFront, IsSet, AreWords, IsPooled}
 use Rattle.sz_workers.proofs.PartLemmas.{holds_one}
 use Rattle.sz_workers.proofs.DecideLemmas.{all_live}

@@ -3,9 +3,9 @@ use Rattle.std.proofs.Common.{◌≡◌, ℕ, ◌%◌, ◌^◌, ◌<◌, ◌≤�
 use Rattle.std.specs.Prelude.{Result, Ok, Err, IfErr}
 use Rattle.std.proofs.Math.Nat.{mod-lt}
 use Rattle.std.proofs.lemmas.Grind.{div_ceil_times}
-use Rattle.sz_book.specs.Plan.{PlanData, IsPlan}
+use Rattle.sz_book_rules.specs.Plan.{PlanData, IsPlan}
 use Rattle.sz_book.specs.Lanes.{LaneData}
-use Rattle.sz_book.specs.History.{IsLegal, calls_by, HasWon}
+use Rattle.sz_book_rules.specs.History.{IsLegal, calls_by, HasWon}
 use Rattle.sz_claims.specs.Known.{LedgerData, PassData, AreInHand, AreEmpty, first_pass}
 use Rattle.sz_claims.proofs.ForCallers.{none_in_hand}
 use Rattle.sz_workers_loop.specs.Working.{Goes, IsInPlace, HasAllWon, IsAtWork}

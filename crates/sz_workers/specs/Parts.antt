@@ -3,8 +3,8 @@ use Rattle.std.specs.Prelude.{◌≡◌, ◌⊎◌, ℕ, suc, ◌≤◌, false, 
 use Rattle.sz_tabs.specs.Data.{EmitDatum}
 use Rattle.sz_total.specs.States.{TotalState, declarations, emit_count, shown}
 use Rattle.sz_total.specs.Totals.{Joins}
-use Rattle.sz_book.specs.Plan.{PlanData}
-use Rattle.sz_book.specs.History.{IsAmong, AreDistinct}
+use Rattle.sz_book_rules.specs.Plan.{PlanData}
+use Rattle.sz_book_rules.specs.History.{IsAmong, AreDistinct}
 use Rattle.sz_words.specs.Lists.{is_among}
 use Rattle.sz_attempt.specs.declared.job.Job.{Job}
 use Rattle.sz_attempt.specs.Shards.{ShardData, IsJob}

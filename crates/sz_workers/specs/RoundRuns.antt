@@ -1,8 +1,8 @@
 -- What the functions of a round are given, and what they find.
 use Rattle.std.specs.Prelude.{◌≡◌, ℕ, suc, ◌+◌, ◌-◌, ◌<◌, ◌≤◌, true, List, length, take, Option, Some, None, slice_get, slice_index, nat_lt, if◌then◌else◌}
 use Rattle.std.specs.Int.{bit_at}
-use Rattle.sz_book.specs.Plan.{PlanData, IsPlan}
-use Rattle.sz_book.specs.History.{IsAmong}
+use Rattle.sz_book_rules.specs.Plan.{PlanData, IsPlan}
+use Rattle.sz_book_rules.specs.History.{IsAmong}
 use Rattle.sz_attempt.specs.declared.job.Job.{Job}
 use Rattle.sz_attempt.specs.declared.ends.Skipped.{Skipped}
 use Rattle.sz_attempt.specs.Shards.{ShardData, IsJob}

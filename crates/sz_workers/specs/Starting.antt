@@ -1,8 +1,8 @@
 -- What a worker of a round begins with.
 use Rattle.std.specs.Prelude.{◌≡◌, ℕ, ◌<◌, ◌≤◌, []}
 use Rattle.std.specs.Int.{div_ceil}
-use Rattle.sz_book.specs.History.{HasWon, HasGiven}
-use Rattle.sz_book.specs.Plan.{IsPlan}
+use Rattle.sz_book_rules.specs.History.{HasWon, HasGiven}
+use Rattle.sz_book_rules.specs.Plan.{IsPlan}
 use Rattle.sz_claims.specs.Known.{LedgerData, PassData}
 use Rattle.sz_attempt.specs.declared.job.Job.{Job}
 use Rattle.sz_attempt.specs.Shards.{IsJob}

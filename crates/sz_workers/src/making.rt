@@ -31,7 +31,7 @@ pub(crate) struct RoundMaker<'a, 'r, G: Gate, N: RoundName> {
 
 impl<'a, 'r, G: Gate, N: RoundName> Model for RoundMaker<'a, 'r, G, N> {
     ghost use Rattle.std.specs.Prelude.{◌≡◌};
-    ghost use Rattle.sz_book.specs.Plan.{PlanData};
+    ghost use Rattle.sz_book_rules.specs.Plan.{PlanData};
     ghost use Rattle.sz_attempt.specs.Shards.{IsJob};
     ghost use Rattle.sz_rounds.specs.Rounds.{IsRound};
     ghost use Rattle.sz_workers.specs.Parts.{plan_for};

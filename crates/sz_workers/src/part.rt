@@ -1,7 +1,7 @@
 //! Parts of a round, which stand for shards.
 ghost use Rattle.std.specs.Prelude.{◌≡◌, ◌+◌, ◌^◌, ◌≤◌, [], false, IfOk, OnOk, IfErr};
 ghost use Rattle.sz_mean.specs.Marked.{all_tables};
-ghost use Rattle.sz_book.specs.Plan.{IsPlan};
+ghost use Rattle.sz_book_rules.specs.Plan.{IsPlan};
 ghost use Rattle.sz_attempt.specs.declared.job.Job.{Job};
 ghost use Rattle.sz_attempt.specs.Shards.{IsJob};
 ghost use Rattle.sz_rounds.specs.declared.round.Round.{Round};

@@ -1,7 +1,7 @@
 //! The parts of all workers together.
 ghost use Rattle.std.specs.Prelude.{◌≡◌, ◌++◌, ◌∷◌, [], IfOk, OnOk};
 ghost use Rattle.sz_mean.specs.Marked.{all_tables};
-ghost use Rattle.sz_book.specs.History.{IsAmong, AreApart, AreDistinct};
+ghost use Rattle.sz_book_rules.specs.History.{IsAmong, AreApart, AreDistinct};
 ghost use Rattle.sz_attempt.specs.Shards.{IsJob};
 ghost use Rattle.sz_rounds.specs.Rounds.{IsRound};
 ghost use Rattle.sz_workers_loop.specs.Closing.{shards_in};

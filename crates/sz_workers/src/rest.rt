@@ -4,7 +4,7 @@ ghost use Rattle.sz_attempt.specs.Shards.{IsJob};
 ghost use Rattle.sz_rounds.specs.Outcomes.{outcome_from};
 ghost use Rattle.sz_rounds.specs.Rounds.{IsRound, shards_of, EndsRound};
 ghost use Rattle.sz_workers.specs.Parts.{HoldsShards};
-ghost use Rattle.sz_book.specs.History.{IsAmong};
+ghost use Rattle.sz_book_rules.specs.History.{IsAmong};
 ghost use Rattle.sz_workers.specs.RoundRuns.{IsSet, AreWords, HasFront, IsPooled, NoneInFront, RestEnds, one_too_many, in_front};
 
 use crate::attempts::run_attempt;

@@ -3,16 +3,16 @@ use Rattle.std.proofs.Common.{◌≡◌, ◌⊎◌, ℕ, zero, suc, ◌+◌, ◌
 use Rattle.std.specs.Prelude.{slice_set}
 use Rattle.std.proofs.lemmas.Bool.{eqb-true, eqb-false}
 use Rattle.std.proofs.lemmas.List.{append_assoc, get_or-set_same, get_or-set_other, set-get_or, set-set, length-replicate}
-use Rattle.sz_book.specs.Plan.{PlanData, count_of}
+use Rattle.sz_book_rules.specs.Plan.{PlanData, count_of}
 use Rattle.sz_book.specs.Lanes.{LaneData}
-use Rattle.sz_book.specs.declared.plan.Claim.{Claim}
-use Rattle.sz_book.specs.declared.event.Event.{Event}
-use Rattle.sz_book.specs.declared.event.Event.TheVariants.{Draw, Number, Died, Settle, LaneOut, LaneBack, Bad}
-use Rattle.sz_book.specs.declared.event.Reply.{Reply}
-use Rattle.sz_book.specs.declared.event.Reply.TheVariants.{Ticket, Number as Numbered, Noted, Won, Late, Lane}
-use Rattle.sz_book.specs.declared.event.Entry.{Entry}
-use Rattle.sz_book.specs.History.{entry, HasDrawn}
-use Rattle.sz_book.specs.Orderly.{Phase, undrawn, asks, tries, ended, phase_of, Turns, TurnsAll}
+use Rattle.sz_book_rules.specs.declared.claim.Claim.{Claim}
+use Rattle.sz_book_rules.specs.declared.event.Event.{Event}
+use Rattle.sz_book_rules.specs.declared.event.Event.TheVariants.{Draw, Number, Died, Settle, LaneOut, LaneBack, Bad}
+use Rattle.sz_book_rules.specs.declared.event.Reply.{Reply}
+use Rattle.sz_book_rules.specs.declared.event.Reply.TheVariants.{Ticket, Number as Numbered, Noted, Won, Late, Lane}
+use Rattle.sz_book_rules.specs.declared.event.Entry.{Entry}
+use Rattle.sz_book_rules.specs.History.{entry, HasDrawn}
+use Rattle.sz_book_rules.specs.Orderly.{Phase, undrawn, asks, tries, ended, phase_of, Turns, TurnsAll}
 use Rattle.sz_claims.specs.Known.{PassData, Calls, CallsWith, IsLent}
 use Rattle.sz_claims.proofs.ForCallers.{has_drawn_now}
 use Rattle.sz_workers_loop.specs.Makers.{GivesEmits}

@@ -2,20 +2,20 @@
 use Rattle.std.proofs.Common.{◌≡◌, ℕ, ◌+◌, ◌<◌, true, List, [], ◌∷◌, ◌++◌, refl, ap, sym, ◌∙◌, subst, inl, inr}
 use Rattle.std.specs.Prelude.{slice_index}
 use Rattle.std.proofs.lemmas.List.{append_assoc, length-replicate}
-use Rattle.sz_book.specs.Plan.{PlanData, IsPlan, count_of}
-use Rattle.sz_book.specs.declared.plan.Claim.{Claim}
+use Rattle.sz_book_rules.specs.Plan.{PlanData, IsPlan, count_of}
+use Rattle.sz_book_rules.specs.declared.claim.Claim.{Claim}
 use Rattle.sz_book.specs.Lanes.{LaneData}
-use Rattle.sz_book.specs.declared.event.Event.{Event}
-use Rattle.sz_book.specs.declared.event.Event.TheVariants.{LaneOut, LaneBack}
-use Rattle.sz_book.specs.declared.event.Reply.{Reply}
-use Rattle.sz_book.specs.declared.event.Reply.TheVariants.{Noted, Lane}
-use Rattle.sz_book.specs.declared.event.Entry.{Entry}
-use Rattle.sz_book.specs.Machine.{LedgerState, opening, after, IsDrawn}
+use Rattle.sz_book_rules.specs.declared.event.Event.{Event}
+use Rattle.sz_book_rules.specs.declared.event.Event.TheVariants.{LaneOut, LaneBack}
+use Rattle.sz_book_rules.specs.declared.event.Reply.{Reply}
+use Rattle.sz_book_rules.specs.declared.event.Reply.TheVariants.{Noted, Lane}
+use Rattle.sz_book_rules.specs.declared.event.Entry.{Entry}
+use Rattle.sz_book_rules.specs.Machine.{LedgerState, opening, after, IsDrawn}
 use Rattle.sz_book.specs.Books.{IsClaim}
-use Rattle.sz_book.specs.History.{entry, state_after, IsLegal, IsLegalFrom, calls_by, StartsWith, HasDrawn, HasNumber}
-use Rattle.sz_book.proofs.HistoryLemmas.{starts_self, starts_more}
-use Rattle.sz_book.proofs.StepLemmas.{shard_within}
-use Rattle.sz_book.proofs.GrowthLemmas.{has_drawn, has_number, own_drawn, own_number}
+use Rattle.sz_book_rules.specs.History.{entry, state_after, IsLegal, IsLegalFrom, calls_by, StartsWith, HasDrawn, HasNumber}
+use Rattle.sz_book_rules.proofs.HistoryLemmas.{starts_self, starts_more}
+use Rattle.sz_book_rules.proofs.StepLemmas.{shard_within}
+use Rattle.sz_book_rules.proofs.GrowthLemmas.{has_drawn, has_number, own_drawn, own_number}
 use Rattle.sz_claims.specs.Known.{LedgerData, PassData, ends_in, Calls, CallsWith, IsLent}
 use Rattle.sz_workers_loop.specs.Working.{Goes, IsInPlace}
 

@@ -10,19 +10,19 @@ use mathlib.Core.Option.{some}
 use mathlib.Core.Logic.{dite}
 use native.Mathlib.Decide.{ℕ_discrete}
 use lib.ListN.{get_elem?}
-use Rattle.sz_book.specs.Plan.{PlanData, IsPlan, count_of}
+use Rattle.sz_book_rules.specs.Plan.{PlanData, IsPlan, count_of}
 use Rattle.sz_book.specs.Lanes.{LaneData}
-use Rattle.sz_book.specs.declared.plan.Claim.{Claim}
-use Rattle.sz_book.specs.declared.event.Event.{Event}
-use Rattle.sz_book.specs.declared.event.Event.TheVariants.{Draw, Number, Died, Settle, LaneOut, LaneBack, Bad}
-use Rattle.sz_book.specs.declared.event.Reply.{Reply}
-use Rattle.sz_book.specs.declared.event.Reply.TheVariants.{Ticket, Number as Numbered, Noted, Won, Late, Lane}
-use Rattle.sz_book.specs.declared.event.Entry.{Entry}
-use Rattle.sz_book.specs.Machine.{LedgerState, opening, after, list_of, Fits}
-use Rattle.sz_book.specs.History.{state_after, IsLegalFrom, IsLegal, calls_by, Settles, HasWon, HasGiven, IsAmong, AreDistinct}
-use Rattle.sz_book.specs.Counting.{times, once, wins, win_in, winner_in}
-use Rattle.sz_book.proofs.CountLemmas.{each_shard_counts_once, times-append, noted_deaths_are_true}
-use Rattle.sz_book.proofs.StepLemmas.{HasRows, rows_open, rows_kept, either, kept_on}
+use Rattle.sz_book_rules.specs.declared.claim.Claim.{Claim}
+use Rattle.sz_book_rules.specs.declared.event.Event.{Event}
+use Rattle.sz_book_rules.specs.declared.event.Event.TheVariants.{Draw, Number, Died, Settle, LaneOut, LaneBack, Bad}
+use Rattle.sz_book_rules.specs.declared.event.Reply.{Reply}
+use Rattle.sz_book_rules.specs.declared.event.Reply.TheVariants.{Ticket, Number as Numbered, Noted, Won, Late, Lane}
+use Rattle.sz_book_rules.specs.declared.event.Entry.{Entry}
+use Rattle.sz_book_rules.specs.Machine.{LedgerState, opening, after, list_of, Fits}
+use Rattle.sz_book_rules.specs.History.{state_after, IsLegalFrom, IsLegal, calls_by, Settles, HasWon, HasGiven, IsAmong, AreDistinct}
+use Rattle.sz_book_rules.specs.Counting.{times, once, wins, win_in, winner_in}
+use Rattle.sz_book_rules.proofs.CountLemmas.{each_shard_counts_once, times-append, noted_deaths_are_true}
+use Rattle.sz_book_rules.proofs.StepLemmas.{HasRows, rows_open, rows_kept, either, kept_on}
 use Rattle.sz_claims.specs.declared.view.Account.{Account}
 use Rattle.sz_claims.specs.Rule.{lane_data}
 use Rattle.sz_claims.specs.Known.{LedgerData, PassData, AreInHand, HasJoined, IsEnd, IsClosed, IsSplit, IsJoined, ends_in}

@@ -2,16 +2,16 @@
 use Rattle.std.proofs.Common.{◌≡◌, ◌≢◌, ℕ, ◌-◌, ◌<◌, ◌≤◌, Bool, true, false, cond, nat_lt, List, [], ◌∷◌, ◌++◌, refl, ap, sym, ◌∙◌, subst, arith, Some, None}
 use Rattle.std.specs.Prelude.{slice_index}
 use Rattle.std.proofs.lemmas.List.{length-replicate}
-use Rattle.sz_book.specs.Plan.{PlanData, IsPlan, count_of}
-use Rattle.sz_book.specs.declared.plan.Claim.{Claim}
-use Rattle.sz_book.specs.declared.event.Event.{Event}
-use Rattle.sz_book.specs.declared.event.Event.TheVariants.{Draw, Number}
-use Rattle.sz_book.specs.declared.event.Reply.{Reply}
-use Rattle.sz_book.specs.declared.event.Reply.TheVariants.{Ticket, Number as Numbered}
-use Rattle.sz_book.specs.declared.event.Entry.{Entry}
-use Rattle.sz_book.specs.Machine.{LedgerState, opening, after, reply_of, claim_of, draw_reply, number_reply}
-use Rattle.sz_book.specs.History.{entry, state_after, IsLegalFrom, StartsWith, HasDrawn, HasNumber}
-use Rattle.sz_book.proofs.GrowthLemmas.{drawn_stays, given_stays, has_drawn, has_number, own_drawn, own_number}
+use Rattle.sz_book_rules.specs.Plan.{PlanData, IsPlan, count_of}
+use Rattle.sz_book_rules.specs.declared.claim.Claim.{Claim}
+use Rattle.sz_book_rules.specs.declared.event.Event.{Event}
+use Rattle.sz_book_rules.specs.declared.event.Event.TheVariants.{Draw, Number}
+use Rattle.sz_book_rules.specs.declared.event.Reply.{Reply}
+use Rattle.sz_book_rules.specs.declared.event.Reply.TheVariants.{Ticket, Number as Numbered}
+use Rattle.sz_book_rules.specs.declared.event.Entry.{Entry}
+use Rattle.sz_book_rules.specs.Machine.{LedgerState, opening, after, reply_of, claim_of, draw_reply, number_reply}
+use Rattle.sz_book_rules.specs.History.{entry, state_after, IsLegalFrom, StartsWith, HasDrawn, HasNumber}
+use Rattle.sz_book_rules.proofs.GrowthLemmas.{drawn_stays, given_stays, has_drawn, has_number, own_drawn, own_number}
 use Rattle.sz_claims.specs.Known.{LedgerData, PassData, Calls}
 use Rattle.sz_claims.proofs.ForCallers.{has_drawn_now, has_number_now}
 use Rattle.sz_workers_loop.specs.Working.{Goes, IsInPlace}

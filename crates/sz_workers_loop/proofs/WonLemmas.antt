@@ -6,19 +6,19 @@ use Rattle.std.proofs.Math.Seq.{drop-append_seam}
 use Rattle.std.proofs.lemmas.List.{append_cancel_right}
 use mathlib.Core.Logic.{dite}
 use native.Mathlib.Decide.{ℕ_discrete}
-use Rattle.sz_book.specs.Plan.{PlanData}
+use Rattle.sz_book_rules.specs.Plan.{PlanData}
 use Rattle.sz_book.specs.Lanes.{LaneData}
-use Rattle.sz_book.specs.Counting.{once}
-use Rattle.sz_book.specs.declared.plan.Claim.{Claim}
-use Rattle.sz_book.specs.declared.event.Event.{Event}
-use Rattle.sz_book.specs.declared.event.Event.TheVariants.{Settle, LaneOut, LaneBack}
-use Rattle.sz_book.specs.declared.event.Reply.{Reply}
-use Rattle.sz_book.specs.declared.event.Reply.TheVariants.{Noted, Won, Late, Lane}
-use Rattle.sz_book.specs.declared.event.Entry.{Entry}
-use Rattle.sz_book.specs.Machine.{LedgerState, opening}
-use Rattle.sz_book.specs.History.{entry, state_after, IsLegal, IsLegalFrom, calls_by, Settles, HasWon, HasGiven, IsAmong, AreDistinct, AreApart}
-use Rattle.sz_book.proofs.HistoryLemmas.{calls_own}
-use Rattle.sz_book.proofs.CountLemmas.{each_shard_counts_once}
+use Rattle.sz_book_rules.specs.Counting.{once}
+use Rattle.sz_book_rules.specs.declared.claim.Claim.{Claim}
+use Rattle.sz_book_rules.specs.declared.event.Event.{Event}
+use Rattle.sz_book_rules.specs.declared.event.Event.TheVariants.{Settle, LaneOut, LaneBack}
+use Rattle.sz_book_rules.specs.declared.event.Reply.{Reply}
+use Rattle.sz_book_rules.specs.declared.event.Reply.TheVariants.{Noted, Won, Late, Lane}
+use Rattle.sz_book_rules.specs.declared.event.Entry.{Entry}
+use Rattle.sz_book_rules.specs.Machine.{LedgerState, opening}
+use Rattle.sz_book_rules.specs.History.{entry, state_after, IsLegal, IsLegalFrom, calls_by, Settles, HasWon, HasGiven, IsAmong, AreDistinct, AreApart}
+use Rattle.sz_book_rules.proofs.HistoryLemmas.{calls_own}
+use Rattle.sz_book_rules.proofs.CountLemmas.{each_shard_counts_once}
 use Rattle.sz_claims.specs.Known.{LedgerData, PassData, Calls, CallsWith, IsLent, MayGive, further_in, AreInHand}
 use Rattle.sz_claims.proofs.ForCallers.{in_hand_now, in_hand_still, none_in_hand, fits_lane, has_lane, may_give}
 use Rattle.sz_claims.proofs.UnplacedLemmas.{are_unplaced}

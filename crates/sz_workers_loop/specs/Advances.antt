@@ -1,12 +1,12 @@
 -- What the further calls of a worker do for the tickets that they draw.
 use Rattle.std.specs.Prelude.{◌≡◌, ◌⊎◌, ℕ, List, [], ◌∷◌, ◌++◌, None}
-use Rattle.sz_book.specs.Plan.{PlanData}
-use Rattle.sz_book.specs.declared.event.Event.{Event}
-use Rattle.sz_book.specs.declared.event.Event.TheVariants.{Draw, Settle}
-use Rattle.sz_book.specs.declared.event.Reply.TheVariants.{Ticket}
-use Rattle.sz_book.specs.declared.event.Entry.{Entry}
-use Rattle.sz_book.specs.History.{entry, IsTrueReport}
-use Rattle.sz_book.specs.Orderly.{Phase, undrawn, ended, phase_of, IsOrderly}
+use Rattle.sz_book_rules.specs.Plan.{PlanData}
+use Rattle.sz_book_rules.specs.declared.event.Event.{Event}
+use Rattle.sz_book_rules.specs.declared.event.Event.TheVariants.{Draw, Settle}
+use Rattle.sz_book_rules.specs.declared.event.Reply.TheVariants.{Ticket}
+use Rattle.sz_book_rules.specs.declared.event.Entry.{Entry}
+use Rattle.sz_book_rules.specs.History.{entry, IsTrueReport}
+use Rattle.sz_book_rules.specs.Orderly.{Phase, undrawn, ended, phase_of, IsOrderly}
 use Rattle.sz_claims.specs.Known.{PassData}
 use Rattle.sz_workers_loop.specs.Makers.{GivesEmits}
 

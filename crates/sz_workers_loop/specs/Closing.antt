@@ -1,10 +1,10 @@
 -- What the workers of a ledger leave together, once all are done.
 use Rattle.std.specs.Prelude.{◌≡◌, ◌⊎◌, ℕ, suc, ◌+◌, ◌<◌, List, [], ◌∷◌, ◌++◌, length, slice_index, Result, IfOk}
 use Rattle.std.specs.Int.{bit_at}
-use Rattle.sz_book.specs.Plan.{PlanData, IsPlan}
+use Rattle.sz_book_rules.specs.Plan.{PlanData, IsPlan}
 use Rattle.sz_book.specs.Lanes.{LaneData}
-use Rattle.sz_book.specs.declared.event.Entry.{Entry}
-use Rattle.sz_book.specs.History.{HasWon, HasGiven, IsAmong, AreDistinct}
+use Rattle.sz_book_rules.specs.declared.event.Entry.{Entry}
+use Rattle.sz_book_rules.specs.History.{HasWon, HasGiven, IsAmong, AreDistinct}
 use Rattle.sz_claims.specs.declared.view.Account.{Account}
 use Rattle.sz_claims.specs.Known.{LedgerData, PassData, AreInHand}
 

@@ -1,10 +1,10 @@
 -- What the calls of several callers are together.
 use Rattle.std.specs.Prelude.{◌≡◌, ℕ, ◌<◌, List}
-use Rattle.sz_book.specs.Plan.{PlanData}
-use Rattle.sz_book.specs.declared.event.Entry.{Entry}
-use Rattle.sz_book.specs.History.{IsLegal, calls_by}
-use Rattle.sz_book.specs.Orderly.{Phase, ended, phase_of, IsOrderly}
-use Rattle.sz_book.specs.Counting.{left_by}
+use Rattle.sz_book_rules.specs.Plan.{PlanData}
+use Rattle.sz_book_rules.specs.declared.event.Entry.{Entry}
+use Rattle.sz_book_rules.specs.History.{IsLegal, calls_by}
+use Rattle.sz_book_rules.specs.Orderly.{Phase, ended, phase_of, IsOrderly}
+use Rattle.sz_book_rules.specs.Counting.{left_by}
 use Rattle.sz_workers_loop.specs.Advances.{NoneOnItsWay}
 
 -- where the calls of each caller come in order and leave no ticket on its way, so do the calls of all together, and each ticket that was

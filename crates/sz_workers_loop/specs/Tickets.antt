@@ -1,10 +1,10 @@
 -- What the calls on one ticket do, and what is known between two tickets.
 use Rattle.std.specs.Prelude.{◌≡◌, ◌⊎◌, ℕ, ◌<◌, Bool, true, false, List, ◌++◌, length, slice_set}
-use Rattle.sz_book.specs.Plan.{PlanData, count_of}
-use Rattle.sz_book.specs.declared.plan.Claim.{Claim}
-use Rattle.sz_book.specs.declared.event.Entry.{Entry}
-use Rattle.sz_book.specs.History.{HasDrawn}
-use Rattle.sz_book.specs.Orderly.{Phase, undrawn, asks, ended, phase_of, TurnsAll}
+use Rattle.sz_book_rules.specs.Plan.{PlanData, count_of}
+use Rattle.sz_book_rules.specs.declared.claim.Claim.{Claim}
+use Rattle.sz_book_rules.specs.declared.event.Entry.{Entry}
+use Rattle.sz_book_rules.specs.History.{HasDrawn}
+use Rattle.sz_book_rules.specs.Orderly.{Phase, undrawn, asks, ended, phase_of, TurnsAll}
 use Rattle.sz_claims.specs.Known.{PassData}
 use Rattle.sz_workers_loop.specs.Working.{Goes, IsInPlace}
 use Rattle.sz_workers_loop.specs.Advances.{AllTellTruth, HasBegun}

@@ -1,8 +1,8 @@
 -- What a worker knows of its pass and of its pocket.
 use Rattle.std.specs.Prelude.{◌≡◌, ◌⊎◌, ℕ, List, [], ◌∷◌, ◌++◌, Result, Ok, Err}
-use Rattle.sz_book.specs.Plan.{IsPlan}
+use Rattle.sz_book_rules.specs.Plan.{IsPlan}
 use Rattle.sz_book.specs.Lanes.{LaneData}
-use Rattle.sz_book.specs.History.{IsLegal, calls_by, StartsWith, HasWon, HasGiven, IsAmong}
+use Rattle.sz_book_rules.specs.History.{IsLegal, calls_by, StartsWith, HasWon, HasGiven, IsAmong}
 use Rattle.sz_claims.specs.Known.{PassData, AreInHand}
 
 -- what a pass saw is a beginning of what it then has seen, and it is of the same ledger and keeps its lane

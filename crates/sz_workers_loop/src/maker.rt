@@ -1,6 +1,6 @@
 //! Who makes attempts.
 ghost use Rattle.std.specs.Prelude.{◌≡◌, ◌<◌, [], ◌∷◌, IfOk, OnOk, IfErr};
-ghost use Rattle.sz_book.specs.Plan.{PlanData};
+ghost use Rattle.sz_book_rules.specs.Plan.{PlanData};
 ghost use Rattle.sz_book.specs.Books.{IsClaim};
 ghost use Rattle.sz_workers_loop.specs.Makers.{IsTrueMiss, GivesEmits};
 

@@ -1,7 +1,7 @@
 //! The work of one worker.
 ghost use Rattle.std.specs.Prelude.{◌≡◌, ◌<◌, [], ◌∷◌, IfOk, OnOk, OnErr};
-ghost use Rattle.sz_book.specs.History.{HasDrawn, HasNumber, IsAmong};
-ghost use Rattle.sz_book.specs.Orderly.{asks, tries, ended};
+ghost use Rattle.sz_book_rules.specs.History.{HasDrawn, HasNumber, IsAmong};
+ghost use Rattle.sz_book_rules.specs.Orderly.{asks, tries, ended};
 ghost use Rattle.sz_claims.specs.Known.{AreInHand};
 ghost use Rattle.sz_workers_loop.specs.Makers.{GivesEmits};
 ghost use Rattle.sz_workers_loop.specs.Working.{Goes, IsInPlace, Grows, HasAllWon, IsAtWork, longer_by, added_by};

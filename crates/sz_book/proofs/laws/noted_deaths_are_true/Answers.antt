@@ -1,4 +1,4 @@
-use Rattle.sz_book.proofs.CountLemmas as counts
+use Rattle.sz_book_rules.proofs.CountLemmas as counts
 use Rattle.sz_book.proofs.laws.noted_deaths_are_true.Goals as goal
 
 pub returns : goal.returns

@@ -1,5 +1,5 @@
 use Rattle.std.proofs.Common.{take}
-use Rattle.sz_book.specs.Machine.{AreUnplaced}
+use Rattle.sz_book_rules.specs.Machine.{AreUnplaced}
 use Rattle.sz_book.proofs.machine.are_unplaced.Given as goal
 
 -- the shards so far are unplaced

@@ -1,5 +1,5 @@
 use Rattle.std.proofs.Common.{◌≡◌, drop}
-use Rattle.sz_book.specs.Machine.{placed, AreUnplaced}
+use Rattle.sz_book_rules.specs.Machine.{placed, AreUnplaced}
 use Rattle.sz_book.proofs.machine.place.Given as goal
 
 -- the shards that are left may be placed, and lead to the same marks

@@ -1,7 +1,7 @@
 use Rattle.std.proofs.Common.{ℕ, ◌<◌, bit_or, sym, subst, arith}
 use Rattle.std.proofs.lemmas.Nat.{one_shl}
-use Rattle.sz_book.specs.declared.event.Event.TheVariants.{Died}
-use Rattle.sz_book.specs.declared.event.Reply.TheVariants.{Noted}
+use Rattle.sz_book_rules.specs.declared.event.Event.TheVariants.{Died}
+use Rattle.sz_book_rules.specs.declared.event.Reply.TheVariants.{Noted}
 use Rattle.sz_claims.specs.Rule.{deaths_at}
 use Rattle.sz_claims.specs.Moves.{Moves}
 use Rattle.sz_claims.proofs.ShardLemmas.{died_moves}

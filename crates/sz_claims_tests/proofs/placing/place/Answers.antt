@@ -1,7 +1,7 @@
 use Rattle.std.proofs.Common.{◌+◌, [], ◌∷◌, true, ap, sym, ◌∙◌, subst}
-use Rattle.sz_book.specs.Plan.{IsPlan}
-use Rattle.sz_book.specs.declared.event.Event.TheVariants.{LaneOut}
-use Rattle.sz_book.specs.declared.event.Reply.TheVariants.{Lane}
+use Rattle.sz_book_rules.specs.Plan.{IsPlan}
+use Rattle.sz_book_rules.specs.declared.event.Event.TheVariants.{LaneOut}
+use Rattle.sz_book_rules.specs.declared.event.Reply.TheVariants.{Lane}
 use Rattle.sz_claims.proofs.ForCallers.{fits_lane, has_lane, may_give, in_hand_still}
 use Rattle.sz_claims_tests.proofs.placing.place.Goals as goal
 

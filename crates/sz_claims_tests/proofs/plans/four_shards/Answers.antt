@@ -1,5 +1,5 @@
 use Rattle.std.proofs.Common.{List, ℕ, sym, subst}
-use Rattle.sz_book.specs.Plan.{IsPlan}
+use Rattle.sz_book_rules.specs.Plan.{IsPlan}
 use Rattle.sz_claims_tests.proofs.SmallPlans as plans
 use Rattle.sz_claims_tests.proofs.plans.four_shards.Goals as goal
 

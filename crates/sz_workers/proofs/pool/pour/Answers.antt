@@ -1,6 +1,6 @@
 use Rattle.std.proofs.Common.{◌++◌, List, ℕ, ap, sym, ◌∙◌, subst}
 use Rattle.std.proofs.lemmas.Result.{on_ok_weaker}
-use Rattle.sz_book.specs.History.{AreApart}
+use Rattle.sz_book_rules.specs.History.{AreApart}
 use Rattle.sz_workers.specs.Parts.{HoldsShards}
 use Rattle.sz_workers.proofs.pool.pour.Goals as goal
 

@@ -2,7 +2,7 @@ use Rattle.std.proofs.Common.{◌+◌, ap, sym, ◌∙◌, subst}
 use Rattle.std.specs.Prelude.{IfOk, ℕ}
 use Rattle.sz_attempt.specs.declared.job.Job.{Job}
 use Rattle.sz_mean.specs.Marked.{all_tables}
-use Rattle.sz_book.specs.Plan.{PlanData, IsPlan}
+use Rattle.sz_book_rules.specs.Plan.{PlanData, IsPlan}
 use Rattle.sz_rounds.specs.Rounds.{shards_of}
 use Rattle.sz_claims.specs.Known.{AreEmpty}
 use Rattle.sz_workers_loop.specs.Closing.{IsAlone, IsLeft}

@@ -1,6 +1,6 @@
 use Rattle.std.proofs.Common.{◌++◌, List, ℕ, ap, sym, ◌∙◌, subst}
 use Rattle.sz_book.specs.Lanes.{LaneData}
-use Rattle.sz_book.specs.History.{AreDistinct}
+use Rattle.sz_book_rules.specs.History.{AreDistinct}
 use Rattle.sz_workers_loop.specs.Closing.{shards_in}
 use Rattle.sz_attempt.specs.declared.job.Job.{Job}
 use Rattle.sz_mean.specs.Marked.{all_tables}

@@ -4,7 +4,7 @@ use Rattle.sz_attempt.specs.Shards.{IsJob}
 use Rattle.sz_rounds.specs.Rounds.{IsRound}
 use Rattle.sz_mean.specs.Marked.{all_tables}
 use Rattle.sz_book.specs.Lanes.{LaneData}
-use Rattle.sz_book.specs.Plan.{IsPlan}
+use Rattle.sz_book_rules.specs.Plan.{IsPlan}
 use Rattle.sz_claims.specs.Known.{LedgerData}
 use Rattle.sz_workers_loop.proofs.CallLemmas.{goes_self}
 use Rattle.sz_workers.proofs.StartLemmas.{begins_work, in_place, not_begun, err_any, is_pocket}

@@ -1,6 +1,6 @@
 use Rattle.std.proofs.Common.{[], ◌∷◌, ap, sym, subst}
-use Rattle.sz_book.specs.declared.event.Event.TheVariants.{Settle}
-use Rattle.sz_book.specs.declared.event.Reply.TheVariants.{Late}
+use Rattle.sz_book_rules.specs.declared.event.Event.TheVariants.{Settle}
+use Rattle.sz_book_rules.specs.declared.event.Reply.TheVariants.{Late}
 use Rattle.sz_workers_loop.specs.Working.{IsAtWork, longer_by}
 use Rattle.sz_workers_loop.proofs.AdvanceLemmas.{leads_kept}
 use Rattle.sz_workers_loop.proofs.WonLemmas.{hand_still, all_still, at_work_won, late_not_won}

@@ -1,8 +1,8 @@
 use Rattle.std.proofs.Common.{◌<◌, ap, sym, ◌∙◌, subst}
-use Rattle.sz_book.specs.Plan.{PlanData}
-use Rattle.sz_book.specs.declared.event.Event.TheVariants.{Died, Bad}
-use Rattle.sz_book.specs.declared.event.Reply.TheVariants.{Noted}
-use Rattle.sz_book.specs.Orderly.{tries}
+use Rattle.sz_book_rules.specs.Plan.{PlanData}
+use Rattle.sz_book_rules.specs.declared.event.Event.TheVariants.{Died, Bad}
+use Rattle.sz_book_rules.specs.declared.event.Reply.TheVariants.{Noted}
+use Rattle.sz_book_rules.specs.Orderly.{tries}
 use Rattle.sz_claims.specs.Known.{LedgerData}
 use Rattle.sz_workers_loop.specs.Makers.{IsTrueMiss}
 use Rattle.sz_workers_loop.proofs.CallLemmas.{is_claim, claims_shard, numbers_low}

@@ -1,8 +1,8 @@
 use Rattle.std.proofs.Common.{Bool, Some, None, ◌∙◌, subst}
 use Rattle.std.proofs.lemmas.Result.{err_from_is_err_and}
-use Rattle.sz_book.specs.declared.event.Event.TheVariants.{Number}
-use Rattle.sz_book.specs.declared.event.Reply.TheVariants.{Number as Numbered}
-use Rattle.sz_book.specs.Orderly.{asks, tries, ended}
+use Rattle.sz_book_rules.specs.declared.event.Event.TheVariants.{Number}
+use Rattle.sz_book_rules.specs.declared.event.Reply.TheVariants.{Number as Numbered}
+use Rattle.sz_book_rules.specs.Orderly.{asks, tries, ended}
 use Rattle.sz_claims.proofs.ForCallers.{has_drawn_still, has_number_now}
 use Rattle.sz_workers_loop.specs.Tickets.{Leads, phase_after}
 use Rattle.sz_workers_loop.proofs.CallLemmas.{drawn_since}

@@ -1,6 +1,6 @@
 use Rattle.std.specs.Prelude.{◌≡◌}
-use Rattle.sz_book.specs.History.{HasDrawn}
-use Rattle.sz_book.specs.Orderly.{asks}
+use Rattle.sz_book_rules.specs.History.{HasDrawn}
+use Rattle.sz_book_rules.specs.Orderly.{asks}
 use Rattle.sz_workers_loop.specs.Working.{Grows, IsAtWork}
 use Rattle.sz_workers_loop.specs.Tickets.{Leads}
 use Rattle.sz_workers_loop.proofs.LeftLemmas.{numbers_left}

@@ -1,7 +1,7 @@
 use Rattle.std.proofs.Common.{Some, None, refl, ap, ◌∙◌}
 use Rattle.std.proofs.lemmas.Result.{err_from_is_err_and}
-use Rattle.sz_book.specs.declared.event.Event.TheVariants.{Draw}
-use Rattle.sz_book.specs.declared.event.Reply.TheVariants.{Ticket}
+use Rattle.sz_book_rules.specs.declared.event.Event.TheVariants.{Draw}
+use Rattle.sz_book_rules.specs.declared.event.Reply.TheVariants.{Ticket}
 use Rattle.sz_claims.specs.Known.{LedgerData}
 use Rattle.sz_claims.proofs.ForCallers.{has_drawn_now}
 use Rattle.sz_workers_loop.proofs.LeftLemmas.{fewer_tickets}

@@ -1,5 +1,5 @@
 use Rattle.std.proofs.Common.{◌≡◌, ◌++◌, ap, sym, ◌∙◌, subst}
-use Rattle.sz_book.specs.History.{IsAmong, AreApart}
+use Rattle.sz_book_rules.specs.History.{IsAmong, AreApart}
 use Rattle.sz_book.proofs.lane.Lane.merge.Goals as goal
 
 pub absorb-requires-clause-apart : goal.absorb-requires-clause-apart

@@ -1,5 +1,5 @@
 use Rattle.std.proofs.Common.{ap, sym, subst, refl, slice_set}
-use Rattle.sz_book.specs.Machine.{IsReturned}
+use Rattle.sz_book_rules.specs.Machine.{IsReturned}
 use Rattle.sz_book.specs.Cores.{CoreData, ReservedData}
 use Rattle.sz_book.proofs.CoreLemmas.{gives_back}
 use Rattle.sz_book.proofs.RoomLemmas.{back_room, back_lists, back_kept}

@@ -1,6 +1,6 @@
 use Rattle.std.proofs.Common.{arith, sym, subst}
 use Rattle.std.proofs.lemmas.Option.{get_or_from_slice_get}
-use Rattle.sz_book.specs.Machine.{IsDrawn}
+use Rattle.sz_book_rules.specs.Machine.{IsDrawn}
 use Rattle.sz_book.specs.Cores.{CoreData}
 use Rattle.sz_book.proofs.TakingLemmas.{number_none, number_some}
 use Rattle.sz_book.proofs.machine.Core.number.Goals as goal

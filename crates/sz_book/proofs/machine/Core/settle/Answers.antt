@@ -1,8 +1,8 @@
 use Rattle.std.proofs.Common.{◌∙◌, sym, subst}
 use Rattle.std.proofs.lemmas.Option.{get_or_from_slice_get}
-use Rattle.sz_book.specs.Machine.{IsTried}
+use Rattle.sz_book_rules.specs.Machine.{IsTried}
 use Rattle.sz_book.specs.Cores.{CoreData}
-use Rattle.sz_book.proofs.StepLemmas.{shard_within}
+use Rattle.sz_book_rules.proofs.StepLemmas.{shard_within}
 use Rattle.sz_book.proofs.RoomLemmas.{sound_won}
 use Rattle.sz_book.proofs.TakingLemmas.{settle_won}
 use Rattle.sz_book.proofs.machine.Core.settle.Goals as goal

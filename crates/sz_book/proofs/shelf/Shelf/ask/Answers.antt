@@ -1,5 +1,5 @@
 use Rattle.std.proofs.Common.{[], sym, subst}
-use Rattle.sz_book.specs.Machine.{LedgerState}
+use Rattle.sz_book_rules.specs.Machine.{LedgerState}
 use Rattle.sz_book.specs.Books.{AreInPlace}
 use Rattle.sz_book.proofs.ShelfLemmas.{in_place_asked}
 use Rattle.sz_book.proofs.shelf.Shelf.ask.Goals as goal

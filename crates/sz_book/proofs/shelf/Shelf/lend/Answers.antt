@@ -1,5 +1,5 @@
 use Rattle.std.proofs.Common.{◌∙◌, true, sym, ap}
-use Rattle.sz_book.specs.declared.event.Reply.TheVariants.{Lane}
+use Rattle.sz_book_rules.specs.declared.event.Reply.TheVariants.{Lane}
 use Rattle.sz_book.proofs.ShelfLemmas.{home_by, in_place_lent}
 use Rattle.sz_book.proofs.shelf.Shelf.lend.Goals as goal
 

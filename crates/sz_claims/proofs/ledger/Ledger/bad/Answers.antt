@@ -1,6 +1,6 @@
 use Rattle.std.proofs.Common.{◌≡◌, ℕ, ◌+◌, ◌*◌, min, ap, sym, ◌∙◌, subst, refl, arith}
-use Rattle.sz_book.specs.declared.event.Event.TheVariants.{Bad}
-use Rattle.sz_book.specs.declared.event.Reply.TheVariants.{Noted}
+use Rattle.sz_book_rules.specs.declared.event.Event.TheVariants.{Bad}
+use Rattle.sz_book_rules.specs.declared.event.Reply.TheVariants.{Noted}
 use Rattle.sz_claims.specs.Moves.{Moves}
 use Rattle.sz_claims.proofs.SoundLemmas.{sound_quiet}
 use Rattle.sz_claims.proofs.ShardLemmas.{bad_moves}

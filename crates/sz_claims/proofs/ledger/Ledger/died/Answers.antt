@@ -1,6 +1,6 @@
 use Rattle.std.proofs.Common.{sym, subst, refl, arith}
 use Rattle.sz_claims.proofs.SoundLemmas.{one_ledger, in_plan, in_attempts, sound_quiet}
-use Rattle.sz_book.specs.History.{HasDrawn, HasNumber}
+use Rattle.sz_book_rules.specs.History.{HasDrawn, HasNumber}
 use Rattle.sz_claims.proofs.ledger.Ledger.died.Goals as goal
 
 pub death-requires-clause-table : goal.death-requires-clause-table

@@ -1,5 +1,5 @@
 use Rattle.std.proofs.Common.{◌||◌, ap, sym, ◌∙◌}
-use Rattle.sz_book.specs.Machine.{draw_reply}
+use Rattle.sz_book_rules.specs.Machine.{draw_reply}
 use Rattle.sz_claims.proofs.SoundLemmas.{sound_draw, none_is}
 use Rattle.sz_claims.proofs.ledger.Ledger.draw.Goals as goal
 

@@ -2,9 +2,9 @@ use Rattle.std.proofs.Common.{◌≡◌, ◌||◌, ap, sym, ◌∙◌, subst, ar
 use Rattle.std.specs.Prelude.{slice_index_or}
 use Rattle.sz_claims.specs.Rule.{bit}
 use Rattle.sz_claims.proofs.SoundLemmas.{one_ledger, in_plan, sound_number, in_marks, one_default, none_is}
-use Rattle.sz_book.specs.History.{HasDrawn}
+use Rattle.sz_book_rules.specs.History.{HasDrawn}
 use Rattle.sz_claims.proofs.ledger.Ledger.number.Goals as goal
-use Rattle.sz_book.specs.Machine.{number_reply}
+use Rattle.sz_book_rules.specs.Machine.{number_reply}
 
 pub index-before-requires : goal.index-before-requires
 index-before-requires g c =

@@ -1,6 +1,6 @@
 use Rattle.std.proofs.Common.{sym, subst, refl, arith}
-use Rattle.sz_book.specs.Plan.{IsPlan}
-use Rattle.sz_book.specs.History.{HasDrawn}
+use Rattle.sz_book_rules.specs.Plan.{IsPlan}
+use Rattle.sz_book_rules.specs.History.{HasDrawn}
 use Rattle.sz_claims.proofs.ShardLemmas.{late_low}
 use Rattle.sz_claims.proofs.SoundLemmas.{one_ledger, in_plan, sound_quiet}
 use Rattle.sz_claims.proofs.ledger.Ledger.settle.Goals as goal

@@ -5,19 +5,19 @@ use Rattle.std.specs.Int.{bit_at}
 use Rattle.std.proofs.lemmas.Bool.{eqb-true, eqb-false, ltb-false}
 use Rattle.std.proofs.lemmas.List.{get_or-set_same, get_or-set_other, length-replicate}
 use Rattle.std.proofs.lemmas.Nat.Bits.{bit_at_or, bit_at-pow_same, bit_at-lt}
-use Rattle.sz_book.specs.Plan.{PlanData, IsPlan, count_of, tickets_of}
-use Rattle.sz_book.specs.declared.plan.Claim.{Claim}
-use Rattle.sz_book.specs.declared.event.Event.{Event}
-use Rattle.sz_book.specs.declared.event.Event.TheVariants.{Draw, Number, Died, Settle, LaneOut, LaneBack, Bad}
-use Rattle.sz_book.specs.declared.event.Reply.{Reply}
-use Rattle.sz_book.specs.declared.event.Reply.TheVariants.{Ticket, Number as Numbered, Won, Late}
-use Rattle.sz_book.specs.declared.event.Entry.{Entry}
-use Rattle.sz_book.specs.Machine.{LedgerState, opening, after, reply_of, claim_of, Fits, IsDrawn}
-use Rattle.sz_book.specs.History.{state_after, IsLegalFrom}
-use Rattle.sz_book.specs.Orderly.{Phase, undrawn, asks, tries, ended, phase_of, Goes, GivesUp, Turns, TurnsAll, Marks, HasBad}
-use Rattle.sz_book.specs.Counting.{left_by, EachShardIsDecided}
-use Rattle.sz_book.proofs.CountLemmas.{no_number}
-use Rattle.sz_book.proofs.StepLemmas.{HasRows, rows_open, rows_kept, either, shard_within, set_here, set_there}
+use Rattle.sz_book_rules.specs.Plan.{PlanData, IsPlan, count_of, tickets_of}
+use Rattle.sz_book_rules.specs.declared.claim.Claim.{Claim}
+use Rattle.sz_book_rules.specs.declared.event.Event.{Event}
+use Rattle.sz_book_rules.specs.declared.event.Event.TheVariants.{Draw, Number, Died, Settle, LaneOut, LaneBack, Bad}
+use Rattle.sz_book_rules.specs.declared.event.Reply.{Reply}
+use Rattle.sz_book_rules.specs.declared.event.Reply.TheVariants.{Ticket, Number as Numbered, Won, Late}
+use Rattle.sz_book_rules.specs.declared.event.Entry.{Entry}
+use Rattle.sz_book_rules.specs.Machine.{LedgerState, opening, after, reply_of, claim_of, Fits, IsDrawn}
+use Rattle.sz_book_rules.specs.History.{state_after, IsLegalFrom}
+use Rattle.sz_book_rules.specs.Orderly.{Phase, undrawn, asks, tries, ended, phase_of, Goes, GivesUp, Turns, TurnsAll, Marks, HasBad}
+use Rattle.sz_book_rules.specs.Counting.{left_by, EachShardIsDecided}
+use Rattle.sz_book_rules.proofs.CountLemmas.{no_number}
+use Rattle.sz_book_rules.proofs.StepLemmas.{HasRows, rows_open, rows_kept, either, shard_within, set_here, set_there}
 
 -- a ticket of shard s has number k, and reported nothing of it yet
 record Tries (p : PlanData) (phases : List Phase) (s k : ℕ) : Type 0 where

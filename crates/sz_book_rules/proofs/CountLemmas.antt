@@ -7,17 +7,17 @@ use Rattle.std.proofs.lemmas.Bool.{eqb-true, eqb-false}
 use Rattle.std.proofs.lemmas.List.{append-nil}
 use Rattle.std.proofs.lemmas.List.Sums.{sum_by-set, sum_by-cons}
 use Rattle.std.proofs.lemmas.Nat.Bits.{bit_at_or, bit_at-pow_other, bit_at-zero}
-use Rattle.sz_book.specs.Plan.{PlanData, IsPlan, count_of}
-use Rattle.sz_book.specs.declared.plan.Claim.{Claim}
-use Rattle.sz_book.specs.declared.event.Event.{Event}
-use Rattle.sz_book.specs.declared.event.Event.TheVariants.{Draw, Number, Died, Settle, LaneOut, LaneBack, Bad}
-use Rattle.sz_book.specs.declared.event.Reply.{Reply}
-use Rattle.sz_book.specs.declared.event.Reply.TheVariants.{Ticket, Number as Numbered, Won, Late}
-use Rattle.sz_book.specs.declared.event.Entry.{Entry}
-use Rattle.sz_book.specs.Machine.{LedgerState, opening, after, reply_of, Fits, placed, AreUnplaced, list_of, claim_of}
-use Rattle.sz_book.specs.History.{state_after, IsLegalFrom, IsTrueReport, AreTrueReports}
-use Rattle.sz_book.specs.Counting.{ticket_in, number_in, win_in, winner_in, wins, times, once, times_anywhere, left_by, EachShardCountsOnce, TheWinnerStays, NotedDeathsAreTrue}
-use Rattle.sz_book.proofs.StepLemmas.{HasRows, rows_open, rows_kept, either, shard_within, set_here, set_there, kept_on}
+use Rattle.sz_book_rules.specs.Plan.{PlanData, IsPlan, count_of}
+use Rattle.sz_book_rules.specs.declared.claim.Claim.{Claim}
+use Rattle.sz_book_rules.specs.declared.event.Event.{Event}
+use Rattle.sz_book_rules.specs.declared.event.Event.TheVariants.{Draw, Number, Died, Settle, LaneOut, LaneBack, Bad}
+use Rattle.sz_book_rules.specs.declared.event.Reply.{Reply}
+use Rattle.sz_book_rules.specs.declared.event.Reply.TheVariants.{Ticket, Number as Numbered, Won, Late}
+use Rattle.sz_book_rules.specs.declared.event.Entry.{Entry}
+use Rattle.sz_book_rules.specs.Machine.{LedgerState, opening, after, reply_of, Fits, placed, AreUnplaced, list_of, claim_of}
+use Rattle.sz_book_rules.specs.History.{state_after, IsLegalFrom, IsTrueReport, AreTrueReports}
+use Rattle.sz_book_rules.specs.Counting.{ticket_in, number_in, win_in, winner_in, wins, times, once, times_anywhere, left_by, EachShardCountsOnce, TheWinnerStays, NotedDeathsAreTrue}
+use Rattle.sz_book_rules.proofs.StepLemmas.{HasRows, rows_open, rows_kept, either, shard_within, set_here, set_there, kept_on}
 
 -- nothing was found and the count stays, or the count was found and is one more
 abbrev Counted : Option ℕ → ℕ → ℕ → Type 0

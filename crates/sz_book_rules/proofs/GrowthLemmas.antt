@@ -2,15 +2,15 @@
 use Rattle.std.proofs.Common.{◌≡◌, ℕ, zero, suc, ◌+◌, ◌<◌, ◌≤◌, ◌==◌, Bool, true, false, cond, nat_lt, List, [], ◌∷◌, set, length, refl, ap, sym, ◌∙◌, subst, inl, inr, ⊎_elim, le_refl, le_trans, arith, Some, None, length-set, ltb-true}
 use Rattle.std.specs.Prelude.{slice_index}
 use Rattle.std.proofs.lemmas.List.{get_or-set_same}
-use Rattle.sz_book.specs.Plan.{PlanData}
-use Rattle.sz_book.specs.declared.plan.Claim.{Claim}
-use Rattle.sz_book.specs.declared.event.Event.{Event}
-use Rattle.sz_book.specs.declared.event.Event.TheVariants.{Draw, Number, Died, Settle, LaneOut, LaneBack, Bad}
-use Rattle.sz_book.specs.declared.event.Reply.TheVariants.{Ticket, Number as Numbered}
-use Rattle.sz_book.specs.declared.event.Entry.{Entry}
-use Rattle.sz_book.specs.Plan.{IsPlan, count_of}
-use Rattle.sz_book.specs.Machine.{LedgerState, after, reply_of, Fits, IsDrawn, claim_of, draw_reply, number_reply}
-use Rattle.sz_book.specs.History.{state_after, IsLegalFrom, calls_by, HasDrawn, HasNumber}
+use Rattle.sz_book_rules.specs.Plan.{PlanData}
+use Rattle.sz_book_rules.specs.declared.claim.Claim.{Claim}
+use Rattle.sz_book_rules.specs.declared.event.Event.{Event}
+use Rattle.sz_book_rules.specs.declared.event.Event.TheVariants.{Draw, Number, Died, Settle, LaneOut, LaneBack, Bad}
+use Rattle.sz_book_rules.specs.declared.event.Reply.TheVariants.{Ticket, Number as Numbered}
+use Rattle.sz_book_rules.specs.declared.event.Entry.{Entry}
+use Rattle.sz_book_rules.specs.Plan.{IsPlan, count_of}
+use Rattle.sz_book_rules.specs.Machine.{LedgerState, after, reply_of, Fits, IsDrawn, claim_of, draw_reply, number_reply}
+use Rattle.sz_book_rules.specs.History.{state_after, IsLegalFrom, calls_by, HasDrawn, HasNumber}
 
 -- one of two stands
 either_drawn : (b : Bool) (m : ℕ) (x y : LedgerState) → m ≤ x.drawn → m ≤ y.drawn → m ≤ (cond b x y).drawn

@@ -1,5 +1,5 @@
 //! What a ledger is asked, and what it answers.
-use crate::plan::Claim;
+use crate::claim::Claim;
 use std::collections::LinkedList;
 
 /// What a caller asks of a ledger, or reports to it.

@@ -1,9 +1,9 @@
 -- A history with one more call, and the calls of one pass in it.
 use Rattle.std.proofs.Common.{◌≡◌, ◌≢◌, ℕ, ◌==◌, Bool, true, false, cond, List, [], ◌∷◌, ◌++◌, refl, ap, sym, ◌∙◌, append_assoc, eq-eqb, ne_eqb}
-use Rattle.sz_book.specs.Plan.{PlanData}
-use Rattle.sz_book.specs.declared.event.Entry.{Entry}
-use Rattle.sz_book.specs.Machine.{LedgerState, opening, after, reply_of, Fits}
-use Rattle.sz_book.specs.History.{state_after, IsLegalFrom, IsLegal, calls_by, StartsWith, IsTrueReport, AreTrueReports}
+use Rattle.sz_book_rules.specs.Plan.{PlanData}
+use Rattle.sz_book_rules.specs.declared.event.Entry.{Entry}
+use Rattle.sz_book_rules.specs.Machine.{LedgerState, opening, after, reply_of, Fits}
+use Rattle.sz_book_rules.specs.History.{state_after, IsLegalFrom, IsLegal, calls_by, StartsWith, IsTrueReport, AreTrueReports}
 
 pub state_after-snoc : (p : PlanData) (x : LedgerState) (es : List Entry) (e : Entry)
     → state_after p x (es ++ e ∷ []) ≡ after p (state_after p x es) e.by e.event e.shards

@@ -2,17 +2,17 @@
 use Rattle.std.specs.Prelude.{◌≡◌, ℕ, zero, suc, ◌+◌, ◌<◌, ◌≤◌, ◌==◌, if◌then◌else◌, List, [], ◌∷◌, ◌++◌, slice_index, Option, Some, None}
 use Rattle.std.specs.Int.{bit_at}
 use Rattle.std.specs.List.{filter_map, range_with_len, sum_by}
-use Rattle.sz_book.specs.Plan.{PlanData, IsPlan, count_of}
-use Rattle.sz_book.specs.declared.event.Event.{Event}
-use Rattle.sz_book.specs.declared.event.Event.TheVariants.{Number, Settle}
-use Rattle.sz_book.specs.declared.event.Reply.{Reply}
-use Rattle.sz_book.specs.declared.event.Reply.TheVariants.{Ticket, Number as Numbered, Won}
-use Rattle.sz_book.specs.declared.event.Entry.{Entry}
-use Rattle.sz_book.specs.Machine.{LedgerState, opening}
-use Rattle.sz_book.specs.History.{state_after, IsLegal, AreTrueReports}
-use Rattle.sz_book.specs.Orderly.{Phase, IsOrderly, HaveEnded}
+use Rattle.sz_book_rules.specs.Plan.{PlanData, IsPlan, count_of}
+use Rattle.sz_book_rules.specs.declared.event.Event.{Event}
+use Rattle.sz_book_rules.specs.declared.event.Event.TheVariants.{Number, Settle}
+use Rattle.sz_book_rules.specs.declared.event.Reply.{Reply}
+use Rattle.sz_book_rules.specs.declared.event.Reply.TheVariants.{Ticket, Number as Numbered, Won}
+use Rattle.sz_book_rules.specs.declared.event.Entry.{Entry}
+use Rattle.sz_book_rules.specs.Machine.{LedgerState, opening}
+use Rattle.sz_book_rules.specs.History.{state_after, IsLegal, AreTrueReports}
+use Rattle.sz_book_rules.specs.Orderly.{Phase, IsOrderly, HaveEnded}
 -- how often shard s stands in a list
-pub use Rattle.sz_book.specs.Plan.{tickets_of as times}
+pub use Rattle.sz_book_rules.specs.Plan.{tickets_of as times}
 
 -- the ticket that a reply gives
 abbrev pub ticket_in : Reply → Option ℕ

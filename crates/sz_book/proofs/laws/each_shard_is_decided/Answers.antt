@@ -1,5 +1,0 @@
-use Rattle.sz_book.proofs.DecideLemmas as decides
-use Rattle.sz_book.proofs.laws.each_shard_is_decided.Goals as goal
-
-pub returns : goal.returns
-returns c = record { decided = decides.each_shard_is_decided }

@@ -1,0 +1,5 @@
+pub mod CountLemmas
+pub mod DecideLemmas
+pub mod GrowthLemmas
+pub mod HistoryLemmas
+pub mod StepLemmas
