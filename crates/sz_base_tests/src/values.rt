@@ -51,6 +51,8 @@ enum Row {
     Weighs(Given, u64),
     // Two texts, and whether each, and both as one, are ASCII.
     Ascii(&'static str, &'static str, [bool; 3]),
+    // A text that is doubled so many times, and another one behind it, in which each character is found.
+    Places(&'static str, u8, &'static str),
     // The part of an ASCII text between two places.
     Cut(&'static str, usize, usize, &'static str),
     // The pairs that are given, and those of the map that is made of them.
@@ -77,6 +79,12 @@ const ROWS: &[Row] = &[
     Row::Ascii("ab", "\u{e9}", [true, false, false]),
     Row::Ascii("\u{80}", "", [false, true, false]),
     Row::Ascii("aaaaaaaaa\u{e9}", "a", [false, true, false]),
+    Row::Places("", 1, "a"),
+    Row::Places("a", 7, "\u{e9}"),
+    Row::Places("\u{e9}", 6, "b"),
+    Row::Places("\u{e9}", 7, "\u{20ac}"),
+    Row::Places("a\u{e9}\u{20ac}", 6, "ab"),
+    Row::Places("\u{1f600}b\u{e9}\u{e9}\u{e9}", 5, "\u{1f600}"),
     Row::Cut("abcd", 1, 3, "bc"),
     Row::Cut("abcd", 4, 4, ""),
     Row::Pairs(&[], &[]),
@@ -176,6 +184,52 @@ fn are_ascii(
         made.is_ascii(),
     ];
     Ok(found == [one, other, both, both])
+}
+
+// Whether each character is found in a text that is doubled, in that with an end behind it, and in copies of this one.
+fn finds_places(alloc: Global, text: &str, doublings: u8, end: &str) -> Result<bool, NoMemory> {
+    let doubled = doubled(alloc, text, doublings)?;
+    let end = Text::new(alloc, end)?;
+    let joined = Text::joined(alloc, &doubled, &end)?;
+    let turned = Text::joined(alloc, &end, &doubled)?;
+    let made = Text::new(alloc, joined.as_str())?;
+    let copied = joined.copy(alloc)?;
+    Ok(
+        [&doubled, &joined, &turned, &made, &copied]
+            .iter()
+            .all(|text| tells_places(text)),
+    )
+}
+
+// The text joined to itself, so many times.
+fn doubled(alloc: Global, text: &str, times: u8) -> Result<Text, NoMemory> {
+    let mut made = Text::new(alloc, text)?;
+    for _ in 0..times {
+        made = Text::joined(alloc, &made, &made)?;
+    }
+    Ok(made)
+}
+
+// Whether the text tells what follows each of its characters, how many there are, and that none follows the last.
+fn tells_places(text: &Text) -> bool {
+    let chars = text.as_str();
+    let mut all = true;
+    let mut passed: u64 = 0;
+    for (at, _) in chars.char_indices() {
+        all = all && has_length(text.rest_after(passed), chars.len().wrapping_sub(at));
+        passed = passed.wrapping_add(1);
+    }
+    all && text.character_count() as u64 == passed
+        && has_length(text.rest_after(passed), 0)
+        && text.rest_after(passed.wrapping_add(1)).is_none()
+}
+
+// Whether there is a text of so many bytes.
+fn has_length(text: Option<&str>, len: usize) -> bool {
+    match text {
+        Some(text) => text.len() == len,
+        None => false,
+    }
 }
 
 // Whether this is the part of an ASCII text between two places, if they are in it.
@@ -331,6 +385,7 @@ fn holds(alloc: Global, row: &Row) -> Result<bool, NoMemory> {
     match row {
         Row::Weighs(given, wanted) => weighs(alloc, *given, *wanted),
         Row::Ascii(first, second, wanted) => are_ascii(alloc, first, second, *wanted),
+        Row::Places(text, doublings, end) => finds_places(alloc, text, *doublings, end),
         Row::Cut(text, from, to, wanted) => is_cut(alloc, text, *from, *to, wanted),
         Row::Pairs(given, wanted) => gives(alloc, given, wanted),
         Row::Falling => gives_falling(alloc),

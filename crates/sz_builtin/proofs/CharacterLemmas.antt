@@ -1,56 +1,27 @@
 -- Texts that are cut between characters.
 use Rattle.std.proofs.Common.{◌≡◌, ℕ, ◌+◌, ◌-◌, ◌<◌, ◌≤◌, nat_le, Bool, true, false, if◌then◌else◌, Some, None, subst, List, [], ◌∷◌, ◌++◌, length, take, drop, refl, sym, ap, ◌∙◌, arith}
-use Rattle.std.specs.Prelude.{slice_get, chars, encode_utf8_all, IsUtf8}
+use Rattle.std.specs.Prelude.{slice_get, chars, encode_utf8_all}
 use Rattle.std.specs.Str.{IsCharBoundary}
-use Rattle.std.specs.Char.{encode_utf8}
-use Rattle.std.proofs.lemmas.List.{append-nil, append_assoc, length-append, take_at, drop_at, nil_from_length}
-use Rattle.std.proofs.lemmas.Str.{encodes-append, chars_past_char, IsUtf8-past_char, chars-nil, IsCharBoundary-at_seam}
+use Rattle.std.proofs.lemmas.List.{length-append, take_at, drop_at}
+use Rattle.std.proofs.lemmas.Str.{IsCharBoundary-at_seam}
 use Rattle.std.specs.Option.{option_map}
 use Rattle.std.proofs.lemmas.List.{length-take-le}
 use Rattle.std.proofs.lemmas.Str.{chars-IsAscii, encodes-IsAscii}
 use Rattle.sz_value.specs.Data.{str}
 use Rattle.sz_value.specs.Texts.{is_ascii}
 use Rattle.sz_value.proofs.ForCallers.{passes_ascii, ascii_part}
-use Rattle.sz_builtin.specs.Characters.{IsRestAfter}
+use Rattle.sz_value.specs.Characters.{IsRestAfter}
 use Rattle.sz_builtin.specs.Places.{cut}
-
--- at the front no character is passed
-pub at_front : (text : List ℕ) → IsUtf8 text → IsRestAfter 0 text text
-at_front text u = record { front = []; many = refl; whole = refl; characters = refl; utf8 = u }
-
--- one character more is passed
-pub one_more : (count : ℕ) (text r t : List ℕ) (c : ℕ) → IsRestAfter count text r → r ≡ encode_utf8 c ++ t → IsRestAfter (count + 1) text t
-one_more count text r t c h e = record {
-  front = h.front ++ c ∷ [];
-  many = length-append h.front (c ∷ []) ∙ ap (λ n. n + 1) h.many;
-  whole = h.whole ∙ ap (λ x. encode_utf8_all h.front ++ x) e
-      ∙ sym (ap (λ x. x ++ t) (encodes-append h.front (c ∷ []) ∙ ap (λ x. encode_utf8_all h.front ++ x) (append-nil (encode_utf8 c)))
-      ∙ append_assoc (encode_utf8_all h.front) (encode_utf8 c) t);
-  characters = h.characters ∙ ap (λ x. h.front ++ x) (chars_past_char r t c h.utf8 e) ∙ sym (append_assoc h.front (c ∷ []) (chars t));
-  utf8 = IsUtf8-past_char r t c h.utf8 e;
-}
 
 -- what is after the front of a list, by the front's length
 pub get_after : {X : Type 0} (f xs : List X) → slice_get (f ++ xs) (length f) ≡ slice_get xs 0
 get_after [] xs = refl
 get_after (x ∷ f) xs = get_after f xs
 
--- fewer characters than rounds are in a text that is at its end
-pub too_few : (at count : ℕ) (text rest : List ℕ) → IsRestAfter at text rest → length rest ≡ 0 → at < count → length (chars text) < count
-too_few at count text rest h nothing less =
-    let none : chars rest ≡ [] = ap chars (nil_from_length rest nothing) ∙ chars-nil in
-    let e = ap length h.characters ∙ length-append h.front (chars rest) in
-    let z = ap length none in omega (arith, e, z, h.many)
-
 -- a character of the rest is a character of the text
 pub character_after : (count : ℕ) (text rest : List ℕ) → IsRestAfter count text rest → slice_get (chars text) count ≡ slice_get (chars rest) 0
 character_after count text rest h =
     sym (ap (λ n. slice_get (chars text) n) h.many) ∙ ap (λ cs. slice_get cs (length h.front)) h.characters ∙ get_after h.front (chars rest)
-
--- fewer characters of the rest are fewer of the text
-pub fewer_after : (skip count : ℕ) (text rest : List ℕ) → IsRestAfter skip text rest → length (chars rest) < count → length (chars text) < skip + count
-fewer_after skip count text rest h few =
-    let e = ap length h.characters ∙ length-append h.front (chars rest) in omega (arith, e, h.many)
 
 -- two cuts one after the other take the characters between them
 pub characters_between : (skip count : ℕ) (text tail rest : List ℕ) → IsRestAfter skip text tail → IsRestAfter count tail rest

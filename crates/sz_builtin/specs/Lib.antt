@@ -5,5 +5,3 @@ pub mod Places
 pub mod Predeclared
 pub mod Types
 pub mod Views
--- what the functions inside the crate promise each other
-pub mod Characters

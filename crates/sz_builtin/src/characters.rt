@@ -1,39 +1,25 @@
 //! Texts by characters.
 ghost use Rattle.std.specs.Prelude.{◌≡◌, ◌+◌, ◌≤◌, ◌<◌, ◌^◌, length, take, drop, slice_get, chars, encode_utf8_all, IfSome, IfNone};
 ghost use Rattle.std.specs.Str.{IsCharBoundary};
-ghost use Rattle.sz_builtin.specs.Characters.{IsRestAfter};
 
-use sz_value::Text;
-
-/// The text after its first `count` characters, or none where it has fewer.
-#[tactic(auto, using(crate::proofs::CharacterLemmas::at_front, crate::proofs::CharacterLemmas::too_few))]
-pub fn rest_after(text: &str, count: u64) -> Option<&str>
-    ensures some { IfSome result (λ rest. IsRestAfter count text.now rest.now) }
-    ensures none { IfNone result (length (chars text.now) < count) }
-{
-    let mut rest = text.chars();
-    for _ in 0..count {
-        rest.next()?;
-    }
-    Some(rest.as_str())
-}
+use sz_value::{Text, rest_after};
 
 /// The character at a place, or none where the text ends before it.
 #[tactic(auto, using(crate::proofs::CharacterLemmas::character_after))]
-pub fn character_at(text: &str, place: u64) -> Option<char>
+pub fn character_at(text: &Text, place: u64) -> Option<char>
     ensures value { result ≡ slice_get (chars text.now) place }
 {
-    rest_after(text, place)?.chars().next()
+    text.rest_after(place)?.chars().next()
 }
 
 /// The `count` characters after the first `skip`, or none where the text has fewer.
-#[tactic(auto, using(crate::proofs::CharacterLemmas::fewer_after, crate::proofs::CharacterLemmas::characters_between, crate::proofs::CharacterLemmas::within_text, crate::proofs::CharacterLemmas::cut_between))]
-pub fn characters_from(text: &str, skip: u64, count: u64) -> Option<&str>
+#[tactic(auto, using(sz_value::proofs::ForCallers::fewer_after, crate::proofs::CharacterLemmas::characters_between, crate::proofs::CharacterLemmas::within_text, crate::proofs::CharacterLemmas::cut_between))]
+pub fn characters_from(text: &Text, skip: u64, count: u64) -> Option<&str>
     ensures some { IfSome result (λ part. part.now ≡ encode_utf8_all (take count (drop skip (chars text.now)))) }
     ensures within { IfSome result (λ part. skip + count ≤ length (chars text.now)) }
     ensures none { IfNone result (length (chars text.now) < skip + count) }
 {
-    let tail = rest_after(text, skip)?;
+    let tail = text.rest_after(skip)?;
     let rest = rest_after(tail, count)?;
     Some(&tail[..tail.len() - rest.len()])
 }
@@ -47,7 +33,7 @@ pub fn character_count(text: &Text) -> usize
     if text.is_ascii() {
         text.as_str().as_bytes().len()
     } else {
-        counted(text.as_str())
+        text.character_count()
     }
 }
 
@@ -62,14 +48,6 @@ pub fn characters_before(text: &Text, at: usize) -> usize
     if text.is_ascii() && at <= chars.as_bytes().len() {
         at
     } else {
-        counted(&chars[..at])
+        sz_value::character_count(&chars[..at])
     }
-}
-
-// The number of characters, by a walk over them.
-fn counted(text: &str) -> usize
-    ensures value { result ≡ length (chars text.now) }
-    ensures small { result < 2 ^ 63 }
-{
-    text.chars().count()
 }

@@ -67,12 +67,12 @@ fn code_at(text: &Text, place: i64) -> Slot
     if text.is_ascii() {
         byte(text.as_str().as_bytes(), place)
     } else {
-        character(text.as_str(), place)
+        character(text, place)
     }
 }
 
-// The code of the character at a place, by a walk to it.
-fn character(text: &str, place: i64) -> Slot
+// The code of the character at a place.
+fn character(text: &Text, place: i64) -> Slot
     ensures value { seen_slot result ≡ option_map code (at_place (chars text.now) place) }
 {
     if place < 0 {

@@ -81,7 +81,7 @@ fn part_of_text(alloc: Global, text: &Text, skip: u64, count: u64) -> Result<Slo
     if text.is_ascii() {
         ascii_part(alloc, text, skip, count)
     } else {
-        characters_part(alloc, text.as_str(), skip, count)
+        characters_part(alloc, text, skip, count)
     }
 }
 
@@ -97,8 +97,8 @@ fn ascii_part(alloc: Global, text: &Text, skip: u64, count: u64) -> Result<Slot,
     Ok(Slot::Defined(Value::Str(part)))
 }
 
-// Characters of a text, by a walk to them.
-fn characters_part(alloc: Global, text: &str, skip: u64, count: u64) -> Result<Slot, NoMemory>
+// Characters of a text.
+fn characters_part(alloc: Global, text: &Text, skip: u64, count: u64) -> Result<Slot, NoMemory>
     ensures value { IfOk result (λ slot. seen_slot slot ≡ option_map (λ cs. str (encode_utf8_all cs)) (cut (chars text.now) (skip, count))) }
 {
     match characters_from(text, skip, count) {

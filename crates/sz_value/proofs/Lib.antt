@@ -5,4 +5,6 @@ pub mod GatherLemmas
 pub mod PartLemmas
 pub mod HashLemmas
 pub mod TextLemmas
+pub mod CharacterLemmas
+pub mod MarkLemmas
 pub mod ForCallers

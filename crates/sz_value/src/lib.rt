@@ -1,11 +1,14 @@
 //! Values of a program, what a slot of the machine holds, their order, their weight and their copies.
 #![tactic(auto)]
 
+mod characters;
 mod comparing;
 mod copying;
+mod form;
 mod hashing;
 mod laws;
 mod list;
+mod marked;
 mod octets;
 mod ordering;
 mod pairs;
@@ -14,6 +17,7 @@ mod text;
 mod value;
 mod weighing;
 
+pub use characters::{character_count, rest_after};
 pub use copying::{copy, copy_list, copy_pairs};
 pub use laws::{
     a_pair_sets_its_key, compounds_compare_by_parts, compounds_weigh_their_parts, order_is_total,

@@ -1,80 +1,95 @@
 //! Texts inside values.
-ghost use Rattle.std.specs.Prelude.{◌≡◌, ◌==◌, ◌≤◌, ◌-◌, ◌++◌, ℕ, List, length, take, drop, string_bytes, IfOk, IsTrue, IsUtf8};
+ghost use Rattle.std.specs.Prelude.{◌≡◌, ◌==◌, ◌≤◌, ◌<◌, ◌^◌, ◌-◌, ◌++◌, length, take, drop, chars, string_bytes, false, IfOk, IfSome, IfNone, IsTrue, IsUtf8};
 ghost use Rattle.sz_value.specs.Texts.{is_ascii};
+ghost use Rattle.sz_value.specs.Characters.{IsRestAfter};
+ghost use Rattle.sz_value.specs.Forms.{bytes_of, kept_as_ascii};
 
 use crate::NoMemory;
+use crate::characters::{character_count, rest_after};
+use crate::form::Form;
+use crate::marked::MarkedText;
 use std::alloc::Global;
 use std::marker::Model;
 
+/// The most bytes of a text whose characters are found by a walk from its front.
+const SHORT: usize = 128;
+
 /// A text, which doesn't change once it is made. Its bytes are UTF-8, by its type. It remembers whether all of them are
-/// ASCII, so that places in such a text are found without a walk over its characters.
+/// ASCII, and a long one of others where each 64th of its characters stands, so that places in a text are found without a walk
+/// over all that is before.
 ///
 /// Contracts see the list of its bytes.
 #[derive(Debug)]
 pub struct Text {
-    string: String,
-    ascii: bool,
+    form: Form,
 }
 
 impl Drop for Text {
     fn drop(self) {
-        let Text {
-            string: _,
-            ascii: _,
-        } = self;
+        let Text { form: _ } = self;
     }
 }
 
 impl Model for Text {
+    ghost use Rattle.std.specs.Prelude.{◌≡◌, ℕ, List};
+    ghost use Rattle.sz_value.specs.Texts.{is_ascii};
+    ghost use Rattle.sz_value.specs.Forms.{bytes_of, kept_as_ascii};
+
     ghost Value = { List ℕ };
 
-    ghost view = { λ text. string_bytes text.string };
+    ghost view = { λ text. bytes_of text.form };
 
-    ghost invariant = { λ text. text.ascii ≡ is_ascii (string_bytes text.string) };
+    ghost invariant = { λ text. kept_as_ascii text.form ≡ is_ascii (bytes_of text.form) };
 }
 
 impl Text {
-    /// Takes over the text, and takes no memory.
+    /// Takes over the text, and takes no memory: places in it are found by a walk from the front, unless it is ASCII. A copy of it is
+    /// as any other.
     pub fn from_string(text: String) -> Text
         ensures value { result ≡ string_bytes text }
     {
-        let ascii = is_ascii(text.as_str());
-        Text {
-            string: text,
-            ascii,
-        }
+        let form = if is_ascii(text.as_str()) {
+            Form::Ascii(text)
+        } else {
+            Form::Short(text)
+        };
+        Text { form }
     }
 
     /// A copy of the text.
     pub fn new(alloc: Global, text: &str) -> Result<Text, NoMemory>
         ensures value { IfOk result (λ made. made ≡ text.now) }
     {
-        let ascii = is_ascii(text);
         let string = String::from_str(alloc, text)?;
-        Ok(Text { string, ascii })
+        let form = if is_ascii(text) {
+            Form::Ascii(string)
+        } else {
+            other(alloc, string)?
+        };
+        Ok(Text { form })
     }
 
     /// A copy of the text, without another look at its bytes.
     pub fn copy(&self, alloc: Global) -> Result<Text, NoMemory>
         ensures value { IfOk result (λ made. made ≡ self.now) }
     {
-        let string = String::from_str(alloc, self.string.as_str())?;
         Ok(Text {
-            string,
-            ascii: self.ascii,
+            form: copy_form(alloc, &self.form)?,
         })
     }
 
-    /// The first text and then the second, without another look at their bytes.
+    /// The first text and then the second, with another look at the second alone.
     #[tactic(auto, using(crate::proofs::TextLemmas::ascii_joined))]
     pub fn joined(alloc: Global, first: &Text, second: &Text) -> Result<Text, NoMemory>
         ensures value { IfOk result (λ made. made ≡ first.now ++ second.now) }
     {
-        let string = joined(alloc, first.string.as_str(), second.string.as_str())?;
-        Ok(Text {
-            string,
-            ascii: first.ascii && second.ascii,
-        })
+        let string = joined(alloc, first.as_str(), second.as_str())?;
+        let form = if first.is_ascii() && second.is_ascii() {
+            Form::Ascii(string)
+        } else {
+            begun(alloc, &first.form, string, second.as_str())?
+        };
+        Ok(Text { form })
     }
 
     /// The bytes of an ASCII text from the place `from` up to the place `to`, as a text. Places are counted from 0.
@@ -85,10 +100,9 @@ impl Text {
         requires within { to ≤ length self.now }
         ensures value { IfOk result (λ made. made ≡ take (to - from) (drop from self.now)) }
     {
-        let string = String::from_str(alloc, &self.string.as_str()[from..to])?;
+        let string = String::from_str(alloc, &self.as_str()[from..to])?;
         Ok(Text {
-            string,
-            ascii: true,
+            form: Form::Ascii(string),
         })
     }
 
@@ -97,28 +111,101 @@ impl Text {
         ensures value { result.now ≡ self.now }
         ensures utf8 { IsUtf8 self.now }
     {
-        self.string.as_str()
+        text_of(&self.form)
     }
 
     /// Whether all bytes are ASCII, which the text remembers.
     pub fn is_ascii(&self) -> bool
         ensures value { result ≡ is_ascii self.now }
     {
-        self.ascii
+        matches!(self.form, Form::Ascii(_))
     }
 
     /// The number of bytes.
     pub fn len(&self) -> usize
         ensures value { result ≡ length self.now }
     {
-        self.string.len()
+        self.as_str().len()
     }
 
     /// Whether there are no bytes.
     pub fn is_empty(&self) -> bool
         ensures value { result ≡ (length self.now == 0) }
     {
-        self.string.is_empty()
+        self.as_str().is_empty()
+    }
+
+    /// The text after its first `count` characters, or none where it has fewer. In a long text at most 64 characters are walked
+    /// over.
+    pub fn rest_after(&self, count: u64) -> Option<&str>
+        ensures some { IfSome result (λ rest. IsRestAfter count self.now rest.now) }
+        ensures none { IfNone result (length (chars self.now) < count) }
+    {
+        match &self.form {
+            Form::Ascii(string) | Form::Short(string) => rest_after(string.as_str(), count),
+            Form::Marked(marked) => marked.rest_after(count),
+        }
+    }
+
+    /// The number of characters. In a long text at most 64 are walked over.
+    pub fn character_count(&self) -> usize
+        ensures value { result ≡ length (chars self.now) }
+        ensures small { result < 2 ^ 63 }
+    {
+        match &self.form {
+            Form::Ascii(string) | Form::Short(string) => character_count(string.as_str()),
+            Form::Marked(marked) => marked.character_count(),
+        }
+    }
+}
+
+// The text that is kept.
+fn text_of(form: &Form) -> &str
+    ensures value { result.now ≡ bytes_of form.now }
+    ensures utf8 { IsUtf8 (bytes_of form.now) }
+{
+    match form {
+        Form::Ascii(string) | Form::Short(string) => string.as_str(),
+        Form::Marked(marked) => marked.as_str(),
+    }
+}
+
+// How a text is kept that isn't ASCII.
+fn other(alloc: Global, string: String) -> Result<Form, NoMemory>
+    ensures value { IfOk result (λ made. bytes_of made ≡ string_bytes string) }
+    ensures other { IfOk result (λ made. kept_as_ascii made ≡ false) }
+{
+    if string.len() <= SHORT {
+        return Ok(Form::Short(string));
+    }
+    let marked = MarkedText::new(alloc, string)?;
+    Ok(Form::Marked(Box::new(alloc, marked)?))
+}
+
+// How a text is kept that isn't ASCII, and begins with one that is kept.
+fn begun(alloc: Global, first: &Form, string: String, second: &str) -> Result<Form, NoMemory>
+    requires begins { string_bytes string ≡ bytes_of first.now ++ second.now }
+    ensures value { IfOk result (λ made. bytes_of made ≡ string_bytes string) }
+    ensures other { IfOk result (λ made. kept_as_ascii made ≡ false) }
+{
+    match first {
+        Form::Marked(first) => {
+            let marked = first.begun(string, second)?;
+            Ok(Form::Marked(Box::new(alloc, marked)?))
+        }
+        Form::Ascii(_) | Form::Short(_) => other(alloc, string),
+    }
+}
+
+// A copy of what is kept.
+fn copy_form(alloc: Global, form: &Form) -> Result<Form, NoMemory>
+    ensures value { IfOk result (λ made. bytes_of made ≡ bytes_of form.now) }
+    ensures ascii { IfOk result (λ made. kept_as_ascii made ≡ kept_as_ascii form.now) }
+{
+    match form {
+        Form::Ascii(string) => Ok(Form::Ascii(String::from_str(alloc, string.as_str())?)),
+        Form::Short(string) => other(alloc, String::from_str(alloc, string.as_str())?),
+        Form::Marked(marked) => Ok(Form::Marked(Box::new(alloc, marked.copy(alloc)?)?)),
     }
 }
 

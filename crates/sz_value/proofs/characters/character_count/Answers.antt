@@ -1,7 +1,7 @@
 -- What is counted are the characters.
 use Rattle.std.proofs.Common.{rules}
 use Rattle.std.proofs.lemmas.Str.{chars_from_encodes}
-use Rattle.sz_builtin.proofs.characters.counted.Goals as goal
+use Rattle.sz_value.proofs.characters.character_count.Goals as goal
 
 pub returns-clause-value : goal.returns-clause-value
 returns-clause-value c = search (rules, chars_from_encodes)
