@@ -45,7 +45,7 @@ pub fn attempt<'a>(
 /// The same in this room, which the caller keeps for the next attempt.
 pub fn attempt_in<'a>(
     alloc: Global,
-    room: &mut Room,
+    room: &mut Room<'a>,
     job: &'a Job,
     records: &Records,
     shard: &Shard,
@@ -126,8 +126,8 @@ fn lesser(number: u32, other: Option<u32>) -> u32
 /// that fault are passed over; it ends at the first that is one too many.
 fn run_records<'a>(
     alloc: Global,
-    room: &mut Room,
-    job: &Job,
+    room: &mut Room<'a>,
+    job: &'a Job,
     records: &Records,
     shard: &Shard,
     count: usize,
@@ -153,8 +153,8 @@ fn run_records<'a>(
 
 /// Runs the program for the record with this number, and adds what it emits to the part; or it is one more of the records that fault.
 fn run_record<'a>(
-    room: &mut Room,
-    job: &Job,
+    room: &mut Room<'a>,
+    job: &'a Job,
     input: &[u8],
     record_no: u64,
     part: &mut Total<'a>,

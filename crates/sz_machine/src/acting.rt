@@ -15,10 +15,21 @@ use sz_machine_cells::Cell;
 use sz_types::Place;
 use sz_value::{NoMemory, Slots};
 
-impl RunState {
-    /// Pushes a copy of the static.
+impl<'a> RunState<'a> {
+    /// Pushes the static, which stays where it is.
     #[inline(always)]
-    pub fn push_static(&mut self, alloc: Global, statics: &Slots, n: u32) -> Result<Next, NoMemory>
+    pub fn push_static(&mut self, statics: &'a Slots, n: u32) -> Result<Next, NoMemory>
+        requires within { n < length statics.now }
+        ensures value { (code : Code) (place : Place) → IfOk result (λ next.
+            DoesWhere place (λ a. a.statics ≡ statics.now) (act code (instr.Static n)) self.old next self.new) }
+    {
+        let cell = Cell::lent_slot(statics.get(n as usize));
+        self.operands.push(cell)?;
+        Ok(Next::On)
+    }
+
+    /// Pushes a copy of the static, as statics still change.
+    pub fn copy_static(&mut self, alloc: Global, statics: &Slots, n: u32) -> Result<Next, NoMemory>
         requires within { n < length statics.now }
         ensures value { (code : Code) (place : Place) → IfOk result (λ next.
             DoesWhere place (λ a. a.statics ≡ statics.now) (act code (instr.Static n)) self.old next self.new) }
@@ -30,7 +41,7 @@ impl RunState {
 
     /// Pushes the bytes of the record.
     #[inline(always)]
-    pub fn push_input(&mut self, input: &Cell) -> Result<Next, NoMemory>
+    pub fn push_input(&mut self, input: &Cell<'a>) -> Result<Next, NoMemory>
         ensures value { (code : Code) (place : Place) → IfOk result (λ next.
             DoesWhere place (λ a. a.input ≡ input.now) (act code instr.Input) self.old next self.new) }
     {
@@ -80,7 +91,7 @@ impl RunState {
     fn act_inside(
         &mut self,
         alloc: Global,
-        code: &Code,
+        code: &'a Code,
         at: usize,
         place: Place,
         instr: &Instr,
@@ -91,9 +102,9 @@ impl RunState {
         ensures value { IfOk result (λ next. DoesWhere place (λ a. a.at ≡ at) (weighs_and_acts code.now instr.now) self.old next self.new) }
     {
         match instr {
-            Instr::Push(n) => self.push(alloc, code, *n),
+            Instr::Push(n) => self.push(code, *n),
             Instr::Local(n) => self.push_local(*n),
-            Instr::Keep(n) => Ok(self.keep(*n)),
+            Instr::Keep(n) => self.keep(alloc, *n),
             Instr::Clear(n) => Ok(self.clear(*n)),
             Instr::Store(n, path) => self.store(alloc, code, place, *n, path),
             Instr::Binary(op) => self.binary(alloc, *op),
@@ -115,7 +126,7 @@ impl RunState {
     fn act_apart(
         &mut self,
         alloc: Global,
-        code: &Code,
+        code: &'a Code,
         at: usize,
         place: Place,
         instr: &Instr,
@@ -133,7 +144,7 @@ impl RunState {
     fn act_seldom(
         &mut self,
         alloc: Global,
-        code: &Code,
+        code: &'a Code,
         at: usize,
         place: Place,
         instr: &Instr,
@@ -172,9 +183,9 @@ impl RunState {
     pub fn act_in_record(
         &mut self,
         alloc: Global,
-        code: &Code,
-        statics: &Slots,
-        input: &Cell,
+        code: &'a Code,
+        statics: &'a Slots,
+        input: &Cell<'a>,
         at: usize,
         place: Place,
         instr: &Instr,
@@ -186,7 +197,7 @@ impl RunState {
             (weighs_and_acts code.now instr.now) self.old next self.new) }
     {
         match instr {
-            Instr::Static(n) => self.push_static(alloc, statics, *n),
+            Instr::Static(n) => self.push_static(statics, *n),
             Instr::Input => self.push_input(input),
             Instr::KeepStatic(_) => unreachable!(),
             _ => self.act_inside(alloc, code, at, place, instr),
@@ -197,7 +208,7 @@ impl RunState {
     pub fn act_in_static(
         &mut self,
         alloc: Global,
-        code: &Code,
+        code: &'a Code,
         statics: &mut Slots,
         at: usize,
         place: Place,
@@ -209,7 +220,7 @@ impl RunState {
             (weighs_and_acts code.now instr.now) self.old next self.new) }
     {
         match instr {
-            Instr::Static(n) => self.push_static(alloc, statics, *n),
+            Instr::Static(n) => self.copy_static(alloc, statics, *n),
             Instr::Input => unreachable!(),
             Instr::KeepStatic(n) => self.keep_static(alloc, statics, *n),
             _ => self.act_inside(alloc, code, at, place, instr),

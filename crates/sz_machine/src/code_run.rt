@@ -22,14 +22,15 @@ use sz_machine_cells::{Calls, Cell, Operands};
 use sz_tabs::Emits;
 use sz_value::{NoMemory, Slot, Slots};
 
-/// Room for runs: what a run has at hand lies in it, and the memory that one run took is kept for the next.
-pub struct Room {
+/// Room for runs: what a run has at hand lies in it, and the memory that one run took is kept for the next. The code and the statics
+/// outlive it, so their values are read where they stand.
+pub struct Room<'a> {
     alloc: Global,
-    state: RunState,
-    input: Cell,
+    state: RunState<'a>,
+    input: Cell<'a>,
 }
 
-impl Drop for Room {
+impl<'a> Drop for Room<'a> {
     fn drop(self) {
         let Room {
             alloc: _,
@@ -39,9 +40,9 @@ impl Drop for Room {
     }
 }
 
-impl Room {
+impl<'a> Room<'a> {
     /// No room yet, which takes no memory.
-    pub fn new(alloc: Global) -> Room {
+    pub fn new(alloc: Global) -> Room<'a> {
         Room {
             alloc,
             state: RunState::new(alloc, 0),
@@ -52,9 +53,9 @@ impl Room {
     /// Runs the code for a record as `run` does, in this room.
     pub fn run(
         &mut self,
-        code: &Code,
+        code: &'a Code,
         input: &[u8],
-        statics: &Slots,
+        statics: &'a Slots,
         budget: u64,
     ) -> Result<RunEnd, NoMemory>
         requires formed { is_well_formed code.now ≡ true }
@@ -88,9 +89,9 @@ impl Room {
     }
 }
 
-impl RunState {
+impl<'a> RunState<'a> {
     /// Nothing in place yet but so many ticks, which takes no memory.
-    fn new(alloc: Global, budget: u64) -> RunState
+    fn new(alloc: Global, budget: u64) -> RunState<'a>
         ensures value { result ≡ record { operands = []; calls = record { locals = []; lists = []; callers = [] }; emits = []; left = budget } }
     {
         RunState {
@@ -125,9 +126,9 @@ impl RunState {
     fn step_in_record(
         &mut self,
         alloc: Global,
-        code: &Code,
-        statics: &Slots,
-        input: &Cell,
+        code: &'a Code,
+        statics: &'a Slots,
+        input: &Cell<'a>,
         at: usize,
     ) -> Result<Next, NoMemory>
         requires there { IsSome input.now }
@@ -147,7 +148,7 @@ impl RunState {
     fn step_in_static(
         &mut self,
         alloc: Global,
-        code: &Code,
+        code: &'a Code,
         statics: &mut Slots,
         at: usize,
     ) -> Result<Next, NoMemory>
@@ -167,9 +168,9 @@ impl RunState {
     fn run_record(
         &mut self,
         alloc: Global,
-        code: &Code,
-        statics: &Slots,
-        input: &Cell,
+        code: &'a Code,
+        statics: &'a Slots,
+        input: &Cell<'a>,
         start: usize,
         asked: &RecordRun<'_>,
     ) -> Result<RunEnd, NoMemory>
@@ -201,7 +202,7 @@ impl RunState {
     fn run_static(
         &mut self,
         alloc: Global,
-        code: &Code,
+        code: &'a Code,
         statics: &mut Slots,
         start: usize,
         asked: &StaticsRun<'_>,
@@ -249,11 +250,11 @@ fn undefined(alloc: Global, count: usize) -> Result<Slots, NoMemory>
 }
 
 /// Runs the code for a record of these bytes, with these statics and `budget` ticks.
-pub fn run(
+pub fn run<'a>(
     alloc: Global,
-    code: &Code,
+    code: &'a Code,
     input: &[u8],
-    statics: &Slots,
+    statics: &'a Slots,
     budget: u64,
 ) -> Result<RunEnd, NoMemory>
     requires formed { is_well_formed code.now ≡ true }

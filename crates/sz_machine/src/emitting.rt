@@ -21,7 +21,7 @@ use sz_tabs::{Emit, Emits};
 use sz_types::Place;
 use sz_value::{List, NoMemory, Value};
 
-impl RunState {
+impl<'a> RunState<'a> {
     /// Pops the parts of an emit to the table, and emits them if all are defined; else its line is counted, if the code counts lines.
     /// A whole number alone is emitted in line.
     #[inline(always)]
@@ -128,10 +128,10 @@ impl RunState {
         place: Place,
         table: u32,
         indexes: u32,
-        weight: Option<Cell>,
+        weight: Option<Cell<'a>>,
     ) -> Result<Next, NoMemory>
         requires within { indexes + 1 ≤ length self.old.operands }
-        ensures value { IfOk result (λ next. DoesAt place (emits_on_top code.now.ignore table indexes weight) self.old next self.new) }
+        ensures value { IfOk result (λ next. DoesAt place (emits_on_top code.now.ignore table indexes weight.entry) self.old next self.new) }
     {
         let value = self.operands.pop();
         if !self.pay_parts(indexes as usize, &value, &weight) {
@@ -145,7 +145,7 @@ impl RunState {
     // Takes what so many topmost operands, the value and the weight weigh, if they are all there. They are weighed where they are, so that
     // nothing is copied that isn't paid.
     #[tactic(auto, using(crate::proofs::PayLemmas::pays_as, crate::proofs::EmitLemmas::weighs_plain, crate::proofs::EmitLemmas::weighs_weighted, crate::proofs::EmitLemmas::without_value, crate::proofs::EmitLemmas::without_indexes, crate::proofs::EmitLemmas::without_weight))]
-    fn pay_parts(&mut self, indexes: usize, value: &Cell, weight: &Option<Cell>) -> bool
+    fn pay_parts(&mut self, indexes: usize, value: &Cell<'_>, weight: &Option<Cell<'_>>) -> bool
         requires within { indexes ≤ length self.old.operands }
         ensures value { Paid (parts_weight (all_defined (popped indexes self.old.operands)) value.now weight.now) self.old result self.new }
     {
@@ -161,7 +161,7 @@ impl RunState {
 
     // Takes what so many topmost operands, the value and the weight weigh.
     #[tactic(auto, using(crate::proofs::PayLemmas::paid_more, crate::proofs::PayLemmas::paid_less))]
-    fn pay_weighted(&mut self, indexes: usize, value: &Cell, weight: &Cell) -> bool
+    fn pay_weighted(&mut self, indexes: usize, value: &Cell<'_>, weight: &Cell<'_>) -> bool
         requires within { indexes ≤ length self.old.operands }
         ensures value { Paid (weight_if_all (all_defined (popped indexes self.old.operands)) + result_weight value.now + result_weight weight.now)
             self.old result self.new }
@@ -171,7 +171,7 @@ impl RunState {
 
     // Takes what so many topmost operands and the value weigh.
     #[tactic(auto, using(crate::proofs::PayLemmas::paid_more, crate::proofs::PayLemmas::paid_less))]
-    fn pay_plain(&mut self, indexes: usize, value: &Cell) -> bool
+    fn pay_plain(&mut self, indexes: usize, value: &Cell<'_>) -> bool
         requires within { indexes ≤ length self.old.operands }
         ensures value { Paid (weight_if_all (all_defined (popped indexes self.old.operands)) + result_weight value.now) self.old result self.new }
     {
@@ -230,10 +230,10 @@ fn emit_of(
     alloc: Global,
     table: u32,
     indexes: Option<List>,
-    value: Cell,
-    weight: Option<Cell>,
+    value: Cell<'_>,
+    weight: Option<Cell<'_>>,
 ) -> Result<Option<Emit>, NoMemory>
-    ensures value { IfOk result (λ made. made ≡ emit_by_weight table indexes value weight) }
+    ensures value { IfOk result (λ made. made ≡ emit_by_weight table indexes value.entry weight.entry) }
 {
     let Some(indexes) = indexes else {
         return Ok(None);

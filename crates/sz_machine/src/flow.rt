@@ -16,7 +16,7 @@ use sz_value::NoMemory;
 // How many calls can be open.
 const MOST_OPEN_CALLS: usize = 128;
 
-impl RunState {
+impl<'a> RunState<'a> {
     /// Pops a slot and goes to the first place where it is false. An undefined one is a fault, or leads to the second place, its line
     /// being counted.
     #[inline(always)]

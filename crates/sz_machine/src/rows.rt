@@ -21,14 +21,14 @@ use sz_machine_cells::{
 use sz_types::{BinOp, Builtin, UnOp};
 use sz_value::NoMemory;
 
-impl RunState {
-    /// Pushes a copy of the constant.
+impl<'a> RunState<'a> {
+    /// Pushes the constant, which stays where it is.
     #[inline(always)]
-    pub fn push(&mut self, alloc: Global, code: &Code, constant: u32) -> Result<Next, NoMemory>
+    pub fn push(&mut self, code: &'a Code, constant: u32) -> Result<Next, NoMemory>
         requires within { constant < length code.now.constants }
         ensures value { IfOk result (λ next. Does (act code.now (instr.Push constant)) self.old next self.new) }
     {
-        let cell = Cell::of_copy(alloc, code.constants.get(constant as usize))?;
+        let cell = Cell::lent(code.constants.get(constant as usize));
         self.operands.push(cell)?;
         Ok(Next::On)
     }
@@ -46,14 +46,14 @@ impl RunState {
 
     /// Pops a slot into the local.
     #[inline(always)]
-    pub fn keep(&mut self, n: u32) -> Next
+    pub fn keep(&mut self, alloc: Global, n: u32) -> Result<Next, NoMemory>
         requires within { n < length self.old.calls.locals }
         requires some { 0 < length self.old.operands }
-        ensures value { (code : Code) → Does (act code (instr.Keep n)) self.old result self.new }
+        ensures value { (code : Code) → IfOk result (λ next. Does (act code (instr.Keep n)) self.old next self.new) }
     {
-        let cell = self.operands.pop();
+        let cell = self.operands.pop().kept(alloc)?;
         self.calls.keep(n, cell);
-        Next::On
+        Ok(Next::On)
     }
 
     /// Makes the local undefined.

@@ -9,14 +9,14 @@ use sz_tabs::Emits;
 use sz_value::NoMemory;
 
 /// A run in place: its operands and open calls, the emits so far, and the ticks that are left.
-pub struct RunState {
-    pub operands: Operands,
-    pub calls: Calls,
+pub struct RunState<'a> {
+    pub operands: Operands<'a>,
+    pub calls: Calls<'a>,
     pub emits: Emits,
     pub left: u64,
 }
 
-impl Drop for RunState {
+impl<'a> Drop for RunState<'a> {
     fn drop(self) {
         let RunState {
             operands: _,
@@ -45,7 +45,7 @@ pub const CALLS_TOO_DEEP: u8 = 3;
 /// More ticks were needed than were left.
 pub const BUDGET_PASSED: u8 = 4;
 
-impl RunState {
+impl<'a> RunState<'a> {
     /// Takes so many ticks, if they are left.
     #[inline(always)]
     pub fn pay(&mut self, ticks: u64) -> bool
@@ -60,8 +60,8 @@ impl RunState {
 
     /// Takes the weight of a result, and leaves the result on the operands.
     #[inline(always)]
-    pub fn finish(&mut self, made: Cell, weight: u64) -> Result<Next, NoMemory>
-        ensures value { IfOk result (λ next. Does (results weight made) self.old next self.new) }
+    pub fn finish(&mut self, made: Cell<'a>, weight: u64) -> Result<Next, NoMemory>
+        ensures value { IfOk result (λ next. Does (results weight made.entry) self.old next self.new) }
     {
         if !self.pay(weight) {
             return Ok(Next::Fault(BUDGET_PASSED));

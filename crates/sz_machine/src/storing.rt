@@ -12,7 +12,7 @@ use sz_machine_cells::{indexes_in, stored_in};
 use sz_types::Place;
 use sz_value::{List, NoMemory, Value};
 
-impl RunState {
+impl<'a> RunState<'a> {
     /// Pops a value and the indexes of the path, and puts the value where the path leads in the local.
     #[inline(always)]
     pub fn store(
@@ -51,7 +51,8 @@ impl RunState {
         if !new.is_defined() {
             return again(self.pass_on(alloc, code, place));
         }
-        self.calls.keep(n, new);
+        let cell = new.kept(alloc)?;
+        self.calls.keep(n, cell);
         Ok(Next::On)
     }
 

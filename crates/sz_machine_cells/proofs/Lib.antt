@@ -6,3 +6,4 @@ pub mod CandidateLemmas
 pub mod CallLemmas
 pub mod StoreLemmas
 pub mod ResultLemmas
+pub mod NestedLemmas

@@ -1,4 +1,6 @@
 -- what the public contracts rest on
+pub mod Nested
+pub mod Insides
 pub mod Cells
 pub mod Results
 pub mod Candidates

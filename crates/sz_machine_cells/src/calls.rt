@@ -24,15 +24,15 @@ pub struct Waiting {
 /// The locals and the candidate lists of all open calls, each in one list, those of the innermost call last.
 ///
 /// Contracts see those of the routine that runs, the innermost candidate list first, and the routines that wait.
-pub struct Calls {
-    cells: Vec<Cell>,
+pub struct Calls<'a> {
+    cells: Vec<Cell<'a>>,
     lists: Vec<Candidates>,
     waiting: Vec<Waiting>,
     locals_from: usize,
     lists_from: usize,
 }
 
-impl Drop for Calls {
+impl<'a> Drop for Calls<'a> {
     fn drop(self) {
         let Calls {
             cells: _,
@@ -44,7 +44,7 @@ impl Drop for Calls {
     }
 }
 
-impl Model for Calls {
+impl<'a> Model for Calls<'a> {
     ghost use Rattle.sz_machine_cells.specs.Calls.{Open, open_code};
 
     ghost Value = { Open };
@@ -58,9 +58,9 @@ impl Model for Calls {
     ghost invariant = { λ c. AreStacked c.waiting.items c.cells.items c.lists.items c.locals_from c.lists_from };
 }
 
-impl Calls {
+impl<'a> Calls<'a> {
     /// No call with no locals, which takes no memory.
-    pub fn new(alloc: Global) -> Calls
+    pub fn new(alloc: Global) -> Calls<'a>
         ensures value { result ≡ record { locals = []; lists = []; callers = [] } }
     {
         Calls {
@@ -93,7 +93,7 @@ impl Calls {
 
     /// A local of the routine that runs.
     #[inline(always)]
-    pub fn local(&self, n: u32) -> &Cell
+    pub fn local(&self, n: u32) -> &Cell<'a>
         requires within { n < length self.now.locals }
         ensures value { slice_get self.now.locals n ≡ Some result.now }
     {
@@ -102,16 +102,16 @@ impl Calls {
 
     /// Puts the cell into a local of the routine that runs.
     #[inline(always)]
-    pub fn keep(&mut self, n: u32, cell: Cell)
+    pub fn keep(&mut self, n: u32, cell: Cell<'a>)
         requires within { n < length self.old.locals }
-        ensures value { self.new ≡ record self.old { locals = slice_set self.old.locals n cell } }
+        ensures value { self.new ≡ record self.old { locals = slice_set self.old.locals n cell.entry } }
     {
         self.cells[self.locals_from + n as usize] = cell;
     }
 
     /// Takes what a local holds. It is undefined from then on.
     #[inline(always)]
-    pub fn take(&mut self, n: u32) -> Cell
+    pub fn take(&mut self, n: u32) -> Cell<'a>
         requires within { n < length self.old.locals }
         ensures value { slice_get self.old.locals n ≡ Some result }
         ensures left { self.new ≡ record self.old { locals = slice_set self.old.locals n None } }
@@ -172,7 +172,7 @@ impl Calls {
     /// Enters a routine with so many topmost operands as its first locals: the one that runs waits, and goes on at `back`.
     pub fn enter(
         &mut self,
-        operands: &mut Operands,
+        operands: &mut Operands<'a>,
         params: u32,
         locals: u32,
         back: usize,
@@ -215,7 +215,7 @@ impl Calls {
 }
 
 // Appends so many undefined cells.
-fn fill(cells: &mut Vec<Cell>, count: u32) -> Result<(), NoMemory>
+fn fill<'a>(cells: &mut Vec<Cell<'a>>, count: u32) -> Result<(), NoMemory>
     ensures value { OnOk result (cells.new.items ≡ cells.old.items ++ undefined_slots count) }
     ensures grows { length cells.old.items ≤ length cells.new.items }
 {

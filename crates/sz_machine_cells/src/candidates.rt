@@ -51,7 +51,7 @@ impl Model for Candidates {
 
 impl Candidates {
     /// The candidates that a base gives, for a slice's bound or for an index.
-    pub fn of(alloc: Global, slice: bool, base: &Cell) -> Result<Candidates, NoMemory>
+    pub fn of(alloc: Global, slice: bool, base: &Cell<'_>) -> Result<Candidates, NoMemory>
         ensures value { IfOk result (λ made. made ≡ candidates slice base.now) }
     {
         match base.view() {

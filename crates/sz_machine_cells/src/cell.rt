@@ -1,46 +1,50 @@
 //! Cells: what an operand or a local lies in. Nothing above knows their form.
-ghost use Rattle.std.specs.Prelude.{◌≡◌, IfOk, IfSome, OnOk, Some, None, option_map, is_some, take, drop};
-ghost use Rattle.sz_value.specs.Data.{truth, int, bytes};
+ghost use Rattle.std.specs.Prelude.{◌≡◌, IfOk, IfSome, Some, None, option_map, is_some};
+ghost use Rattle.sz_value.specs.Data.{truth, int};
 ghost use Rattle.sz_value.specs.Seen.{seen, seen_slot};
 ghost use Rattle.sz_builtin.specs.Views.{seen_view};
 ghost use Rattle.sz_machine_cells.specs.Cells.{truth_of};
 
+use crate::buffers::part_bytes;
+use crate::inside::{Inside, view_of_nth};
 use std::alloc::Global;
 use std::marker::Model;
 use std::rc::Rc;
-use sz_builtin::View;
-use sz_value::{NoMemory, Octets, Slot, Value, copy};
+use sz_builtin::{Kind, View};
+use sz_value::{NoMemory, Slot, Value, copy};
 
 /// An operand or a local, in 16 bytes. Numbers, times and truth values lie in it and take no memory. A value that owns memory
-/// is shared by the cells that hold it, so a copy of a cell copies no value. Bytes may lie in a buffer that cells share, each of
+/// is shared by the cells that hold it, so a copy of a cell copies no value; or it stays with its owner, who outlives the cell. A part
+/// of a value is told by its places in that value, so it is read where it stands. Bytes may lie in a buffer that cells share, each of
 /// which has its part of it, so a part of them takes no memory.
 ///
 /// Contracts see the slot that it is: plain data, or none where it is undefined.
 #[derive(Drop)]
-pub struct Cell {
-    pub(crate) form: Form,
+pub struct Cell<'a> {
+    pub(crate) form: Form<'a>,
 }
 
 /// What lies in a cell.
 #[derive(Drop)]
-pub enum Form {
+pub enum Form<'a> {
     Undefined,
     Bool(bool),
     Int(i64),
     Time(i64),
     Shared(Rc<Value>),
+    /// A value that another owns.
+    Lent(&'a Value),
+    /// The part at a place of a value that is shared. The place stands first, so that a cell has 16 bytes.
+    Element(u32, Rc<Value>),
+    /// A part further inside.
+    Inside(Rc<Inside>),
     /// All bytes of a buffer.
     Buffer(Rc<Vec<u8>>),
     /// So many bytes of a buffer, after so many others. Their number stands first, so that a cell has 16 bytes.
     Part(u16, u32, Rc<Vec<u8>>),
 }
 
-// How many bytes a part can have, and how many can lie before it.
-const MOST_IN_PART: usize = 65_535;
-
-const MOST_BEFORE_PART: usize = 4_294_967_295;
-
-impl Model for Cell {
+impl<'a> Model for Cell<'a> {
     ghost use Rattle.std.specs.Prelude.{Option};
     ghost use Rattle.std.specs.Coded.{coded_option};
     ghost use Rattle.sz_value.specs.Data.{Datum};
@@ -55,10 +59,10 @@ impl Model for Cell {
     ghost view = { λ cell. slot_of cell.form };
 }
 
-impl Cell {
+impl<'a> Cell<'a> {
     /// The undefined cell.
     #[inline(always)]
-    pub fn undefined() -> Cell
+    pub fn undefined() -> Cell<'a>
         ensures value { result ≡ None }
     {
         Cell {
@@ -68,7 +72,7 @@ impl Cell {
 
     /// The cell of a truth value.
     #[inline(always)]
-    pub fn of_bool(value: bool) -> Cell
+    pub fn of_bool(value: bool) -> Cell<'a>
         ensures value { result ≡ Some (truth value) }
     {
         Cell {
@@ -78,7 +82,7 @@ impl Cell {
 
     /// The cell of a whole number.
     #[inline(always)]
-    pub fn of_int(number: i64) -> Cell
+    pub fn of_int(number: i64) -> Cell<'a>
         ensures value { result ≡ Some (int number) }
     {
         Cell {
@@ -88,7 +92,7 @@ impl Cell {
 
     /// The cell of a slot.
     #[inline(always)]
-    pub fn of_slot(alloc: Global, slot: Slot) -> Result<Cell, NoMemory>
+    pub fn of_slot(alloc: Global, slot: Slot) -> Result<Cell<'a>, NoMemory>
         ensures value { IfOk result (λ made. made ≡ seen_slot slot) }
     {
         match slot {
@@ -99,7 +103,7 @@ impl Cell {
 
     /// The cell of a value.
     #[inline(always)]
-    pub fn of_value(alloc: Global, value: Value) -> Result<Cell, NoMemory>
+    pub fn of_value(alloc: Global, value: Value) -> Result<Cell<'a>, NoMemory>
         ensures value { IfOk result (λ made. made ≡ Some (seen value)) }
     {
         match &value {
@@ -114,7 +118,7 @@ impl Cell {
 
     // The cell that shares a value.
     #[inline(never)]
-    fn shared(alloc: Global, value: Value) -> Result<Cell, NoMemory>
+    fn shared(alloc: Global, value: Value) -> Result<Cell<'a>, NoMemory>
         ensures value { IfOk result (λ made. made ≡ Some (seen value)) }
     {
         Ok(Cell {
@@ -124,7 +128,7 @@ impl Cell {
 
     /// A cell of a copy of the value.
     #[inline(always)]
-    pub fn of_copy(alloc: Global, value: &Value) -> Result<Cell, NoMemory>
+    pub fn of_copy(alloc: Global, value: &Value) -> Result<Cell<'a>, NoMemory>
         ensures value { IfOk result (λ made. made ≡ Some (seen value.now)) }
     {
         match value {
@@ -139,7 +143,7 @@ impl Cell {
 
     // The same, with the answer made anew: so what a caller has of it needs no place in memory that the function below writes to.
     #[inline(always)]
-    fn apart(alloc: Global, value: &Value) -> Result<Cell, NoMemory>
+    fn apart(alloc: Global, value: &Value) -> Result<Cell<'a>, NoMemory>
         ensures value { IfOk result (λ made. made ≡ Some (seen value.now)) }
     {
         match Cell::shared_copy(alloc, value) {
@@ -150,7 +154,7 @@ impl Cell {
 
     // The cell that shares a copy of the value.
     #[inline(never)]
-    fn shared_copy(alloc: Global, value: &Value) -> Result<Cell, NoMemory>
+    fn shared_copy(alloc: Global, value: &Value) -> Result<Cell<'a>, NoMemory>
         ensures value { IfOk result (λ made. made ≡ Some (seen value.now)) }
     {
         Cell::shared(alloc, copy(alloc, value)?)
@@ -158,12 +162,36 @@ impl Cell {
 
     /// A cell of a copy of the slot.
     #[inline(always)]
-    pub fn of_slot_copy(alloc: Global, slot: &Slot) -> Result<Cell, NoMemory>
+    pub fn of_slot_copy(alloc: Global, slot: &Slot) -> Result<Cell<'a>, NoMemory>
         ensures value { IfOk result (λ made. made ≡ seen_slot slot.now) }
     {
         match slot {
             Slot::Defined(value) => Cell::of_copy(alloc, value),
             Slot::Undefined => Ok(Cell::undefined()),
+        }
+    }
+
+    /// A cell of the value, which stays where it is.
+    #[inline(always)]
+    pub fn lent(value: &'a Value) -> Cell<'a>
+        ensures value { result ≡ Some (seen value.now) }
+    {
+        match scalar(value) {
+            Some(cell) => cell,
+            None => Cell {
+                form: Form::Lent(value),
+            },
+        }
+    }
+
+    /// A cell of the slot, whose value stays where it is.
+    #[inline(always)]
+    pub fn lent_slot(slot: &'a Slot) -> Cell<'a>
+        ensures value { result ≡ seen_slot slot.now }
+    {
+        match slot {
+            Slot::Defined(value) => Cell::lent(value),
+            Slot::Undefined => Cell::undefined(),
         }
     }
 
@@ -174,7 +202,19 @@ impl Cell {
     {
         match &self.form {
             Form::Undefined => false,
+            Form::Element(_, _) | Form::Inside(_) => self.is_there(),
             _ => true,
+        }
+    }
+
+    // The same, by a look.
+    #[inline(never)]
+    fn is_there(&self) -> bool
+        ensures value { result ≡ is_some self.now }
+    {
+        match self.view() {
+            Some(_) => true,
+            None => false,
         }
     }
 
@@ -185,11 +225,23 @@ impl Cell {
     {
         match &self.form {
             Form::Bool(value) => Some(*value),
-            Form::Shared(shared) => match shared.as_ref() {
-                Value::Bool(value) => Some(*value),
-                _ => None,
-            },
-            _ => None,
+            Form::Undefined
+            | Form::Int(_)
+            | Form::Time(_)
+            | Form::Buffer(_)
+            | Form::Part(_, _, _) => None,
+            _ => self.truth_by_look(),
+        }
+    }
+
+    // The same, by a look.
+    #[inline(never)]
+    fn truth_by_look(&self) -> Option<bool>
+        ensures value { result ≡ truth_of self.now }
+    {
+        match self.view() {
+            Some(view) => truth_in(&view),
+            None => None,
         }
     }
 
@@ -215,6 +267,9 @@ impl Cell {
             Form::Int(number) => Some(View::Int(*number)),
             Form::Time(number) => Some(View::Time(*number)),
             Form::Shared(shared) => Some(View::Whole(shared.as_ref())),
+            Form::Lent(value) => Some(View::Whole(value)),
+            Form::Element(place, shared) => view_of_nth(shared.as_ref(), *place as usize),
+            Form::Inside(inside) => inside.view(),
             Form::Buffer(buffer) => Some(View::Bytes(buffer.as_ref().as_slice())),
             Form::Part(count, before, buffer) => {
                 Some(View::Bytes(part_bytes(*count, *before, buffer)))
@@ -222,10 +277,10 @@ impl Cell {
         }
     }
 
-    /// The value itself, if there is one. It is copied where another cell shares it.
+    /// The value itself, if there is one. It is copied where another cell shares it, or another owns it.
     #[inline(always)]
     pub fn into_value(self, alloc: Global) -> Result<Option<Value>, NoMemory>
-        ensures value { IfOk result (λ value. option_map seen value ≡ self) }
+        ensures value { IfOk result (λ value. option_map seen value ≡ self.entry) }
     {
         match self.form {
             Form::Undefined => Ok(None),
@@ -233,20 +288,46 @@ impl Cell {
             Form::Int(number) => Ok(Some(Value::Int(number))),
             Form::Time(number) => Ok(Some(Value::Time(number))),
             Form::Shared(shared) => Ok(Some(unshared(alloc, shared)?)),
-            Form::Buffer(buffer) => {
-                let octets = Octets::from_slice(alloc, buffer.as_ref().as_slice())?;
-                Ok(Some(Value::Bytes(octets)))
-            }
-            Form::Part(count, before, buffer) => {
-                let octets = Octets::from_slice(alloc, part_bytes(count, before, &buffer))?;
-                Ok(Some(Value::Bytes(octets)))
-            }
+            form => Cell { form }.copied(alloc),
+        }
+    }
+
+    // A copy of the value, if there is one.
+    #[inline(never)]
+    fn copied(&self, alloc: Global) -> Result<Option<Value>, NoMemory>
+        ensures value { IfOk result (λ value. option_map seen value ≡ self.now) }
+    {
+        match self.view() {
+            Some(view) => Ok(Some(view.owned(alloc)?)),
+            None => Ok(None),
+        }
+    }
+
+    /// The cell, to be kept in a local. It doesn't share a value of which it is a part, so that one can be changed in place.
+    #[inline(always)]
+    pub fn kept(self, alloc: Global) -> Result<Cell<'a>, NoMemory>
+        ensures value { IfOk result (λ made. made ≡ self.entry) }
+    {
+        match &self.form {
+            Form::Element(_, _) | Form::Inside(_) => self.taken_out(alloc),
+            _ => Ok(self),
+        }
+    }
+
+    // A cell of a copy of the value.
+    #[inline(never)]
+    fn taken_out(&self, alloc: Global) -> Result<Cell<'a>, NoMemory>
+        ensures value { IfOk result (λ made. made ≡ self.now) }
+    {
+        match self.copied(alloc)? {
+            Some(value) => Cell::of_value(alloc, value),
+            None => Ok(Cell::undefined()),
         }
     }
 
     /// The slot itself. Its value is copied where another cell shares it.
     pub fn into_slot(self, alloc: Global) -> Result<Slot, NoMemory>
-        ensures value { IfOk result (λ slot. seen_slot slot ≡ self) }
+        ensures value { IfOk result (λ slot. seen_slot slot ≡ self.entry) }
     {
         match self.into_value(alloc)? {
             Some(value) => Ok(Slot::Defined(value)),
@@ -256,7 +337,7 @@ impl Cell {
 
     /// A copy of the cell, which shares what owns memory.
     #[inline(always)]
-    pub fn copy(&self) -> Result<Cell, NoMemory>
+    pub fn copy(&self) -> Result<Cell<'a>, NoMemory>
         ensures value { IfOk result (λ made. made ≡ self.now) }
     {
         let form = match &self.form {
@@ -265,101 +346,38 @@ impl Cell {
             Form::Int(number) => Form::Int(*number),
             Form::Time(number) => Form::Time(*number),
             Form::Shared(shared) => Form::Shared(shared.clone()?),
+            Form::Lent(value) => Form::Lent(value),
+            Form::Element(place, shared) => Form::Element(*place, shared.clone()?),
+            Form::Inside(inside) => Form::Inside(inside.clone()?),
             Form::Buffer(buffer) => Form::Buffer(buffer.clone()?),
             Form::Part(count, before, buffer) => Form::Part(*count, *before, buffer.clone()?),
         };
         Ok(Cell { form })
     }
+}
 
-    /// A cell of a copy of the bytes, of which parts can be had without memory.
-    pub fn of_bytes(alloc: Global, octets: &[u8]) -> Result<Cell, NoMemory>
-        ensures value { IfOk result (λ made. made ≡ Some (bytes octets.now)) }
-    {
-        let buffer = Vec::from_slice(alloc, octets)?;
-        Ok(Cell {
-            form: Form::Buffer(Rc::new(alloc, buffer)?),
-        })
-    }
-
-    /// A cell of so many bytes of the buffer, after so many others. They lie where they are, unless they are more than a part has.
-    pub(crate) fn of_part(
-        alloc: Global,
-        buffer: &Rc<Vec<u8>>,
-        before: usize,
-        count: usize,
-    ) -> Result<Cell, NoMemory>
-        ensures value { IfOk result (λ made. made ≡ Some (bytes (take count (drop before buffer.now.value.items)))) }
-    {
-        if count > MOST_IN_PART || before > MOST_BEFORE_PART {
-            return Cell::of_bytes(alloc, lying(buffer.as_ref().as_slice(), before, count));
-        }
-        Ok(Cell {
-            form: Form::Part(count as u16, before as u32, buffer.clone()?),
-        })
-    }
-
-    /// Holds a copy of the bytes from now on. The buffer in which the cell had bytes serves again, unless another shares it.
-    pub fn set_bytes(&mut self, alloc: Global, octets: &[u8]) -> Result<(), NoMemory>
-        ensures value { OnOk result (self.new ≡ Some (bytes octets.now)) }
-    {
-        if let Form::Buffer(buffer) = &mut self.form
-            && let Some(place) = Rc::get_mut(buffer)
-        {
-            return refill(place, octets);
-        }
-        *self = Cell::of_bytes(alloc, octets)?;
-        Ok(())
+// The cell of a value that lies in it.
+#[inline(always)]
+pub(crate) fn scalar<'a>(value: &Value) -> Option<Cell<'a>>
+    ensures value { IfSome result (λ made. made ≡ Some (seen value.now)) }
+{
+    match value {
+        Value::Bool(truth) => Some(Cell::of_bool(*truth)),
+        Value::Int(number) => Some(Cell::of_int(*number)),
+        Value::Time(number) => Some(Cell {
+            form: Form::Time(*number),
+        }),
+        _ => None,
     }
 }
 
-// Holds the bytes in the stead of those before, in their memory where that is enough.
-fn refill(place: &mut Vec<u8>, octets: &[u8]) -> Result<(), NoMemory>
-    ensures value { OnOk result (place.new.items ≡ octets.now) }
+// The truth value that a value is, if it is one.
+fn truth_in(view: &View<'_>) -> Option<bool>
+    ensures value { result ≡ truth_of (Some (seen_view view.now)) }
 {
-    place.clear();
-    place.extend_from_slice(octets)?;
-    Ok(())
-}
-
-// The bytes of a part of a buffer.
-#[inline(always)]
-pub(crate) fn part_bytes(count: u16, before: u32, buffer: &Rc<Vec<u8>>) -> &[u8]
-    ensures value { result.now ≡ take count (drop before buffer.now.value.items) }
-{
-    lying(buffer.as_ref().as_slice(), before as usize, count as usize)
-}
-
-// So many bytes after so many others, or as many as there are.
-#[inline(always)]
-pub(crate) fn lying(octets: &[u8], before: usize, count: usize) -> &[u8]
-    ensures value { result.now ≡ take count (drop before octets.now) }
-{
-    front(after(octets, before), count)
-}
-
-// The bytes after so many others.
-#[inline(always)]
-#[tactic(auto, using(crate::proofs::ResultLemmas::nothing_after))]
-fn after(octets: &[u8], before: usize) -> &[u8]
-    ensures value { result.now ≡ drop before octets.now }
-{
-    if before <= octets.len() {
-        &octets[before..]
-    } else {
-        &[]
-    }
-}
-
-// The first so many bytes.
-#[inline(always)]
-#[tactic(auto, using(crate::proofs::ResultLemmas::all_in_front))]
-fn front(octets: &[u8], count: usize) -> &[u8]
-    ensures value { result.now ≡ take count octets.now }
-{
-    if count <= octets.len() {
-        &octets[..count]
-    } else {
-        octets
+    match view.kind() {
+        Kind::Bool(value) => Some(value),
+        _ => None,
     }
 }
 

@@ -1,11 +1,15 @@
 //! What a run has at hand: cells, operands, open calls and candidate lists; and what operators and stores make of cells.
 #![tactic(auto)]
 
+mod buffers;
 mod calls;
 mod candidates;
 mod cell;
+mod finding;
+mod inside;
 mod numbers;
 mod operands;
+mod parts;
 mod results;
 mod storing;
 mod weights;

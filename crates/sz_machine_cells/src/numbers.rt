@@ -9,7 +9,7 @@ use sz_types::BinOp;
 
 /// What the operator makes of two whole numbers, if it is a common one, without a value in between. Nothing is to be paid for that.
 #[inline(always)]
-pub fn of_ints(op: BinOp, a: i64, b: i64) -> Option<Cell>
+pub fn of_ints<'a>(op: BinOp, a: i64, b: i64) -> Option<Cell<'a>>
     ensures value { IfSome result (λ made. binary op (int a) (int b) ≡ made) }
     ensures free { IfSome result (λ made. binary_weight op made ≡ 0) }
 {

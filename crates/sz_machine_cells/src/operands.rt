@@ -16,17 +16,17 @@ use sz_value::{List, NoMemory};
 /// The operands of a run, in room that is kept.
 ///
 /// Contracts see the list of their slots, the topmost first.
-pub struct Operands {
-    cells: Vec<Cell>,
+pub struct Operands<'a> {
+    cells: Vec<Cell<'a>>,
 }
 
-impl Drop for Operands {
+impl<'a> Drop for Operands<'a> {
     fn drop(self) {
         let Operands { cells: _ } = self;
     }
 }
 
-impl Model for Operands {
+impl<'a> Model for Operands<'a> {
     ghost use Rattle.std.specs.Prelude.{List, Option, reverse};
     ghost use Rattle.sz_value.specs.Data.{Datum};
     ghost use Rattle.sz_value.specs.Code.{slots_code};
@@ -38,9 +38,9 @@ impl Model for Operands {
     ghost view = { λ operands. reverse operands.cells.items };
 }
 
-impl Operands {
+impl<'a> Operands<'a> {
     /// No operands, which takes no memory.
-    pub fn new(alloc: Global) -> Operands
+    pub fn new(alloc: Global) -> Operands<'a>
         ensures value { result ≡ [] }
     {
         Operands {
@@ -65,8 +65,8 @@ impl Operands {
 
     /// Puts the cell on top.
     #[inline(always)]
-    pub fn push(&mut self, cell: Cell) -> Result<(), NoMemory>
-        ensures ok { OnOk result (self.new ≡ cell ∷ self.old) }
+    pub fn push(&mut self, cell: Cell<'a>) -> Result<(), NoMemory>
+        ensures ok { OnOk result (self.new ≡ cell.entry ∷ self.old) }
         ensures err { OnErr result (self.new ≡ self.old) }
     {
         self.cells.push(cell)?;
@@ -75,7 +75,7 @@ impl Operands {
 
     /// Takes the topmost operand off.
     #[inline(always)]
-    pub fn pop(&mut self) -> Cell
+    pub fn pop(&mut self) -> Cell<'a>
         requires some { 0 < length self.old }
         ensures value { self.old ≡ result ∷ self.new }
     {
@@ -87,7 +87,7 @@ impl Operands {
 
     /// The topmost operand.
     #[inline(always)]
-    pub fn top(&self) -> &Cell
+    pub fn top(&self) -> &Cell<'a>
         requires some { 0 < length self.now }
         ensures value { self.now ≡ result.now ∷ drop 1 self.now }
     {
@@ -109,9 +109,9 @@ impl Operands {
 
     /// Puts the cell in the stead of the two topmost operands.
     #[inline(always)]
-    pub fn put_for_two(&mut self, cell: Cell)
+    pub fn put_for_two(&mut self, cell: Cell<'a>)
         requires some { 1 < length self.old }
-        ensures value { self.new ≡ cell ∷ drop 2 self.old }
+        ensures value { self.new ≡ cell.entry ∷ drop 2 self.old }
     {
         let place = self.cells.len() - 2;
         let _upper = self.cells.pop();
@@ -158,7 +158,7 @@ impl Operands {
     }
 
     /// Moves so many topmost operands to the end of the cells, the upmost one last.
-    pub fn move_to(&mut self, count: usize, cells: &mut Vec<Cell>) -> Result<(), NoMemory>
+    pub fn move_to(&mut self, count: usize, cells: &mut Vec<Cell<'a>>) -> Result<(), NoMemory>
         requires within { count ≤ length self.old }
         ensures rest { OnOk result (self.new ≡ drop count self.old) }
         ensures moved { OnOk result (cells.new.items ≡ cells.old.items ++ popped count self.old) }
@@ -186,7 +186,7 @@ impl Operands {
 }
 
 // Whether the cells are all defined.
-fn all_defined(cells: &[Cell]) -> bool
+fn all_defined(cells: &[Cell<'_>]) -> bool
     ensures value { result ≡ list_all is_some cells.now }
 {
     cells.iter().all(|cell| cell.is_defined())
@@ -194,7 +194,7 @@ fn all_defined(cells: &[Cell]) -> bool
 
 // What the cells weigh together, if that is no more than `most`.
 #[tactic(auto, using(crate::proofs::PartLemmas::all_weigh, crate::proofs::ListLemmas::are_not_all))]
-fn parts_weight(cells: &[Cell], most: u64) -> Option<u64>
+fn parts_weight(cells: &[Cell<'_>], most: u64) -> Option<u64>
     ensures some { IfSome result (λ weight. (weight ≡ weight_if_all (all_defined cells.now)) × (weight ≤ most)) }
     ensures none { IfNone result (most < weight_if_all (all_defined cells.now)) }
 {
@@ -206,7 +206,7 @@ fn parts_weight(cells: &[Cell], most: u64) -> Option<u64>
 }
 
 // What an array or a tuple of the cells weighs, if that is no more than `most`. A weight stays at 2^64 - 1.
-fn composite_weight(cells: &[Cell], most: u64) -> Option<u64>
+fn composite_weight(cells: &[Cell<'_>], most: u64) -> Option<u64>
     ensures some { IfSome result (λ weight. (weight ≡ composite_weight (all_defined cells.now)) × (weight ≤ most)) }
     ensures none { IfNone result (most < composite_weight (all_defined cells.now)) }
 {
@@ -221,7 +221,7 @@ fn composite_weight(cells: &[Cell], most: u64) -> Option<u64>
 }
 
 // A number and what the cells weigh, if that is no more than `most`. Nothing is weighed once it is more.
-fn sum_within(cells: &[Cell], first: u64, most: u64) -> Option<u64>
+fn sum_within(cells: &[Cell<'_>], first: u64, most: u64) -> Option<u64>
     ensures some { IfSome result (λ sum. (sum ≡ first + slots_weight cells.now) × (sum ≤ most)) }
     ensures none { IfNone result (most < first + slots_weight cells.now) }
 {
@@ -237,8 +237,8 @@ fn sum_within(cells: &[Cell], first: u64, most: u64) -> Option<u64>
 
 // The values of the cells, if all of them are defined.
 #[tactic(auto, using(crate::proofs::ListLemmas::are_all, crate::proofs::ListLemmas::are_not_all))]
-fn gathered(alloc: Global, cells: Vec<Cell>) -> Result<Option<List>, NoMemory>
-    ensures value { IfOk result (λ values. values ≡ all_defined cells.items) }
+fn gathered(alloc: Global, cells: Vec<Cell<'_>>) -> Result<Option<List>, NoMemory>
+    ensures value { IfOk result (λ values. values ≡ all_defined cells.entry.items) }
 {
     if all_defined(&cells) {
         Ok(Some(values_of(alloc, cells)?))
@@ -249,8 +249,8 @@ fn gathered(alloc: Global, cells: Vec<Cell>) -> Result<Option<List>, NoMemory>
 
 // The values of the cells that are defined.
 #[tactic(auto, using(crate::proofs::ListLemmas::one_more_defined, crate::proofs::ListLemmas::no_more_defined))]
-fn values_of(alloc: Global, cells: Vec<Cell>) -> Result<List, NoMemory>
-    ensures value { IfOk result (λ values. values ≡ defined_of cells.items) }
+fn values_of(alloc: Global, cells: Vec<Cell<'_>>) -> Result<List, NoMemory>
+    ensures value { IfOk result (λ values. values ≡ defined_of cells.entry.items) }
 {
     let mut values = List::with_capacity(alloc, cells.len())?;
     for cell in cells {

@@ -1,16 +1,18 @@
 //! What operators, functions, conversions and composites make of operands.
-ghost use Rattle.std.specs.Prelude.{◌≡◌, ◌∷◌, [], ℕ, IfOk, Some, slice_get, take, drop};
+ghost use Rattle.std.specs.Prelude.{◌≡◌, ◌∷◌, [], ℕ, IfOk, Some, take, drop};
 ghost use Rattle.sz_types.specs.Seen.{seen as seen_type};
 ghost use Rattle.sz_value.specs.Data.{bytes, int};
 ghost use Rattle.sz_value.specs.Seen.{seen_pairs};
 ghost use Rattle.sz_builtin.specs.Conversions.{convert};
-ghost use Rattle.sz_builtin.specs.Places.{slice};
+ghost use Rattle.sz_builtin.specs.Places.{slice, index};
 ghost use Rattle.sz_builtin.specs.Views.{seen_view};
 ghost use Rattle.sz_world_rules.specs.Operations.{unary_of, binary_of, applied, converted_plainly, message_of, decoded_as, array_of, tuple_of, map_of};
 ghost use Rattle.sz_world_rules.specs.Operations.{element_of, slice_of, part_at, part_of, definedness};
 ghost use Rattle.sz_machine_cells.specs.Results.{array_of_all, tuple_of_all, map_of_all, by_turns};
 
-use crate::cell::{Cell, Form, lying, part_bytes};
+use crate::buffers::{lying, part_bytes};
+use crate::cell::{Cell, Form};
+use crate::finding::place_in;
 use std::alloc::Global;
 use std::rc::Rc;
 use sz_builtin::{
@@ -22,7 +24,7 @@ use sz_types::{BinOp, Builtin, Ty, UnOp};
 use sz_value::{List, NoMemory, Pair, Pairs, Value};
 
 /// What the operator makes of an operand.
-pub fn unary_of(alloc: Global, op: UnOp, x: &Cell) -> Result<Cell, NoMemory>
+pub fn unary_of<'a>(alloc: Global, op: UnOp, x: &Cell<'_>) -> Result<Cell<'a>, NoMemory>
     ensures value { IfOk result (λ made. made ≡ unary_of op x.now) }
 {
     match x.view() {
@@ -32,7 +34,12 @@ pub fn unary_of(alloc: Global, op: UnOp, x: &Cell) -> Result<Cell, NoMemory>
 }
 
 /// What the operator makes of two operands.
-pub fn binary_of(alloc: Global, op: BinOp, x: &Cell, y: &Cell) -> Result<Cell, NoMemory>
+pub fn binary_of<'a>(
+    alloc: Global,
+    op: BinOp,
+    x: &Cell<'_>,
+    y: &Cell<'_>,
+) -> Result<Cell<'a>, NoMemory>
     ensures value { IfOk result (λ made. made ≡ binary_of op x.now y.now) }
 {
     match (x.view(), y.view()) {
@@ -42,7 +49,7 @@ pub fn binary_of(alloc: Global, op: BinOp, x: &Cell, y: &Cell) -> Result<Cell, N
 }
 
 /// What the function makes of its one argument, which is looked at where it is.
-pub fn applied_to_one(alloc: Global, which: Builtin, x: &Cell) -> Result<Cell, NoMemory>
+pub fn applied_to_one<'a>(alloc: Global, which: Builtin, x: &Cell<'_>) -> Result<Cell<'a>, NoMemory>
     ensures value { IfOk result (λ made. made ≡ applied which (x.now ∷ [])) }
 {
     match x.view() {
@@ -52,7 +59,12 @@ pub fn applied_to_one(alloc: Global, which: Builtin, x: &Cell) -> Result<Cell, N
 }
 
 /// What the function makes of its two arguments, which are looked at where they are.
-pub fn applied_to_two(alloc: Global, which: Builtin, x: &Cell, y: &Cell) -> Result<Cell, NoMemory>
+pub fn applied_to_two<'a>(
+    alloc: Global,
+    which: Builtin,
+    x: &Cell<'_>,
+    y: &Cell<'_>,
+) -> Result<Cell<'a>, NoMemory>
     ensures value { IfOk result (λ made. made ≡ applied which (x.now ∷ y.now ∷ [])) }
 {
     match (x.view(), y.view()) {
@@ -62,7 +74,7 @@ pub fn applied_to_two(alloc: Global, which: Builtin, x: &Cell, y: &Cell) -> Resu
 }
 
 /// What an operand becomes by a conversion to the type. Bytes stay bytes where that is a proto type: `decoded` reads them.
-pub fn converted(alloc: Global, to: &Ty, x: &Cell) -> Result<Cell, NoMemory>
+pub fn converted<'a>(alloc: Global, to: &Ty, x: &Cell<'_>) -> Result<Cell<'a>, NoMemory>
     ensures value { IfOk result (λ made. made ≡ converted_plainly (seen_type to.now) x.now) }
 {
     match x.view() {
@@ -72,7 +84,7 @@ pub fn converted(alloc: Global, to: &Ty, x: &Cell) -> Result<Cell, NoMemory>
 }
 
 // What a value becomes by a conversion to the type.
-fn became(alloc: Global, to: &Ty, value: &View<'_>) -> Result<Cell, NoMemory>
+fn became<'a>(alloc: Global, to: &Ty, value: &View<'_>) -> Result<Cell<'a>, NoMemory>
     ensures value { IfOk result (λ made. made ≡ convert (seen_view value.now) (seen_type to.now)) }
 {
     match to {
@@ -89,7 +101,7 @@ fn became(alloc: Global, to: &Ty, value: &View<'_>) -> Result<Cell, NoMemory>
 }
 
 /// The message that an operand's bytes are by the type. It is undefined where the operand isn't bytes.
-pub fn decoded(alloc: Global, by: &Ty, x: &Cell) -> Result<Cell, NoMemory>
+pub fn decoded<'a>(alloc: Global, by: &Ty, x: &Cell<'_>) -> Result<Cell<'a>, NoMemory>
     ensures value { IfOk result (λ made. made ≡ decoded_as (seen_type by.now) x.now) }
 {
     match x.view() {
@@ -99,7 +111,7 @@ pub fn decoded(alloc: Global, by: &Ty, x: &Cell) -> Result<Cell, NoMemory>
 }
 
 // The message that a value is by the type: bytes alone are one.
-fn message_of(alloc: Global, by: &Ty, value: &View<'_>) -> Result<Cell, NoMemory>
+fn message_of<'a>(alloc: Global, by: &Ty, value: &View<'_>) -> Result<Cell<'a>, NoMemory>
     ensures value { IfOk result (λ made. made ≡ message_of (seen_type by.now) (seen_view value.now)) }
 {
     match value.kind() {
@@ -109,7 +121,7 @@ fn message_of(alloc: Global, by: &Ty, value: &View<'_>) -> Result<Cell, NoMemory
 }
 
 /// The array of these elements, if they are all there.
-pub fn array_of(alloc: Global, elements: Option<List>) -> Result<Cell, NoMemory>
+pub fn array_of<'a>(alloc: Global, elements: Option<List>) -> Result<Cell<'a>, NoMemory>
     ensures value { IfOk result (λ made. made ≡ array_of_all elements) }
 {
     match elements {
@@ -119,7 +131,7 @@ pub fn array_of(alloc: Global, elements: Option<List>) -> Result<Cell, NoMemory>
 }
 
 /// The tuple of these parts, if they are all there.
-pub fn tuple_of(alloc: Global, parts: Option<List>) -> Result<Cell, NoMemory>
+pub fn tuple_of<'a>(alloc: Global, parts: Option<List>) -> Result<Cell<'a>, NoMemory>
     ensures value { IfOk result (λ made. made ≡ tuple_of_all parts) }
 {
     match parts {
@@ -130,7 +142,7 @@ pub fn tuple_of(alloc: Global, parts: Option<List>) -> Result<Cell, NoMemory>
 
 /// The map of these keys and values, which stand by turns, if they are all there.
 #[tactic(auto, using(crate::proofs::TurnLemmas::put_by_turns))]
-pub fn map_of(alloc: Global, parts: Option<List>) -> Result<Cell, NoMemory>
+pub fn map_of<'a>(alloc: Global, parts: Option<List>) -> Result<Cell<'a>, NoMemory>
     ensures value { IfOk result (λ made. made ≡ map_of_all parts) }
 {
     match parts {
@@ -157,19 +169,40 @@ fn by_turns(alloc: Global, parts: List) -> Result<Vec<Pair>, NoMemory>
     Ok(pairs)
 }
 
-/// The element of a value under an index or a key.
-pub fn element_of(alloc: Global, x: &Cell, i: &Cell) -> Result<Cell, NoMemory>
+/// The element of a value under an index or a key, where it stands.
+pub fn element_of<'a>(alloc: Global, x: &Cell<'a>, i: &Cell<'_>) -> Result<Cell<'a>, NoMemory>
     ensures value { IfOk result (λ made. made ≡ element_of x.now i.now) }
 {
     match (x.view(), i.view()) {
-        (Some(base), Some(at)) => Cell::of_slot(alloc, index_of_views(alloc, &base, &at)?),
+        (Some(base), Some(at)) => element_in(alloc, x, &base, &at),
         _ => Ok(Cell::undefined()),
+    }
+}
+
+// The element of a value that is seen in this cell.
+fn element_in<'a>(
+    alloc: Global,
+    x: &Cell<'a>,
+    base: &View<'_>,
+    at: &View<'_>,
+) -> Result<Cell<'a>, NoMemory>
+    requires same { x.now ≡ Some (seen_view base.now) }
+    ensures value { IfOk result (λ made. made ≡ index (seen_view base.now) (seen_view at.now)) }
+{
+    match place_in(alloc, base, at)? {
+        Some(n) => x.part(alloc, n),
+        None => Cell::of_slot(alloc, index_of_views(alloc, base, at)?),
     }
 }
 
 /// The part of a value between two places. Of bytes that lie in a buffer it is one that lies there too.
 #[tactic(auto, using(crate::proofs::ResultLemmas::no_beginning, crate::proofs::ResultLemmas::no_end))]
-pub fn slice_of(alloc: Global, x: &Cell, i: &Cell, j: &Cell) -> Result<Cell, NoMemory>
+pub fn slice_of<'a>(
+    alloc: Global,
+    x: &Cell<'_>,
+    i: &Cell<'_>,
+    j: &Cell<'_>,
+) -> Result<Cell<'a>, NoMemory>
     ensures value { IfOk result (λ made. made ≡ slice_of x.now i.now j.now) }
 {
     let Some(base) = x.view() else {
@@ -188,13 +221,13 @@ pub fn slice_of(alloc: Global, x: &Cell, i: &Cell, j: &Cell) -> Result<Cell, NoM
 }
 
 // The part between two places of a value that is seen in this cell.
-fn part_between(
+fn part_between<'a>(
     alloc: Global,
-    x: &Cell,
+    x: &Cell<'_>,
     base: &View<'_>,
     from: i64,
     to: i64,
-) -> Result<Cell, NoMemory>
+) -> Result<Cell<'a>, NoMemory>
     requires same { x.now ≡ Some (seen_view base.now) }
     ensures value { IfOk result (λ made. made ≡ slice (seen_view base.now) from to) }
 {
@@ -208,7 +241,12 @@ fn part_between(
 }
 
 // The part between two places of the bytes of a buffer.
-fn part_of_buffer(alloc: Global, buffer: &Rc<Vec<u8>>, from: i64, to: i64) -> Result<Cell, NoMemory>
+fn part_of_buffer<'a>(
+    alloc: Global,
+    buffer: &Rc<Vec<u8>>,
+    from: i64,
+    to: i64,
+) -> Result<Cell<'a>, NoMemory>
     ensures value { IfOk result (λ made. made ≡ slice (bytes buffer.now.value.items) from to) }
 {
     match bytes_between(buffer.as_ref().as_slice(), from, to) {
@@ -219,14 +257,14 @@ fn part_of_buffer(alloc: Global, buffer: &Rc<Vec<u8>>, from: i64, to: i64) -> Re
 
 // The part between two places of so many bytes of a buffer, after so many others.
 #[tactic(auto, using(crate::proofs::ResultLemmas::part_in_part))]
-fn part_of_part(
+fn part_of_part<'a>(
     alloc: Global,
     count: u16,
     before: u32,
     buffer: &Rc<Vec<u8>>,
     from: i64,
     to: i64,
-) -> Result<Cell, NoMemory>
+) -> Result<Cell<'a>, NoMemory>
     ensures value { IfOk result (λ made. made ≡ slice (bytes (take count (drop before buffer.now.value.items))) from to) }
 {
     match bytes_between(part_bytes(count, before, buffer), from, to) {
@@ -236,7 +274,7 @@ fn part_of_part(
 }
 
 // The part between two places of a value, in memory of its own.
-fn part_anew(alloc: Global, base: &View<'_>, from: i64, to: i64) -> Result<Cell, NoMemory>
+fn part_anew<'a>(alloc: Global, base: &View<'_>, from: i64, to: i64) -> Result<Cell<'a>, NoMemory>
     ensures value { IfOk result (λ made. made ≡ slice (seen_view base.now) from to) }
 {
     match base.kind() {
@@ -246,7 +284,7 @@ fn part_anew(alloc: Global, base: &View<'_>, from: i64, to: i64) -> Result<Cell,
 }
 
 // The part between two places of bytes, in memory of its own.
-fn bytes_anew(alloc: Global, contents: &[u8], from: i64, to: i64) -> Result<Cell, NoMemory>
+fn bytes_anew<'a>(alloc: Global, contents: &[u8], from: i64, to: i64) -> Result<Cell<'a>, NoMemory>
     ensures value { IfOk result (λ made. made ≡ slice (bytes contents.now) from to) }
 {
     match bytes_between(contents, from, to) {
@@ -255,39 +293,34 @@ fn bytes_anew(alloc: Global, contents: &[u8], from: i64, to: i64) -> Result<Cell
     }
 }
 
-/// The part of a tuple or a message at a place.
-pub fn part_of(alloc: Global, n: u32, x: &Cell) -> Result<Cell, NoMemory>
+/// The part of a tuple or a message at a place, where it stands.
+pub fn part_of<'a>(alloc: Global, n: u32, x: &Cell<'a>) -> Result<Cell<'a>, NoMemory>
     ensures value { IfOk result (λ made. made ≡ part_of n x.now) }
 {
     match x.view() {
-        Some(a) => part_at(alloc, n as usize, &a),
+        Some(a) => part_in(alloc, n as usize, x, &a),
         None => Ok(Cell::undefined()),
     }
 }
 
-// A copy of the part of a value at a place.
-#[tactic(auto, using(sz_builtin::proofs::Parts::parts_back))]
-fn part_at(alloc: Global, n: usize, value: &View<'_>) -> Result<Cell, NoMemory>
+// The part of a value that is seen in this cell.
+fn part_in<'a>(
+    alloc: Global,
+    n: usize,
+    x: &Cell<'a>,
+    value: &View<'_>,
+) -> Result<Cell<'a>, NoMemory>
+    requires same { x.now ≡ Some (seen_view value.now) }
     ensures value { IfOk result (λ made. made ≡ part_at n (seen_view value.now)) }
 {
     match value.kind() {
-        Kind::Tuple(parts) => item_at(alloc, n, parts),
+        Kind::Tuple(_) => x.part(alloc, n),
         _ => Ok(Cell::undefined()),
     }
 }
 
-// A copy of the value at a place of the list.
-fn item_at(alloc: Global, n: usize, parts: &List) -> Result<Cell, NoMemory>
-    ensures value { IfOk result (λ made. made ≡ slice_get parts.now n) }
-{
-    match parts.as_slice().get(n) {
-        Some(value) => Cell::of_copy(alloc, value),
-        None => Ok(Cell::undefined()),
-    }
-}
-
 /// Whether an operand is defined.
-pub fn definedness(x: &Cell) -> Cell
+pub fn definedness<'a>(x: &Cell<'_>) -> Cell<'a>
     ensures value { result ≡ definedness x.now }
 {
     Cell::of_bool(x.is_defined())

@@ -212,15 +212,15 @@ fn taken(pairs: &mut Pairs, key: &Value) -> Option<Value>
 
 /// The cell of the old one with the new value where the steps lead, if they lead somewhere. Where no other cell shares what the old
 /// one holds, it is changed in place.
-pub fn stored_in(
+pub fn stored_in<'a>(
     alloc: Global,
     steps: &[Step],
     indexes: &[Value],
     new: Value,
-    old: Cell,
-) -> Result<Option<Cell>, NoMemory>
+    old: Cell<'a>,
+) -> Result<Option<Cell<'a>>, NoMemory>
     ensures value { IfOk result (λ made.
-        option_map defined (replaced_by steps.now (map seen indexes.now) (seen new) old) ≡ made) }
+        option_map defined (replaced_by steps.now (map seen indexes.now) (seen new) old.entry) ≡ made) }
 {
     match old.form {
         Form::Shared(mut shared) => match Rc::get_mut(&mut shared) {
@@ -246,13 +246,13 @@ pub fn stored_in(
 }
 
 // The cell of the old value with the new one where the steps lead, if they lead somewhere.
-fn made_anew(
+fn made_anew<'a>(
     alloc: Global,
     steps: &[Step],
     indexes: &[Value],
     new: Value,
     old: Option<Value>,
-) -> Result<Option<Cell>, NoMemory>
+) -> Result<Option<Cell<'a>>, NoMemory>
     ensures value { IfOk result (λ made.
         option_map defined (replaced_by steps.now (map seen indexes.now) (seen new) (option_map seen old)) ≡ made) }
 {

@@ -14,6 +14,9 @@ use Rattle.sz_types.proofs.operator.UnOp.TheSendSync as un_op
 use Rattle.sz_types.proofs.place.Place.TheSendSync as place
 use Rattle.sz_types.proofs.text.Text.TheSendSync as text
 use Rattle.sz_types.proofs.ty.Ty.TheLaws.TheKnot as ty
+use Rattle.sz_value.proofs.form.Form.TheSendSync as form
+use Rattle.sz_value.proofs.marked.MarkedText.TheSendSync as marked
+use Rattle.sz_value.proofs.text.Text.TheSendSync as value_text
 use Rattle.sz_value.proofs.value.List.TheLaws.TheKnot as value
 use Rattle.sz_instr.proofs.instr.Instr.TheSendSync as instr
 use Rattle.sz_instr.proofs.line.Line.TheSendSync as line
@@ -51,6 +54,12 @@ ruleset parts = (
   un_op.the_sync,
   place.the_sync,
   text.the_sync,
+  form.the_send,
+  form.the_sync,
+  marked.the_send,
+  marked.the_sync,
+  value_text.the_send,
+  value_text.the_sync,
   ty.crosses,
   value.crosses,
   instr.the_sync,

@@ -14,7 +14,7 @@ use sz_value::NoMemory;
 /// Runs an attempt of the shard at a place of the round. The gate is called before.
 pub(crate) fn run_attempt<'a, G: Gate>(
     alloc: Global,
-    room: &mut Room,
+    room: &mut Room<'a>,
     job: &'a Job,
     round: &Round,
     gate: &G,

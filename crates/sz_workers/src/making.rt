@@ -22,7 +22,7 @@ use sz_workers_loop::{Maker, Missed};
 #[derive(Drop)]
 pub(crate) struct RoundMaker<'a, 'r, G: Gate, N: RoundName> {
     pub(crate) alloc: Global,
-    pub(crate) room: Room,
+    pub(crate) room: Room<'a>,
     pub(crate) job: &'a Job,
     pub(crate) round: &'r Round,
     pub(crate) gate: &'r G,

@@ -34,7 +34,7 @@ pub(crate) enum Rest<'a> {
 // Runs attempts of the shard at a place until one doesn't die.
 fn run_shard<'a, G: Gate>(
     alloc: Global,
-    room: &mut Room,
+    room: &mut Room<'a>,
     job: &'a Job,
     round: &Round,
     gate: &G,
@@ -110,7 +110,7 @@ fn fault_end<'a>(one: Skipped) -> RoundEnd<'a>
 // shard in front does.
 fn complete<'a, G: Gate, N: RoundName>(
     alloc: Global,
-    room: &mut Room,
+    room: &mut Room<'a>,
     job: &'a Job,
     round: &Round,
     plan: &Plan,
@@ -147,7 +147,7 @@ fn complete<'a, G: Gate, N: RoundName>(
 // Runs the shard at a place, which isn't in the pool, while no shard in front decides: the end of the round, if it decides.
 fn run_left<'a, G: Gate, N: RoundName>(
     alloc: Global,
-    room: &mut Room,
+    room: &mut Room<'a>,
     job: &'a Job,
     round: &Round,
     plan: &Plan,

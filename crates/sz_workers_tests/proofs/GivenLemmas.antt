@@ -45,9 +45,9 @@ second_shard = record { first = 2; start = 1; end = 2 }
 
 -- two records with a shard for each are a round
 pub is_round : (records : List (List ℕ)) (shards : List Shard) → length records ≡ 2 → shards ≡ first_shard ∷ second_shard ∷ []
-    → IsRound record { records = records; shards = shards; first_shard = 0 }
+    → IsRound record { records = records; shards = shards; first_shard = 0; passed = 0 }
 is_round records shards two is =
-    subst (λ (ss : List Shard). IsRound record { records = records; shards = ss; first_shard = 0 }) (sym is) (record {
+    subst (λ (ss : List Shard). IsRound record { records = records; shards = ss; first_shard = 0; passed = 0 }) (sym is) (record {
       few = omega arith;
       numbers = omega arith;
       within = All-cons (IsShardIn records) first_shard (second_shard ∷ [])

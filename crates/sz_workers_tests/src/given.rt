@@ -20,10 +20,10 @@ use sz_rounds::Round;
 use sz_types::Frame;
 use sz_value::Slots;
 
-/// The number of lines, the sum of their numbers, and that of the squares.
+/// The number of lines that aren't 0, the sum of their numbers, and that of the squares. A line without a number faults.
 const PROGRAM: &[u8] =
     b"count: table sum of int; total: table sum of int; sum_of_squares: table sum of int; x: int = input; \
-      emit count <- 1; emit total <- x; emit sum_of_squares <- x * x;";
+      if (x != 0) emit count <- 1; emit total <- x; emit sum_of_squares <- x * x;";
 
 // The program, checked.
 fn checked(alloc: Global) -> Option<Program> {
@@ -57,8 +57,8 @@ fn statics_of(alloc: Global, compiled: &Compiled) -> Option<Slots>
     }
 }
 
-/// A job of the program, with three attempts and a second ticket for each of two shards.
-pub fn doubled_job(alloc: Global) -> Option<Job>
+/// A job of the program, with three attempts and a second ticket for each of two shards. So many records that fault are passed over.
+pub fn doubled_job(alloc: Global, skip: u32) -> Option<Job>
     ensures job { IfSome result (λ job. IsJob job) }
     ensures attempts { IfSome result (λ job. job.attempts ≡ 3) }
 {
@@ -71,19 +71,20 @@ pub fn doubled_job(alloc: Global) -> Option<Job>
         compiled,
         statics,
         budget: 1_000_000,
+        skip,
         attempts: 3,
         kills: Items::new(alloc),
         twice,
     })
 }
 
-// Two lines.
-fn two_records(alloc: Global) -> Option<Records>
+// Two lines, if the text has so many.
+fn two_records(alloc: Global, text: &[u8]) -> Option<Records>
     ensures count { IfSome result (λ records. length records ≡ 2) }
 {
     let mut records = Records::new(alloc);
     let mut framer = Framer::new(alloc, Frame::Lines, FrameLimits::FULL);
-    if framer.feed(b"3\n-1\n", &mut records).is_ok() && records.len() == 2 {
+    if framer.feed(text, &mut records).is_ok() && records.len() == 2 {
         Some(records)
     } else {
         None
@@ -111,15 +112,17 @@ fn two_shards(alloc: Global) -> Option<ShardRanges>
     Some(shards)
 }
 
-/// The round of the two lines, each a shard.
-pub fn round_of_two(alloc: Global) -> Option<Round>
+/// The round of a text's two lines, each a shard. No record in front of it was passed over.
+pub fn round_of_two(alloc: Global, text: &[u8]) -> Option<Round>
     ensures round { IfSome result (λ round. IsRound round) }
+    ensures passed { IfSome result (λ round. round.passed ≡ 0) }
 {
-    let records = two_records(alloc)?;
+    let records = two_records(alloc, text)?;
     let shards = two_shards(alloc)?;
     Some(Round {
         records,
         shards,
         first_shard: 0,
+        passed: 0,
     })
 }

@@ -22,6 +22,7 @@ fn worked<'a, N: RoundName>(
     requires job { (job.now ≡ N.job) × IsJob job.now }
     requires attempts { (1 ≤ job.now.attempts) × (job.now.attempts ≤ 8) }
     requires round { (round.now ≡ N.round) × IsRound round.now }
+    requires passed { round.now.passed ≤ job.now.skip }
 {
     let plan = plan_of(alloc, job, round)?;
     let load: RoundPart<'a, N> = RoundPart::empty(alloc, &plan, job.compiled.tables())?;
@@ -52,6 +53,7 @@ fn fills_the_lane<'a, N: RoundName>(alloc: Global, job: &'a Job, round: &Round) 
     requires job { (job.now ≡ N.job) × IsJob job.now }
     requires attempts { (1 ≤ job.now.attempts) × (job.now.attempts ≤ 8) }
     requires round { (round.now ≡ N.round) × IsRound round.now }
+    requires passed { round.now.passed ≤ job.now.skip }
 {
     match worked::<N>(alloc, job, round) {
         Ok((closed, pocket)) => is_all_in_the_lane(&closed, &pocket),
@@ -61,10 +63,10 @@ fn fills_the_lane<'a, N: RoundName>(alloc: Global, job: &'a Job, round: &Round) 
 
 // The same of the job with doubled shards.
 fn holds(alloc: Global) -> bool {
-    let Some(job) = doubled_job(alloc) else {
+    let Some(job) = doubled_job(alloc, 0) else {
         return false;
     };
-    let Some(round) = round_of_two(alloc) else {
+    let Some(round) = round_of_two(alloc, b"3\n-1\n") else {
         return false;
     };
     fills_the_lane::<Brand>(alloc, &job, &round)

@@ -17,7 +17,7 @@ pub returns-in-Static : goal.returns-in-Static
 returns-in-Static c =
     let is : c.args.instr.now ≡ instr.Static c.in-Static.n = search rules in
     record {
-      value = IfOk-weaker c.push_static.result _ _ (λ next does. rw is (does (in_static c.args.at c.args.statics.now) refl)) (c.push_static.ensures.value c.args.code.now c.args.place);
+      value = IfOk-weaker c.copy_static.result _ _ (λ next does. rw is (does (in_static c.args.at c.args.statics.now) refl)) (c.copy_static.ensures.value c.args.code.now c.args.place);
     }
 
 pub returns-in-KeepStatic : goal.returns-in-KeepStatic

@@ -34,7 +34,7 @@ returns-in-Local c =
 pub returns-in-Keep : goal.returns-in-Keep
 returns-in-Keep c =
     let is : c.args.instr.now ≡ instr.Keep c.in-Keep.n = search rules in
-    record { value = λ a at. rw is (c.keep.ensures.value c.args.code.now c.args.place a) }
+    record { value = IfOk-weaker c.keep.result _ _ (λ next does a at. rw is (does c.args.place a)) (c.keep.ensures.value c.args.code.now) }
 
 pub returns-in-Clear : goal.returns-in-Clear
 returns-in-Clear c =

@@ -1,0 +1,106 @@
+//! Cells whose bytes lie in a buffer.
+ghost use Rattle.std.specs.Prelude.{◌≡◌, IfOk, OnOk, Some, take, drop};
+ghost use Rattle.sz_value.specs.Data.{bytes};
+
+use crate::cell::{Cell, Form};
+use std::alloc::Global;
+use std::rc::Rc;
+use sz_value::NoMemory;
+
+// How many bytes a part can have, and how many can lie before it.
+const MOST_IN_PART: usize = 65_535;
+
+const MOST_BEFORE_PART: usize = 4_294_967_295;
+
+impl<'a> Cell<'a> {
+    /// A cell of a copy of the bytes, of which parts can be had without memory.
+    pub fn of_bytes(alloc: Global, octets: &[u8]) -> Result<Cell<'a>, NoMemory>
+        ensures value { IfOk result (λ made. made ≡ Some (bytes octets.now)) }
+    {
+        let buffer = Vec::from_slice(alloc, octets)?;
+        Ok(Cell {
+            form: Form::Buffer(Rc::new(alloc, buffer)?),
+        })
+    }
+
+    /// A cell of so many bytes of the buffer, after so many others. They lie where they are, unless they are more than a part has.
+    pub(crate) fn of_part(
+        alloc: Global,
+        buffer: &Rc<Vec<u8>>,
+        before: usize,
+        count: usize,
+    ) -> Result<Cell<'a>, NoMemory>
+        ensures value { IfOk result (λ made. made ≡ Some (bytes (take count (drop before buffer.now.value.items)))) }
+    {
+        if count > MOST_IN_PART || before > MOST_BEFORE_PART {
+            return Cell::of_bytes(alloc, lying(buffer.as_ref().as_slice(), before, count));
+        }
+        Ok(Cell {
+            form: Form::Part(count as u16, before as u32, buffer.clone()?),
+        })
+    }
+
+    /// Holds a copy of the bytes from now on. The buffer in which the cell had bytes serves again, unless another shares it.
+    pub fn set_bytes(&mut self, alloc: Global, octets: &[u8]) -> Result<(), NoMemory>
+        ensures value { OnOk result (self.new ≡ Some (bytes octets.now)) }
+    {
+        if let Form::Buffer(buffer) = &mut self.form
+            && let Some(place) = Rc::get_mut(buffer)
+        {
+            return refill(place, octets);
+        }
+        *self = Cell::of_bytes(alloc, octets)?;
+        Ok(())
+    }
+}
+
+// Holds the bytes in the stead of those before, in their memory where that is enough.
+fn refill(place: &mut Vec<u8>, octets: &[u8]) -> Result<(), NoMemory>
+    ensures value { OnOk result (place.new.items ≡ octets.now) }
+{
+    place.clear();
+    place.extend_from_slice(octets)?;
+    Ok(())
+}
+
+// The bytes of a part of a buffer.
+#[inline(always)]
+pub(crate) fn part_bytes(count: u16, before: u32, buffer: &Rc<Vec<u8>>) -> &[u8]
+    ensures value { result.now ≡ take count (drop before buffer.now.value.items) }
+{
+    lying(buffer.as_ref().as_slice(), before as usize, count as usize)
+}
+
+// So many bytes after so many others, or as many as there are.
+#[inline(always)]
+pub(crate) fn lying(octets: &[u8], before: usize, count: usize) -> &[u8]
+    ensures value { result.now ≡ take count (drop before octets.now) }
+{
+    front(after(octets, before), count)
+}
+
+// The bytes after so many others.
+#[inline(always)]
+#[tactic(auto, using(crate::proofs::ResultLemmas::nothing_after))]
+fn after(octets: &[u8], before: usize) -> &[u8]
+    ensures value { result.now ≡ drop before octets.now }
+{
+    if before <= octets.len() {
+        &octets[before..]
+    } else {
+        &[]
+    }
+}
+
+// The first so many bytes.
+#[inline(always)]
+#[tactic(auto, using(crate::proofs::ResultLemmas::all_in_front))]
+fn front(octets: &[u8], count: usize) -> &[u8]
+    ensures value { result.now ≡ take count octets.now }
+{
+    if count <= octets.len() {
+        &octets[..count]
+    } else {
+        octets
+    }
+}
