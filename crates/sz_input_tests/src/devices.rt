@@ -1,13 +1,14 @@
 //! Worked transfers over the devices in memory and over real ones.
-ghost use Rattle.std.specs.Prelude.{◌≡◌, []};
+ghost use Rattle.std.specs.Prelude.{◌≡◌, ◌≤◌, []};
 ghost use Rattle.sz_io.specs.MemFiles.{names_opened};
+ghost use Rattle.sz_io.specs.SureFiles.{sure_names};
 
 use std::alloc::Global;
 use std::fs;
 use std::io::{self, BufWriter, Read, Write};
 use sz_io::{
-    Failed, Files, Gate, MemFiles, MemSink, NoGate, OsFiles, OsSink, ReadError, WriteError,
-    read_whole, write_whole,
+    Failed, Files, Gate, MemFiles, MemSink, NoGate, OsFiles, OsSink, ReadError, SureFiles,
+    SureSink, WriteError, read_whole, write_whole,
 };
 
 // A file under the name `p`, the call on it that fails, the name that is read, the most bytes that it may have, and why they aren't
@@ -159,6 +160,63 @@ fn a_text_goes_out_in_pieces(rt: HostRuntime) {
         let same = is_written(rt.alloc(), row);
         assert!(rt; same, "at step {}, call {}", row.0, row.1);
     }
+}
+
+// Whether files that never fail hold what was put last, and go on where they were opened.
+fn hold_what_was_put(alloc: Global, files: &mut SureFiles) -> bool
+    requires { sure_names files.old ≡ [] }
+{
+    if files.put("p", b"old").is_err() {
+        return false;
+    }
+    let Ok(opened) = files.open_file("p") else {
+        return false;
+    };
+    if files.put("p", b"new text").is_err() {
+        return false;
+    }
+    let mut room = [0u8; 8];
+    if files.read(opened, &mut room) != Ok(3) || &room[..3] != b"old".as_slice() {
+        return false;
+    }
+    match read_whole(alloc, files, "p", 99) {
+        Ok(read) => read.as_slice() == b"new text".as_slice(),
+        Err(_) => false,
+    }
+}
+
+fn sure_files_hold(alloc: Global) -> bool {
+    match SureFiles::new(alloc) {
+        Ok(mut files) => hold_what_was_put(alloc, &mut files),
+        Err(_) => false,
+    }
+}
+
+// Whether a name that was never put is there, without bytes.
+fn every_name_is_there(alloc: Global) -> bool {
+    match SureFiles::new(alloc) {
+        Ok(mut files) => reads(alloc, &mut files, "q", 0, Ok(b"")),
+        Err(_) => false,
+    }
+}
+
+// Whether a sink that never fails takes the text in pieces of so many bytes.
+fn is_taken(alloc: Global, step: usize) -> bool
+    requires { 1 ≤ step }
+{
+    match SureSink::new(alloc, step) {
+        Ok(mut sink) => write_whole(&mut sink, text()) == Ok(()) && sink.bytes() == text(),
+        Err(_) => false,
+    }
+}
+
+#[test]
+fn devices_that_never_fail_hold_and_take_what_they_are_given(rt: HostRuntime) {
+    assert!(&rt; sure_files_hold(rt.alloc()));
+    assert!(&rt; every_name_is_there(rt.alloc()));
+    assert!(&rt; is_taken(rt.alloc(), 1));
+    assert!(&rt; is_taken(rt.alloc(), 5));
+    assert!(&rt; is_taken(rt.alloc(), 99));
 }
 
 // Whether a real file is read as it should be.

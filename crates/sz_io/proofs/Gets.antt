@@ -1,5 +1,5 @@
 -- The elements of a list after a write or a push.
-use Rattle.std.proofs.Common.{◌≡◌, ◌≢◌, ◌⊎◌, inl, inr, ℕ, ◌<◌, suc, zero, List, [], ◌∷◌, ◌++◌, Some, refl, sym, ap, length, arith}
+use Rattle.std.proofs.Common.{◌≡◌, ◌≢◌, ◌⊎◌, inl, inr, ℕ, ◌<◌, suc, zero, List, [], ◌∷◌, ◌++◌, Some, refl, sym, ap, ◌∙◌, length, map, arith}
 use Rattle.std.proofs.Math.ListN.{set}
 use Rattle.std.specs.List.{slice_get}
 
@@ -44,3 +44,12 @@ slice_get-push_other [] zero x apart = absurd (apart refl)
 slice_get-push_other [] (suc j) x apart = refl
 slice_get-push_other (z ∷ xs) zero x apart = refl
 slice_get-push_other (z ∷ xs) (suc j) x apart = slice_get-push_other xs j x (λ e. apart (ap suc e))
+
+-- a list of parts is the same after a write that leaves the part
+pub map-set_same : {X Y : Type 0} (part : X → Y) (xs : List X) (k : ℕ) (x y : X) → slice_get xs k ≡ Some x → part y ≡ part x
+    → map part (set xs k y) ≡ map part xs
+map-set_same part [] k x y there same = refl
+map-set_same part (z ∷ xs) zero x y there same =
+    let here : x ≡ z = sym cc in
+    ap (λ first. first ∷ map part xs) (same ∙ ap part here)
+map-set_same part (z ∷ xs) (suc k) x y there same = ap (λ more. part z ∷ more) (map-set_same part xs k x y there same)

@@ -6,6 +6,8 @@ pub mod Listed
 pub mod MemSink
 pub mod NamedFiles
 pub mod MemFiles
+pub mod SureFiles
+pub mod SureSink
 pub mod OsSink
 pub mod OsFiles
 -- what the functions inside the crate promise each other

@@ -12,6 +12,8 @@ mod os_files;
 mod os_sink;
 mod reading;
 mod sink;
+mod sure_files;
+mod sure_sink;
 mod writing;
 
 pub use error::{Failed, NoMemory, OutsideError, ReadError, WriteError};
@@ -23,4 +25,6 @@ pub use os_files::OsFiles;
 pub use os_sink::OsSink;
 pub use reading::read_whole;
 pub use sink::Sink;
+pub use sure_files::SureFiles;
+pub use sure_sink::SureSink;
 pub use writing::write_whole;

@@ -1,4 +1,5 @@
 mod AnswerLemmas
+mod CompleteLemmas
 mod EndingLemmas
 mod FileLemmas
 mod JudgeLemmas

@@ -7,6 +7,7 @@ pub mod Checking
 pub mod Reserved
 pub mod Outcome
 pub mod Promise
+pub mod Completeness
 -- what the functions inside the crate promise each other
 pub mod Failing
 pub mod Opening

@@ -15,7 +15,7 @@ ghost use Rattle.szl.specs.ProgramRuns.{vec_items_of};
 ghost use Rattle.sz_words.specs.Bounds.{HasBounds, IsBounded};
 
 use crate::failure::{Failure, refused};
-use crate::heights::{declares_low, workers_for};
+use crate::heights::{Stack, declares_low, workers_for};
 use crate::judge::{checked, tree_in};
 use crate::opening::read_text;
 use crate::program_run::{job_of, statics_of, tables_of_file};
@@ -43,6 +43,7 @@ pub fn answer<R: Threads + Sync, F: Files, G: Gate + Sync>(
     words: &[String],
     files: &mut F,
     gate: &G,
+    stack: Stack,
 ) -> Result<Vec<u8>, Failure>
     requires { length (F.names files.old) < 127 }
     ensures value { Answers F.Files (settings_in (map string_bytes words.now)) files.old files.new (vec_items_of result) }
@@ -50,7 +51,7 @@ pub fn answer<R: Threads + Sync, F: Files, G: Gate + Sync>(
     ensures kept { KeepsFiles F.held F.left F.given F.faults files.old files.new }
 {
     let settings = read_words(alloc, words)?;
-    answer_settings(rt, alloc, &settings, files, gate)
+    answer_settings(rt, alloc, &settings, files, gate, stack)
 }
 
 /// The text that the settings ask for.
@@ -60,6 +61,7 @@ fn answer_settings<R: Threads + Sync, F: Files, G: Gate + Sync>(
     settings: &Settings,
     files: &mut F,
     gate: &G,
+    stack: Stack,
 ) -> Result<Vec<u8>, Failure>
     requires few { length (F.names files.old) < 127 }
     requires bounds { IsBounded settings.now }
@@ -68,8 +70,8 @@ fn answer_settings<R: Threads + Sync, F: Files, G: Gate + Sync>(
     ensures kept { KeepsFiles F.held F.left F.given F.faults files.old files.new }
 {
     match settings {
-        Settings::Run(run) => answer_run(rt, alloc, run, files, gate),
-        Settings::Check(program) => answer_check(alloc, program.as_str(), files),
+        Settings::Run(run) => answer_run(rt, alloc, run, files, gate, stack),
+        Settings::Check(program) => answer_check(alloc, program.as_str(), files, stack),
         Settings::Selftest {
             seed,
             records,
@@ -104,6 +106,7 @@ fn answer_run<R: Threads + Sync, F: Files, G: Gate + Sync>(
     settings: &RunSettings,
     files: &mut F,
     gate: &G,
+    stack: Stack,
 ) -> Result<Vec<u8>, Failure>
     requires few { length (F.names files.old) < 127 }
     requires bounds { HasBounds settings.now }
@@ -112,26 +115,31 @@ fn answer_run<R: Threads + Sync, F: Files, G: Gate + Sync>(
     ensures kept { KeepsFiles F.held F.left F.given F.faults files.old files.new }
 {
     let text = read_program(alloc, settings.program.as_str(), files)?;
-    answer_text(rt, alloc, &text, settings, files, gate)
+    answer_text(rt, alloc, &text, settings, files, gate, stack)
 }
 
 /// No text, if the program under a name passes its check.
-fn answer_check<F: Files>(alloc: Global, program: &str, files: &mut F) -> Result<Vec<u8>, Failure>
+fn answer_check<F: Files>(
+    alloc: Global,
+    program: &str,
+    files: &mut F,
+    stack: Stack,
+) -> Result<Vec<u8>, Failure>
     requires { length (F.names files.old) < 127 }
     ensures value { Answers F.Files (Some (Check program.now)) files.old files.new (vec_items_of result) }
     ensures end { OnOk result (AreReadToEnd F.Files files.old files.new (program.now ∷ [])) }
     ensures kept { KeepsFiles F.held F.left F.given F.faults files.old files.new }
 {
     let text = read_program(alloc, program, files)?;
-    check_text(alloc, &text)
+    check_text(alloc, &text, stack)
 }
 
 /// No text, if the program that is spelled by a text passes its check.
-fn check_text(alloc: Global, text: &[u8]) -> Result<Vec<u8>, Failure>
+fn check_text(alloc: Global, text: &[u8], stack: Stack) -> Result<Vec<u8>, Failure>
     requires short { length text.now ≤ most_program_bytes }
     ensures value { AnswersCheck text.now (vec_items_of result) }
 {
-    let tree = tree_in(alloc, text)?;
+    let tree = tree_in(alloc, text, stack)?;
     checked(alloc, &tree)?;
     Ok(Vec::new(alloc))
 }
@@ -144,6 +152,7 @@ fn answer_text<R: Threads + Sync, F: Files, G: Gate + Sync>(
     settings: &RunSettings,
     files: &mut F,
     gate: &G,
+    stack: Stack,
 ) -> Result<Vec<u8>, Failure>
     requires few { length (F.names files.old) < 128 }
     requires bounds { HasBounds settings.now }
@@ -153,7 +162,7 @@ fn answer_text<R: Threads + Sync, F: Files, G: Gate + Sync>(
     ensures names { OnOk result (F.names files.new ≡ F.names files.old ++ settings.now.input ∷ []) }
     ensures kept { KeepsFiles F.held F.left F.given F.faults files.old files.new }
 {
-    let tree = tree_in(alloc, text)?;
+    let tree = tree_in(alloc, text, stack)?;
     let program = runnable(alloc, &tree, settings.ignore_undefs)?;
     answer_program(rt, alloc, program, settings, files, gate)
 }

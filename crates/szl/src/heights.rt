@@ -1,13 +1,60 @@
-//! How high the types of a program are, and so how deep its values go.
+//! How high the types of a program are, and so how deep its values go; and how much stack there is for them.
 ghost use Rattle.std.specs.Prelude.{◌≤◌};
 
 use sz_core::{Item, Program};
 use sz_gen_stmt::Compiled;
+use sz_lex::{Kind, Sign, Token, Word};
 use sz_types::{Field, TableDecl, Ty, Tys};
 
 /// Up to this height a type is low: the stack that a system gives to a thread is enough for values of many times this height. In one
 /// expression values get at most as much higher as a statement is high.
 const LOW: u32 = 500;
+
+/// How much stack the caller of the top call has.
+#[derive(Clone, Copy, Debug, PartialEq, Eq)]
+pub enum Stack {
+    /// Enough for every type that the text of a program may have: 256 MB.
+    Large,
+    /// No more than the system gives to a program, as a larger one couldn't be had. It is enough where all types are low.
+    Small,
+}
+
+impl Stack {
+    /// Whether it is enough for the types of a program with these tokens.
+    pub fn holds(self, tokens: &[Token]) -> bool {
+        match self {
+            Stack::Large => true,
+            Stack::Small => names_low(tokens),
+        }
+    }
+}
+
+/// Whether the token adds a level to a type that it stands in.
+fn adds_level(token: &Token) -> bool {
+    match token.kind {
+        Kind::Word(Word::Type) | Kind::Word(Word::Array) | Kind::Word(Word::Map) => true,
+        Kind::Sign(Sign::OpenBrace) => true,
+        _ => false,
+    }
+}
+
+/// Whether the types that are declared in these tokens are low, with all names written out: such a type is at most as high as all their
+/// declarations together, which are counted from the word `type` to the next semicolon.
+fn names_low(tokens: &[Token]) -> bool {
+    let mut levels: u32 = 0;
+    let mut is_declared = false;
+    for token in tokens {
+        if token.kind == Kind::Word(Word::Type) {
+            is_declared = true;
+        } else if token.kind == Kind::Sign(Sign::Semicolon) {
+            is_declared = false;
+        }
+        if is_declared && adds_level(token) {
+            levels = levels.saturating_add(1);
+        }
+    }
+    levels <= LOW
+}
 
 /// Whether the type has at most this height.
 #[cycle(height)]

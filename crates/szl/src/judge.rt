@@ -7,6 +7,7 @@ ghost use Rattle.szl.specs.Judgement.{HasStatements, most_program_bytes};
 ghost use Rattle.szl.specs.Judging.{IsFailureOf, IsFailureOn};
 
 use crate::failure::Failure;
+use crate::heights::Stack;
 use crate::refusal::Refusal;
 use std::alloc::Global;
 use sz_check::{CheckError, check};
@@ -17,16 +18,20 @@ use sz_lex::lex;
 use sz_parse::parse;
 use sz_tree::Tree;
 
-/// The tree that the text spells.
+/// The tree that the text spells. Where the stack isn't enough for its types, that counts as want of memory.
 #[tactic(auto, using(crate::proofs::JudgeLemmas::unread_failure, crate::proofs::JudgeLemmas::stuck_failure, crate::proofs::JudgeLemmas::has_statements))]
-pub fn tree_in(alloc: Global, text: &[u8]) -> Result<Tree, Failure>
+pub fn tree_in(alloc: Global, text: &[u8], stack: Stack) -> Result<Tree, Failure>
     requires short { length text.now ≤ most_program_bytes }
     ensures found { IfOk result (λ tree. HasStatements text.now (program_of tree)) }
     ensures refused { IfErr result (λ failure. IsFailureOf text.now failure) }
 {
     let tokens = lex(alloc, text)?;
     let tree = parse(alloc, &tokens)?;
-    Ok(tree)
+    if stack.holds(tokens.as_slice()) {
+        Ok(tree)
+    } else {
+        Err(Failure::NoMemory)
+    }
 }
 
 /// The checked program that the tree is. That it is sound is a law of the judgement.

@@ -4,6 +4,7 @@
 mod answer;
 mod failure;
 mod heights;
+mod in_memory;
 mod judge;
 mod laws;
 mod lines;
@@ -15,6 +16,8 @@ mod selftest;
 mod status;
 mod top;
 
+pub use heights::Stack;
+pub use in_memory::szl_in_memory;
 pub use laws::{readings_are_unique, sizes_are_shards};
 pub use status::Status;
-pub use top::szl_main;
+pub use top::{szl_main, szl_main_on};

@@ -10,6 +10,7 @@ ghost use Rattle.sz_words.specs.Bounds.{HasBounds};
 ghost use Rattle.szl.specs.Settings.{selftest_run};
 
 use crate::failure::Failure;
+use crate::heights::Stack;
 use crate::judge::tree_in;
 use crate::program_run::{job_of, statics_of, tables_of_bytes};
 use crate::reserved::runnable;
@@ -38,7 +39,7 @@ pub fn answer_selftest<R: Threads + Sync, G: Gate + Sync>(
 {
     let settings = selftest_run(alloc, workers)?;
     let input = feed(alloc, seed, records)?;
-    let tree = tree_in(alloc, program_bytes())?;
+    let tree = tree_in(alloc, program_bytes(), Stack::Large)?;
     let program = runnable(alloc, &tree, settings.ignore_undefs)?;
     answer_over(rt, alloc, program, &settings, &input, gate)
 }

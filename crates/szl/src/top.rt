@@ -6,10 +6,12 @@ ghost use Rattle.sz_words.specs.Settings.{settings_in};
 ghost use Rattle.szl.specs.Failing.{line_of_failure};
 ghost use Rattle.szl.specs.Printing.{Prints, PrintsNothing};
 ghost use Rattle.szl.specs.Promise.{MeansSource, GainsLine, AreReadToEnd, names_asked};
+ghost use Rattle.szl.specs.Completeness.{Completes};
 ghost use Rattle.szl.specs.ProgramRuns.{vec_items_of};
 
 use crate::answer::answer;
 use crate::failure::Failure;
+use crate::heights::Stack;
 use crate::lines::{damaged_line, fault_line, limit_line, lost_line};
 use crate::refusal::refusal_line;
 use crate::status::Status;
@@ -22,6 +24,8 @@ use sz_io::{Files, Gate, Sink, WriteError, write_whole};
 ///
 /// Each round of shards is run by as many workers as the words ask for, or by one where the types of the program are very high. Each but
 /// one has a thread, which is started for the round and ends with it. The gate is called before each attempt.
+///
+/// The caller has a large stack: calls go down one level for each level of a type.
 pub fn szl_main<R: Threads + Sync, F: Files, O: Sink, E: Sink, G: Gate + Sync>(
     rt: &R,
     alloc: Global,
@@ -38,12 +42,41 @@ pub fn szl_main<R: Threads + Sync, F: Files, O: Sink, E: Sink, G: Gate + Sync>(
 
     ensures read_failed { result ≡ Status.ReadFailed → Rose (F.faults files.old) (F.faults files.new) }
     ensures write_failed { result ≡ Status.WriteFailed → Rose (O.faults out.old) (O.faults out.new) }
+    ensures complete { (Rose (F.faults files.old) (F.faults files.new) → ⊥) → (Rose (O.faults out.old) (O.faults out.new) → ⊥)
+        → Completes F.Files O.Sink E.Sink (map string_bytes words.now) result files.old files.new out.old out.new err.old err.new }
 
     ensures kept { KeepsFiles F.held F.left F.given F.faults files.old files.new }
     ensures out_counts { DoNotFall O.faults O.refusals out.old out.new }
     ensures err_counts { DoNotFall E.faults E.refusals err.old err.new }
 {
-    let answer = answer(rt, alloc, words, files, gate);
+    szl_main_on(rt, alloc, words, files, out, err, gate, Stack::Large)
+}
+
+/// The same as `szl_main` on the stack that the caller has. Where it isn't enough for the types of the program, that counts as want of
+/// memory: a caller has a small stack only where it got no memory for a large one.
+pub fn szl_main_on<R: Threads + Sync, F: Files, O: Sink, E: Sink, G: Gate + Sync>(
+    rt: &R,
+    alloc: Global,
+    words: &[String],
+    files: &mut F,
+    out: &mut O,
+    err: &mut E,
+    gate: &G,
+    stack: Stack,
+) -> Status
+    requires { length (F.names files.old) < 127 }
+
+    ensures outcome { MeansSource F.Files O.Sink E.Sink (map string_bytes words.now) result files.old files.new out.old out.new err.old err.new }
+    ensures end { result ≡ Status.Done → AreReadToEnd F.Files files.old files.new (names_asked (settings_in (map string_bytes words.now))) }
+
+    ensures read_failed { result ≡ Status.ReadFailed → Rose (F.faults files.old) (F.faults files.new) }
+    ensures write_failed { result ≡ Status.WriteFailed → Rose (O.faults out.old) (O.faults out.new) }
+
+    ensures kept { KeepsFiles F.held F.left F.given F.faults files.old files.new }
+    ensures out_counts { DoNotFall O.faults O.refusals out.old out.new }
+    ensures err_counts { DoNotFall E.faults E.refusals err.old err.new }
+{
+    let answer = answer(rt, alloc, words, files, gate, stack);
     match print(out, answer) {
         Ok(()) => Status::Done,
         Err(failure) => tell(alloc, err, failure).status(),

@@ -11,7 +11,7 @@ use std::process::ExitCode;
 use std::thread::{Builder, Threads};
 use std::{env, thread};
 use sz_io::{NoGate, OsFiles, OsSink, write_whole};
-use szl::{Status, szl_main};
+use szl::{Stack, Status, szl_main_on};
 
 /// The words of the command line without the program's name. Words that aren't UTF-8 are no command line.
 fn given_words(rt: &HostRuntime) -> Result<Vec<String>, AllocError> {
@@ -34,18 +34,21 @@ fn tell_no_memory(err: Stderr) -> ExitCode {
     ExitCode::from(Status::NoMemory.code())
 }
 
-/// Runs the command line of these words over real files and streams, and gives the exit status.
+/// Runs the command line of these words over real files and streams, on the stack that there is, and gives the exit status.
 fn run<R: Threads + Sync + Files + Input>(
     rt: &R,
     alloc: Global,
     words: &[String],
     out: Stdout,
     err: Stderr,
+    stack: Stack,
 ) -> u8 {
     let mut files = OsFiles::new(rt, alloc);
     let mut out = OsSink::new(out);
     let mut err = OsSink::new(err);
-    let status = szl_main(rt, alloc, words, &mut files, &mut out, &mut err, &NoGate);
+    let status = szl_main_on(
+        rt, alloc, words, &mut files, &mut out, &mut err, &NoGate, stack,
+    );
     status.code()
 }
 
@@ -53,7 +56,8 @@ fn run<R: Threads + Sync + Files + Input>(
 /// the type of a program of a megabyte may have near 260,000, which take some 240 MB.
 const STACK_BYTES: usize = 2 << 30;
 
-// Where there is no room for the stack, an eighth of it is enough. Where no thread can be started, this one does the work itself.
+// Where there is no room for the stack, an eighth of it is enough. Where no thread can be started, this one does the work itself, for programs
+// whose types are low.
 fn main(rt: HostRuntime) -> ExitCode {
     let _streams = [stand_in(&rt), stand_in(&rt), stand_in(&rt)];
     let alloc: Global = rt.alloc();
@@ -65,13 +69,13 @@ fn main(rt: HostRuntime) -> ExitCode {
             let work = Builder::new()
                 .stack_size(STACK_BYTES / part)
                 .spawn_scoped(scope, || {
-                    run(&rt, alloc, &words, rt.stdout(), rt.stderr())
+                    run(&rt, alloc, &words, rt.stdout(), rt.stderr(), Stack::Large)
                 });
             if let Ok(work) = work {
                 return work.join(&rt);
             }
         }
-        run(&rt, alloc, &words, rt.stdout(), rt.stderr())
+        run(&rt, alloc, &words, rt.stdout(), rt.stderr(), Stack::Small)
     });
     ExitCode::from(code)
 }

@@ -19,6 +19,7 @@ pub struct Setting<'t> {
     pub program_fails: u64,
     pub input_fails: u64,
     pub out_fails: u64,
+    pub err_fails: u64,
 }
 
 /// The number of a call that is never made.
@@ -32,6 +33,7 @@ pub const PLAIN: Setting<'static> = Setting {
     program_fails: NEVER,
     input_fails: NEVER,
     out_fails: NEVER,
+    err_fails: NEVER,
 };
 
 /// The text that a row writes with marks for the ends of lines and for tabs.
@@ -48,7 +50,7 @@ pub fn text_of(alloc: Global, marked: &str) -> Result<String, NoMemory> {
 }
 
 /// The bytes that a row writes: those of its text, where `\x` and two hexadecimal digits stand for a byte.
-fn bytes_of(alloc: Global, marked: &str) -> Result<Vec<u8>, Fail> {
+pub fn bytes_of(alloc: Global, marked: &str) -> Result<Vec<u8>, Fail> {
     let (front, later) = match marked.split_once("\\x") {
         Some((front, later)) => (front, Some(later)),
         None => (marked, None),
@@ -92,7 +94,7 @@ fn files_of(alloc: Global, given: &Setting<'_>, program: &[u8]) -> Result<MemFil
 }
 
 /// The words of a line, as the program is given them. Two blanks have an empty word between them.
-fn words_of(alloc: Global, line: &str) -> Result<Vec<String>, NoMemory> {
+pub fn words_of(alloc: Global, line: &str) -> Result<Vec<String>, NoMemory> {
     let mut words = Vec::new(alloc);
     for word in line.split(' ') {
         words.push(String::from_str(alloc, word)?)?;
@@ -121,12 +123,13 @@ pub fn left_by<R: Threads + Wait + Sync, G: Gate + Sync>(
     let words = words_of(alloc, given.words)?;
     let mut files = files_of(alloc, given, program)?;
     let mut out = MemSink::new(alloc, 5, &[given.out_fails])?;
-    let mut err = MemSink::new(alloc, 64, &[])?;
+    let mut err = MemSink::new(alloc, 4, &[given.err_fails])?;
     let status = szl_main(rt, alloc, &words, &mut files, &mut out, &mut err, gate);
     told(alloc, status.code(), out.bytes(), err.bytes())
 }
 
-fn told(alloc: Global, status: u8, out: &[u8], err: &[u8]) -> Result<String, Fail> {
+/// What a run left, as a row says it.
+pub fn told(alloc: Global, status: u8, out: &[u8], err: &[u8]) -> Result<String, Fail> {
     let out = std::str::from_utf8(out).or(Err("not UTF-8"))?;
     let err = std::str::from_utf8(err).or(Err("not UTF-8"))?;
     let mut told = format!(in alloc; "{status}")?;
@@ -134,7 +137,10 @@ fn told(alloc: Global, status: u8, out: &[u8], err: &[u8]) -> Result<String, Fai
         write!(told, " {}", marked(alloc, out)?)?;
     }
     if !err.is_empty() {
-        write!(told, " ! {}", err.strip_suffix('\n').unwrap_or("no end"))?;
+        match err.strip_suffix('\n') {
+            Some(line) => write!(told, " ! {line}")?,
+            None => write!(told, " ! {err}…")?,
+        }
     }
     Ok(told)
 }

@@ -99,6 +99,8 @@ c: table sum of int; emit c <- B"a\xff"[1]; => 0 c[] = 255¶
 c: table sum of int; a: array of int = {4, 5}; emit c <- a[0] + a[1] * 10; => 0 c[] = 54¶
 c: table sum of int; emit c <- int(def("aé"[2])) + int(def("aé"[-1])) * 10 + int(def("aé"[1])) * 100; => 0 c[] = 100¶
 c: table sum of int; emit c <- int("aéb"[1:3] == "éb") + int("aéb"[3:3] == "") * 10 + int("aéb"[0:3] == "aéb") * 100; => 0 c[] = 111¶
+c: table sum of int; s: string = "aé"; for (i: int = 0; i < 7; i++) s = s + s; t: int = 0; for (i: int = 0; i < len(s); i++) t = t + s[i]; emit c <- t; => 0 c[] = 42240¶
+c: table sum of int; s: string = "aé"; for (i: int = 0; i < 7; i++) s = s + s; emit c <- int(s[63:66] == "éaé") + int(s[254:256] == "aé") * 10 + int(def(s[255:257])) * 100 + s[128] * 1000 + len(s) * 1000000; => 0 c[] = 256097011¶
 c: table sum of int; emit c <- int(B"abc"[1:2] == B"b") + len(bytes("aéb")[1:4]) * 10; => 0 c[] = 31¶
 c: table sum of int; a: array of int = {4, 5, 6}; emit c <- a[1:3][0] + len(a[0:0]) * 10; => 0 c[] = 5¶
 c: table sum of int; emit c <- int(def("abc"[2:1])) + int(def("abc"[-1:1])) * 10 + int(def("abc"[0:4])) * 100; => 0 c[] = 0¶

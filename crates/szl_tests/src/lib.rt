@@ -20,6 +20,8 @@ mod gates;
 #[cfg(test)]
 mod ignoring;
 #[cfg(test)]
+mod in_memory;
+#[cfg(test)]
 mod kill_lists;
 #[cfg(test)]
 mod kill_lists_and_faults;

@@ -158,7 +158,12 @@ fn long_line_is_refused<R: Threads + Wait + Sync>(rt: &R, alloc: Global) -> Resu
         input: line.as_str(),
         ..PLAIN
     };
-    let found = left(rt, alloc, &given, b"c: table sum of int;")?;
+    let found = left(
+        rt,
+        alloc,
+        &given,
+        b"c: table sum of int;\nx: int = input;\nif (x > 0) emit c <- 1;",
+    )?;
     Ok(found.as_str() == "9 ! input limit at byte 0")
 }
 

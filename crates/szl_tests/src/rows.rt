@@ -89,6 +89,7 @@ fn failing<'t>(call: &str, before: Setting<'t>) -> Setting<'t> {
         program_fails: number_of(call, "p "),
         input_fails: number_of(call, "f "),
         out_fails: number_of(call, "out "),
+        err_fails: number_of(call, "err "),
         ..before
     }
 }

@@ -1,7 +1,8 @@
 //! Whole runs of the program, as text that tests and `tools/check-runs` read: the language by example.
 //!
 //! A line `PROGRAM => STATUS OUTPUT ! LINE` is a run: the text of the program, the exit status, the text that goes to standard
-//! output, and the line that goes to standard error. Output, and `!` with its line, are left out where there is none.
+//! output, and the line that goes to standard error. Output, and `!` with its line, are left out where there is none. A line that was cut
+//! has `…` in the place of what is missing.
 //! `¶` stands for the end of a line, and `→` for a tab. The program is the file `p`, and the input is the file `f`.
 //!
 //! Lines above a run say what else it is given, up to the next line of the kind or the next title:
@@ -10,8 +11,8 @@
 //! - `$ [WORDS]` has the words of the command line, with a blank between two of them. With `=> STATUS OUTPUT ! LINE` after it the line is
 //!   a run, of the program above.
 //! - `< INPUT` has the input, in which `\x` and two hexadecimal digits stand for a byte.
-//! - `! p 0` has the first call on the program fail, `! f 0` that on the input, `! out 1` the second writing to the output,
-//!   and `! none` no call.
+//! - `! p 0` has the first call on the program fail, `! f 0` that on the input, `! out 1` the second writing to the output, `! err 2` the
+//!   third to the error stream, and `! none` no call. The output takes 5 bytes at once, the error stream 4.
 //!
 //! The rows of this file and of those beside it stand nowhere else; `tools/check-runs --rows` prints them in one page.
 
@@ -278,6 +279,8 @@ count: table sum of int;¶total: table sum of int;¶sum_of_squares: table sum of
 < 3¶-1¶
 ! out 1
 count: table sum of int;¶total: table sum of int;¶sum_of_squares: table sum of int;¶x: int = input;¶emit count <- 1;¶emit total <- x;¶emit sum_of_squares <- x * x;¶ => 6 count ! write failed
+! p 0
+count: table sum of int;¶total: table sum of int;¶sum_of_squares: table sum of int;¶x: int = input;¶emit count <- 1;¶emit total <- x;¶emit sum_of_squares <- x * x;¶ => 5 ! read failed
 ! p 2
 count: table sum of int;¶total: table sum of int;¶sum_of_squares: table sum of int;¶x: int = input;¶emit count <- 1;¶emit total <- x;¶emit sum_of_squares <- x * x;¶ => 5 ! read failed
 ! f 0
@@ -309,6 +312,22 @@ count: table sum of int;¶total: table sum of int;¶sum_of_squares: table sum of
 count: table sum of int;¶total: table sum of int;¶sum_of_squares: table sum of int;¶x: int = input;¶emit count <- 1;¶emit total <- x;¶emit sum_of_squares <- x * x;¶ => 6 count[] = 2¶total[] = 2¶sum_of_squares[] = 10 ! write failed
 ! out 10
 count: table sum of int;¶total: table sum of int;¶sum_of_squares: table sum of int;¶x: int = input;¶emit count <- 1;¶emit total <- x;¶emit sum_of_squares <- x * x;¶ => 0 count[] = 2¶total[] = 2¶sum_of_squares[] = 10¶
+
+== a line that can't be written whole changes no status
+< 1¶¶
+! err 0
+c: table sum of int;¶x: int = input;¶if (x > 0) emit c <- 1;¶ => 3
+! err 1
+c: table sum of int;¶x: int = input;¶if (x > 0) emit c <- 1;¶ => 3 ! reco…
+! err 2
+c: table sum of int;¶x: int = input;¶if (x > 0) emit c <- 1;¶ => 3 ! record 2…
+! err 3
+c: table sum of int;¶x: int = input;¶if (x > 0) emit c <- 1;¶ => 3 ! record 2: un…
+! err 11
+c: table sum of int;¶x: int = input;¶if (x > 0) emit c <- 1;¶ => 3 ! record 2: undefined value used at 3:1
+! err 0
+x: int = y; => 2
+$ [run p] => 1
 
 == the input isn't opened where a static faults
 ! f 0

@@ -59,6 +59,22 @@ c: table sum of int; a: array of map[int] of int = {{:}}; a[0][5] = 6; emit c <-
 c: table sum of int; a: array of int = {1}; b: array of int = a; b[0] = 5; emit c <- a[0] + b[0] * 10; => 0 c[] = 51¶
 c: table sum of int; a: array of int = {0, 1}; a[a[0]] = a[1] + 4; emit c <- a[0] + a[1] * 10; => 0 c[] = 15¶
 
+== a part is read where it stands, and is a copy of its own once it is kept
+< ¶
+c: table sum of int; static m: map[int] of array of int = {1: {4, 5}, 2: {6}}; emit c <- m[1][1] + len(m[2]) * 10; => 0 c[] = 15¶
+c: table sum of int; m: map[int] of array of int = {1: {4, 5}, 2: {6}}; emit c <- m[1][1] + len(m[2]) * 10; => 0 c[] = 15¶
+c: table sum of int; static a: array of array of array of int = {{{1}, {2, 3}}}; emit c <- a[0][1][1] + len(a[0][1]) * 10; => 0 c[] = 23¶
+c: table sum of int; a: array of array of array of int = {{{1}, {2, 3}}}; emit c <- a[0][1][1] + len(a[0][1]) * 10; => 0 c[] = 23¶
+c: table sum of int; a: array of array of array of int = {{{1}}}; if (!def(a[0][1]) && !def(a[1][0]) && !def(a[0][0][1])) emit c <- 5; => 0 c[] = 5¶
+c: table sum of int; a: array of array of int = {{1, 2}}; b: array of int = a[0]; a[0][1] = 7; emit c <- b[1] + a[0][1] * 10; => 0 c[] = 72¶
+c: table sum of int; a: array of array of int = {{1, 2}}; b: array of int = a[0]; b[1] = 7; emit c <- b[1] + a[0][1] * 10; => 0 c[] = 27¶
+c: table sum of int; static a: array of array of int = {{1, 2}}; b: array of int = a[0]; b[1] = 7; emit c <- b[1] + a[0][1] * 10; => 0 c[] = 27¶
+c: table sum of int; a: array of string = {"x", "yz"}; t: string = a[0]; a[0] = a[1]; a[1] = t; emit c <- len(a[0]) + len(a[1]) * 10; => 0 c[] = 12¶
+c: table sum of int; f: function(p: array of int): int { p[0] = 9; return p[0]; } a: array of array of int = {{1, 2}}; emit c <- f(a[0]) + a[0][0] * 10; => 0 c[] = 19¶
+c: table sum of int; f: function(p: array of array of int): array of int { return p[1]; } a: array of array of int = {{1}, {2, 3}}; b: array of int = f(a); a[1][1] = 8; emit c <- b[1]; => 0 c[] = 3¶
+c: table sum of int; u: {m: map[string] of string, n: int} = {{"a": "xyz"}, 7}; if (haskey(u.m, "a") && !def(u.m["b"])) emit c <- len(u.m["a"]) + u.n * 10; => 0 c[] = 73¶
+c: table sum of int; a: array of array of int = {{1, 2, 5}}; when (i: some int; a[0][i] == 5) emit c <- i; => 0 c[] = 2¶
+
 == if runs one of its parts
 < ¶
 c: table sum of int; if (true) emit c <- 1; else emit c <- 10; => 0 c[] = 1¶

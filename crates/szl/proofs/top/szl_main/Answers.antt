@@ -1,24 +1,11 @@
-use Rattle.std.proofs.Common.{sym, subst, map}
+use Rattle.std.proofs.Common.{map}
 use Rattle.std.specs.Prelude.{string_bytes}
-use Rattle.szl.specs.Promise.{MeansSource}
-use Rattle.szl.specs.ProgramRuns.{vec_items_of}
-use Rattle.szl.proofs.MainLemmas.{means_done, means_failure}
+use Rattle.szl.proofs.CompleteLemmas.{completes}
 use Rattle.szl.proofs.top.szl_main.Goals as goal
 
--- a failure is told
-pub returns-in-Err-clause-outcome : goal.returns-in-Err-clause-outcome
-returns-in-Err-clause-outcome g c =
-    let words = map string_bytes c.args.words.now in
-    subst (λ s. MeansSource g.F.Files g.O.Sink g.E.Sink words s c.args.files.now c.answer-answer.new.files c.args.out.now
-    c.print.new.out c.args.err.now c.tell.new.err)
-    (sym c.status.ensures.value)
-    (means_failure g.F.Files g.O.Sink g.E.Sink words c.args.files.now c.answer-answer.new.files c.args.out.now c.print.new.out c.args.err.now
-    c.tell.new.err c.in-Err.failure c.tell.result (vec_items_of c.answer-answer.result) c.answer-answer.ensures.value c.in-Err.ensures.value
-    c.in-Err.ensures.nothing c.tell.ensures.told c.tell.ensures.line)
-
--- all is printed
-pub returns-in-Ok-clause-outcome : goal.returns-in-Ok-clause-outcome
-returns-in-Ok-clause-outcome g c =
-    means_done g.F.Files g.O.Sink g.E.Sink (map string_bytes c.args.words.now) c.args.files.now c.answer-answer.new.files c.args.out.now
-    c.print.new.out c.args.err.now (vec_items_of c.answer-answer.result) c.in-Ok.field-0 c.answer-answer.ensures.value c.in-Ok.ensures.value
-    c.in-Ok.ensures.nothing
+-- a failure of a device would have been counted
+pub returns-clause-complete : goal.returns-clause-complete
+returns-clause-complete g c no_read no_write =
+    completes g.F.Files g.O.Sink g.E.Sink (map string_bytes c.args.words.now) c.szl_main_on.result c.args.files.now c.szl_main_on.new.files
+    c.args.out.now c.szl_main_on.new.out c.args.err.now c.szl_main_on.new.err c.szl_main_on.ensures.outcome
+    (λ is. no_read (c.szl_main_on.ensures.read_failed is)) (λ is. no_write (c.szl_main_on.ensures.write_failed is))

@@ -1,0 +1,24 @@
+use Rattle.std.proofs.Common.{sym, subst, map}
+use Rattle.std.specs.Prelude.{string_bytes}
+use Rattle.szl.specs.Promise.{MeansSource}
+use Rattle.szl.specs.ProgramRuns.{vec_items_of}
+use Rattle.szl.proofs.MainLemmas.{means_done, means_failure}
+use Rattle.szl.proofs.top.szl_main_on.Goals as goal
+
+-- a failure is told
+pub returns-in-Err-clause-outcome : goal.returns-in-Err-clause-outcome
+returns-in-Err-clause-outcome g c =
+    let words = map string_bytes c.args.words.now in
+    subst (λ s. MeansSource g.F.Files g.O.Sink g.E.Sink words s c.args.files.now c.answer-answer.new.files c.args.out.now
+    c.print.new.out c.args.err.now c.tell.new.err)
+    (sym c.status.ensures.value)
+    (means_failure g.F.Files g.O.Sink g.E.Sink words c.args.files.now c.answer-answer.new.files c.args.out.now c.print.new.out c.args.err.now
+    c.tell.new.err c.in-Err.failure c.tell.result (vec_items_of c.answer-answer.result) c.answer-answer.ensures.value c.in-Err.ensures.value
+    c.in-Err.ensures.nothing c.tell.ensures.told c.tell.ensures.line)
+
+-- all is printed
+pub returns-in-Ok-clause-outcome : goal.returns-in-Ok-clause-outcome
+returns-in-Ok-clause-outcome g c =
+    means_done g.F.Files g.O.Sink g.E.Sink (map string_bytes c.args.words.now) c.args.files.now c.answer-answer.new.files c.args.out.now
+    c.print.new.out c.args.err.now (vec_items_of c.answer-answer.result) c.in-Ok.field-0 c.answer-answer.ensures.value c.in-Ok.ensures.value
+    c.in-Ok.ensures.nothing

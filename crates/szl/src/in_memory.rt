@@ -1,0 +1,32 @@
+//! The top call over devices of which no call fails.
+ghost use Rattle.std.specs.Prelude.{◌≡◌, ◌<◌, length, map, string_bytes};
+ghost use Rattle.sz_io.specs.SureFiles.{sure_names};
+ghost use Rattle.sz_words.specs.Settings.{settings_in};
+ghost use Rattle.szl.specs.Completeness.{Completes};
+ghost use Rattle.szl.specs.Promise.{AreReadToEnd, names_asked};
+
+use crate::status::Status;
+use crate::top::szl_main;
+use std::alloc::Global;
+use std::thread::Threads;
+use sz_io::{Files, Gate, Sink, SureFiles, SureSink};
+
+/// The same as `szl_main` over files and sinks in memory of which no call fails: it answers the outcome, whatever the words and the bytes are,
+/// and only want of memory may stand in its place.
+pub fn szl_in_memory<R: Threads + Sync, G: Gate + Sync>(
+    rt: &R,
+    alloc: Global,
+    words: &[String],
+    files: &mut SureFiles,
+    out: &mut SureSink,
+    err: &mut SureSink,
+    gate: &G,
+) -> Status
+    requires { length (sure_names files.old) < 127 }
+    ensures complete { Completes ⟦<SureFiles as Files>⟧ ⟦<SureSink as Sink>⟧ ⟦<SureSink as Sink>⟧ (map string_bytes words.now) result
+        files.old files.new out.old out.new err.old err.new }
+    ensures end { result ≡ Status.Done
+        → AreReadToEnd ⟦<SureFiles as Files>⟧ files.old files.new (names_asked (settings_in (map string_bytes words.now))) }
+{
+    szl_main(rt, alloc, words, files, out, err, gate)
+}
