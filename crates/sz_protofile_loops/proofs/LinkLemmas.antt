@@ -1,5 +1,5 @@
 -- The graph of messages while links are taken.
-use Rattle.std.proofs.Common.{◌≡◌, ◌≢◌, ℕ, ◌+◌, ◌<◌, ◌≤◌, ◌⊎◌, inl, inr, List, [], ◌∷◌, ◌++◌, length, set, Some, refl, sym, ap, subst, ◌∙◌, arith}
+use Rattle.std.proofs.Common.{◌≡◌, ◌≢◌, ℕ, ◌+◌, ◌<◌, ◌≤◌, ◌⊎◌, inl, inr, List, [], ◌∷◌, ◌++◌, length, set, Some, sym, ap, subst, ◌∙◌, arith}
 use Rattle.std.specs.List.{Contains}
 use Rattle.std.proofs.lemmas.Bool.{cases_lt, cases_eq}
 use Rattle.std.proofs.lemmas.List.{length_push, length-set, get_or-set_same, get_or-set_other, get_or_past, get_or_append_left, get_or_push}
@@ -9,10 +9,6 @@ use Rattle.sz_protofile_rules.specs.declared.field.Sort.TheVariants as sorts
 use Rattle.sz_components.specs.Components.{links_of, IsGraph}
 use Rattle.sz_protofile_loops.specs.Places.{place_of, StandsFor, HasLink, IsLinked, IsGrown, HasNewLink}
 use Rattle.sz_protofile_loops.proofs.PlaceLemmas.{at_place, place_stays}
-
--- nothing was added
-pub grown_not : (names : List (List ℕ)) (graph : List (List ℕ)) → length graph ≡ length names → IsGrown names graph names graph
-grown_not names graph e = record { same = e; places = λ n a p. p; links = λ a. refl }
 
 -- a node more
 pub grown_by_one : (names : List (List ℕ)) (graph after : List (List ℕ)) (name : List ℕ) → length graph ≡ length names → after ≡ graph ++ [] ∷ []
@@ -154,13 +150,6 @@ linked_more_as before f owner target t names graph more after sort is_owner is_t
     (subst (λ x. HasNewLink f.owner x names graph more after) is_target (subst (λ x. HasNewLink x t names graph more after) is_owner new)) h
 
 -- ---- at first, and what the calls above ask
-
-pub linked_none : IsLinked [] [] []
-linked_none = record {
-  same = refl;
-  every = λ f m c e. absurd (omega (arith, c.1));
-  only = λ a b c. absurd (omega (arith, c.1));
-}
 
 pub is_graph : (fields : List FieldIn) (names graph : List (List ℕ)) → IsLinked fields names graph → IsGraph graph
 is_graph fields names graph h a b c =

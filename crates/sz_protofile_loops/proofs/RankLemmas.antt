@@ -6,7 +6,7 @@ use Rattle.sz_protofile_rules.specs.declared.field.FieldIn.{FieldIn}
 use Rattle.sz_protofile_rules.specs.Fields as fields_of
 use Rattle.sz_protofile_rules.specs.Fields.{Reaches}
 use Rattle.sz_components.specs.Components as graphs
-use Rattle.sz_components.specs.Components.{links_of, Leads, AreNumbers}
+use Rattle.sz_components.specs.Components.{Leads, AreNumbers}
 use Rattle.sz_protofile_loops.specs.Places.{place_of, HasLink, IsLinked}
 use Rattle.sz_protofile_loops.specs.Ranks.{Ranking, ranking, rank, IsRanking}
 use Rattle.sz_protofile_loops.proofs.PlaceLemmas.{at_place}

@@ -31,7 +31,7 @@ AreTypes text all types = (s : Scope) → Contains (messages_in text [] all) s
 
 -- ---- how many fields there are in a type, with those of the types inside it
 
-mutual
+abbrev mutual
   pub field_count : Shape → ℕ
   field_count data_of.truth = 0
   field_count data_of.int = 0
@@ -40,15 +40,15 @@ mutual
   field_count data_of.bytes = 0
   field_count (data_of.array s) = field_count s
   field_count (data_of.mapping k v) = field_count k + field_count v
-  field_count (data_of.tuple fs) = counts fs
-  field_count (data_of.proto fs) = counts fs
+  field_count (data_of.tuple fs) = field_counts fs
+  field_count (data_of.proto fs) = field_counts fs
 
-  count : FieldShape → ℕ
-  count (field name s number code) = field_count s + 1
+  pub field_count_in : FieldShape → ℕ
+  field_count_in (field name s number code) = field_count s + 1
 
-  counts : FieldShapes → ℕ
-  counts no_fields = 0
-  counts (with_field f fs) = count f + counts fs
+  pub field_counts : FieldShapes → ℕ
+  field_counts no_fields = 0
+  field_counts (with_field f fs) = field_count_in f + field_counts fs
 
 -- the types of a file's messages have so many fields together
 abbrev pub total : Spelling → List Line → (List ℕ → Shape) → ℕ

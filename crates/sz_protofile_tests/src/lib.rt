@@ -11,3 +11,5 @@ mod lines;
 mod ranks;
 #[cfg(test)]
 mod tokens;
+#[cfg(test)]
+mod types;

@@ -1,0 +1,9 @@
+mod RankLemmas
+mod TargetLemmas
+mod UniqueLemmas
+mod OrderLemmas
+mod MakingLemmas
+mod CountLemmas
+mod HoldingLemmas
+mod FoundLemmas
+mod ReadLemmas
