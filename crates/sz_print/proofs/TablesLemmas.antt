@@ -12,24 +12,24 @@ use Rattle.sz_total.specs.Tables.{Indexed, table_rows}
 use Rattle.sz_print.specs.Tables.{table_lines, lines_from, lines_shown, rows_text, tables_text}
 use Rattle.sz_print.specs.Laws.{ShowsItsEmits}
 
--- the text so far and that of the tables from this one on are the text of all tables
-pub record IsTextUpTo (items : List TableDecl) (state : TotalState) (at : ℕ) (text : List ℕ) : Type 0 where
-  pub printed : text ++ lines_shown at (map seen_table (drop at items)) (shown state) ≡ lines_shown 0 (map seen_table items) (shown state)
+-- the text so far and that of the tables from this one on are the text of all tables, where the table with a number shows these rows
+pub record IsTextUpTo (items : List TableDecl) (rows : ℕ → List Indexed) (at : ℕ) (text : List ℕ) : Type 0 where
+  pub printed : text ++ lines_shown at (map seen_table (drop at items)) rows ≡ lines_shown 0 (map seen_table items) rows
 
-pub text_more : (items : List TableDecl) (state : TotalState) (at : ℕ) (text next : List ℕ) (item : TableDecl) (rows : List Indexed)
-    → at < length items → item ≡ get_or items at item → rows ≡ shown state at → next ≡ text ++ table_lines (seen_table item) rows
-    → IsTextUpTo items state at text → IsTextUpTo items state (at + 1) next
-text_more items state at text next item rows less is shows grown before =
+pub text_more : (items : List TableDecl) (rows : ℕ → List Indexed) (at : ℕ) (text next : List ℕ) (item : TableDecl) (found : List Indexed)
+    → at < length items → item ≡ get_or items at item → found ≡ rows at → next ≡ text ++ table_lines (seen_table item) found
+    → IsTextUpTo items rows at text → IsTextUpTo items rows (at + 1) next
+text_more items rows at text next item found less is shows grown before =
     let table = seen_table item in
     let more : suc at ≡ at + 1 = omega arith in
     let front : drop at items ≡ item ∷ drop (suc at) items = drop-cons items at item less ∙ ap (λ x. x ∷ drop (suc at) items) (sym is) in
-    let rest : ℕ → List ℕ = λ n. lines_shown n (map seen_table (drop n items)) (shown state) in
+    let rest : ℕ → List ℕ = λ n. lines_shown n (map seen_table (drop n items)) rows in
     record {
       printed =
           ap (λ t. t ++ rest (at + 1)) (grown ∙ ap (λ r. text ++ table_lines table r) shows)
-          ∙ append_assoc text (table_lines table (shown state at)) (rest (at + 1))
-          ∙ ap (λ n. text ++ (table_lines table (shown state at) ++ rest n)) (sym more)
-          ∙ ap (λ xs. text ++ lines_shown at (map seen_table xs) (shown state)) (sym front)
+          ∙ append_assoc text (table_lines table (rows at)) (rest (at + 1))
+          ∙ ap (λ n. text ++ (table_lines table (rows at) ++ rest n)) (sym more)
+          ∙ ap (λ xs. text ++ lines_shown at (map seen_table xs) rows) (sym front)
           ∙ before.printed;
     }
 

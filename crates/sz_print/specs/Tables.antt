@@ -1,5 +1,5 @@
 -- The text of all tables.
-use Rattle.std.specs.Prelude.{ℕ, suc, List, [], ◌∷◌, ◌++◌}
+use Rattle.std.specs.Prelude.{ℕ, suc, List, [], ◌∷◌, ◌++◌, slice_index_or}
 use Rattle.std.specs.List.{flat_map}
 use Rattle.sz_types.specs.Tables.{Declaration}
 use Rattle.sz_tabs.specs.Data.{EmitDatum}
@@ -18,6 +18,10 @@ lines_shown number (d ∷ ds) rows = table_lines d (rows number) ++ lines_shown 
 -- the text of the tables of a program that show these rows: table by table in the order of their declarations
 abbrev pub rows_text : List Declaration → (ℕ → List Indexed) → List ℕ
 rows_text tables rows = lines_shown 0 tables rows
+
+-- the text of tables whose rows are these lists, table by table
+abbrev pub lists_text : List Declaration → List (List Indexed) → List ℕ
+lists_text tables lists = rows_text tables (λ number. slice_index_or lists number [])
 
 -- the lines of tables in order, of which the first has this number, for all emits
 abbrev pub lines_from : ℕ → List Declaration → List EmitDatum → List ℕ

@@ -11,5 +11,5 @@ mod value;
 
 pub use laws::{rows_have_the_text_of_their_emits, text_forgets_the_order};
 pub use row::push_rows;
-pub use tables::text;
+pub use tables::{SavedTables, text, text_rows};
 pub use value::push_value;

@@ -1,17 +1,39 @@
 //! The text of all tables.
-ghost use Rattle.std.specs.Prelude.{◌≡◌, ◌++◌, List, IfOk, OnOk};
+ghost use Rattle.std.specs.Prelude.{◌≡◌, ◌++◌, List, length, IfOk, OnOk};
 ghost use Rattle.sz_types.specs.SeenTables.{seen_table};
 ghost use Rattle.sz_tabs.specs.Data.{EmitDatum};
 ghost use Rattle.sz_total.specs.States.{declarations, emit_count, shown};
 ghost use Rattle.sz_total.specs.Tables.{Indexed};
 ghost use Rattle.sz_total.specs.Totals.{StandsFor};
-ghost use Rattle.sz_print.specs.Tables.{table_lines, rows_text, tables_text};
+ghost use Rattle.sz_print.specs.Tables.{table_lines, rows_text, lists_text, tables_text};
 
 use crate::row::push_rows;
 use std::alloc::Global;
+use sz_list::Items;
 use sz_tabs::NoMemory;
-use sz_total::{IndexedRows, Total};
+use sz_total::{IndexedRows, TableRows, Total};
 use sz_types::{TableDecl, TableDecls};
+use sz_value::Octets;
+
+/// The rows of each table, in the order of the declarations. Places are counted from 0.
+pub type SavedTables = Items<TableRows>;
+
+/// The text of tables with these rows: in the order of their declarations, with the index lists of each in the order in which they
+/// stand. There are as many tables as declarations.
+pub fn text_rows(
+    alloc: Global,
+    decls: &TableDecls,
+    tables: &SavedTables,
+) -> Result<Octets, NoMemory>
+    requires as_many { length tables.now ≡ length decls.now }
+    ensures value { IfOk result (λ text. text ≡ lists_text decls.now tables.now) }
+{
+    let mut text = Vec::new(alloc);
+    for (number, table) in decls.as_slice().iter().enumerate() {
+        push_table(table, tables.get(number).as_slice(), &mut text)?;
+    }
+    Ok(Octets::from_vec(text))
+}
 
 /// The text of all tables: in the order of their declarations, with the index lists of each in value order. The declarations are
 /// those of the total.

@@ -1,11 +1,6 @@
-pub mod FrontLemmas
-pub mod NameLemmas
-pub mod TypeLemmas
-pub mod DeclarationLemmas
-pub mod ValueLemmas
-pub mod EntryLemmas
-pub mod SavedLemmas
-pub mod NumberLemmas
-pub mod LoopLemmas
-pub mod ReadLemmas
-pub mod WritingLemmas
+mod ListLemmas
+mod WalkLemmas
+mod SumLemmas
+mod RisingLemmas
+mod RowLemmas
+mod JoinLemmas

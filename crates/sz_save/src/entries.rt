@@ -1,100 +1,155 @@
-//! What tables hold, read from the front of bytes.
-ghost use Rattle.std.specs.Prelude.{◌≡◌};
-ghost use Rattle.sz_types.specs.Seen as shapes;
-ghost use Rattle.sz_types.specs.SeenTables.{seen_table};
-ghost use Rattle.sz_save.specs.Decoding.{Reads};
-ghost use Rattle.sz_save.specs.DecodingRows as decoding;
-ghost use Rattle.sz_save.specs.DecodingRows.{long_counted_at, kind_rows_at, entry_at, entries_at};
+//! The index lists of both sides in ascending order, each with the rows of both.
+ghost use Rattle.std.specs.Prelude.{◌≡◌, [], IfOk, IfSome, IfNone};
+ghost use Rattle.sz_save.specs.Walk.{alone, other_alone, joined_entry, joined_entries, Steps, CanJoin, RowsCanJoin, HasCountedRows, AreCounted};
 
-use crate::error::SavedError;
-use crate::numbers::read_count;
-use crate::order::entries_rise;
-use crate::rows::{read_few_rows, read_many_rows, read_set, read_sum_row};
-use crate::sized::read_indexes;
+use crate::order::order_lists;
+use crate::rows::join_rows;
 use std::alloc::Global;
-use sz_tabs::Rows;
+use std::cmp::Ordering;
+use sz_tabs::{NoMemory, Rows};
 use sz_total::{IndexedRows, TableRows};
-use sz_types::{TableDecl, TableKind};
+use sz_types::TableKind;
+use sz_value::{List, copy_list};
 
-// What a table holds, in front, where no more emits were counted than the bound says.
-#[tactic(auto, unfolding(crate::specs::DecodingRows::entries_at))]
-pub(crate) fn read_entries<'f>(
+// All index lists of both sides, each with the rows of both.
+pub(crate) fn join_entries(
     alloc: Global,
-    bound: u64,
-    table: &TableDecl,
-    flat: &'f [u8],
-) -> Result<(TableRows, &'f [u8]), SavedError>
-    ensures value { Reads (λ r. (r.0, r.1.now)) (entries_at bound (seen_table table.now) flat.now) result }
+    kind: TableKind,
+    limit: u32,
+    entries: &[IndexedRows],
+    others: &[IndexedRows],
+) -> Result<TableRows, NoMemory>
+    requires can { CanJoin kind entries.now others.now }
+    ensures value { IfOk result (λ joined. joined ≡ joined_entries kind limit entries.now others.now) }
+    ensures counted { IfOk result (λ joined. AreCounted joined) }
 {
-    let (entries, rest) = read_lists(alloc, bound, table, flat)?;
-    if !are_entries(bound, &entries) {
-        return Err(SavedError::NotSaved);
-    }
-    Ok((entries, rest))
-}
-
-// Whether these can be all index lists of a table.
-fn are_entries(bound: u64, entries: &TableRows) -> bool
-    ensures value { result ≡ decoding.are_entries bound entries.now }
-{
-    (bound != 0 || entries.is_empty()) && entries_rise(entries.as_slice())
-}
-
-// The index lists in front, behind their number, each with its rows.
-#[tactic(auto, unfolding(crate::specs::DecodingRows::long_counted_at))]
-fn read_lists<'f>(
-    alloc: Global,
-    bound: u64,
-    table: &TableDecl,
-    flat: &'f [u8],
-) -> Result<(TableRows, &'f [u8]), SavedError>
-    ensures value { Reads (λ r. (r.0, r.1.now)) (long_counted_at (entry_at bound (seen_table table.now)) flat.now) result }
-{
-    let (count, mut rest) = read_count(flat)?;
-    let mut entries = TableRows::new(alloc);
-    for _ in 0..count {
-        let (entry, after) = read_entry(alloc, bound, table, rest)?;
-        entries.push(entry)?;
+    let mut joined = TableRows::new(alloc);
+    let mut rest = entries;
+    let mut left = others;
+    while let Some((entry, after, left_after)) = join_first(alloc, kind, limit, rest, left)? {
+        joined.push(entry)?;
         rest = after;
+        left = left_after;
     }
-    Ok((entries, rest))
+    let _ = joined.len();
+    Ok(joined)
 }
 
-// The index list in front, with its rows.
-#[tactic(auto, unfolding(crate::specs::DecodingRows::entry_at))]
-fn read_entry<'f>(
+// The first index list of both sides with the rows of both, and what is left behind it on either side; none where there is none.
+#[tactic(auto, using(crate::proofs::WalkLemmas::alone_can, crate::proofs::WalkLemmas::other_can, crate::proofs::WalkLemmas::both_can))]
+fn join_first<'e>(
     alloc: Global,
-    bound: u64,
-    table: &TableDecl,
-    flat: &'f [u8],
-) -> Result<(IndexedRows, &'f [u8]), SavedError>
-    ensures value { Reads (λ r. (r.0, r.1.now)) (entry_at bound (seen_table table.now) flat.now) result }
+    kind: TableKind,
+    limit: u32,
+    entries: &'e [IndexedRows],
+    others: &'e [IndexedRows],
+) -> Result<Option<(IndexedRows, &'e [IndexedRows], &'e [IndexedRows])>, NoMemory>
+    requires can { CanJoin kind entries.now others.now }
+    ensures some { IfOk result (λ first. IfSome first (λ f. Steps kind limit entries.now others.now f.0 f.1.now f.2.now)) }
+    ensures none { IfOk result (λ first. IfNone first (joined_entries kind limit entries.now others.now ≡ [])) }
 {
-    let (indexes, rest) = read_indexes(alloc, table.indexes.as_slice(), flat)?;
-    let (rows, rest) = read_kind_rows(alloc, bound, table, rest)?;
-    Ok((IndexedRows { indexes, rows }, rest))
+    let [entry, after @ ..] = entries else {
+        return join_other(alloc, kind, limit, entries, others);
+    };
+    let [other, left @ ..] = others else {
+        let joined = join_alone(alloc, kind, limit, entry)?;
+        return Ok(Some((joined, after, others)));
+    };
+    match order_lists(&entry.indexes, &other.indexes) {
+        Ordering::Less => {
+            let joined = join_alone(alloc, kind, limit, entry)?;
+            Ok(Some((joined, after, others)))
+        }
+        Ordering::Equal => {
+            let joined = join_both(alloc, kind, limit, entry, other)?;
+            Ok(Some((joined, after, left)))
+        }
+        Ordering::Greater => {
+            let joined = join_other_alone(alloc, kind, limit, other)?;
+            Ok(Some((joined, entries, left)))
+        }
+    }
 }
 
-// The rows in front, of a table of any kind.
-#[tactic(auto, unfolding(crate::specs::DecodingRows::kind_rows_at))]
-fn read_kind_rows<'f>(
+// The same where the first side has no index lists.
+#[tactic(auto, using(crate::proofs::WalkLemmas::other_can))]
+fn join_other<'e>(
     alloc: Global,
-    bound: u64,
-    table: &TableDecl,
-    flat: &'f [u8],
-) -> Result<(Rows, &'f [u8]), SavedError>
-    ensures value { Reads (λ r. (r.0, r.1.now)) (kind_rows_at table.now.kind bound table.now.limit (shapes.seen table.now.element) flat.now) result }
+    kind: TableKind,
+    limit: u32,
+    entries: &'e [IndexedRows],
+    others: &'e [IndexedRows],
+) -> Result<Option<(IndexedRows, &'e [IndexedRows], &'e [IndexedRows])>, NoMemory>
+    requires can { CanJoin kind entries.now others.now }
+    requires none { entries.now ≡ [] }
+    ensures some { IfOk result (λ first. IfSome first (λ f. Steps kind limit entries.now others.now f.0 f.1.now f.2.now)) }
+    ensures none { IfOk result (λ first. IfNone first (joined_entries kind limit entries.now others.now ≡ [])) }
 {
-    let element = &table.element;
-    match table.kind {
-        TableKind::Sum => read_sum_row(alloc, bound as u128 * (1 << 63), element, flat),
-        TableKind::Maximum => {
-            read_few_rows(alloc, TableKind::Maximum, true, table.limit, element, flat)
-        }
-        TableKind::Minimum => {
-            read_few_rows(alloc, TableKind::Minimum, true, table.limit, element, flat)
-        }
-        TableKind::Set => read_set(alloc, table.limit, element, flat),
-        TableKind::Collection => read_many_rows(alloc, element, flat),
-    }
+    let [other, left @ ..] = others else {
+        return Ok(None);
+    };
+    let joined = join_other_alone(alloc, kind, limit, other)?;
+    Ok(Some((joined, entries, left)))
+}
+
+// An index list that the other side hasn't.
+fn join_alone(
+    alloc: Global,
+    kind: TableKind,
+    limit: u32,
+    entry: &IndexedRows,
+) -> Result<IndexedRows, NoMemory>
+    requires can { RowsCanJoin kind entry.now.rows [] }
+    ensures value { IfOk result (λ joined. joined ≡ alone kind limit entry.now) }
+    ensures few { IfOk result (λ joined. HasCountedRows joined) }
+{
+    let rows = join_rows(alloc, kind, limit, entry.rows.as_slice(), &[])?;
+    with_indexes(alloc, &entry.indexes, rows)
+}
+
+// An index list that the other side alone has.
+fn join_other_alone(
+    alloc: Global,
+    kind: TableKind,
+    limit: u32,
+    other: &IndexedRows,
+) -> Result<IndexedRows, NoMemory>
+    requires can { RowsCanJoin kind [] other.now.rows }
+    ensures value { IfOk result (λ joined. joined ≡ other_alone kind limit other.now) }
+    ensures few { IfOk result (λ joined. HasCountedRows joined) }
+{
+    let rows = join_rows(alloc, kind, limit, &[], other.rows.as_slice())?;
+    with_indexes(alloc, &other.indexes, rows)
+}
+
+// An index list of both sides.
+fn join_both(
+    alloc: Global,
+    kind: TableKind,
+    limit: u32,
+    entry: &IndexedRows,
+    other: &IndexedRows,
+) -> Result<IndexedRows, NoMemory>
+    requires can { RowsCanJoin kind entry.now.rows other.now.rows }
+    ensures value { IfOk result (λ joined. joined ≡ joined_entry kind limit entry.now.indexes entry.now.rows other.now.rows) }
+    ensures few { IfOk result (λ joined. HasCountedRows joined) }
+{
+    let rows = join_rows(
+        alloc,
+        kind,
+        limit,
+        entry.rows.as_slice(),
+        other.rows.as_slice(),
+    )?;
+    with_indexes(alloc, &entry.indexes, rows)
+}
+
+// A copy of the indexes, with the rows under them.
+fn with_indexes(alloc: Global, indexes: &List, rows: Rows) -> Result<IndexedRows, NoMemory>
+    ensures value { IfOk result (λ entry. entry ≡ record { indexes = indexes.now; rows = rows }) }
+    ensures few { IfOk result (λ entry. HasCountedRows entry) }
+{
+    let _ = rows.len();
+    let indexes = copy_list(alloc, indexes)?;
+    Ok(IndexedRows { indexes, rows })
 }

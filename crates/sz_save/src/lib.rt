@@ -1,26 +1,16 @@
-//! Saved tables: what a program's tables hold, as the bytes of a file and back.
+//! Saved tables: read, written and joined.
 #![tactic(auto)]
 
-mod allowed;
-mod declarations;
+mod copied;
+mod declared;
 mod entries;
-mod error;
-mod kind;
-mod laws;
-mod names;
-mod numbers;
+mod joining;
 mod order;
-mod put;
-mod put_rows;
 mod rows;
-mod saved;
-mod sized;
-mod types;
+mod sums;
 mod values;
-mod writing;
 
-pub use error::SavedError;
-pub use laws::one_spelling;
-pub use saved::{Saved, SavedTables, read_saved};
-pub use sz_value::NoMemory;
-pub use writing::write_saved;
+pub use joining::{JoinError, join};
+pub use sz_save_format::{
+    NoMemory, Saved, SavedError, SavedTables, one_spelling, read_saved, write_saved,
+};

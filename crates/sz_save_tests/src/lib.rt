@@ -1,7 +1,11 @@
-//! Tests of saved tables as bytes, as rows of data.
+//! Tests of saved tables, as rows of data.
 #![tactic(auto)]
 
 #[cfg(test)]
 mod files;
+#[cfg(test)]
+mod joining;
+#[cfg(test)]
+mod pairs;
 #[cfg(test)]
 mod reading;

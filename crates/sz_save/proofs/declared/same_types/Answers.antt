@@ -1,0 +1,16 @@
+-- Where two differ at a place the lists do.
+use Rattle.std.proofs.Common.{true≢false, sym, arith}
+use Rattle.sz_types.specs.Seen.{seen}
+use Rattle.sz_save.proofs.ListLemmas.{alike_at}
+use Rattle.sz_save.proofs.declared.same_types.Goals as goal
+
+pub returns-then-not-same : goal.returns-then-not-same
+returns-then-not-same c =
+    let less = c.loop-i-test.true in
+    record {
+      value = (
+        λ claim. absurd (true≢false (sym claim)),
+        λ alike. absurd (true≢false (sym (c.if-not-same.ensures.value.1 (alike_at seen c.args.one.now c.args.other.now c.loop-i.i c.index-one-i.result c.index-other-i.result less
+            (omega (arith, less, c.if-one-other.false)) c.index-one-i.is c.index-other-i.is alike)))),
+      );
+    }

@@ -1,8 +1,0 @@
--- The types so far are read, and the others are still to come.
-use Rattle.std.proofs.Common.{◌≡◌, ◌-◌, ◌≤◌}
-use Rattle.sz_save.specs.Decoding.{many_at, saved_type_at, types_at}
-use Rattle.sz_save.proofs.FrontLemmas.{after}
-use Rattle.sz_save.proofs.types.read_types.Given as goal
-
-abbrev pub invariant-loop : goal.invariant-loop
-invariant-loop l = (types_at l.flat ≡ after l.types (many_at saved_type_at (l.count - l.counter) l.rest)) × (l.counter ≤ l.count)

@@ -1,0 +1,11 @@
+pub mod FrontLemmas
+pub mod NameLemmas
+pub mod TypeLemmas
+pub mod DeclarationLemmas
+pub mod ValueLemmas
+pub mod EntryLemmas
+pub mod SavedLemmas
+pub mod NumberLemmas
+pub mod LoopLemmas
+pub mod ReadLemmas
+pub mod WritingLemmas
