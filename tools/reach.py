@@ -106,5 +106,6 @@ def of_headline():
     path = next(it for it in (ROOT / "crates/szl/src").glob("*.rt") if re.search(r"^pub fn szl_main\b", read(it), re.M))
     text = read(path)
     head = re.search(r"^pub fn szl_main\b.*?^\{", text, re.M | re.S).group()
-    clauses = "\n".join(re.findall(r"(?:ensures|requires)[^{]*\{(.*)\}", head))
+    # a clause may go over several lines; its last one ends with its brace
+    clauses = "\n".join(re.findall(r"(?:ensures|requires)[^{\n]*\{(.*?)\}[ \t]*$", head, re.M | re.S))
     return reached(clauses, brought_in(text, "ghost use"))

@@ -14,7 +14,7 @@ use Rattle.sz_tree.specs.Types.{Typ, Params, no_params, param, params_of}
 use Rattle.sz_tree.specs.View.{param_of}
 use Rattle.sz_core.specs.Programs.{Signature}
 use Rattle.sz_check_rules.specs.Refusals.{Judged, ◌>>=◌, declared_twice}
-use Rattle.sz_check_rules.specs.Names.{Meaning, Named, Block, has, only, is_seen_by_functions}
+use Rattle.sz_check_rules.specs.Names.{Named, Block, has, only, is_seen_by_functions}
 use Rattle.sz_check_rules.specs.Names as names
 use Rattle.sz_check_rules.specs.JudgingTypes.{judge_type}
 use Rattle.sz_check_rules.specs.Scene.{Scene, with_variable}

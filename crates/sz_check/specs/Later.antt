@@ -1,5 +1,5 @@
 -- What contracts see of what is known after a statement.
-use Rattle.std.specs.Prelude.{ℕ, pos, List, [], ◌∷◌, map, Option}
+use Rattle.std.specs.Prelude.{ℕ, pos, List, map, Option}
 use Rattle.std.specs.Borrow.{Bor}
 use Rattle.sz_types.specs.Data.{Shape}
 use Rattle.sz_types.specs.Rows.{sum_row, difference_row}

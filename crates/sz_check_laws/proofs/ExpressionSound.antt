@@ -6,7 +6,7 @@ use Rattle.sz_types.specs.Data.{Shape}
 use Rattle.sz_tree.specs.Expressions.{Exp, literal, named, call, def, paren, convert, list, mapping, index, slice, field, Exps, end, more, Pairs, no_pairs}
 use Rattle.sz_tree.specs.Expressions.{pair}
 use Rattle.sz_tree.specs.Expressions as trees
-use Rattle.sz_core.specs.Nodes.{Node, node, no_nodes, with_node, no_pairings, with_pairing, type_of}
+use Rattle.sz_core.specs.Nodes.{node, no_nodes, with_node, no_pairings, with_pairing, type_of}
 use Rattle.sz_core.specs.Nodes as forms
 use Rattle.sz_core.specs.WellFormed.{is_well_formed, are_well_formed}
 use Rattle.sz_core.specs.Typing.{Sight, HasOwnType, IsNode, IsForm}

@@ -6,7 +6,7 @@ use Rattle.sz_types.specs.Data.{Shape}
 use Rattle.sz_tree.specs.Names.{Ident}
 use Rattle.sz_tree.specs.Types.{Typ, Params}
 use Rattle.sz_tree.specs.Statements.{Stms}
-use Rattle.sz_core.specs.Programs.{Signature, Function, Item}
+use Rattle.sz_core.specs.Programs.{Signature, Function}
 use Rattle.sz_core.specs.Programs as items
 use Rattle.sz_core.specs.Emitting.{body_emits}
 use Rattle.sz_core.specs.Typing.{Sight}

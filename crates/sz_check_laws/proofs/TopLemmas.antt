@@ -7,7 +7,7 @@ use Rattle.sz_tree.specs.Names.{Ident}
 use Rattle.sz_core.specs.Programs.{Signature, Item}
 use Rattle.sz_core.specs.Typing.{Sight}
 use Rattle.sz_core.specs.Sound.{BeginsWith, Declared, record_sight, AreItems}
-use Rattle.sz_check_rules.specs.Names.{Block, Meaning, only, is_seen_by_functions, is_seen_by_statics}
+use Rattle.sz_check_rules.specs.Names.{Block, Meaning}
 use Rattle.sz_check_rules.specs.Names as names
 use Rattle.sz_check_rules.specs.Scene.{Scene}
 use Rattle.sz_check_rules.specs.JudgingPrograms.{TopScene, Found, blocks_of, with_blocks}

@@ -15,7 +15,7 @@ use Rattle.sz_core.specs.WellFormed.{is_well_formed, are_parts, are_message_fiel
 use Rattle.sz_core.specs.WellFormed.{is_field_type, takes_encoding, most_field_number}
 use Rattle.sz_core.specs.Typing.{Sight}
 use Rattle.sz_check_rules.specs.Refusals.{has_name}
-use Rattle.sz_check_rules.specs.Names.{Block, Meaning, look_up}
+use Rattle.sz_check_rules.specs.Names.{Block, Meaning}
 use Rattle.sz_check_rules.specs.Names as names
 use Rattle.sz_check_rules.specs.JudgingTypes.{judge_type, judge_parts, judge_fields, shape_of, type_named, field_number, encoding_of, Coding, coding_of, coded}
 use Rattle.sz_check_rules.proofs.Holds.{Holds, ok_holds, err_holds, bind_holds, if_holds}

@@ -7,7 +7,7 @@ use Rattle.std.specs.Prelude.{Option, Some, is_some, slice_get}
 use Rattle.sz_types.specs.Data.{Shape}
 use Rattle.sz_core.specs.Nodes.{Node, node, Form, constant, local, static, input, call, builtin, def, convert, array, tuple, mapping, index, slice, field}
 use Rattle.sz_core.specs.Nodes.{unary, binary, both, either, Nodes, no_nodes, with_node, Pairings, no_pairings, with_pairing}
-use Rattle.sz_core.specs.Programs.{Signature, Function, Static, Item, Core, tables_of, statics_of, core_of}
+use Rattle.sz_core.specs.Programs.{Signature, Static, Item, Core, tables_of, statics_of, core_of}
 use Rattle.sz_core.specs.Programs as items
 use Rattle.sz_core.specs.Emitting.{node_emits, form_emits, nodes_emit, pairings_emit, is_emitting}
 use Rattle.sz_core.specs.Sound.{IsSound, AreItems, Declared, declared_by, nothing_declared, seen_after, record_sight, IsStatic, static_sight, BeginsWith}

@@ -1,15 +1,14 @@
 -- What an aggregator of extremes stands for after its calls.
-use Rattle.std.proofs.Common.{◌≡◌, ◌∙◌, ◌⊎◌, inl, inr, ℕ, ◌+◌, ◌≤◌, ◌<◌, ℤ, Option, Some, None, true, false, true≢false, is_some, List, [], ◌∷◌, ◌++◌, map, take, length, refl, sym, ap, subst, arith}
+use Rattle.std.proofs.Common.{◌≡◌, ◌∙◌, inl, inr, ℕ, ◌+◌, ◌≤◌, ℤ, List, [], ◌∷◌, ◌++◌, map, take, length, refl, sym, ap, subst, arith}
 use Rattle.std.specs.List.{take-map}
 use Rattle.std.proofs.lemmas.Int.{ints}
-use Rattle.std.proofs.lemmas.List.{length-append, map-append, take_all, length-map}
+use Rattle.std.proofs.lemmas.List.{length-append, map-append, take_all}
 use Rattle.std.proofs.lemmas.List.Sorted.{length_permutation}
 use Rattle.sz_types.specs.Tables.{Declaration}
 use Rattle.sz_types.specs.declared.table.TableKind.{TableKind}
 use Rattle.sz_types.specs.declared.table.TableKind.TheVariants.{Maximum, Minimum}
-use Rattle.sz_value.specs.Data.{Datum}
-use Rattle.sz_tabs.specs.Data.{Weighted, RowDatum}
-use Rattle.sz_tabs.specs.Aggregating.{StandsFor, Gains, Joins}
+use Rattle.sz_tabs.specs.Data.{Weighted}
+use Rattle.sz_tabs.specs.Aggregating.{Gains, Joins}
 use Rattle.sz_tabs.specs.Rows.{weighted_row, rows_by, rows_of}
 use Rattle.sz_tabs.specs.Sorting.{sorted}
 use Rattle.sz_tabs.proofs.ForCallers.{rows_decide, rows_join, sorted_is_permutation}

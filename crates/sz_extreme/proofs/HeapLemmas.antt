@@ -1,11 +1,10 @@
 -- What the calls of the heap leave: the least of all that came.
-use Rattle.std.proofs.Common.{◌≡◌, ◌∙◌, ℕ, ◌+◌, ◌≤◌, ◌<◌, ℤ, Bool, true, false, List, [], ◌∷◌, ◌++◌, map, take, length, true≢false, Option, Some, None, IsSome, IfSome, IsSorted, sym, ap, subst, arith, is_lt, IsPermutation}
-use Rattle.std.specs.List.{AllByRecursion}
+use Rattle.std.proofs.Common.{◌≡◌, ◌∙◌, ℕ, ◌+◌, ◌≤◌, ◌<◌, ℤ, true, false, List, [], ◌∷◌, ◌++◌, map, take, length, true≢false, Option, Some, None, IsSome, IfSome, IsSorted, sym, ap, arith, is_lt, IsPermutation}
 use Rattle.std.specs.BinaryHeap.{IsHeap, IsUpperBound, PopsGreatest}
 use Rattle.std.specs.List.Sorted.{IsStable}
 use Rattle.std.specs.Cmp.{on_total}
 use Rattle.std.proofs.lemmas.List.{length-map, map-append}
-use Rattle.std.proofs.lemmas.List.Sorted.{IsPermutation-map, IsPermutation-trans, IsPermutation-sym, IsPermutation-append_comm, length_permutation}
+use Rattle.std.proofs.lemmas.List.Sorted.{IsPermutation-map, IsPermutation-sym, IsPermutation-append_comm, length_permutation}
 use Rattle.sz_value.specs.declared.value.Value.{Value}
 use Rattle.sz_tabs.specs.Sorting.{sorted}
 use Rattle.sz_tabs.proofs.ForCallers.{sorted_in_any_order, stable_sort_is_sorted, sorted_mapped}

@@ -1,6 +1,6 @@
 -- The order of ranks, and that the greatest of one more than n can be left out of the first n.
-use Rattle.std.proofs.Common.{◌≡◌, ◌∙◌, ◌⊎◌, inl, inr, ℕ, zero, suc, ◌+◌, ◌≤◌, ◌<◌, ℤ, negsuc, ◌-ℤ◌, ◌+ℤ◌, ◌<ℤ◌, ◌≤ℤ◌, Bool, true, false, cond, true≢false, Option, Some, None, pos, List, [], ◌∷◌, ◌++◌, map, take, length, refl, sym, ap, subst, arith}
-use Rattle.std.proofs.Common.{Ordering, Less, Equal, Greater, is_lt, is_gt, is_eq, IsPermutation}
+use Rattle.std.proofs.Common.{◌≡◌, ◌∙◌, ℕ, ◌+◌, ◌≤◌, ℤ, negsuc, ◌-ℤ◌, true, false, cond, true≢false, Option, Some, None, pos, List, [], ◌∷◌, ◌++◌, map, take, length, refl, sym, ap, subst, arith}
+use Rattle.std.proofs.Common.{Ordering, Less, Equal, Greater, is_lt, is_gt}
 use Rattle.std.specs.List.{AllByRecursion}
 use Rattle.std.specs.Ordering.{int_cmp, ordering_then, ordering_reverse, on}
 use Rattle.std.specs.Cmp.{IsTotalOrder, on_total, int_cmp_is}
@@ -8,16 +8,13 @@ use Rattle.std.proofs.lemmas.Int.{ints}
 use Rattle.std.proofs.lemmas.Cmp.{alike_right, int_ranked}
 use Rattle.std.proofs.lemmas.List.{take-append-le}
 use Rattle.std.proofs.lemmas.List.Sorted.{length_permutation}
-use Rattle.sz_types.specs.declared.table.TableKind.{TableKind}
 use Rattle.sz_types.specs.declared.table.TableKind.TheVariants.{Maximum, Minimum}
-use Rattle.sz_value.specs.Data.{Datum}
 use Rattle.sz_value.specs.Order.{compare}
-use Rattle.sz_tabs.specs.Data.{Weighted}
 use Rattle.sz_tabs.specs.Sorting.{inserted, sorted}
 use Rattle.sz_tabs.specs.Rows.{least_first, greatest_first}
-use Rattle.sz_tabs.proofs.ForCallers.{Ascends, sorted_ascends, sorted_is_permutation, sorted_in_any_order, sorted_mapped, least_total, least_ties}
+use Rattle.sz_tabs.proofs.ForCallers.{Ascends, sorted_ascends, sorted_is_permutation, sorted_mapped, least_total, least_ties}
 use Rattle.sz_tabs.proofs.SortingLemmas.{all_inserted}
-use Rattle.sz_extreme.specs.Ranks.{turned, Ranked, by_rank, emit_of, HoldsLeast}
+use Rattle.sz_extreme.specs.Ranks.{Ranked, by_rank, emit_of}
 
 pub rank_total : IsTotalOrder by_rank
 rank_total = on_total (emit_of Minimum) least_total

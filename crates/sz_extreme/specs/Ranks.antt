@@ -1,5 +1,5 @@
 -- Ranks, which order what a table keeps: the least rank comes first, and of equal ranks the lesser value.
-use Rattle.std.specs.Prelude.{◌≡◌, ℕ, ℤ, negsuc, ◌-ℤ◌, List, map, take, Some}
+use Rattle.std.specs.Prelude.{◌≡◌, ℕ, ℤ, negsuc, ◌-ℤ◌, List, take, Some}
 use Rattle.std.specs.Ordering.{int_cmp, ordering_then}
 use Rattle.std.specs.declared.cmp.Ordering.{Ordering}
 use Rattle.sz_types.specs.declared.table.TableKind.{TableKind}

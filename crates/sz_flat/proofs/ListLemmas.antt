@@ -1,8 +1,8 @@
 -- Lists that are kept flat: what their bytes say of their values, and reading them.
-use Rattle.std.proofs.Common.{◌≡◌, ◌∙◌, ℕ, suc, ◌≤◌, ◌<◌, ◌+◌, ◌==◌, Bool, true, false, true≢false, Result, Ok, Err, OnOk, OnErr, List, [], ◌∷◌, ◌++◌}
-use Rattle.std.proofs.Common.{length, map, refl, sym, ap, subst, arith, append_assoc, length-append, is_eq, nat_eq}
+use Rattle.std.proofs.Common.{◌≡◌, ◌∙◌, ℕ, suc, ◌≤◌, ◌+◌, ◌==◌, Bool, true, false, true≢false, Result, Ok, Err, OnOk, OnErr, List, [], ◌∷◌, ◌++◌}
+use Rattle.std.proofs.Common.{length, refl, sym, ap, subst, arith, append_assoc, length-append, nat_eq}
 use Rattle.std.specs.Cmp.Lexicographic.{pointwise, bytes_decides}
-use Rattle.std.specs.Coded.{Coded-set, coded_list, coded_bool, coded_ℕ}
+use Rattle.std.specs.Coded.{Coded-set, coded_list, coded_ℕ}
 use Rattle.std.proofs.Math.Logic.{∥∥₁_elim}
 use Rattle.std.proofs.lemmas.Bool.{eqb-true}
 use Rattle.std.proofs.lemmas.List.{append-nil}
@@ -11,7 +11,7 @@ use Rattle.sz_value.specs.Code.{parts_code}
 use Rattle.sz_value.specs.Data.{Datum, data_of}
 use Rattle.sz_flat.specs.declared.error.FlatError.{FlatError}
 use Rattle.sz_flat.specs.declared.error.FlatError.TheVariants.{NotFlat, NoMemory}
-use Rattle.sz_flat.specs.Spelling.{spelling, spelled_parts, HasSpelling, HaveSpellings}
+use Rattle.sz_flat.specs.Spelling.{spelling, spelled_parts, HaveSpellings}
 use Rattle.sz_flat.specs.Lists.{SpellsAll, SpellNone, Spelled, same_values}
 use Rattle.sz_flat.specs.Kept.{one_list, some_bytes, same_values_are_one, same_values_equiv}
 use Rattle.sz_flat.specs.Reading.{values, all_of, Adds, Stands, Lacks, Stops}

@@ -1,6 +1,6 @@
 -- What a run emits fits the tables of its code.
-use Rattle.std.proofs.Common.{◌≡◌, ◌∙◌, ℕ, zero, suc, Bool, true, false, cond, Option, Some, None, List}
-use Rattle.std.proofs.Common.{[], ◌∷◌, ◌++◌, All, IfSome, refl, sym, ap, subst, is_some, ◌&&◌, nat_lt, arith}
+use Rattle.std.proofs.Common.{◌≡◌, ℕ, zero, suc, Bool, true, false, Option, Some, None, List}
+use Rattle.std.proofs.Common.{[], ◌∷◌, All, IfSome, refl, sym, ap, subst, is_some, ◌&&◌, nat_lt}
 use Rattle.std.specs.Prelude.{ℤ, pos, ◌-◌, slice_get, if◌then◌else◌, drop, length}
 use Rattle.std.specs.Option.{option_map}
 use Rattle.std.proofs.lemmas.List.Elements.{All-nil, All-push}
@@ -15,20 +15,19 @@ use Rattle.sz_instr.specs.declared.instr.Instr.{Instr}
 use Rattle.sz_instr.specs.declared.instr.Instr.TheVariants.{Push, Local, Static, Input, Keep, KeepStatic, Clear, Store, Unary, Binary, Apply}
 use Rattle.sz_instr.specs.declared.instr.Instr.TheVariants.{Convert, Decode, MakeArray, MakeTuple, MakeMap, Index, Slice, Field, Def, Tick, Jump, Test}
 use Rattle.sz_instr.specs.declared.instr.Instr.TheVariants.{AndTest, OrTest, Call, Return, EndRecord, Discard, Emit, Enter, Next, Leave, Meets, Fails}
-use Rattle.sz_instr.specs.declared.step.Step.{Step}
 use Rattle.sz_instr.specs.declared.routine.Routine.{Routine}
 use Rattle.sz_instr.specs.declared.line.Line.{Line}
 use Rattle.sz_instr.specs.declared.code.Code.{Code}
-use Rattle.sz_world_rules.specs.World.{World, new_world, spend, Outcome, Done, Faulted, calls_too_deep, most_open_calls}
-use Rattle.sz_world_rules.specs.Slots.{Slot, slot_at, all_defined}
+use Rattle.sz_world_rules.specs.World.{World, spend, Done, calls_too_deep, most_open_calls}
+use Rattle.sz_world_rules.specs.Slots.{Slot, all_defined}
 use Rattle.sz_world_rules.specs.Typed.{Fits, AllFit}
 use Rattle.sz_world_rules.specs.Emits.{EmitParts, emit_with, emit_weighted, emit_by_weight, emit_of, weight_number, line_emit, emit_or_line, with_emit}
-use Rattle.sz_world_rules.specs.Stores.{Stored, Holds, Undefined, Outside, stored}
-use Rattle.sz_machine_rules.specs.States.{Caller, State, After, Goes, Halts, Faults, Stuck, goes_to, goes_on, faults, on_one, on_two, on_three, popped}
-use Rattle.sz_machine_rules.specs.Rows.{pass_over, after_store, by_truth, if_true, if_false, if_defined, enter, call}
+use Rattle.sz_world_rules.specs.Stores.{Stored, Holds, Undefined, Outside}
+use Rattle.sz_machine_rules.specs.States.{Caller, State, After, Goes, Halts, Faults, Stuck, faults, on_one, on_two, on_three, popped}
+use Rattle.sz_machine_rules.specs.Rows.{pass_over, after_store, by_truth, if_true, if_false, if_defined, enter}
 use Rattle.sz_machine_rules.specs.Rows.{call_with, call_routine, leave_to, next_candidate, drop_list, emit_parts, act}
 use Rattle.sz_machine_rules.specs.Covering.{OnOne, IfUndefined, TakesLines, CanCount, Covers, WeightFits, PartsFit}
-use Rattle.sz_machine_rules.specs.Runs.{charged, does, charge_of, LeadsBy, Leads, GoesOn, RunsFor, ComesTo, record_start, EndsRecord, RunsTo}
+use Rattle.sz_machine_rules.specs.Runs.{charged, does, charge_of, LeadsBy, GoesOn, RunsFor, EndsRecord, RunsTo}
 
 -- indexes that are all defined have their types
 indexes_typed : (slots : List Slot) (types : List Shape) → AllFit slots types → IfSome (all_defined slots) (λ ds. have_types ds types ≡ true)

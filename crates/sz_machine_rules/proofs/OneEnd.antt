@@ -1,14 +1,14 @@
 -- A run ends in one way.
-use Rattle.std.proofs.Common.{◌≡◌, ℕ, zero, suc, List, [], ◌∷◌, length, Option, Some, None, refl, sym, ap, ◌∙◌, subst}
+use Rattle.std.proofs.Common.{◌≡◌, ℕ, zero, suc, List, [], ◌∷◌, length, Option, Some, None, sym, ◌∙◌, subst}
 use Rattle.std.specs.Prelude.{slice_get}
 use Rattle.sz_tabs.specs.Data.{EmitDatum}
 use Rattle.sz_instr.specs.declared.line.Line.{Line}
 use Rattle.sz_instr.specs.declared.routine.Routine.{Routine}
 use Rattle.sz_instr.specs.declared.code.Code.{Code}
-use Rattle.sz_world_rules.specs.World.{World, Fault, Outcome, Done, Faulted, new_world}
+use Rattle.sz_world_rules.specs.World.{World, Outcome, new_world}
 use Rattle.sz_world_rules.specs.Slots.{Slot, undefined_slots}
 use Rattle.sz_machine_rules.specs.States.{State, After, IsOver, Goes, Halts, Faults, Stuck, entered}
-use Rattle.sz_machine_rules.specs.Runs.{does, LeadsBy, Leads, GoesOn, RunsFor, ComesTo, EndsRecord, RunsTo, EndsStatic, RoutinesRunTo, StaticsRunTo}
+use Rattle.sz_machine_rules.specs.Runs.{LeadsBy, GoesOn, RunsFor, EndsRecord, RunsTo, EndsStatic, RoutinesRunTo, StaticsRunTo}
 
 module _ (code : Code) where
   -- a line leads to one thing

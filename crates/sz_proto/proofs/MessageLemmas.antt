@@ -2,7 +2,7 @@
 use Rattle.std.proofs.Common.{◌≡◌, ℕ, zero, suc, ◌+◌, ◌-◌, ◌<◌, ◌≤◌, List, [], ◌∷◌, ◌++◌, length, drop, map, get_or, Option, Some, None, Bool, true, false, ◌==◌, cond, nat_lt, refl, sym, ap, ◌∙◌, arith, Box, Global}
 use Rattle.std.specs.Option.{option_and_then, option_map}
 use Rattle.std.proofs.lemmas.List.{drop_all, at_drop_more, take_all}
-use Rattle.sz_types.specs.Data.{Shape, FieldShape, FieldShapes, field, no_fields, with_field, fields_of}
+use Rattle.sz_types.specs.Data.{Shape, FieldShapes, field, no_fields, with_field, fields_of}
 use Rattle.sz_types.specs.Data as shapes
 use Rattle.sz_types.specs.Seen.{seen, seen_field, seen_fields}
 use Rattle.sz_types.specs.declared.ty.Ty.{Ty}

@@ -3,7 +3,6 @@ use Rattle.std.proofs.Common.{◌≡◌, ℕ, ℤ, ◌+◌, ◌<◌, ◌≤◌, 
 use Rattle.std.specs.Option.{option_map, unwrap_or}
 use Rattle.std.proofs.lemmas.List.{drop_all, at_drop_more}
 use Rattle.sz_types.specs.declared.encoding.Encoding.{Encoding}
-use Rattle.sz_value.specs.Data.{Datum}
 use Rattle.sz_value.specs.Data as values
 use Rattle.sz_wire.specs.declared.field.WireField.{WireField}
 use Rattle.sz_wire.specs.Field.{Content, varint, eight, four, span, group, content_in}

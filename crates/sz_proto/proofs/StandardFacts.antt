@@ -1,9 +1,9 @@
 -- Messages with the values that they were made to have.
 use Rattle.std.proofs.Common.{◌≡◌, pos, [], ◌∷◌, Some, None, refl}
 use Rattle.sz_types.specs.declared.encoding.Encoding.TheVariants as codes
-use Rattle.sz_types.specs.Data.{Shape, FieldShapes, field, no_fields, with_field}
+use Rattle.sz_types.specs.Data.{Shape, field, no_fields, with_field}
 use Rattle.sz_types.specs.Data as shapes
-use Rattle.sz_value.specs.Data.{Datum, data_of}
+use Rattle.sz_value.specs.Data.{data_of}
 use Rattle.sz_value.specs.Data as values
 use Rattle.sz_wire.specs.Varint.{number_at, varint_at}
 use Rattle.sz_wire.specs.Key.{key_at}

@@ -2,7 +2,7 @@
 use Rattle.std.specs.Prelude.{ℕ, pos, ◌+◌, List, [], ◌∷◌, map, Option, Some, None, false, nat_lt, if◌then◌else◌}
 use Rattle.std.specs.Option.{option_and_then, option_map}
 use Rattle.sz_types.specs.declared.encoding.Encoding.{Encoding}
-use Rattle.sz_types.specs.Data.{Shape, FieldShape, FieldShapes, field, no_fields, with_field}
+use Rattle.sz_types.specs.Data.{Shape, FieldShapes, field, no_fields, with_field}
 use Rattle.sz_types.specs.Data as shapes
 use Rattle.sz_value.specs.Data.{Datum, data_of}
 use Rattle.sz_value.specs.Data as values

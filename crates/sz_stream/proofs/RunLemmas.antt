@@ -28,7 +28,8 @@ use Rattle.sz_stream.specs.declared.intake.Intake.{Intake}
 use Rattle.sz_stream.specs.Inputs.{full, GoesOn, EndsInput, RunsInput}
 use Rattle.sz_stream.specs.Intakes.{AreClosed, sum_of, IsFed, IsEmpty, KeepsRound, HasTaken, TakesIn, Closes, moved_on}
 use Rattle.sz_stream.specs.InputRuns.{HasRun, IsRunning, ended_so}
-use Rattle.sz_stream.proofs.ShardLemmas.{are_longer, are_more, sum_within, fewer_shards, split, cut_append, lie, ranges_append, length-ranges, sum-append}
+use Rattle.sz_stream.proofs.ShardLemmas.{are_longer, are_more, sum_within, fewer_shards, split, cut_append, length_cut, lie, ranges_append}
+use Rattle.sz_stream.proofs.ShardLemmas.{length-ranges, sum-append}
 use Rattle.sz_stream.proofs.FedLemmas.{begins, few_given}
 use Rattle.sz_stream.proofs.PassedLemmas.{few_passed, passed_records}
 
@@ -41,20 +42,6 @@ same_rest : {p q n m f g : ℕ} (job : Job) (emits : List EmitDatum) (rest : Lis
 same_rest {p = p} {q = q} {n = n} {m = m} {f = f} {g = g} job emits rest sizes passed number first =
     ap (λ k. rest_of job emits k n f rest sizes) passed ∙ ap (λ k. rest_of job emits q k f rest sizes) number
     ∙ ap (λ k. rest_of job emits q m k rest sizes) first
-
--- the records of so many shards at the front
-length_cut : (most : ℕ) (at_end : Bool) (number first : ℕ) (records : List (List ℕ)) (ns : List ℕ) → AreClosed most at_end records ns
-    → length (all_records (cut_into number first records ns)) ≡ sum_of ns
-length_cut most at_end number first records [] a = refl
-length_cut most at_end number first records (n ∷ ns) a =
-    let rest = length_cut most at_end (suc number) (first + n) (drop n records) ns a.1 in
-    let here = taken n records a.0.within in
-    omega (arith, rest, here, length-append (take n records) (all_records (cut_into (suc number) (first + n) (drop n records) ns)))
-  where
-    taken : (n : ℕ) (rs : List (List ℕ)) → n ≤ length rs → length (take n rs) ≡ n
-    taken zero rs le = refl
-    taken (suc n) [] le = absurd (omega arith)
-    taken (suc n) (r ∷ rs) le = ap suc (taken n rs (omega arith))
 
 -- before anything is read
 module _ (job : Job) (frame : Frame) (most : ℕ) (intake : Intake) (total : TotalState) where

@@ -1,5 +1,5 @@
 -- Shards that are closed at the front of records.
-use Rattle.std.proofs.Common.{◌≡◌, ℕ, suc, ◌+◌, ◌-◌, ◌^◌, ◌≤◌, List, [], ◌∷◌, ◌++◌, length, take, drop, All, Bool, true, false}
+use Rattle.std.proofs.Common.{◌≡◌, ℕ, zero, suc, ◌+◌, ◌-◌, ◌^◌, ◌≤◌, List, [], ◌∷◌, ◌++◌, length, take, drop, All, Bool, true, false}
 use Rattle.std.proofs.Common.{refl, sym, ap, ◌∙◌, subst, arith, append_assoc, length-append, length-drop}
 use Rattle.std.proofs.lemmas.List.{drop-append-le, take-append-le, drop-drop}
 use Rattle.std.proofs.lemmas.List.Elements.{All-nil, All-cons}
@@ -7,6 +7,7 @@ use Rattle.sz_records.specs.Shards.{AreShards, IsShard, EndsShard}
 use Rattle.sz_records.proofs.ShardLemmas.{one_shard}
 use Rattle.sz_attempt.specs.declared.job.Shard.{Shard}
 use Rattle.sz_attempt.specs.Shards.{ShardData, IsShardIn}
+use Rattle.sz_rounds.specs.Outcomes.{all_records}
 use Rattle.sz_rounds.specs.Cuts.{ranges_of, cut_into}
 use Rattle.sz_rounds.specs.Rounds.{AreNext}
 use Rattle.sz_stream.specs.Intakes.{IsClosed, AreClosed, sum_of}
@@ -120,6 +121,20 @@ module _ (most : ℕ) where
             (record { order = omega arith; within = fits; first = low; few = omega (arith, few, a.0.within) }) rest.within;
         next = (refl, refl, subst (λ m. AreNext (place + n) m (ranges_of (place + n) (first + n) ns)) same rest.next);
       }
+
+-- the records of so many shards at the front
+pub length_cut : (most : ℕ) (at_end : Bool) (number first : ℕ) (records : List (List ℕ)) (ns : List ℕ) → AreClosed most at_end records ns
+    → length (all_records (cut_into number first records ns)) ≡ sum_of ns
+length_cut most at_end number first records [] a = refl
+length_cut most at_end number first records (n ∷ ns) a =
+    let rest = length_cut most at_end (suc number) (first + n) (drop n records) ns a.1 in
+    let here = taken n records a.0.within in
+    omega (arith, rest, here, length-append (take n records) (all_records (cut_into (suc number) (first + n) (drop n records) ns)))
+  where
+    taken : (n : ℕ) (rs : List (List ℕ)) → n ≤ length rs → length (take n rs) ≡ n
+    taken zero rs le = refl
+    taken (suc n) [] le = absurd (omega arith)
+    taken (suc n) (r ∷ rs) le = ap suc (taken n rs (omega arith))
 
 -- where shards lie, and those after them
 pub ranges_append : (place first : ℕ) (ns ms : List ℕ)

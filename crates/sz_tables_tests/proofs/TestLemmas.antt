@@ -97,24 +97,3 @@ one_table old new table none more weights element indexes =
           (All-push (λ (table : Declaration). (table.element ≡ Shape.int) × (table.indexes ≡ Shape.int ∷ Shape.int ∷ [])) [] table
           (All-nil (λ (table : Declaration). (table.element ≡ Shape.int) × (table.indexes ≡ Shape.int ∷ Shape.int ∷ []))) (element, indexes)),
     )
-
--- a whole number under two whole numbers fits it, if it has a weight where the table has weights
-pub emit_fits_two : (tables : List Declaration) (emit : EmitDatum) (table : Declaration) (first second number : ℤ) → AreUnderTwo tables
-    → slice_get tables emit.table ≡ Some table → emit.indexes ≡ int first ∷ int second ∷ [] → emit.value ≡ int number
-    → is_some emit.weight ≡ is_some table.weight → IsEmitTo tables emit
-emit_fits_two tables emit table first second number are there indexes value weight =
-    let of = subst (λ (d : Declaration). (d.element ≡ Shape.int) × (d.indexes ≡ Shape.int ∷ Shape.int ∷ []))
-    (get_or_from_slice_get tables emit.table table table there) (are emit.table table (slice_get_within tables emit.table table there)) in
-    record {
-      table = table;
-      declared = there;
-      indexes = (λ i. have_types (indexes i) (of.1 i));
-      fits = record { element = (λ i. has_type (value i) (of.0 i)); weight = weight };
-    }
-
-pub emit_short_two : (emit : EmitDatum) (first second number : ℤ) → emit.indexes ≡ int first ∷ int second ∷ [] → emit.value ≡ int number
-    → HasShortParts emit
-emit_short_two emit first second number indexes value = record {
-  indexes = two_short emit.indexes first second indexes;
-  value = subst HasShortLengths (sym value) tt;
-}

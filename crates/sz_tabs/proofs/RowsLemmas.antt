@@ -1,7 +1,6 @@
 -- Laws of the rows of emits.
 use Rattle.std.proofs.Common.{◌≡◌, ◌∙◌, ℕ, zero, suc, ◌+ℤ◌, ℤ, Option, Some, None, List, [], ◌∷◌, ◌++◌, map, take, refl, sym, ap, arith, true, false, cond, Ordering, Equal, is_eq, int_cmp, true≢false, le-ltb, IsPermutation}
 use Rattle.std.specs.Option.{option_cmp}
-use Rattle.std.specs.Ordering.{flip_args}
 use Rattle.std.specs.Cmp.{IsTotalOrder, int_cmp_total, then_total, on_total, back_total, signed_Decides}
 use Rattle.std.specs.Cmp.Lexicographic.{options_total}
 use Rattle.std.proofs.lemmas.Int.{ints}

@@ -1,5 +1,5 @@
 -- No sum that a table shows is further from 0 than the table's emits can bring it.
-use Rattle.std.proofs.Common.{◌≡◌, ◌∙◌, ℕ, ◌*◌, ◌^◌, ◌≤◌, ◌<◌, ℤ, Bool, true, false, cond, Option, Some, None, List, [], ◌∷◌, map, take, refl, sym, ap, subst, arith, All}
+use Rattle.std.proofs.Common.{◌≡◌, ◌∙◌, ℕ, ◌*◌, ◌^◌, ◌≤◌, ◌<◌, ℤ, Bool, true, false, cond, Option, Some, None, List, [], ◌∷◌, map, take, refl, sym, ap, subst, arith}
 use Rattle.std.specs.Prelude.{IfSome, nat_lt, length, slice_index_or}
 use Rattle.std.specs.Option.{option_map_or}
 use Rattle.std.specs.Map.{keys_of, lookup}
@@ -17,7 +17,6 @@ use Rattle.sz_tabs.specs.Data.{Weighted, Shown, one, sums, overflow, RowDatum}
 use Rattle.sz_tabs.specs.Rows.{compare_indexes, value_row, weighted_row, overflow_row, least_first, greatest_first, rows_by}
 use Rattle.sz_tabs.specs.Rows as rows
 use Rattle.sz_tabs.specs.Sorting.{sorted, distinct}
-use Rattle.sz_sum.specs.Data.{rows_of_sum}
 use Rattle.sz_members.specs.Data.{emits_of}
 use Rattle.sz_total.specs.Tables.{Indexed}
 use Rattle.sz_total.specs.States.{TotalState, shown}

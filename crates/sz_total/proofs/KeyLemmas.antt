@@ -1,6 +1,6 @@
 -- The first key, and the keys in value order.
 use Rattle.std.proofs.Common.{Result, Ok, Err, IsOk, IfOk, OnOk, Option, None, ℕ, ◌+◌, if◌then◌else◌, is_some, true≢false, option_map, slice_get}
-use Rattle.std.proofs.Common.{◌≡◌, ◌∙◌, Bool, true, false, cond, Some, List, [], ◌∷◌, map, refl, sym, ap, subst, Ordering, IsSorted, is_lt}
+use Rattle.std.proofs.Common.{◌≡◌, ◌∙◌, Bool, true, false, cond, Some, List, [], ◌∷◌, map, refl, sym, ap, Ordering, IsSorted, is_lt}
 use Rattle.std.specs.Cmp.Lexicographic.{slice_cmp}
 use Rattle.std.specs.Cmp.Derive.Mapped.{lex_map}
 use Rattle.std.specs.Cmp.{on_total, IsStrictWeakOrder}
@@ -16,7 +16,7 @@ use Rattle.sz_value.specs.Order.{compare}
 use Rattle.sz_value.specs.Seen.{seen}
 use Rattle.sz_value.specs.declared.value.Value.{Value}
 use Rattle.sz_tabs.specs.Rows.{compare_indexes}
-use Rattle.sz_tabs.specs.Sorting.{sorted, distinct}
+use Rattle.sz_tabs.specs.Sorting.{sorted}
 use Rattle.sz_tabs.proofs.ForCallers.{stable_sort_is_sorted, sorted_mapped}
 use Rattle.sz_total.specs.Aggregates.{shown_of}
 use Rattle.sz_total.specs.Tables.{Indexed}

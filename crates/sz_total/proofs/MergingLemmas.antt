@@ -4,12 +4,11 @@ use Rattle.std.proofs.Common.{Result, Ok, Err, OnOk}
 use Rattle.std.specs.Result.{is_err}
 use Rattle.std.proofs.Common.{[], ◌∷◌, ◌++◌, map, length, refl, sym, ap, subst, arith, All, nat_eq}
 use Rattle.std.specs.Prelude.{slice_get, slice_index_or, set}
-use Rattle.std.specs.Map.{values_of}
 use Rattle.std.specs.Option.{option_map}
 use Rattle.std.proofs.Math.Seq.{map-set_same}
 use Rattle.std.proofs.lemmas.Bool.{eq-eqb, eqb-true}
 use Rattle.std.proofs.lemmas.List.{length-append, length-set}
-use Rattle.std.proofs.lemmas.List.Elements.{All-set, All-head, All-tail, All-cons, All-nil, All-weaker}
+use Rattle.std.proofs.lemmas.List.Elements.{All-set, All-head, All-tail, All-cons, All-nil}
 use Rattle.std.proofs.lemmas.Option.{slice_get-map, slice_get_within, get_or_from_slice_get}
 use Rattle.sz_types.specs.Tables.{Declaration}
 use Rattle.sz_tabs.specs.Data.{EmitDatum}
@@ -18,24 +17,14 @@ use Rattle.sz_tabs.specs.Sorting.{distinct}
 use Rattle.sz_total.specs.Tables.{table_rows}
 use Rattle.sz_total.specs.Totals.{StandsFor, Joins}
 use Rattle.sz_total.specs.States.{TotalState, declarations, emit_count, shown}
-use Rattle.sz_total.specs.Aggregates.{family_for}
-use Rattle.sz_total.specs.Entries.{Entries, rows_in_order, IsOfTable, AreOfTable}
-use Rattle.sz_total.specs.Joining.{AreAlike, LooksTheSame, HaveRoomFor, AreReady, TakesAll, JoinsEntries}
+use Rattle.sz_total.specs.Entries.{Entries, rows_in_order, AreOfTable}
+use Rattle.sz_total.specs.Joining.{LooksTheSame, HaveRoomFor, AreReady, TakesAll, JoinsEntries}
 use Rattle.sz_total.specs.OneTable.{TableState, table_shown, AreTables, HasRoomToMerge, JoinsTable, state_of}
 use Rattle.sz_total.specs.Merging.{tables_of, AreMatched, IsMatchedAt, HasRoomAt, ChangesRoomAt, ChangeRoomAlone, HaveRoomToMerge}
 use Rattle.sz_total.specs.Merging.{AreFew, MayMergeAt, MergesAt, JoinTables}
 use Rattle.sz_total.proofs.EntryLemmas.{of_table_longer}
 use Rattle.sz_total.proofs.JoiningLemmas.{are_ready, rows_of_both}
 use Rattle.sz_total.proofs.TotalLemmas.{state_at, few_at}
-
--- aggregators of one table are of one family
-pub are_alike : (table : Declaration) (mine yours : ℕ) (entries others : Entries) → AreOfTable table mine entries → AreOfTable table yours others
-    → AreAlike entries others
-are_alike table mine yours entries others are beside = record {
-  family = family_for table.kind;
-  mine = All-weaker (IsOfTable table mine) _ (λ a is. is.family) (values_of entries) are;
-  others_too = All-weaker (IsOfTable table yours) _ (λ a is. is.family) (values_of others) beside;
-}
 
 -- room alone changes no row
 pub same_rows : (old new : Entries) → LooksTheSame old new → rows_in_order new ≡ rows_in_order old
@@ -156,12 +145,6 @@ pub record IsRoomMadeTo (at : ℕ) (others first current : List TableState) : Ty
   pub kept : ChangeRoomAlone first current
   pub room : (i : ℕ) (own other : TableState) → i < at → slice_get current i ≡ Some own → slice_get others i ≡ Some other → HasRoomToMerge own other
 
-pub none_made : (others first : List TableState) → IsRoomMadeTo 0 others first first
-none_made others first = record {
-  kept = record { declared = refl; rows = refl; still = λ tables count are. are };
-  room = λ i own other less. let no : ⊥ = omega (arith, less) in absurd no;
-}
-
 pub kept_more : (at : ℕ) (others first current new : List TableState) → IsRoomMadeTo at others first current → ChangesRoomAt at current new
     → ChangeRoomAlone first new
 kept_more at others first current new before changes =
@@ -201,13 +184,6 @@ pub record IsMergedTo (at : ℕ) (others first current : List TableState) : Type
   pub joined : (i : ℕ) (own other : TableState) → i < at → slice_get first i ≡ Some own → slice_get others i ≡ Some other
       → (now : TableState) × (slice_get current i ≡ Some now) × JoinsTable own other now
   pub still : (i : ℕ) → at ≤ i → slice_get current i ≡ slice_get first i
-
-pub none_merged : (others first : List TableState) → IsMergedTo 0 others first first
-none_merged others first = record {
-  as_many = refl;
-  joined = λ i own other less. let no : ⊥ = omega (arith, less) in absurd no;
-  still = λ i more. refl;
-}
 
 -- the next table may be merged
 pub may_merge : (at : ℕ) (other : TableState) (others first current : List TableState) → slice_get others at ≡ Some other → AreMatched first others

@@ -10,16 +10,13 @@ use Rattle.sz_total.specs.Aggregates.{family_of}
 use Rattle.sz_total.specs.Entries.{Entries, same_indexes}
 use Rattle.sz_total.specs.Joining.{AreAlike, GainsRoom, LooksTheSame, HasRoomUnder, HaveRoomFor, AreReady, MayTakeUnder, TakesOne, JoinsEntries}
 use Rattle.sz_total.specs.declared.aggregate.Aggregate.{Aggregate}
-use Rattle.sz_total.proofs.JoiningLemmas.{IsRoomMade, IsTaken, looks_refl, looks_trans, gained_looks, room_made, ready_still, takes_all}
+use Rattle.sz_total.proofs.JoiningLemmas.{IsRoomMade, IsTaken, looks_trans, gained_looks, room_made, ready_still, takes_all}
 
 -- room was made for the first of all, and the rest is left
 pub record IsRoomUpTo (first all current rest : Entries) : Type 0 where
   pub looks : LooksTheSame first current
   pub alike : AreAlike current rest
   pub left : (new : Entries) → IsRoomMade rest current new → IsRoomMade all first new
-
-pub room_up_to_none : (first all : Entries) → AreAlike first all → IsRoomUpTo first all first all
-room_up_to_none first all alike = record { looks = looks_refl first; alike = alike; left = λ new made. made }
 
 -- the next one is of the family of that under its index list
 pub alike_under : (entries : Entries) (indexes : List Datum) (other : Aggregate) (rest : Entries) → AreAlike entries ((indexes, other) ∷ rest)

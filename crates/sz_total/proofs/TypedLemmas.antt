@@ -18,14 +18,14 @@ use Rattle.sz_value.specs.Total.{compare_total}
 use Rattle.sz_flat.specs.Spelling.{HasShortLengths, HaveShortLengths}
 use Rattle.sz_tabs.specs.Data.{EmitDatum, Weighted, one, sums, RowDatum}
 use Rattle.sz_tabs.specs.Fitting.{Fits, IsEmitTo}
-use Rattle.sz_tabs.specs.Rows.{compare_indexes, went_to, brought_by, brought_to, values_of, components_of, plus, sums_of, sum_rows, set_rows, value_row, weighted_row, overflow_row, least_first, greatest_first, rows_by, rows_of}
+use Rattle.sz_tabs.specs.Rows.{compare_indexes, went_to, brought_by, brought_to, values_of, components_of, plus, sums_of, sum_rows, value_row, weighted_row, overflow_row, rows_by, rows_of}
 use Rattle.sz_tabs.specs.Sorting.{sorted, distinct}
 use Rattle.sz_tabs.proofs.ForCallers.{sorted_is_permutation, least_total, greatest_total}
 use Rattle.sz_sum.specs.Data.{width}
 use Rattle.sz_sum.proofs.WidthLemmas.{components_wide}
 use Rattle.sz_total.specs.Short.{HasShortParts}
 use Rattle.sz_total.specs.Weights.{ranks}
-use Rattle.sz_total.specs.Tables.{Indexed, indexes_to, rows_under, table_rows}
+use Rattle.sz_total.specs.Tables.{indexes_to, rows_under, table_rows}
 use Rattle.sz_total.specs.Typed.{may_show, FitsShown, FitsRow, FitsTable, FitsAsItsEmits}
 use Rattle.sz_total.proofs.TablesLemmas.{indexes_total}
 

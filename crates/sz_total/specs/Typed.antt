@@ -1,5 +1,5 @@
 -- Which rows fit their tables.
-use Rattle.std.specs.Prelude.{◌≡◌, ◌&&◌, ⊤, ℕ, Bool, true, false, Some, is_some, List, All, length, slice_get}
+use Rattle.std.specs.Prelude.{◌≡◌, ◌&&◌, ⊤, ℕ, Bool, true, false, Some, is_some, All, length, slice_get}
 use Rattle.sz_types.specs.Tables.{Declaration}
 use Rattle.sz_types.specs.declared.table.TableKind.{TableKind}
 use Rattle.sz_types.specs.declared.table.TableKind.TheVariants as kinds

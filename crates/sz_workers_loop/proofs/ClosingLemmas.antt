@@ -4,7 +4,7 @@ use Rattle.std.proofs.Common.{arith, eq-eqb, ne_eqb, eqb-true, Option, Some, Non
 use Rattle.std.specs.Prelude.{slice_index, slice_index_or, Result, Ok, IfOk}
 use Rattle.std.proofs.lemmas.List.{length-append}
 use Rattle.std.specs.Int.{bit_at}
-use Rattle.std.specs.List.{filter_map, cons_option, sum_by}
+use Rattle.std.specs.List.{cons_option, sum_by}
 use Rattle.std.proofs.lemmas.List.Sums.{sum_by-set, sum_by-cons}
 use mathlib.Core.Option.{some}
 use mathlib.Core.Logic.{dite}

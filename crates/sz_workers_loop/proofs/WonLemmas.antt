@@ -197,10 +197,6 @@ late_not_won n e = absurd (cc)
 pub grows_self : (old : LaneData) → Grows old old
 grows_self old = record { plan = refl; further = []; later = sym (append-nil old.shards) }
 
--- one shard more, or none
-pub grows_put : (old : LaneData) (ss : List ℕ) → Grows old (longer_by old ss)
-grows_put old ss = record { plan = refl; further = ss; later = refl }
-
 pub grows_then : (old mid new : LaneData) → Grows old mid → Grows mid new → Grows old new
 grows_then old mid new g h = record {
   plan = h.plan ∙ g.plan;

@@ -1,5 +1,5 @@
 -- What is put is trimmed.
-use Rattle.std.proofs.Common.{◌++◌, ◌∷◌, [], ◌+◌, ◌<◌, ◌≤◌, map, arith}
+use Rattle.std.proofs.Common.{◌++◌, ◌+◌, arith}
 use Rattle.std.specs.BinaryHeap.{heap_items}
 use Rattle.sz_extreme.proofs.HeapLemmas.{ranks, all_more, kept_of_kept}
 use Rattle.sz_tabs.proofs.ForCallers.{surely}

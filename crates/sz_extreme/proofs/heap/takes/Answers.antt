@@ -1,5 +1,5 @@
 -- What isn't before the worst is passed over.
-use Rattle.std.proofs.Common.{◌≡◌, ◌∙◌, ◌≤◌, length, sym, ap, rules, is_lt}
+use Rattle.std.proofs.Common.{◌∙◌, ◌≤◌, length, sym, ap, rules, is_lt}
 use Rattle.std.specs.Int.{w64}
 use Rattle.std.specs.BinaryHeap.{heap_items}
 use Rattle.std.proofs.lemmas.Int.{to_z-of_z}

@@ -1,5 +1,5 @@
 -- Each turn reads one value more, and each stop is a lack.
-use Rattle.std.proofs.Common.{◌∙◌, ◌==◌, ◌+◌, ◌≤◌, ◌<◌, ◌∷◌, [], length, map, true≢false, sym, ap, subst, arith, length-append}
+use Rattle.std.proofs.Common.{◌∙◌, ◌+◌, ◌∷◌, [], length, map, sym, ap, subst, arith, length-append}
 use Rattle.std.proofs.lemmas.Bool.{eqb-true}
 use Rattle.std.proofs.lemmas.List.{map-append, nil_from_length}
 use Rattle.std.proofs.lemmas.Result.{err_from_is_err_and}

@@ -1,11 +1,10 @@
-use Rattle.std.proofs.Common.{◌≡◌, ◌+◌, ◌-◌, ◌≤◌, [], ◌∷◌, ◌++◌, refl, sym, ap, subst, ◌∙◌, inl, inr, arith}
-use Rattle.std.specs.Prelude.{map, IfOk}
+use Rattle.std.proofs.Common.{◌≡◌, ◌+◌, ◌-◌, ◌≤◌, [], ◌∷◌, ◌++◌, refl, sym, ap, ◌∙◌, inl, inr, arith}
+use Rattle.std.specs.Prelude.{map}
 use Rattle.std.proofs.lemmas.Result.{err_from_is_err_and}
 use Rattle.sz_tree.specs.Expressions.{height, pair_heights, pairs_of, binary, place_of, loose, left_loose}
 use Rattle.sz_tree.specs.View.{tree_of, pair_of}
 use Rattle.sz_parse_expr.specs.Reading.{utf8_in}
 use Rattle.sz_parse_expr.specs.ReadingExpressions.{expr_at, comma_step, pair_step}
-use Rattle.sz_parse_expr.specs.Outcome.{Gives}
 use Rattle.sz_parse_expr.proofs.Holds.{some_is}
 use Rattle.sz_parse_expr.proofs.PostfixSound.{comma_item, pair_item}
 use Rattle.sz_parse_expr.proofs.ExpressionSound.{expr_sound}

@@ -1,4 +1,4 @@
-use Rattle.std.proofs.Common.{length, drop, refl, sym, ◌∙◌}
+use Rattle.std.proofs.Common.{sym, ◌∙◌}
 use Rattle.sz_protofile_lex.proofs.Searches.{comment_starts, comment_closes, comment_goes_on, comment_is_open}
 use Rattle.sz_protofile_lex.proofs.item.comment_len.Goals as goal
 

@@ -1,4 +1,4 @@
-use Rattle.std.proofs.Common.{length, drop, refl, sym, ap, ◌∙◌}
+use Rattle.std.proofs.Common.{sym, ◌∙◌}
 use Rattle.sz_protofile_lex.proofs.Searches.{quoted_starts, newline_fails, quote_closes, quoted_goes_on, quoted_is_open}
 use Rattle.sz_protofile_lex.proofs.item.quoted_len.Goals as goal
 

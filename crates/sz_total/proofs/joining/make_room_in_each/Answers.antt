@@ -1,5 +1,5 @@
 -- Each turn makes room for one aggregator of the other side.
-use Rattle.std.proofs.Common.{◌∙◌, ap, subst}
+use Rattle.std.proofs.Common.{◌∙◌, subst}
 use Rattle.std.specs.Map.Iter.{deref_pair}
 use Rattle.std.proofs.lemmas.Map.Iter.{rest_more}
 use Rattle.sz_total.proofs.TurnLemmas.{IsRoomUpTo, alike_under, looks_more, room_up_to_more, room_up_to_all}

@@ -1,5 +1,5 @@
 -- Lists of values compare as their plain data.
-use Rattle.std.proofs.Common.{◌∙◌, ap}
+use Rattle.std.proofs.Common.{◌∙◌}
 use Rattle.sz_tabs.specs.Rows.{compare_indexes}
 use Rattle.sz_total.proofs.KeyLemmas.{lists_compare}
 use Rattle.sz_total.proofs.lists.order_lists.Goals as goal

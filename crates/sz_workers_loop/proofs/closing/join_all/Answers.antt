@@ -1,9 +1,6 @@
-use Rattle.std.proofs.Common.{◌≡◌, ◌+◌, ℕ, List, ◌∷◌, ap, sym, ◌∙◌, subst, arith, length}
-use Rattle.std.specs.Prelude.{Result, IfOk}
+use Rattle.std.proofs.Common.{◌+◌, ℕ, ap, subst, arith, length}
 use Rattle.std.specs.Vec.Iter.{into_iter_items}
-use Rattle.sz_book.specs.Lanes.{LaneData}
-use Rattle.sz_claims.specs.Known.{PassData}
-use Rattle.sz_workers_loop.specs.Closing.{AreBack, IsBack, HasTakenIn}
+use Rattle.sz_workers_loop.specs.Closing.{AreBack}
 use Rattle.sz_workers_loop.proofs.ClosingLemmas.{next_back, next_taken, joined_more}
 use Rattle.sz_workers_loop.proofs.closing.join_all.Goals as goal
 

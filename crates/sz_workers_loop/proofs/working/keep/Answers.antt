@@ -1,7 +1,7 @@
-use Rattle.std.proofs.Common.{[], ◌∷◌, ◌∙◌, ap, sym, subst}
+use Rattle.std.proofs.Common.{[], ◌∷◌, sym, subst}
 use Rattle.std.specs.Prelude.{OnOk}
 use Rattle.sz_book.specs.Lanes.{LaneData}
-use Rattle.sz_claims.specs.Known.{LedgerData, AreInHand}
+use Rattle.sz_claims.specs.Known.{AreInHand}
 use Rattle.sz_workers_loop.specs.Working.{HasAllWon, longer_by}
 use Rattle.sz_workers_loop.proofs.AdvanceLemmas.{leaves_none, leaves_lent}
 use Rattle.sz_workers_loop.proofs.WonLemmas.{last_apart, at_work_none, hand_put, all_put, fresh_lent, may_give_lent, hand_lent, won_lent}

@@ -1,5 +1,5 @@
 -- What is kept are the least of those kept before and the new one.
-use Rattle.std.proofs.Common.{◌≡◌, ◌∙◌, [], ◌∷◌, ◌++◌, map, subst}
+use Rattle.std.proofs.Common.{◌≡◌, [], ◌∷◌, ◌++◌, map, subst}
 use Rattle.std.specs.Int.{w64}
 use Rattle.std.specs.BinaryHeap.{heap_items}
 use Rattle.std.proofs.lemmas.Int.{to_z-of_z}

@@ -1,9 +1,9 @@
 -- What is kept of both sides are the least of both.
-use Rattle.std.proofs.Common.{◌≡◌, ◌∙◌, ◌++◌, map, sym, ap, subst}
+use Rattle.std.proofs.Common.{◌∙◌, ◌++◌, map, sym, ap, subst}
 use Rattle.std.specs.BinaryHeap.{heap_items}
 use Rattle.sz_types.specs.SeenTables.{seen_table}
 use Rattle.sz_tabs.specs.Rows.{rows_of}
-use Rattle.sz_extreme.specs.Ranks.{emit_of, seen_rank, HoldsLeast}
+use Rattle.sz_extreme.specs.Ranks.{emit_of, HoldsLeast}
 use Rattle.sz_extreme.proofs.HeapLemmas.{ranks}
 use Rattle.sz_extreme.proofs.ExtremeLemmas.{extreme_joined, kept_both}
 use Rattle.sz_extreme.proofs.extreme.ExtremeAggregator.merge.Goals as goal
