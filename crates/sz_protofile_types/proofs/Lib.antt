@@ -1,5 +1,6 @@
+pub mod ForCallers
 mod RankLemmas
-mod TargetLemmas
+pub mod TargetLemmas
 mod UniqueLemmas
 mod OrderLemmas
 mod MakingLemmas
