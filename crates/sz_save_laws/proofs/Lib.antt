@@ -1,0 +1,8 @@
+mod EitherLemmas
+mod SortedLemmas
+mod GroupLemmas
+mod UniqueLemmas
+mod StateLemmas
+mod JoiningLemmas
+mod EmitLemmas
+mod TableLemmas

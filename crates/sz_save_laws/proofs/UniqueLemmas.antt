@@ -1,0 +1,150 @@
+-- What stands under each index list says what a table holds.
+use Rattle.std.proofs.Common.{◌≡◌, ◌∙◌, ℕ, ◌≤◌, Bool, true, false, true≢false, cond, ⊎_elim, List, [], ◌∷◌, length, map, zip, refl, sym, ap, subst, arith}
+use Rattle.std.proofs.Common.{Ordering, Less, Equal, Greater, is_lt, is_eq}
+use Rattle.std.specs.Cmp.{IsTotalOrder}
+use Rattle.std.specs.Cmp.Lexicographic.{lists_total}
+use Rattle.std.specs.List.{AllByRecursion}
+use Rattle.std.specs.Ordering.{ordering_then, ordering_reverse}
+use Rattle.std.proofs.lemmas.Bool.{and_parts}
+use Rattle.std.proofs.lemmas.Cmp.{tied_itself}
+use Rattle.sz_types.specs.Data.{Shape}
+use Rattle.sz_types.specs.Tables.{Declaration}
+use Rattle.sz_types.specs.declared.table.TableKind.{TableKind}
+use Rattle.sz_types.specs.declared.table.TableKind.TheVariants.{Sum, Maximum, Minimum, Set, Collection}
+use Rattle.sz_value.specs.Data.{Datum}
+use Rattle.sz_value.specs.Total.{compare_total, compare_ties}
+use Rattle.sz_value.specs.Order.{compare}
+use Rattle.sz_tabs.specs.Data.{RowDatum}
+use Rattle.sz_tabs.specs.Rows.{compare_indexes}
+use Rattle.sz_total.specs.Tables.{Indexed}
+use Rattle.sz_save_format.specs.Entries.{HaveRows, AreSumRows, IsSavedEntry, entry_may_follow, in_order}
+use Rattle.sz_save_format.specs.Saved.{IsSavedTable}
+use Rattle.sz_save.specs.Joined.{rows_at}
+
+pub indexes_total : IsTotalOrder compare_indexes
+indexes_total = lists_total compare_total
+
+-- index lists that tie are the same
+pub indexes_tie : (xs ys : List Datum) → compare_indexes xs ys ≡ Equal → xs ≡ ys
+indexes_tie [] [] tied = refl
+indexes_tie [] (y ∷ ys) tied = absurd (true≢false (sym (ap is_eq tied)))
+indexes_tie (x ∷ xs) [] tied = absurd (true≢false (sym (ap is_eq tied)))
+indexes_tie (x ∷ xs) (y ∷ ys) tied = by_found (compare x y) refl tied (indexes_tie xs ys)
+  where
+    by_found : (found : Ordering) → compare x y ≡ found → ordering_then found (compare_indexes xs ys) ≡ Equal
+        → (compare_indexes xs ys ≡ Equal → xs ≡ ys) → x ∷ xs ≡ y ∷ ys
+    by_found Less is tied later = absurd (true≢false (sym (ap is_eq tied)))
+    by_found Equal is tied later = λ i. compare_ties x y is i ∷ later tied i
+    by_found Greater is tied later = absurd (true≢false (sym (ap is_eq tied)))
+
+pub equal : (found : Ordering) → is_eq found ≡ true → found ≡ Equal
+equal Less h = absurd (true≢false (sym h))
+equal Equal h = refl
+equal Greater h = absurd (true≢false (sym h))
+
+less : (found : Ordering) → is_lt found ≡ true → found ≡ Less
+less Less h = refl
+less Equal h = absurd (true≢false (sym h))
+less Greater h = absurd (true≢false (sym h))
+
+turned : (xs ys : List Datum) (found : Ordering) → compare_indexes xs ys ≡ found → compare_indexes ys xs ≡ ordering_reverse found
+turned xs ys found is = indexes_total.antisymm ys xs ∙ ap ordering_reverse is
+
+-- each index list is above this one
+abbrev AreAbove : List Datum → List Indexed → Type 0
+AreAbove indexes entries = AllByRecursion (λ (e : Indexed). compare_indexes indexes e.indexes ≡ Less) entries
+
+-- each index list has rows and is below those behind it
+abbrev Rise : List Indexed → Type 0
+Rise [] = Unit {0}
+Rise (e ∷ es) = (1 ≤ length e.rows) × AreAbove e.indexes es × Rise es
+
+still_above : (indexes : List Datum) (e : Indexed) (es : List Indexed) → compare_indexes indexes e.indexes ≡ Less → AreAbove e.indexes es → AreAbove indexes es
+still_above indexes e [] below all = tt
+still_above indexes e (f ∷ es) below all =
+    (indexes_total.trans indexes e.indexes f.indexes below all.0, still_above indexes e es below all.1)
+
+some_sums : (bound : ℕ) (element : Shape) (rows : List RowDatum) → AreSumRows bound element rows → 1 ≤ length rows
+some_sums bound element [] h = absurd h
+some_sums bound element (r ∷ rows) h = omega arith
+
+some_rows : (kind : TableKind) (bound limit : ℕ) (element : Shape) (rows : List RowDatum) → HaveRows kind bound limit element rows → 1 ≤ length rows
+some_rows Sum bound limit element rows h = some_sums bound element rows h
+some_rows Maximum bound limit element rows h = h.some
+some_rows Minimum bound limit element rows h = h.some
+some_rows Set bound limit element rows h = ⊎_elim (λ is. omega (arith, ap length is)) (λ are. are.some) h
+some_rows Collection bound limit element rows h = h.some
+
+rise : (bound : ℕ) (table : Declaration) (es : List Indexed) → AllByRecursion (IsSavedEntry bound table) es → in_order entry_may_follow es ≡ true → Rise es
+rise bound table [] each up = tt
+rise bound table (e ∷ []) each up = (some_rows table.kind bound table.limit table.element e.rows each.0.rows, tt, tt)
+rise bound table (e ∷ f ∷ es) each up =
+    let both = and_parts (entry_may_follow e f) (in_order entry_may_follow (f ∷ es)) up in
+    let later = rise bound table (f ∷ es) each.1 both.1 in
+    let first = less (compare_indexes e.indexes f.indexes) both.0 in
+    (some_rows table.kind bound table.limit table.element e.rows each.0.rows, (first, still_above e.indexes f es first later.1), later)
+
+-- under an index list that is below all there are no rows
+none_below : (indexes : List Datum) (es : List Indexed) → AreAbove indexes es → rows_at es indexes ≡ []
+none_below indexes [] all = refl
+none_below indexes (e ∷ es) all =
+    ap (λ found. cond (is_eq found) e.rows (rows_at es indexes)) (turned indexes e.indexes Less all.0) ∙ none_below indexes es all.1
+
+found_first : (e : Indexed) (es : List Indexed) → rows_at (e ∷ es) e.indexes ≡ e.rows
+found_first e es = ap (λ found. cond (is_eq found) e.rows (rows_at es e.indexes)) (tied_itself indexes_total e.indexes)
+
+-- rows and no rows under an index list are not the same
+not_alike : (rows : List RowDatum) → 1 ≤ length rows → rows ≡ [] → ⊥
+not_alike rows some none = omega (arith, some, ap length none)
+
+same_entries : (es fs : List Indexed) → Rise es → Rise fs → ((indexes : List Datum) → rows_at es indexes ≡ rows_at fs indexes) → es ≡ fs
+same_entries [] [] g h alike = refl
+same_entries [] (f ∷ fs) g h alike = absurd (not_alike f.rows h.0 (sym (found_first f fs) ∙ sym (alike f.indexes)))
+same_entries (e ∷ es) [] g h alike = absurd (not_alike e.rows g.0 (sym (found_first e es) ∙ alike e.indexes))
+same_entries (e ∷ es) (f ∷ fs) g h alike = by_found (compare_indexes e.indexes f.indexes) refl (same_entries es fs g.2 h.2)
+  where
+    behind : e.indexes ≡ f.indexes → (indexes : List Datum) → rows_at es indexes ≡ rows_at fs indexes
+    behind is indexes = by_test (is_eq (compare_indexes e.indexes indexes)) refl (alike indexes)
+      where
+        by_test : (b : Bool) → is_eq (compare_indexes e.indexes indexes) ≡ b
+            → rows_at (e ∷ es) indexes ≡ rows_at (f ∷ fs) indexes
+            → rows_at es indexes ≡ rows_at fs indexes
+        by_test true found both =
+            let here = indexes_tie e.indexes indexes (equal (compare_indexes e.indexes indexes) found) in
+            none_below indexes es (subst (λ l. AreAbove l es) here g.1) ∙ sym (none_below indexes fs (subst (λ l. AreAbove l fs) (sym is ∙ here) h.1))
+        by_test false found both =
+            ap (λ b. cond b e.rows (rows_at es indexes)) (sym found) ∙ both
+            ∙ ap (λ b. cond b f.rows (rows_at fs indexes)) (ap (λ l. is_eq (compare_indexes l indexes)) (sym is) ∙ found)
+
+    by_found : (found : Ordering) → compare_indexes e.indexes f.indexes ≡ found
+        → (((indexes : List Datum) → rows_at es indexes ≡ rows_at fs indexes) → es ≡ fs) → e ∷ es ≡ f ∷ fs
+    by_found Less is later =
+        let none = none_below e.indexes (f ∷ fs) (is, still_above e.indexes f fs is h.1) in
+        absurd (not_alike e.rows g.0 (sym (found_first e es) ∙ alike e.indexes ∙ none))
+    by_found Equal is later =
+        let first = indexes_tie e.indexes f.indexes is in
+        let rows : e.rows ≡ f.rows = sym (found_first e es) ∙ alike e.indexes ∙ ap (rows_at (f ∷ fs)) first ∙ found_first f fs in
+        λ i. record { indexes = first i; rows = rows i } ∷ later (behind first) i
+    by_found Greater is later =
+        let below = turned e.indexes f.indexes Greater is in
+        let none = none_below f.indexes (e ∷ es) (below, still_above f.indexes e es below g.1) in
+        absurd (not_alike f.rows h.0 (sym (found_first f fs) ∙ sym (alike f.indexes) ∙ none))
+
+-- the rows of all tables under an index list
+abbrev pub all_at : List Datum → List (List Indexed) → List (List RowDatum)
+all_at indexes tables = map (λ es. rows_at es indexes) tables
+
+-- tables that can be saved are the same where they have the same rows under each index list
+pub same_tables : (first second : ℕ) (ds : List Declaration) (ts us : List (List Indexed)) → length ts ≡ length ds → length us ≡ length ds
+    → AllByRecursion (IsSavedTable first) (zip ds ts) → AllByRecursion (IsSavedTable second) (zip ds us)
+    → ((indexes : List Datum) → all_at indexes ts ≡ all_at indexes us) → ts ≡ us
+same_tables first second [] [] [] long other_long g h alike = refl
+same_tables first second [] (t ∷ ts) us long other_long g h alike = absurd (omega (arith, long))
+same_tables first second [] [] (u ∷ us) long other_long g h alike = absurd (omega (arith, other_long))
+same_tables first second (d ∷ ds) [] us long other_long g h alike = absurd (omega (arith, long))
+same_tables first second (d ∷ ds) (t ∷ ts) [] long other_long g h alike = absurd (omega (arith, other_long))
+same_tables first second (d ∷ ds) (t ∷ ts) (u ∷ us) long other_long g h alike =
+    let here = same_entries t u (rise first d t g.0.entries.each g.0.entries.rising) (rise second d u h.0.entries.each h.0.entries.rising)
+    (λ indexes. let both = alike indexes in cc) in
+    let later = same_tables first second ds ts us (omega (arith, long)) (omega (arith, other_long)) g.1 h.1 (λ indexes. let both = alike indexes in cc) in
+    λ i. here i ∷ later i

@@ -1,0 +1,18 @@
+//! The laws.
+ghost use Rattle.sz_save_laws.specs.Laws.{IsCommutative, IsAssociative, ForgetsOrder, HasOneSpelling, JoinsRows, JoinsTables, AddsEmits};
+
+/// Either of two states may be joined to the other, and of three states either two may be joined first. So any number of states
+/// are one state together, with the same bytes, in whatever order they are joined.
+pub fn joining_forgets_the_order()
+    ensures either { IsCommutative }
+    ensures grouped { IsAssociative }
+    ensures all { ForgetsOrder }
+    ensures bytes { HasOneSpelling }
+{}
+
+/// The rows of emits and the rows of later emits are, joined, the rows of all of them, and so are whole tables, and whole states.
+pub fn joining_adds_emits()
+    ensures rows { JoinsRows }
+    ensures tables { JoinsTables }
+    ensures states { AddsEmits }
+{}
