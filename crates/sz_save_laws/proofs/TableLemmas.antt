@@ -1,5 +1,5 @@
 -- The tables of emits, joined, are the tables of all the emits.
-use Rattle.std.proofs.Common.{◌≡◌, ◌∙◌, ℕ, suc, nat_eq, Bool, true, false, true≢false, ◌&&◌, ◌||◌, cond, List, [], ◌∷◌, ◌++◌, map, refl, sym, ap}
+use Rattle.std.proofs.Common.{◌≡◌, ◌∙◌, ℕ, suc, nat_eq, Bool, true, false, true≢false, ◌&&◌, ◌||◌, cond, List, [], ◌∷◌, ◌++◌, map, IsPermutation, refl, sym, ap}
 use Rattle.std.proofs.Common.{Ordering, Less, Equal, Greater, is_eq, append-nil}
 use Rattle.std.specs.List.{filter}
 use Rattle.std.specs.Ordering.{match_ordering}
@@ -10,9 +10,11 @@ use Rattle.sz_tabs.specs.Data.{EmitDatum, RowDatum}
 use Rattle.sz_tabs.specs.Rows.{compare_indexes, went_to, brought_by, brought_to, rows_of}
 use Rattle.sz_tabs.specs.Sorting.{distinct}
 use Rattle.sz_tabs.proofs.ForCallers.{no_rows, brought_by_both, all_entered, distinct_of_both}
+use Rattle.sz_total.specs.Laws.{ForgetsOrder}
 use Rattle.sz_total.specs.Tables.{indexes_to, table_rows}
+use Rattle.sz_save_format.specs.Saved.{CanBeSaved}
 use Rattle.sz_save.specs.Joined.{joined_rows, rows_at}
-use Rattle.sz_save_laws.specs.Laws.{JoinsTables, AddsEmits, tables_from}
+use Rattle.sz_save_laws.specs.Laws.{Joining, given, joined, state_of, IsJoining, JoinsTables, tables_from, HoldInTurn, AddsEmits}
 use Rattle.sz_save_laws.proofs.UniqueLemmas.{indexes_total, indexes_tie, equal, all_at}
 use Rattle.sz_save_laws.proofs.StateLemmas.{all_joined, same_states, joined_at}
 use Rattle.sz_save_laws.proofs.EmitLemmas.{rows_join}
@@ -118,10 +120,31 @@ all_tables_join indexes number [] front later = refl
 all_tables_join indexes number (d ∷ ds) front later =
     λ i. sym ((tables_join number d front later).rows indexes) i ∷ all_tables_join indexes (suc number) ds front later i
 
-pub emits_join : AddsEmits
-emits_join one other both all front later gives can decls bound held other_held all_held =
-    let ds = one.decls in
-    same_states ds both all gives.joins.decls decls gives.can can (gives.joins.bound ∙ sym bound) (λ indexes.
-    joined_at ds one other both indexes refl gives.joins
-    ∙ (λ i. all_joined ds (all_at indexes (held i)) (all_at indexes ((other_held ∙ ap (λ l. tables_from 0 l later) gives.joins.same) i)))
-    ∙ all_tables_join indexes 0 ds front later ∙ ap (all_at indexes) (sym (all_held ∙ ap (λ l. tables_from 0 l (front ++ later)) decls)))
+-- what is left of a joining can be saved
+left_saved : (j : Joining) → IsJoining j → CanBeSaved (state_of j)
+left_saved (given s) h = h
+left_saved (joined f b s) h = h.2.can
+
+-- it has the rows of all the emits
+left_at : (ds : List Declaration) (indexes : List Datum) (j : Joining) (emits : List EmitDatum) → IsJoining j → (state_of j).decls ≡ ds → HoldInTurn j emits
+    → all_at indexes (state_of j).tables ≡ all_at indexes (tables_from 0 ds emits)
+left_at ds indexes (given s) emits h is held = ap (all_at indexes) (held ∙ ap (λ l. tables_from 0 l emits) is)
+left_at ds indexes (joined f b s) emits h is held =
+    let gives = h.2 in
+    let front_is = sym gives.joins.decls ∙ is in
+    joined_at ds (state_of f) (state_of b) s indexes front_is gives.joins
+    ∙ (λ i. all_joined ds (left_at ds indexes f held.0 h.0 front_is held.3 i) (left_at ds indexes b held.1 h.1 (gives.joins.same ∙ front_is) held.4 i))
+    ∙ all_tables_join indexes 0 ds held.0 held.1 ∙ ap (λ l. all_at indexes (tables_from 0 ds l)) (sym held.2)
+
+module _ (forgets : ForgetsOrder) where
+  tables_moved : (number : ℕ) (ds : List Declaration) (emits others : List EmitDatum) → IsPermutation emits others
+      → tables_from number ds emits ≡ tables_from number ds others
+  tables_moved number [] emits others moved = refl
+  tables_moved number (d ∷ ds) emits others moved = λ i. forgets number d emits others moved i ∷ tables_moved (suc number) ds emits others moved i
+
+  pub emits_join : AddsEmits
+  emits_join j all emits others h can decls bound held moved all_held =
+      let ds = (state_of j).decls in
+      same_states ds (state_of j) all refl decls (left_saved j h) can (sym bound) (λ indexes.
+      left_at ds indexes j emits h refl held ∙ ap (all_at indexes) (tables_moved 0 ds emits others moved)
+      ∙ ap (all_at indexes) (sym (all_held ∙ ap (λ l. tables_from 0 l others) decls)))

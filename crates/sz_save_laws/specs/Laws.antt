@@ -1,5 +1,5 @@
 -- What joined tables hold, and that the order in which saved states are joined can't be seen in it.
-use Rattle.std.specs.Prelude.{◌≡◌, ℕ, suc, ◌+◌, List, [], ◌∷◌, ◌++◌}
+use Rattle.std.specs.Prelude.{◌≡◌, ℕ, suc, List, [], ◌∷◌, ◌++◌}
 use Rattle.std.specs.List.Sorted.{IsPermutation}
 use Rattle.sz_types.specs.Tables.{Declaration}
 use Rattle.sz_tabs.specs.Data.{EmitDatum, Weighted}
@@ -76,8 +76,14 @@ tables_from number (table ∷ tables) emits = table_rows number table emits ∷ 
 abbrev pub Holds : SavedState → List EmitDatum → Type 0
 Holds saved emits = saved.tables ≡ tables_from 0 saved.decls emits
 
--- a state of emits and a state of later emits are together the state of all of them
+-- the states that are given hold the tables of these emits, one after the other from the left
+abbrev pub HoldInTurn : Joining → List EmitDatum → Type 0
+HoldInTurn (given state) emits = Holds state emits
+HoldInTurn (joined front back state) emits =
+    (first later : List EmitDatum) × (emits ≡ first ++ later) × HoldInTurn front first × HoldInTurn back later
+
+-- states of parts of the emits are together the state of all of them, however they are joined and in whatever order the emits came
 abbrev pub AddsEmits : Type 0
 AddsEmits =
-    (one other both all : SavedState) (front later : List EmitDatum) → Gives one other both → CanBeSaved all → all.decls ≡ one.decls
-    → all.bound ≡ one.bound + other.bound → Holds one front → Holds other later → Holds all (front ++ later) → both ≡ all
+    (joining : Joining) (all : SavedState) (emits others : List EmitDatum) → IsJoining joining → CanBeSaved all → all.decls ≡ (state_of joining).decls
+    → all.bound ≡ (state_of joining).bound → HoldInTurn joining emits → IsPermutation emits others → Holds all others → state_of joining ≡ all

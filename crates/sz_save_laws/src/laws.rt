@@ -1,6 +1,8 @@
 //! The laws.
 ghost use Rattle.sz_save_laws.specs.Laws.{IsCommutative, IsAssociative, ForgetsOrder, HasOneSpelling, JoinsRows, JoinsTables, AddsEmits};
 
+use sz_total::tables_forget_the_order;
+
 /// Either of two states may be joined to the other, and of three states either two may be joined first. So any number of states
 /// are one state together, with the same bytes, in whatever order they are joined.
 pub fn joining_forgets_the_order()
@@ -10,9 +12,12 @@ pub fn joining_forgets_the_order()
     ensures bytes { HasOneSpelling }
 {}
 
-/// The rows of emits and the rows of later emits are, joined, the rows of all of them, and so are whole tables, and whole states.
+/// The rows of emits and the rows of later emits are, joined, the rows of all of them, and so are whole tables. So the states of any
+/// parts of the emits are together the state of all of them, in whatever order these came.
 pub fn joining_adds_emits()
     ensures rows { JoinsRows }
     ensures tables { JoinsTables }
     ensures states { AddsEmits }
-{}
+{
+    tables_forget_the_order();
+}
