@@ -1,0 +1,4 @@
+pub mod ForCallers
+mod NotedLemmas
+mod StretchLemmas
+mod TornLemmas

@@ -1,0 +1,5 @@
+-- what the public contracts rest on
+pub mod Crashes
+pub mod Calls
+pub mod Stretches
+pub mod MemDisk
