@@ -5,7 +5,7 @@ _szl() {
     [ "$word" = "=" ] && word=
     COMPREPLY=()
     if [ "$COMP_CWORD" -eq 1 ]; then
-        mapfile -t COMPREPLY < <(compgen -W "run check selftest" -- "$word")
+        mapfile -t COMPREPLY < <(compgen -W "run check merge selftest" -- "$word")
         return
     fi
     case $before in
@@ -13,7 +13,11 @@ _szl() {
     --workers | --budget | --skip | --shard | --attempts | --kill | --twice) ;;
     *)
         if [[ $word == -* && ${COMP_WORDS[1]} == run ]]; then
-            mapfile -t COMPREPLY < <(compgen -W "--frame --workers --budget --skip --shard --attempts --kill --twice --ignore-undefs" -- "$word")
+            mapfile -t COMPREPLY < <(compgen -W "--frame --workers --budget --skip --shard --attempts --kill --twice --ignore-undefs --proto --save" -- "$word")
+        elif [[ $word == -* && ${COMP_WORDS[1]} == check ]]; then
+            mapfile -t COMPREPLY < <(compgen -W "--proto" -- "$word")
+        elif [[ $word == -* && ${COMP_WORDS[1]} == merge ]]; then
+            mapfile -t COMPREPLY < <(compgen -W "--save" -- "$word")
         elif [ "${COMP_WORDS[1]}" != selftest ]; then
             compopt -o filenames
             mapfile -t COMPREPLY < <(compgen -f -- "$word")

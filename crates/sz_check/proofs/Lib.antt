@@ -4,3 +4,5 @@ mod FoldLemmas
 mod WhenLemmas
 mod FunctionLemmas
 mod ProgramLemmas
+mod UnnamedLemmas
+mod RoundLemmas

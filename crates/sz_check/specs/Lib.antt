@@ -1,5 +1,6 @@
 -- what the public contracts rest on
 pub mod Answering
+pub mod RoundTypes
 -- what the functions inside the crate promise each other
 pub mod Targets
 pub mod Quantified

@@ -13,6 +13,9 @@ mod stmt;
 mod table;
 mod target;
 mod top;
+mod unnamed;
+mod with_types;
 
 pub use error::CheckError;
 pub use program::check;
+pub use with_types::check_with;

@@ -107,7 +107,7 @@ fn push_found(items: &mut Vec<Item>, found: Option<Item>) -> Result<(), AllocErr
 }
 
 // Statements at the top level, in order.
-fn judge_all(alloc: Global, top: &mut Top, trees: &[Stmt]) -> Result<Vec<Item>, JudgeError>
+pub fn judge_all(alloc: Global, top: &mut Top, trees: &[Stmt]) -> Result<Vec<Item>, JudgeError>
     ensures value { Judges (λ items. found_all top.new items.items) result
         (judge_all (top_of top.old) (stms_of (each stm_of trees.now))) }
 {

@@ -29,3 +29,12 @@ mod ItemSound
 mod FunctionSound
 mod ProgramSound
 mod StandardFacts
+-- types written in front of a program
+mod SameNames
+mod SameStatements
+mod SameInside
+mod TypesFirst
+mod SpelledTypes
+mod WrittenTypes
+-- for the crates above
+pub mod ForCallers

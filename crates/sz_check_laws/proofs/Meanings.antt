@@ -1,5 +1,5 @@
 -- What holds of each meaning that a list of blocks has.
-use Rattle.std.proofs.Common.{◌≡◌, ℕ, Bool, true, false, List, [], ◌∷◌, Option, Some, None, refl}
+use Rattle.std.proofs.Common.{◌≡◌, ℕ, Bool, true, false, List, [], ◌∷◌, ◌++◌, Option, Some, None, refl}
 use Rattle.std.specs.Prelude.{filter, IfSome, bytes_eq, if◌then◌else◌}
 use Rattle.std.specs.Option.{option_or}
 use Rattle.sz_tree.specs.Names.{Ident}
@@ -67,3 +67,9 @@ module _ (P Q : Meaning → Type 0) (follows : (m : Meaning) → P m → Q m) wh
   pub all_follow : (blocks : List Block) → Mean P blocks → Mean Q blocks
   all_follow [] h = tt
   all_follow (block ∷ blocks) h = (follows_in block h.0, all_follow blocks h.1)
+
+-- one more at the end of a block
+module _ (P : Meaning → Type 0) where
+  pub means_with : (block : Block) (n : Named) → MeansIn P block → P n.meaning → MeansIn P (block ++ n ∷ [])
+  means_with [] n h p = (p, tt)
+  means_with (m ∷ block) n h p = (h.0, means_with block n h.1 p)

@@ -6,4 +6,5 @@ mod laws;
 
 pub use laws::{
     a_small_program_is_judged, first_types_are_those_of_the_rows, judged_programs_are_sound,
+    types_may_be_written_first,
 };

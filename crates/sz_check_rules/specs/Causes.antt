@@ -3,7 +3,7 @@ use Rattle.std.specs.Prelude.{◌≡◌, ℕ, List, codes}
 use Rattle.sz_check_rules.specs.declared.cause.Cause.{Cause}
 use Rattle.sz_check_rules.specs.declared.cause.Cause.TheVariants.{BadChar, BadLiteral, NotUtf8, TooLong, Syntax, UnknownName, Redeclared, WrongKind, WrongType, NoType}
 use Rattle.sz_check_rules.specs.declared.cause.Cause.TheVariants.{NoField, WrongCount, WrongWeight, NotAssignable, Misplaced, LeftOut, BadTable, BadProto, Unbounded}
-use Rattle.sz_check_rules.specs.declared.cause.Cause.TheVariants.{QuantOrder, TooMany, EmitHere, ReservedName}
+use Rattle.sz_check_rules.specs.declared.cause.Cause.TheVariants.{QuantOrder, TooMany, EmitHere, ReservedName, TypeTooDeep}
 
 -- the number and the text of a cause
 abbrev pub row : Cause → ℕ × List ℕ
@@ -30,6 +30,7 @@ row QuantOrder = (20, codes "all must come last")
 row TooMany = (21, codes "too many tables")
 row EmitHere = (22, codes "emit not allowed here")
 row ReservedName = (24, codes "reserved name: _undefs")
+row TypeTooDeep = (25, codes "table type too deep")
 
 abbrev pub number_of : Cause → ℕ
 number_of cause = (row cause).0

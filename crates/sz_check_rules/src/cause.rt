@@ -3,7 +3,7 @@ ghost use Rattle.std.specs.Prelude.{◌≡◌};
 ghost use Rattle.sz_check_rules.specs.declared.cause.Cause.{Cause as AnyCause};
 ghost use Rattle.sz_check_rules.specs.Causes.{number_of, text_of, IsNumber};
 
-/// The causes, in the order of their numbers. The first five are those of a text that can't be read, the last is that of a run.
+/// The causes, in the order of their numbers. The first five are those of a text that can't be read, the last two are those of a run.
 #[derive(Clone, Copy, Debug)]
 pub enum Cause {
     /// At the place stands a byte with which no token begins.
@@ -52,9 +52,12 @@ pub enum Cause {
     EmitHere,
     /// A table has the name of the table of lines, which a run is to have. No judgement of a program by itself gives this cause.
     ReservedName,
+    /// A table has an index or an element of a type with too many levels for a saved file. No judgement of a program by itself gives this
+    /// cause.
+    TypeTooDeep,
 }
 
-/// The causes by their numbers, which begin with 1, without the last.
+/// The causes by their numbers, which begin with 1, without the last two.
 const CAUSES: [Cause; 22] = [
     Cause::BadChar,
     Cause::BadLiteral,
@@ -110,6 +113,7 @@ impl Cause {
             Cause::TooMany => (21, "too many tables"),
             Cause::EmitHere => (22, "emit not allowed here"),
             Cause::ReservedName => (24, "reserved name: _undefs"),
+            Cause::TypeTooDeep => (25, "table type too deep"),
         }
     }
 
@@ -127,6 +131,7 @@ impl Cause {
     {
         match number {
             24 => Cause::ReservedName,
+            25 => Cause::TypeTooDeep,
             _ => CAUSES[number as usize - 1],
         }
     }

@@ -28,7 +28,7 @@ fn rows() -> &'static [&'static str] {
 }
 
 // The program that a row writes with a mark for the end of each line.
-fn program_of(alloc: Global, marked: &str) -> Result<Vec<u8>, AllocError> {
+pub(crate) fn program_of(alloc: Global, marked: &str) -> Result<Vec<u8>, AllocError> {
     let mut program = Vec::with_capacity(alloc, marked.len())?;
     for byte in marked.bytes() {
         program.push(if byte == b'$' { b'\n' } else { byte })?;
@@ -57,7 +57,8 @@ fn said(alloc: Global, tree: &Tree) -> Result<String, AllocError> {
     }
 }
 
-fn told(alloc: Global, error: &CheckError) -> Result<String, AllocError> {
+// A refusal by its number, its place, and its name if it has one.
+pub(crate) fn told(alloc: Global, error: &CheckError) -> Result<String, AllocError> {
     let CheckError::Refused {
         number,
         place,

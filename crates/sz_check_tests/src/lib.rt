@@ -11,3 +11,5 @@ mod programs;
 mod quantified;
 #[cfg(test)]
 mod trees;
+#[cfg(test)]
+mod with_types;

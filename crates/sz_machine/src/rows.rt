@@ -15,7 +15,7 @@ use std::alloc::Global;
 use sz_instr::Code;
 use sz_machine_cells::{
     Cell, applied_to_one, applied_to_two, array_of, binary_of, binary_weight, builtin_weight,
-    conversion_weight, converted, decoded, definedness, element_of, map_of, of_ints, part_of,
+    conversion_weight, converted, decoded, definedness, element_of, of_ints, part_of,
     result_weight, slice_of, tuple_of, unary_of,
 };
 use sz_types::{BinOp, Builtin, UnOp};
@@ -238,16 +238,22 @@ impl<'a> RunState<'a> {
         Ok(Next::On)
     }
 
-    /// Pops the keys and values and pushes the map of them.
+    /// Pops the keys and values and pushes the map of them. They are weighed where they are, so that nothing is copied that isn't paid.
     #[inline(never)]
+    #[tactic(auto, using(crate::proofs::PayLemmas::row_unpaid, crate::proofs::PayLemmas::not_there))]
     pub fn make_map(&mut self, alloc: Global, count: u32) -> Result<Next, NoMemory>
         requires within { 2 * count ≤ length self.old.operands }
         ensures value { (code : Code) → IfOk result (λ next. Does (weighs_and_acts code (instr.MakeMap count)) self.old next self.new) }
     {
-        let parts = self.operands.pop_values(alloc, 2 * count as usize)?;
-        let made = map_of(alloc, parts)?;
-        let weight = result_weight(&made);
-        self.finish(made, weight)
+        let parts = 2 * count as usize;
+        match self.operands.map_within(alloc, parts, self.left)? {
+            Some(made) => {
+                let weight = result_weight(&made);
+                self.operands.drop_top(parts);
+                self.finish(made, weight)
+            }
+            None => Ok(Next::Fault(BUDGET_PASSED)),
+        }
     }
 
     /// Pops an index or a key and what it leads into, and pushes the element.

@@ -1,6 +1,7 @@
 pub mod ForCallers
 pub mod ListLemmas
 pub mod PartLemmas
+pub mod PairLemmas
 pub mod TurnLemmas
 pub mod CandidateLemmas
 pub mod CallLemmas

@@ -1,5 +1,5 @@
 -- Lists whose last items come first, as operands do.
-use Rattle.std.proofs.Common.{◌≡◌, ◌∙◌, ℕ, zero, suc, ◌-◌, ◌<◌, ◌≤◌, List, [], ◌∷◌, ◌++◌, length, map, take, drop, reverse, set, get_or, true, false, Some, None, is_some, refl, sym, ap}
+use Rattle.std.proofs.Common.{◌≡◌, ◌∙◌, ℕ, zero, suc, ◌+◌, ◌-◌, ◌<◌, ◌≤◌, List, [], ◌∷◌, ◌++◌, length, map, take, drop, reverse, set, get_or, true, false, Some, None, is_some, refl, sym, ap}
 use Rattle.std.proofs.Common.{arith}
 use Rattle.std.specs.List.{list_all}
 use Rattle.std.specs.Option.{option_map}
@@ -9,6 +9,7 @@ use Rattle.sz_value.specs.Data.{Datum}
 use Rattle.sz_value.specs.Seen.{seen}
 use Rattle.sz_value.specs.declared.value.Value.{Value}
 use Rattle.sz_world_rules.specs.Slots.{Slot, all_defined}
+use Rattle.sz_machine_rules.specs.States.{popped}
 use Rattle.sz_machine_cells.specs.Results.{defined_of}
 
 -- of a list turned round, its last items come first
@@ -122,3 +123,44 @@ two_replaced xs y h =
     let place : length xs - 2 ≡ length (take k xs) - 1 = omega (arith, count, h) in
     ap (λ n. reverse (set (take k xs) n y)) place ∙ top_set (take k xs) y (omega (arith, count, h))
     ∙ ap (λ l. y ∷ drop 1 l) (below_last xs 1 (omega (arith, h))) ∙ ap (λ l. y ∷ l) (one_by_one (reverse xs))
+
+-- the values of a list that is turned round
+defined_back : (xs : List Slot) → defined_of (reverse xs) ≡ reverse (defined_of xs)
+defined_back [] = refl
+defined_back (None ∷ xs) =
+    ap defined_of (reverse-append (None ∷ []) xs) ∙ no_more_defined (reverse xs) ∙ defined_back xs
+defined_back (Some d ∷ xs) =
+    ap defined_of (reverse-append (Some d ∷ []) xs) ∙ one_more_defined (reverse xs) d
+    ∙ ap (λ ds. ds ++ d ∷ []) (defined_back xs) ∙ sym (reverse-append (d ∷ []) (defined_of xs))
+
+-- where all of the topmost operands are defined, their values, taken off one after the other, are turned round
+pub all_popped : (vs : List Value) (xs : List Slot) (n : ℕ) → is_some (all_defined (popped n xs)) ≡ true → map seen vs ≡ defined_of (take n xs)
+    → Some (map seen (reverse vs)) ≡ all_defined (popped n xs)
+all_popped vs xs n all is =
+    ap Some (map_reverse seen vs ∙ ap reverse is ∙ sym (defined_back (take n xs)))
+    ∙ sym (are_all (popped n xs) (all_told (popped n xs) ∙ all))
+
+-- where one isn't, there are none
+pub not_all_popped : (xs : List Slot) → is_some (all_defined xs) ≡ false → None ≡ all_defined xs
+not_all_popped xs e = sym (are_not_all xs (all_told xs ∙ e))
+
+-- the item after so many is taken off
+pub one_off : {X : Type 0} → (xs : List X) (k : ℕ) (x : X) (ys : List X) → drop k xs ≡ x ∷ ys → (drop (k + 1) xs ≡ ys) × (take (k + 1) xs ≡ take k xs ++ x ∷ [])
+one_off [] zero x ys e = absurd (cc)
+one_off [] (suc k) x ys e = absurd (cc)
+one_off (y ∷ xs) zero x ys e = (ap (drop 1) e, ap (λ l. get_or l 0 x ∷ []) e)
+one_off (y ∷ xs) (suc k) x ys e =
+    let rest = one_off xs k x ys e in
+    let later : suc k + 1 ≡ suc (k + 1) = omega arith in
+    (ap (λ n. drop n (y ∷ xs)) later ∙ rest.0, ap (λ n. take n (y ∷ xs)) later ∙ ap (λ l. y ∷ l) rest.1)
+
+module _ (vs : List Value) (xs : List Slot) (k : ℕ) (ys : List Slot) (is : map seen vs ≡ defined_of (take k xs)) where
+  -- it is defined
+  pub value_off : (v : Value) → drop k xs ≡ Some (seen v) ∷ ys → map seen (vs ++ v ∷ []) ≡ defined_of (take (k + 1) xs)
+  value_off v e =
+      map-append seen vs (v ∷ []) ∙ ap (λ ds. ds ++ seen v ∷ []) is ∙ sym (one_more_defined (take k xs) (seen v))
+      ∙ sym (ap defined_of (one_off xs k (Some (seen v)) ys e).1)
+
+  -- or it isn't
+  pub none_off : drop k xs ≡ None ∷ ys → map seen vs ≡ defined_of (take (k + 1) xs)
+  none_off e = is ∙ sym (no_more_defined (take k xs)) ∙ sym (ap defined_of (one_off xs k None ys e).1)

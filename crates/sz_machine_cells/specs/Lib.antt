@@ -8,3 +8,4 @@ pub mod Calls
 pub mod Storing
 -- what the functions inside the crate promise each other
 pub mod Waiting
+pub mod PairViews

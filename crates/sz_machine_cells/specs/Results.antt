@@ -1,9 +1,8 @@
 -- What is made of operands whose values are at hand.
 use Rattle.std.specs.Prelude.{◌≡◌, ℕ, ◌+◌, ◌-◌, ◌^◌, min, List, [], ◌∷◌, Option, Some, None, option_map}
-use Rattle.sz_value.specs.Data.{Datum, array, tuple, mapping, data_of, entries_of}
+use Rattle.sz_value.specs.Data.{Datum, array, tuple, data_of}
 use Rattle.sz_world_rules.specs.Slots.{Slot}
 use Rattle.sz_value.specs.Weight.{data_weight}
-use Rattle.sz_world_rules.specs.Operations.{with_pairs}
 use Rattle.sz_world_rules.specs.Ticks.{result_weight}
 
 -- the array of these elements, if they are all defined
@@ -13,10 +12,6 @@ array_of_all elements = option_map (λ ds. array (data_of ds)) elements
 -- the tuple of these parts, if they are all defined
 abbrev pub tuple_of_all : Option (List Datum) → Slot
 tuple_of_all parts = option_map (λ ds. tuple (data_of ds)) parts
-
--- the map of these keys and values, which stand by turns, if they are all defined
-abbrev pub map_of_all : Option (List Datum) → Slot
-map_of_all parts = option_map (λ ds. mapping (entries_of (with_pairs [] ds))) parts
 
 -- the pairs of keys and values that stand by turns
 abbrev pub by_turns : List Datum → List (Datum × Datum)

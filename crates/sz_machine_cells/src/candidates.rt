@@ -10,7 +10,7 @@ use crate::cell::Cell;
 use std::alloc::Global;
 use std::marker::Model;
 use sz_builtin::{Kind, View};
-use sz_value::{List, NoMemory, Pair, Value, copy};
+use sz_value::{List, NoMemory, Pair, Text, Value, copy};
 
 /// The candidates that are left: whole numbers up to a bound, or keys, the next one last.
 ///
@@ -67,7 +67,7 @@ impl Candidates {
     {
         match base.kind() {
             Kind::Array(list) => Ok(numbers(slice, list_len(list))),
-            Kind::Str(text) => Ok(numbers(slice, counted(text.as_str()))),
+            Kind::Str(text) => Ok(numbers(slice, characters(text))),
             Kind::Bytes(contents) => Ok(numbers(slice, contents.len())),
             Kind::Map(pairs) if !slice => keys(alloc, pairs.as_slice()),
             _ => Ok(Candidates::none()),
@@ -156,10 +156,15 @@ fn list_len(list: &List) -> usize
     list.as_slice().len()
 }
 
-// The number of characters.
-fn counted(text: &str) -> usize
+// The number of characters. Those of an ASCII text are its bytes, and aren't counted.
+#[tactic(auto, using(sz_builtin::proofs::CharacterLemmas::ascii_length))]
+fn characters(text: &Text) -> usize
     ensures value { result ≡ length (chars text.now) }
     ensures small { result < 2 ^ 63 }
 {
-    text.chars().count()
+    if text.is_ascii() {
+        text.as_str().as_bytes().len()
+    } else {
+        text.character_count()
+    }
 }

@@ -1,17 +1,21 @@
 //! The operands of a run.
-ghost use Rattle.std.specs.Prelude.{◌≡◌, ◌≤◌, ◌<◌, ◌+◌, IfNone, true, [], ◌∷◌, length, drop, ◌++◌, is_some, IfOk, IfSome, OnOk, OnErr, Some};
+ghost use Rattle.std.specs.Prelude.{◌≡◌, ◌≤◌, ◌<◌, ◌+◌, IfNone, true, [], ◌∷◌, length, map, take, drop, ◌++◌, is_some, IfOk, IfSome, OnOk, OnErr, Some};
 ghost use Rattle.std.specs.List.{list_all};
 ghost use Rattle.sz_value.specs.Data.{int};
+ghost use Rattle.sz_value.specs.Seen.{seen};
 ghost use Rattle.sz_world_rules.specs.Slots.{all_defined};
 ghost use Rattle.sz_machine_rules.specs.States.{popped};
 ghost use Rattle.sz_world_rules.specs.Emits.{weight_if_all};
+ghost use Rattle.sz_world_rules.specs.Operations.{map_of};
+ghost use Rattle.sz_world_rules.specs.Ticks.{result_weight};
 ghost use Rattle.sz_machine_cells.specs.Results.{defined_of, slots_weight, composite_weight};
 
 use crate::cell::Cell;
+use crate::maps::map_within;
 use crate::weights::result_weight;
 use std::alloc::Global;
 use std::marker::Model;
-use sz_value::{List, NoMemory};
+use sz_value::{List, NoMemory, Value};
 
 /// The operands of a run, in room that is kept.
 ///
@@ -157,6 +161,24 @@ impl<'a> Operands<'a> {
         composite_weight(&self.cells[from..], most)
     }
 
+    /// The map of so many topmost operands, in which each value stands above its key, if it weighs no more than `most`. They stay where they
+    /// are, and are weighed there: nothing is copied of a map that weighs more, and of another one what is in it, which of equal keys is
+    /// the last one with its value.
+    pub fn map_within(
+        &self,
+        alloc: Global,
+        count: usize,
+        most: u64,
+    ) -> Result<Option<Cell<'a>>, NoMemory>
+        requires within { count ≤ length self.now }
+        ensures some { IfOk result (λ made. IfSome made (λ cell.
+            (cell ≡ map_of (popped count self.now)) × (result_weight (map_of (popped count self.now)) ≤ most))) }
+        ensures none { IfOk result (λ made. IfNone made (most < result_weight (map_of (popped count self.now)))) }
+    {
+        let from = self.cells.len() - count;
+        map_within(alloc, &self.cells[from..], most)
+    }
+
     /// Moves so many topmost operands to the end of the cells, the upmost one last.
     pub fn move_to(&mut self, count: usize, cells: &mut Vec<Cell<'a>>) -> Result<(), NoMemory>
         requires within { count ≤ length self.old }
@@ -171,6 +193,7 @@ impl<'a> Operands<'a> {
     }
 
     /// Takes so many topmost operands off, and gives their values, the upmost one last, if all of them are defined.
+    #[tactic(auto, using(crate::proofs::ListLemmas::all_popped, crate::proofs::ListLemmas::not_all_popped))]
     pub fn pop_values(&mut self, alloc: Global, count: usize) -> Result<Option<List>, NoMemory>
         requires within { count ≤ length self.old }
         ensures value { IfOk result (λ values. values ≡ all_defined (popped count self.old)) }
@@ -179,14 +202,35 @@ impl<'a> Operands<'a> {
         if count == 0 {
             return Ok(Some(List::new(alloc)));
         }
-        let from = self.cells.len() - count;
-        let cells = self.cells.split_off(from)?;
-        gathered(alloc, cells)
+        if !self.are_defined(count) {
+            self.drop_top(count);
+            return Ok(None);
+        }
+        let mut values = self.taken_off(alloc, count)?;
+        values.reverse();
+        Ok(Some(List::from_vec(values)))
+    }
+
+    // Takes so many topmost operands off, and gives the values of those that are defined, the upmost one first.
+    fn taken_off(&mut self, alloc: Global, count: usize) -> Result<Vec<Value>, NoMemory>
+        requires within { count ≤ length self.old }
+        ensures value { IfOk result (λ values. map seen values.items ≡ defined_of (take count self.old)) }
+        ensures rest { OnOk result (self.new ≡ drop count self.old) }
+    {
+        let mut values = Vec::with_capacity(alloc, count)?;
+        for _ in 0..count {
+            let cell = self.pop();
+            let Some(value) = cell.into_value(alloc)? else {
+                continue;
+            };
+            values.push(value)?;
+        }
+        Ok(values)
     }
 }
 
-// Whether the cells are all defined.
-fn all_defined(cells: &[Cell<'_>]) -> bool
+/// Whether the cells are all defined.
+pub(crate) fn all_defined(cells: &[Cell<'_>]) -> bool
     ensures value { result ≡ list_all is_some cells.now }
 {
     cells.iter().all(|cell| cell.is_defined())
@@ -233,30 +277,4 @@ fn sum_within(cells: &[Cell<'_>], first: u64, most: u64) -> Option<u64>
         sum = sum.checked_add(result_weight(cell))?;
     }
     if sum > most { None } else { Some(sum) }
-}
-
-// The values of the cells, if all of them are defined.
-#[tactic(auto, using(crate::proofs::ListLemmas::are_all, crate::proofs::ListLemmas::are_not_all))]
-fn gathered(alloc: Global, cells: Vec<Cell<'_>>) -> Result<Option<List>, NoMemory>
-    ensures value { IfOk result (λ values. values ≡ all_defined cells.entry.items) }
-{
-    if all_defined(&cells) {
-        Ok(Some(values_of(alloc, cells)?))
-    } else {
-        Ok(None)
-    }
-}
-
-// The values of the cells that are defined.
-#[tactic(auto, using(crate::proofs::ListLemmas::one_more_defined, crate::proofs::ListLemmas::no_more_defined))]
-fn values_of(alloc: Global, cells: Vec<Cell<'_>>) -> Result<List, NoMemory>
-    ensures value { IfOk result (λ values. values ≡ defined_of cells.entry.items) }
-{
-    let mut values = List::with_capacity(alloc, cells.len())?;
-    for cell in cells {
-        if let Some(value) = cell.into_value(alloc)? {
-            values.push(value)?;
-        }
-    }
-    Ok(values)
 }

@@ -2,13 +2,12 @@
 ghost use Rattle.std.specs.Prelude.{◌≡◌, ◌∷◌, [], ℕ, IfOk, Some, take, drop};
 ghost use Rattle.sz_types.specs.Seen.{seen as seen_type};
 ghost use Rattle.sz_value.specs.Data.{bytes, int};
-ghost use Rattle.sz_value.specs.Seen.{seen_pairs};
 ghost use Rattle.sz_builtin.specs.Conversions.{convert};
 ghost use Rattle.sz_builtin.specs.Places.{slice, index};
 ghost use Rattle.sz_builtin.specs.Views.{seen_view};
-ghost use Rattle.sz_world_rules.specs.Operations.{unary_of, binary_of, applied, converted_plainly, message_of, decoded_as, array_of, tuple_of, map_of};
+ghost use Rattle.sz_world_rules.specs.Operations.{unary_of, binary_of, applied, converted_plainly, message_of, decoded_as, array_of, tuple_of};
 ghost use Rattle.sz_world_rules.specs.Operations.{element_of, slice_of, part_at, part_of, definedness};
-ghost use Rattle.sz_machine_cells.specs.Results.{array_of_all, tuple_of_all, map_of_all, by_turns};
+ghost use Rattle.sz_machine_cells.specs.Results.{array_of_all, tuple_of_all};
 
 use crate::buffers::{lying, part_bytes};
 use crate::cell::{Cell, Form};
@@ -21,7 +20,7 @@ use sz_builtin::{
 };
 use sz_proto::decode;
 use sz_types::{BinOp, Builtin, Ty, UnOp};
-use sz_value::{List, NoMemory, Pair, Pairs, Value};
+use sz_value::{List, NoMemory, Value};
 
 /// What the operator makes of an operand.
 pub fn unary_of<'a>(alloc: Global, op: UnOp, x: &Cell<'_>) -> Result<Cell<'a>, NoMemory>
@@ -138,35 +137,6 @@ pub fn tuple_of<'a>(alloc: Global, parts: Option<List>) -> Result<Cell<'a>, NoMe
         Some(list) => Cell::of_value(alloc, Value::Tuple(list)),
         None => Ok(Cell::undefined()),
     }
-}
-
-/// The map of these keys and values, which stand by turns, if they are all there.
-#[tactic(auto, using(crate::proofs::TurnLemmas::put_by_turns))]
-pub fn map_of<'a>(alloc: Global, parts: Option<List>) -> Result<Cell<'a>, NoMemory>
-    ensures value { IfOk result (λ made. made ≡ map_of_all parts) }
-{
-    match parts {
-        Some(list) => {
-            let pairs = by_turns(alloc, list)?;
-            Cell::of_value(alloc, Value::Map(Pairs::from_pairs(alloc, pairs)?))
-        }
-        None => Ok(Cell::undefined()),
-    }
-}
-
-// The pairs of keys and values that stand by turns.
-fn by_turns(alloc: Global, parts: List) -> Result<Vec<Pair>, NoMemory>
-    ensures value { IfOk result (λ pairs. seen_pairs pairs.items ≡ by_turns parts) }
-{
-    let mut pairs = Vec::with_capacity(alloc, parts.len() / 2)?;
-    let mut waiting: Option<Value> = None;
-    for part in parts.into_vec() {
-        match waiting.take() {
-            Some(key) => pairs.push(Pair { key, value: part })?,
-            None => waiting = Some(part),
-        }
-    }
-    Ok(pairs)
 }
 
 /// The element of a value under an index or a key, where it stands.

@@ -41,8 +41,8 @@ fn weight_by_look(made: &Cell<'_>) -> u64
     }
 }
 
-// What a value weighs.
-fn view_weight(view: &View<'_>) -> u64
+/// What a value weighs.
+pub(crate) fn view_weight(view: &View<'_>) -> u64
     ensures value { result ≡ weight_of (seen_view view.now) }
 {
     match view {

@@ -1,2 +1,4 @@
 -- what the public contracts rest on
 pub mod Sound
+pub mod Readings
+pub mod Named

@@ -3,4 +3,4 @@
 
 mod laws;
 
-pub use laws::file_types_are_sound;
+pub use laws::{field_names_are_names, file_types_are_sound, readings_are_unique};

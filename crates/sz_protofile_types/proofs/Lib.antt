@@ -1,10 +1,10 @@
 pub mod ForCallers
 mod RankLemmas
 pub mod TargetLemmas
-mod UniqueLemmas
+pub mod UniqueLemmas
 mod OrderLemmas
 mod MakingLemmas
 mod CountLemmas
 mod HoldingLemmas
-mod FoundLemmas
+pub mod FoundLemmas
 mod ReadLemmas

@@ -63,7 +63,7 @@ module _ (all : List FieldIn) (types others : List ℕ → Shape) where
   adds_same f made more same (once m e x) (once n g y) =
       ap (λ s. as_field f s encodings.Plain ∷ []) (same m e x ∙ ap others (same_message m n (sym e ∙ g)))
 
-  makes_same : (owner : List ℕ) (fields : List FieldIn) (made more : List FieldShape)
+  pub makes_same : (owner : List ℕ) (fields : List FieldIn) (made more : List FieldShape)
       → ((f : FieldIn) (m : List ℕ) → Contains fields f → f.owner ≡ owner → f.sort ≡ sorts.Message m → (Reaches all m f.owner → ⊥) → types m ≡ others m)
       → Makes all types owner fields made → Makes all others owner fields more → made ≡ more
   makes_same owner fields made more same none none = refl

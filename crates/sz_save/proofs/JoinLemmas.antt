@@ -1,5 +1,5 @@
 -- What is joined of what can be saved can be saved, and has under each index list the rows of both sides.
-use Rattle.std.proofs.Common.{◌≡◌, ◌∙◌, ℕ, zero, suc, ◌+◌, ◌*◌, ◌^◌, ◌-◌, ◌<◌, ◌≤◌, ℤ, pos, negsuc, unsigned_abs, nat_lt, Bool, true, false, true≢false, cond, ◌||◌, ◌⊎◌, inl, inr, ⊎_elim, Option, Some, None, List, [], ◌∷◌, ◌++◌, length, map, take, zip, slice_get, refl, sym, ap, subst, arith, le-ltb, take_all}
+use Rattle.std.proofs.Common.{◌≡◌, ◌∙◌, ℕ, zero, suc, ◌+◌, ◌*◌, ◌^◌, ◌-◌, ◌≤◌, ℤ, pos, negsuc, unsigned_abs, Bool, true, false, true≢false, cond, ◌||◌, ◌⊎◌, inl, ⊎_elim, Some, List, [], ◌∷◌, ◌++◌, length, map, take, zip, slice_get, refl, sym, ap, subst, arith, le-ltb, take_all}
 use Rattle.std.specs.List.{AllByRecursion}
 use Rattle.std.proofs.lemmas.Int.{ints}
 use Rattle.std.proofs.lemmas.List.{length-append}
@@ -17,13 +17,12 @@ use Rattle.sz_tabs.specs.Sorting.{sorted, distinct}
 use Rattle.sz_tabs.specs.Rows.{plus, value_row, overflow_row, set_rows}
 use Rattle.sz_tabs.proofs.ForCallers.{within_further, within_plus}
 use Rattle.sz_total.specs.Tables.{Indexed}
-use Rattle.sz_save_format.specs.Declarations.{IsSavedDeclaration}
-use Rattle.sz_save_format.specs.Entries.{IsCount, overflows, components, IsSavedValue, AreSavedSums, IsSavedSum, IsSavedRank, IsSavedRow, IsSavedSumRow, AreSavedRows, AreSumRows, HaveRows, IsSavedEntry, AreSavedEntries, entry_may_follow, in_order}
+use Rattle.sz_save_format.specs.Entries.{IsCount, overflows, components, IsSavedValue, AreSavedSums, IsSavedSum, IsSavedRow, AreSavedRows, AreSumRows, HaveRows, IsSavedEntry, AreSavedEntries}
 use Rattle.sz_save_format.specs.Saved.{SavedState, IsSavedTable, CanBeSaved}
-use Rattle.sz_save.specs.Joined.{values_shown, sums_in, joined_sums, joined_sets, joined_rows, rows_at, JoinsTable, JoinTables, Joins}
-use Rattle.sz_save.specs.Walk.{alone, other_alone, joined_entry, joined_entries, joined_tables, HasSum, HasSums, CanJoin, CanJoinAll, HasCountedRows, AreCounted}
+use Rattle.sz_save.specs.Joined.{values_shown, sums_in, joined_sums, joined_sets, joined_rows, JoinsTable, JoinTables, Joins}
+use Rattle.sz_save.specs.Walk.{joined_entries, joined_tables, HasSum, HasSums, CanJoin, CanJoinAll, HasCountedRows, AreCounted}
 use Rattle.sz_save.proofs.SumLemmas.{length_of_plus}
-use Rattle.sz_save.proofs.RisingLemmas.{Rise, rise, rising, all_hold, joined_rise, joined_at}
+use Rattle.sz_save.proofs.RisingLemmas.{rise, rising, all_hold, joined_rise, joined_at}
 use Rattle.sz_save.proofs.RowLemmas.{all_both, sorted_long, maximum_saved, minimum_saved, set_saved, collection_saved, shown_saved, shown_long, value_rows_long}
 
 -- ---- sums
@@ -40,7 +39,7 @@ sums_near : (bound : ℕ) (ns : List ℤ) → AllByRecursion (IsSavedSum bound) 
 sums_near bound [] h = tt
 sums_near bound (n ∷ ns) h = (near (bound * 2 ^ 63) n h.0, sums_near bound ns h.1)
 
-sums_saved : (bound : ℕ) (ns : List ℤ) → AreWithin (bound * 2 ^ 63) ns → AllByRecursion (IsSavedSum bound) ns
+pub sums_saved : (bound : ℕ) (ns : List ℤ) → AreWithin (bound * 2 ^ 63) ns → AllByRecursion (IsSavedSum bound) ns
 sums_saved bound [] h = tt
 sums_saved bound (n ∷ ns) h = (not_far (bound * 2 ^ 63) n h.0, sums_saved bound ns h.1)
 

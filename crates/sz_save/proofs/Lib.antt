@@ -1,6 +1,7 @@
 mod ListLemmas
 mod WalkLemmas
 mod SumLemmas
-mod RisingLemmas
-mod RowLemmas
-mod JoinLemmas
+pub mod RisingLemmas
+pub mod RowLemmas
+pub mod JoinLemmas
+mod SavingLemmas

@@ -1,32 +1,26 @@
 -- The rows of both sides can be saved where those of each side can.
-use Rattle.std.proofs.Common.{◌≡◌, ◌∙◌, ℕ, zero, suc, ◌+◌, ◌*◌, ◌^◌, ◌<◌, ◌≤◌, ℤ, pos, negsuc, ◌+ℤ◌, unsigned_abs, nat_lt, Bool, true, false, true≢false, not, ◌||◌, cond, ◌⊎◌, inl, inr, ⊎_elim, Option, Some, None, List, [], ◌∷◌, ◌++◌, length, map, take, flat_map, refl, sym, ap, subst, arith}
-use Rattle.std.proofs.Common.{Ordering, Less, Equal, Greater, is_lt, is_gt, is_eq, int_cmp}
+use Rattle.std.proofs.Common.{◌≡◌, ◌∙◌, ℕ, zero, suc, ◌+◌, ◌≤◌, ℤ, nat_lt, Bool, true, false, not, ◌||◌, cond, ◌⊎◌, inl, inr, Option, List, [], ◌∷◌, ◌++◌, length, map, take, refl, sym, ap, arith}
+use Rattle.std.proofs.Common.{Ordering, is_lt, is_gt}
 use Rattle.std.specs.Cmp.{IsTotalOrder, IsStrictWeakOrder, int_cmp_total, then_total, on_total, back_total}
 use Rattle.std.specs.Cmp.Lexicographic.{options_total}
 use Rattle.std.specs.List.{AllByRecursion, dedup, dedup_from}
 use Rattle.std.specs.List.Sorted.{IsStrictlySortedBy}
 use Rattle.std.specs.Ordering.{eq_by_cmp}
 use Rattle.std.proofs.lemmas.Bool.{and_from, cond_both, ltb-false}
-use Rattle.std.proofs.lemmas.Int.{ints}
-use Rattle.std.proofs.lemmas.List.{length-append, append-nil}
 use Rattle.std.proofs.lemmas.List.MinMax.{ranks_by}
 use Rattle.std.proofs.lemmas.List.Sorted.{length_permutation}
 use Rattle.sz_types.specs.Data.{Shape}
 use Rattle.sz_value.specs.Data.{Datum}
 use Rattle.sz_value.specs.Order.{compare}
 use Rattle.sz_value.specs.Total.{compare_total, compare_ties}
-use Rattle.sz_types.specs.declared.table.TableKind.{TableKind}
-use Rattle.sz_types.specs.declared.table.TableKind.TheVariants.{Sum, Maximum, Minimum, Set, Collection}
-use Rattle.sz_tabs.specs.Bounds.{IsWithin, AreWithin}
+use Rattle.sz_types.specs.declared.table.TableKind.TheVariants.{Maximum, Minimum, Set, Collection}
 use Rattle.sz_tabs.specs.Data.{Shown, one, sums, overflow, RowDatum}
 use Rattle.sz_tabs.specs.Sorting.{sorted, distinct}
-use Rattle.sz_tabs.specs.Rows.{plus, value_row, overflow_row, set_rows}
-use Rattle.sz_tabs.proofs.ForCallers.{Ascends, sorted_ascends, sorted_is_permutation, distinct_rises, sum_within}
+use Rattle.sz_tabs.specs.Rows.{value_row, overflow_row, set_rows}
+use Rattle.sz_tabs.proofs.ForCallers.{Ascends, sorted_ascends, sorted_is_permutation, distinct_rises}
 use Rattle.sz_tabs.proofs.SortingLemmas.{all_inserted}
-use Rattle.sz_flat.specs.Spelling.{IsShort}
-use Rattle.sz_save_format.specs.Entries.{overflows, IsSavedValue, AreSavedSums, ShowsSavedValue, IsSavedSum, IsSavedRank, IsSavedRow, IsSavedSumRow, AreSavedRows, AreSumRows, HaveRows, shown_may_follow, row_may_follow, in_order, components}
-use Rattle.sz_save.specs.Joined.{value_in, values_shown, sums_in, least_rows, greatest_rows, joined_sums, joined_sets, joined_rows}
-use Rattle.sz_save.proofs.SumLemmas.{length_of_plus}
+use Rattle.sz_save_format.specs.Entries.{overflows, IsSavedValue, ShowsSavedValue, IsSavedRow, AreSavedRows, shown_may_follow, row_may_follow, in_order}
+use Rattle.sz_save.specs.Joined.{value_in, values_shown, least_rows, greatest_rows, joined_sets}
 
 pub least_rows_total : IsTotalOrder least_rows
 least_rows_total =
@@ -64,15 +58,15 @@ module _ {X : Type 0} (P : X → Type 0) where
     all_distinct_of [] h = tt
     all_distinct_of (x ∷ xs) h = all_from x xs h.0 h.1
 
-    all_distinct : (xs : List X) → AllByRecursion P xs → AllByRecursion P (distinct cmp xs)
+    pub all_distinct : (xs : List X) → AllByRecursion P xs → AllByRecursion P (distinct cmp xs)
     all_distinct xs h = all_distinct_of (sorted cmp xs) (all_sorted xs h)
 
-some_taken : {X : Type 0} (n : ℕ) (xs : List X) → 1 ≤ n → 1 ≤ length xs → 1 ≤ length (take n xs)
+pub some_taken : {X : Type 0} (n : ℕ) (xs : List X) → 1 ≤ n → 1 ≤ length xs → 1 ≤ length (take n xs)
 some_taken zero xs some long = absurd (omega (arith, some))
 some_taken (suc n) [] some long = absurd (omega (arith, long))
 some_taken (suc n) (x ∷ xs) some long = omega arith
 
-few_taken : {X : Type 0} (n : ℕ) (xs : List X) → length (take n xs) ≤ n
+pub few_taken : {X : Type 0} (n : ℕ) (xs : List X) → length (take n xs) ≤ n
 few_taken zero xs = omega arith
 few_taken (suc n) [] = omega arith
 few_taken (suc n) (x ∷ xs) = omega (arith, few_taken n xs)
@@ -91,10 +85,10 @@ module _ {X : Type 0} {cmp : X → X → Ordering} (total : IsTotalOrder cmp) wh
   some_distinct_of [] long = absurd (omega (arith, long))
   some_distinct_of (x ∷ xs) long = some_from x xs
 
-  some_distinct : (xs : List X) → 1 ≤ length xs → 1 ≤ length (distinct cmp xs)
+  pub some_distinct : (xs : List X) → 1 ≤ length xs → 1 ≤ length (distinct cmp xs)
   some_distinct xs long = let same = sorted_long xs in some_distinct_of (sorted cmp xs) (omega (arith, same, long))
 
-  taken_ascends : (n : ℕ) (xs : List X) → Ascends total xs → Ascends total (take n xs)
+  pub taken_ascends : (n : ℕ) (xs : List X) → Ascends total xs → Ascends total (take n xs)
   taken_ascends zero xs up = tt
   taken_ascends (suc n) [] up = tt
   taken_ascends (suc n) (x ∷ xs) up = (all_taken (λ y. is_gt (cmp x y) ≡ false) n xs up.0, taken_ascends n xs up.1)

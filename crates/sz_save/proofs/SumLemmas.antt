@@ -1,12 +1,12 @@
 -- Sums added, one by one.
-use Rattle.std.proofs.Common.{◌≡◌, ◌∙◌, ℕ, zero, suc, ◌+◌, ◌<◌, ◌≤◌, ◌^◌, ℤ, pos, ◌+ℤ◌, List, [], ◌∷◌, ◌++◌, length, take, get_or, refl, sym, ap, subst, arith, take_all}
+use Rattle.std.proofs.Common.{◌≡◌, ◌∙◌, ℕ, zero, suc, ◌+◌, ◌<◌, ◌≤◌, ◌^◌, ℤ, pos, ◌+ℤ◌, List, [], ◌∷◌, ◌++◌, length, take, get_or, refl, sym, subst, arith, take_all}
 use Rattle.std.proofs.lemmas.List.{take_more}
 use Rattle.sz_tabs.specs.Bounds.{IsWithin, AreWithin}
 use Rattle.sz_tabs.specs.Data.{RowDatum}
 use Rattle.sz_tabs.specs.Rows.{plus}
 use Rattle.sz_tabs.proofs.ForCallers.{within_further, within_plus}
 use Rattle.sz_save.specs.Joined.{sums_in}
-use Rattle.sz_save.specs.Walk.{HasSum, CanAdd}
+use Rattle.sz_save.specs.Walk.{CanAdd}
 
 pub length_of_plus : (ns ms : List ℤ) → length ms ≡ length ns → length (plus ns ms) ≡ length ns
 length_of_plus [] [] long = refl

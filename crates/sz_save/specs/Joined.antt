@@ -1,5 +1,5 @@
 -- Tables joined: what two saved states with the same declarations are together.
-use Rattle.std.specs.Prelude.{◌≡◌, ◌||◌, ℕ, ℤ, ◌+◌, nat_lt, ⊤, if◌then◌else◌, Option, Some, None, List, [], ◌∷◌, ◌++◌, map, take, flat_map, option_to_list}
+use Rattle.std.specs.Prelude.{◌≡◌, ◌||◌, ℕ, ℤ, ◌+◌, ⊤, if◌then◌else◌, Option, Some, None, List, [], ◌∷◌, ◌++◌, map, take, flat_map, option_to_list}
 use Rattle.std.specs.Ordering.{int_cmp, then_cmp, on, flip_args, is_eq}
 use Rattle.std.specs.Option.{option_cmp}
 use Rattle.std.specs.declared.cmp.Ordering.{Ordering}

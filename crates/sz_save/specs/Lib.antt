@@ -1,4 +1,6 @@
 -- what the public contracts rest on
 pub mod Joined
+pub mod Saving
 -- what the functions inside the crate promise each other
 pub mod Walk
+pub mod Spelled

@@ -7,8 +7,8 @@ ghost use Rattle.sz_types.specs.SeenTables.{seen_table};
 use std::alloc::Global;
 use sz_types::{NoMemory, TableDecl, TableDecls, Ty, copy_table, same};
 
-// Whether the declarations are the same.
-pub(crate) fn same_decls(one: &TableDecls, other: &TableDecls) -> bool
+/// Whether the declarations are the same: the same tables in the same order.
+pub fn same_decls(one: &TableDecls, other: &TableDecls) -> bool
     ensures value { IsTrue result ↔ (one.now ≡ other.now) }
 {
     are_same(one.as_slice(), other.as_slice())

@@ -6,3 +6,4 @@ mod StateLemmas
 mod JoiningLemmas
 mod EmitLemmas
 mod TableLemmas
+mod RunLemmas

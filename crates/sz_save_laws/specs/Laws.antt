@@ -1,12 +1,13 @@
 -- What joined tables hold, and that the order in which saved states are joined can't be seen in it.
-use Rattle.std.specs.Prelude.{◌≡◌, ℕ, suc, List, [], ◌∷◌, ◌++◌}
+use Rattle.std.specs.Prelude.{◌≡◌, ℕ, List, [], ◌∷◌, ◌++◌}
 use Rattle.std.specs.List.Sorted.{IsPermutation}
 use Rattle.sz_types.specs.Tables.{Declaration}
 use Rattle.sz_tabs.specs.Data.{EmitDatum, Weighted}
 use Rattle.sz_tabs.specs.Rows.{rows_of}
-use Rattle.sz_total.specs.Tables.{Indexed, table_rows}
+use Rattle.sz_total.specs.Tables.{table_rows}
 use Rattle.sz_save_format.specs.Saved.{SavedState, CanBeSaved, Saves}
 use Rattle.sz_save.specs.Joined.{JoinsTable, Joins, joined_rows}
+pub use Rattle.sz_save.specs.Saving.{tables_from}
 
 -- both states joined are this one, and it can be saved
 pub record Gives (one other both : SavedState) : Type 0 where
@@ -66,11 +67,6 @@ abbrev pub JoinsTables : Type 0
 JoinsTables =
     (number : ℕ) (table : Declaration) (front later : List EmitDatum)
     → JoinsTable table (table_rows number table front) (table_rows number table later) (table_rows number table (front ++ later))
-
--- the tables of emits, numbered from a number on
-abbrev pub tables_from : ℕ → List Declaration → List EmitDatum → List (List Indexed)
-tables_from number [] emits = []
-tables_from number (table ∷ tables) emits = table_rows number table emits ∷ tables_from (suc number) tables emits
 
 -- the state holds the tables of the emits
 abbrev pub Holds : SavedState → List EmitDatum → Type 0

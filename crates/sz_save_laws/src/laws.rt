@@ -1,6 +1,8 @@
 //! The laws.
 ghost use Rattle.sz_save_laws.specs.Laws.{IsCommutative, IsAssociative, ForgetsOrder, HasOneSpelling, JoinsRows, JoinsTables, AddsEmits};
+ghost use Rattle.sz_save_laws.specs.Runs.{JoinsRuns, HasBytesOfOne, HasTextOfOne};
 
+use sz_print::rows_have_the_text_of_their_emits;
 use sz_total::tables_forget_the_order;
 
 /// Either of two states may be joined to the other, and of three states either two may be joined first. So any number of states
@@ -20,4 +22,15 @@ pub fn joining_adds_emits()
     ensures states { AddsEmits }
 {
     tables_forget_the_order();
+}
+
+/// What is saved of runs of one program is, joined in whatever order, what is saved of one run that brings all that they bring, in
+/// whatever order. So it has the bytes of that run, and its text.
+pub fn saved_runs_join()
+    ensures state { JoinsRuns }
+    ensures bytes { HasBytesOfOne }
+    ensures text { HasTextOfOne }
+{
+    joining_adds_emits();
+    rows_have_the_text_of_their_emits();
 }

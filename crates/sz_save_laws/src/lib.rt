@@ -4,4 +4,4 @@
 
 mod laws;
 
-pub use laws::{joining_adds_emits, joining_forgets_the_order};
+pub use laws::{joining_adds_emits, joining_forgets_the_order, saved_runs_join};

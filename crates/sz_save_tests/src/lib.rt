@@ -6,6 +6,10 @@ mod files;
 #[cfg(test)]
 mod joining;
 #[cfg(test)]
+mod merging;
+#[cfg(test)]
 mod pairs;
 #[cfg(test)]
 mod reading;
+#[cfg(test)]
+mod saving;

@@ -1,5 +1,5 @@
 -- What is known of an input on the way: from piece to piece, and from round to round.
-use Rattle.std.proofs.Common.{◌≡◌, ℕ, zero, suc, ◌+◌, ◌^◌, ◌<◌, ◌≤◌, List, [], ◌∷◌, ◌++◌, length, take, Bool, true, false, Option, Some, None}
+use Rattle.std.proofs.Common.{◌≡◌, ℕ, zero, suc, ◌+◌, ◌-◌, ◌^◌, ◌<◌, ◌≤◌, List, [], ◌∷◌, ◌++◌, length, take, Bool, true, false, Option, Some, None}
 use Rattle.std.proofs.Common.{refl, sym, ap, ◌∙◌, subst, arith, inl, inr, append-nil, length-append, length-take}
 use Rattle.std.proofs.lemmas.Bool.{eqb-true}
 use Rattle.std.proofs.KnownBytes.{Consumes-trans}
@@ -96,6 +96,10 @@ module _ (job : Job) (frame : Frame) (most : ℕ) (total : TotalState) where
       nothing None = tt
       nothing (Some bytes) = refl
 
+  -- records are counted from 1
+  pub first_some : (intake : Intake) (start left : Option (List ℕ)) → Reaches job frame most intake total start left → 1 ≤ intake.first
+  first_some intake start left r = omega (arith, r.running.numbers)
+
   -- the answer after the last round
   module _ (intake : Intake) (start left : Option (List ℕ)) (r : Reaches job frame most intake total start left) (ready : IsReady intake) (e : Ending)
       (is : end_of intake ≡ Some e) where
@@ -111,24 +115,24 @@ module _ (job : Job) (frame : Frame) (most : ℕ) (total : TotalState) where
         let none = none_left (length intake.round.shards) is in
         ap (λ n. if n == 0 then intake.ending else None) (sym none) ∙ is
 
-    pub ends_input : (input : List ℕ) → GoesOn r.read r.over input → RunsInput job most frame input (ended_so total e)
+    pub ends_input : (input : List ℕ) → GoesOn r.read r.over input → RunsInput job most frame input (ended_so total (intake.first - 1) e)
     ends_input =
         ends_run job frame most intake total r.read r.over r.running e ending_is (ready (none_left (length intake.round.shards) is)).1
 
-    pub file_ends : RunsFile job most frame start left (ended_so total e)
+    pub file_ends : RunsFile job most frame start left (ended_so total (intake.first - 1) e)
     file_ends = by e ends_input
       where
-        by : (e : Ending) → ((input : List ℕ) → GoesOn r.read r.over input → RunsInput job most frame input (ended_so total e))
-            → RunsFile job most frame start left (ended_so total e)
+        by : (e : Ending) → ((input : List ℕ) → GoesOn r.read r.over input → RunsInput job most frame input (ended_so total (intake.first - 1) e))
+            → RunsFile job most frame start left (ended_so total (intake.first - 1) e)
         by endings.Whole runs = record { read = r.read; over = r.over; consumed = r.consumed; at_end = r.at_end; runs = runs }
         by (endings.Damaged byte) runs = record { read = r.read; over = r.over; consumed = r.consumed; at_end = r.at_end; runs = runs }
         by (endings.Limit byte) runs = record { read = r.read; over = r.over; consumed = r.consumed; at_end = r.at_end; runs = runs }
 
     -- a whole file was read to its end
-    pub file_is_over : OnOk (ended_so total e) (IsAtEnd left)
+    pub file_is_over : OnOk (ended_so total (intake.first - 1) e) (IsAtEnd left)
     file_is_over = by e ending_is
       where
-        by : (e : Ending) → intake.ending ≡ Some e → OnOk (ended_so total e) (IsAtEnd left)
+        by : (e : Ending) → intake.ending ≡ Some e → OnOk (ended_so total (intake.first - 1) e) (IsAtEnd left)
         by endings.Whole known = r.at_end (whole_is_over frame intake.framer r.read r.over r.running.given intake.ending r.running.fed known)
         by (endings.Damaged byte) known = tt
         by (endings.Limit byte) known = tt

@@ -368,7 +368,7 @@ module _ (job : Job) (frame : Frame) (most : ℕ) (old : Intake) (total : TotalS
 
   -- no record is left
   pub ends_run : (e : Ending) → old.ending ≡ Some e → length old.round.records ≡ 0 → (input : List ℕ) → GoesOn read over input
-      → RunsInput job most frame input (ended_so total e)
+      → RunsInput job most frame input (ended_so total (old.first - 1) e)
   ends_run e known none input on records ending sizes cut are =
       let b = begins frame old.framer read over h.given old.ending h.fed input on records ending cut in
       let nothing_more : b.more ≡ [] = b.ends (ap is_some known) in
@@ -379,7 +379,12 @@ module _ (job : Job) (frame : Frame) (most : ℕ) (old : Intake) (total : TotalS
       ap (λ rs. outcome_of job (cut_into 0 1 rs sizes)) b.same ∙ r.goes_on
       ∙ ap (λ l. rest_of job h.run.emits old.round.passed old.round.first_shard old.first (old.round.records ++ b.more) l) no_sizes
       ∙ ap (λ es. emitted es (old.round.passed + 0)) (append-nil h.run.emits) in
-      by e (b.ending_is e known) outcome
+      let all : length records ≡ length h.given = ap length (b.same ∙ ap (λ rs. h.given ++ rs) nothing_more ∙ append-nil h.given) in
+      let count : h.run.count ≡ length records = omega (arith, all, h.run.begun, h.count, none) in
+      let counted : old.first - 1 ≡ length records = omega (arith, count, h.run.begun) in
+      let few = few_given frame old.framer read over h.given old.ending h.fed in
+      let within : length records ≤ 2 ^ 31 = omega (arith, all, few) in
+      by e (b.ending_is e known) outcome counted within (subst (λ n. length h.run.emits ≤ job.budget * n) count h.run.few)
     where
       no_records : (rs : List (List ℕ)) → length rs ≡ 0 → rs ≡ []
       no_records [] z = refl
@@ -390,7 +395,17 @@ module _ (job : Job) (frame : Frame) (most : ℕ) (old : Intake) (total : TotalS
       without (n ∷ ns) a = absurd (omega (arith, a.0.some, a.0.within))
 
       by : (e : Ending) → ending ≡ e → outcome_of job (cut_into 0 1 records sizes) ≡ emitted h.run.emits (old.round.passed + 0)
-          → EndsInput job.compiled ending (outcome_of job (cut_into 0 1 records sizes)) (ended_so total e)
-      by endings.Whole same outcome = (same, (h.run.emits, old.round.passed + 0, outcome, h.run.stand))
-      by (endings.Damaged byte) same outcome = (same, (h.run.emits, old.round.passed + 0, outcome))
-      by (endings.Limit byte) same outcome = (same, (h.run.emits, old.round.passed + 0, outcome))
+          → old.first - 1 ≡ length records → length records ≤ 2 ^ 31 → length h.run.emits ≤ job.budget * length records
+          → EndsInput job (length records) ending (outcome_of job (cut_into 0 1 records sizes)) (ended_so total (old.first - 1) e)
+      by endings.Whole same outcome counted within few = record {
+        emits = h.run.emits;
+        passed = old.round.passed + 0;
+        whole = same;
+        given = outcome;
+        stand = h.run.stand;
+        counted = counted;
+        within = within;
+        few = few;
+      }
+      by (endings.Damaged byte) same outcome counted within few = (same, (h.run.emits, old.round.passed + 0, outcome))
+      by (endings.Limit byte) same outcome counted within few = (same, (h.run.emits, old.round.passed + 0, outcome))

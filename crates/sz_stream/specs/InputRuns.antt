@@ -16,6 +16,7 @@ use Rattle.sz_attempt.specs.Ends.{StandForEmits}
 use Rattle.sz_rounds.specs.Outcomes.{ShardsEnd, after_front, outcome_from, outcome_of}
 use Rattle.sz_rounds.specs.Cuts.{ranges_of, cut_into}
 use Rattle.sz_stream.specs.declared.intake.Intake.{Intake}
+use Rattle.sz_stream.specs.declared.tables.InputTables.{InputTables}
 use Rattle.sz_stream.specs.declared.stop.Stop.{Stop}
 use Rattle.sz_stream.specs.declared.stop.Stop.TheVariants.{ReadFailed, NoMemory, Damaged, Limit}
 use Rattle.sz_stream.specs.Inputs.{GoesOn, RunsInput}
@@ -125,11 +126,11 @@ abbrev pub StopsRound : Job → Intake → TotalState → Stop → Type 0
 StopsRound job intake total stop = (frame : Frame) (most : ℕ) (read : List ℕ) (over : Bool) → IsRunning job frame most intake total read over
     → (input : List ℕ) → GoesOn read over input → RunsInput job most frame input (Err stop)
 
--- the tables, by how the records end
-abbrev pub ended_so : TotalState → Ending → Result TotalState Stop
-ended_so total endings.Whole = Ok total
-ended_so total (endings.Damaged byte) = Err (Damaged byte)
-ended_so total (endings.Limit byte) = Err (Limit byte)
+-- the tables of so many records, by how the records end
+abbrev pub ended_so : TotalState → ℕ → Ending → Result InputTables Stop
+ended_so total records endings.Whole = Ok (record { total = total; records = records })
+ended_so total records (endings.Damaged byte) = Err (Damaged byte)
+ended_so total records (endings.Limit byte) = Err (Limit byte)
 
 -- why a piece wasn't read
 abbrev pub stop_of : OutsideError → Stop

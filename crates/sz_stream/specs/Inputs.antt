@@ -1,10 +1,8 @@
 -- What running a job over an input gives.
-use Rattle.std.specs.Prelude.{◌≡◌, ℕ, ◌^◌, ⊤, Bool, true, List, [], ◌++◌, Option, Result, Ok, Err}
+use Rattle.std.specs.Prelude.{◌≡◌, ℕ, ◌*◌, ◌^◌, ◌≤◌, ⊤, Bool, true, List, [], ◌++◌, length, Option, Result, Ok, Err}
 use Rattle.std.specs.Io.KnownBytes.{Consumes, IsAtEnd}
 use Rattle.sz_types.specs.declared.frame.Frame.{Frame}
-use Rattle.sz_mean.specs.Marked.{Marked}
 use Rattle.sz_tabs.specs.Data.{EmitDatum}
-use Rattle.sz_total.specs.States.{TotalState}
 use Rattle.sz_machine.specs.Ends.{seen_fault}
 use Rattle.sz_records.specs.declared.ending.Ending.{Ending}
 use Rattle.sz_records.specs.declared.ending.Ending.TheVariants as endings
@@ -15,6 +13,7 @@ use Rattle.sz_attempt.specs.declared.job.Job.{Job}
 use Rattle.sz_attempt.specs.Ends.{StandForEmits}
 use Rattle.sz_rounds.specs.Outcomes.{ShardsEnd, emitted, faulted, lost, outcome_of}
 use Rattle.sz_rounds.specs.Cuts.{cut_into}
+use Rattle.sz_stream.specs.declared.tables.InputTables.{InputTables}
 use Rattle.sz_stream.specs.declared.stop.Stop.{Stop}
 use Rattle.sz_stream.specs.declared.stop.Stop.TheVariants.{Fault, Lost, Damaged, Limit, ReadFailed, NoMemory}
 
@@ -32,26 +31,36 @@ pub record GoesOn (read : List ℕ) (over : Bool) (input : List ℕ) : Type 0 wh
 abbrev pub GivesAll : ShardsEnd → Type 0
 GivesAll outcome = (emits : List EmitDatum) × (passed : ℕ) × (outcome ≡ emitted emits passed)
 
--- The answer is that of records with this ending, of whose shards comes this: the first shard that decides, and then the
--- ending. The tables stand for just the emits
-abbrev pub EndsInput : Marked → Ending → ShardsEnd → Result TotalState Stop → Type 0
-EndsInput program ending outcome (Ok total) =
-    (ending ≡ endings.Whole) × ((emits : List EmitDatum) × (passed : ℕ) × (outcome ≡ emitted emits passed) × StandForEmits program total emits)
-EndsInput program ending outcome (Err (Fault number fault)) = outcome ≡ faulted number (seen_fault fault)
-EndsInput program ending outcome (Err (Lost shard)) = outcome ≡ lost shard
-EndsInput program ending outcome (Err (Damaged byte)) = (ending ≡ endings.Damaged byte) × GivesAll outcome
-EndsInput program ending outcome (Err (Limit byte)) = (ending ≡ endings.Limit byte) × GivesAll outcome
-EndsInput program ending outcome (Err ReadFailed) = ⊤
-EndsInput program ending outcome (Err NoMemory) = ⊤
+-- All shards gave their emits, and the records end with the input. The tables stand for just the emits, and the records are counted: they are no
+-- more than an input may have, and each emits at most as often as it has ticks
+pub record HasAll (job : Job) (count : ℕ) (ending : Ending) (outcome : ShardsEnd) (tables : InputTables) : Type 0 where
+  pub emits : List EmitDatum
+  pub passed : ℕ
+  pub whole : ending ≡ endings.Whole
+  pub given : outcome ≡ emitted emits passed
+  pub stand : StandForEmits job.compiled tables.total emits
+  pub counted : tables.records ≡ count
+  pub within : count ≤ full.records
+  pub few : length emits ≤ job.budget * count
+
+-- The answer is that of so many records with this ending, of whose shards comes this: the first shard that decides, and then the ending
+abbrev pub EndsInput : Job → ℕ → Ending → ShardsEnd → Result InputTables Stop → Type 0
+EndsInput job count ending outcome (Ok tables) = HasAll job count ending outcome tables
+EndsInput job count ending outcome (Err (Fault number fault)) = outcome ≡ faulted number (seen_fault fault)
+EndsInput job count ending outcome (Err (Lost shard)) = outcome ≡ lost shard
+EndsInput job count ending outcome (Err (Damaged byte)) = (ending ≡ endings.Damaged byte) × GivesAll outcome
+EndsInput job count ending outcome (Err (Limit byte)) = (ending ≡ endings.Limit byte) × GivesAll outcome
+EndsInput job count ending outcome (Err ReadFailed) = ⊤
+EndsInput job count ending outcome (Err NoMemory) = ⊤
 
 -- the answer is that of the input's records, and of the shards that they are cut into, each of so many records at most
-abbrev pub RunsInput : Job → ℕ → Frame → List ℕ → Result TotalState Stop → Type 0
+abbrev pub RunsInput : Job → ℕ → Frame → List ℕ → Result InputTables Stop → Type 0
 RunsInput job most frame input answer =
     (records : List (List ℕ)) (ending : Ending) (sizes : List ℕ) → IsCut frame full 0 0 input records ending → AreShards most records sizes
-    → EndsInput job.compiled ending (outcome_of job (cut_into 0 1 records sizes)) answer
+    → EndsInput job (length records) ending (outcome_of job (cut_into 0 1 records sizes)) answer
 
 -- bytes were read, perhaps to their end, and the answer is that of each input which they may begin
-pub record RunsRead (job : Job) (most : ℕ) (frame : Frame) (before after : Option (List ℕ)) (answer : Result TotalState Stop) : Type 0 where
+pub record RunsRead (job : Job) (most : ℕ) (frame : Frame) (before after : Option (List ℕ)) (answer : Result InputTables Stop) : Type 0 where
   pub read : List ℕ
   pub over : Bool
   pub consumed : Consumes before after read
@@ -59,7 +68,7 @@ pub record RunsRead (job : Job) (most : ℕ) (frame : Frame) (before after : Opt
   pub runs : (input : List ℕ) → GoesOn read over input → RunsInput job most frame input answer
 
 -- the same, unless a piece couldn't be read, or memory ran out
-abbrev pub RunsFile : Job → ℕ → Frame → Option (List ℕ) → Option (List ℕ) → Result TotalState Stop → Type 0
+abbrev pub RunsFile : Job → ℕ → Frame → Option (List ℕ) → Option (List ℕ) → Result InputTables Stop → Type 0
 RunsFile job most frame before after (Err ReadFailed) = ⊤
 RunsFile job most frame before after (Err NoMemory) = ⊤
 RunsFile job most frame before after answer = RunsRead job most frame before after answer

@@ -11,6 +11,7 @@ ghost use Rattle.sz_stream.specs.InputRuns.{CanRead, CanRun, Fills, ReadsPiece, 
 
 use crate::intake::Intake;
 use crate::stop::Stop;
+use crate::tables::InputTables;
 use std::alloc::Global;
 use std::thread::Threads;
 use sz_attempt::Job;
@@ -25,8 +26,8 @@ use sz_workers::run_round;
 /// How many bytes are read at most by one call.
 const PIECE_BYTES: usize = 65_536;
 
-/// The tables of all that the records of an opened file emit, by the frame and shards of these settings; or why there
-/// are none.
+/// The tables of all that the records of an opened file emit, by the frame and shards of these settings, and the number of the records; or
+/// why there are none.
 ///
 /// The file is read in pieces. A piece is read only where the ending isn't known and the records at hand don't fill a round. A round that
 /// is full is run, and its records are dropped. The first that has a shard which is lost, or a record too many that faults, ends the run, and
@@ -42,7 +43,7 @@ pub fn run_file<'a, R: Threads + Sync, F: Files, G: Gate + Sync>(
     files: &mut F,
     file: u32,
     gate: &G,
-) -> Result<Total<'a>, Stop>
+) -> Result<InputTables<'a>, Stop>
     requires given { IsTrue (F.given files.old file) }
     requires job { IsJob job.now }
     requires attempts { (1 ≤ job.now.attempts) × (job.now.attempts ≤ 8) }
@@ -60,7 +61,7 @@ pub fn run_file<'a, R: Threads + Sync, F: Files, G: Gate + Sync>(
     loop {
         fill(&mut intake, files, file, &mut buffer)?;
         if let Some(ending) = intake.end() {
-            return ended(total, ending);
+            return ended(total, intake.records_run(), ending);
         }
         run_next(rt, alloc, job, workers, &mut intake, &mut total, gate)?;
     }
@@ -75,7 +76,7 @@ pub fn run_bytes<'a, R: Threads + Sync, G: Gate + Sync>(
     workers: u32,
     bytes: &[u8],
     gate: &G,
-) -> Result<Total<'a>, Stop>
+) -> Result<InputTables<'a>, Stop>
     requires job { IsJob job.now }
     requires attempts { (1 ≤ job.now.attempts) × (job.now.attempts ≤ 8) }
     requires workers { (1 ≤ workers) × (workers ≤ 64) }
@@ -89,7 +90,7 @@ pub fn run_bytes<'a, R: Threads + Sync, G: Gate + Sync>(
     loop {
         let _ = intake.wants_piece()?;
         if let Some(ending) = intake.end() {
-            return ended(total, ending);
+            return ended(total, intake.records_run(), ending);
         }
         run_next(rt, alloc, job, workers, &mut intake, &mut total, gate)?;
     }
@@ -192,12 +193,12 @@ fn merge<'a>(total: &mut Total<'a>, part: Total<'a>) -> Result<(), NoMemory>
     }
 }
 
-/// The tables of an input that ends so, after its last round.
-fn ended<'a>(total: Total<'a>, ending: Ending) -> Result<Total<'a>, Stop>
-    ensures value { result ≡ ended_so total.entry ending }
+/// The tables of an input that ends so, after its last round and so many records.
+fn ended<'a>(total: Total<'a>, records: u64, ending: Ending) -> Result<InputTables<'a>, Stop>
+    ensures value { result ≡ ended_so total.entry records ending }
 {
     match ending {
-        Ending::Whole => Ok(total),
+        Ending::Whole => Ok(InputTables { total, records }),
         Ending::Damaged(byte) => Err(Stop::Damaged(byte)),
         Ending::Limit(byte) => Err(Stop::Limit(byte)),
     }

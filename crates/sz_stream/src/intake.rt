@@ -1,5 +1,5 @@
 //! The records at hand of an input, and the round that is made of them.
-ghost use Rattle.std.specs.Prelude.{◌≡◌, ◌+◌, ◌<◌, ◌≤◌, ◌^◌, None, length, IfOk, OnOk};
+ghost use Rattle.std.specs.Prelude.{◌≡◌, ◌+◌, ◌-◌, ◌<◌, ◌≤◌, ◌^◌, None, length, IfOk, OnOk};
 ghost use Rattle.sz_stream.specs.Intakes.{IsEmpty, TakesIn, KeepsRound, Closes, IsAnswered, moved_on, end_of};
 
 use std::alloc::Global;
@@ -130,6 +130,14 @@ impl Intake {
         } else {
             None
         }
+    }
+
+    /// How many records there were before those at hand.
+    pub(crate) fn records_run(&self) -> u64
+        requires begun { 1 ≤ self.now.first }
+        ensures value { result ≡ self.now.first - 1 }
+    {
+        self.first - 1
     }
 
     /// Drops the shards of the round, which were run, and their records, of which so many were passed over.

@@ -4,6 +4,8 @@
 mod input_run;
 mod intake;
 mod stop;
+mod tables;
 
 pub use input_run::{run_bytes, run_file};
 pub use stop::Stop;
+pub use tables::InputTables;

@@ -1,7 +1,7 @@
 pub mod AnswerLemmas
 pub mod CutLemmas
 pub mod EndLemmas
-pub mod FlagLemmas
+pub mod FileLemmas
 pub mod FoundLemmas
 pub mod ListLemmas
 pub mod MatchLemmas

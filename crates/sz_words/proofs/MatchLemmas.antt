@@ -4,7 +4,7 @@ use Rattle.std.proofs.Common.{get_or, subst, arith}
 use Rattle.std.proofs.lemmas.Bool.Decides.{nat_tests}
 use Rattle.std.proofs.lemmas.List.{at_drop_more}
 use Rattle.std.specs.List.{list_all}
-use Rattle.std.specs.Prelude.{option_map, option_and_then, slice_get, unwrap_or, codes, bytes_eq, nat_le, if◌then◌else◌}
+use Rattle.std.specs.Prelude.{option_map, option_and_then, slice_get, unwrap_or, codes, bytes_eq, nat_le, ◌&&◌, if◌then◌else◌}
 use Rattle.clap.specs.Words.{App, app_of, first_value, found_of, matched_of, new_app, raw_values, with_rule}
 use Rattle.clap.specs.Simple.{on_top, app_of_fields}
 use Rattle.clap.specs.declared.builder.command.Command.{Command}
@@ -13,10 +13,11 @@ use Rattle.clap.specs.declared.parser.matches.ArgMatches.{ArgMatches}
 use Rattle.clap.specs.declared.parser.matches.MatchedArg.{MatchedArg}
 use Rattle.std.specs.Borrow.{Bor}
 use Rattle.sz_words.specs.Asked.{asked_bare, asked_option, with_options}
-use Rattle.sz_words.specs.Parts.{Parts, parts_of, values_of}
+use Rattle.sz_words.specs.Parts.{Parts, option_names, parts_of, values_of}
 use Rattle.sz_words.specs.Matches.{HasParts, names_in, values_in}
-use Rattle.sz_words.specs.Settings.{Values, check_settings, command_settings, plain_settings, run_settings, stand_at_most, run_with, selftest_settings}
+use Rattle.sz_words.specs.Settings.{Values, check_settings, command_settings, plain_settings, run_settings, stand_at_most, run_with, selftest_settings, merge_settings}
 use Rattle.sz_words.specs.declared.settings.Settings.{Settings}
+use Rattle.sz_words.specs.declared.settings.Settings.TheVariants.{Merge}
 
 -- the first value is the first of all
 pub first_is : (m : ArgMatches) (id : List ℕ) → first_value (found_of m) id ≡ slice_get (values_in m id) 0
@@ -67,7 +68,7 @@ module _ (values : List ℕ → List (List ℕ)) (most : ℕ) where
 
 -- no command is asked for without a name
 no_run : (given : Values) → run_settings given [] ≡ None
-no_run given = go (stand_at_most 1 given)
+no_run given = go (stand_at_most 1 given option_names)
   where
     none : Option Settings
     none = None
@@ -76,21 +77,45 @@ no_run given = go (stand_at_most 1 given)
     go true = refl
     go false = refl
 
-pub no_names : (command : List ℕ) (given : Values) → command_settings command given [] ≡ None
-no_names command given =
-    rw (no_run given) (go (bytes_eq command (codes "run")) (bytes_eq command (codes "check")) (bytes_eq command (codes "selftest")))
+no_merge : (given : Values) → merge_settings given [] ≡ None
+no_merge given = go (stand_at_most 0 given option_names)
   where
     none : Option Settings
     none = None
 
-    go : (a b c : Bool) → (if a then none else if b then none else if c then none else none) ≡ None
-    go true b c = refl
-    go false true c = refl
-    go false false true = refl
-    go false false false = refl
+    some : Option Settings
+    some = Some (Merge [] false)
+
+    go : (fit : Bool) → (if fit && false then some else none) ≡ None
+    go true = refl
+    go false = refl
+
+no_names : (command : List ℕ) (given : Values) → command_settings command given [] ≡ None
+no_names command given =
+    rw (no_run given, no_merge given)
+    (go (bytes_eq command (codes "run")) (bytes_eq command (codes "check")) (bytes_eq command (codes "selftest")) (bytes_eq command (codes "merge")))
+  where
+    none : Option Settings
+    none = None
+
+    go : (a b c d : Bool) → (if a then none else if b then none else if c then none else if d then none else none) ≡ None
+    go true b c d = refl
+    go false true c d = refl
+    go false false true d = refl
+    go false false false true = refl
+    go false false false false = refl
+
+-- where there were no names
+pub unnamed : (m : ArgMatches) (got : Option (Bor (List (Bor (List ℕ)))))
+    → option_map (λ s. map (λ v. v.now) s.now) got ≡ option_map raw_values (matched_of (found_of m) (codes "name")) → got ≡ None
+    → (command : List ℕ) → command_settings command (values_in m) (names_in m) ≡ None
+unnamed m got is none command =
+    let no : names_in m ≡ [] = ap (λ o. unwrap_or o []) (sym is ∙ ap (option_map (λ s. map (λ v. v.now) s.now)) none) in
+    subst (λ names. command_settings command (values_in m) names ≡ None) (sym no) (no_names command (values_in m))
 
 -- the same values of each option
 pub record SameValues (given other : Values) : Type 0 where
+  pub proto : given (codes "proto") ≡ other (codes "proto")
   pub frame : given (codes "frame") ≡ other (codes "frame")
   pub workers : given (codes "workers") ≡ other (codes "workers")
   pub shard : given (codes "shard") ≡ other (codes "shard")
@@ -102,12 +127,12 @@ pub record SameValues (given other : Values) : Type 0 where
 
 run_same : (given other : Values) → SameValues given other → (names : List (List ℕ)) → run_settings given names ≡ run_settings other names
 unfolding run_with
-run_same given other e names = rw (e.frame, e.workers, e.shard, e.attempts, e.budget, e.skip, e.kill, e.twice) refl
+run_same given other e names = rw (e.proto, e.frame, e.workers, e.shard, e.attempts, e.budget, e.skip, e.kill, e.twice) refl
 
 check_same : (given other : Values) → SameValues given other → (names : List (List ℕ))
     → check_settings given names ≡ check_settings other names
 check_same given other e [] = refl
-check_same given other e (p ∷ []) = rw (e.frame, e.workers, e.shard, e.attempts, e.budget, e.skip, e.kill, e.twice) refl
+check_same given other e (p ∷ []) = rw (e.proto, e.frame, e.workers, e.shard, e.attempts, e.budget, e.skip, e.kill, e.twice) refl
 check_same given other e (p ∷ i ∷ names) = refl
 
 selftest_same : (given other : Values) → SameValues given other → (names : List (List ℕ))
@@ -115,8 +140,12 @@ selftest_same : (given other : Values) → SameValues given other → (names : L
 selftest_same given other e [] = refl
 selftest_same given other e (s ∷ []) = refl
 selftest_same given other e (s ∷ r ∷ []) = refl
-selftest_same given other e (s ∷ r ∷ w ∷ []) = rw (e.frame, e.workers, e.shard, e.attempts, e.budget, e.skip, e.kill, e.twice) refl
+selftest_same given other e (s ∷ r ∷ w ∷ []) = rw (e.proto, e.frame, e.workers, e.shard, e.attempts, e.budget, e.skip, e.kill, e.twice) refl
 selftest_same given other e (s ∷ r ∷ w ∷ n ∷ names) = refl
+
+merge_same : (given other : Values) → SameValues given other → (names : List (List ℕ))
+    → merge_settings given names ≡ merge_settings other names
+merge_same given other e names = rw (e.proto, e.frame, e.workers, e.shard, e.attempts, e.budget, e.skip, e.kill, e.twice) refl
 
 -- what a command asks for depends on the values of the options alone
 pub settings_same : (command : List ℕ) (m : ArgMatches) (parts : Parts) → HasParts m parts
@@ -125,6 +154,7 @@ settings_same command m parts has =
     let given : Values = values_in m in
     let other : Values = λ name. values_of name parts.options in
     let e : SameValues given other = record {
+      proto = has.options (codes "proto") refl;
       frame = has.options (codes "frame") refl;
       workers = has.options (codes "workers") refl;
       shard = has.options (codes "shard") refl;
@@ -134,7 +164,12 @@ settings_same command m parts has =
       kill = has.options (codes "kill") refl;
       twice = has.options (codes "twice") refl;
     } in
-    rw has.names (rw (run_same given other e parts.names, check_same given other e parts.names, selftest_same given other e parts.names) refl)
+    rw has.names (rw (
+      run_same given other e parts.names,
+      check_same given other e parts.names,
+      selftest_same given other e parts.names,
+      merge_same given other e parts.names,
+    ) refl)
 
 -- what is asked for by words whose parts were found
 pub line_is : (command : List ℕ) (words : List (List ℕ)) (m : ArgMatches)

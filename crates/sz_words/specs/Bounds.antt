@@ -1,9 +1,9 @@
 -- The bounds of what a command line asks for.
-use Rattle.std.specs.Prelude.{ℕ, ◌≤◌, ◌^◌, ⊤}
+use Rattle.std.specs.Prelude.{ℕ, ◌≤◌, ◌^◌, length, ⊤}
 use Rattle.sz_words.specs.declared.reading.Numbers.{Numbers}
 use Rattle.sz_words.specs.declared.settings.RunSettings.{RunSettings}
 use Rattle.sz_words.specs.declared.settings.Settings.{Settings}
-use Rattle.sz_words.specs.declared.settings.Settings.TheVariants.{Run, Selftest}
+use Rattle.sz_words.specs.declared.settings.Settings.TheVariants.{Run, Selftest, Merge}
 
 -- the number is within these bounds
 abbrev pub InRange : ℕ → ℕ → ℕ → Type 0
@@ -26,8 +26,9 @@ pub record NumbersHaveBounds (n : Numbers) : Type 0 where
   pub shard : InRange 1 65536 n.shard
   pub attempts : InRange 1 8 n.attempts
 
--- what is asked for has its bounds: those of a run, and the numbers of records and of workers of a self test
+-- what is asked for has its bounds: those of a run, the numbers of records and of workers of a self test, and that of files to join
 abbrev pub IsBounded : Settings → Type 0
 IsBounded (Run s) = HasBounds s
 IsBounded (Selftest seed records workers) = (records ≤ 1000000) × ((1 ≤ workers) × (workers ≤ 64))
+IsBounded (Merge files save) = InRange 1 64 (length files)
 IsBounded _ = ⊤

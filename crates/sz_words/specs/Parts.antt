@@ -24,12 +24,16 @@ is_equals b = nat_eq b 61
 abbrev pub has_equals : List ℕ → Bool
 has_equals text = list_any is_equals text
 
--- the options of `run`, without their dashes
-abbrev pub option_names : List (List ℕ)
-option_names =
+-- the options with a value that `run` alone takes, without their dashes
+abbrev pub run_names : List (List ℕ)
+run_names =
     codes "frame" ∷ codes "workers" ∷ codes "shard" ∷ codes "attempts" ∷ codes "budget" ∷ codes "skip" ∷ codes "kill" ∷ codes "twice" ∷ []
 
--- whether this is an option of `run`
+-- the options with a value, without their dashes: `check` takes the first of them too
+abbrev pub option_names : List (List ℕ)
+option_names = codes "proto" ∷ run_names
+
+-- whether this is an option with a value
 abbrev pub is_option : List ℕ → Bool
 is_option name = list_any (λ option. bytes_eq option name) option_names
 

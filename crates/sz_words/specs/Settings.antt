@@ -1,26 +1,28 @@
 -- Which words are a command line, and what they ask for.
-use Rattle.std.specs.Prelude.{ℕ, zero, suc, ◌-◌, ◌^◌, List, [], ◌∷◌, length, Bool, true, false, not, ◌&&◌, nat_eq, nat_le, Option, Some, None, bytes_eq, codes, if◌then◌else◌}
-use Rattle.std.specs.Prelude.{option_and_then, option_map, slice_get}
+use Rattle.std.specs.Prelude.{ℕ, ◌-◌, ◌^◌, List, [], ◌∷◌, ◌++◌, length, filter, Bool, true, false, not, ◌&&◌, nat_eq, nat_le, Option, Some, None}
+use Rattle.std.specs.Prelude.{bytes_eq, codes, if◌then◌else◌, option_and_then, option_map, option_to_list, slice_get}
 use Rattle.std.specs.List.{list_all}
 use Rattle.sz_types.specs.declared.frame.Frame.{Frame}
 use Rattle.sz_types.specs.declared.frame.Frame.TheVariants.{Lines, Delimited}
 use Rattle.sz_words.specs.Texts.{number_in}
 use Rattle.sz_words.specs.Lists.{kills_in, shards_in}
-use Rattle.sz_words.specs.Parts.{option_names, values_of, parts_of}
+use Rattle.sz_words.specs.Parts.{run_names, option_names, values_of, parts_of}
 use Rattle.sz_words.specs.Flags.{plain_words, flags_in}
+use Rattle.sz_words.specs.declared.flags.Flag.{Flag}
+use Rattle.sz_words.specs.declared.flags.Flag.TheVariants.{IgnoreUndefs, Save}
 use Rattle.sz_words.specs.declared.reading.Numbers.{Numbers}
 use Rattle.sz_words.specs.declared.settings.RunSettings.{RunSettings}
 use Rattle.sz_words.specs.declared.settings.Kill.{Kill}
 use Rattle.sz_words.specs.declared.settings.Settings.{Settings}
-use Rattle.sz_words.specs.declared.settings.Settings.TheVariants.{Run, Check, Selftest}
+use Rattle.sz_words.specs.declared.settings.Settings.TheVariants.{Run, Check, Selftest, Merge}
 
 -- the values that were given to each option, by its name
 abbrev pub Values : Type 0
 Values = List ℕ → List (List ℕ)
 
--- whether each option was given so many times at the most
-abbrev pub stand_at_most : ℕ → Values → Bool
-stand_at_most most given = list_all (λ name. nat_le (length (given name)) most) option_names
+-- whether each of these options was given so many times at the most
+abbrev pub stand_at_most : ℕ → Values → List (List ℕ) → Bool
+stand_at_most most given names = list_all (λ name. nat_le (length (given name)) most) names
 
 -- the most records of a shard where nothing else is asked for
 abbrev pub default_shard : ℕ
@@ -56,11 +58,17 @@ shards_or_none (Some text) = shards_in text
 abbrev pub is_standard_input : List ℕ → Bool
 is_standard_input name = bytes_eq name (codes "-")
 
--- whether a program and an input can be named so: neither is empty, and standard input is at most one of them
-abbrev pub are_files : List ℕ → List ℕ → Bool
-are_files program input =
-    not (nat_eq (length program) 0) && not (nat_eq (length input) 0)
-    && not (is_standard_input program && is_standard_input input)
+-- whether the name is empty
+abbrev pub is_empty : List ℕ → Bool
+is_empty name = nat_eq (length name) 0
+
+-- whether files can be named so: no name is empty, and standard input is at most so many of them
+abbrev pub are_files : ℕ → List (List ℕ) → Bool
+are_files inputs names = list_all (λ name. not (is_empty name)) names && nat_le (length (filter is_standard_input names)) inputs
+
+-- whether the file of `--proto`, if there is one, and these can be named so: standard input is at most one of all
+abbrev pub all_are_files : Option (List ℕ) → List (List ℕ) → Bool
+all_are_files proto names = are_files 1 (option_to_list proto ++ names)
 
 -- what the options with one number or word ask for, each within its bounds
 abbrev pub numbers_in : Values → Option Numbers
@@ -79,7 +87,7 @@ numbers_in given =
     (number_or 4 1 64 (value_of given (codes "workers"))))
     (frame_in (value_of given (codes "frame")))
 
--- what is asked for by `run` with these options, a program and an input, where the flag doesn't stand
+-- what is asked for by `run` with these options, a program and an input, where no flag stands
 unfoldable pub run_with : Values → List ℕ → List ℕ → Option RunSettings
 run_with given program input =
     option_and_then (λ numbers.
@@ -88,6 +96,7 @@ run_with given program input =
     Some (record {
       program = program;
       input = input;
+      proto = value_of given (codes "proto");
       frame = numbers.frame;
       workers = numbers.workers;
       shard = numbers.shard;
@@ -97,56 +106,84 @@ run_with given program input =
       kills = kills;
       twice = twice;
       ignore_undefs = false;
+      save = false;
     }))
     (shards_or_none (value_of given (codes "twice"))))
     (kills_or_none (value_of given (codes "kill"))))
     (numbers_in given)
 
--- the program and the input that two names are
-abbrev pub files_in : List (List ℕ) → Option (List ℕ × List ℕ)
-files_in (program ∷ input ∷ []) = if are_files program input then Some (program, input) else None
-files_in _ = None
+-- the program and the input that two names are, beside the file of `--proto`
+abbrev pub files_in : Option (List ℕ) → List (List ℕ) → Option (List ℕ × List ℕ)
+files_in proto (program ∷ input ∷ []) = if all_are_files proto (program ∷ input ∷ []) then Some (program, input) else None
+files_in _ _ = None
 
 -- what is asked for by `run PROGRAM INPUT`; no option stands twice
 abbrev pub run_settings : Values → List (List ℕ) → Option Settings
 run_settings given names =
-    if stand_at_most 1 given then option_and_then (λ files. option_map Run (run_with given files.0 files.1)) (files_in names) else None
+    if stand_at_most 1 given option_names
+    then option_and_then (λ files. option_map Run (run_with given files.0 files.1)) (files_in (value_of given (codes "proto")) names)
+    else None
 
--- what is asked for by `check PROGRAM`, which takes no options
+-- whether `--proto` stands once at the most, and no option of `run` alone
+abbrev pub is_proto_alone : Values → Bool
+is_proto_alone given = stand_at_most 0 given run_names && stand_at_most 1 given (codes "proto" ∷ [])
+
+-- what is asked for by `check PROGRAM`, which takes `--proto`
 abbrev pub check_settings : Values → List (List ℕ) → Option Settings
-check_settings given (program ∷ []) = if stand_at_most 0 given && not (nat_eq (length program) 0) then Some (Check program) else None
+check_settings given (program ∷ []) =
+    if is_proto_alone given && all_are_files (value_of given (codes "proto")) (program ∷ [])
+    then Some (Check program (value_of given (codes "proto"))) else None
 check_settings given _ = None
 
 -- what is asked for by `selftest SEED RECORDS WORKERS`, which takes no options
 abbrev pub selftest_settings : Values → List (List ℕ) → Option Settings
 selftest_settings given (seed ∷ records ∷ workers ∷ []) =
-    if stand_at_most 0 given
+    if stand_at_most 0 given option_names
     then option_and_then (λ s. option_and_then (λ r. option_and_then (λ w. Some (Selftest s r w))
     (number_in 1 64 workers)) (number_in 0 1000000 records)) (number_in 0 (2 ^ 63 - 1) seed)
     else None
 selftest_settings given _ = None
+
+-- the most files of `merge`
+abbrev pub most_files : ℕ
+most_files = 64
+
+-- whether so many files can be joined, and can be named so
+abbrev pub can_be_joined : List (List ℕ) → Bool
+can_be_joined names = not (nat_eq (length names) 0) && (nat_le (length names) most_files && are_files 1 names)
+
+-- what is asked for by `merge FILE {FILE}`, which takes no option with a value
+abbrev pub merge_settings : Values → List (List ℕ) → Option Settings
+merge_settings given names = if stand_at_most 0 given option_names && can_be_joined names then Some (Merge names false) else None
 
 -- what is asked for by a command with these options and names after it
 abbrev pub command_settings : List ℕ → Values → List (List ℕ) → Option Settings
 command_settings command given names =
     if bytes_eq command (codes "run") then run_settings given names
     else if bytes_eq command (codes "check") then check_settings given names
-    else if bytes_eq command (codes "selftest") then selftest_settings given names else None
+    else if bytes_eq command (codes "selftest") then selftest_settings given names
+    else if bytes_eq command (codes "merge") then merge_settings given names else None
 
--- what is asked for by a command and the words after it that aren't the flag
+-- what is asked for by a command and the words after it that are no flags
 abbrev pub plain_settings : List ℕ → List (List ℕ) → Option Settings
 plain_settings command words =
     option_and_then (λ parts. command_settings command (λ name. values_of name parts.options) parts.names) (parts_of words)
 
--- the same where the flag stands so many times: `run` takes it, once
-abbrev pub with_flag : ℕ → Settings → Option Settings
-with_flag zero settings = Some settings
-with_flag (suc zero) (Run s) = Some (Run (record s { ignore_undefs = true }))
+-- the same with a flag more, which doesn't stand there yet: `run` takes each of them, and `merge` takes `--save`
+abbrev pub with_flag : Flag → Settings → Option Settings
+with_flag IgnoreUndefs (Run s) = if not s.ignore_undefs then Some (Run (record s { ignore_undefs = true })) else None
+with_flag Save (Run s) = if not s.save then Some (Run (record s { save = true })) else None
+with_flag Save (Merge files save) = if not save then Some (Merge files true) else None
 with_flag _ settings = None
+
+-- the same with these flags
+abbrev pub with_flags : List Flag → Settings → Option Settings
+with_flags [] settings = Some settings
+with_flags (flag ∷ flags) settings = option_and_then (with_flags flags) (with_flag flag settings)
 
 -- what is asked for by a command and the words after it
 abbrev pub line_settings : List ℕ → List (List ℕ) → Option Settings
-line_settings command words = option_and_then (λ settings. with_flag (flags_in words) settings) (plain_settings command (plain_words words))
+line_settings command words = option_and_then (with_flags (flags_in words)) (plain_settings command (plain_words words))
 
 -- what a command line asks for; other words have no settings
 abbrev pub settings_in : List (List ℕ) → Option Settings

@@ -1,21 +1,22 @@
 //! What a command line asks for.
-ghost use Rattle.std.specs.Prelude.{◌≡◌, ◌≤◌, ◌^◌, map, string_bytes, IfOk, IfErr, MatchOption, Some, None};
+ghost use Rattle.std.specs.Prelude.{◌≡◌, ◌≤◌, ◌^◌, map, not, true, string_bytes, IfOk, IfErr, MatchOption, Some, None};
 ghost use Rattle.std.specs.Prelude.{option_map, IfSome, if◌then◌else◌};
 ghost use Rattle.sz_words.specs.Matches.{names_in, values_in};
-ghost use Rattle.sz_words.specs.Settings.{settings_in, frame_in, number_or, kills_or_none, shards_or_none, are_files};
-ghost use Rattle.sz_words.specs.Settings.{value_of};
-ghost use Rattle.sz_words.specs.Settings.{numbers_in, files_in, run_with, run_settings, check_settings};
-ghost use Rattle.sz_words.specs.Settings.{selftest_settings, command_settings, plain_settings, with_flag, line_settings};
+ghost use Rattle.sz_words.specs.Settings.{settings_in, frame_in, number_or, kills_or_none, shards_or_none};
+ghost use Rattle.sz_words.specs.Settings.{value_of, is_proto_alone};
+ghost use Rattle.sz_words.specs.Settings.{numbers_in, run_with, run_settings, check_settings, selftest_settings};
+ghost use Rattle.sz_words.specs.Settings.{merge_settings, command_settings, plain_settings, with_flag, with_flags, line_settings};
 ghost use Rattle.sz_words.specs.Bounds.{HasBounds, InRange, IsBounded, NumbersHaveBounds};
 ghost use Rattle.sz_words.specs.declared.error.WordsError.TheVariants.{Usage};
 ghost use Rattle.sz_words.specs.declared.settings.Settings.TheVariants.{Run};
 
 use crate::error::WordsError;
-use crate::flags::plain_words;
+use crate::files::{all_are_files, can_be_joined, files_in, text_of, texts_of};
+use crate::flags::{Flag, flags_apart};
 use crate::lists::{kills_in, shards_in};
 use crate::numbers::{number_in, small_number_in};
 use crate::settings::{DEFAULT_SHARD, Kills, RunSettings, Settings, Twice};
-use crate::words::{matches_of, stand_at_most, value_of};
+use crate::words::{OPTIONS, RUN_OPTIONS, matches_of, stand_at_most, value_of};
 use clap::ArgMatches;
 use std::alloc::Global;
 use sz_list::Items;
@@ -41,43 +42,49 @@ fn line_settings(alloc: Global, command: &str, words: &[String]) -> Result<Setti
     ensures usage { IfErr result (λ e. e ≡ Usage → line_settings command.now (map string_bytes words.now) ≡ None) }
     ensures bounds { IfOk result IsBounded }
 {
-    let plain = plain_words(alloc, words)?;
-    let mut settings = plain_settings(alloc, command, &plain)?;
-    if take_flags(&mut settings, words.len() - plain.len()) {
-        Ok(settings)
-    } else {
-        Err(WordsError::Usage)
-    }
+    let apart = flags_apart(alloc, words)?;
+    let settings = plain_settings(alloc, command, &apart.plain)?;
+    with_flags(settings, &apart.flags).ok_or(WordsError::Usage)
 }
 
-// Whether the settings take the flag so many times. A run takes it once, and ignores undefined values then.
-fn take_flags(settings: &mut Settings, flags: usize) -> bool
-    ensures value { with_flag flags settings.old ≡ (if result then Some settings.new else None) }
+// The settings with these flags, if they take them.
+fn with_flags(settings: Settings, flags: &[Flag]) -> Option<Settings>
+    ensures value { result ≡ with_flags flags.now settings }
+    ensures bounds { IsBounded settings → IfSome result IsBounded }
+{
+    let mut settings = settings;
+    for flag in flags {
+        if !take_flag(&mut settings, *flag) {
+            return None;
+        }
+    }
+    Some(settings)
+}
+
+// Whether the settings take this flag, which stands there then.
+fn take_flag(settings: &mut Settings, flag: Flag) -> bool
+    ensures value { with_flag flag settings.old ≡ (if result then Some settings.new else None) }
     ensures bounds { IsBounded settings.old → IsBounded settings.new }
 {
-    match flags {
-        0 => true,
-        1 => take_flag(settings),
+    match (flag, settings) {
+        (Flag::IgnoreUndefs, Settings::Run(run)) => raise(&mut run.ignore_undefs),
+        (Flag::Save, Settings::Run(run)) => raise(&mut run.save),
+        (Flag::Save, Settings::Merge { save, .. }) => raise(save),
         _ => false,
     }
 }
 
-// The same of one flag.
-fn take_flag(settings: &mut Settings) -> bool
-    ensures value { with_flag 1 settings.old ≡ (if result then Some settings.new else None) }
-    ensures bounds { IsBounded settings.old → IsBounded settings.new }
+// Raises a mark, and tells whether it was down.
+fn raise(mark: &mut bool) -> bool
+    ensures value { result ≡ not mark.old }
+    ensures raised { mark.new ≡ true }
 {
-    match settings {
-        Settings::Run(run) => {
-            run.ignore_undefs = true;
-            true
-        }
-        Settings::Check(_) => false,
-        Settings::Selftest { .. } => false,
-    }
+    let was = *mark;
+    *mark = true;
+    !was
 }
 
-// What is asked for by a command and the words after it that aren't the flag.
+// What is asked for by a command and the words after it that are no flags.
 fn plain_settings(alloc: Global, command: &str, words: &[String]) -> Result<Settings, WordsError>
     ensures value { IfOk result (λ s. plain_settings command.now (map string_bytes words.now) ≡ Some s) }
     ensures usage { IfErr result (λ e. e ≡ Usage → plain_settings command.now (map string_bytes words.now) ≡ None) }
@@ -88,7 +95,6 @@ fn plain_settings(alloc: Global, command: &str, words: &[String]) -> Result<Sett
 }
 
 // What is asked for by a command with these options and names after it.
-#[tactic(auto, using(crate::proofs::MatchLemmas::no_names))]
 fn command_settings(
     alloc: Global,
     command: &str,
@@ -107,6 +113,7 @@ fn command_settings(
         "run" => run_settings(alloc, matches, names),
         "check" => check_settings(alloc, matches, names),
         "selftest" => selftest_settings(matches, names).ok_or(WordsError::Usage),
+        "merge" => merge_settings(alloc, matches, names),
         _ => Err(WordsError::Usage),
     }
 }
@@ -117,24 +124,14 @@ fn run_settings(alloc: Global, options: &ArgMatches, names: &[&str]) -> Result<S
     ensures usage { IfErr result (λ e. e ≡ Usage → run_settings (values_in options.now) (map (λ n. n.now) names.now) ≡ None) }
     ensures bounds { IfOk result IsBounded }
 {
-    let Some((program, input)) = files_in(names) else {
+    let Some((program, input)) = files_in(value_of(options, "proto"), names) else {
         return Err(WordsError::Usage);
     };
-    if !stand_at_most(options, 1) {
+    if !stand_at_most(options, 1, &OPTIONS) {
         return Err(WordsError::Usage);
     }
     let settings = run_with(alloc, options, program, input)?;
     Ok(Settings::Run(settings))
-}
-
-// The program and the input that two names are.
-fn files_in<'n>(names: &[&'n str]) -> Option<(&'n str, &'n str)>
-    ensures value { option_map (λ f. (f.0.now, f.1.now)) result ≡ files_in (map (λ n. n.now) names.now) }
-{
-    match names {
-        [program, input] if are_files(program, input) => Some((*program, *input)),
-        _ => None,
-    }
 }
 
 // What is asked for by `run` with these options, a program and an input.
@@ -157,6 +154,7 @@ fn run_with(
     Ok(RunSettings {
         program: Text::from_str(alloc, program)?,
         input: Text::from_str(alloc, input)?,
+        proto: text_of(alloc, value_of(options, "proto"))?,
         frame: numbers.frame,
         workers: numbers.workers,
         shard: numbers.shard,
@@ -166,6 +164,7 @@ fn run_with(
         kills,
         twice,
         ignore_undefs: false,
+        save: false,
     })
 }
 
@@ -259,14 +258,7 @@ fn shards_or_none(alloc: Global, value: Option<&str>) -> Result<Twice, WordsErro
     }
 }
 
-// Whether a program and an input can be named so.
-fn are_files(program: &str, input: &str) -> bool
-    ensures value { result ≡ are_files program.now input.now }
-{
-    !program.is_empty() && !input.is_empty() && !(program == "-" && input == "-")
-}
-
-// What is asked for by `check PROGRAM`, which takes no options.
+// What is asked for by `check PROGRAM`, which takes `--proto`.
 fn check_settings(
     alloc: Global,
     options: &ArgMatches,
@@ -276,12 +268,23 @@ fn check_settings(
     ensures usage { IfErr result (λ e. e ≡ Usage → check_settings (values_in options.now) (map (λ n. n.now) names.now) ≡ None) }
     ensures bounds { IfOk result IsBounded }
 {
+    let proto = value_of(options, "proto");
     match names {
-        [program] if stand_at_most(options, 0) && !program.is_empty() => Ok(Settings::Check(
-            Text::from_str(alloc, program)?,
-        )),
+        [program] if is_proto_alone(options) && all_are_files(proto, names) => {
+            Ok(Settings::Check {
+                program: Text::from_str(alloc, program)?,
+                proto: text_of(alloc, proto)?,
+            })
+        }
         _ => Err(WordsError::Usage),
     }
+}
+
+// Whether `--proto` stands once at the most, and no option of `run` alone.
+fn is_proto_alone(options: &ArgMatches) -> bool
+    ensures value { result ≡ is_proto_alone (values_in options.now) }
+{
+    stand_at_most(options, 0, &RUN_OPTIONS) && stand_at_most(options, 1, &["proto"])
 }
 
 // What is asked for by `selftest SEED RECORDS WORKERS`, which takes no options.
@@ -290,7 +293,7 @@ fn selftest_settings(options: &ArgMatches, names: &[&str]) -> Option<Settings>
     ensures bounds { IfSome result IsBounded }
 {
     match names {
-        [seed, records, workers] if stand_at_most(options, 0) => {
+        [seed, records, workers] if stand_at_most(options, 0, &OPTIONS) => {
             let seed = number_in(seed.as_bytes(), 0, i64::MAX as u64)?;
             let records = small_number_in(records.as_bytes(), 0, 1_000_000)?;
             let workers = small_number_in(workers.as_bytes(), 1, 64)?;
@@ -302,4 +305,23 @@ fn selftest_settings(options: &ArgMatches, names: &[&str]) -> Option<Settings>
         }
         _ => None,
     }
+}
+
+// What is asked for by `merge FILE {FILE}`, which takes no option with a value.
+fn merge_settings(
+    alloc: Global,
+    options: &ArgMatches,
+    names: &[&str],
+) -> Result<Settings, WordsError>
+    ensures value { IfOk result (λ s. merge_settings (values_in options.now) (map (λ n. n.now) names.now) ≡ Some s) }
+    ensures usage { IfErr result (λ e. e ≡ Usage → merge_settings (values_in options.now) (map (λ n. n.now) names.now) ≡ None) }
+    ensures bounds { IfOk result IsBounded }
+{
+    if !stand_at_most(options, 0, &OPTIONS) || !can_be_joined(names) {
+        return Err(WordsError::Usage);
+    }
+    Ok(Settings::Merge {
+        files: texts_of(alloc, names)?,
+        save: false,
+    })
 }

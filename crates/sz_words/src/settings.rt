@@ -23,6 +23,11 @@ pub type Kills = Items<Kill>;
 /// Contracts see a list.
 pub type Twice = Items<u32>;
 
+/// Names of files, in the order of the words.
+///
+/// Contracts see a list.
+pub type Texts = Items<Text>;
+
 /// The most records of a shard where nothing else is asked for.
 pub const DEFAULT_SHARD: u32 = 1_000;
 
@@ -32,6 +37,8 @@ pub struct RunSettings {
     pub program: Text,
     /// The name of the input's file, or `-` for standard input.
     pub input: Text,
+    /// The name of the `.proto` file whose types the program has, or `-` for standard input, if it has one.
+    pub proto: Option<Text>,
     /// How the records of the input are told apart.
     pub frame: Frame,
     /// The number of threads that work: 1 to 64.
@@ -50,6 +57,8 @@ pub struct RunSettings {
     pub twice: Twice,
     /// Whether a statement that uses an undefined value is passed over and counted.
     pub ignore_undefs: bool,
+    /// Whether the tables are saved and not printed.
+    pub save: bool,
 }
 
 impl Drop for RunSettings {
@@ -57,6 +66,7 @@ impl Drop for RunSettings {
         let RunSettings {
             program: _,
             input: _,
+            proto: _,
             frame: _,
             workers: _,
             shard: _,
@@ -66,6 +76,7 @@ impl Drop for RunSettings {
             kills: _,
             twice: _,
             ignore_undefs: _,
+            save: _,
         } = self;
     }
 }
@@ -74,8 +85,13 @@ impl Drop for RunSettings {
 pub enum Settings {
     /// To run a program over an input.
     Run(RunSettings),
-    /// To check the program of this name, or of standard input where it is `-`.
-    Check(Text),
+    /// To check a program.
+    Check {
+        /// The name of the program's file, or `-` for standard input.
+        program: Text,
+        /// The name of the `.proto` file whose types the program has, or `-` for standard input, if it has one.
+        proto: Option<Text>,
+    },
     /// To run the program of the self test over a generated input.
     Selftest {
         /// What the input is generated from: at most 2^63 - 1.
@@ -85,18 +101,29 @@ pub enum Settings {
         /// The number of threads that work: 1 to 64.
         workers: u32,
     },
+    /// To join saved tables.
+    Merge {
+        /// The names of 1 to 64 files of saved tables, of which one at the most is `-` for standard input.
+        files: Texts,
+        /// Whether the joined tables are saved and not printed.
+        save: bool,
+    },
 }
 
 impl Drop for Settings {
     fn drop(self) {
         match self {
             Settings::Run(_)
-            | Settings::Check(_)
+            | Settings::Check {
+                program: _,
+                proto: _,
+            }
             | Settings::Selftest {
                 seed: _,
                 records: _,
                 workers: _,
-            } => {}
+            }
+            | Settings::Merge { files: _, save: _ } => {}
         }
     }
 }

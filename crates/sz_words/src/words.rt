@@ -16,9 +16,14 @@ use clap::error::ErrorKind;
 use clap::{Arg, ArgAction, ArgMatches, Command, Error};
 use std::alloc::{AllocError, Global};
 
-/// The options of `run`, without their dashes.
-const OPTIONS: [&str; 8] = [
+/// The options with a value that `run` alone takes, without their dashes.
+pub const RUN_OPTIONS: [&str; 8] = [
     "frame", "workers", "shard", "attempts", "budget", "skip", "kill", "twice",
+];
+
+/// The options with a value, without their dashes.
+pub const OPTIONS: [&str; 9] = [
+    "proto", "frame", "workers", "shard", "attempts", "budget", "skip", "kill", "twice",
 ];
 
 /// The words after a command as options and names. `clap` reads them once their dashes fit, since it would read more.
@@ -46,7 +51,7 @@ fn cause_of(error: &Error) -> WordsError
     }
 }
 
-// One command with the options of `run` and any number of names. It takes an option as often as it stands, so that one
+// One command with the options that have a value and any number of names. It takes an option as often as it stands, so that one
 // that stands twice is seen here.
 fn asked<'a>(alloc: Global) -> Result<Command<'a>, AllocError>
     ensures value { IfOk result (λ c. app_of c ≡ asked_app) }
@@ -61,7 +66,7 @@ fn asked<'a>(alloc: Global) -> Result<Command<'a>, AllocError>
     command.arg(names(alloc))
 }
 
-// An option of `run`, with a value each time that it stands.
+// An option, with a value each time that it stands.
 fn option<'a>(alloc: Global, name: &'a str) -> Arg<'a>
     ensures value { rule_of result ≡ asked_option name.now }
     ensures global { result.global ≡ false }
@@ -145,11 +150,11 @@ fn count(matches: &ArgMatches, name: &str) -> usize
     }
 }
 
-/// Whether each option was given so many times at the most.
-pub fn stand_at_most(matches: &ArgMatches, most: usize) -> bool
-    ensures value { result ≡ stand_at_most most (values_in matches.now) }
+/// Whether each of these options was given so many times at the most.
+pub fn stand_at_most(matches: &ArgMatches, most: usize, names: &[&str]) -> bool
+    ensures value { result ≡ stand_at_most most (values_in matches.now) (map (λ n. n.now) names.now) }
 {
-    for name in OPTIONS {
+    for name in names {
         if count(matches, name) > most {
             return false;
         }

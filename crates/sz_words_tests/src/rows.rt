@@ -2,7 +2,8 @@
 
 /// A row is words, ` => `, and what they ask for; `~` stands for an empty word. A run is told as its program, input, frame,
 /// workers, shard, attempts and budget, then its kills and its doubled shards, how many records that fault it
-/// passes over where that is more than none, and whether it ignores undefined values.
+/// passes over where that is more than none, whether it ignores undefined values, the file of its types where it has one, and
+/// whether it saves its tables.
 pub const ROWS: &str = "\
 == commands
  => usage
@@ -32,7 +33,8 @@ run p f -V => usage
 run help => usage
 -- run p f => usage
 --frame lines run p f => usage
-merge a b => usage
+merges a b => usage
+Merge a b => usage
 resume p f => usage
 p f => usage
 == names of run
@@ -134,8 +136,6 @@ run p f --twice => usage
 run p f --twice= => usage
 run p f --workers 2 --workers 3 => usage
 run --workers=2 p f --workers=3 => usage
-run p f --save => usage
-run p f --proto q => usage
 run p f --journal j => usage
 run p f --workers 2 --shard 3 --attempts 4 --budget 5 --frame delimited --kill 6.1.7 --twice 8 => run p f delimited 2 3 4 5 [6.1.7] [8]
 run --twice=8 --kill=6.1.7 p --frame=delimited --budget=5 f --attempts=4 --shard=3 --workers=2 => run p f delimited 2 3 4 5 [6.1.7] [8]

@@ -1,14 +1,20 @@
 //! Command lines as rows of one text.
-use crate::rows;
+use crate::{file_rows, rows};
 use std::alloc::{AllocError, Global};
 use std::fmt::Write;
+use std::process::Abort;
 use std::test::Fail;
-use sz_types::Frame;
-use sz_words::{RunSettings, Settings, WordsError, read_words};
+use sz_types::{Frame, Text};
+use sz_words::{RunSettings, Settings, Texts, WordsError, read_words};
 
 /// The rows, which a call gives, so that no proof sees them.
-fn all_rows() -> &'static str {
+fn most_rows() -> &'static str {
     rows::ROWS
+}
+
+/// The same of those with saved tables and files of types.
+fn file_rows() -> &'static str {
+    file_rows::FILE_ROWS
 }
 
 /// The words of a line, in which `~` stands for an empty word.
@@ -33,14 +39,46 @@ fn told(alloc: Global, words: &[String]) -> Result<String, Fail> {
 /// The same of settings.
 fn told_settings(alloc: Global, settings: &Settings) -> Result<String, Fail> {
     match settings {
-        Settings::Check(program) => Ok(format!(in alloc; "check {}", program.as_str())?),
+        Settings::Check { program, proto } => {
+            let mut told = format!(in alloc; "check {}", program.as_str())?;
+            add_types(&mut told, proto)?;
+            Ok(told)
+        }
         Settings::Selftest {
             seed,
             records,
             workers,
         } => Ok(format!(in alloc; "selftest {seed} {records} {workers}")?),
         Settings::Run(run) => told_run(alloc, run),
+        Settings::Merge { files, save } => told_merge(alloc, files, *save),
     }
+}
+
+/// The file of types, where there is one.
+fn add_types(told: &mut String, proto: &Option<Text>) -> Result<(), AllocError> {
+    match proto {
+        None => Ok(()),
+        Some(file) => Ok(write!(told, " types {}", file.as_str())?),
+    }
+}
+
+/// Whether tables are saved.
+fn add_save(told: &mut String, save: bool) -> Result<(), AllocError> {
+    if save {
+        told.push_str(" saving")
+    } else {
+        Ok(())
+    }
+}
+
+/// What a merge is asked for, as a row says it.
+fn told_merge(alloc: Global, files: &Texts, save: bool) -> Result<String, Fail> {
+    let mut told = String::from_str(alloc, "merge")?;
+    for file in files.as_slice() {
+        write!(told, " {}", file.as_str())?;
+    }
+    add_save(&mut told, save)?;
+    Ok(told)
 }
 
 /// The name of a frame.
@@ -77,6 +115,8 @@ fn told_run(alloc: Global, run: &RunSettings) -> Result<String, Fail> {
     if run.ignore_undefs {
         told.push_str(" ignoring")?;
     }
+    add_types(&mut told, &run.proto)?;
+    add_save(&mut told, run.save)?;
     Ok(told)
 }
 
@@ -87,14 +127,24 @@ fn holds(alloc: Global, row: &str) -> Result<bool, Fail> {
     Ok(told(alloc, &words)?.as_str() == wanted)
 }
 
-#[test]
-fn each_command_line_asks_for_what_its_row_says(rt: HostRuntime) -> Result<(), Fail> {
-    for line in all_rows().lines() {
+/// Asks for each row's words.
+fn try_rows(rt: &impl Abort, alloc: Global, rows: &str) -> Result<(), Fail> {
+    for line in rows.lines() {
         if !line.starts_with("== ") {
-            assert!(&rt; holds(rt.alloc(), line)?, "at {line}");
+            assert!(rt; holds(alloc, line)?, "at {line}");
         }
     }
     Ok(())
+}
+
+#[test]
+fn each_command_line_asks_for_what_its_row_says(rt: HostRuntime) -> Result<(), Fail> {
+    try_rows(&rt, rt.alloc(), most_rows())
+}
+
+#[test]
+fn saved_tables_and_files_of_types_are_asked_for(rt: HostRuntime) -> Result<(), Fail> {
+    try_rows(&rt, rt.alloc(), file_rows())
 }
 
 /// `run p f --twice` with the shards below a number.
@@ -114,5 +164,25 @@ fn a_list_has_up_to_10000_entries(rt: HostRuntime) -> Result<(), Fail> {
     assert!(&rt; matches!(read_words(rt.alloc(), &most), Ok(Settings::Run(..))));
     let more = twice_below(rt.alloc(), 10_001)?;
     assert!(&rt; matches!(read_words(rt.alloc(), &more), Err(WordsError::Usage)));
+    Ok(())
+}
+
+/// `merge` with so many files, in one line.
+fn merge_of(alloc: Global, count: u32) -> Result<String, AllocError> {
+    let mut line = String::from_str(alloc, "merge")?;
+    for number in 0..count {
+        write!(line, " f{number}")?;
+    }
+    Ok(line)
+}
+
+#[test]
+fn up_to_64_files_are_joined(rt: HostRuntime) -> Result<(), Fail> {
+    let most = merge_of(rt.alloc(), 64)?;
+    let words = words_of(rt.alloc(), &most)?;
+    assert!(&rt; told(rt.alloc(), &words)?.as_str() == most.as_str());
+    let more = merge_of(rt.alloc(), 65)?;
+    let words = words_of(rt.alloc(), &more)?;
+    assert!(&rt; told(rt.alloc(), &words)?.as_str() == "usage");
     Ok(())
 }

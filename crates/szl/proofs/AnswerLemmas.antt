@@ -4,12 +4,13 @@ use Rattle.std.proofs.Common.{refl, sym, ap, ◌∙◌, subst, arith}
 use Rattle.std.specs.Prelude.{unwrap_or, Result, Ok, Err, slice_get, filter, nat_le, ◌&&◌, if◌then◌else◌}
 use Rattle.std.proofs.lemmas.List.Elements.{filter_agree}
 use Rattle.sz_types.specs.declared.frame.Frame.{Frame}
+use Rattle.sz_protofile_rules.specs.Types.{TypeShape}
 use Rattle.sz_io.specs.Rose.{Rose}
 use Rattle.sz_io.specs.declared.files.Files as files
 use Rattle.sz_tree.specs.Statements.{Stms}
 use Rattle.sz_core.specs.Programs.{Core}
 use Rattle.sz_mean.specs.Marked.{Marked}
-use Rattle.szl.specs.Reserved.{runnable}
+use Rattle.szl.specs.Savable.{savable}
 use Rattle.sz_world_rules.specs.World.{Fault, Outcome, Done, Faulted}
 use Rattle.sz_world_rules.specs.Slots.{Slot}
 use Rattle.sz_mean.specs.Programs.{mean, statics}
@@ -33,7 +34,8 @@ use Rattle.szl.specs.declared.status.Status.TheVariants as status
 use Rattle.szl.specs.declared.failure.Failure.{Failure}
 use Rattle.szl.specs.declared.failure.Failure.TheVariants as failure
 use Rattle.szl.specs.Opening.{status_of_answer, Decides, AnswersOn, AnswersText, AnswersCheck}
-use Rattle.szl.specs.Outcome.{Answer, success, outcome_faulted, outcome_of_shards, outcome_of_statics, outcome_of_program}
+use Rattle.szl.specs.Answers.{Answer, success}
+use Rattle.szl.specs.Outcome.{written, outcome_faulted, outcome_of_shards, outcome_of_statics, outcome_of_program}
 use Rattle.szl.specs.Outcome.{outcome_of_checked_run, outcome_of_checked}
 use Rattle.szl.specs.Checking.{checked}
 use Rattle.szl.specs.Judgement.{IsShort, HasStatements, refused, spells}
@@ -46,6 +48,7 @@ use Rattle.szl.specs.ProgramRuns.{GivesStatics, GivesFile, IsJobOf}
 use Rattle.szl.proofs.JudgementLemmas.{every_text_is_read}
 use Rattle.szl.proofs.OpeningLemmas.{holds_or}
 use Rattle.szl.proofs.OpenedLemmas.{opened_none}
+use Rattle.szl.proofs.SaysLemmas.{says}
 
 -- how an input is cut
 pub record HasRecords (frame : Frame) (input : List ℕ) : Type 0 where
@@ -147,21 +150,21 @@ module _ (job : Job) (twice : List ℕ) where
       step b y end = if b then lost s.number else then_shards y (slice_get y.faults (job.skip - passed)) end
 
 -- the outcome of shards opens two files, and is no bad command line
-opens_two : (program : Marked) (ending : Ending) (o : ShardsEnd) → ((k : ℕ) (f : Fault) → o ≡ faulted k f → 1 ≤ k)
-    → (outcome_of_shards program ending o).opens ≡ 2
-opens_two program Whole (emitted es n) numbered = refl
-opens_two program (Damaged byte) (emitted es n) numbered = refl
-opens_two program (Limit byte) (emitted es n) numbered = refl
-opens_two program ending (faulted zero f) numbered = let le = numbered 0 f refl in absurd (omega (arith, le))
-opens_two program ending (faulted (suc k) f) numbered = refl
-opens_two program ending (lost n) numbered = refl
+opens_two : (write : List EmitDatum → List ℕ) (ending : Ending) (o : ShardsEnd) → ((k : ℕ) (f : Fault) → o ≡ faulted k f → 1 ≤ k)
+    → (outcome_of_shards write ending o).opens ≡ 2
+opens_two write Whole (emitted es n) numbered = refl
+opens_two write (Damaged byte) (emitted es n) numbered = refl
+opens_two write (Limit byte) (emitted es n) numbered = refl
+opens_two write ending (faulted zero f) numbered = let le = numbered 0 f refl in absurd (omega (arith, le))
+opens_two write ending (faulted (suc k) f) numbered = refl
+opens_two write ending (lost n) numbered = refl
 
-pub no_usage : (program : Marked) (ending : Ending) (o : ShardsEnd) → (outcome_of_shards program ending o).status ≢ status.Usage
-no_usage program Whole (emitted es n) = λ e. cc
-no_usage program (Damaged byte) (emitted es n) = λ e. cc
-no_usage program (Limit byte) (emitted es n) = λ e. cc
-no_usage program ending (faulted k f) = λ e. cc
-no_usage program ending (lost n) = λ e. cc
+pub no_usage : (write : List EmitDatum → List ℕ) (ending : Ending) (o : ShardsEnd) → (outcome_of_shards write ending o).status ≢ status.Usage
+no_usage write Whole (emitted es n) = λ e. cc
+no_usage write (Damaged byte) (emitted es n) = λ e. cc
+no_usage write (Limit byte) (emitted es n) = λ e. cc
+no_usage write ending (faulted k f) = λ e. cc
+no_usage write ending (lost n) = λ e. cc
 
 -- what was compiled makes a job, with its statics, within the bounds of settings
 pub is_job : (program : Marked) (slots : List Slot) (s : RunSettings) (job : Job) → IsJobOf program slots s job → IsSound program.core
@@ -182,6 +185,10 @@ decides_still (Err (failure.Faulted n f)) outcome rose h = h
 decides_still (Err (failure.Lost n)) outcome rose h = h
 decides_still (Err (failure.Damaged b)) outcome rose h = h
 decides_still (Err (failure.Limit b)) outcome rose h = h
+decides_still (Err (failure.BadTables n)) outcome rose h = h
+decides_still (Err (failure.OtherTables n)) outcome rose h = h
+decides_still (Err (failure.TablesLimit n)) outcome rose h = h
+decides_still (Err (failure.BadProtoFile n)) outcome rose h = h
 
 -- and no read failed
 pub not_read : (answer : Result (List ℕ) Failure) (outcome : Answer) → Decides answer outcome ⊥ → status_of_answer answer ≢ status.ReadFailed
@@ -195,6 +202,10 @@ not_read (Err (failure.Faulted n f)) outcome h = λ e. cc
 not_read (Err (failure.Lost n)) outcome h = λ e. cc
 not_read (Err (failure.Damaged b)) outcome h = λ e. cc
 not_read (Err (failure.Limit b)) outcome h = λ e. cc
+not_read (Err (failure.BadTables n)) outcome h = λ e. cc
+not_read (Err (failure.OtherTables n)) outcome h = λ e. cc
+not_read (Err (failure.TablesLimit n)) outcome h = λ e. cc
+not_read (Err (failure.BadProtoFile n)) outcome h = λ e. cc
 
 module _ {F : Type 0} (the_files : files.Ghosts F) (frame : Frame) (name : List ℕ) (old : F) where
   -- a failure before the input is opened
@@ -225,13 +236,17 @@ module _ {F : Type 0} (the_files : files.Ghosts F) (frame : Frame) (name : List 
   static_fails program s (failure.Faulted n f) h =
       answers_unopened _ (failure.Faulted n f) (λ e. cc)
       (λ cut read memory. ap (λ (o : Answer). o.opens) (ap (outcome_of_statics program s cut) h.1))
-      (λ cut. ap (outcome_of_statics program s cut) h.1 ∙ ap (λ k. outcome_faulted k (seen_fault f)) (sym h.0))
+      (λ cut. says (ap (outcome_of_statics program s cut) h.1 ∙ ap (λ k. outcome_faulted k (seen_fault f)) (sym h.0)))
   static_fails program s failure.NoMemory h = no_code _
   static_fails program s failure.Usage h = absurd h
   static_fails program s (failure.Refused r) h = absurd h
   static_fails program s (failure.Lost n) h = absurd h
   static_fails program s (failure.Damaged b) h = absurd h
   static_fails program s (failure.Limit b) h = absurd h
+  static_fails program s (failure.BadTables n) h = absurd h
+  static_fails program s (failure.OtherTables n) h = absurd h
+  static_fails program s (failure.TablesLimit n) h = absurd h
+  static_fails program s (failure.BadProtoFile n) h = absurd h
   static_fails program s failure.ReadFailed h = absurd h
   static_fails program s failure.WriteFailed h = absurd h
 
@@ -240,21 +255,27 @@ module _ (program : Marked) (s : RunSettings) (slots : List Slot) (begun : stati
   abbrev of_cut : Cut → ShardsEnd
   of_cut cut = outcome_of (job_of program slots s) (shards_in s.shard cut.records)
 
-  on_shards : (cut : Cut) → outcome_of_program program s cut ≡ outcome_of_shards program cut.ending (of_cut cut)
+  -- what is written of the emits
+  abbrev write_of : Cut → List EmitDatum → List ℕ
+  write_of cut = written program s.save (length cut.records) s.budget
+
+  on_shards : (cut : Cut) → outcome_of_program program s cut ≡ outcome_of_shards (write_of cut) cut.ending (of_cut cut)
   on_shards cut = ap (outcome_of_statics program s cut) begun
 
   pub one_left : (cut : Cut) → 1 ≡ (outcome_of_program program s cut).opens - 1
   one_left cut =
       let two = ap (λ (a : Answer). a.opens) (on_shards cut)
-      ∙ opens_two program cut.ending (of_cut cut)
+      ∙ opens_two (write_of cut) cut.ending (of_cut cut)
       (λ k f e. fault_is_numbered (job_of program slots s) 0 0 1 cut.records (shard_sizes s.shard cut.records) (omega arith) k f e) in omega (arith, two)
 
   -- the job has this outcome
   pub of_job : (job : Job) → IsJobOf program slots s job → (cut : Cut)
-      → outcome_of_shards job.compiled cut.ending (outcome_of job (shards_in s.shard cut.records)) ≡ outcome_of_program program s cut
+      → outcome_of_shards (written job.compiled s.save (length cut.records) job.budget) cut.ending (outcome_of job (shards_in s.shard cut.records))
+      ≡ outcome_of_program program s cut
   of_job job is cut =
-      ap (λ (j : Job). outcome_of_shards j.compiled cut.ending (outcome_of j (shards_in s.shard cut.records))) is.same
-      ∙ ap (outcome_of_shards program cut.ending) (same_outcome (job_of program slots s) job.twice 0 (shards_in s.shard cut.records))
+      ap (λ (j : Job). outcome_of_shards (written j.compiled s.save (length cut.records) j.budget) cut.ending
+      (outcome_of j (shards_in s.shard cut.records))) is.same
+      ∙ ap (outcome_of_shards (write_of cut) cut.ending) (same_outcome (job_of program slots s) job.twice 0 (shards_in s.shard cut.records))
       ∙ sym (on_shards cut)
 
 module _ {F : Type 0} (the_files : files.Ghosts F) (old new : F) (program : Marked) (s : RunSettings) (slots : List Slot)
@@ -274,10 +295,11 @@ module _ {F : Type 0} (the_files : files.Ghosts F) (old new : F) (program : Mark
   }
 
 -- the outcome of running the text that spells a program is the program's
-pub program_answers : {F : Type 0} (the_files : files.Ghosts F) (s : RunSettings) (text : List ℕ) (old new : F) (ss : Stms) (p : Marked)
-    (answer : Result (List ℕ) Failure) → IsShort text → HasStatements text ss → runnable s.ignore_undefs ss ≡ Ok p
-    → AnswersOn the_files s.frame (outcome_of_program p s) s.input old new answer → AnswersText the_files s text old new answer
-program_answers the_files s text old new ss p answer short has is a = record {
+pub program_answers : {F : Type 0} (the_files : files.Ghosts F) (types : List TypeShape) (s : RunSettings) (text : List ℕ) (old new : F) (ss : Stms)
+    (p : Marked)
+    (answer : Result (List ℕ) Failure) → IsShort text → HasStatements text ss → savable types s.save s.ignore_undefs ss ≡ Ok p
+    → AnswersOn the_files s.frame (outcome_of_program p s) s.input old new answer → AnswersText the_files types s text old new answer
+program_answers the_files types s text old new ss p answer short has is a = record {
   reading = spells ss;
   read = (short, has);
   answers =
@@ -292,8 +314,8 @@ program_answers the_files s text old new ss p answer short has is a = record {
       };
 }
 
-module _ {F : Type 0} (the_files : files.Ghosts F) (s : RunSettings) (text : List ℕ) (old : F) where
-  no_memory : AnswersText the_files s text old old (Err failure.NoMemory)
+module _ {F : Type 0} (the_files : files.Ghosts F) (types : List TypeShape) (s : RunSettings) (text : List ℕ) (old : F) where
+  no_memory : AnswersText the_files types s text old old (Err failure.NoMemory)
   no_memory = let r = every_text_is_read text in record {
     reading = r.reading;
     read = r.read;
@@ -301,11 +323,11 @@ module _ {F : Type 0} (the_files : files.Ghosts F) (s : RunSettings) (text : Lis
   }
 
   -- the text is refused, and no file is opened
-  pub text_refused : (f : Failure) → IsFailureOf text f → AnswersText the_files s text old old (Err f)
+  pub text_refused : (f : Failure) → IsFailureOf text f → AnswersText the_files types s text old old (Err f)
   text_refused (failure.Refused r) read = record {
     reading = refused r;
     read = read;
-    answers = answers_unopened the_files s.frame s.input old _ (failure.Refused r) (λ e. cc) (λ cut read memory. refl) (λ cut. refl);
+    answers = answers_unopened the_files s.frame s.input old _ (failure.Refused r) (λ e. cc) (λ cut read memory. refl) (λ cut. says refl);
   }
   text_refused failure.NoMemory h = no_memory
   text_refused failure.Usage h = absurd h
@@ -313,17 +335,21 @@ module _ {F : Type 0} (the_files : files.Ghosts F) (s : RunSettings) (text : Lis
   text_refused (failure.Lost n) h = absurd h
   text_refused (failure.Damaged b) h = absurd h
   text_refused (failure.Limit b) h = absurd h
+  text_refused (failure.BadTables n) h = absurd h
+  text_refused (failure.OtherTables n) h = absurd h
+  text_refused (failure.TablesLimit n) h = absurd h
+  text_refused (failure.BadProtoFile n) h = absurd h
   text_refused failure.ReadFailed h = absurd h
   text_refused failure.WriteFailed h = absurd h
 
   -- the text's statements are refused
-  pub statements_refused : (ss : Stms) (f : Failure) → IsShort text → HasStatements text ss → IsFailureOn (runnable s.ignore_undefs ss) f
-      → AnswersText the_files s text old old (Err f)
+  pub statements_refused : (ss : Stms) (f : Failure) → IsShort text → HasStatements text ss → IsFailureOn (savable types s.save s.ignore_undefs ss) f
+      → AnswersText the_files types s text old old (Err f)
   statements_refused ss (failure.Refused r) short has h = record {
     reading = spells ss;
     read = (short, has);
     answers = answers_unopened the_files s.frame s.input old _ (failure.Refused r) (λ e. cc)
-        (λ cut read memory. ap (λ (o : Answer). o.opens) (ap (outcome_of_checked_run s cut) h)) (λ cut. ap (outcome_of_checked_run s cut) h);
+        (λ cut read memory. ap (λ (o : Answer). o.opens) (ap (outcome_of_checked_run s cut) h)) (λ cut. says (ap (outcome_of_checked_run s cut) h));
   }
   statements_refused ss failure.NoMemory short has h = no_memory
   statements_refused ss failure.Usage short has h = absurd h
@@ -331,39 +357,51 @@ module _ {F : Type 0} (the_files : files.Ghosts F) (s : RunSettings) (text : Lis
   statements_refused ss (failure.Lost n) short has h = absurd h
   statements_refused ss (failure.Damaged b) short has h = absurd h
   statements_refused ss (failure.Limit b) short has h = absurd h
+  statements_refused ss (failure.BadTables n) short has h = absurd h
+  statements_refused ss (failure.OtherTables n) short has h = absurd h
+  statements_refused ss (failure.TablesLimit n) short has h = absurd h
+  statements_refused ss (failure.BadProtoFile n) short has h = absurd h
   statements_refused ss failure.ReadFailed short has h = absurd h
   statements_refused ss failure.WriteFailed short has h = absurd h
 
-module _ (text : List ℕ) where
-  check_no_memory : AnswersCheck text (Err failure.NoMemory)
+module _ (types : List TypeShape) (text : List ℕ) where
+  check_no_memory : AnswersCheck types text (Err failure.NoMemory)
   check_no_memory = let r = every_text_is_read text in record { reading = r.reading; read = r.read; decides = tt }
 
   -- the text can't be read
-  pub check_unread : (f : Failure) → IsFailureOf text f → AnswersCheck text (Err f)
-  check_unread (failure.Refused r) read = record { reading = refused r; read = read; decides = refl }
+  pub check_unread : (f : Failure) → IsFailureOf text f → AnswersCheck types text (Err f)
+  check_unread (failure.Refused r) read = record { reading = refused r; read = read; decides = says refl }
   check_unread failure.NoMemory h = check_no_memory
   check_unread failure.Usage h = absurd h
   check_unread (failure.Faulted n f) h = absurd h
   check_unread (failure.Lost n) h = absurd h
   check_unread (failure.Damaged b) h = absurd h
   check_unread (failure.Limit b) h = absurd h
+  check_unread (failure.BadTables n) h = absurd h
+  check_unread (failure.OtherTables n) h = absurd h
+  check_unread (failure.TablesLimit n) h = absurd h
+  check_unread (failure.BadProtoFile n) h = absurd h
   check_unread failure.ReadFailed h = absurd h
   check_unread failure.WriteFailed h = absurd h
 
   -- the text's statements are refused
-  pub check_fails : (ss : Stms) (f : Failure) → IsShort text → HasStatements text ss → IsFailureOn (checked ss) f → AnswersCheck text (Err f)
-  check_fails ss (failure.Refused r) short has h = record { reading = spells ss; read = (short, has); decides = ap outcome_of_checked h }
+  pub check_fails : (ss : Stms) (f : Failure) → IsShort text → HasStatements text ss → IsFailureOn (checked types ss) f → AnswersCheck types text (Err f)
+  check_fails ss (failure.Refused r) short has h = record { reading = spells ss; read = (short, has); decides = says (ap outcome_of_checked h) }
   check_fails ss failure.NoMemory short has h = check_no_memory
   check_fails ss failure.Usage short has h = absurd h
   check_fails ss (failure.Faulted n f) short has h = absurd h
   check_fails ss (failure.Lost n) short has h = absurd h
   check_fails ss (failure.Damaged b) short has h = absurd h
   check_fails ss (failure.Limit b) short has h = absurd h
+  check_fails ss (failure.BadTables n) short has h = absurd h
+  check_fails ss (failure.OtherTables n) short has h = absurd h
+  check_fails ss (failure.TablesLimit n) short has h = absurd h
+  check_fails ss (failure.BadProtoFile n) short has h = absurd h
   check_fails ss failure.ReadFailed short has h = absurd h
   check_fails ss failure.WriteFailed short has h = absurd h
 
   -- nothing is refused
-  pub check_passes : (ss : Stms) (program : Core) (output : List ℕ) → IsShort text → HasStatements text ss → checked ss ≡ Ok program → [] ≡ output
-      → AnswersCheck text (Ok output)
+  pub check_passes : (ss : Stms) (program : Core) (output : List ℕ) → IsShort text → HasStatements text ss → checked types ss ≡ Ok program → [] ≡ output
+      → AnswersCheck types text (Ok output)
   check_passes ss program output short has h none =
-      record { reading = spells ss; read = (short, has); decides = ap outcome_of_checked h ∙ ap success none }
+      record { reading = spells ss; read = (short, has); decides = says (ap outcome_of_checked h ∙ ap success none) }

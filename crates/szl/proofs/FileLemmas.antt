@@ -28,7 +28,7 @@ module _ {F : Type 0} (the_files : files.Ghosts F) (job : Job) (s : RunSettings)
       record {
         input = input;
         holds = holds_or (the_files.held old s.input) [];
-        tables = read_fails job s.shard s.frame input (Rose (the_files.faults old) (the_files.faults new)) (failed refl);
+        tables = read_fails job s.save s.shard s.frame input (Rose (the_files.faults old) (the_files.faults new)) (failed refl);
         opened = opened_one the_files old new s.input [] 1 status.ReadFailed (omega arith) names (λ read memory. refl) (λ read memory. absurd (read refl));
       }
   opening_fails new outside.NoMemory failed names =
@@ -36,13 +36,13 @@ module _ {F : Type 0} (the_files : files.Ghosts F) (job : Job) (s : RunSettings)
       record {
         input = input;
         holds = holds_or (the_files.held old s.input) [];
-        tables = no_memory_at_all job s.shard s.frame input (Rose (the_files.faults old) (the_files.faults new));
+        tables = no_memory_at_all job s.save s.shard s.frame input (Rose (the_files.faults old) (the_files.faults new));
         opened = opened_or_none the_files old new s.input [] 1 (omega arith) (inl names);
       }
 
   -- it was opened, and read
   pub file_gives : (mid new : F) (left : Option (List ℕ)) (answer : Result (List ℕ) Failure) → left ≡ the_files.held old s.input
-      → GivesRead job s.shard s.frame left (Rose (the_files.faults old) (the_files.faults new)) answer
+      → GivesRead job s.save s.shard s.frame left (Rose (the_files.faults old) (the_files.faults new)) answer
       → the_files.names mid ≡ the_files.names old ++ s.input ∷ [] → the_files.names new ≡ the_files.names mid → OpensOne the_files old new
       → GivesFile the_files job s old new answer
   file_gives mid new left answer bytes gives names same one = record {

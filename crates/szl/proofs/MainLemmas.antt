@@ -13,10 +13,12 @@ use Rattle.sz_io.specs.declared.sink.Sink as sink
 use Rattle.szl.specs.declared.status.Status.{Status}
 use Rattle.szl.specs.declared.status.Status.TheVariants as status
 use Rattle.szl.specs.declared.failure.Failure.{Failure}
-use Rattle.szl.specs.declared.failure.Failure.TheVariants.{Usage, Refused, Faulted, Lost, Damaged, Limit, ReadFailed, WriteFailed, NoMemory}
+use Rattle.szl.specs.declared.failure.Failure.TheVariants.{Usage, Refused, Faulted, Lost, Damaged, Limit, BadTables, OtherTables, TablesLimit, BadProtoFile}
+use Rattle.szl.specs.declared.failure.Failure.TheVariants.{ReadFailed, WriteFailed, NoMemory}
 use Rattle.szl.specs.Failing.{status_of, line_of_failure}
 use Rattle.szl.specs.Opening.{Decides, Answers, status_of_answer}
-use Rattle.szl.specs.Outcome.{Answer, outcome, success}
+use Rattle.szl.specs.Answers.{Answer, Says, success}
+use Rattle.szl.specs.Outcome.{outcome}
 use Rattle.szl.specs.Printing.{Prints, PrintsNothing}
 use Rattle.szl.specs.Promise.{IsStatusOf, AppendsPrefix, GainsOutput, IsLeftAlone, GainsLine, MeansSource, OpensFiles, line_of, names_asked}
 use Rattle.sz_words.specs.Settings.{settings_in}
@@ -39,7 +41,8 @@ prefix_none : (old : Option (List ℕ)) (bytes : List ℕ) (new : Option (List �
 prefix_none old bytes new h = record { count = 0; appends = h }
 
 -- all was printed
-fits_done : (answer : Answer) (output : List ℕ) (old new : Option (List ℕ)) → answer ≡ success output → Appends old new output → Fits answer status.Done old new
+fits_done : (answer : Answer) (output : List ℕ) (old new : Option (List ℕ)) → Says answer (success output) → Appends old new output → Fits answer
+    status.Done old new
 fits_done answer output old new is h =
     subst (λ a. Fits a status.Done old new) (sym is) (record { status_is = refl; output = h })
 
@@ -52,6 +55,10 @@ fits_error answer (Faulted n fault) rose old new decides h = record { status_is 
 fits_error answer (Lost n) rose old new decides h = record { status_is = sym (ap (λ (a : Answer). a.status) decides); output = h }
 fits_error answer (Damaged byte) rose old new decides h = record { status_is = sym (ap (λ (a : Answer). a.status) decides); output = h }
 fits_error answer (Limit byte) rose old new decides h = record { status_is = sym (ap (λ (a : Answer). a.status) decides); output = h }
+fits_error answer (BadTables n) rose old new decides h = record { status_is = sym (ap (λ (a : Answer). a.status) decides); output = h }
+fits_error answer (OtherTables n) rose old new decides h = record { status_is = sym (ap (λ (a : Answer). a.status) decides); output = h }
+fits_error answer (TablesLimit n) rose old new decides h = record { status_is = sym (ap (λ (a : Answer). a.status) decides); output = h }
+fits_error answer (BadProtoFile n) rose old new decides h = record { status_is = sym (ap (λ (a : Answer). a.status) decides); output = h }
 fits_error answer ReadFailed rose old new decides h = record { status_is = decides.1; output = h }
 fits_error answer WriteFailed rose old new decides h = absurd decides
 fits_error answer NoMemory rose old new decides h = record { status_is = tt; output = prefix_none old answer.output new h }
@@ -72,6 +79,10 @@ ended (Faulted n fault) (Ok output) old new printed = absurd printed
 ended (Lost n) (Ok output) old new printed = absurd printed
 ended (Damaged byte) (Ok output) old new printed = absurd printed
 ended (Limit byte) (Ok output) old new printed = absurd printed
+ended (BadTables n) (Ok output) old new printed = absurd printed
+ended (OtherTables n) (Ok output) old new printed = absurd printed
+ended (TablesLimit n) (Ok output) old new printed = absurd printed
+ended (BadProtoFile n) (Ok output) old new printed = absurd printed
 ended ReadFailed (Ok output) old new printed = absurd printed
 
 -- a failure, before or while something was printed
@@ -90,6 +101,10 @@ line_error answer (Faulted n fault) rose decides = sym (ap (λ (a : Answer). a.l
 line_error answer (Lost n) rose decides = sym (ap (λ (a : Answer). a.line) decides)
 line_error answer (Damaged byte) rose decides = sym (ap (λ (a : Answer). a.line) decides)
 line_error answer (Limit byte) rose decides = sym (ap (λ (a : Answer). a.line) decides)
+line_error answer (BadTables n) rose decides = sym (ap (λ (a : Answer). a.line) decides)
+line_error answer (OtherTables n) rose decides = sym (ap (λ (a : Answer). a.line) decides)
+line_error answer (TablesLimit n) rose decides = sym (ap (λ (a : Answer). a.line) decides)
+line_error answer (BadProtoFile n) rose decides = sym (ap (λ (a : Answer). a.line) decides)
 line_error answer ReadFailed rose decides = refl
 line_error answer WriteFailed rose decides = refl
 line_error answer NoMemory rose decides = refl
@@ -122,9 +137,13 @@ alone_always status.WriteFailed output old new same = λ none. same
 alone_always status.ShardLost output old new same = same
 alone_always status.NoMemory output old new same = λ none. same
 alone_always status.Limit output old new same = same
+alone_always status.BadTables output old new same = same
+alone_always status.OtherTables output old new same = same
+alone_always status.TablesLimit output old new same = same
+alone_always status.BadProtoFile output old new same = same
 
 -- the output is what was to be printed, so where it has no byte no call was made
-alone_printed : {O : Type 0} (answer : Answer) (output : List ℕ) (old new : O) → answer ≡ success output → (output ≡ [] → new ≡ old)
+alone_printed : {O : Type 0} (answer : Answer) (output : List ℕ) (old new : O) → Says answer (success output) → (output ≡ [] → new ≡ old)
     → answer.output ≡ [] → new ≡ old
 alone_printed answer output old new is nothing none = nothing (sym (ap (λ (a : Answer). a.output) is) ∙ none)
 
@@ -157,16 +176,23 @@ module _ {F O E : Type 0} (the_files : files.Ghosts F) (the_out : sink.Ghosts O)
       → MeansSource the_files the_out the_err words status.Done old new out new_out err err
   means_done (Err f) done a printed nothing = absurd printed
   means_done (Ok output) done a printed nothing =
-      let o = outcome words a.reading a.cut in
+      let o = outcome words a.file a.reading a.cut a.merged in
       let fit = fits_done o output (the_out.taken out) (the_out.taken new_out) a.decides printed in
       let no_line : [] ≡ o.line = sym (ap (λ (x : Answer). x.line) a.decides) in
       record {
+        file_bytes = a.file_bytes;
+        file = a.file;
+        file_read = a.file_read;
+        of_file = a.of_file;
         text = a.text;
         reading = a.reading;
         read = a.read;
         input = a.input;
         cut = a.cut;
         is_cut = a.is_cut;
+        saved = a.saved;
+        merged = a.merged;
+        is_merged = a.is_merged;
         of_files = a.of_files;
         answers = fit.status_is;
         output = fit.output;
@@ -177,18 +203,25 @@ module _ {F O E : Type 0} (the_files : files.Ghosts F) (the_out : sink.Ghosts O)
 
   -- a status that fits what was printed, and its line is told
   means : (new_err : E) (made : Result (List ℕ) Failure) (a : Answers the_files (settings_in words) old new made) (s : Status)
-      → Fits (outcome words a.reading a.cut) s (the_out.taken out) (the_out.taken new_out)
-      → IsLeftAlone s (outcome words a.reading a.cut).output out new_out
-      → GainsLine the_err err new_err (line_of (outcome words a.reading a.cut) s)
-      → OpensFiles the_files old new (names_asked (settings_in words)) (outcome words a.reading a.cut).opens s
+      → Fits (outcome words a.file a.reading a.cut a.merged) s (the_out.taken out) (the_out.taken new_out)
+      → IsLeftAlone s (outcome words a.file a.reading a.cut a.merged).output out new_out
+      → GainsLine the_err err new_err (line_of (outcome words a.file a.reading a.cut a.merged) s)
+      → OpensFiles the_files old new (names_asked (settings_in words)) (outcome words a.file a.reading a.cut a.merged).opens s
       → MeansSource the_files the_out the_err words s old new out new_out err new_err
   means new_err made a s fit alone told opened = record {
+    file_bytes = a.file_bytes;
+    file = a.file;
+    file_read = a.file_read;
+    of_file = a.of_file;
     text = a.text;
     reading = a.reading;
     read = a.read;
     input = a.input;
     cut = a.cut;
     is_cut = a.is_cut;
+    saved = a.saved;
+    merged = a.merged;
+    is_merged = a.is_merged;
     of_files = a.of_files;
     answers = fit.status_is;
     output = fit.output;
@@ -202,7 +235,7 @@ module _ {F O E : Type 0} (the_files : files.Ghosts F) (the_out : sink.Ghosts O)
       → Prints {T = Unit {0}} (the_out.taken out) (the_out.taken new_out) made (Err f) → PrintsNothing made out new_out → (told ≡ f) ⊎ (told ≡ NoMemory)
       → GainsLine the_err err new_err (line_of_failure told) → MeansSource the_files the_out the_err words (status_of told) old new out new_out err new_err
   means_failure new_err f told made a printed nothing (inl is) gained =
-      let o = outcome words a.reading a.cut in
+      let o = outcome words a.file a.reading a.cut a.merged in
       let end = ended f made (the_out.taken out) (the_out.taken new_out) printed in
       let line = ap line_of_failure is ∙ line_is o f made _ (the_out.taken out) (the_out.taken new_out) a.decides end in
       subst (λ t. MeansSource the_files the_out the_err words (status_of t) old new out new_out err new_err) (sym is)
@@ -211,7 +244,7 @@ module _ {F O E : Type 0} (the_files : files.Ghosts F) (the_out : sink.Ghosts O)
       (subst (GainsLine the_err err new_err) line gained)
       (opened_failure the_files old new _ _ f made (the_out.taken out) (the_out.taken new_out) end a.opened))
   means_failure new_err f told made a printed nothing (inr is) gained =
-      let o = outcome words a.reading a.cut in
+      let o = outcome words a.file a.reading a.cut a.merged in
       let end = ended f made (the_out.taken out) (the_out.taken new_out) printed in
       subst (λ t. MeansSource the_files the_out the_err words (status_of t) old new out new_out err new_err) (sym is)
       (means new_err made a status.NoMemory (fits_no_memory o f made _ (the_out.taken out) (the_out.taken new_out) a.decides end)

@@ -19,13 +19,13 @@ take_none zero = refl
 take_none (suc count) = refl
 
 -- a file that was given before is none of the new ones
-none_of : (before now : ℕ → Bool) (file : ℕ) (files : List ℕ) → IsTrue (before file) → AreNew before now files → IsNoneOf file files
+pub none_of : (before now : ℕ → Bool) (file : ℕ) (files : List ℕ) → IsTrue (before file) → AreNew before now files → IsNoneOf file files
 none_of before now file [] given new = tt
 none_of before now file (other ∷ files) given new =
     ((λ same. new.0.0 (subst (λ f. IsTrue (before f)) same given)), none_of before now file files given new.1.1)
 
 -- files that are new since a later moment are new
-new_since : (first later now : ℕ → Bool) → ((file : ℕ) → IsTrue (first file) → IsTrue (later file)) → (files : List ℕ) → AreNew later now files
+pub new_since : (first later now : ℕ → Bool) → ((file : ℕ) → IsTrue (first file) → IsTrue (later file)) → (files : List ℕ) → AreNew later now files
     → AreNew first now files
 new_since first later now still [] new = tt
 new_since first later now still (file ∷ files) new =

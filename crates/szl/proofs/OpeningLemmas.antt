@@ -1,10 +1,10 @@
 -- What reading the files of a command line says of their texts.
-use Rattle.std.proofs.Common.{◌≡◌, ℕ, ◌+◌, ◌<◌, List, [], length, Option, Some, None, refl, sym, subst, arith, inl, inr, ◌⊎◌}
+use Rattle.std.proofs.Common.{◌≡◌, ◌≢◌, ℕ, ◌+◌, ◌<◌, List, [], length, Option, Some, None, refl, arith}
 use Rattle.std.specs.Prelude.{IfSome, unwrap_or, replicate, Err}
 use Rattle.std.proofs.lemmas.List.{length-replicate}
 use Rattle.szl.specs.declared.failure.Failure.{Failure}
 use Rattle.szl.specs.declared.failure.Failure.TheVariants.{ReadFailed, NoMemory}
-use Rattle.szl.specs.Opening.{ReadsText, past_program}
+use Rattle.szl.specs.Opening.{ReadsText}
 
 -- the text that is told, or this one
 pub holds_or : (told : Option (List ℕ)) (text : List ℕ) → IfSome told (λ bytes. bytes ≡ unwrap_or told text)
@@ -22,17 +22,13 @@ long_or : (told : Option (List ℕ)) (limit : ℕ) → IfSome told (λ bytes. li
 long_or None limit h = omega (arith, length-replicate {A = ℕ} (limit + 1) 0)
 long_or (Some bytes) limit h = h
 
-reads_long : (told : Option (List ℕ)) (limit : ℕ) (rose : Type 0) → IfSome told (λ bytes. limit < length bytes)
-    → ReadsText told limit past_program rose (Err past_program)
-reads_long told limit rose long = record {
+-- a file of too many bytes has any failure but that of a read, or there was no memory
+pub reads_past : (told : Option (List ℕ)) (limit : ℕ) (past : Failure) (rose : Type 0) → IfSome told (λ bytes. limit < length bytes)
+    → past ≢ ReadFailed → ReadsText told limit past rose (Err past)
+reads_past told limit ReadFailed rose long other = absurd (other refl)
+reads_past told limit NoMemory rose long other = reads_no_memory told limit NoMemory rose
+reads_past told limit past rose long other = record {
   text = unwrap_or told (replicate (limit + 1) 0);
   holds = holds_or told (replicate (limit + 1) 0);
   tells = (refl, long_or told limit long);
 }
-
-pub reads_past : (told : Option (List ℕ)) (limit : ℕ) (past : Failure) (rose : Type 0) → IfSome told (λ bytes. limit < length bytes)
-    → (past ≡ past_program) ⊎ (past ≡ NoMemory) → ReadsText told limit past rose (Err past)
-reads_past told limit past rose long (inl is) =
-    subst (λ f. ReadsText told limit f rose (Err f)) (sym is) (reads_long told limit rose long)
-reads_past told limit past rose long (inr is) =
-    subst (λ f. ReadsText told limit f rose (Err f)) (sym is) (reads_no_memory told limit NoMemory rose)

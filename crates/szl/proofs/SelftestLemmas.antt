@@ -7,7 +7,7 @@ use Rattle.sz_feed.specs.Feed.{file_of}
 use Rattle.sz_feed.specs.Program.{program_text}
 use Rattle.sz_tree.specs.Statements.{Stms}
 use Rattle.sz_mean.specs.Marked.{Marked}
-use Rattle.szl.specs.Reserved.{runnable}
+use Rattle.szl.specs.Savable.{savable}
 use Rattle.sz_world_rules.specs.World.{Done}
 use Rattle.sz_world_rules.specs.Slots.{Slot}
 use Rattle.sz_mean.specs.Programs.{statics}
@@ -19,8 +19,9 @@ use Rattle.szl.specs.declared.failure.Failure.{Failure}
 use Rattle.szl.specs.declared.failure.Failure.TheVariants as failure
 use Rattle.szl.specs.Judgement.{IsShort, HasStatements, most_program_bytes, refused, spells}
 use Rattle.szl.specs.Judging.{IsFailureOf, IsFailureOn}
-use Rattle.szl.specs.Opening.{Decides, Answers, AnswersOver, AnswersTextOver, status_of_answer}
+use Rattle.szl.specs.Opening.{Decides, AnswersWith, AnswersOver, AnswersTextOver, status_of_answer}
 use Rattle.szl.specs.Outcome.{outcome_faulted, outcome_of_statics, outcome_of_checked_run}
+use Rattle.szl.specs.Merging.{bad}
 use Rattle.szl.specs.Promise.{AreReadToEnd}
 use Rattle.szl.specs.ProgramRuns.{GivesStatics, GivesTables, IsJobOf}
 use Rattle.sz_words.specs.Bounds.{HasBounds}
@@ -28,6 +29,7 @@ use Rattle.szl.specs.Settings.{selftest_run}
 use Rattle.szl.proofs.JudgementLemmas.{every_text_is_read}
 use Rattle.szl.proofs.AnswerLemmas.{cut_of, decides_still, not_read, of_job}
 use Rattle.szl.proofs.OpenedLemmas.{opened_none, take_none}
+use Rattle.szl.proofs.SaysLemmas.{says}
 
 -- the program is within the limit of a program's text
 pub is_short : length program_text ≤ most_program_bytes
@@ -56,7 +58,7 @@ module _ (program : Marked) (s : RunSettings) (input : List ℕ) where
   static_fails_over (failure.Faulted n f) h = let c = cut_of s.frame input in record {
     cut = c.cut;
     is_cut = c.is_cut;
-    decides = ap (outcome_of_statics program s c.cut) h.1 ∙ ap (λ k. outcome_faulted k (seen_fault f)) (sym h.0);
+    decides = says (ap (outcome_of_statics program s c.cut) h.1 ∙ ap (λ k. outcome_faulted k (seen_fault f)) (sym h.0));
   }
   static_fails_over failure.NoMemory h = no_memory_over
   static_fails_over failure.Usage h = absurd h
@@ -64,12 +66,16 @@ module _ (program : Marked) (s : RunSettings) (input : List ℕ) where
   static_fails_over (failure.Lost n) h = absurd h
   static_fails_over (failure.Damaged b) h = absurd h
   static_fails_over (failure.Limit b) h = absurd h
+  static_fails_over (failure.BadTables n) h = absurd h
+  static_fails_over (failure.OtherTables n) h = absurd h
+  static_fails_over (failure.TablesLimit n) h = absurd h
+  static_fails_over (failure.BadProtoFile n) h = absurd h
   static_fails_over failure.ReadFailed h = absurd h
   static_fails_over failure.WriteFailed h = absurd h
 
   -- the program was run over the bytes
   pub tables_over : (slots : List Slot) → statics program s.budget ≡ Done slots → (job : Job) → IsJobOf program slots s job
-      → (answer : Result (List ℕ) Failure) → GivesTables job s.shard s.frame input ⊥ answer → AnswersOver program s input answer
+      → (answer : Result (List ℕ) Failure) → GivesTables job s.save s.shard s.frame input ⊥ answer → AnswersOver program s input answer
   tables_over slots begun job of answer gives = record {
     cut = gives.cut;
     is_cut = gives.is_cut;
@@ -91,7 +97,7 @@ module _ (s : RunSettings) (text input : List ℕ) where
     read = read;
     cut = c.cut;
     is_cut = c.is_cut;
-    decides = refl;
+    decides = says refl;
   }
   text_refused_over failure.NoMemory h = no_memory_text
   text_refused_over failure.Usage h = absurd h
@@ -99,18 +105,22 @@ module _ (s : RunSettings) (text input : List ℕ) where
   text_refused_over (failure.Lost n) h = absurd h
   text_refused_over (failure.Damaged b) h = absurd h
   text_refused_over (failure.Limit b) h = absurd h
+  text_refused_over (failure.BadTables n) h = absurd h
+  text_refused_over (failure.OtherTables n) h = absurd h
+  text_refused_over (failure.TablesLimit n) h = absurd h
+  text_refused_over (failure.BadProtoFile n) h = absurd h
   text_refused_over failure.ReadFailed h = absurd h
   text_refused_over failure.WriteFailed h = absurd h
 
   module _ (ss : Stms) (short : IsShort text) (has : HasStatements text ss) where
     -- its statements are refused
-    pub statements_refused_over : (f : Failure) → IsFailureOn (runnable s.ignore_undefs ss) f → AnswersTextOver s text input (Err f)
+    pub statements_refused_over : (f : Failure) → IsFailureOn (savable [] s.save s.ignore_undefs ss) f → AnswersTextOver s text input (Err f)
     statements_refused_over (failure.Refused r) h = let c = cut_of s.frame input in record {
       reading = spells ss;
       read = (short, has);
       cut = c.cut;
       is_cut = c.is_cut;
-      decides = ap (outcome_of_checked_run s c.cut) h;
+      decides = says (ap (outcome_of_checked_run s c.cut) h);
     }
     statements_refused_over failure.NoMemory h = no_memory_text
     statements_refused_over failure.Usage h = absurd h
@@ -118,11 +128,15 @@ module _ (s : RunSettings) (text input : List ℕ) where
     statements_refused_over (failure.Lost n) h = absurd h
     statements_refused_over (failure.Damaged b) h = absurd h
     statements_refused_over (failure.Limit b) h = absurd h
+    statements_refused_over (failure.BadTables n) h = absurd h
+    statements_refused_over (failure.OtherTables n) h = absurd h
+    statements_refused_over (failure.TablesLimit n) h = absurd h
+    statements_refused_over (failure.BadProtoFile n) h = absurd h
     statements_refused_over failure.ReadFailed h = absurd h
     statements_refused_over failure.WriteFailed h = absurd h
 
     -- they are a program, which was run
-    pub program_over : (p : Marked) → runnable s.ignore_undefs ss ≡ Ok p → (answer : Result (List ℕ) Failure) → AnswersOver p s input answer
+    pub program_over : (p : Marked) → savable [] s.save s.ignore_undefs ss ≡ Ok p → (answer : Result (List ℕ) Failure) → AnswersOver p s input answer
         → AnswersTextOver s text input answer
     program_over p is answer a = record {
       reading = spells ss;
@@ -136,7 +150,7 @@ module _ (s : RunSettings) (text input : List ℕ) where
 module _ {F : Type 0} (the_files : files.Ghosts F) (old : F) where
   pub selftest_answered : (seed records workers : ℕ) (answer : Result (List ℕ) Failure)
       → AnswersTextOver (selftest_run workers) program_text (file_of seed records) answer
-      → Answers the_files (Some (Selftest seed records workers)) old old answer
+      → AnswersWith the_files [] (Some (Selftest seed records workers)) old old answer
   selftest_answered seed records workers answer a = record {
     text = program_text;
     reading = a.reading;
@@ -144,6 +158,9 @@ module _ {F : Type 0} (the_files : files.Ghosts F) (old : F) where
     input = file_of seed records;
     cut = a.cut;
     is_cut = a.is_cut;
+    saved = [];
+    merged = bad 0;
+    is_merged = tt;
     of_files = (refl, refl);
     decides = decides_still answer _ (Rose (the_files.faults old) (the_files.faults old)) a.decides;
     opened = opened_none the_files old [] _ (status_of_answer answer) (not_read answer _ a.decides) (λ read memory. sym (take_none _));

@@ -12,4 +12,4 @@ use Rattle.szl.specs.Promise.{MeansSource}
 pub record Completes {F O E : Type 0} (the_files : files.Ghosts F) (the_out : sink.Ghosts O) (the_err : sink.Ghosts E)
     (words : List (List ℕ)) (status : Status) (files new_files : F) (out new_out : O) (err new_err : E) : Type 0 where
   pub means : MeansSource the_files the_out the_err words status files new_files out new_out err new_err
-  pub status_is : (status ≡ NoMemory) ⊎ (status ≡ (outcome words means.reading means.cut).status)
+  pub status_is : (status ≡ NoMemory) ⊎ (status ≡ (outcome words means.file means.reading means.cut means.merged).status)

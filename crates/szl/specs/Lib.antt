@@ -5,12 +5,18 @@ pub mod Shards
 pub mod Judgement
 pub mod Checking
 pub mod Reserved
+pub mod Savable
+pub mod Answers
+pub mod Merging
+pub mod ProtoFiles
 pub mod Outcome
 pub mod Promise
 pub mod Completeness
 -- what the functions inside the crate promise each other
 pub mod Failing
 pub mod Opening
+pub mod MergeAnswers
+pub mod ProtoReads
 pub mod Judging
 pub mod Printing
 pub mod ProgramRuns

@@ -1,11 +1,12 @@
 -- What opening and reading the files of a command line gives.
-use Rattle.std.specs.Prelude.{◌≡◌, ◌≢◌, ℕ, ◌≤◌, ◌<◌, ◌-◌, ⊤, Bool, true, false, List, [], ◌∷◌, length, Option, IfSome, Result, Ok, Err}
+use Rattle.std.specs.Prelude.{◌≡◌, ◌≢◌, ℕ, ◌≤◌, ◌<◌, ◌-◌, ⊤, Bool, true, false, List, [], ◌∷◌, ◌++◌, length, Option, IfSome, option_to_list, Result, Ok, Err}
 use Rattle.sz_io.specs.Rose.{Rose}
 use Rattle.sz_io.specs.declared.files.Files as files
 use Rattle.szl.specs.declared.status.Status.{Status}
 use Rattle.szl.specs.declared.status.Status.TheVariants as status
 use Rattle.szl.specs.declared.failure.Failure.{Failure}
-use Rattle.szl.specs.declared.failure.Failure.TheVariants.{Usage, Refused, Faulted, Lost, Damaged, Limit, ReadFailed, WriteFailed, NoMemory}
+use Rattle.szl.specs.declared.failure.Failure.TheVariants.{Usage, Refused, Faulted, Lost, Damaged, Limit, BadTables, OtherTables, TablesLimit}
+use Rattle.szl.specs.declared.failure.Failure.TheVariants.{BadProtoFile, ReadFailed, WriteFailed, NoMemory}
 use Rattle.sz_check_rules.specs.declared.cause.Cause.TheVariants.{TooLong}
 use Rattle.sz_lex.specs.Tokens.{first_place}
 use Rattle.sz_types.specs.declared.frame.Frame.{Frame}
@@ -16,10 +17,15 @@ use Rattle.sz_words.specs.declared.settings.Settings.{Settings}
 use Rattle.szl.specs.Settings.{frame_asked}
 use Rattle.szl.specs.Records.{Cut, IsCutInto}
 use Rattle.szl.specs.Judgement.{Reading, IsRead, refusal_at}
-use Rattle.szl.specs.Outcome.{Answer, usage_line, damaged_line, limit_line, success, refusal, outcome_faulted, outcome_lost, outcome_refused}
+use Rattle.szl.specs.Answers.{Answer, Says, usage_line, damaged_line, limit_line, bad_tables_line, other_tables_line, tables_limit_line, success, refusal}
+use Rattle.szl.specs.Outcome.{outcome_faulted, outcome_lost, outcome_refused}
 use Rattle.szl.specs.Failing.{status_of}
-use Rattle.szl.specs.Outcome.{outcome_of_program, outcome_of_run, outcome_of_check, outcome_of_settings}
-use Rattle.szl.specs.Promise.{AreOfFiles, OpensFiles, names_asked}
+use Rattle.szl.specs.Outcome.{outcome_of_program, outcome_of_run, outcome_of_check, outcome_with, outcome_behind}
+use Rattle.szl.specs.Merging.{Merged}
+use Rattle.szl.specs.Promise.{AreOfFiles, IsMergedFor, OpensFiles, names_behind}
+use Rattle.szl.specs.ProtoFiles.{IsFileRead, IsOfFile, proto_asked, outcome_bad_file}
+use Rattle.sz_protofile_rules.specs.Types.{TypeShape}
+use Rattle.sz_protofile_laws.specs.Readings.{FileReading}
 
 -- what reading a whole file says of its text: the text, that it is past the limit, that a read failed, or want of memory
 abbrev pub TellsText : List ℕ → ℕ → Failure → Type 0 → Result (List ℕ) Failure → Type 0
@@ -39,43 +45,76 @@ pub record ReadsText (told : Option (List ℕ)) (limit : ℕ) (past : Failure) (
   pub tells : TellsText text limit past rose answer
 
 -- whether memory ran out
-abbrev pub ran_out : Result (List ℕ) Failure → Bool
+abbrev pub ran_out : {A : Type 0} → Result A Failure → Bool
 ran_out (Err NoMemory) = true
 ran_out answer = false
 
 -- the status of an answer, if all its output is written
-abbrev pub status_of_answer : Result (List ℕ) Failure → Status
+abbrev pub status_of_answer : {A : Type 0} → Result A Failure → Status
 status_of_answer (Ok output) = status.Done
 status_of_answer (Err failure) = status_of failure
 
--- the cause of a failure, by the outcome: all but the free ones are the outcome itself
+-- the cause of a failure, by the outcome: all but the free ones say what the outcome does
 abbrev pub IsCause : Failure → Answer → Type 0 → Type 0
-IsCause Usage answer rose = answer ≡ refusal status.Usage usage_line 0
-IsCause (Refused r) answer rose = answer ≡ outcome_refused r
-IsCause (Faulted number fault) answer rose = answer ≡ outcome_faulted number (seen_fault fault)
-IsCause (Lost shard) answer rose = answer ≡ outcome_lost shard
-IsCause (Damaged byte) answer rose = answer ≡ refusal status.Damaged (damaged_line byte) 2
-IsCause (Limit byte) answer rose = answer ≡ refusal status.Limit (limit_line byte) 2
+IsCause Usage answer rose = Says answer (refusal status.Usage usage_line 0)
+IsCause (Refused r) answer rose = Says answer (outcome_refused r)
+IsCause (Faulted number fault) answer rose = Says answer (outcome_faulted number (seen_fault fault))
+IsCause (Lost shard) answer rose = Says answer (outcome_lost shard)
+IsCause (Damaged byte) answer rose = Says answer (refusal status.Damaged (damaged_line byte) 2)
+IsCause (Limit byte) answer rose = Says answer (refusal status.Limit (limit_line byte) 2)
+IsCause (BadTables number) answer rose = Says answer (refusal status.BadTables (bad_tables_line number) number)
+IsCause (OtherTables number) answer rose = Says answer (refusal status.OtherTables (other_tables_line number) number)
+IsCause (TablesLimit number) answer rose = Says answer (refusal status.TablesLimit (tables_limit_line number) number)
+IsCause (BadProtoFile f) answer rose = Says answer (outcome_bad_file f)
 IsCause ReadFailed answer rose = rose × (answer.status ≢ status.Usage)
 IsCause WriteFailed answer rose = ⊥
 IsCause NoMemory answer rose = ⊤
 
 -- what is answered before anything is written: the outcome's output, or a failure with its cause
 abbrev pub Decides : Result (List ℕ) Failure → Answer → Type 0 → Type 0
-Decides (Ok output) answer rose = answer ≡ success output
+Decides (Ok output) answer rose = Says answer (success output)
 Decides (Err failure) answer rose = IsCause failure answer rose
 
--- the answer is that of the outcome, for what the files hold under the names that settings ask for
-pub record Answers {F : Type 0} (the_files : files.Ghosts F) (asked : Option Settings) (old new : F) (answer : Result (List ℕ) Failure) : Type 0 where
+-- the answer is that of the outcome where these types are known, for what the files hold under the names that settings ask for
+pub record AnswersWith {F : Type 0} (the_files : files.Ghosts F) (types : List TypeShape) (asked : Option Settings) (old new : F)
+    (answer : Result (List ℕ) Failure) : Type 0 where
   pub text : List ℕ
   pub reading : Reading
   pub read : IsRead text reading
   pub input : List ℕ
   pub cut : Cut
   pub is_cut : IsCutInto (frame_asked asked) input cut
-  pub of_files : AreOfFiles asked (the_files.held old) text input
-  pub decides : Decides answer (outcome_of_settings asked reading cut) (Rose (the_files.faults old) (the_files.faults new))
-  pub opened : OpensFiles the_files old new (names_asked asked) (outcome_of_settings asked reading cut).opens (status_of_answer answer)
+  pub saved : List (List ℕ)
+  pub merged : Merged
+  pub is_merged : IsMergedFor asked saved merged
+  pub of_files : AreOfFiles asked (the_files.held old) text input saved
+  pub decides : Decides answer (outcome_with types asked reading cut merged) (Rose (the_files.faults old) (the_files.faults new))
+  pub opened : OpensFiles the_files old new (names_behind asked) (outcome_with types asked reading cut merged).opens (status_of_answer answer)
+
+-- the answer is that of the outcome behind the file of a name, if there is one
+pub record AnswersBehind {F : Type 0} (the_files : files.Ghosts F) (name : Option (List ℕ)) (asked : Option Settings) (old new : F)
+    (answer : Result (List ℕ) Failure) : Type 0 where
+  pub file_bytes : List ℕ
+  pub file : FileReading
+  pub file_read : IsFileRead file_bytes file
+  pub of_file : IsOfFile name (the_files.held old) file_bytes
+  pub text : List ℕ
+  pub reading : Reading
+  pub read : IsRead text reading
+  pub input : List ℕ
+  pub cut : Cut
+  pub is_cut : IsCutInto (frame_asked asked) input cut
+  pub saved : List (List ℕ)
+  pub merged : Merged
+  pub is_merged : IsMergedFor asked saved merged
+  pub of_files : AreOfFiles asked (the_files.held old) text input saved
+  pub decides : Decides answer (outcome_behind name file asked reading cut merged) (Rose (the_files.faults old) (the_files.faults new))
+  pub opened : OpensFiles the_files old new (option_to_list name ++ names_behind asked) (outcome_behind name file asked reading cut merged).opens
+      (status_of_answer answer)
+
+-- the answer is that of the outcome, for what the files hold under the names that settings ask for
+abbrev pub Answers : {F : Type 0} → files.Ghosts F → Option Settings → F → F → Result (List ℕ) Failure → Type 0
+Answers the_files asked old new answer = AnswersBehind the_files (proto_asked asked) asked old new answer
 
 -- The answer is that of an outcome on the records of what the file under the name holds. One file was opened before, so that none is
 -- opened for an outcome that opens one
@@ -88,18 +127,18 @@ pub record AnswersOn {F : Type 0} (the_files : files.Ghosts F) (frame : Frame) (
   pub decides : Decides answer (outcome_on cut) (Rose (the_files.faults old) (the_files.faults new))
   pub opened : OpensFiles the_files old new (name ∷ []) ((outcome_on cut).opens - 1) (status_of_answer answer)
 
--- the answer is that of running what the text is read as, as these settings ask for it
-pub record AnswersText {F : Type 0} (the_files : files.Ghosts F) (s : RunSettings) (text : List ℕ) (old new : F)
+-- the answer is that of running what the text is read as where these types are known, as these settings ask for it
+pub record AnswersText {F : Type 0} (the_files : files.Ghosts F) (types : List TypeShape) (s : RunSettings) (text : List ℕ) (old new : F)
     (answer : Result (List ℕ) Failure) : Type 0 where
   pub reading : Reading
   pub read : IsRead text reading
-  pub answers : AnswersOn the_files s.frame (λ cut. outcome_of_run s cut reading) s.input old new answer
+  pub answers : AnswersOn the_files s.frame (λ cut. outcome_of_run types s cut reading) s.input old new answer
 
--- the answer is that of checking what the text is read as
-pub record AnswersCheck (text : List ℕ) (answer : Result (List ℕ) Failure) : Type 0 where
+-- the answer is that of checking what the text is read as where these types are known
+pub record AnswersCheck (types : List TypeShape) (text : List ℕ) (answer : Result (List ℕ) Failure) : Type 0 where
   pub reading : Reading
   pub read : IsRead text reading
-  pub decides : Decides answer (outcome_of_check reading) ⊥
+  pub decides : Decides answer (outcome_of_check types reading) ⊥
 
 -- the answer is that of running the program over these bytes, as these settings ask for it
 pub record AnswersOver (program : Marked) (s : RunSettings) (input : List ℕ) (answer : Result (List ℕ) Failure) : Type 0 where
@@ -107,10 +146,10 @@ pub record AnswersOver (program : Marked) (s : RunSettings) (input : List ℕ) (
   pub is_cut : IsCutInto s.frame input cut
   pub decides : Decides answer (outcome_of_program program s cut) ⊥
 
--- the answer is that of running what the text is read as over these bytes, as these settings ask for it
+-- the answer is that of running what the text is read as over these bytes, as these settings ask for it; no types are known
 pub record AnswersTextOver (s : RunSettings) (text input : List ℕ) (answer : Result (List ℕ) Failure) : Type 0 where
   pub reading : Reading
   pub read : IsRead text reading
   pub cut : Cut
   pub is_cut : IsCutInto s.frame input cut
-  pub decides : Decides answer (outcome_of_run s cut reading) ⊥
+  pub decides : Decides answer (outcome_of_run [] s cut reading) ⊥

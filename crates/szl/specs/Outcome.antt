@@ -1,86 +1,37 @@
 -- The outcome of a command line: what the source means for the shards of the records, in input order.
-use Rattle.std.specs.Prelude.{ℕ, zero, suc, List, [], ◌∷◌, ◌++◌, slice_index_or, Option, Some, None, Result, Ok, Err, codes}
-use Rattle.std.specs.Fmt.{decimal}
-use Rattle.sz_types.specs.declared.place.Place.{Place}
+use Rattle.std.specs.Prelude.{ℕ, zero, suc, ◌*◌, List, [], ◌∷◌, ◌++◌, length, Bool, Option, Some, None, Result, Ok, Err, codes, if◌then◌else◌}
 use Rattle.sz_core.specs.Programs.{Core}
 use Rattle.sz_world_rules.specs.World.{Fault, Done, Faulted}
 use Rattle.sz_world_rules.specs.World as world
 use Rattle.sz_world_rules.specs.Slots.{Slot}
 use Rattle.sz_mean.specs.Marked.{Marked, all_tables}
 use Rattle.sz_mean.specs.Programs.{statics}
+use Rattle.sz_tabs.specs.Data.{EmitDatum}
 use Rattle.sz_print.specs.Tables.{tables_text}
+use Rattle.sz_save_format.specs.Saved.{saved_bytes}
+use Rattle.sz_save.specs.Saving.{state_of_emits}
 use Rattle.sz_records.specs.declared.ending.Ending.{Ending}
 use Rattle.sz_records.specs.declared.ending.Ending.TheVariants.{Whole, Damaged, Limit}
 use Rattle.sz_words.specs.declared.settings.RunSettings.{RunSettings}
 use Rattle.sz_words.specs.declared.settings.Settings.{Settings}
-use Rattle.sz_words.specs.declared.settings.Settings.TheVariants.{Run, Check, Selftest}
+use Rattle.sz_words.specs.declared.settings.Settings.TheVariants.{Run, Check, Selftest, Merge}
 use Rattle.sz_words.specs.Settings.{settings_in}
 use Rattle.sz_rounds.specs.Outcomes.{ShardsEnd, emitted, faulted, lost, outcome_of}
-use Rattle.szl.specs.declared.status.Status.{Status}
 use Rattle.szl.specs.declared.status.Status.TheVariants as status
 use Rattle.sz_check_rules.specs.Causes.{text_of}
 use Rattle.szl.specs.declared.refusal.Refusal.{Refusal}
 use Rattle.szl.specs.Judgement.{Reading, refused, spells}
 use Rattle.szl.specs.Checking.{checked}
-use Rattle.szl.specs.Reserved.{runnable}
+use Rattle.szl.specs.Savable.{savable}
 use Rattle.szl.specs.Settings.{selftest_run}
 use Rattle.szl.specs.Records.{Cut}
+use Rattle.szl.specs.Merging.{Merged, outcome_of_merge}
+use Rattle.szl.specs.ProtoFiles.{proto_asked, outcome_of_file, behind_file}
+use Rattle.sz_protofile_rules.specs.Types.{TypeShape}
+use Rattle.sz_protofile_laws.specs.Readings.{FileReading}
 use Rattle.szl.specs.Shards.{shards_in, job_of}
-
--- what a call of the program answers: its status, the bytes of its output, the line that names the cause, and how many of the files
--- that the words name it opens, if it names so many
-pub record Answer : Type 0 where
-  pub status : Status
-  pub output : List ℕ
-  pub line : List ℕ
-  pub opens : ℕ
-
--- the lines of the causes that name no place of a program
-abbrev pub usage_line : List ℕ
-usage_line = codes "bad command line\n"
-
-abbrev pub read_failed_line : List ℕ
-read_failed_line = codes "read failed\n"
-
-abbrev pub write_failed_line : List ℕ
-write_failed_line = codes "write failed\n"
-
-abbrev pub no_memory_line : List ℕ
-no_memory_line = codes "out of memory\n"
-
--- the lines of an input whose records don't end with it, by the byte at which the next one would begin
-abbrev pub damaged_line : ℕ → List ℕ
-damaged_line byte = codes "input damaged at byte " ++ (decimal byte ++ 10 ∷ [])
-
-abbrev pub limit_line : ℕ → List ℕ
-limit_line byte = codes "input limit at byte " ++ (decimal byte ++ 10 ∷ [])
-
--- the line of a shard that is lost
-abbrev pub lost_line : ℕ → List ℕ
-lost_line shard = codes "shard " ++ (decimal shard ++ codes " lost\n")
-
--- a place as the lines name it
-abbrev pub place_text : Place → List ℕ
-place_text place = decimal place.line ++ (codes ":" ++ decimal place.column)
-
--- the texts of the faults, by their kinds from 1
-abbrev pub fault_texts : List (List ℕ)
-fault_texts =
-    [] ∷ codes "undefined value used" ∷ codes "store outside the value" ∷ codes "calls too deep" ∷ codes "budget passed" ∷ []
-
--- the line of a fault in a record; that of a fault in a static names record 0
-abbrev pub fault_line : ℕ → Fault → List ℕ
-fault_line number fault =
-    codes "record " ++ (decimal number ++ (codes ": " ++ (slice_index_or fault_texts fault.kind []
-    ++ (codes " at " ++ (place_text fault.place ++ 10 ∷ [])))))
-
--- an answer of all the output
-abbrev pub success : List ℕ → Answer
-success output = record { status = status.Done; output = output; line = []; opens = 2 }
-
--- an answer without output, with the line that says why, after so many files
-abbrev pub refusal : Status → List ℕ → ℕ → Answer
-refusal status line opens = record { status = status; output = []; line = line; opens = opens }
+pub use Rattle.szl.specs.Answers.{Answer, usage_line, read_failed_line, write_failed_line, no_memory_line, damaged_line, limit_line, lost_line}
+pub use Rattle.szl.specs.Answers.{place_text, name_text, fault_texts, fault_line, success, refusal}
 
 -- how many files are opened for a fault in a record: for one in a static the program alone
 abbrev pub opened_for : ℕ → ℕ
@@ -101,27 +52,28 @@ outcome_of_ending (Limit byte) text = refusal status.Limit (limit_line byte) 2
 abbrev pub outcome_lost : ℕ → Answer
 outcome_lost shard = refusal status.ShardLost (lost_line shard) 2
 
--- the answer to what comes of the shards: the first that is lost, or has the first record too many that faults, decides, and then how the records
--- end. How many records were passed over plays no part
-abbrev pub outcome_of_shards : Marked → Ending → ShardsEnd → Answer
-outcome_of_shards program ending (emitted emits passed) = outcome_of_ending ending (tables_text (all_tables program) emits)
-outcome_of_shards program ending (faulted number fault) = outcome_faulted number fault
-outcome_of_shards program ending (lost shard) = outcome_lost shard
+-- what is written of all emits: the text of the tables, or the saved tables, whose bound is so many records times the budget
+abbrev pub written : Marked → (save : Bool) → (records budget : ℕ) → List EmitDatum → List ℕ
+written program save records budget emits =
+    if save then saved_bytes (state_of_emits (records * budget) (all_tables program) emits) else tables_text (all_tables program) emits
+
+-- The answer to what comes of the shards: the first that is lost, or has the first record too many that faults, decides, and then how the records
+-- end. What is written of the emits is given; how many records were passed over plays no part
+abbrev pub outcome_of_shards : (List EmitDatum → List ℕ) → Ending → ShardsEnd → Answer
+outcome_of_shards write ending (emitted emits passed) = outcome_of_ending ending (write emits)
+outcome_of_shards write ending (faulted number fault) = outcome_faulted number fault
+outcome_of_shards write ending (lost shard) = outcome_lost shard
 
 -- the answer to what the statics are: a fault in one decides, and then the shards of the records, with these statics
 abbrev pub outcome_of_statics : Marked → RunSettings → Cut → world.Outcome (List Slot) → Answer
 outcome_of_statics program s cut (Faulted fault) = outcome_faulted 0 fault
 outcome_of_statics program s cut (Done slots) =
-    outcome_of_shards program cut.ending (outcome_of (job_of program slots s) (shards_in s.shard cut.records))
+    outcome_of_shards (written program s.save (length cut.records) s.budget) cut.ending
+    (outcome_of (job_of program slots s) (shards_in s.shard cut.records))
 
 -- the outcome of a program over an input, which is cut into records so. Neither the number of workers nor a doubled shard plays a part
 abbrev pub outcome_of_program : Marked → RunSettings → Cut → Answer
 outcome_of_program program s cut = outcome_of_statics program s cut (statics program s.budget)
-
--- the name of a refusal after the text of its cause, if it has one
-abbrev pub name_text : Option (List ℕ) → List ℕ
-name_text None = []
-name_text (Some name) = codes ": " ++ name
 
 -- the line that says why a program is refused, and where
 abbrev pub refusal_line : Refusal → List ℕ
@@ -136,28 +88,40 @@ abbrev pub outcome_of_checked_run : RunSettings → Cut → Result Marked Refusa
 outcome_of_checked_run s cut (Ok program) = outcome_of_program program s cut
 outcome_of_checked_run s cut (Err r) = outcome_refused r
 
--- the outcome of running what was read
-abbrev pub outcome_of_run : RunSettings → Cut → Reading → Answer
-outcome_of_run s cut (refused r) = outcome_refused r
-outcome_of_run s cut (spells statements) = outcome_of_checked_run s cut (runnable s.ignore_undefs statements)
+-- the outcome of running what was read, where these types are known
+abbrev pub outcome_of_run : List TypeShape → RunSettings → Cut → Reading → Answer
+outcome_of_run types s cut (refused r) = outcome_refused r
+outcome_of_run types s cut (spells statements) = outcome_of_checked_run s cut (savable types s.save s.ignore_undefs statements)
 
 -- the outcome of checking
 abbrev pub outcome_of_checked : Result Core Refusal → Answer
 outcome_of_checked (Ok program) = success []
 outcome_of_checked (Err r) = outcome_refused r
 
--- the outcome of checking what was read
-abbrev pub outcome_of_check : Reading → Answer
-outcome_of_check (refused r) = outcome_refused r
-outcome_of_check (spells statements) = outcome_of_checked (checked statements)
+-- the outcome of checking what was read, where these types are known
+abbrev pub outcome_of_check : List TypeShape → Reading → Answer
+outcome_of_check types (refused r) = outcome_refused r
+outcome_of_check types (spells statements) = outcome_of_checked (checked types statements)
 
--- the outcome of settings, from the reading of the program's text and the input, which is cut so
-abbrev pub outcome_of_settings : Option Settings → Reading → Cut → Answer
-outcome_of_settings (Some (Run s)) reading cut = outcome_of_run s cut reading
-outcome_of_settings (Some (Check program)) reading cut = outcome_of_check reading
-outcome_of_settings (Some (Selftest seed records workers)) reading cut = outcome_of_run (selftest_run workers) cut reading
-outcome_of_settings _ reading cut = refusal status.Usage usage_line 0
+-- the outcome of settings where these types are known, from the reading of the program's text, the input, which is cut so, and what joining
+-- files comes to
+abbrev pub outcome_with : List TypeShape → Option Settings → Reading → Cut → Merged → Answer
+outcome_with types (Some (Run s)) reading cut merged = outcome_of_run types s cut reading
+outcome_with types (Some (Check program proto)) reading cut merged = outcome_of_check types reading
+outcome_with types (Some (Selftest seed records workers)) reading cut merged = outcome_of_run types (selftest_run workers) cut reading
+outcome_with types (Some (Merge names save)) reading cut merged = outcome_of_merge (length names) save merged
+outcome_with types _ reading cut merged = refusal status.Usage usage_line 0
 
--- the outcome of a command line, from its words, the reading of the program's text and the input, which is cut so
-abbrev pub outcome : List (List ℕ) → Reading → Cut → Answer
-outcome words reading cut = outcome_of_settings (settings_in words) reading cut
+-- the outcome behind the file of a name, if there is one, which is read so: a file that is refused decides, and else its types are known
+abbrev pub outcome_behind : Option (List ℕ) → FileReading → Option Settings → Reading → Cut → Merged → Answer
+outcome_behind name file asked reading cut merged = behind_file name (outcome_of_file file (λ types. outcome_with types asked reading cut merged))
+
+-- the outcome of settings, from the reading of their `.proto` file, the reading of the program's text, the input, which is cut so, and what
+-- joining files comes to
+abbrev pub outcome_of_settings : Option Settings → FileReading → Reading → Cut → Merged → Answer
+outcome_of_settings asked file reading cut merged = outcome_behind (proto_asked asked) file asked reading cut merged
+
+-- the outcome of a command line, from its words, the readings of the `.proto` file and of the program's text, the input, which is cut so, and
+-- what joining files comes to
+abbrev pub outcome : List (List ℕ) → FileReading → Reading → Cut → Merged → Answer
+outcome words file reading cut merged = outcome_of_settings (settings_in words) file reading cut merged

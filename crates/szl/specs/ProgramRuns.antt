@@ -1,5 +1,5 @@
 -- What running a program gives, part by part.
-use Rattle.std.specs.Prelude.{◌≡◌, ℕ, ⊤, List, [], ◌∷◌, IfSome, Result, Ok, Err, Vec}
+use Rattle.std.specs.Prelude.{◌≡◌, ℕ, ⊤, Bool, true, List, [], ◌∷◌, length, IfSome, Result, Ok, Err, Vec}
 use Rattle.sz_io.specs.Rose.{Rose}
 use Rattle.sz_io.specs.declared.files.Files as files
 use Rattle.sz_io.specs.declared.error.OutsideError.{OutsideError}
@@ -7,19 +7,20 @@ use Rattle.sz_io.specs.declared.error.OutsideError.TheVariants as outside
 use Rattle.sz_types.specs.declared.frame.Frame.{Frame}
 use Rattle.sz_world_rules.specs.World.{Done, Faulted}
 use Rattle.sz_world_rules.specs.Slots.{Slot}
-use Rattle.sz_mean.specs.Marked.{Marked}
+use Rattle.sz_mean.specs.Marked.{Marked, all_tables}
 use Rattle.sz_mean.specs.Programs.{statics}
 use Rattle.sz_machine.specs.Ends.{seen_fault}
 use Rattle.sz_words.specs.declared.settings.RunSettings.{RunSettings}
 use Rattle.sz_attempt.specs.declared.job.Job.{Job}
 use Rattle.sz_rounds.specs.Outcomes.{outcome_of}
+use Rattle.sz_save.specs.Saving.{HaveSpelling}
 use Rattle.sz_stream.specs.declared.stop.Stop.{Stop}
 use Rattle.sz_stream.specs.declared.stop.Stop.TheVariants as stops
 use Rattle.szl.specs.declared.failure.Failure.{Failure}
 use Rattle.szl.specs.declared.failure.Failure.TheVariants as failure
 use Rattle.szl.specs.Opening.{Decides, status_of_answer}
 use Rattle.szl.specs.Promise.{OpensFiles}
-use Rattle.szl.specs.Outcome.{outcome_of_shards}
+use Rattle.szl.specs.Outcome.{written, outcome_of_shards}
 use Rattle.szl.specs.Records.{Cut, IsCutInto}
 use Rattle.szl.specs.Shards.{shards_in, job_of}
 
@@ -49,17 +50,23 @@ failure_of_stop (stops.Limit byte) = failure.Limit byte
 failure_of_stop stops.ReadFailed = failure.ReadFailed
 failure_of_stop stops.NoMemory = failure.NoMemory
 
--- what running a job over an input gives: the outcome of the shards of the input's records; or that a read failed, or want of memory
-pub record GivesTables (job : Job) (most : ℕ) (frame : Frame) (input : List ℕ) (rose : Type 0) (answer : Result (List ℕ) Failure) : Type 0 where
+-- where its tables are to be saved, the program's declarations have a spelling
+abbrev pub CanSave : Bool → Marked → Type 0
+CanSave save program = save ≡ true → HaveSpelling (all_tables program)
+
+-- What running a job over an input gives: the outcome of the shards of the input's records, with the tables saved or their text; or that a read
+-- failed, or want of memory
+pub record GivesTables (job : Job) (save : Bool) (most : ℕ) (frame : Frame) (input : List ℕ) (rose : Type 0) (answer : Result (List ℕ) Failure) : Type 0 where
   pub cut : Cut
   pub is_cut : IsCutInto frame input cut
-  pub decides : Decides answer (outcome_of_shards job.compiled cut.ending (outcome_of job (shards_in most cut.records))) rose
+  pub decides : Decides answer (outcome_of_shards (written job.compiled save (length cut.records) job.budget) cut.ending
+      (outcome_of job (shards_in most cut.records))) rose
 
 -- what running a job over the file of the settings gives, which is opened for it
 pub record GivesFile {F : Type 0} (the_files : files.Ghosts F) (job : Job) (s : RunSettings) (old new : F) (answer : Result (List ℕ) Failure) : Type 0 where
   pub input : List ℕ
   pub holds : IfSome (the_files.held old s.input) (λ bytes. bytes ≡ input)
-  pub tables : GivesTables job s.shard s.frame input (Rose (the_files.faults old) (the_files.faults new)) answer
+  pub tables : GivesTables job s.save s.shard s.frame input (Rose (the_files.faults old) (the_files.faults new)) answer
   pub opened : OpensFiles the_files old new (s.input ∷ []) 1 (status_of_answer answer)
 
 -- the job is what the outcome knows of the run, with some shards doubled

@@ -1,5 +1,5 @@
 -- What a call of the program promises.
-use Rattle.std.specs.Prelude.{◌≡◌, ◌≢◌, ℕ, ◌≤◌, ◌⊎◌, ⊤, Bool, IsTrue, List, [], ◌∷◌, ◌++◌, length, take, Option, Some, IfSome, IsSome}
+use Rattle.std.specs.Prelude.{◌≡◌, ◌≢◌, ℕ, ◌≤◌, ◌⊎◌, ⊤, Bool, IsTrue, List, [], ◌∷◌, ◌++◌, length, take, Option, Some, IfSome, IsSome, option_to_list}
 use Rattle.std.specs.Io.KnownBytes.{Appends, IsAtEnd}
 use Rattle.sz_feed.specs.Feed.{file_of}
 use Rattle.sz_feed.specs.Program.{program_text}
@@ -9,12 +9,16 @@ use Rattle.sz_io.specs.declared.sink.Sink as sink
 use Rattle.szl.specs.declared.status.Status.{Status}
 use Rattle.szl.specs.declared.status.Status.TheVariants.{Done, Usage, ReadFailed, WriteFailed, NoMemory}
 use Rattle.sz_words.specs.declared.settings.Settings.{Settings}
-use Rattle.sz_words.specs.declared.settings.Settings.TheVariants.{Run, Check, Selftest}
+use Rattle.sz_words.specs.declared.settings.Settings.TheVariants.{Run, Check, Selftest, Merge}
 use Rattle.sz_words.specs.Settings.{settings_in}
 use Rattle.szl.specs.Judgement.{Reading, IsRead}
 use Rattle.szl.specs.Settings.{frame_asked}
 use Rattle.szl.specs.Records.{Cut, IsCutInto}
-use Rattle.szl.specs.Outcome.{Answer, read_failed_line, write_failed_line, no_memory_line, outcome}
+use Rattle.szl.specs.Merging.{Merged, IsMerged, AreHeld}
+use Rattle.szl.specs.Answers.{Answer, read_failed_line, write_failed_line, no_memory_line}
+use Rattle.szl.specs.ProtoFiles.{IsFileRead, IsOfFile, proto_asked}
+use Rattle.szl.specs.Outcome.{outcome}
+use Rattle.sz_protofile_laws.specs.Readings.{FileReading}
 
 -- The status is the outcome's, or one of the three that a device or want of memory brings: reading can fail only where
 -- the words are a command line, and writing only where there are bytes to write.
@@ -56,11 +60,21 @@ pub record GainsLine {S : Type 0} (the_sink : sink.Ghosts S) (old new : S) (line
   pub appends : Appends (the_sink.taken old) (the_sink.taken new) (take count line)
   pub whole : (length line ≤ count) ⊎ (Rose (the_sink.faults old) (the_sink.faults new) ⊎ Rose (the_sink.refusals old) (the_sink.refusals new))
 
--- the names that settings may open, in order: the program, and then the input of a run
+-- the names that settings may open behind a `.proto` file, in order: the program, and then the input of a run; or the files to be joined
+abbrev pub names_behind : Option Settings → List (List ℕ)
+names_behind (Some (Run s)) = s.program ∷ s.input ∷ []
+names_behind (Some (Check program proto)) = program ∷ []
+names_behind (Some (Merge names save)) = names
+names_behind _ = []
+
+-- the names that settings may open, in order: the `.proto` file, if one is asked for, and then the others
 abbrev pub names_asked : Option Settings → List (List ℕ)
-names_asked (Some (Run s)) = s.program ∷ s.input ∷ []
-names_asked (Some (Check program)) = program ∷ []
-names_asked _ = []
+names_asked asked = option_to_list (proto_asked asked) ++ names_behind asked
+
+-- how many files may have been opened before a call, so that there is room for those that it opens
+abbrev pub most_before : Option Settings → ℕ
+most_before (Some (Merge names save)) = 64
+most_before _ = 125
 
 -- what is so, unless a read failed or memory ran out
 abbrev pub IfRead : Status → Type 0 → Type 0
@@ -92,30 +106,45 @@ pub record OpensFiles {F : Type 0} (the_files : files.Ghosts F) (old new : F) (a
   pub each : IfRead status (HasFileEach the_files old new (take count asked))
   pub of_some : status ≡ ReadFailed → take count asked ≢ []
 
--- the bytes under each name that the words ask for are these, where they are told; those of a self test are its program and its file
-abbrev pub AreOfFiles : Option Settings → (List ℕ → Option (List ℕ)) → List ℕ → List ℕ → Type 0
-AreOfFiles (Some (Run s)) held text input = IfSome (held s.program) (λ bytes. bytes ≡ text) × IfSome (held s.input) (λ bytes. bytes ≡ input)
-AreOfFiles (Some (Check program)) held text input = IfSome (held program) (λ bytes. bytes ≡ text)
-AreOfFiles (Some (Selftest seed records workers)) held text input = (text ≡ program_text) × (input ≡ file_of seed records)
-AreOfFiles _ held text input = ⊤
+-- the bytes under each name that the words ask for are these, where they are told: of a program, an input, or files to be joined; those of a
+-- self test are its program and its file
+abbrev pub AreOfFiles : Option Settings → (List ℕ → Option (List ℕ)) → List ℕ → List ℕ → List (List ℕ) → Type 0
+AreOfFiles (Some (Run s)) held text input saved = IfSome (held s.program) (λ bytes. bytes ≡ text) × IfSome (held s.input) (λ bytes. bytes ≡ input)
+AreOfFiles (Some (Check program proto)) held text input saved = IfSome (held program) (λ bytes. bytes ≡ text)
+AreOfFiles (Some (Selftest seed records workers)) held text input saved = (text ≡ program_text) × (input ≡ file_of seed records)
+AreOfFiles (Some (Merge names save)) held text input saved = AreHeld held names saved
+AreOfFiles _ held text input saved = ⊤
+
+-- where files are to be joined, it ends so for files of these bytes
+abbrev pub IsMergedFor : Option Settings → List (List ℕ) → Merged → Type 0
+IsMergedFor (Some (Merge names save)) saved merged = IsMerged saved merged
+IsMergedFor _ saved merged = ⊤
 
 -- The call's status, its output, its line and the files that it opens are those of the outcome, for the bytes that the
--- files hold, the reading of the program's text and the records of the input. Where a file doesn't tell its bytes, it is as if it held
--- some. Since a text has just one reading and an input is cut in just one way, the outcome is determined by the words and the bytes.
+-- files hold, the readings of the `.proto` file and of the program's text, the records of the input, and what joining files comes to. Where a
+-- file doesn't tell its bytes, it is as if it held some. Since each of the two has just one reading, an input is cut in just one way and
+-- joining ends in just one, the outcome is determined by the words and the bytes.
 pub record MeansSource {F O E : Type 0} (the_files : files.Ghosts F) (the_out : sink.Ghosts O) (the_err : sink.Ghosts E)
     (words : List (List ℕ)) (status : Status) (files new_files : F) (out new_out : O) (err new_err : E) : Type 0 where
+  pub file_bytes : List ℕ
+  pub file : FileReading
+  pub file_read : IsFileRead file_bytes file
+  pub of_file : IsOfFile (proto_asked (settings_in words)) (the_files.held files) file_bytes
   pub text : List ℕ
   pub reading : Reading
   pub read : IsRead text reading
   pub input : List ℕ
   pub cut : Cut
   pub is_cut : IsCutInto (frame_asked (settings_in words)) input cut
-  pub of_files : AreOfFiles (settings_in words) (the_files.held files) text input
-  pub answers : IsStatusOf (outcome words reading cut) status
-  pub output : GainsOutput status (the_out.taken out) (the_out.taken new_out) (outcome words reading cut).output
-  pub left_alone : IsLeftAlone status (outcome words reading cut).output out new_out
-  pub line : GainsLine the_err err new_err (line_of (outcome words reading cut) status)
-  pub opened : OpensFiles the_files files new_files (names_asked (settings_in words)) (outcome words reading cut).opens status
+  pub saved : List (List ℕ)
+  pub merged : Merged
+  pub is_merged : IsMergedFor (settings_in words) saved merged
+  pub of_files : AreOfFiles (settings_in words) (the_files.held files) text input saved
+  pub answers : IsStatusOf (outcome words file reading cut merged) status
+  pub output : GainsOutput status (the_out.taken out) (the_out.taken new_out) (outcome words file reading cut merged).output
+  pub left_alone : IsLeftAlone status (outcome words file reading cut merged).output out new_out
+  pub line : GainsLine the_err err new_err (line_of (outcome words file reading cut merged) status)
+  pub opened : OpensFiles the_files files new_files (names_asked (settings_in words)) (outcome words file reading cut merged).opens status
 
 -- the fact, where the bytes under all these names are told
 abbrev pub IfTold : (List ℕ → Option (List ℕ)) → List (List ℕ) → Type 0 → Type 0

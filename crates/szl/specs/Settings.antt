@@ -1,5 +1,5 @@
 -- What a command line asks for: how its input is cut, and what a self test asks of its run.
-use Rattle.std.specs.Prelude.{ℕ, ◌^◌, [], false, Option, Some}
+use Rattle.std.specs.Prelude.{ℕ, ◌^◌, [], false, Option, Some, None}
 use Rattle.sz_types.specs.declared.frame.Frame.{Frame}
 use Rattle.sz_types.specs.declared.frame.Frame.TheVariants.{Lines, Delimited}
 use Rattle.sz_words.specs.declared.settings.RunSettings.{RunSettings}
@@ -27,4 +27,6 @@ selftest_run workers = record {
   kills = [];
   twice = [];
   ignore_undefs = false;
+  save = false;
+  proto = None;
 }

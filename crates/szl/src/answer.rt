@@ -1,5 +1,5 @@
 //! What a command line is answered, before anything is written.
-ghost use Rattle.std.specs.Prelude.{◌≡◌, ◌<◌, ◌≤◌, ◌^◌, ◌++◌, ◌∷◌, [], length, map, string_bytes, Some, OnOk};
+ghost use Rattle.std.specs.Prelude.{◌≡◌, ◌<◌, ◌≤◌, ◌^◌, ◌++◌, ◌∷◌, [], ℕ, List, length, map, string_bytes, Option, Some, OnOk};
 ghost use Rattle.sz_io.specs.Rose.{Rose};
 ghost use Rattle.sz_io.specs.Opened.{KeepsFiles};
 ghost use Rattle.sz_io.specs.Calls.{NamesGain, OpensOne, ReadToEnd};
@@ -7,19 +7,24 @@ ghost use Rattle.sz_core.specs.Sound.{IsSound};
 ghost use Rattle.sz_mean.specs.Marked.{marked};
 ghost use Rattle.sz_words.specs.declared.settings.Settings.TheVariants.{Run, Check};
 ghost use Rattle.sz_words.specs.Settings.{settings_in};
-ghost use Rattle.szl.specs.Opening.{ReadsText, ran_out, past_program, status_of_answer, Answers, AnswersOn, AnswersText, AnswersCheck};
+ghost use Rattle.sz_protofile_laws.specs.Sound.{AreSound};
+ghost use Rattle.szl.specs.Opening.{ReadsText, ran_out, past_program, status_of_answer, Answers, AnswersWith, AnswersOn, AnswersText, AnswersCheck};
 ghost use Rattle.szl.specs.Outcome.{outcome_of_program};
 ghost use Rattle.szl.specs.Judgement.{most_program_bytes};
-ghost use Rattle.szl.specs.Promise.{AreReadToEnd, IfRead, names_asked};
-ghost use Rattle.szl.specs.ProgramRuns.{vec_items_of};
+ghost use Rattle.szl.specs.Promise.{AreReadToEnd, IfRead, names_asked, most_before};
+ghost use Rattle.szl.specs.ProgramRuns.{CanSave, vec_items_of};
+ghost use Rattle.szl.specs.ProtoReads.{HaveTypeBytes};
 ghost use Rattle.sz_words.specs.Bounds.{HasBounds, IsBounded};
 
 use crate::failure::{Failure, refused};
 use crate::heights::{Stack, declares_low, workers_for};
 use crate::judge::{checked, tree_in};
+use crate::merging::answer_merge;
 use crate::opening::read_text;
 use crate::program_run::{job_of, statics_of, tables_of_file};
-use crate::reserved::runnable;
+use crate::proto::types_named;
+use crate::refusal::FIRST_PLACE;
+use crate::savable::savable;
 use crate::selftest::answer_selftest;
 use std::alloc::Global;
 use std::thread::Threads;
@@ -27,14 +32,12 @@ use sz_check_rules::Cause;
 use sz_core::Program;
 use sz_gen_stmt::compile;
 use sz_io::{Files, Gate};
-use sz_types::Place;
+use sz_protofile_types::NamedTypes;
+use sz_types::Text;
 use sz_words::{RunSettings, Settings, read_words};
 
 /// The most bytes of a program's text.
 const MOST_PROGRAM_BYTES: usize = 1_048_576;
-
-/// The place of a text's first byte.
-const FIRST_PLACE: Place = Place { line: 1, column: 1 };
 
 /// The text that the words ask for, or why there is none.
 pub fn answer<R: Threads + Sync, F: Files, G: Gate + Sync>(
@@ -45,7 +48,7 @@ pub fn answer<R: Threads + Sync, F: Files, G: Gate + Sync>(
     gate: &G,
     stack: Stack,
 ) -> Result<Vec<u8>, Failure>
-    requires { length (F.names files.old) < 127 }
+    requires { length (F.names files.old) ≤ most_before (settings_in (map string_bytes words.now)) }
     ensures value { Answers F.Files (settings_in (map string_bytes words.now)) files.old files.new (vec_items_of result) }
     ensures end { OnOk result (AreReadToEnd F.Files files.old files.new (names_asked (settings_in (map string_bytes words.now)))) }
     ensures kept { KeepsFiles F.held F.left F.given F.faults files.old files.new }
@@ -63,7 +66,7 @@ fn answer_settings<R: Threads + Sync, F: Files, G: Gate + Sync>(
     gate: &G,
     stack: Stack,
 ) -> Result<Vec<u8>, Failure>
-    requires few { length (F.names files.old) < 127 }
+    requires few { length (F.names files.old) ≤ most_before (Some settings.now) }
     requires bounds { IsBounded settings.now }
     ensures value { Answers F.Files (Some settings.now) files.old files.new (vec_items_of result) }
     ensures end { OnOk result (AreReadToEnd F.Files files.old files.new (names_asked (Some settings.now))) }
@@ -71,7 +74,19 @@ fn answer_settings<R: Threads + Sync, F: Files, G: Gate + Sync>(
 {
     match settings {
         Settings::Run(run) => answer_run(rt, alloc, run, files, gate, stack),
-        Settings::Check(program) => answer_check(alloc, program.as_str(), files, stack),
+        Settings::Check { program, proto } => answer_check(
+            alloc,
+            program.as_str(),
+            proto,
+            files,
+            stack,
+        ),
+        Settings::Merge { files: names, save } => answer_merge(
+            alloc,
+            names.as_slice(),
+            *save,
+            files,
+        ),
         Settings::Selftest {
             seed,
             records,
@@ -99,7 +114,7 @@ fn read_program<F: Files>(alloc: Global, name: &str, files: &mut F) -> Result<Ve
     )
 }
 
-/// The text of the tables of a program for an input, as these settings ask for it.
+/// The text of the tables of a program for an input, as these settings ask for it. A `.proto` file that they name is read first.
 fn answer_run<R: Threads + Sync, F: Files, G: Gate + Sync>(
     rt: &R,
     alloc: Global,
@@ -108,66 +123,116 @@ fn answer_run<R: Threads + Sync, F: Files, G: Gate + Sync>(
     gate: &G,
     stack: Stack,
 ) -> Result<Vec<u8>, Failure>
-    requires few { length (F.names files.old) < 127 }
+    requires few { length (F.names files.old) < 126 }
     requires bounds { HasBounds settings.now }
     ensures value { Answers F.Files (Some (Run settings.now)) files.old files.new (vec_items_of result) }
-    ensures end { OnOk result (AreReadToEnd F.Files files.old files.new (settings.now.program ∷ settings.now.input ∷ [])) }
+    ensures end { OnOk result (AreReadToEnd F.Files files.old files.new (names_asked (Some (Run settings.now)))) }
     ensures kept { KeepsFiles F.held F.left F.given F.faults files.old files.new }
 {
-    let text = read_program(alloc, settings.program.as_str(), files)?;
-    answer_text(rt, alloc, &text, settings, files, gate, stack)
+    let types = types_named(alloc, &settings.proto, files, stack)?;
+    run_with(rt, alloc, &types, settings, files, gate, stack)
 }
 
-/// No text, if the program under a name passes its check.
-fn answer_check<F: Files>(
-    alloc: Global,
-    program: &str,
-    files: &mut F,
-    stack: Stack,
-) -> Result<Vec<u8>, Failure>
-    requires { length (F.names files.old) < 127 }
-    ensures value { Answers F.Files (Some (Check program.now)) files.old files.new (vec_items_of result) }
-    ensures end { OnOk result (AreReadToEnd F.Files files.old files.new (program.now ∷ [])) }
-    ensures kept { KeepsFiles F.held F.left F.given F.faults files.old files.new }
-{
-    let text = read_program(alloc, program, files)?;
-    check_text(alloc, &text, stack)
-}
-
-/// No text, if the program that is spelled by a text passes its check.
-fn check_text(alloc: Global, text: &[u8], stack: Stack) -> Result<Vec<u8>, Failure>
-    requires short { length text.now ≤ most_program_bytes }
-    ensures value { AnswersCheck text.now (vec_items_of result) }
-{
-    let tree = tree_in(alloc, text, stack)?;
-    checked(alloc, &tree)?;
-    Ok(Vec::new(alloc))
-}
-
-/// The text of the tables of the program that is spelled by a text.
-fn answer_text<R: Threads + Sync, F: Files, G: Gate + Sync>(
+/// The same where these types are known.
+fn run_with<R: Threads + Sync, F: Files, G: Gate + Sync>(
     rt: &R,
     alloc: Global,
-    text: &[u8],
+    types: &NamedTypes,
     settings: &RunSettings,
     files: &mut F,
     gate: &G,
     stack: Stack,
 ) -> Result<Vec<u8>, Failure>
+    requires sound { AreSound types.now }
+    requires named { HaveTypeBytes types.now }
+    requires few { length (F.names files.old) < 127 }
+    requires bounds { HasBounds settings.now }
+    ensures value { AnswersWith F.Files types.now (Some (Run settings.now)) files.old files.new (vec_items_of result) }
+    ensures end { OnOk result (AreReadToEnd F.Files files.old files.new (settings.now.program ∷ settings.now.input ∷ [])) }
+    ensures kept { KeepsFiles F.held F.left F.given F.faults files.old files.new }
+{
+    let text = read_program(alloc, settings.program.as_str(), files)?;
+    answer_text(rt, alloc, &text, types, settings, files, gate, stack)
+}
+
+/// No text, if the program under a name passes its check. The `.proto` file under a name, if there is one, is read first.
+fn answer_check<F: Files>(
+    alloc: Global,
+    program: &str,
+    proto: &Option<Text>,
+    files: &mut F,
+    stack: Stack,
+) -> Result<Vec<u8>, Failure>
+    requires { length (F.names files.old) < 126 }
+    ensures value { Answers F.Files (Some (Check program.now proto.now)) files.old files.new (vec_items_of result) }
+    ensures end { OnOk result (AreReadToEnd F.Files files.old files.new (names_asked (Some (Check program.now proto.now)))) }
+    ensures kept { KeepsFiles F.held F.left F.given F.faults files.old files.new }
+{
+    let types = types_named(alloc, proto, files, stack)?;
+    check_named(alloc, program, &types, files, stack)
+}
+
+/// The same where these types are known.
+fn check_named<F: Files>(
+    alloc: Global,
+    program: &str,
+    types: &NamedTypes,
+    files: &mut F,
+    stack: Stack,
+) -> Result<Vec<u8>, Failure>
+    requires sound { AreSound types.now }
+    requires few { length (F.names files.old) < 127 }
+    ensures value { (proto : Option (List ℕ)) → AnswersWith F.Files types.now (Some (Check program.now proto)) files.old files.new (vec_items_of result) }
+    ensures end { OnOk result (AreReadToEnd F.Files files.old files.new (program.now ∷ [])) }
+    ensures kept { KeepsFiles F.held F.left F.given F.faults files.old files.new }
+{
+    let text = read_program(alloc, program, files)?;
+    check_text(alloc, &text, types, stack)
+}
+
+/// No text, if the program that is spelled by a text passes its check where these types are known.
+fn check_text(
+    alloc: Global,
+    text: &[u8],
+    types: &NamedTypes,
+    stack: Stack,
+) -> Result<Vec<u8>, Failure>
+    requires sound { AreSound types.now }
+    requires short { length text.now ≤ most_program_bytes }
+    ensures value { AnswersCheck types.now text.now (vec_items_of result) }
+{
+    let tree = tree_in(alloc, text, stack)?;
+    checked(alloc, &tree, types)?;
+    Ok(Vec::new(alloc))
+}
+
+/// The text of the tables of the program that is spelled by a text, where these types are known.
+fn answer_text<R: Threads + Sync, F: Files, G: Gate + Sync>(
+    rt: &R,
+    alloc: Global,
+    text: &[u8],
+    types: &NamedTypes,
+    settings: &RunSettings,
+    files: &mut F,
+    gate: &G,
+    stack: Stack,
+) -> Result<Vec<u8>, Failure>
+    requires sound { AreSound types.now }
+    requires named { HaveTypeBytes types.now }
     requires few { length (F.names files.old) < 128 }
     requires bounds { HasBounds settings.now }
     requires short { length text.now ≤ most_program_bytes }
-    ensures value { AnswersText F.Files settings.now text.now files.old files.new (vec_items_of result) }
+    ensures value { AnswersText F.Files types.now settings.now text.now files.old files.new (vec_items_of result) }
     ensures end { OnOk result (ReadToEnd F.Files files.old files.new settings.now.input) }
     ensures names { OnOk result (F.names files.new ≡ F.names files.old ++ settings.now.input ∷ []) }
     ensures kept { KeepsFiles F.held F.left F.given F.faults files.old files.new }
 {
     let tree = tree_in(alloc, text, stack)?;
-    let program = runnable(alloc, &tree, settings.ignore_undefs)?;
+    let program = savable(alloc, &tree, types, settings.save, settings.ignore_undefs)?;
     answer_program(rt, alloc, program, settings, files, gate)
 }
 
-/// The text of the program's tables for the input that the settings name. The input isn't opened where a static faults.
+/// The text of the program's tables for the input that the settings name, or the saved tables. The input isn't opened where a static faults.
 fn answer_program<R: Threads + Sync, F: Files, G: Gate + Sync>(
     rt: &R,
     alloc: Global,
@@ -177,6 +242,7 @@ fn answer_program<R: Threads + Sync, F: Files, G: Gate + Sync>(
     gate: &G,
 ) -> Result<Vec<u8>, Failure>
     requires sound { IsSound program }
+    requires can_save { CanSave settings.now.save (marked program settings.now.ignore_undefs) }
     requires few { length (F.names files.old) < 128 }
     requires bounds { HasBounds settings.now }
     ensures value { AnswersOn F.Files settings.now.frame (outcome_of_program (marked program settings.now.ignore_undefs) settings.now) settings.now.input

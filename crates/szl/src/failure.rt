@@ -12,6 +12,7 @@ use sz_io::OutsideError;
 use sz_lex::LexError;
 use sz_machine::Fault;
 use sz_parse::ParseError;
+use sz_protofile_rules::Fault as FileFault;
 use sz_stream::Stop;
 use sz_types::Place;
 use sz_words::WordsError;
@@ -29,8 +30,16 @@ pub enum Failure {
     Lost(u64),
     /// The input is damaged where a record would begin, at this byte from 0.
     Damaged(u64),
-    /// The input passes a limit where a record would begin, at this byte from 0.
+    /// The input passes a limit where a record would begin, or a file to be joined goes on, at this byte from 0.
     Limit(u64),
+    /// The file with this number among those to be joined, counted from 1, holds no saved tables.
+    BadTables(u64),
+    /// The tables of the file with this number, counted from 1, are declared otherwise than those of the first.
+    OtherTables(u64),
+    /// The bounds of the files up to the one with this number, counted from 1, pass the greatest one together.
+    TablesLimit(u64),
+    /// The `.proto` file is refused.
+    BadProtoFile(FileFault),
     /// A file couldn't be opened or read.
     ReadFailed,
     /// The text couldn't be written.
@@ -48,6 +57,10 @@ impl Drop for Failure {
             | Failure::Lost(_)
             | Failure::Damaged(_)
             | Failure::Limit(_)
+            | Failure::BadTables(_)
+            | Failure::OtherTables(_)
+            | Failure::TablesLimit(_)
+            | Failure::BadProtoFile(_)
             | Failure::ReadFailed
             | Failure::WriteFailed
             | Failure::NoMemory => {}
@@ -67,6 +80,10 @@ impl Failure {
             Failure::Lost(_) => Status::ShardLost,
             Failure::Damaged(_) => Status::Damaged,
             Failure::Limit(_) => Status::Limit,
+            Failure::BadTables(_) => Status::BadTables,
+            Failure::OtherTables(_) => Status::OtherTables,
+            Failure::TablesLimit(_) => Status::TablesLimit,
+            Failure::BadProtoFile(_) => Status::BadProtoFile,
             Failure::ReadFailed => Status::ReadFailed,
             Failure::WriteFailed => Status::WriteFailed,
             Failure::NoMemory => Status::NoMemory,

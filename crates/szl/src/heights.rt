@@ -4,6 +4,7 @@ ghost use Rattle.std.specs.Prelude.{◌≤◌};
 use sz_core::{Item, Program};
 use sz_gen_stmt::Compiled;
 use sz_lex::{Kind, Sign, Token, Word};
+use sz_protofile_types::NamedType;
 use sz_types::{Field, TableDecl, Ty, Tys};
 
 /// Up to this height a type is low: the stack that a system gives to a thread is enough for values of many times this height. In one
@@ -20,6 +21,14 @@ pub enum Stack {
 }
 
 impl Stack {
+    /// Whether it is enough for the types of a `.proto` file.
+    pub fn holds_types(self, types: &[NamedType]) -> bool {
+        match self {
+            Stack::Large => true,
+            Stack::Small => named_low(types),
+        }
+    }
+
     /// Whether it is enough for the types of a program with these tokens.
     pub fn holds(self, tokens: &[Token]) -> bool {
         match self {
@@ -85,6 +94,16 @@ fn are_fields_low(fields: &[Field], most: u32) -> bool {
 fn are_low(types: &Tys) -> bool {
     for ty in types.as_slice() {
         if !is_low(ty, LOW) {
+            return false;
+        }
+    }
+    true
+}
+
+/// Whether the types with these names are low.
+fn named_low(types: &[NamedType]) -> bool {
+    for named in types {
+        if !is_low(&named.ty, LOW) {
             return false;
         }
     }

@@ -1,9 +1,9 @@
 //! The top call over devices of which no call fails.
-ghost use Rattle.std.specs.Prelude.{◌≡◌, ◌<◌, length, map, string_bytes};
+ghost use Rattle.std.specs.Prelude.{◌≡◌, ◌≤◌, length, map, string_bytes};
 ghost use Rattle.sz_io.specs.SureFiles.{sure_names};
 ghost use Rattle.sz_words.specs.Settings.{settings_in};
 ghost use Rattle.szl.specs.Completeness.{Completes};
-ghost use Rattle.szl.specs.Promise.{AreReadToEnd, names_asked};
+ghost use Rattle.szl.specs.Promise.{AreReadToEnd, names_asked, most_before};
 
 use crate::status::Status;
 use crate::top::szl_main;
@@ -22,7 +22,7 @@ pub fn szl_in_memory<R: Threads + Sync, G: Gate + Sync>(
     err: &mut SureSink,
     gate: &G,
 ) -> Status
-    requires { length (sure_names files.old) < 127 }
+    requires { length (sure_names files.old) ≤ most_before (settings_in (map string_bytes words.now)) }
     ensures complete { Completes ⟦<SureFiles as Files>⟧ ⟦<SureSink as Sink>⟧ ⟦<SureSink as Sink>⟧ (map string_bytes words.now) result
         files.old files.new out.old out.new err.old err.new }
     ensures end { result ≡ Status.Done

@@ -1,6 +1,7 @@
 //! What a program's text is: its tree, and the checked program.
 ghost use Rattle.std.specs.Prelude.{◌≡◌, ◌≤◌, length, IfOk, IfErr, Ok};
 ghost use Rattle.sz_core.specs.Sound.{IsSound};
+ghost use Rattle.sz_protofile_laws.specs.Sound.{AreSound};
 ghost use Rattle.sz_tree.specs.View.{program_of};
 ghost use Rattle.szl.specs.Checking.{checked};
 ghost use Rattle.szl.specs.Judgement.{HasStatements, most_program_bytes};
@@ -10,12 +11,12 @@ use crate::failure::Failure;
 use crate::heights::Stack;
 use crate::refusal::Refusal;
 use std::alloc::Global;
-use sz_check::{CheckError, check};
-use sz_check_laws::judged_programs_are_sound;
+use sz_check::{CheckError, check_with};
 use sz_check_rules::Cause;
 use sz_core::Program;
 use sz_lex::lex;
 use sz_parse::parse;
+use sz_protofile_types::NamedTypes;
 use sz_tree::Tree;
 
 /// The tree that the text spells. Where the stack isn't enough for its types, that counts as want of memory.
@@ -34,16 +35,18 @@ pub fn tree_in(alloc: Global, text: &[u8], stack: Stack) -> Result<Tree, Failure
     }
 }
 
-/// The checked program that the tree is. That it is sound is a law of the judgement.
+/// The checked program that the tree is where these types are known.
 #[tactic(auto, unfolding(crate::specs::Checking::checked), using(crate::proofs::JudgeLemmas::is_number, crate::proofs::JudgeLemmas::refused_tree))]
-pub fn checked(alloc: Global, tree: &Tree) -> Result<Program, Failure>
-    ensures found { IfOk result (λ program. checked (program_of tree.now) ≡ Ok program) }
+pub fn checked(alloc: Global, tree: &Tree, types: &NamedTypes) -> Result<Program, Failure>
+    requires sound { AreSound types.now }
+    ensures found { IfOk result (λ program. checked types.now (program_of tree.now) ≡ Ok program) }
     ensures sound { IfOk result (λ program. IsSound program) }
-    ensures refused { IfErr result (λ failure. IsFailureOn (checked (program_of tree.now)) failure) }
+    ensures refused { IfErr result (λ failure. IsFailureOn (checked types.now (program_of tree.now)) failure) }
 {
-    match check(alloc, tree) {
+    match check_with(alloc, tree, types) {
         Ok(program) => {
-            judged_programs_are_sound();
+            // A checked program tells that it is sound.
+            let _ = program.items();
             Ok(program)
         }
         Err(

@@ -1,6 +1,12 @@
-//! What holds of all texts, and of all records. The calls do nothing: they promise laws of `specs/Judgement.antt` and `specs/Shards.antt`.
+//! What holds of all texts, of all files of types, of all records, and of all saved files. The calls do nothing: they promise laws of
+//! `specs/Judgement.antt`, `specs/ProtoFiles.antt`, `specs/Shards.antt` and `specs/Merging.antt`.
 ghost use Rattle.szl.specs.Judgement.{EveryTextIsRead, HasOneReading};
+ghost use Rattle.szl.specs.Merging.{EveryListIsMerged, IsMergedOnce};
+ghost use Rattle.szl.specs.ProtoFiles.{EveryFileIsRead, HasOneFileReading};
 ghost use Rattle.szl.specs.Shards.{SizesAreShards};
+
+use sz_merge::merging_forgets_the_order;
+use sz_save::one_spelling;
 
 /// A text has just one reading, so the outcome of a command line is determined by its words and the bytes of its files.
 pub fn readings_are_unique()
@@ -8,7 +14,23 @@ pub fn readings_are_unique()
     ensures one { HasOneReading }
 {}
 
+/// A `.proto` file has just one reading too: its types, or what it is refused for.
+pub fn files_are_read_once()
+    ensures some { EveryFileIsRead }
+    ensures one { HasOneFileReading }
+{}
+
 /// Records are cut into shards of the sizes that the outcome has, which are the only ones.
 pub fn sizes_are_shards()
     ensures cut { SizesAreShards }
 {}
+
+/// Merging 1 to 64 files ends in just one way, so the outcome of a command line that merges is determined by its words and the bytes of its
+/// files.
+pub fn merging_ends_once()
+    ensures some { EveryListIsMerged }
+    ensures one { IsMergedOnce }
+{
+    one_spelling();
+    merging_forgets_the_order();
+}

@@ -1,4 +1,4 @@
-//! The top call: it runs a program over the records of a file, and prints its tables; or it checks a program.
+//! The top call: it runs a program over the records of a file, and prints or saves its tables; or it checks a program, or joins saved tables.
 #![tactic(auto)]
 
 mod answer;
@@ -8,16 +8,19 @@ mod in_memory;
 mod judge;
 mod laws;
 mod lines;
+mod merging;
 mod opening;
 mod program_run;
+mod proto;
 mod refusal;
 mod reserved;
+mod savable;
 mod selftest;
 mod status;
 mod top;
 
 pub use heights::Stack;
 pub use in_memory::szl_in_memory;
-pub use laws::{readings_are_unique, sizes_are_shards};
+pub use laws::{files_are_read_once, merging_ends_once, readings_are_unique, sizes_are_shards};
 pub use status::Status;
 pub use top::{szl_main, szl_main_on};

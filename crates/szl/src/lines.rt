@@ -1,7 +1,7 @@
-//! The lines that name the byte of an input, a record that faults, or a shard that is lost.
+//! The lines that name the byte of an input, a file to be joined, a record that faults, or a shard that is lost.
 ghost use Rattle.std.specs.Prelude.{◌≡◌, ◌++◌, ◌∷◌, [], IfOk, decimal, slice_index_or};
 ghost use Rattle.sz_machine.specs.Ends.{seen_fault};
-ghost use Rattle.szl.specs.Outcome.{lost_line, damaged_line, limit_line, fault_texts, fault_line};
+ghost use Rattle.szl.specs.Answers.{lost_line, damaged_line, limit_line, bad_tables_line, other_tables_line, tables_limit_line, fault_texts, fault_line};
 
 use crate::refusal::push_place;
 use itoa::Buffer;
@@ -12,14 +12,35 @@ use sz_machine::Fault;
 pub fn damaged_line(alloc: Global, byte: u64) -> Result<Vec<u8>, AllocError>
     ensures value { IfOk result (λ line. line.items ≡ damaged_line byte) }
 {
-    byte_line(alloc, b"input damaged at byte ", byte)
+    numbered_line(alloc, b"input damaged at byte ", byte)
 }
 
 /// The line of an input that passes a limit at a byte, with its newline.
 pub fn limit_line(alloc: Global, byte: u64) -> Result<Vec<u8>, AllocError>
     ensures value { IfOk result (λ line. line.items ≡ limit_line byte) }
 {
-    byte_line(alloc, b"input limit at byte ", byte)
+    numbered_line(alloc, b"input limit at byte ", byte)
+}
+
+/// The line of a file to be joined that holds no saved tables, with its newline. Files are counted from 1.
+pub fn bad_tables_line(alloc: Global, number: u64) -> Result<Vec<u8>, AllocError>
+    ensures value { IfOk result (λ line. line.items ≡ bad_tables_line number) }
+{
+    numbered_line(alloc, b"bad tables in file ", number)
+}
+
+/// The line of a file to be joined whose tables are declared otherwise than those of the first, with its newline. Files are counted from 1.
+pub fn other_tables_line(alloc: Global, number: u64) -> Result<Vec<u8>, AllocError>
+    ensures value { IfOk result (λ line. line.items ≡ other_tables_line number) }
+{
+    numbered_line(alloc, b"other tables in file ", number)
+}
+
+/// The line of a file to be joined up to which the bounds pass the greatest one together, with its newline. Files are counted from 1.
+pub fn tables_limit_line(alloc: Global, number: u64) -> Result<Vec<u8>, AllocError>
+    ensures value { IfOk result (λ line. line.items ≡ tables_limit_line number) }
+{
+    numbered_line(alloc, b"table limit in file ", number)
 }
 
 /// The line of a shard that is lost, with its newline.
@@ -49,13 +70,13 @@ pub fn fault_line(alloc: Global, number: u64, fault: &Fault) -> Result<Vec<u8>, 
     Ok(line)
 }
 
-// A line that ends with the number of a byte.
-fn byte_line(alloc: Global, front: &[u8], byte: u64) -> Result<Vec<u8>, AllocError>
-    ensures value { IfOk result (λ line. line.items ≡ front.now ++ (decimal byte ++ 10 ∷ [])) }
+// A line that ends with a number.
+fn numbered_line(alloc: Global, front: &[u8], number: u64) -> Result<Vec<u8>, AllocError>
+    ensures value { IfOk result (λ line. line.items ≡ front.now ++ (decimal number ++ 10 ∷ [])) }
 {
     let mut digits = Buffer::new();
     let mut line = Vec::from_slice(alloc, front)?;
-    line.extend_from_slice(digits.format(byte).as_bytes())?;
+    line.extend_from_slice(digits.format(number).as_bytes())?;
     line.push(b'\n')?;
     Ok(line)
 }

@@ -1,9 +1,9 @@
 //! The files of a command line.
-ghost use Rattle.std.specs.Prelude.{◌≡◌, ◌<◌, ◌⊎◌, length, OnOk};
+ghost use Rattle.std.specs.Prelude.{◌≢◌, ◌<◌, length, OnOk};
 ghost use Rattle.sz_io.specs.Rose.{Rose};
 ghost use Rattle.sz_io.specs.Opened.{KeepsFiles};
 ghost use Rattle.sz_io.specs.Calls.{NamesGain, OpensOne, ReadToEnd};
-ghost use Rattle.szl.specs.Opening.{ReadsText, past_program, ran_out, status_of_answer};
+ghost use Rattle.szl.specs.Opening.{ReadsText, ran_out, status_of_answer};
 ghost use Rattle.szl.specs.Promise.{IfRead};
 ghost use Rattle.szl.specs.ProgramRuns.{vec_items_of};
 
@@ -11,7 +11,7 @@ use crate::failure::Failure;
 use std::alloc::Global;
 use sz_io::{Files, ReadError, read_whole};
 
-/// Reads a whole file of at most `limit` bytes; `past` is the failure where it has more.
+/// Reads a whole file of at most `limit` bytes; `past` is the failure where it has more, any but that of reading.
 pub fn read_text<F: Files>(
     alloc: Global,
     files: &mut F,
@@ -20,7 +20,7 @@ pub fn read_text<F: Files>(
     past: Failure,
 ) -> Result<Vec<u8>, Failure>
     requires few { length (F.names files.old) < 128 }
-    requires past { (past ≡ past_program) ⊎ (past ≡ Failure.NoMemory) }
+    requires past { past ≢ Failure.ReadFailed }
     ensures text { ReadsText (F.held files.old name.now) limit past (Rose (F.faults files.old) (F.faults files.new)) (vec_items_of result) }
     ensures names { NamesGain (ran_out (vec_items_of result)) (F.names files.old) (F.names files.new) name.now }
     ensures opened { IfRead (status_of_answer (vec_items_of result)) (OpensOne F.Files files.old files.new) }

@@ -1,11 +1,17 @@
 //! A program run over an input.
-ghost use Rattle.std.specs.Prelude.{◌≡◌, ◌<◌, ◌≤◌, ◌^◌, ◌++◌, ◌∷◌, [], IfOk, OnOk, length};
+ghost use Rattle.std.specs.Prelude.{◌≡◌, ◌<◌, ◌≤◌, ◌*◌, ◌^◌, ◌++◌, ◌∷◌, [], List, true, IfOk, OnOk, length};
+ghost use Rattle.sz_mean.specs.Marked.{all_tables};
+ghost use Rattle.sz_tabs.specs.Data.{EmitDatum};
+ghost use Rattle.sz_total.specs.States.{declarations, emit_count, shown};
+ghost use Rattle.sz_total.specs.Totals.{StandsFor};
+ghost use Rattle.sz_save.specs.Saving.{HaveSpelling};
+ghost use Rattle.szl.specs.Outcome.{written};
 ghost use Rattle.sz_gen_rules.specs.Simulates.{static_types};
 ghost use Rattle.sz_world_rules.specs.Typed.{AllFit};
 ghost use Rattle.sz_attempt.specs.Shards.{IsJob};
 ghost use Rattle.sz_io.specs.Opened.{KeepsFiles};
 ghost use Rattle.sz_io.specs.Calls.{ReadToEnd};
-ghost use Rattle.szl.specs.ProgramRuns.{GivesStatics, GivesTables, GivesFile, IsJobOf, vec_items_of};
+ghost use Rattle.szl.specs.ProgramRuns.{CanSave, GivesStatics, GivesTables, GivesFile, IsJobOf, vec_items_of};
 ghost use Rattle.sz_words.specs.Bounds.{HasBounds};
 
 use crate::failure::Failure;
@@ -17,7 +23,8 @@ use sz_io::{Files, Gate};
 use sz_list::Items;
 use sz_machine::{StaticsEnd, run_statics};
 use sz_print::text;
-use sz_stream::{run_bytes, run_file};
+use sz_save::{save, write_saved};
+use sz_stream::{InputTables, run_bytes, run_file};
 use sz_value::{NoMemory, Slots};
 use sz_words::RunSettings;
 
@@ -56,8 +63,8 @@ pub fn job_of(
     })
 }
 
-/// The text of the program's tables for all records of the file that the settings name, by the frame and shards that they ask for, run
-/// by so many workers.
+/// The text of the program's tables for all records of the file that the settings name, or the saved tables if they ask for them: by the
+/// frame and shards that they ask for, run by so many workers.
 pub fn tables_of_file<R: Threads + Sync, F: Files, G: Gate + Sync>(
     rt: &R,
     alloc: Global,
@@ -72,14 +79,15 @@ pub fn tables_of_file<R: Threads + Sync, F: Files, G: Gate + Sync>(
     requires attempts { (1 ≤ job.now.attempts) × (job.now.attempts ≤ 8) }
     requires bounds { HasBounds settings.now }
     requires workers { (1 ≤ workers) × (workers ≤ 64) }
+    requires can_save { CanSave settings.now.save job.now.compiled }
     ensures value { GivesFile F.Files job.now settings.now files.old files.new (vec_items_of result) }
     ensures end { OnOk result (ReadToEnd F.Files files.old files.new settings.now.input) }
     ensures names { OnOk result (F.names files.new ≡ F.names files.old ++ settings.now.input ∷ []) }
     ensures kept { KeepsFiles F.held F.left F.given F.faults files.old files.new }
 {
     let file = files.open_file(settings.input.as_str())?;
-    let total = run_file(rt, alloc, job, settings, workers, files, file, gate)?;
-    Ok(text(alloc, &total, job.compiled.tables())?)
+    let tables = run_file(rt, alloc, job, settings, workers, files, file, gate)?;
+    Ok(written(alloc, job, settings.save, &tables)?)
 }
 
 /// The same for these bytes.
@@ -96,8 +104,43 @@ pub fn tables_of_bytes<R: Threads + Sync, G: Gate + Sync>(
     requires attempts { (1 ≤ job.now.attempts) × (job.now.attempts ≤ 8) }
     requires bounds { HasBounds settings.now }
     requires workers { (1 ≤ workers) × (workers ≤ 64) }
-    ensures value { GivesTables job.now settings.now.shard settings.now.frame input.now ⊥ (vec_items_of result) }
+    requires can_save { CanSave settings.now.save job.now.compiled }
+    ensures value { GivesTables job.now settings.now.save settings.now.shard settings.now.frame input.now ⊥ (vec_items_of result) }
 {
-    let total = run_bytes(rt, alloc, job, settings, workers, input, gate)?;
-    Ok(text(alloc, &total, job.compiled.tables())?)
+    let tables = run_bytes(rt, alloc, job, settings, workers, input, gate)?;
+    Ok(written(alloc, job, settings.save, &tables)?)
+}
+
+/// What is written of the tables of an input: their text, or the saved tables.
+fn written(alloc: Global, job: &Job, save: bool, tables: &InputTables) -> Result<Vec<u8>, NoMemory>
+    requires declared { tables.now.total.tables ≡ all_tables job.now.compiled }
+    requires can_save { CanSave save job.now.compiled }
+    requires budget { job.now.budget ≤ 2 ^ 32 }
+    requires records { tables.now.records ≤ 2 ^ 31 }
+    requires few { tables.now.total.count ≤ tables.now.records * job.now.budget }
+    ensures value { (emits : List EmitDatum) → StandsFor declarations emit_count shown tables.now.total emits
+        → IfOk result (λ bytes. bytes.items ≡ written job.now.compiled save tables.now.records job.now.budget emits) }
+{
+    if save {
+        saved(alloc, job, tables)
+    } else {
+        text(alloc, &tables.total, job.compiled.tables())
+    }
+}
+
+/// The saved tables of an input, with the ticks of all its records for a bound.
+#[tactic(auto, using(crate::proofs::BoundLemmas::low_product, crate::proofs::BoundLemmas::product_fits))]
+fn saved(alloc: Global, job: &Job, tables: &InputTables) -> Result<Vec<u8>, NoMemory>
+    requires declared { tables.now.total.tables ≡ all_tables job.now.compiled }
+    requires spelled { HaveSpelling (all_tables job.now.compiled) }
+    requires budget { job.now.budget ≤ 2 ^ 32 }
+    requires records { tables.now.records ≤ 2 ^ 31 }
+    requires few { tables.now.total.count ≤ tables.now.records * job.now.budget }
+    ensures value { (emits : List EmitDatum) → StandsFor declarations emit_count shown tables.now.total emits
+        → IfOk result (λ bytes. bytes.items ≡ written job.now.compiled true tables.now.records job.now.budget emits) }
+{
+    let bound = tables.records * job.budget;
+    let saved = save(alloc, &tables.total, job.compiled.tables(), bound)?;
+    let bytes = write_saved(alloc, &saved)?;
+    Vec::from_slice(alloc, bytes.as_slice())
 }

@@ -1,12 +1,17 @@
 //! Why a program is refused.
 ghost use Rattle.std.specs.Prelude.{◌≡◌, ◌++◌, IfOk, OnOk};
 ghost use Rattle.szl.specs.Judgement.{refusal_at};
-ghost use Rattle.szl.specs.Outcome.{name_text, place_text, refusal_line};
+ghost use Rattle.szl.specs.Answers.{place_text};
+ghost use Rattle.szl.specs.Answers.{name_text};
+ghost use Rattle.szl.specs.Outcome.{refusal_line};
 
 use itoa::Buffer;
 use std::alloc::{AllocError, Global};
 use sz_check_rules::Cause;
 use sz_types::{Place, Text};
+
+/// The place of a text's first byte.
+pub const FIRST_PLACE: Place = Place { line: 1, column: 1 };
 
 /// A refusal: its cause, the place that it names, and the name that its line has, if it has one.
 #[derive(Debug)]
@@ -54,7 +59,7 @@ pub fn refusal_line(alloc: Global, refusal: &Refusal) -> Result<Vec<u8>, AllocEr
 }
 
 /// Appends the name of a refusal, if it has one.
-fn push_name(line: &mut Vec<u8>, name: &Option<Text>) -> Result<(), AllocError>
+pub fn push_name(line: &mut Vec<u8>, name: &Option<Text>) -> Result<(), AllocError>
     ensures value { OnOk result (line.new.items ≡ line.old.items ++ name_text name.now) }
 {
     if let Some(name) = name {

@@ -2,57 +2,68 @@
 ghost use Rattle.std.specs.Prelude.{◌≡◌, map, IfOk, IfErr, Ok};
 ghost use Rattle.sz_core.specs.Sound.{IsSound};
 ghost use Rattle.sz_mean.specs.Marked.{marked};
+ghost use Rattle.sz_protofile_laws.specs.Sound.{AreSound};
 ghost use Rattle.sz_tree.specs.Statements.{stms_of};
 ghost use Rattle.sz_tree.specs.View.{stm_of, program_of};
 ghost use Rattle.szl.specs.Judging.{IsFailureOn};
-ghost use Rattle.szl.specs.Reserved.{if_reserved, reserved_by, reserved_in, runnable};
+ghost use Rattle.szl.specs.Reserved.{if_named, declared_by, declared_in, runnable};
 
 use crate::failure::{Failure, refused};
 use crate::judge::checked;
 use std::alloc::Global;
 use sz_check_rules::Cause;
 use sz_core::Program;
+use sz_protofile_types::NamedTypes;
 use sz_tree::{Name, Stmt, Tree};
 use sz_types::Place;
 
-/// The checked program that the tree is, which is to be run ignoring undefined values or not.
-pub fn runnable(alloc: Global, tree: &Tree, ignoring: bool) -> Result<Program, Failure>
-    ensures found { IfOk result (λ program. runnable ignoring (program_of tree.now) ≡ Ok (marked program ignoring)) }
+/// The name of the table of lines, which no program may declare that is to ignore undefined values.
+const RESERVED_NAME: &str = "_undefs";
+
+/// The checked program that the tree is where these types are known, which is to be run ignoring undefined values or not.
+pub fn runnable(
+    alloc: Global,
+    tree: &Tree,
+    types: &NamedTypes,
+    ignoring: bool,
+) -> Result<Program, Failure>
+    requires sound { AreSound types.now }
+    ensures found { IfOk result (λ program. runnable types.now ignoring (program_of tree.now) ≡ Ok (marked program ignoring)) }
     ensures sound { IfOk result (λ program. IsSound program) }
-    ensures refused { IfErr result (λ failure. IsFailureOn (runnable ignoring (program_of tree.now)) failure) }
+    ensures refused { IfErr result (λ failure. IsFailureOn (runnable types.now ignoring (program_of tree.now)) failure) }
 {
-    let program = checked(alloc, tree)?;
-    match reserved_in(tree) {
+    let program = checked(alloc, tree, types)?;
+    match declared_in(tree, RESERVED_NAME) {
         Some(place) if ignoring => Err(refused(Cause::ReservedName, place)),
         _ => Ok(program),
     }
 }
 
-// The place of the first statement of the tree that declares a table of the reserved name.
-fn reserved_in(tree: &Tree) -> Option<Place>
-    ensures value { result ≡ reserved_in (program_of tree.now) }
+/// The place of the first statement of the tree that declares a table of this name.
+pub fn declared_in(tree: &Tree, name: &str) -> Option<Place>
+    ensures value { result ≡ declared_in name.now (program_of tree.now) }
 {
-    reserved_among(tree.statements.as_slice())
+    declared_among(tree.statements.as_slice(), name)
 }
 
 // The place of the first of these statements that does so.
-fn reserved_among(statements: &[Stmt]) -> Option<Place>
-    ensures value { result ≡ reserved_in (stms_of (map stm_of statements.now)) }
+fn declared_among(statements: &[Stmt], name: &str) -> Option<Place>
+    ensures value { result ≡ declared_in name.now (stms_of (map stm_of statements.now)) }
 {
     for statement in statements {
-        if let Some(place) = reserved_by(statement) {
+        if let Some(place) = declared_by(statement, name) {
             return Some(place);
         }
     }
     None
 }
 
-// The place of the statement, if it declares a table of the reserved name.
-fn reserved_by(statement: &Stmt) -> Option<Place>
-    ensures value { result ≡ reserved_by (stm_of statement.now) }
+// The place of the statement, if it declares a table of this name.
+fn declared_by(statement: &Stmt, name: &str) -> Option<Place>
+    ensures value { result ≡ declared_by name.now (stm_of statement.now) }
 {
     match statement {
-        Stmt::Table(name, _) => if_reserved(name),
+        Stmt::Table(declared, _) => if_named(declared, name),
         Stmt::Empty(_)
         | Stmt::Block(_, _)
         | Stmt::Declare(_, _, _)
@@ -73,12 +84,12 @@ fn reserved_by(statement: &Stmt) -> Option<Place>
     }
 }
 
-// The place of the name, if it is the reserved one.
-fn if_reserved(name: &Name) -> Option<Place>
-    ensures value { result ≡ if_reserved name.now }
+// The place of a declared name, if it is this one.
+fn if_named(declared: &Name, name: &str) -> Option<Place>
+    ensures value { result ≡ if_named name.now declared.now }
 {
-    if name.text().as_str() == "_undefs" {
-        Some(name.place())
+    if declared.text().as_str() == name {
+        Some(declared.place())
     } else {
         None
     }

@@ -5,7 +5,7 @@ ghost use Rattle.sz_feed.specs.Feed.{file_of};
 ghost use Rattle.sz_feed.specs.Program.{program_text};
 ghost use Rattle.sz_mean.specs.Marked.{marked};
 ghost use Rattle.szl.specs.Opening.{AnswersOver, AnswersTextOver};
-ghost use Rattle.szl.specs.ProgramRuns.{vec_items_of};
+ghost use Rattle.szl.specs.ProgramRuns.{CanSave, vec_items_of};
 ghost use Rattle.sz_words.specs.Bounds.{HasBounds};
 ghost use Rattle.szl.specs.Settings.{selftest_run};
 
@@ -13,7 +13,7 @@ use crate::failure::Failure;
 use crate::heights::Stack;
 use crate::judge::tree_in;
 use crate::program_run::{job_of, statics_of, tables_of_bytes};
-use crate::reserved::runnable;
+use crate::savable::savable;
 use std::alloc::{AllocError, Global};
 use std::thread::Threads;
 use sz_core::Program;
@@ -21,6 +21,7 @@ use sz_feed::{feed, program_bytes};
 use sz_gen_stmt::compile;
 use sz_io::Gate;
 use sz_list::Items;
+use sz_protofile_types::NamedTypes;
 use sz_types::{Frame, Text};
 use sz_words::{DEFAULT_SHARD, RunSettings};
 
@@ -40,7 +41,8 @@ pub fn answer_selftest<R: Threads + Sync, G: Gate + Sync>(
     let settings = selftest_run(alloc, workers)?;
     let input = feed(alloc, seed, records)?;
     let tree = tree_in(alloc, program_bytes(), Stack::Large)?;
-    let program = runnable(alloc, &tree, settings.ignore_undefs)?;
+    let types = NamedTypes::new(alloc);
+    let program = savable(alloc, &tree, &types, settings.save, settings.ignore_undefs)?;
     answer_over(rt, alloc, program, &settings, &input, gate)
 }
 
@@ -60,6 +62,8 @@ fn selftest_run(alloc: Global, workers: u32) -> Result<RunSettings, AllocError>
         kills: Items::new(alloc),
         twice: Items::new(alloc),
         ignore_undefs: false,
+        save: false,
+        proto: None,
     })
 }
 
@@ -73,6 +77,7 @@ fn answer_over<R: Threads + Sync, G: Gate + Sync>(
     gate: &G,
 ) -> Result<Vec<u8>, Failure>
     requires sound { IsSound program }
+    requires can_save { CanSave settings.now.save (marked program settings.now.ignore_undefs) }
     requires bounds { HasBounds settings.now }
     ensures value { AnswersOver (marked program settings.now.ignore_undefs) settings.now input.now (vec_items_of result) }
 {

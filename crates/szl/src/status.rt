@@ -2,7 +2,7 @@
 ghost use Rattle.std.specs.Prelude.{◌≡◌};
 ghost use Rattle.szl.specs.Failing.{code_of};
 
-/// The exit statuses 0 to 9, in order.
+/// The exit statuses 0 to 13, in order.
 #[derive(Clone, Copy, Debug, PartialEq, Eq)]
 pub enum Status {
     /// All text was written.
@@ -23,8 +23,16 @@ pub enum Status {
     ShardLost,
     /// There was not enough memory.
     NoMemory,
-    /// The input passes a limit.
+    /// The input, or a file to be joined, passes a limit.
     Limit,
+    /// A file to be joined holds no saved tables.
+    BadTables,
+    /// A file to be joined holds tables that are declared otherwise than those of the first.
+    OtherTables,
+    /// The bounds of the files to be joined pass the greatest one together.
+    TablesLimit,
+    /// The `.proto` file is refused.
+    BadProtoFile,
 }
 
 impl Status {

@@ -1,18 +1,22 @@
 //! The top call: from the words and the devices to the status.
-ghost use Rattle.std.specs.Prelude.{◌≡◌, ◌<◌, ◌⊎◌, [], Err, Ok, IfOk, length, map, string_bytes};
+ghost use Rattle.std.specs.Prelude.{◌≡◌, ◌≤◌, ◌⊎◌, [], Err, Ok, IfOk, length, map, string_bytes};
 ghost use Rattle.sz_io.specs.Opened.{KeepsFiles};
 ghost use Rattle.sz_io.specs.Rose.{Rose, DoNotFall};
 ghost use Rattle.sz_words.specs.Settings.{settings_in};
 ghost use Rattle.szl.specs.Failing.{line_of_failure};
 ghost use Rattle.szl.specs.Printing.{Prints, PrintsNothing};
-ghost use Rattle.szl.specs.Promise.{MeansSource, GainsLine, AreReadToEnd, names_asked};
+ghost use Rattle.szl.specs.Promise.{MeansSource, GainsLine, AreReadToEnd, names_asked, most_before};
 ghost use Rattle.szl.specs.Completeness.{Completes};
 ghost use Rattle.szl.specs.ProgramRuns.{vec_items_of};
 
 use crate::answer::answer;
 use crate::failure::Failure;
 use crate::heights::Stack;
-use crate::lines::{damaged_line, fault_line, limit_line, lost_line};
+use crate::lines::{
+    bad_tables_line, damaged_line, fault_line, limit_line, lost_line, other_tables_line,
+    tables_limit_line,
+};
+use crate::proto::bad_file_line;
 use crate::refusal::refusal_line;
 use crate::status::Status;
 use std::alloc::{AllocError, Global};
@@ -35,7 +39,7 @@ pub fn szl_main<R: Threads + Sync, F: Files, O: Sink, E: Sink, G: Gate + Sync>(
     err: &mut E,
     gate: &G,
 ) -> Status
-    requires { length (F.names files.old) < 127 }
+    requires { length (F.names files.old) ≤ most_before (settings_in (map string_bytes words.now)) }
 
     ensures outcome { MeansSource F.Files O.Sink E.Sink (map string_bytes words.now) result files.old files.new out.old out.new err.old err.new }
     ensures end { result ≡ Status.Done → AreReadToEnd F.Files files.old files.new (names_asked (settings_in (map string_bytes words.now))) }
@@ -64,7 +68,7 @@ pub fn szl_main_on<R: Threads + Sync, F: Files, O: Sink, E: Sink, G: Gate + Sync
     gate: &G,
     stack: Stack,
 ) -> Status
-    requires { length (F.names files.old) < 127 }
+    requires { length (F.names files.old) ≤ most_before (settings_in (map string_bytes words.now)) }
 
     ensures outcome { MeansSource F.Files O.Sink E.Sink (map string_bytes words.now) result files.old files.new out.old out.new err.old err.new }
     ensures end { result ≡ Status.Done → AreReadToEnd F.Files files.old files.new (names_asked (settings_in (map string_bytes words.now))) }
@@ -128,6 +132,10 @@ fn tell<E: Sink>(alloc: Global, err: &mut E, failure: Failure) -> Failure
         Failure::Lost(shard) => tell_made(err, lost_line(alloc, *shard), failure),
         Failure::Damaged(byte) => tell_made(err, damaged_line(alloc, *byte), failure),
         Failure::Limit(byte) => tell_made(err, limit_line(alloc, *byte), failure),
+        Failure::BadTables(number) => tell_made(err, bad_tables_line(alloc, *number), failure),
+        Failure::OtherTables(number) => tell_made(err, other_tables_line(alloc, *number), failure),
+        Failure::BadProtoFile(fault) => tell_made(err, bad_file_line(alloc, fault), failure),
+        Failure::TablesLimit(number) => tell_made(err, tables_limit_line(alloc, *number), failure),
         Failure::ReadFailed => tell_line(err, b"read failed\n", failure),
         Failure::WriteFailed => tell_line(err, b"write failed\n", failure),
         Failure::NoMemory => tell_line(err, b"out of memory\n", failure),

@@ -10,14 +10,16 @@ use std::thread::Threads;
 use sz_io::{Gate, MemFiles, MemSink, NoGate, NoMemory};
 use szl::szl_main;
 
-/// What a run is given: the program that its row writes, words, an input, and the numbers of the calls that fail.
+/// What a run is given: the program that its row writes, words, an input, a `.proto` file, and the numbers of the calls that fail.
 #[derive(Clone, Copy)]
 pub struct Setting<'t> {
     pub program: &'t str,
     pub words: &'t str,
     pub input: &'t str,
+    pub proto: &'t str,
     pub program_fails: u64,
     pub input_fails: u64,
+    pub proto_fails: u64,
     pub out_fails: u64,
     pub err_fails: u64,
 }
@@ -30,8 +32,10 @@ pub const PLAIN: Setting<'static> = Setting {
     program: "",
     words: "run p f",
     input: "",
+    proto: "",
     program_fails: NEVER,
     input_fails: NEVER,
+    proto_fails: NEVER,
     out_fails: NEVER,
     err_fails: NEVER,
 };
@@ -82,7 +86,7 @@ fn marked(alloc: Global, text: &str) -> Result<String, NoMemory> {
     Ok(marked)
 }
 
-/// The files `p` and `f`.
+/// The files `p`, `f` and `q`.
 fn files_of(alloc: Global, given: &Setting<'_>, program: &[u8]) -> Result<MemFiles, Fail>
     ensures { IfOk result (λ files. names_opened files ≡ []) }
 {
@@ -90,6 +94,8 @@ fn files_of(alloc: Global, given: &Setting<'_>, program: &[u8]) -> Result<MemFil
     files.put("p", program, &[given.program_fails])?;
     let input = bytes_of(alloc, given.input)?;
     files.put("f", input.as_slice(), &[given.input_fails])?;
+    let proto = bytes_of(alloc, given.proto)?;
+    files.put("q", proto.as_slice(), &[given.proto_fails])?;
     Ok(files)
 }
 

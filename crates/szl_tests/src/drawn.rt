@@ -8,13 +8,13 @@ use std::thread::Threads;
 
 /// Draws numbers, from one seed always the same ones.
 #[derive(Drop)]
-struct Draws {
-    last: u64,
+pub struct Draws {
+    pub last: u64,
 }
 
 impl Draws {
     /// One of 0 to 999.
-    fn draw(&mut self) -> u64 {
+    pub fn draw(&mut self) -> u64 {
         self.last = self
             .last
             .wrapping_mul(6364136223846793005)
@@ -29,10 +29,10 @@ impl Draws {
 }
 
 /// One of six programs.
-fn program_of(number: u64) -> &'static str {
+pub fn program_of(number: u64) -> &'static str {
     match number % 6 {
         0 => {
-            "c: table sum of int; d: table sum[string] of {int, int}; s: string = input; x: int = input; \
+            "c: table sum of int; d: table sum[string] of {n: int, l: int}; s: string = input; x: int = input; \
              emit c <- x; emit d[s] <- {1, len(s)};"
         }
         1 => {
@@ -71,7 +71,7 @@ fn line_of(number: u64) -> &'static str {
 }
 
 /// A line. Most are of the first two, so that not each input has one of the others.
-fn line_drawn(draws: &mut Draws) -> &'static str {
+pub fn line_drawn(draws: &mut Draws) -> &'static str {
     let number = draws.draw();
     if number % 3 == 0 {
         return line_of(number / 3);
@@ -126,6 +126,7 @@ fn left_with<R: Threads + Wait + Sync>(
         program: "",
         words: words.as_str(),
         input,
+        proto: "",
         ..PLAIN
     };
     left(rt, alloc, &given, program.as_bytes())

@@ -22,6 +22,8 @@ mod ignoring;
 #[cfg(test)]
 mod in_memory;
 #[cfg(test)]
+mod joining;
+#[cfg(test)]
 mod kill_lists;
 #[cfg(test)]
 mod kill_lists_and_faults;
@@ -32,11 +34,17 @@ mod kill_lists_of_pairs;
 #[cfg(test)]
 mod limits;
 #[cfg(test)]
+mod merges;
+#[cfg(test)]
 mod messages;
+#[cfg(test)]
+mod protos;
 #[cfg(test)]
 mod rows;
 #[cfg(test)]
 mod runs;
+#[cfg(test)]
+mod saving;
 #[cfg(test)]
 mod searches;
 #[cfg(test)]

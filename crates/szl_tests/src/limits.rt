@@ -167,6 +167,28 @@ fn long_line_is_refused<R: Threads + Wait + Sync>(rt: &R, alloc: Global) -> Resu
     Ok(found.as_str() == "9 ! input limit at byte 0")
 }
 
+/// What a check leaves of a `.proto` file of so many blanks.
+fn checked_with<R: Threads + Wait + Sync>(
+    rt: &R,
+    alloc: Global,
+    blanks: usize,
+) -> Result<String, Fail> {
+    let file = String::from_utf8(vec![in alloc; b' '; blanks]?).or(Err("not UTF-8"))?;
+    let given = Setting {
+        words: "check p --proto q",
+        proto: file.as_str(),
+        ..PLAIN
+    };
+    left(rt, alloc, &given, b"x: int = 1;")
+}
+
+/// Whether a `.proto` file that is longer than one may be is refused, and one that isn't isn't.
+fn long_file_is_refused<R: Threads + Wait + Sync>(rt: &R, alloc: Global) -> Result<bool, Fail> {
+    let long = checked_with(rt, alloc, 1_048_577)?;
+    let short = checked_with(rt, alloc, 1_048_576)?;
+    Ok(long.as_str() == "13 ! proto file: too long at 1:1" && short.as_str() == "0")
+}
+
 #[test]
 fn what_is_as_large_as_it_may_be_is_run_and_what_is_larger_is_refused(
     rt: HostRuntime,
@@ -175,5 +197,6 @@ fn what_is_as_large_as_it_may_be_is_run_and_what_is_larger_is_refused(
         assert!(&rt; holds(&rt, rt.alloc(), *row)?, "row {number}");
     }
     assert!(&rt; long_line_is_refused(&rt, rt.alloc())?);
+    assert!(&rt; long_file_is_refused(&rt, rt.alloc())?);
     Ok(())
 }

@@ -2,8 +2,8 @@
 use crate::command::{NEVER, PLAIN, Setting, left, text_of};
 use crate::{
     checks, drawn_skips, expression_ticks, expressions, ignoring, kill_lists,
-    kill_lists_and_faults, kill_lists_and_skips, kill_lists_of_pairs, messages, runs, searches,
-    skipping, statement_ticks, statements, tables, workers,
+    kill_lists_and_faults, kill_lists_and_skips, kill_lists_of_pairs, messages, protos, runs,
+    searches, skipping, statement_ticks, statements, tables, workers,
 };
 use std::alloc::Global;
 use std::process::Abort;
@@ -25,7 +25,7 @@ fn rows_of_runs() -> [&'static str; 7] {
 }
 
 /// The rows of the language.
-fn rows_of_programs() -> [&'static str; 9] {
+fn rows_of_programs() -> [&'static str; 10] {
     [
         tables::RUNS,
         expressions::RUNS,
@@ -34,6 +34,7 @@ fn rows_of_programs() -> [&'static str; 9] {
         statement_ticks::RUNS,
         searches::RUNS,
         messages::RUNS,
+        protos::RUNS,
         ignoring::RUNS,
         checks::RUNS,
     ]
@@ -63,6 +64,9 @@ fn read<'t>(line: &'t str, before: Setting<'t>) -> (Setting<'t>, Option<&'t str>
     if let Some(input) = line.strip_prefix("< ") {
         return (Setting { input, ..before }, None);
     }
+    if let Some(proto) = line.strip_prefix("% ") {
+        return (Setting { proto, ..before }, None);
+    }
     if let Some(call) = line.strip_prefix("! ") {
         return (failing(call, before), None);
     }
@@ -88,6 +92,7 @@ fn failing<'t>(call: &str, before: Setting<'t>) -> Setting<'t> {
     Setting {
         program_fails: number_of(call, "p "),
         input_fails: number_of(call, "f "),
+        proto_fails: number_of(call, "q "),
         out_fails: number_of(call, "out "),
         err_fails: number_of(call, "err "),
         ..before

@@ -11,8 +11,10 @@
 //! - `$ [WORDS]` has the words of the command line, with a blank between two of them. With `=> STATUS OUTPUT ! LINE` after it the line is
 //!   a run, of the program above.
 //! - `< INPUT` has the input, in which `\x` and two hexadecimal digits stand for a byte.
-//! - `! p 0` has the first call on the program fail, `! f 0` that on the input, `! out 1` the second writing to the output, `! err 2` the
-//!   third to the error stream, and `! none` no call. The output takes 5 bytes at once, the error stream 4.
+//! - `% PROTO` has the `.proto` file, which is the file `q`, written in the same way. Without such a line it is empty.
+//! - `! p 0` has the first call on the program fail, `! f 0` that on the input, `! q 0` that on the `.proto` file, `! - 0` that on standard
+//!   input, which isn't there, `! out 1` the second writing to the output, `! err 2` the third to the error stream, and `! none` no call. The
+//!   output takes 5 bytes at once, the error stream 4.
 //!
 //! The rows of this file and of those beside it stand nowhere else; `tools/check-runs --rows` prints them in one page.
 
@@ -109,7 +111,7 @@ $ [run p f --version] => 1 ! bad command line
 $ [run p f -h] => 1 ! bad command line
 $ [--help] => 1 ! bad command line
 $ [help] => 1 ! bad command line
-$ [merge p f] => 1 ! bad command line
+$ [merges p f] => 1 ! bad command line
 
 == options stand anywhere after the command
 < 3¶-1¶

@@ -362,6 +362,7 @@ fn holds<R: Threads + Wait + Sync>(rt: &R, alloc: Global, stream: &Stream) -> Re
         program: "",
         words: stream.words,
         input: input.as_str(),
+        proto: "",
         input_fails: stream.fails,
         ..PLAIN
     };

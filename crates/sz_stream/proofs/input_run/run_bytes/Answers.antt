@@ -6,8 +6,9 @@ use Rattle.sz_total.specs.Totals.{IsNew}
 use Rattle.sz_total.specs.Weights.{HaveTheirWeights}
 use Rattle.sz_attempt.proofs.ForCallers.{have_their_weights}
 use Rattle.sz_stream.specs.Inputs.{RunsInput}
+use Rattle.sz_stream.specs.InputRuns.{ended_so}
 use Rattle.sz_stream.proofs.RunLemmas.{starts, few_left, closed_within}
-use Rattle.sz_stream.proofs.ReachLemmas.{reach_closes, ends_input, all_read, can_still, ready_known, can_run, none_not}
+use Rattle.sz_stream.proofs.ReachLemmas.{reach_closes, first_some, ends_input, all_read, can_still, ready_known, can_run, none_not}
 use Rattle.sz_stream.proofs.input_run.run_bytes.Goals as goal
 
 -- the tables of a sound program have their weights
@@ -43,6 +44,20 @@ wants_piece-requires-clause-few g c =
     let r = c.loop-total.invariant.reached in
     few_left c.args.job.now s.frame s.shard c.loop-total.intake c.loop-total.total r.read r.over r.running
 
+-- the records before those at hand were counted
+pub records_run-requires : goal.records_run-requires
+records_run-requires g c =
+    let job = c.args.job.now in
+    let s = c.args.settings.now in
+    let bytes = c.args.bytes.now in
+    let total = c.loop-total.total in
+    let new = c.wants_piece.new.self in
+    record {
+      begun = first_some job s.frame s.shard total new (Some bytes) (Some [])
+          (reach_closes job s.frame s.shard total c.loop-total.intake new (Some bytes) (Some []) c.in_ok-wants_piece.ensures.closed
+          c.loop-total.invariant.reached);
+    }
+
 -- all shards were run
 pub returns-in-Some-clause-value : goal.returns-in-Some-clause-value
 returns-in-Some-clause-value g c =
@@ -56,8 +71,9 @@ returns-in-Some-clause-value g c =
     let ready = ready_known new (can_still job s.frame s.shard new total (Some bytes) (Some []) r) c.in_ok-wants_piece.field-0
     (ap is_some closed.ending ∙ c.loop-total.invariant.known) c.in_ok-wants_piece.ensures.answer in
     subst (RunsInput job s.shard s.frame bytes) (sym c.ended.ensures.value)
+    (subst (λ n. RunsInput job s.shard s.frame bytes (ended_so total n c.in-Some.ending)) (sym c.records_run.ensures.value)
     (ends_input job s.frame s.shard total new (Some bytes) (Some []) r ready c.in-Some.ending (sym c.end.ensures.value ∙ c.in-Some.is) bytes
-    (all_read job s.frame s.shard total new bytes r))
+    (all_read job s.frame s.shard total new bytes r)))
 
 -- the next ones can be run
 pub run_next-requires-clause-can_run : goal.run_next-requires-clause-can_run

@@ -1,18 +1,32 @@
 use Rattle.std.proofs.Common.{IsTrue, sym, ◌∙◌, subst, arith}
-use Rattle.std.specs.Prelude.{OnOk}
+use Rattle.std.specs.Prelude.{OnOk, ◌-◌}
 use Rattle.std.specs.Io.KnownBytes.{IsAtEnd}
 use Rattle.std.proofs.lemmas.Result.{err_from_is_err_and}
 use Rattle.sz_total.specs.Weights.{HaveTheirWeights}
 use Rattle.sz_attempt.proofs.ForCallers.{have_their_weights}
 use Rattle.sz_stream.specs.Inputs.{RunsFile}
+use Rattle.sz_stream.specs.InputRuns.{ended_so}
 use Rattle.sz_stream.proofs.RunLemmas.{few_left}
-use Rattle.sz_stream.proofs.ReachLemmas.{file_ends, file_is_over, file_stops, can_run, none_not, keeps_on}
+use Rattle.sz_stream.proofs.ReachLemmas.{first_some, file_ends, file_is_over, file_stops, can_run, none_not, keeps_on}
 use Rattle.sz_stream.proofs.input_run.run_file.Goals as goal
 
 -- the tables of a sound program have their weights
 pub new-requires : goal.new-requires
 new-requires g c =
     record { weights = subst HaveTheirWeights (sym c.tables.ensures.value) (have_their_weights c.args.job.now.compiled c.requires.job.sound) }
+
+-- the records before those at hand were counted
+pub records_run-requires : goal.records_run-requires
+records_run-requires g c =
+    let job = c.args.job.now in
+    let s = c.args.settings.now in
+    let start = g.F.Files.left c.args.files.now c.args.file in
+    let left = g.F.Files.left c.fill.new.files c.args.file in
+    let total = c.loop-total.total in
+    record {
+      begun = first_some job s.frame s.shard total c.fill.new.intake start left
+          (c.in_ok-fill.ensures.ok job s.frame s.shard total start c.loop-total.invariant.reached);
+    }
 
 -- all shards were run
 pub returns-in-Some-clause-value : goal.returns-in-Some-clause-value
@@ -24,7 +38,8 @@ returns-in-Some-clause-value g c =
     let total = c.loop-total.total in
     let r = c.in_ok-fill.ensures.ok job s.frame s.shard total start c.loop-total.invariant.reached in
     subst (RunsFile job s.shard s.frame start left) (sym c.ended.ensures.value)
-    (file_ends job s.frame s.shard total c.fill.new.intake start left r c.in_ok-fill.ensures.ready c.in-Some.ending (sym c.end.ensures.value ∙ c.in-Some.is))
+    (subst (λ n. RunsFile job s.shard s.frame start left (ended_so total n c.in-Some.ending)) (sym c.records_run.ensures.value)
+    (file_ends job s.frame s.shard total c.fill.new.intake start left r c.in_ok-fill.ensures.ready c.in-Some.ending (sym c.end.ensures.value ∙ c.in-Some.is)))
 
 pub returns-in-Some-clause-end : goal.returns-in-Some-clause-end
 returns-in-Some-clause-end g c =
@@ -35,7 +50,8 @@ returns-in-Some-clause-end g c =
     let total = c.loop-total.total in
     let r = c.in_ok-fill.ensures.ok job s.frame s.shard total start c.loop-total.invariant.reached in
     subst (λ result. OnOk result (IsAtEnd left)) (sym c.ended.ensures.value)
-    (file_is_over job s.frame s.shard total c.fill.new.intake start left r c.in_ok-fill.ensures.ready c.in-Some.ending (sym c.end.ensures.value ∙ c.in-Some.is))
+    (subst (λ n. OnOk (ended_so total n c.in-Some.ending) (IsAtEnd left)) (sym c.records_run.ensures.value)
+    (file_is_over job s.frame s.shard total c.fill.new.intake start left r c.in_ok-fill.ensures.ready c.in-Some.ending (sym c.end.ensures.value ∙ c.in-Some.is)))
 
 -- the next ones can be run
 pub run_next-requires-clause-can_run : goal.run_next-requires-clause-can_run

@@ -4,7 +4,7 @@ use Rattle.std.specs.Prelude.{string_bytes, OnOk}
 use Rattle.szl.specs.Opening.{Answers}
 use Rattle.szl.specs.Promise.{AreReadToEnd, names_asked}
 use Rattle.szl.specs.ProgramRuns.{vec_items_of}
-use Rattle.szl.proofs.SettingsLemmas.{words_fail}
+use Rattle.szl.proofs.BehindLemmas.{words_fail}
 use Rattle.szl.proofs.answer.answer.Goals as goal
 
 -- the words have no settings

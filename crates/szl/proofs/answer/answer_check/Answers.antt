@@ -1,27 +1,36 @@
-use Rattle.std.proofs.Common.{subst}
 use Rattle.std.proofs.lemmas.Result.{err_from_is_err_and}
-use Rattle.szl.specs.Opening.{AnswersCheck}
-use Rattle.szl.specs.ProgramRuns.{vec_items_of}
+use Rattle.std.proofs.Common.{Some}
 use Rattle.sz_words.specs.declared.settings.Settings.TheVariants.{Check}
-use Rattle.szl.proofs.SettingsLemmas.{of_check, text_fails, text_checked, when_ok, one_read}
+use Rattle.szl.specs.Promise.{names_behind}
+use Rattle.szl.specs.ProgramRuns.{vec_items_of}
+use Rattle.szl.proofs.SettingsLemmas.{of_check}
+use Rattle.szl.proofs.BehindLemmas.{file_fails, file_known, behind_read, when_both}
 use Rattle.szl.proofs.answer.answer_check.Goals as goal
 
--- the program's text couldn't be read
-pub returns-in_err-text-clause-value : goal.returns-in_err-text-clause-value
-returns-in_err-text-clause-value g c =
+-- the file has no types
+pub returns-in_err-types-clause-value : goal.returns-in_err-types-clause-value
+returns-in_err-types-clause-value g c =
     let p = err_from_is_err_and c.from_residual.result c.from_residual.ensures.1 in
-    rw (p.1, p.2) (text_fails g.F.Files (Check c.args.program.now) c.args.program.now (of_check c.args.program.now) c.args.files.now c.read_program.new.files c.in_err-text.field-0.0
-    c.in_err-text.ensures.text c.in_err-text.ensures.names c.in_err-text.ensures.opened)
+    let program = c.args.program.now in
+    let proto = c.args.proto.now in
+    rw (p.1, p.2) (file_fails g.F.Files (Check program proto) program (of_check program proto) c.args.files.now proto c.types_named.new.files
+    c.in_err-types.field-0.0 c.in_err-types.ensures.value)
 
--- the check is answered on the text
+-- the check is answered with the file's types
 pub returns-clause-value : goal.returns-clause-value
 returns-clause-value g c =
-    let a = subst (λ text. AnswersCheck text (vec_items_of c.check_text.result)) c.deref.ensures.value c.check_text.ensures.value in
-    text_checked g.F.Files c.args.program.now c.args.files.now c.read_program.new.files c.in_ok-text.text.items (vec_items_of c.check_text.result) _
-    c.in_ok-text.ensures.text c.in_ok-text.ensures.names (c.in_ok-text.ensures.opened (λ e. cc) (λ e. cc)) a
+    let program = c.args.program.now in
+    let proto = c.args.proto.now in
+    file_known g.F.Files (Check program proto) program (of_check program proto) c.args.files.now proto c.types_named.new.files c.check_named.new.files
+    c.in_ok-types.types (vec_items_of c.check_named.result) c.in_ok-types.ensures.value c.in_ok-types.ensures.kept c.check_named.ensures.kept
+    (c.check_named.ensures.value proto)
 
--- the program was read to its end
+-- both files were read to their ends
 pub returns-clause-end : goal.returns-clause-end
 returns-clause-end g c =
-    when_ok c.check_text.result
-    (one_read g.F.Files c.args.program.now c.args.files.now c.read_program.new.files c.in_ok-text.ensures.names c.in_ok-text.ensures.end)
+    let program = c.args.program.now in
+    let proto = c.args.proto.now in
+    when_both c.check_named.result
+    (λ end. behind_read g.F.Files proto (names_behind (Some (Check program proto))) c.args.files.now c.types_named.new.files c.check_named.new.files
+    c.in_ok-types.types c.in_ok-types.ensures.value c.in_ok-types.ensures.kept c.check_named.ensures.kept c.in_ok-types.ensures.end end)
+    c.check_named.ensures.end

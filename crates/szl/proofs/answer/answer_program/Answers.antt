@@ -5,7 +5,7 @@ use Rattle.sz_core.specs.Sound.{IsSound}
 use Rattle.sz_mean.specs.Marked.{Marked, marked}
 use Rattle.sz_attempt.specs.declared.job.Job.{Job}
 use Rattle.szl.specs.Outcome.{outcome_of_program}
-use Rattle.szl.specs.ProgramRuns.{GivesStatics, IsJobOf, vec_items_of}
+use Rattle.szl.specs.ProgramRuns.{CanSave, GivesStatics, IsJobOf, vec_items_of}
 use Rattle.szl.proofs.AnswerLemmas.{no_code, static_fails, input_run, is_job}
 use Rattle.szl.proofs.answer.answer_program.Goals as goal
 
@@ -44,6 +44,13 @@ tables_of_file-requires-clause-attempts g c κs within =
     let same = ap (λ (j : Job). j.attempts) c.in_ok-job.ensures.value.same in
     subst (λ n. (1 ≤ n) × (n ≤ 8)) (sym same) (c.requires.bounds.least_attempts, c.requires.bounds.most_attempts)
 
+-- its tables can be saved, if they are to be
+pub tables_of_file-requires-clause-can_save : goal.tables_of_file-requires-clause-can_save
+tables_of_file-requires-clause-can_save g c κs within =
+    let s = c.args.settings.now in
+    subst (CanSave s.save) (sym (ap (λ (j : Job). j.compiled) c.in_ok-job.ensures.value.same))
+    (subst (CanSave s.save) (sym c.in_ok-compiled.ensures.value) c.requires.can_save)
+
 -- the program was run over the input
 pub returns-clause-value : goal.returns-clause-value
 returns-clause-value g c =
@@ -52,5 +59,6 @@ returns-clause-value g c =
     let job = c.in_ok-job.job in
     let begun = subst (λ program. GivesStatics program s.budget (Ok slots)) c.in_ok-compiled.ensures.value c.in_ok-statics.ensures.value in
     let of = subst (λ program. IsJobOf program slots s job) c.in_ok-compiled.ensures.value c.in_ok-job.ensures.value in
-    input_run g.F.Files c.args.files.now c.tables_of_file.new.files (marked c.args.program s.ignore_undefs) s slots begun (vec_items_of c.tables_of_file.result) job of
+    input_run g.F.Files c.args.files.now c.tables_of_file.new.files (marked c.args.program s.ignore_undefs) s slots begun
+    (vec_items_of c.tables_of_file.result) job of
     c.tables_of_file.ensures.value

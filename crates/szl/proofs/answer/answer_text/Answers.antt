@@ -10,20 +10,24 @@ pub returns-in_err-tree-clause-value : goal.returns-in_err-tree-clause-value
 returns-in_err-tree-clause-value g c =
     let p = err_from_is_err_and c.from_residual.result c.from_residual.ensures.1 in
     let s = c.args.settings.now in
-    rw (p.1, p.2) (text_refused g.F.Files s c.args.text.now c.args.files.now c.in_err-tree.field-0.0 c.in_err-tree.ensures.refused)
+    rw (p.1, p.2) (text_refused g.F.Files c.args.types.now s c.args.text.now c.args.files.now c.in_err-tree.field-0.0 c.in_err-tree.ensures.refused)
 
 -- the tree is refused
 pub returns-in_err-program-clause-value : goal.returns-in_err-program-clause-value
 returns-in_err-program-clause-value g c =
     let p = err_from_is_err_and c.from_residual-in_err-program.result c.from_residual-in_err-program.ensures.1 in
     let s = c.args.settings.now in
-    rw (p.1, p.2) (statements_refused g.F.Files s c.args.text.now c.args.files.now (program_of c.in_ok-tree.tree)
+    rw (p.1, p.2) (statements_refused g.F.Files c.args.types.now s c.args.text.now c.args.files.now (program_of c.in_ok-tree.tree)
     c.in_err-program.field-0.0 c.requires.short c.in_ok-tree.ensures.found c.in_err-program.ensures.refused)
+
+-- its tables can be saved, if they are to be
+pub answer_program-requires-clause-can_save : goal.answer_program-requires-clause-can_save
+answer_program-requires-clause-can_save g c κs within = c.in_ok-program.ensures.spelled c.args.text.now c.requires.short c.in_ok-tree.ensures.found
 
 -- the program was run
 pub returns-clause-value : goal.returns-clause-value
 returns-clause-value g c =
     let s = c.args.settings.now in
-    program_answers g.F.Files s c.args.text.now c.args.files.now c.answer_program.new.files (program_of c.in_ok-tree.tree)
+    program_answers g.F.Files c.args.types.now s c.args.text.now c.args.files.now c.answer_program.new.files (program_of c.in_ok-tree.tree)
     (marked c.in_ok-program.program s.ignore_undefs) (vec_items_of c.answer_program.result) c.requires.short c.in_ok-tree.ensures.found
     c.in_ok-program.ensures.found c.answer_program.ensures.value

@@ -4,7 +4,7 @@ use Rattle.std.specs.Prelude.{Ok, Err, ◌≤◌}
 use Rattle.sz_core.specs.Sound.{IsSound}
 use Rattle.sz_mean.specs.Marked.{Marked, marked}
 use Rattle.sz_attempt.specs.declared.job.Job.{Job}
-use Rattle.szl.specs.ProgramRuns.{GivesStatics, IsJobOf, vec_items_of}
+use Rattle.szl.specs.ProgramRuns.{CanSave, GivesStatics, IsJobOf, vec_items_of}
 use Rattle.szl.proofs.AnswerLemmas.{is_job}
 use Rattle.szl.proofs.SelftestLemmas.{no_memory_over, static_fails_over, tables_over}
 use Rattle.szl.proofs.selftest.answer_over.Goals as goal
@@ -42,6 +42,13 @@ pub tables_of_bytes-requires-clause-attempts : goal.tables_of_bytes-requires-cla
 tables_of_bytes-requires-clause-attempts g c κs within =
     let same = ap (λ (j : Job). j.attempts) c.in_ok-job.ensures.value.same in
     subst (λ n. (1 ≤ n) × (n ≤ 8)) (sym same) (c.requires.bounds.least_attempts, c.requires.bounds.most_attempts)
+
+-- its tables can be saved, if they are to be
+pub tables_of_bytes-requires-clause-can_save : goal.tables_of_bytes-requires-clause-can_save
+tables_of_bytes-requires-clause-can_save g c κs within =
+    let s = c.args.settings.now in
+    subst (CanSave s.save) (sym (ap (λ (j : Job). j.compiled) c.in_ok-job.ensures.value.same))
+    (subst (CanSave s.save) (sym c.in_ok-compiled.ensures.value) c.requires.can_save)
 
 -- the program was run over the bytes
 pub returns : goal.returns

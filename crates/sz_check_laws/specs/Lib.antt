@@ -1,0 +1,3 @@
+-- programs with types round them, and the statements that declare such types
+pub mod JudgingWithTypes
+pub mod TypeStatements

@@ -1,7 +1,0 @@
--- What is counted are the characters.
-use Rattle.std.proofs.Common.{rules}
-use Rattle.std.proofs.lemmas.Str.{chars_from_encodes}
-use Rattle.sz_machine_cells.proofs.candidates.counted.Goals as goal
-
-pub returns-clause-value : goal.returns-clause-value
-returns-clause-value c = search (rules, chars_from_encodes)

@@ -1,0 +1,5 @@
+mod TogetherLemmas
+mod GroupLemmas
+mod CountLemmas
+mod StepLemmas
+pub mod ForCallers

@@ -1,0 +1,11 @@
+//! Saved files joined one after the other.
+#![tactic(auto)]
+
+mod error;
+mod groups;
+mod laws;
+mod merging;
+
+pub use error::MergeError;
+pub use laws::merging_forgets_the_order;
+pub use merging::Merging;

@@ -1,0 +1,5 @@
+mod TreeNames
+mod TextLemmas
+mod TypeLemmas
+mod ScopeLemmas
+mod DeclaredLemmas

@@ -1,0 +1,8 @@
+-- What can be saved has as many tables as declarations.
+use Rattle.std.proofs.Common.{◌∙◌, length, sym, ap}
+use Rattle.szl.proofs.merging.output_of.Goals as goal
+
+pub text_rows-requires : goal.text_rows-requires
+text_rows-requires c = record {
+  as_many = ap length c.tables.ensures.value ∙ c.bound.ensures.can.as_many ∙ ap length (sym c.decls.ensures.value);
+}
