@@ -11,12 +11,15 @@ mod MainLemmas
 mod MergeEnds
 mod MergeLemmas
 mod MergeOnce
+mod MergedRuns
 mod NamedLemmas
 mod OpenedLemmas
 mod OpeningLemmas
+mod PieceLemmas
 mod ProtoLemmas
 mod RunningLemmas
 mod SavableLemmas
+mod SavedLemmas
 mod SaysLemmas
 mod SelftestLemmas
 mod SettingsLemmas

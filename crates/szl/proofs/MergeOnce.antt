@@ -37,7 +37,7 @@ module _ (spelling : IsOneSpelling) (one : IsOneTogether) where
     one_end (past m) (past n) g h = same_file past m n g.0 h.0
 
     -- a file that can be joined ends nothing
-    no_end : (a : Merged) (s : SavedState) → EndsAt number before bytes a → IsJoined before bytes s → ⊥
+    pub no_end : (a : Merged) (s : SavedState) → EndsAt number before bytes a → IsJoined before bytes s → ⊥
     no_end (together t) s g h = g
     no_end (too_long m) s g h = omega (arith, g.1, h.0)
     no_end (bad m) s g h = g.2 s h.1.saves

@@ -10,6 +10,8 @@ pub mod Answers
 pub mod Merging
 pub mod ProtoFiles
 pub mod Outcome
+pub mod SavedRuns
+pub mod Saving
 pub mod Promise
 pub mod Completeness
 -- what the functions inside the crate promise each other

@@ -1,5 +1,5 @@
 //! What a command line is answered, before anything is written.
-ghost use Rattle.std.specs.Prelude.{◌≡◌, ◌<◌, ◌≤◌, ◌^◌, ◌++◌, ◌∷◌, [], ℕ, List, length, map, string_bytes, Option, Some, OnOk};
+ghost use Rattle.std.specs.Prelude.{◌≡◌, ◌<◌, ◌≤◌, ◌^◌, ◌++◌, ◌∷◌, [], ℕ, List, length, map, string_bytes, Option, Some, true, IfOk, OnOk};
 ghost use Rattle.sz_io.specs.Rose.{Rose};
 ghost use Rattle.sz_io.specs.Opened.{KeepsFiles};
 ghost use Rattle.sz_io.specs.Calls.{NamesGain, OpensOne, ReadToEnd};
@@ -10,6 +10,8 @@ ghost use Rattle.sz_words.specs.Settings.{settings_in};
 ghost use Rattle.sz_protofile_laws.specs.Sound.{AreSound};
 ghost use Rattle.szl.specs.Opening.{ReadsText, ran_out, past_program, status_of_answer, Answers, AnswersWith, AnswersOn, AnswersText, AnswersCheck};
 ghost use Rattle.szl.specs.Outcome.{outcome_of_program};
+ghost use Rattle.szl.specs.SavedRuns.{SavesTables, SavedRun};
+ghost use Rattle.szl.specs.Saving.{OfHeld, SavesWith, HasSaved, IfSaving};
 ghost use Rattle.szl.specs.Judgement.{most_program_bytes};
 ghost use Rattle.szl.specs.Promise.{AreReadToEnd, IfRead, names_asked, most_before};
 ghost use Rattle.szl.specs.ProgramRuns.{CanSave, vec_items_of};
@@ -51,6 +53,7 @@ pub fn answer<R: Threads + Sync, F: Files, G: Gate + Sync>(
     requires { length (F.names files.old) ≤ most_before (settings_in (map string_bytes words.now)) }
     ensures value { Answers F.Files (settings_in (map string_bytes words.now)) files.old files.new (vec_items_of result) }
     ensures end { OnOk result (AreReadToEnd F.Files files.old files.new (names_asked (settings_in (map string_bytes words.now)))) }
+    ensures saved { IfOk result (λ bytes. IfSaving (settings_in (map string_bytes words.now)) (λ s. HasSaved F.Files s files.old bytes.items)) }
     ensures kept { KeepsFiles F.held F.left F.given F.faults files.old files.new }
 {
     let settings = read_words(alloc, words)?;
@@ -70,6 +73,7 @@ fn answer_settings<R: Threads + Sync, F: Files, G: Gate + Sync>(
     requires bounds { IsBounded settings.now }
     ensures value { Answers F.Files (Some settings.now) files.old files.new (vec_items_of result) }
     ensures end { OnOk result (AreReadToEnd F.Files files.old files.new (names_asked (Some settings.now))) }
+    ensures saved { IfOk result (λ bytes. IfSaving (Some settings.now) (λ s. HasSaved F.Files s files.old bytes.items)) }
     ensures kept { KeepsFiles F.held F.left F.given F.faults files.old files.new }
 {
     match settings {
@@ -127,6 +131,7 @@ fn answer_run<R: Threads + Sync, F: Files, G: Gate + Sync>(
     requires bounds { HasBounds settings.now }
     ensures value { Answers F.Files (Some (Run settings.now)) files.old files.new (vec_items_of result) }
     ensures end { OnOk result (AreReadToEnd F.Files files.old files.new (names_asked (Some (Run settings.now)))) }
+    ensures saved { IfOk result (λ bytes. settings.now.save ≡ true → HasSaved F.Files settings.now files.old bytes.items) }
     ensures kept { KeepsFiles F.held F.left F.given F.faults files.old files.new }
 {
     let types = types_named(alloc, &settings.proto, files, stack)?;
@@ -149,6 +154,7 @@ fn run_with<R: Threads + Sync, F: Files, G: Gate + Sync>(
     requires bounds { HasBounds settings.now }
     ensures value { AnswersWith F.Files types.now (Some (Run settings.now)) files.old files.new (vec_items_of result) }
     ensures end { OnOk result (AreReadToEnd F.Files files.old files.new (settings.now.program ∷ settings.now.input ∷ [])) }
+    ensures saved { IfOk result (λ bytes. settings.now.save ≡ true → SavesWith F.Files types.now settings.now files.old bytes.items) }
     ensures kept { KeepsFiles F.held F.left F.given F.faults files.old files.new }
 {
     let text = read_program(alloc, settings.program.as_str(), files)?;
@@ -225,6 +231,8 @@ fn answer_text<R: Threads + Sync, F: Files, G: Gate + Sync>(
     ensures value { AnswersText F.Files types.now settings.now text.now files.old files.new (vec_items_of result) }
     ensures end { OnOk result (ReadToEnd F.Files files.old files.new settings.now.input) }
     ensures names { OnOk result (F.names files.new ≡ F.names files.old ++ settings.now.input ∷ []) }
+    ensures saved { IfOk result (λ bytes. settings.now.save ≡ true
+        → OfHeld F.Files settings.now.input files.old (λ input. SavedRun types.now text.now settings.now input bytes.items)) }
     ensures kept { KeepsFiles F.held F.left F.given F.faults files.old files.new }
 {
     let tree = tree_in(alloc, text, stack)?;
@@ -249,6 +257,8 @@ fn answer_program<R: Threads + Sync, F: Files, G: Gate + Sync>(
         files.old files.new (vec_items_of result) }
     ensures end { OnOk result (ReadToEnd F.Files files.old files.new settings.now.input) }
     ensures names { OnOk result (F.names files.new ≡ F.names files.old ++ settings.now.input ∷ []) }
+    ensures saved { IfOk result (λ bytes. settings.now.save ≡ true → OfHeld F.Files settings.now.input files.old
+        (λ input. SavesTables (marked program settings.now.ignore_undefs) settings.now input bytes.items)) }
     ensures kept { KeepsFiles F.held F.left F.given F.faults files.old files.new }
 {
     let low = declares_low(&program);

@@ -3,6 +3,7 @@ ghost use Rattle.std.specs.Prelude.{◌≡◌, ◌≤◌, length, map, string_by
 ghost use Rattle.sz_io.specs.SureFiles.{sure_names};
 ghost use Rattle.sz_words.specs.Settings.{settings_in};
 ghost use Rattle.szl.specs.Completeness.{Completes};
+ghost use Rattle.szl.specs.Saving.{SavesOutput};
 ghost use Rattle.szl.specs.Promise.{AreReadToEnd, names_asked, most_before};
 
 use crate::status::Status;
@@ -27,6 +28,8 @@ pub fn szl_in_memory<R: Threads + Sync, G: Gate + Sync>(
         files.old files.new out.old out.new err.old err.new }
     ensures end { result ≡ Status.Done
         → AreReadToEnd ⟦<SureFiles as Files>⟧ files.old files.new (names_asked (settings_in (map string_bytes words.now))) }
+    ensures saved { result ≡ Status.Done
+        → SavesOutput ⟦<SureFiles as Files>⟧ ⟦<SureSink as Sink>⟧ (settings_in (map string_bytes words.now)) files.old out.old out.new }
 {
     szl_main(rt, alloc, words, files, out, err, gate)
 }

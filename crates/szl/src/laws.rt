@@ -3,10 +3,12 @@
 ghost use Rattle.szl.specs.Judgement.{EveryTextIsRead, HasOneReading};
 ghost use Rattle.szl.specs.Merging.{EveryListIsMerged, IsMergedOnce};
 ghost use Rattle.szl.specs.ProtoFiles.{EveryFileIsRead, HasOneFileReading};
+ghost use Rattle.szl.specs.SavedRuns.{MergesToOneRun, SavesItsAnswer};
 ghost use Rattle.szl.specs.Shards.{SizesAreShards};
 
 use sz_merge::merging_forgets_the_order;
 use sz_save::one_spelling;
+use sz_save_laws::saved_runs_join;
 
 /// A text has just one reading, so the outcome of a command line is determined by its words and the bytes of its files.
 pub fn readings_are_unique()
@@ -33,4 +35,15 @@ pub fn merging_ends_once()
 {
     one_spelling();
     merging_forgets_the_order();
+}
+
+/// Files that were saved by runs of one program, with one budget, are merged to what one run over all their records saves, and to its text:
+/// whatever the order of the files, and of the inputs in that run.
+pub fn merged_runs_are_one_run()
+    ensures merged { MergesToOneRun }
+    ensures saved { SavesItsAnswer }
+{
+    one_spelling();
+    merging_forgets_the_order();
+    saved_runs_join();
 }

@@ -21,6 +21,9 @@ mod top;
 
 pub use heights::Stack;
 pub use in_memory::szl_in_memory;
-pub use laws::{files_are_read_once, merging_ends_once, readings_are_unique, sizes_are_shards};
+pub use laws::{
+    files_are_read_once, merged_runs_are_one_run, merging_ends_once, readings_are_unique,
+    sizes_are_shards,
+};
 pub use status::Status;
 pub use top::{szl_main, szl_main_on};

@@ -4,13 +4,15 @@ ghost use Rattle.sz_mean.specs.Marked.{all_tables};
 ghost use Rattle.sz_tabs.specs.Data.{EmitDatum};
 ghost use Rattle.sz_total.specs.States.{declarations, emit_count, shown};
 ghost use Rattle.sz_total.specs.Totals.{StandsFor};
-ghost use Rattle.sz_save.specs.Saving.{HaveSpelling};
+ghost use Rattle.sz_save.specs.Saving.{HaveSpelling, state_of_emits};
+ghost use Rattle.sz_save_format.specs.Saved.{Saves};
 ghost use Rattle.szl.specs.Outcome.{written};
 ghost use Rattle.sz_gen_rules.specs.Simulates.{static_types};
 ghost use Rattle.sz_world_rules.specs.Typed.{AllFit};
 ghost use Rattle.sz_attempt.specs.Shards.{IsJob};
 ghost use Rattle.sz_io.specs.Opened.{KeepsFiles};
 ghost use Rattle.sz_io.specs.Calls.{ReadToEnd};
+ghost use Rattle.szl.specs.Saving.{OfHeld, JobSaves};
 ghost use Rattle.szl.specs.ProgramRuns.{CanSave, GivesStatics, GivesTables, GivesFile, IsJobOf, vec_items_of};
 ghost use Rattle.sz_words.specs.Bounds.{HasBounds};
 
@@ -83,6 +85,8 @@ pub fn tables_of_file<R: Threads + Sync, F: Files, G: Gate + Sync>(
     ensures value { GivesFile F.Files job.now settings.now files.old files.new (vec_items_of result) }
     ensures end { OnOk result (ReadToEnd F.Files files.old files.new settings.now.input) }
     ensures names { OnOk result (F.names files.new ≡ F.names files.old ++ settings.now.input ∷ []) }
+    ensures saved { IfOk result (λ bytes. settings.now.save ≡ true
+        → OfHeld F.Files settings.now.input files.old (λ input. JobSaves job.now settings.now input bytes.items)) }
     ensures kept { KeepsFiles F.held F.left F.given F.faults files.old files.new }
 {
     let file = files.open_file(settings.input.as_str())?;
@@ -120,6 +124,8 @@ fn written(alloc: Global, job: &Job, save: bool, tables: &InputTables) -> Result
     requires few { tables.now.total.count ≤ tables.now.records * job.now.budget }
     ensures value { (emits : List EmitDatum) → StandsFor declarations emit_count shown tables.now.total emits
         → IfOk result (λ bytes. bytes.items ≡ written job.now.compiled save tables.now.records job.now.budget emits) }
+    ensures file { IfOk result (λ bytes. save ≡ true → (emits : List EmitDatum) → StandsFor declarations emit_count shown tables.now.total emits
+        → Saves bytes.items (state_of_emits (tables.now.records * job.now.budget) (all_tables job.now.compiled) emits)) }
 {
     if save {
         saved(alloc, job, tables)
@@ -138,6 +144,8 @@ fn saved(alloc: Global, job: &Job, tables: &InputTables) -> Result<Vec<u8>, NoMe
     requires few { tables.now.total.count ≤ tables.now.records * job.now.budget }
     ensures value { (emits : List EmitDatum) → StandsFor declarations emit_count shown tables.now.total emits
         → IfOk result (λ bytes. bytes.items ≡ written job.now.compiled true tables.now.records job.now.budget emits) }
+    ensures file { IfOk result (λ bytes. (emits : List EmitDatum) → StandsFor declarations emit_count shown tables.now.total emits
+        → Saves bytes.items (state_of_emits (tables.now.records * job.now.budget) (all_tables job.now.compiled) emits)) }
 {
     let bound = tables.records * job.budget;
     let saved = save(alloc, &tables.total, job.compiled.tables(), bound)?;

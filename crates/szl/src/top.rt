@@ -7,6 +7,7 @@ ghost use Rattle.szl.specs.Failing.{line_of_failure};
 ghost use Rattle.szl.specs.Printing.{Prints, PrintsNothing};
 ghost use Rattle.szl.specs.Promise.{MeansSource, GainsLine, AreReadToEnd, names_asked, most_before};
 ghost use Rattle.szl.specs.Completeness.{Completes};
+ghost use Rattle.szl.specs.Saving.{SavesOutput};
 ghost use Rattle.szl.specs.ProgramRuns.{vec_items_of};
 
 use crate::answer::answer;
@@ -43,6 +44,7 @@ pub fn szl_main<R: Threads + Sync, F: Files, O: Sink, E: Sink, G: Gate + Sync>(
 
     ensures outcome { MeansSource F.Files O.Sink E.Sink (map string_bytes words.now) result files.old files.new out.old out.new err.old err.new }
     ensures end { result ≡ Status.Done → AreReadToEnd F.Files files.old files.new (names_asked (settings_in (map string_bytes words.now))) }
+    ensures saved { result ≡ Status.Done → SavesOutput F.Files O.Sink (settings_in (map string_bytes words.now)) files.old out.old out.new }
 
     ensures read_failed { result ≡ Status.ReadFailed → Rose (F.faults files.old) (F.faults files.new) }
     ensures write_failed { result ≡ Status.WriteFailed → Rose (O.faults out.old) (O.faults out.new) }
@@ -72,6 +74,7 @@ pub fn szl_main_on<R: Threads + Sync, F: Files, O: Sink, E: Sink, G: Gate + Sync
 
     ensures outcome { MeansSource F.Files O.Sink E.Sink (map string_bytes words.now) result files.old files.new out.old out.new err.old err.new }
     ensures end { result ≡ Status.Done → AreReadToEnd F.Files files.old files.new (names_asked (settings_in (map string_bytes words.now))) }
+    ensures saved { result ≡ Status.Done → SavesOutput F.Files O.Sink (settings_in (map string_bytes words.now)) files.old out.old out.new }
 
     ensures read_failed { result ≡ Status.ReadFailed → Rose (F.faults files.old) (F.faults files.new) }
     ensures write_failed { result ≡ Status.WriteFailed → Rose (O.faults out.old) (O.faults out.new) }

@@ -1,9 +1,10 @@
 use Rattle.std.proofs.Common.{sym, subst, map}
 use Rattle.std.proofs.lemmas.Result.{err_from_is_err_and}
-use Rattle.std.specs.Prelude.{string_bytes, OnOk}
+use Rattle.std.specs.Prelude.{string_bytes, IfOk, OnOk}
 use Rattle.szl.specs.Opening.{Answers}
 use Rattle.szl.specs.Promise.{AreReadToEnd, names_asked}
 use Rattle.szl.specs.ProgramRuns.{vec_items_of}
+use Rattle.szl.specs.Saving.{HasSaved, IfSaving}
 use Rattle.szl.proofs.BehindLemmas.{words_fail}
 use Rattle.szl.proofs.answer.answer.Goals as goal
 
@@ -27,3 +28,8 @@ pub returns-clause-end : goal.returns-clause-end
 returns-clause-end g c =
     subst (λ asked. OnOk c.answer_settings.result (AreReadToEnd g.F.Files c.args.files.now c.answer_settings.new.files (names_asked asked)))
     (sym c.in_ok-settings.ensures.value) c.answer_settings.ensures.end
+
+pub returns-clause-saved : goal.returns-clause-saved
+returns-clause-saved g c =
+    subst (λ asked. IfOk c.answer_settings.result (λ bytes. IfSaving asked (λ s. HasSaved g.F.Files s c.args.files.now bytes.items)))
+    (sym c.in_ok-settings.ensures.value) c.answer_settings.ensures.saved

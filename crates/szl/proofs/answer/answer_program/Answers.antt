@@ -7,6 +7,7 @@ use Rattle.sz_attempt.specs.declared.job.Job.{Job}
 use Rattle.szl.specs.Outcome.{outcome_of_program}
 use Rattle.szl.specs.ProgramRuns.{CanSave, GivesStatics, IsJobOf, vec_items_of}
 use Rattle.szl.proofs.AnswerLemmas.{no_code, static_fails, input_run, is_job}
+use Rattle.szl.proofs.SavedLemmas.{map_ok, program_saves}
 use Rattle.szl.proofs.answer.answer_program.Goals as goal
 
 -- there was no memory for the code
@@ -62,3 +63,16 @@ returns-clause-value g c =
     input_run g.F.Files c.args.files.now c.tables_of_file.new.files (marked c.args.program s.ignore_undefs) s slots begun
     (vec_items_of c.tables_of_file.result) job of
     c.tables_of_file.ensures.value
+
+-- and its tables were saved
+pub returns-clause-saved : goal.returns-clause-saved
+returns-clause-saved g c =
+    let s = c.args.settings.now in
+    let slots = c.in_ok-statics.statics in
+    let job = c.in_ok-job.job in
+    let begun = subst (λ program. GivesStatics program s.budget (Ok slots)) c.in_ok-compiled.ensures.value c.in_ok-statics.ensures.value in
+    let of = subst (λ program. IsJobOf program slots s job) c.in_ok-compiled.ensures.value c.in_ok-job.ensures.value in
+    map_ok c.tables_of_file.result
+    (λ bytes saves saving. program_saves g.F.Files (marked c.args.program s.ignore_undefs) s c.requires.bounds slots begun job of c.args.files.now
+    bytes.items (saves saving))
+    c.tables_of_file.ensures.saved

@@ -5,6 +5,7 @@ use Rattle.std.proofs.Common.{Some}
 use Rattle.szl.specs.ProgramRuns.{vec_items_of}
 use Rattle.szl.proofs.SettingsLemmas.{of_run}
 use Rattle.szl.proofs.BehindLemmas.{file_fails, file_known, behind_read, when_both}
+use Rattle.szl.proofs.SavedLemmas.{map_ok, types_save}
 use Rattle.szl.proofs.answer.answer_run.Goals as goal
 
 -- the file has no types
@@ -30,3 +31,11 @@ returns-clause-end g c =
     (λ end. behind_read g.F.Files s.proto (names_behind (Some (Run s))) c.args.files.now c.types_named.new.files c.run_with.new.files c.in_ok-types.types
     c.in_ok-types.ensures.value c.in_ok-types.ensures.kept c.run_with.ensures.kept c.in_ok-types.ensures.end end)
     c.run_with.ensures.end
+
+-- and its tables were saved
+pub returns-clause-saved : goal.returns-clause-saved
+returns-clause-saved g c =
+    map_ok c.run_with.result
+    (λ bytes saves saving. types_save g.F.Files c.args.settings.now c.args.files.now c.types_named.new.files c.in_ok-types.types c.in_ok-types.ensures.value
+    c.in_ok-types.ensures.kept bytes.items (saves saving))
+    c.run_with.ensures.saved

@@ -1,15 +1,17 @@
 use Rattle.std.proofs.Common.{[], Some, sym, subst}
-use Rattle.std.specs.Prelude.{OnOk}
+use Rattle.std.specs.Prelude.{IfOk, OnOk}
 use Rattle.sz_words.specs.declared.settings.Settings.TheVariants.{Check, Selftest, Merge}
 use Rattle.szl.specs.MergeAnswers.{AnswersMerge}
 use Rattle.szl.specs.Opening.{Answers}
 use Rattle.szl.specs.Promise.{AreReadToEnd, names_asked}
 use Rattle.szl.specs.ProgramRuns.{vec_items_of}
+use Rattle.szl.specs.Saving.{HasSaved, IfSaving}
 use Rattle.sz_words.specs.Bounds.{IsBounded}
 use Rattle.szl.proofs.BehindLemmas.{no_file}
 use Rattle.szl.proofs.SelftestLemmas.{selftest_answered, nothing_opened}
 use Rattle.szl.proofs.SettingsLemmas.{when_ok}
 use Rattle.szl.proofs.WordsLemmas.{merge_answered}
+use Rattle.szl.proofs.SavedLemmas.{saves_nothing}
 use Rattle.szl.proofs.answer.answer_settings.Goals as goal
 
 -- a self test opens no file
@@ -48,3 +50,19 @@ returns-in-Merge-clause-value g c =
     (merge_answered g.F.Files [] c.in-Merge.names c.in-Merge.save c.args.files.now c.answer_merge.new.files (vec_items_of c.answer_merge.result)
     (subst (λ names. AnswersMerge g.F.Files names c.in-Merge.save c.args.files.now c.answer_merge.new.files (vec_items_of c.answer_merge.result))
     c.as_slice.ensures.value c.answer_merge.ensures.value)))
+
+-- other settings than those of a run save nothing
+pub returns-in-Check-clause-saved : goal.returns-in-Check-clause-saved
+returns-in-Check-clause-saved g c =
+    subst (λ s. IfOk c.answer_check.result (λ bytes. IfSaving (Some s) (λ run. HasSaved g.F.Files run c.args.files.now bytes.items))) (sym c.in-Check.is)
+    (saves_nothing c.answer_check.result)
+
+pub returns-in-Selftest-clause-saved : goal.returns-in-Selftest-clause-saved
+returns-in-Selftest-clause-saved g c =
+    subst (λ s. IfOk c.answer_selftest.result (λ bytes. IfSaving (Some s) (λ run. HasSaved g.F.Files run c.args.files.now bytes.items))) (sym c.in-Selftest.is)
+    (saves_nothing c.answer_selftest.result)
+
+pub returns-in-Merge-clause-saved : goal.returns-in-Merge-clause-saved
+returns-in-Merge-clause-saved g c =
+    subst (λ s. IfOk c.answer_merge.result (λ bytes. IfSaving (Some s) (λ run. HasSaved g.F.Files run c.args.files.now bytes.items))) (sym c.in-Merge.is)
+    (saves_nothing c.answer_merge.result)

@@ -3,6 +3,7 @@ use Rattle.sz_tree.specs.View.{program_of}
 use Rattle.sz_mean.specs.Marked.{marked}
 use Rattle.szl.specs.ProgramRuns.{vec_items_of}
 use Rattle.szl.proofs.AnswerLemmas.{text_refused, statements_refused, program_answers}
+use Rattle.szl.proofs.SavedLemmas.{map_ok, run_saves}
 use Rattle.szl.proofs.answer.answer_text.Goals as goal
 
 -- the text has no tree
@@ -31,3 +32,13 @@ returns-clause-value g c =
     program_answers g.F.Files c.args.types.now s c.args.text.now c.args.files.now c.answer_program.new.files (program_of c.in_ok-tree.tree)
     (marked c.in_ok-program.program s.ignore_undefs) (vec_items_of c.answer_program.result) c.requires.short c.in_ok-tree.ensures.found
     c.in_ok-program.ensures.found c.answer_program.ensures.value
+
+-- and its tables were saved
+pub returns-clause-saved : goal.returns-clause-saved
+returns-clause-saved g c =
+    let s = c.args.settings.now in
+    map_ok c.answer_program.result
+    (λ bytes saves saving. run_saves g.F.Files c.args.types.now c.args.text.now s c.args.files.now (program_of c.in_ok-tree.tree)
+    (marked c.in_ok-program.program s.ignore_undefs) c.requires.short c.in_ok-tree.ensures.found saving c.in_ok-program.ensures.found bytes.items
+    (saves saving))
+    c.answer_program.ensures.saved

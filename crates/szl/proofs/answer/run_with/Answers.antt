@@ -5,6 +5,7 @@ use Rattle.szl.specs.Opening.{AnswersText}
 use Rattle.szl.specs.Promise.{AreReadToEnd}
 use Rattle.szl.specs.ProgramRuns.{vec_items_of}
 use Rattle.szl.proofs.SettingsLemmas.{NamesProgram, of_run, text_fails, text_read, both_when_ok, both_read}
+use Rattle.szl.proofs.SavedLemmas.{map_ok, text_saves}
 use Rattle.szl.proofs.answer.run_with.Goals as goal
 
 -- the program's text couldn't be read
@@ -34,3 +35,12 @@ returns-clause-end g c =
     (both_read g.F.Files c.as_str.result.now c.args.files.now s.input c.read_program.new.files c.answer_text.new.files
     c.in_ok-text.ensures.names names c.in_ok-text.ensures.kept c.answer_text.ensures.kept c.in_ok-text.ensures.end end))
     c.answer_text.ensures.names c.answer_text.ensures.end
+
+-- and its tables were saved
+pub returns-clause-saved : goal.returns-clause-saved
+returns-clause-saved g c =
+    let s = c.args.settings.now in
+    map_ok c.answer_text.result
+    (λ bytes saves saving. text_saves g.F.Files c.args.types.now s c.as_str.result.now c.as_str.ensures.value c.args.files.now c.read_program.new.files
+    c.in_ok-text.ensures.kept c.in_ok-text.text.items _ _ _ _ c.in_ok-text.ensures.text c.deref.result.now c.deref.ensures.value bytes.items (saves saving))
+    c.answer_text.ensures.saved

@@ -5,6 +5,7 @@ use Rattle.sz_io.specs.Rose.{Rose}
 use Rattle.sz_io.specs.Opened.{names_after}
 use Rattle.szl.proofs.EndingLemmas.{file_stops, read_no_memory, file_fits, file_ends, told_at_end}
 use Rattle.szl.proofs.FileLemmas.{opening_fails, file_gives, rose_since, keeps_opened, opens_one, read_to_end}
+use Rattle.szl.proofs.SavedLemmas.{file_saves}
 use Rattle.szl.proofs.program_run.tables_of_file.Goals as goal
 
 -- the file couldn't be opened
@@ -87,6 +88,17 @@ returns-clause-value g c =
     gives (c.in_ok-file.ensures.names ∙ ap (λ name. names_after (files.names old) name (Ok file)) c.as_str.ensures.value)
     c.run_file.ensures.kept.names_same
     (opens_one files job s old mid new file c.in_ok-file.ensures.fresh c.open_file.ensures.kept c.run_file.ensures.kept c.in_ok-file.ensures.given)
+
+-- what is saved is of all emits
+pub returns-clause-saved : goal.returns-clause-saved
+returns-clause-saved g c saving =
+    let files = g.F.Files in
+    let s = c.args.settings.now in
+    let file = c.in_ok-file.file in
+    file_saves files c.args.job.now s c.requires.bounds.shard c.in_ok-tables.tables c.args.files.now
+    (files.left c.open_file.new.self file) (files.left c.run_file.new.files file)
+    (c.in_ok-file.ensures.bytes ∙ ap (files.held c.args.files.now) c.as_str.ensures.value)
+    c.in_ok-tables.ensures.value c.in_ok-written.field-0.items (c.in_ok-written.ensures.file saving)
 
 -- the file is at its end
 pub returns-clause-end : goal.returns-clause-end

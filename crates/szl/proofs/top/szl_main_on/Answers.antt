@@ -2,7 +2,9 @@ use Rattle.std.proofs.Common.{sym, subst, map}
 use Rattle.std.specs.Prelude.{string_bytes}
 use Rattle.szl.specs.Promise.{MeansSource}
 use Rattle.szl.specs.ProgramRuns.{vec_items_of}
+use Rattle.sz_words.specs.Settings.{settings_in}
 use Rattle.szl.proofs.MainLemmas.{means_done, means_failure}
+use Rattle.szl.proofs.SavedLemmas.{printed_saves}
 use Rattle.szl.proofs.top.szl_main_on.Goals as goal
 
 -- a failure is told
@@ -22,3 +24,9 @@ returns-in-Ok-clause-outcome g c =
     means_done g.F.Files g.O.Sink g.E.Sink (map string_bytes c.args.words.now) c.args.files.now c.answer-answer.new.files c.args.out.now
     c.print.new.out c.args.err.now (vec_items_of c.answer-answer.result) c.in-Ok.field-0 c.answer-answer.ensures.value c.in-Ok.ensures.value
     c.in-Ok.ensures.nothing
+
+-- what was printed is what was saved
+pub returns-in-Ok-clause-saved : goal.returns-in-Ok-clause-saved
+returns-in-Ok-clause-saved g c done =
+    printed_saves g.F.Files (g.O.Sink.taken c.args.out.now) (g.O.Sink.taken c.print.new.out) c.args.files.now (settings_in (map string_bytes c.args.words.now))
+    c.answer-answer.result c.in-Ok.field-0 c.in-Ok.ensures.value c.answer-answer.ensures.saved
