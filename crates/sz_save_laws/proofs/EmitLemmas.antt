@@ -1,17 +1,22 @@
 -- Rows of emits, joined, are the rows of all the emits.
-use Rattle.std.proofs.Common.{◌≡◌, ◌∙◌, ℕ, nat_lt, Bool, true, false, cond, None, List, [], ◌∷◌, ◌++◌, length, map, take, refl, sym, ap, append-nil}
-use Rattle.std.proofs.lemmas.List.{map-append}
+use Rattle.std.proofs.Common.{◌≡◌, ◌∙◌, ℕ, ◌≤◌, nat_lt, Bool, true, false, cond, None, List, [], ◌∷◌, ◌++◌, length, map, take, refl, sym, ap, arith, append-nil, Ordering}
+use Rattle.std.specs.Cmp.{IsTotalOrder}
+use Rattle.std.proofs.lemmas.Bool.{and_parts, cond_both, leb-true}
+use Rattle.std.proofs.lemmas.List.{length-map, map-append}
+use Rattle.sz_types.specs.Tables.{Declaration}
 use Rattle.sz_types.specs.declared.table.TableKind.{TableKind}
 use Rattle.sz_types.specs.declared.table.TableKind.TheVariants.{Sum, Maximum, Minimum, Set, Collection}
 use Rattle.sz_value.specs.Data.{Datum}
 use Rattle.sz_value.specs.Order.{compare}
 use Rattle.sz_value.specs.Total.{compare_total, compare_ties}
+use Rattle.sz_core.specs.WellFormed.{is_between, kind_allows, is_allowed}
 use Rattle.sz_tabs.specs.Data.{sums, Weighted, RowDatum}
 use Rattle.sz_tabs.specs.Sorting.{sorted, distinct}
-use Rattle.sz_tabs.specs.Rows.{values_of, least_first, greatest_first, value_row, weighted_row, sum_rows, set_rows, rows_by}
+use Rattle.sz_tabs.specs.Rows.{values_of, least_first, greatest_first, value_row, weighted_row, sum_rows, set_rows, rows_by, rows_of}
 use Rattle.sz_tabs.proofs.ForCallers.{least_total, least_ties, greatest_total, greatest_ties, sums_of_both}
 use Rattle.sz_save_format.specs.Entries.{overflows}
 use Rattle.sz_save.specs.Joined.{values_shown, least_rows, greatest_rows, joined_sums, joined_sets, joined_rows}
+use Rattle.sz_save.proofs.RowLemmas.{some_taken, sorted_long, some_distinct}
 use Rattle.sz_save_laws.specs.Laws.{JoinsRows}
 use Rattle.sz_save_laws.proofs.EitherLemmas.{rows_of_values}
 use Rattle.sz_save_laws.proofs.SortedLemmas.{first_of_firsts, sorted_of_sorted, distinct_either, distinct_of_distinct}
@@ -66,3 +71,41 @@ joined_by Collection limit front later =
 
 pub rows_join : JoinsRows
 rows_join table front later = joined_by table.kind table.limit front later
+
+-- ---- something that is brought has rows
+
+module _ (table : Declaration) where
+  at_least : (least most n : ℕ) → is_between least most n ≡ true → least ≤ n
+  at_least least most n h = leb-true least n (and_parts _ _ h).0
+
+  some_first : (order : Weighted → Weighted → Ordering) → IsTotalOrder order → (brought : List Weighted) → 1 ≤ table.limit → 1 ≤ length brought
+      → 1 ≤ length (map weighted_row (take table.limit (sorted order brought)))
+  some_first order total brought room some =
+      let first = take table.limit (sorted order brought) in
+      let long = length-map first weighted_row in
+      let same = sorted_long total brought in
+      let there = some_taken table.limit (sorted order brought) room (omega (arith, same, some)) in
+      omega (arith, long, there)
+
+  some_in_set : (vs : List Datum) → 1 ≤ length vs → 1 ≤ length (set_rows table.limit (distinct compare vs))
+  some_in_set vs some =
+      let values = distinct compare vs in
+      cond_both (nat_lt table.limit (length values)) (full table.limit) (map value_row values) (λ rows. 1 ≤ length rows) (λ _. omega arith)
+      (λ _. let there = some_distinct compare_total vs some in let long = length-map values value_row in omega (arith, there, long))
+
+  some_rows_by : (kind : TableKind) → kind_allows kind table ≡ true → (brought : List Weighted) → 1 ≤ length brought
+      → 1 ≤ length (rows_by kind table.limit brought)
+  some_rows_by Sum allowed [] some = absurd (omega (arith, some))
+  some_rows_by Sum allowed (w ∷ ws) some = omega arith
+  some_rows_by Maximum allowed brought some = some_first greatest_first greatest_total brought (at_least 1 10000 table.limit (and_parts _ _ allowed).0) some
+  some_rows_by Minimum allowed brought some = some_first least_first least_total brought (at_least 1 10000 table.limit (and_parts _ _ allowed).0) some
+  some_rows_by Set allowed brought some =
+      let long = length-map brought (λ (w : Weighted). w.value) in some_in_set (values_of brought) (omega (arith, long, some))
+  some_rows_by Collection allowed brought some =
+      let long = length-map brought (λ (w : Weighted). w.value) in
+      let same = sorted_long compare_total (values_of brought) in
+      let rows = length-map (sorted compare (values_of brought)) value_row in
+      omega (arith, long, same, rows, some)
+
+  pub some_rows_of : is_allowed table ≡ true → (brought : List Weighted) → 1 ≤ length brought → 1 ≤ length (rows_of table brought)
+  some_rows_of allowed brought some = some_rows_by table.kind allowed brought some

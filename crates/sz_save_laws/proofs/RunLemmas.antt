@@ -1,17 +1,17 @@
 -- What is saved of runs is, joined, what is saved of one run that brings all that they bring.
-use Rattle.std.proofs.Common.{◌≡◌, ◌∙◌, ℕ, zero, suc, ◌+◌, Some, None, List, [], ◌∷◌, ◌++◌, length, map, refl, sym, ap, subst, arith, append_assoc, append-nil}
+use Rattle.std.proofs.Common.{◌≡◌, ◌∙◌, ℕ, zero, suc, ◌+◌, Some, List, [], ◌∷◌, ◌++◌, length, map, refl, sym, ap, arith, append_assoc, append-nil}
 use Rattle.std.specs.Prelude.{slice_get, slice_index_or}
 use Rattle.sz_types.specs.Tables.{Declaration}
 use Rattle.sz_tabs.specs.Data.{EmitDatum}
 use Rattle.sz_total.specs.States.{TotalState, declarations, emit_count, shown}
-use Rattle.sz_total.specs.Tables.{Indexed, table_rows}
+use Rattle.sz_total.specs.Tables.{table_rows}
 use Rattle.sz_total.specs.Totals.{StandsFor}
 use Rattle.sz_print.specs.Laws.{ShowsItsEmits}
 use Rattle.sz_print.specs.Tables.{lists_text, tables_text}
 use Rattle.sz_save_format.specs.Saved.{SavedState, saved_bytes}
 use Rattle.sz_save.specs.Saving.{tables_from}
 use Rattle.sz_save_laws.specs.Laws.{Joining, given, joined, state_of, given_in, IsJoining, HoldInTurn, AddsEmits}
-use Rattle.sz_save_laws.specs.Runs.{Run, saved_of, together, AreJoined, JoinsRuns, HasBytesOfOne, HasTextOfOne}
+use Rattle.sz_save_laws.specs.Runs.{Run, saved_of, together, JoinsRuns, HasBytesOfOne, HasTextOfOne}
 
 -- what is given on both sides is made of two lists
 record IsSplit {A B : Type 0} (f : A → B) (all : List A) (xs ys : List B) : Type 0 where
@@ -88,7 +88,7 @@ module _ (decls : List Declaration) where
 pub runs_join : AddsEmits → JoinsRuns
 runs_join adds decls runs one joining are =
     let left = left_of decls joining runs are.is are.given in
-    adds joining (saved_of decls one) (together runs).emits one.emits are.is are.can (sym left.same) (sym (left.bound ∙ are.all.bound)) left.holds
+    adds joining (saved_of decls one) (together runs).emits one.emits are.is (sym left.same) (sym (left.bound ∙ are.all.bound)) left.holds
     are.all.emits refl
 
 pub bytes_of_one : AddsEmits → HasBytesOfOne

@@ -12,7 +12,7 @@ use Rattle.sz_save.specs.Joined.{joined_rows, rows_at, JoinTables, Joins}
 use Rattle.sz_save_laws.specs.Laws.{IsCommutative, IsAssociative}
 use Rattle.sz_save_laws.proofs.EitherLemmas.{CanBeOrdered, saved_ordered, none_ordered, both_ordered, rows_either}
 use Rattle.sz_save_laws.proofs.GroupLemmas.{rows_grouped}
-use Rattle.sz_save_laws.proofs.UniqueLemmas.{all_at, same_tables}
+use Rattle.sz_save_laws.proofs.UniqueLemmas.{Rise, all_at, saved_rise, same_tables}
 
 -- the rows of both sides, table by table
 abbrev pub all_joined : List Declaration → List (List RowDatum) → List (List RowDatum) → List (List RowDatum)
@@ -71,11 +71,14 @@ joined_ordered (d ∷ ds) (x ∷ xs) (y ∷ ys) g h = (both_ordered d.kind d.lim
 
 -- a state, seen with the declarations of another
 module _ (decls : List Declaration) (saved : SavedState) (same : saved.decls ≡ decls) (can : CanBeSaved saved) where
-  state_long : length saved.tables ≡ length decls
+  pub state_long : length saved.tables ≡ length decls
   state_long = can.as_many ∙ ap length same
 
   state_each : AllByRecursion (IsSavedTable saved.bound) (zip decls saved.tables)
   state_each = subst (λ ds. AllByRecursion (IsSavedTable saved.bound) (zip ds saved.tables)) same can.each
+
+  pub state_rises : AllByRecursion Rise saved.tables
+  state_rises = saved_rise saved.bound decls saved.tables state_long state_each
 
   pub state_ordered : (indexes : List Datum) → AllOrdered decls (all_at indexes saved.tables)
   state_ordered indexes = all_ordered saved.bound decls saved.tables indexes state_each
@@ -84,8 +87,8 @@ module _ (decls : List Declaration) (saved : SavedState) (same : saved.decls ≡
 pub same_states : (decls : List Declaration) (s t : SavedState) → s.decls ≡ decls → t.decls ≡ decls → CanBeSaved s → CanBeSaved t → s.bound ≡ t.bound
     → ((indexes : List Datum) → all_at indexes s.tables ≡ all_at indexes t.tables) → s ≡ t
 same_states decls s t is also can can_too bound alike =
-    let tables = same_tables s.bound t.bound decls s.tables t.tables (state_long decls s is can) (state_long decls t also can_too)
-    (state_each decls s is can) (state_each decls t also can_too) alike in
+    let tables = same_tables s.tables t.tables (state_long decls s is can ∙ sym (state_long decls t also can_too)) (state_rises decls s is can)
+    (state_rises decls t also can_too) alike in
     λ i. record { bound = bound i; decls = (is ∙ sym also) i; tables = tables i }
 
 -- what is joined has the rows of both sides

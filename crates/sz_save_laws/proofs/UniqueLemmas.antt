@@ -51,11 +51,11 @@ turned : (xs ys : List Datum) (found : Ordering) → compare_indexes xs ys ≡ f
 turned xs ys found is = indexes_total.antisymm ys xs ∙ ap ordering_reverse is
 
 -- each index list is above this one
-abbrev AreAbove : List Datum → List Indexed → Type 0
+abbrev pub AreAbove : List Datum → List Indexed → Type 0
 AreAbove indexes entries = AllByRecursion (λ (e : Indexed). compare_indexes indexes e.indexes ≡ Less) entries
 
 -- each index list has rows and is below those behind it
-abbrev Rise : List Indexed → Type 0
+abbrev pub Rise : List Indexed → Type 0
 Rise [] = Unit {0}
 Rise (e ∷ es) = (1 ≤ length e.rows) × AreAbove e.indexes es × Rise es
 
@@ -134,17 +134,21 @@ same_entries (e ∷ es) (f ∷ fs) g h alike = by_found (compare_indexes e.index
 abbrev pub all_at : List Datum → List (List Indexed) → List (List RowDatum)
 all_at indexes tables = map (λ es. rows_at es indexes) tables
 
--- tables that can be saved are the same where they have the same rows under each index list
-pub same_tables : (first second : ℕ) (ds : List Declaration) (ts us : List (List Indexed)) → length ts ≡ length ds → length us ≡ length ds
-    → AllByRecursion (IsSavedTable first) (zip ds ts) → AllByRecursion (IsSavedTable second) (zip ds us)
+-- the index lists of tables that can be saved rise, and have rows
+pub saved_rise : (bound : ℕ) (ds : List Declaration) (ts : List (List Indexed)) → length ts ≡ length ds → AllByRecursion (IsSavedTable bound) (zip ds ts)
+    → AllByRecursion Rise ts
+saved_rise bound ds [] long h = tt
+saved_rise bound [] (t ∷ ts) long h = absurd (omega (arith, long))
+saved_rise bound (d ∷ ds) (t ∷ ts) long h =
+    (rise bound d t h.0.entries.each h.0.entries.rising, saved_rise bound ds ts (omega (arith, long)) h.1)
+
+-- tables whose index lists rise, and have rows, are the same where they have the same rows under each index list
+pub same_tables : (ts us : List (List Indexed)) → length ts ≡ length us → AllByRecursion Rise ts → AllByRecursion Rise us
     → ((indexes : List Datum) → all_at indexes ts ≡ all_at indexes us) → ts ≡ us
-same_tables first second [] [] [] long other_long g h alike = refl
-same_tables first second [] (t ∷ ts) us long other_long g h alike = absurd (omega (arith, long))
-same_tables first second [] [] (u ∷ us) long other_long g h alike = absurd (omega (arith, other_long))
-same_tables first second (d ∷ ds) [] us long other_long g h alike = absurd (omega (arith, long))
-same_tables first second (d ∷ ds) (t ∷ ts) [] long other_long g h alike = absurd (omega (arith, other_long))
-same_tables first second (d ∷ ds) (t ∷ ts) (u ∷ us) long other_long g h alike =
-    let here = same_entries t u (rise first d t g.0.entries.each g.0.entries.rising) (rise second d u h.0.entries.each h.0.entries.rising)
-    (λ indexes. let both = alike indexes in cc) in
-    let later = same_tables first second ds ts us (omega (arith, long)) (omega (arith, other_long)) g.1 h.1 (λ indexes. let both = alike indexes in cc) in
+same_tables [] [] long g h alike = refl
+same_tables [] (u ∷ us) long g h alike = absurd (omega (arith, long))
+same_tables (t ∷ ts) [] long g h alike = absurd (omega (arith, long))
+same_tables (t ∷ ts) (u ∷ us) long g h alike =
+    let here = same_entries t u g.0 h.0 (λ indexes. let both = alike indexes in cc) in
+    let later = same_tables ts us (omega (arith, long)) g.1 h.1 (λ indexes. let both = alike indexes in cc) in
     λ i. here i ∷ later i

@@ -81,5 +81,5 @@ HoldInTurn (joined front back state) emits =
 -- states of parts of the emits are together the state of all of them, however they are joined and in whatever order the emits came
 abbrev pub AddsEmits : Type 0
 AddsEmits =
-    (joining : Joining) (all : SavedState) (emits others : List EmitDatum) → IsJoining joining → CanBeSaved all → all.decls ≡ (state_of joining).decls
+    (joining : Joining) (all : SavedState) (emits others : List EmitDatum) → IsJoining joining → all.decls ≡ (state_of joining).decls
     → all.bound ≡ (state_of joining).bound → HoldInTurn joining emits → IsPermutation emits others → Holds all others → state_of joining ≡ all

@@ -4,7 +4,7 @@ use Rattle.std.specs.List.Sorted.{IsPermutation}
 use Rattle.sz_types.specs.Tables.{Declaration}
 use Rattle.sz_tabs.specs.Data.{EmitDatum}
 use Rattle.sz_print.specs.Tables.{lists_text, tables_text}
-use Rattle.sz_save_format.specs.Saved.{SavedState, CanBeSaved, Saves}
+use Rattle.sz_save_format.specs.Saved.{SavedState, Saves}
 use Rattle.sz_save.specs.Saving.{state_of_emits}
 use Rattle.sz_save_laws.specs.Laws.{Joining, state_of, given_in, IsJoining}
 
@@ -27,13 +27,11 @@ pub record BringsAll (runs : List Run) (one : Run) : Type 0 where
   pub bound : (together runs).bound ≡ one.bound
   pub emits : IsPermutation (together runs).emits one.emits
 
--- what was saved of runs was joined, two states at a time and whichever first, until one was left; and what one run brings that brings all of
--- it can be saved
+-- what was saved of runs was joined, two states at a time and whichever first, until one was left; and one run brings all that they bring
 pub record AreJoined (decls : List Declaration) (runs : List Run) (one : Run) (joining : Joining) : Type 0 where
   pub given : given_in joining ≡ map (saved_of decls) runs
   pub is : IsJoining joining
   pub all : BringsAll runs one
-  pub can : CanBeSaved (saved_of decls one)
 
 -- what is left is what is saved of that one run
 abbrev pub JoinsRuns : Type 0

@@ -3,7 +3,7 @@ ghost use Rattle.sz_save_laws.specs.Laws.{IsCommutative, IsAssociative, ForgetsO
 ghost use Rattle.sz_save_laws.specs.Runs.{JoinsRuns, HasBytesOfOne, HasTextOfOne};
 
 use sz_print::rows_have_the_text_of_their_emits;
-use sz_total::tables_forget_the_order;
+use sz_total::{a_table_shows_its_indexes, tables_forget_the_order};
 
 /// Either of two states may be joined to the other, and of three states either two may be joined first. So any number of states
 /// are one state together, with the same bytes, in whatever order they are joined.
@@ -21,6 +21,7 @@ pub fn joining_adds_emits()
     ensures tables { JoinsTables }
     ensures states { AddsEmits }
 {
+    a_table_shows_its_indexes();
     tables_forget_the_order();
 }
 

@@ -2,6 +2,7 @@ mod AnswerLemmas
 mod BehindLemmas
 mod BoundLemmas
 mod CompleteLemmas
+mod EndedLemmas
 mod EndingLemmas
 mod FileLemmas
 mod JoinLemmas

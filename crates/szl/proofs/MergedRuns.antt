@@ -1,45 +1,42 @@
 -- What runs of one program saved is merged to what one run over all their records saves.
 use Rattle.std.proofs.Common.{◌≡◌, ◌∙◌, ℕ, suc, ◌+◌, ◌*◌, ◌^◌, ◌≤◌, List, [], ◌∷◌, ◌++◌, length, map, Bool, true, false, refl, sym, ap, subst, arith, rules}
-use Rattle.std.proofs.Common.{append-nil, append_assoc, length-append, IsPermutation}
-use Rattle.std.proofs.lemmas.List.Sorted.{IsPermutation-map, IsPermutation-refl}
-use Rattle.std.specs.Prelude.{Result, Ok, Err, Option, Some, None}
+use Rattle.std.proofs.Common.{append_assoc, length-append, IsPermutation}
+use Rattle.std.proofs.lemmas.List.Sorted.{IsPermutation-map}
+use Rattle.std.specs.Prelude.{Result, Ok, Err}
 use Rattle.std.specs.List.{AllByRecursion}
 use Rattle.sz_tree.specs.Statements.{Stms}
 use Rattle.sz_types.specs.Tables.{Declaration}
 use Rattle.sz_protofile_rules.specs.Types.{TypeShape}
-use Rattle.sz_core.specs.Programs.{tables_of}
 use Rattle.sz_mean.specs.Marked.{Marked, all_tables}
 use Rattle.sz_mean.specs.Programs.{mean, statics}
 use Rattle.sz_world_rules.specs.World.{Outcome, Done, Faulted}
 use Rattle.sz_world_rules.specs.Slots.{Slot}
 use Rattle.sz_tabs.specs.Data.{EmitDatum}
-use Rattle.sz_print.specs.Tables.{tables_text}
 use Rattle.sz_attempt.specs.declared.job.Job.{Job}
 use Rattle.sz_attempt.specs.Yields.{yield_of, means}
 use Rattle.sz_records.proofs.CutLaws.{records_are_few}
 use Rattle.sz_rounds.proofs.LawLemmas.{all_emits}
-use Rattle.sz_rounds.proofs.RangeLemmas.{makes_rounds}
-use Rattle.sz_rounds.specs.Cuts.{ranges_of}
+use Rattle.sz_rounds.specs.Outcomes.{emitted, outcome_of}
 use Rattle.sz_words.specs.declared.settings.RunSettings.{RunSettings}
-use Rattle.sz_save_format.specs.Saved.{CanBeSaved, Saves}
-use Rattle.sz_save_laws.specs.Laws.{given}
+use Rattle.sz_save_format.specs.Saved.{Saves}
 use Rattle.sz_save_format.specs.Laws.{IsOneSpelling}
+use Rattle.sz_save_laws.specs.Laws.{Joining, given, joined, given_in}
 use Rattle.sz_save_laws.specs.Runs.{Run, saved_of, together, JoinsRuns, HasTextOfOne}
 use Rattle.sz_merge.specs.Laws.{IsOneTogether}
 use Rattle.szl.specs.Answers.{Answer, success}
 use Rattle.szl.specs.Judgement.{spells}
-use Rattle.szl.specs.Records.{limits}
-use Rattle.szl.specs.Shards.{shard_sizes, shards_in, job_of}
-use Rattle.szl.specs.Savable.{savable, savable_so, unless_high, first_high}
-use Rattle.szl.specs.Reserved.{runnable}
-use Rattle.szl.specs.declared.refusal.Refusal.{Refusal}
-use Rattle.szl.specs.Outcome.{written, outcome_of_ending, outcome_of_shards, outcome_of_statics, outcome_of_checked_run}
+use Rattle.szl.specs.Records.{Cut, IsCutInto, limits}
+use Rattle.szl.specs.Shards.{shards_in, job_of}
+use Rattle.szl.specs.Savable.{savable}
+use Rattle.szl.specs.Outcome.{written, outcome_of_run}
 use Rattle.szl.specs.Merging.{Merged, IsMerged, outcome_of_merge, merged_output}
 use Rattle.szl.specs.Merging as ends
-use Rattle.szl.specs.SavedRuns.{SavesTables, Part, records_of, all_records, files_of, IsPartOf, ArePartsOf, answer_of, MergesToOneRun, SavesItsAnswer}
+use Rattle.szl.specs.SavedRuns.{Part, EndedRun, all_records, files_of, IsPartOf, ArePartsOf, answer_of, MergesToOneRun, SavesItsAnswer}
+use Rattle.szl.proofs.BoundLemmas.{low_product}
+use Rattle.szl.proofs.EndedLemmas.{Finished, EndedSo, ended_so, part_finished, finished_answers, savable_of}
 use Rattle.szl.proofs.JudgementLemmas.{one_reading}
-use Rattle.szl.proofs.ShardLemmas.{sizes_are_shards}
-use Rattle.szl.proofs.PieceLemmas.{Piece, bytes_of, runs_of, IsFile, merged_to_one, bounds_moved, emits_moved}
+use Rattle.szl.proofs.ShardLemmas.{shards_make_rounds}
+use Rattle.szl.proofs.PieceLemmas.{Piece, bytes_of, runs_of, IsFile, EndsAsOne, merged_to_one, bounds_moved, emits_moved}
 
 -- ---- the emits of records, whatever their numbers
 
@@ -69,39 +66,40 @@ means_emits job n (r ∷ rs) =
     λ i. any_number job.compiled job.statics job.budget n o i ++ means_emits job (suc n) rs i
 
 -- the emits of a run are those of its records
-module _ (program : Marked) (s : RunSettings) (input bytes : List ℕ) (t : SavesTables program s input bytes) where
-  own_emits : t.emits ≡ emits_of program t.slots s.budget t.cut.records
-  own_emits =
-      let rs = t.cut.records in
-      let sizes = shard_sizes s.shard rs in
-      let counted = records_are_few s.frame limits 0 0 input rs t.cut.ending (omega arith) t.is_cut in
-      let few : length rs ≤ 2 ^ 31 = omega (arith, counted) in
-      let rounds = makes_rounds s.shard rs (ranges_of 0 1 sizes) few
-      (record { sizes = sizes; are = sizes_are_shards s.shard rs t.bounds.shard; lie = refl }) in
-      let job = job_of program t.slots s in
-      let all = all_emits job 0 1 (shards_in s.shard rs) t.emits t.passed (rounds.follow 0) t.ends in
-      sym all.0 ∙ ap (λ l. (means job 1 l).emits) (rounds.whole 0) ∙ means_emits job 1 rs
+module _ (s : RunSettings) (input : List ℕ) (cut : Cut) (is_cut : IsCutInto s.frame input cut) where
+  few_records : length cut.records ≤ 2 ^ 31
+  few_records = let counted = records_are_few s.frame limits 0 0 input cut.records cut.ending (omega arith) is_cut in omega (arith, counted)
 
-  saves_run : Saves bytes (saved_of (all_tables program) (run_over program t.slots s.budget t.cut.records))
-  saves_run = subst (λ es. Saves bytes (saved_of (all_tables program) (record { bound = length t.cut.records * s.budget; emits = es }))) own_emits t.saves
+  own_emits : {types : List TypeShape} {ss : Stms} (f : Finished types s cut ss) → f.emits ≡ emits_of f.program f.slots s.budget cut.records
+  own_emits f =
+      let rounds = shards_make_rounds s.shard cut.records few_records in
+      let job = job_of f.program f.slots s in
+      let all = all_emits job 0 1 (shards_in s.shard cut.records) f.emits f.passed (rounds.follow 0) f.ends in
+      sym all.0 ∙ ap (λ l. (means job 1 l).emits) (rounds.whole 0) ∙ means_emits job 1 cut.records
 
 -- ---- two runs of one program
 
 same_spelled : (ss others : Stms) → spells ss ≡ spells others → ss ≡ others
 same_spelled ss others is = cc
 
-same_program : (p q : Marked) (a b : Result Marked Refusal) → a ≡ Ok p → b ≡ Ok q → a ≡ b → p ≡ q
+same_program : {E : Type 0} (p q : Marked) (a b : Result Marked E) → a ≡ Ok p → b ≡ Ok q → a ≡ b → p ≡ q
 same_program p q a b is also same = cc
 
 same_slots : (xs ys : List Slot) → Done xs ≡ Done ys → xs ≡ ys
 same_slots xs ys is = cc
 
-module _ {types : List TypeShape} {text : List ℕ} (whole : Part types text) where
+module _ {types : List TypeShape} {text : List ℕ} (whole : EndedRun types text) where
+  so : EndedSo whole
+  so = ended_so whole
+
+  abbrev ss : Stms
+  ss = so.statements
+
   abbrev p : Marked
-  p = whole.run.program
+  p = so.finished.program
 
   abbrev slots : List Slot
-  slots = whole.run.tables.slots
+  slots = so.finished.slots
 
   abbrev budget : ℕ
   budget = whole.settings.budget
@@ -112,32 +110,44 @@ module _ {types : List TypeShape} {text : List ℕ} (whole : Part types text) wh
   abbrev over : List (List ℕ) → Run
   over = run_over p slots budget
 
+  abbrev records_of : Part types text → List (List ℕ)
+  records_of part = part.run.tables.cut.records
+
   abbrev piece_of : Part types text → Piece
   piece_of part = record { bytes = part.bytes; run = over (records_of part) }
 
   module _ (part : Part types text) (of : IsPartOf whole part) where
+    statements_are : part.run.statements ≡ ss
+    statements_are =
+        same_spelled part.run.statements ss (one_reading text (spells part.run.statements) whole.reading part.run.read whole.read ∙ so.spelled)
+
     program_is : part.run.program ≡ p
     program_is =
-        let read = one_reading text (spells part.run.statements) (spells whole.run.statements) part.run.read whole.run.read in
-        let statements = same_spelled part.run.statements whole.run.statements read in
-        same_program part.run.program p (savable types true part.settings.ignore_undefs part.run.statements)
-        (savable types true whole.settings.ignore_undefs whole.run.statements) part.run.is whole.run.is
-        (λ i. savable types true (of.ignoring i) (statements i))
+        same_program part.run.program p (savable types false part.settings.ignore_undefs part.run.statements)
+        (savable types false whole.settings.ignore_undefs ss) (part_finished part).runs so.finished.runs
+        (λ i. savable types false (of.ignoring i) (statements_are i))
+
+    can_be_saved : savable types true whole.settings.ignore_undefs ss ≡ Ok p
+    can_be_saved = (λ i. savable types true (sym of.ignoring i) (sym statements_are i)) ∙ part.run.is ∙ ap Ok program_is
 
     slots_are : part.run.tables.slots ≡ slots
-    slots_are = same_slots part.run.tables.slots slots (sym part.run.tables.begun ∙ (λ i. statics (program_is i) (of.budget i)) ∙ whole.run.tables.begun)
+    slots_are = same_slots part.run.tables.slots slots (sym part.run.tables.begun ∙ (λ i. statics (program_is i) (of.budget i)) ∙ so.finished.begun)
+
+    low_budget : budget ≤ 2 ^ 32
+    low_budget = subst (λ n. n ≤ 2 ^ 32) of.budget part.run.tables.bounds.most_budget
 
     is_file : IsFile decls (piece_of part)
     is_file =
         let t = part.run.tables in
+        let s = part.settings in
+        let own = own_emits s part.input t.cut t.is_cut (part_finished part) in
+        let saves = subst (λ es. Saves part.bytes (saved_of (all_tables part.run.program) (record { bound = length t.cut.records * s.budget; emits = es })))
+            own t.saves in
         record {
           short = of.short;
           saves = subst (Saves part.bytes) (λ i. saved_of (all_tables (program_is i)) (run_over (program_is i) (slots_are i) (of.budget i) t.cut.records))
-              (saves_run part.run.program part.settings part.input part.bytes t);
+              saves;
         }
-
-  pieces_of : List (Part types text) → List Piece
-  pieces_of parts = map piece_of parts
 
   are_files : (parts : List (Part types text)) → AllByRecursion (IsPartOf whole) parts → AllByRecursion (IsFile decls) (map piece_of parts)
   are_files [] h = tt
@@ -175,87 +185,72 @@ module _ {types : List TypeShape} {text : List ℕ} (whole : Part types text) wh
     moved_runs : IsPermutation (runs parts) (runs are.inputs)
     moved_runs = IsPermutation-map (λ (part : Part types text). over (records_of part)) parts are.inputs are.moved
 
-    whole_bound : (together (runs_of (map piece_of parts))).bound ≡ (over (records_of whole)).bound
+    whole_bound : (together (runs_of (map piece_of parts))).bound ≡ (over whole.cut.records).bound
     whole_bound =
         ap (λ l. (together l).bound) (same_runs parts) ∙ bounds_moved (runs parts) (runs are.inputs) moved_runs ∙ all_bound are.inputs
         ∙ ap (λ l. length l * budget) are.records
 
-    whole_emits : IsPermutation (together (runs_of (map piece_of parts))).emits (over (records_of whole)).emits
+    whole_emits : IsPermutation (together (runs_of (map piece_of parts))).emits (over whole.cut.records).emits
     whole_emits =
         subst (λ (q : List EmitDatum × List EmitDatum). IsPermutation q.0 q.1)
         (λ i. ((together (sym (same_runs parts) i)).emits, (all_emitted are.inputs ∙ ap (emits_of p slots budget) are.records) i))
         (emits_moved (runs parts) (runs are.inputs) moved_runs)
 
-    module _ (spelling : IsOneSpelling) (one : IsOneTogether) (joins : JoinsRuns) (merged : Merged) (is : IsMerged (files_of parts) merged) where
-      ends_with : merged ≡ ends.together (saved_of decls (over (records_of whole)))
-      ends_with =
-          let own = saves_run p whole.settings whole.input whole.bytes whole.run.tables in
-          merged_to_one decls spelling one joins (map piece_of parts) (over (records_of whole)) merged (are_files parts are.each) whole_bound whole_emits
-          own.can (subst (λ l. IsMerged l merged) (sym (same_files parts)) is)
+    module _ (spelling : IsOneSpelling) (one : IsOneTogether) (joins : JoinsRuns) (texts : HasTextOfOne) where
+      ends_as_one : budget ≤ 2 ^ 32 → (merged : Merged) → IsMerged (files_of parts) merged → EndsAsOne decls (over whole.cut.records) merged
+      ends_as_one low merged is =
+          merged_to_one decls spelling one joins texts (map piece_of parts) (over whole.cut.records) merged (are_files parts are.each) whole_bound whole_emits
+          (low_product (length whole.cut.records) budget (few_records whole.settings whole.input whole.cut whole.is_cut) low)
+          (subst (λ l. IsMerged l merged) (sym (same_files parts)) is)
 
--- ---- what a run answers
+-- ---- what is answered
 
--- statements that can be run so that their tables are saved can be run so that they aren't
-unsaved : (ss : Stms) (found : Result Marked Refusal) (program : Marked) → savable_so true ss found ≡ Ok program → savable_so false ss found ≡ Ok program
-unsaved ss (Ok own) program is = by (first_high (tables_of own.core.items)) is
+-- no state is left where none is given
+none_given : (j : Joining) → given_in j ≡ [] → ⊥
+none_given (given s) none = absurd (cc)
+none_given (joined f b s) none = by (given_in f) (none_given f) none
   where
-    by : (high : Option Declaration) → unless_high ss high own ≡ Ok program → savable_so false ss (Ok own) ≡ Ok program
-    by None same = same
-    by (Some d) same = absurd (cc)
-unsaved ss (Err r) program is = is
+    by : (states : List _) → (states ≡ [] → ⊥) → states ++ given_in b ≡ [] → ⊥
+    by [] some both = some refl
+    by (t ∷ states) some both = absurd (cc)
 
-module _ {types : List TypeShape} {text : List ℕ} (part : Part types text) where
-  run_savable : (save : Bool) → savable types save part.settings.ignore_undefs part.run.statements ≡ Ok part.run.program
-  run_savable true = part.run.is
-  run_savable false =
-      unsaved part.run.statements (runnable types part.settings.ignore_undefs part.run.statements) part.run.program part.run.is
-
-  run_answers : (save : Bool) → answer_of save part
-      ≡ success (written part.run.program save (length (records_of part)) part.settings.budget part.run.tables.emits)
-  run_answers save =
-      let t = part.run.tables in
-      let s : RunSettings = record part.settings { save = save } in
-      let write = written part.run.program save (length t.cut.records) part.settings.budget in
-      ap (outcome_of_checked_run s t.cut) (run_savable save) ∙ ap (outcome_of_statics part.run.program s t.cut) t.begun
-      ∙ ap (outcome_of_shards write t.cut.ending) t.ends ∙ ap (λ e. outcome_of_ending e (write t.emits)) t.whole
+none_merged : (merged : Merged) → IsMerged [] merged → ⊥
+none_merged (ends.together all) h = none_given h.joining h.given
+none_merged (ends.too_long file) h = h
+none_merged (ends.bad file) h = h
+none_merged (ends.other file) h = h
+none_merged (ends.past file) h = h
 
 pub saves_its_answer : SavesItsAnswer
-saves_its_answer types text part = run_answers part true ∙ ap success (sym part.run.tables.saves.is)
-
--- the text of what is saved of a run is that of its emits
-text_of_run : HasTextOfOne → (decls : List Declaration) (run : Run) → CanBeSaved (saved_of decls run)
-    → merged_output false (saved_of decls run) ≡ tables_text decls run.emits
-text_of_run texts decls run can =
-    texts decls (run ∷ []) run (given (saved_of decls run)) (record {
-    given = refl;
-    is = can;
-    all = record {
-      bound = omega arith;
-      emits = subst (λ emits. IsPermutation emits run.emits) (sym (append-nil run.emits)) (IsPermutation-refl run.emits);
-    };
-    can = can;
-    })
+saves_its_answer types text s input bytes run =
+    let part : Part types text = record { settings = s; input = input; bytes = bytes; run = run } in
+    finished_answers (part_finished part) true run.is ∙ ap success (sym run.tables.saves.is)
 
 module _ (spelling : IsOneSpelling) (one : IsOneTogether) (joins : JoinsRuns) (texts : HasTextOfOne) where
   pub merges_to_one_run : MergesToOneRun
-  merges_to_one_run types text whole parts merged save are is =
-      let merges = ap (outcome_of_merge (length parts) save) (ends_with whole parts are spelling one joins merged is) in
-      let emits = own_emits whole.run.program whole.settings whole.input whole.bytes whole.run.tables in
-      merges ∙ ap (λ output. opened (success output) (length parts)) (of_output save ∙ ap (written_of save) (sym emits))
-      ∙ ap (λ answer. opened answer (length parts)) (sym (run_answers whole save))
+  merges_to_one_run types text whole [] merged save are is = absurd (none_merged merged is)
+  merges_to_one_run types text whole (part ∷ parts) merged save are is =
+      let f = (so whole).finished in
+      let first = are.each.0 in
+      let found = ends_as_one whole (part ∷ parts) are spelling one joins texts (low_budget whole part first) merged is in
+      let merges = ap (outcome_of_merge count save) found.is in
+      let emits = own_emits whole.settings whole.input whole.cut whole.is_cut f in
+      let answers = ap (λ reading. outcome_of_run types (record whole.settings { save = save }) whole.cut reading) (so whole).spelled
+          ∙ finished_answers f save (savable_of f save (can_be_saved whole part first)) in
+      merges ∙ ap (λ output. opened (success output) count) (of_output save found ∙ ap (written_of save) (sym emits))
+      ∙ ap (λ answer. opened answer count) (sym answers)
       ∙ ap (opened (answer_of save whole)) (sym (ap (λ (answer : Answer). answer.opens) merges))
     where
+      count : ℕ
+      count = length (part ∷ parts)
+
       opened : Answer → ℕ → Answer
       opened answer n = record answer { opens = n }
 
       written_of : Bool → List EmitDatum → List ℕ
-      written_of save emits = written whole.run.program save (length (records_of whole)) whole.settings.budget emits
+      written_of save emits = written (so whole).finished.program save (length whole.cut.records) whole.settings.budget emits
 
-      run : Run
-      run = over whole (records_of whole)
-
-      of_output : (save : Bool) → merged_output save (saved_of (all_tables whole.run.program) run) ≡ written_of save run.emits
-      of_output true = refl
-      of_output false =
-          let saves = saves_run whole.run.program whole.settings whole.input whole.bytes whole.run.tables in
-          text_of_run texts (all_tables whole.run.program) run saves.can
+      of_output : (save : Bool) → EndsAsOne (decls whole) (over whole whole.cut.records) merged
+          → merged_output save (saved_of (decls whole) (over whole whole.cut.records)) ≡ written_of save (over whole whole.cut.records).emits
+      of_output true found = refl
+      of_output false found = found.text

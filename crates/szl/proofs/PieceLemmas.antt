@@ -7,9 +7,10 @@ use Rattle.std.specs.List.{AllByRecursion}
 use Rattle.sz_types.specs.Tables.{Declaration}
 use Rattle.sz_tabs.specs.Data.{EmitDatum}
 use Rattle.sz_tabs.proofs.ForCallers.{in_any_order}
-use Rattle.sz_save_format.specs.Saved.{SavedState, CanBeSaved, Saves}
+use Rattle.sz_print.specs.Tables.{lists_text, tables_text}
+use Rattle.sz_save_format.specs.Saved.{SavedState, Saves}
 use Rattle.sz_save_format.specs.Laws.{IsOneSpelling}
-use Rattle.sz_save_laws.specs.Runs.{Run, saved_of, together, JoinsRuns}
+use Rattle.sz_save_laws.specs.Runs.{Run, saved_of, together, AreJoined, JoinsRuns, HasTextOfOne}
 use Rattle.sz_merge.specs.Laws.{IsOneTogether}
 use Rattle.sz_merge.specs.Together.{AreTogether, bounds_of, HasSameTables, HaveTables}
 use Rattle.szl.specs.Merging as ends
@@ -48,6 +49,11 @@ module _ (decls : List Declaration) where
     is : end ≡ ends.together all
     are : AreTogether states all
 
+  -- merging ends with what is saved of one run, which has the text of its emits
+  pub record EndsAsOne (whole : Run) (end : Merged) : Type 0 where
+    pub is : end ≡ ends.together (saved_of decls whole)
+    pub text : lists_text decls (saved_of decls whole).tables ≡ tables_text decls whole.emits
+
   same_tables : (before : List SavedState) (run : Run) → HaveTables decls before → HasSameTables before (saved_of decls run)
   same_tables [] run h = tt
   same_tables (first ∷ more) run h = sym h.0
@@ -85,19 +91,18 @@ module _ (decls : List Declaration) where
         (all_joined (before ++ s ∷ []) pieces end (one_more before s tables refl) files.1 (omega (arith, low, both)) later)
 
     -- so merging ends with what is saved of a run that brings all that they bring
-    pub merged_to_one : JoinsRuns → (pieces : List Piece) (whole : Run) (end : Merged) → AllByRecursion IsFile pieces
-        → (together (runs_of pieces)).bound ≡ whole.bound → IsPermutation (together (runs_of pieces)).emits whole.emits → CanBeSaved (saved_of decls whole)
-        → MergesFrom [] (bytes_of pieces) end → end ≡ ends.together (saved_of decls whole)
-    merged_to_one joins pieces whole end files bound emits can h =
-        let low = can.bound in
+    pub merged_to_one : JoinsRuns → HasTextOfOne → (pieces : List Piece) (whole : Run) (end : Merged) → AllByRecursion IsFile pieces
+        → (together (runs_of pieces)).bound ≡ whole.bound → IsPermutation (together (runs_of pieces)).emits whole.emits → whole.bound ≤ 2 ^ 63
+        → MergesFrom [] (bytes_of pieces) end → EndsAsOne whole end
+    merged_to_one joins texts pieces whole end files bound emits low h =
         let found = all_joined [] pieces end tt files (omega (arith, bound, low)) h in
-        let left = joins decls (runs_of pieces) whole found.are.joining (record {
-        given = found.are.given;
-        is = found.are.is;
-        all = record { bound = bound; emits = emits };
-        can = can;
-        }) in
-        found.is ∙ ap ends.together (sym found.are.left ∙ left)
+        let are : AreJoined decls (runs_of pieces) whole found.are.joining =
+            record { given = found.are.given; is = found.are.is; all = record { bound = bound; emits = emits } } in
+        let left = joins decls (runs_of pieces) whole found.are.joining are in
+        record {
+          is = found.is ∙ ap ends.together (sym found.are.left ∙ left);
+          text = ap (λ (s : SavedState). lists_text s.decls s.tables) (sym left) ∙ texts decls (runs_of pieces) whole found.are.joining are;
+        }
 
 -- ---- the order of the runs can't be seen
 

@@ -1,10 +1,12 @@
 -- The sizes of an input's shards.
-use Rattle.std.proofs.Common.{◌≡◌, inl, inr, ℕ, zero, suc, ◌+◌, ◌^◌, ◌<◌, ◌≤◌, List, [], ◌∷◌, ◌++◌, length, take, drop, Bool, true, false}
+use Rattle.std.proofs.Common.{◌≡◌, inl, inr, ℕ, zero, suc, ◌+◌, ◌^◌, ◌<◌, ◌≤◌, List, [], ◌∷◌, ◌++◌, length, take, drop, Bool, true, false, true≢false}
 use Rattle.std.proofs.Common.{refl, sym, ap, ◌∙◌, subst, arith, append-nil, append_assoc, length-append}
 use Rattle.std.specs.Prelude.{nat_le, ◌||◌, if◌then◌else◌}
 use Rattle.std.proofs.lemmas.Bool.Decides.{nat_tests}
 use Rattle.std.proofs.lemmas.List.Sums.{sum_by_push}
 use Rattle.sz_records.specs.Shards.{AreShards, IsShard, IsFull, bytes_in}
+use Rattle.sz_rounds.proofs.RangeLemmas.{makes_rounds}
+use Rattle.sz_rounds.specs.Cuts.{ranges_of, MakesRounds}
 use Rattle.szl.specs.Shards.{sizes_after, shard_sizes}
 
 take_front : {A : Type 0} (xs ys : List A) (m : ℕ) → m ≤ length xs → take m (xs ++ ys) ≡ take m xs
@@ -115,3 +117,30 @@ sizes_are_shards most records low = shard_after most [] records none
     none zero le (inl full) = absurd (omega (arith, full, low))
     none zero le (inr full) = absurd (omega (arith, full))
     none (suc m) le full = absurd (omega (arith, le))
+
+-- shards of no records are shards of one
+none_is_one : (count bytes : ℕ) (rs : List (List ℕ)) → sizes_after 0 count bytes rs ≡ sizes_after 1 count bytes rs
+none_is_one count bytes [] = refl
+none_is_one count bytes (r ∷ rs) =
+    by (nat_le 0 (suc count)) (nat_le 1 (suc count)) (grind (arith, nat_tests)) (grind (arith, nat_tests)) (none_is_one 0 0 rs)
+  where
+    by : (a b : Bool) → a ≡ true → b ≡ true → sizes_after 0 0 0 rs ≡ sizes_after 1 0 0 rs
+        → (if a || nat_le (2 ^ 24) (bytes + length r) then suc count ∷ sizes_after 0 0 0 rs else sizes_after 0 (suc count) (bytes + length r) rs)
+        ≡ (if b || nat_le (2 ^ 24) (bytes + length r) then suc count ∷ sizes_after 1 0 0 rs else sizes_after 1 (suc count) (bytes + length r) rs)
+    by true true is also later = ap (λ sizes. suc count ∷ sizes) later
+    by true false is also later = absurd (true≢false (sym also))
+    by false b is also later = absurd (true≢false (sym is))
+
+-- records that are few make rounds of the shards that they are cut into
+pub shards_make_rounds : (most : ℕ) (rs : List (List ℕ)) → length rs ≤ 2 ^ 31
+    → MakesRounds rs (ranges_of 0 1 (shard_sizes most rs)) (shard_sizes most rs)
+shards_make_rounds most rs few = by most
+  where
+    some : (n : ℕ) → 1 ≤ n → MakesRounds rs (ranges_of 0 1 (shard_sizes n rs)) (shard_sizes n rs)
+    some n low =
+        let sizes = shard_sizes n rs in
+        makes_rounds n rs (ranges_of 0 1 sizes) few (record { sizes = sizes; are = sizes_are_shards n rs low; lie = refl })
+
+    by : (n : ℕ) → MakesRounds rs (ranges_of 0 1 (shard_sizes n rs)) (shard_sizes n rs)
+    by zero = subst (λ sizes. MakesRounds rs (ranges_of 0 1 sizes) sizes) (sym (none_is_one 0 0 rs)) (some 1 (omega arith))
+    by (suc n) = some (suc n) (omega arith)
