@@ -42,5 +42,5 @@ returns-clause-saved g c =
     let s = c.args.settings.now in
     map_ok c.answer_text.result
     (λ bytes saves saving. text_saves g.F.Files c.args.types.now s c.as_str.result.now c.as_str.ensures.value c.args.files.now c.read_program.new.files
-    c.in_ok-text.ensures.kept c.in_ok-text.text.items _ _ _ _ c.in_ok-text.ensures.text c.deref.result.now c.deref.ensures.value bytes.items (saves saving))
+    c.in_ok-text.ensures.kept c.in_ok-text.text.items _ _ _ c.in_ok-text.ensures.text c.deref.result.now c.deref.ensures.value bytes.items (saves saving))
     c.answer_text.ensures.saved
