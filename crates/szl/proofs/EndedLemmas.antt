@@ -1,5 +1,5 @@
 -- Runs that came to their end: what they are, and what they answer.
-use Rattle.std.proofs.Common.{◌≡◌, ◌∙◌, ℕ, List, length, Bool, true, false, refl, sym, ap}
+use Rattle.std.proofs.Common.{◌≡◌, ◌∙◌, ℕ, List, length, Bool, true, false, refl, ap}
 use Rattle.std.specs.Prelude.{Result, Ok, Err, Option, Some, None}
 use Rattle.sz_tree.specs.Statements.{Stms}
 use Rattle.sz_protofile_rules.specs.Types.{TypeShape}

@@ -2,7 +2,7 @@
 use Rattle.std.proofs.Common.{◌≡◌, ◌∙◌, ℕ, suc, ◌+◌, ◌*◌, ◌^◌, ◌≤◌, List, [], ◌∷◌, ◌++◌, length, map, Bool, true, false, refl, sym, ap, subst, arith, rules}
 use Rattle.std.proofs.Common.{append_assoc, length-append, IsPermutation}
 use Rattle.std.proofs.lemmas.List.Sorted.{IsPermutation-map}
-use Rattle.std.specs.Prelude.{Result, Ok, Err}
+use Rattle.std.specs.Prelude.{Result, Ok}
 use Rattle.std.specs.List.{AllByRecursion}
 use Rattle.sz_tree.specs.Statements.{Stms}
 use Rattle.sz_types.specs.Tables.{Declaration}
@@ -16,7 +16,6 @@ use Rattle.sz_attempt.specs.declared.job.Job.{Job}
 use Rattle.sz_attempt.specs.Yields.{yield_of, means}
 use Rattle.sz_records.proofs.CutLaws.{records_are_few}
 use Rattle.sz_rounds.proofs.LawLemmas.{all_emits}
-use Rattle.sz_rounds.specs.Outcomes.{emitted, outcome_of}
 use Rattle.sz_words.specs.declared.settings.RunSettings.{RunSettings}
 use Rattle.sz_save_format.specs.Saved.{Saves}
 use Rattle.sz_save_format.specs.Laws.{IsOneSpelling}
@@ -142,7 +141,7 @@ module _ {types : List TypeShape} {text : List ℕ} (whole : EndedRun types text
         let s = part.settings in
         let own = own_emits s part.input t.cut t.is_cut (part_finished part) in
         let saves = subst (λ es. Saves part.bytes (saved_of (all_tables part.run.program) (record { bound = length t.cut.records * s.budget; emits = es })))
-            own t.saves in
+        own t.saves in
         record {
           short = of.short;
           saves = subst (Saves part.bytes) (λ i. saved_of (all_tables (program_is i)) (run_over (program_is i) (slots_are i) (of.budget i) t.cut.records))
@@ -236,7 +235,7 @@ module _ (spelling : IsOneSpelling) (one : IsOneTogether) (joins : JoinsRuns) (t
       let merges = ap (outcome_of_merge count save) found.is in
       let emits = own_emits whole.settings whole.input whole.cut whole.is_cut f in
       let answers = ap (λ reading. outcome_of_run types (record whole.settings { save = save }) whole.cut reading) (so whole).spelled
-          ∙ finished_answers f save (savable_of f save (can_be_saved whole part first)) in
+      ∙ finished_answers f save (savable_of f save (can_be_saved whole part first)) in
       merges ∙ ap (λ output. opened (success output) count) (of_output save found ∙ ap (written_of save) (sym emits))
       ∙ ap (λ answer. opened answer count) (sym answers)
       ∙ ap (opened (answer_of save whole)) (sym (ap (λ (answer : Answer). answer.opens) merges))

@@ -97,7 +97,7 @@ module _ (decls : List Declaration) where
     merged_to_one joins texts pieces whole end files bound emits low h =
         let found = all_joined [] pieces end tt files (omega (arith, bound, low)) h in
         let are : AreJoined decls (runs_of pieces) whole found.are.joining =
-            record { given = found.are.given; is = found.are.is; all = record { bound = bound; emits = emits } } in
+        record { given = found.are.given; is = found.are.is; all = record { bound = bound; emits = emits } } in
         let left = joins decls (runs_of pieces) whole found.are.joining are in
         record {
           is = found.is ∙ ap ends.together (sym found.are.left ∙ left);
