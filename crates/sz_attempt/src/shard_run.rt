@@ -35,8 +35,8 @@ pub fn attempt<'a>(
 ) -> Result<AttemptEnd<'a>, NoMemory>
     requires job { IsJob job.now }
     requires number { number < job.now.attempts }
-    requires shard { IsShardIn records.now shard.now }
-    ensures value { IfOk result (λ end. EndsSo job.now.compiled (end_of job.now (shard_at shard_no records.now shard.now) number) end) }
+    requires shard { IsShardIn records.now.items shard.now }
+    ensures value { IfOk result (λ end. EndsSo job.now.compiled (end_of job.now (shard_at shard_no records.now.items shard.now) number) end) }
 {
     let mut room = Room::new(alloc);
     attempt_in(alloc, &mut room, job, records, shard, shard_no, number)
@@ -54,8 +54,8 @@ pub fn attempt_in<'a>(
 ) -> Result<AttemptEnd<'a>, NoMemory>
     requires job { IsJob job.now }
     requires number { number < job.now.attempts }
-    requires shard { IsShardIn records.now shard.now }
-    ensures value { IfOk result (λ end. EndsSo job.now.compiled (end_of job.now (shard_at shard_no records.now shard.now) number) end) }
+    requires shard { IsShardIn records.now.items shard.now }
+    ensures value { IfOk result (λ end. EndsSo job.now.compiled (end_of job.now (shard_at shard_no records.now.items shard.now) number) end) }
 {
     let all = shard.end - shard.start;
     let death = death_of(job.kills.as_slice(), shard_no, number, all);
@@ -134,10 +134,10 @@ fn run_records<'a>(
     part: &mut Total<'a>,
 ) -> Result<Faults, NoMemory>
     requires job { IsJob job.now }
-    requires shard { IsShardIn records.now shard.now }
+    requires shard { IsShardIn records.now.items shard.now }
     requires count { count ≤ shard.now.end - shard.now.start }
     requires nothing { HoldsNothing job.now part.old }
-    ensures value { IfOk result (λ faults. RunsRecords job.now (means job.now shard.now.first (take count (records_of records.now shard.now)))
+    ensures value { IfOk result (λ faults. RunsRecords job.now (means job.now shard.now.first (take count (records_of records.now.items shard.now)))
         part.new faults) }
 {
     let mut faults = Items::new(alloc);

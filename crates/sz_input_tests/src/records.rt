@@ -85,7 +85,7 @@ fn rows() -> &'static [Row] {
 }
 
 // The ending of a file that comes in pieces of so many bytes, and one byte more.
-fn fed(
+pub(crate) fn fed(
     framer: &mut Framer,
     records: &mut Records,
     file: &[u8],

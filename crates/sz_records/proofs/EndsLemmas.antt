@@ -6,7 +6,7 @@ use Rattle.std.proofs.lemmas.List.{take_all, take-append-le, take-append-drop, d
 use Rattle.std.proofs.Math.Seq.{drop-append_seam}
 use Rattle.std.proofs.lemmas.List.Edits.{take-paste}
 use Rattle.std.proofs.lemmas.List.Sums.{sum_by-cons}
-use Rattle.sz_records.specs.Ends.{records_at, AreEnds}
+use Rattle.sz_records.specs.Ends.{RecordsData, records_at, AreEnds}
 use Rattle.sz_records.specs.Shards.{bytes_in}
 
 -- what is left of a list whose rest was moved to its front
@@ -17,6 +17,12 @@ left_later xs k n e le =
     ap (λ (m : ℕ). take m (copy_within xs k (length xs) 0)) (let none : length xs - k ≡ 0 + (length xs - k) = omega arith in none)
     ∙ take-paste xs 0 (drop k xs) (length xs - k) (omega arith) (omega (arith, rest)) in
     rw e (pasted ∙ take_all (length xs - k) (drop k xs) (omega (arith, rest)))
+
+-- records are their bytes and their ends
+pub same_data : (one other : RecordsData) → one.items ≡ other.items → one.ends ≡ other.ends → one ≡ other
+same_data one other items ends =
+    ap (λ (x : List (List ℕ)). let d : RecordsData = record { items = x; ends = one.ends } in d) items
+    ∙ ap (λ (x : List ℕ). let d : RecordsData = record { items = other.items; ends = x } in d) ends
 
 -- as many records as ends
 pub records_len : (from : ℕ) (ends bytes : List ℕ) → length (records_at from ends bytes) ≡ length ends
@@ -113,7 +119,7 @@ moved from (end ∷ ends) bytes front len h le =
     rw (size, drop-drop (from - front) front bytes, start) refl in
     rw (same, moved end ends bytes front len h.1 (omega (arith, le, low))) refl
 
-moved_ends : (from : ℕ) (ends : List ℕ) (front len : ℕ) → AreEnds from ends len → front ≤ from
+pub moved_ends : (from : ℕ) (ends : List ℕ) (front len : ℕ) → AreEnds from ends len → front ≤ from
     → AreEnds (from - front) (map (λ end. end - front) ends) (len - front)
 moved_ends from [] front len h le = ap (λ (n : ℕ). n - front) h
 moved_ends from (end ∷ ends) front len h le = let low = h.0 in (omega (arith, low), moved_ends end ends front len h.1 (omega (arith, le, low)))
@@ -168,7 +174,7 @@ bytes_of_front from (end ∷ ends) bytes (suc n) h le =
     omega (arith, step, there, more, long, low)
 
 -- places after others
-place_later : (start : ℕ) (ends : List ℕ) (n k : ℕ) → n ≤ length ends
+pub place_later : (start : ℕ) (ends : List ℕ) (n k : ℕ) → n ≤ length ends
     → get_or (get_or (start ∷ ends) n 0 ∷ drop n ends) k 0 ≡ get_or (start ∷ ends) (n + k) 0
 place_later start ends zero k le = ap (λ (j : ℕ). get_or (start ∷ ends) j 0) (let e : k ≡ 0 + k = omega arith in e)
 place_later start [] (suc n) k le = absurd (omega (arith, le))

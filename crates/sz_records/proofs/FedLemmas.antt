@@ -1,5 +1,5 @@
 -- A file in pieces is read as the file.
-use Rattle.std.proofs.Common.{◌≡◌, ◌≢◌, ℕ, ◌+◌, ◌<◌, ◌≤◌, List, [], ◌∷◌, ◌++◌, length, Option, Some, None, refl}
+use Rattle.std.proofs.Common.{◌≡◌, ◌≢◌, ℕ, suc, ◌+◌, ◌-◌, ◌^◌, ◌<◌, ◌≤◌, List, [], ◌∷◌, ◌++◌, length, Option, Some, None, refl}
 use Rattle.std.proofs.Common.{subst, sym, ap, ◌∙◌, append_assoc, length-append, arith}
 use Rattle.std.proofs.lemmas.List.{append-nil}
 use Rattle.sz_types.specs.declared.frame.Frame.{Frame}
@@ -9,16 +9,17 @@ use Rattle.sz_records.specs.declared.ending.Ending.TheVariants.{Whole, Damaged}
 use Rattle.sz_records.specs.declared.cutter.Cutter.{Cutter}
 use Rattle.sz_records.specs.declared.ending.Ending.{Ending}
 use Rattle.sz_records.specs.declared.limits.FrameLimits.{FrameLimits}
-use Rattle.sz_records.specs.Cutting.{stopped, unfinished, at_end, standing, IsCut}
-use Rattle.sz_records.specs.Steps.{stands, IsCutOn, IsLeft, CutsOff}
-use Rattle.sz_records.specs.Fed.{FramerData, IsCutAfter, IsCutBy, IsOpen, HasRead, Feeds, Finishes, CutsPending}
-use Rattle.sz_records.proofs.CutLemmas.{cut_stopped, cut_end}
+use Rattle.sz_records.specs.Cutting.{stopped, unfinished, at_end, standing, IsCut, place_after, places_of}
+use Rattle.sz_records.specs.Ends.{RecordsData, with_record}
+use Rattle.sz_records.specs.Steps.{stands, IsCutOn, place_on, IsLeft, CutsOff}
+use Rattle.sz_records.specs.Fed.{FramerData, IsCutAfter, IsCutBy, IsOpen, HasRead, Feeds, EndSo, EndAsFed, Finishes, EndAsFinished, CutsPending}
+use Rattle.sz_records.proofs.CutLemmas.{cut_stopped, cut_end, place_ended, same_places}
 use Rattle.sz_records.proofs.StayLemmas.{ending_stays}
-use Rattle.sz_records.proofs.StandingLemmas.{never_whole, begun_within}
+use Rattle.sz_records.proofs.StandingLemmas.{never_whole, begun_within, lines_within}
 use Rattle.sz_records.proofs.OpenLemmas.{fixes_none}
 
 -- what was cut off, with the ending that is known or the bytes that are kept back, goes on what was there
-cut_goes_on : (old new : Cutter) (pending taken left kept : List ℕ) (before after : List (List ℕ)) (ending : Option Ending)
+cut_goes_on : (old new : Cutter) (pending taken left kept : List ℕ) (before after : RecordsData) (ending : Option Ending)
     (s : CutsOff old new (pending ++ taken) left before after ending)
     → (ending ≡ None → kept ≡ left) → (more : List ℕ) (rs : List (List ℕ)) (e : Ending) → IsCutAfter new kept ending more rs e
     → IsCutOn old (pending ++ (taken ++ more)) (s.front.given ++ rs) e
@@ -38,13 +39,15 @@ record TakesIn (old new : FramerData) (taken : List ℕ) (before after : List (L
   goes_on : (more : List ℕ) (rs : List (List ℕ)) (e : Ending) → IsCutBy new more rs e → IsCutBy old (taken ++ more) (added ++ rs) e
   nothing_whole : IsOpen old → IsOpen new
   same_limits : new.cutter.limits ≡ old.cutter.limits
+  later : new.ended ≡ None → (more : List ℕ) (count : ℕ)
+      → place_on old.cutter (old.pending ++ (taken ++ more)) (length added + count) ≡ place_on new.cutter (new.pending ++ more) count
   reached : new.ended ≡ None → (old.ended ≡ None) × (new.cutter.place + length new.pending ≡ old.cutter.place + length old.pending + length taken)
   early : old.ended ≢ Some Whole → new.ended ≢ Some Whole
 
 -- a piece is taken in
-takes_in : (old new : FramerData) (taken left : List ℕ) (before after : List (List ℕ))
+takes_in : (old new : FramerData) (taken left : List ℕ) (before after : RecordsData)
     → CutsOff old.cutter new.cutter (old.pending ++ taken) left before after new.ended
-    → old.ended ≡ None → (new.ended ≡ None → new.pending ≡ left) → TakesIn old new taken before after
+    → old.ended ≡ None → (new.ended ≡ None → new.pending ≡ left) → TakesIn old new taken before.items after.items
 takes_in old new taken left before after s none is = record {
   added = s.front.given;
   gained = s.front.gained;
@@ -53,6 +56,11 @@ takes_in old new taken left before after s none is = record {
       rw none goes);
   nothing_whole = λ sound e. rw (is e) (left_open new.ended s.over e);
   same_limits = s.front.of.limits;
+  later = λ none more count. (
+      let joined = append_assoc old.pending taken more in
+      ap (λ (l : List ℕ). place_on old.cutter l (length s.front.given + count)) (sym joined)
+      ∙ s.front.later more count
+      ∙ ap (λ (l : List ℕ). place_on new.cutter (l ++ more) count) (sym (is none)));
   reached = λ e. (none, omega (arith, s.front.passed, ap length (is e), length-append old.pending taken));
   early = λ before. left_early new.ended s.over;
 }
@@ -86,6 +94,7 @@ takes_ignored framer taken given is = by_ended framer.ended refl is
       goes_on = λ more rs end k. (let k' = rw e at k in rw e k');
       nothing_whole = λ sound. sound;
       same_limits = refl;
+      later = λ none. absurd (let no = sym e ∙ none in cc);
       reached = λ none. absurd (let no = sym e ∙ none in cc);
       early = λ before. before;
     }
@@ -101,6 +110,13 @@ feeds {old} {new} {piece} {before} {after} t = λ frame limits fed given h. (
       goes_on = goes;
       nothing_whole = t.nothing_whole h.nothing_whole;
       same_limits = t.same_limits ∙ h.same_limits;
+      later = λ none more count. (
+          let joined = append_assoc fed piece more in
+          let longer : length (given ++ t.added) + count ≡ length given + (length t.added + count) = omega (arith, length-append given t.added) in
+          ap (λ (l : List ℕ). place_after frame limits 0 0 l (length (given ++ t.added) + count)) joined
+          ∙ ap (place_after frame limits 0 0 (fed ++ (piece ++ more))) longer
+          ∙ h.later (t.reached none).0 (piece ++ more) (length t.added + count)
+          ∙ t.later none more count);
       reached = λ none. (let r = t.reached none in omega (arith, r.1, h.reached r.0, length-append fed piece));
       early = t.early h.early;
     } in
@@ -173,6 +189,9 @@ starts_reading frame limits framer f l p n pending none = record {
   goes_on = λ more rs e k. (let k' = rw (none, f, l, p, n, pending) at k in k');
   nothing_whole = λ e. rw pending refl;
   same_limits = l;
+  later = λ e more count. (
+      let none_given : 0 + count ≡ count = omega arith in
+      ap (place_after frame limits 0 0 more) none_given ∙ rw (f, l, p, n, pending) refl);
   reached = λ e. omega (arith, p, ap length pending);
   early = λ whole. (let no = sym none ∙ whole in cc);
 }
@@ -190,14 +209,14 @@ pub feeds_ended : (framer : FramerData) (piece : List ℕ) (into : List (List �
 feeds_ended framer piece into e is = rw (← is) (feeds (takes_ignored framer piece into (rw is refl)))
 
 -- the whole records of what was kept back and a piece are cut off
-pub feeds_cut : (old mid new : FramerData) (piece : List ℕ) (before after : List (List ℕ)) → old.ended ≡ None → mid ≡ record old { pending = old.pending ++ piece }
-    → CutsPending mid new before after → Feeds old new piece before after new.ended
+pub feeds_cut : (old mid new : FramerData) (piece : List ℕ) (before after : RecordsData) → old.ended ≡ None → mid ≡ record old { pending = old.pending ++ piece }
+    → CutsPending mid new before after → Feeds old new piece before.items after.items new.ended
 feeds_cut old mid new piece before after none is c =
     let s : CutsOff old.cutter new.cutter (old.pending ++ piece) c.left before after new.ended = rw is at c.cut in
     feeds (takes_in old new piece c.left before after s none c.pending)
 
 -- the records in what was kept back are cut off: the ending isn't known, and what is left is kept back; or it is known
-pub cuts_pending : (old new : FramerData) (left : List ℕ) (before after : List (List ℕ)) → CutsOff old.cutter new.cutter old.pending left before after new.ended
+pub cuts_pending : (old new : FramerData) (left : List ℕ) (before after : RecordsData) → CutsOff old.cutter new.cutter old.pending left before after new.ended
     → new.pending ≡ left → CutsPending old new before after
 cuts_pending old new left before after s is = record { left = left; cut = s; pending = λ none. is }
 
@@ -211,3 +230,61 @@ pub damage_closes : (framer now : FramerData) (into : List (List ℕ)) → frame
     → Finishes now into into (Damaged framer.cutter.place)
 damage_closes framer now into same none is some =
     subst (λ (f : FramerData). Finishes f into into (Damaged framer.cutter.place)) same (closes_damaged framer into (ap (λ (f : FramerData). f.ended) same ∙ none) is some)
+
+-- no record came
+no_more : (frame : Frame) (limits : FrameLimits) (file : List ℕ) (n : ℕ) (into : RecordsData) → EndSo frame limits file n into into
+no_more frame limits file n into =
+    let none : length into.items - length into.items ≡ 0 = omega arith in
+    sym (append-nil into.ends) ∙ ap (λ (k : ℕ). into.ends ++ places_of (place_after frame limits 0 0 file) n k) (sym none)
+
+pub none_came : (framer : FramerData) (piece : List ℕ) (into : RecordsData) → EndAsFed framer piece into into
+none_came framer piece into = λ frame limits fed given h more. no_more frame limits (fed ++ piece ++ more) (length given) into
+
+pub none_finished : (framer : FramerData) (into : RecordsData) → EndAsFinished framer into into
+none_finished framer into = λ frame limits fed given h. no_more frame limits fed (length given) into
+
+-- the records that were cut off end where they do in the file
+pub ends_cut : (old mid new : FramerData) (piece : List ℕ) (before after : RecordsData) → old.ended ≡ None → mid ≡ record old { pending = old.pending ++ piece }
+    → CutsPending mid new before after → EndAsFed old piece before after
+ends_cut old mid new piece before after none is c = λ frame limits fed given h more. (
+    let s : CutsOff old.cutter new.cutter (old.pending ++ piece) c.left before after new.ended = rw is at c.cut in
+    let file = fed ++ piece ++ more in
+    let joined : fed ++ (piece ++ more) ≡ file = sym (append_assoc fed piece more) in
+    let same : (k : ℕ) → place_after frame limits 0 0 file (length given + k) ≡ place_on old.cutter (old.pending ++ piece ++ more) (0 + k) =
+    λ k. (let start : k ≡ 0 + k = omega arith in
+    ap (λ (l : List ℕ). place_after frame limits 0 0 l (length given + k)) (sym joined)
+    ∙ h.later none (piece ++ more) k
+    ∙ ap (λ (l : List ℕ). place_on old.cutter l k) (sym (append_assoc old.pending piece more))
+    ∙ ap (place_on old.cutter (old.pending ++ piece ++ more)) start) in
+    let came : length after.items - length before.items ≡ length s.front.given =
+    omega (arith, ap length s.front.gained, length-append before.items s.front.given) in
+    s.front.ends more
+    ∙ ap (λ (l : List ℕ). before.ends ++ l)
+    (sym (ap (places_of (place_after frame limits 0 0 file) (length given)) came
+    ∙ same_places (place_after frame limits 0 0 file) (place_on old.cutter (old.pending ++ piece ++ more)) (length given) 0 (length s.front.given) same)))
+
+-- a last line ends with the file
+pub line_ends : (framer now : FramerData) (before after : RecordsData) (end : ℕ) → framer ≡ now → now.ended ≡ None → after ≡ with_record framer.pending end before
+    → (framer.cutter.place + length framer.pending < 2 ^ 64 → end ≡ framer.cutter.place + length framer.pending) → framer.cutter.limits.input_bytes < 2 ^ 64
+    → framer.cutter.frame ≡ Lines → EndAsFinished now before after
+line_ends framer now before after end same none grown is small lines = subst (λ (f : FramerData). EndAsFinished f before after) same from_inside
+  where
+    from_inside : EndAsFinished framer before after
+    from_inside = λ frame limits fed given h. (
+        let c = framer.cutter in
+        let unended = ap (λ (f : FramerData). f.ended) same ∙ none in
+        let stood : stands c framer.pending ≡ unfinished = h.nothing_whole unended in
+        let within = lines_within c.limits c.place c.count framer.pending c.in_input (rw lines at stood) in
+        let one : length after.items - length before.items ≡ 1 =
+        omega (arith, ap (λ (x : RecordsData). length x.items) grown, length-append before.items (framer.pending ∷ [])) in
+        let next : suc (length given) ≡ length given + 1 = omega arith in
+        let there : place_after frame limits 0 0 fed (suc (length given)) ≡ end =
+        ap (place_after frame limits 0 0 fed) next
+        ∙ ap (λ (l : List ℕ). place_after frame limits 0 0 l (length given + 1)) (sym (append-nil fed))
+        ∙ h.later unended [] 1
+        ∙ ap (λ (l : List ℕ). place_on c l 1) (append-nil framer.pending)
+        ∙ place_ended c.frame c.limits c.place c.count framer.pending 0 stood
+        ∙ sym (is (omega (arith, within, small))) in
+        ap (λ (x : RecordsData). x.ends) grown
+        ∙ ap (λ (e : ℕ). before.ends ++ e ∷ []) (sym there)
+        ∙ ap (λ (k : ℕ). before.ends ++ places_of (place_after frame limits 0 0 fed) (length given) k) (sym one))

@@ -1,5 +1,6 @@
 pub mod StandingLemmas
 pub mod EndsLemmas
+pub mod LaidLemmas
 pub mod VarintLemmas
 pub mod StayLemmas
 pub mod CutLemmas

@@ -1,5 +1,5 @@
 -- The records of a file, and how they end.
-use Rattle.std.specs.Prelude.{◌≡◌, ℕ, suc, ◌+◌, ◌-◌, List, [], ◌∷◌, length, take, drop, min, Option, Some, None, Bool}
+use Rattle.std.specs.Prelude.{◌≡◌, ℕ, zero, suc, ◌+◌, ◌-◌, List, [], ◌∷◌, length, take, drop, min, Option, Some, None, Bool}
 use Rattle.std.specs.Prelude.{nat_lt, nat_le, ◌==◌, if◌then◌else◌}
 use Rattle.sz_types.specs.declared.frame.Frame.{Frame}
 use Rattle.sz_types.specs.declared.frame.Frame.TheVariants.{Lines, Delimited}
@@ -84,3 +84,24 @@ pub record HasCut (frame : Frame) (limits : FrameLimits) (p n : ℕ) (bytes : Li
   pub records : List (List ℕ)
   pub ending : Ending
   pub cut : IsCut frame limits p n bytes records ending
+
+-- to which byte a record leads that begins at byte p, where this stands, and further ones as told; a last line leads to the end
+abbrev pub leads_to : ℕ → List ℕ → (ℕ → ℕ) → Standing → ℕ
+leads_to p bytes later (record_of r size) = later size
+leads_to p bytes later (stopped why) = p
+leads_to p bytes later unfinished = p + length bytes
+
+-- from byte p on, after n records: where so many more of them end
+unfoldable pub place_after : Frame → FrameLimits → ℕ → ℕ → List ℕ → ℕ → ℕ
+place_after frame limits p n bytes zero = p
+place_after frame limits p n bytes (suc count) =
+    leads_to p bytes (λ size. place_after frame limits (p + size) (n + 1) (drop size bytes) count) (standing frame limits p n bytes)
+
+-- the places to which further records lead, where i records lead to the place of i
+abbrev pub places_of : (ℕ → ℕ) → ℕ → ℕ → List ℕ
+places_of place i zero = []
+places_of place i (suc count) = place (suc i) ∷ places_of place (suc i) count
+
+-- where so many records of a file end, from record i on, counted from 0
+abbrev pub ends_in : Frame → FrameLimits → List ℕ → ℕ → ℕ → List ℕ
+ends_in frame limits file i count = places_of (place_after frame limits 0 0 file) i count

@@ -1,12 +1,13 @@
 -- What a framer has read, and what it makes of the bytes that are still to come.
-use Rattle.std.specs.Prelude.{◌≡◌, ◌≢◌, ℕ, ◌+◌, List, [], ◌++◌, length, Option, Some, None}
+use Rattle.std.specs.Prelude.{◌≡◌, ◌≢◌, ℕ, ◌+◌, ◌-◌, List, [], ◌++◌, length, Option, Some, None}
 use Rattle.sz_types.specs.declared.frame.Frame.{Frame}
 use Rattle.sz_records.specs.declared.cutter.Cutter.{Cutter}
 use Rattle.sz_records.specs.declared.ending.Ending.{Ending}
 use Rattle.sz_records.specs.declared.ending.Ending.TheVariants.{Whole}
 use Rattle.sz_records.specs.declared.limits.FrameLimits.{FrameLimits}
-use Rattle.sz_records.specs.Cutting.{unfinished, IsCut}
-use Rattle.sz_records.specs.Steps.{stands, IsCutOn, CutsOff}
+use Rattle.sz_records.specs.Cutting.{unfinished, IsCut, place_after, ends_in}
+use Rattle.sz_records.specs.Ends.{RecordsData}
+use Rattle.sz_records.specs.Steps.{stands, IsCutOn, place_on, CutsOff}
 
 -- what a contract sees of a framer: where it cuts, the bytes that it holds back, and the ending where that is known
 pub record FramerData : Type 0 where
@@ -28,12 +29,15 @@ abbrev pub IsOpen : FramerData → Type 0
 IsOpen framer = framer.ended ≡ None → stands framer.cutter framer.pending ≡ unfinished
 
 -- The framer was fed these bytes and gave these records: however the file goes on, what is still cut of it goes on that. Until the ending is
--- known, the bytes that are kept back are those after the place where the next record begins; a file isn't whole before its end
+-- known, the bytes that are kept back are those after the place where the next record begins, and further records end where they do after
+-- these; a file isn't whole before its end
 pub record HasRead (frame : Frame) (limits : FrameLimits) (framer : FramerData) (fed : List ℕ) (given : List (List ℕ)) : Type 0 where
   pub goes_on : (more : List ℕ) (rs : List (List ℕ)) (e : Ending) → IsCutBy framer more rs e → IsCut frame limits 0 0 (fed ++ more) (given ++ rs) e
   pub nothing_whole : IsOpen framer
   pub same_limits : framer.cutter.limits ≡ limits
   pub reached : framer.ended ≡ None → framer.cutter.place + length framer.pending ≡ length fed
+  pub later : framer.ended ≡ None → (more : List ℕ) (count : ℕ)
+      → place_after frame limits 0 0 (fed ++ more) (length given + count) ≡ place_on framer.cutter (framer.pending ++ more) count
   pub early : framer.ended ≢ Some Whole
 
 -- each file that begins with these bytes has these records and this ending
@@ -59,6 +63,15 @@ abbrev pub Feeds : FramerData → FramerData → List ℕ → List (List ℕ) �
 Feeds old new piece before after ended = (frame : Frame) (limits : FrameLimits) (fed : List ℕ) (given : List (List ℕ))
     → HasRead frame limits old fed given → Adds frame limits new (fed ++ piece) given before after ended
 
+-- the records that came now end in this file where those from record n on do, counted from 0
+abbrev pub EndSo : Frame → FrameLimits → List ℕ → ℕ → RecordsData → RecordsData → Type 0
+EndSo frame limits file n before after = after.ends ≡ before.ends ++ ends_in frame limits file n (length after.items - length before.items)
+
+-- the records that came with the piece end where they do in each file that so begins
+abbrev pub EndAsFed : FramerData → List ℕ → RecordsData → RecordsData → Type 0
+EndAsFed old piece before after = (frame : Frame) (limits : FrameLimits) (fed : List ℕ) (given : List (List ℕ)) → HasRead frame limits old fed given
+    → (more : List ℕ) → EndSo frame limits (fed ++ piece ++ more) (length given) before after
+
 -- the file ends here: the records that were given before and now are its records, with this ending
 pub record Closes (frame : Frame) (limits : FrameLimits) (file : List ℕ) (given before after : List (List ℕ)) (e : Ending) : Type 0 where
   pub added : List (List ℕ)
@@ -70,8 +83,13 @@ abbrev pub Finishes : FramerData → List (List ℕ) → List (List ℕ) → End
 Finishes old before after e = (frame : Frame) (limits : FrameLimits) (fed : List ℕ) (given : List (List ℕ))
     → HasRead frame limits old fed given → Closes frame limits fed given before after e
 
+-- the records that came at the file's end end where they do in it
+abbrev pub EndAsFinished : FramerData → RecordsData → RecordsData → Type 0
+EndAsFinished old before after = (frame : Frame) (limits : FrameLimits) (fed : List ℕ) (given : List (List ℕ)) → HasRead frame limits old fed given
+    → EndSo frame limits fed (length given) before after
+
 -- the whole records in what was kept back were cut off, and what is left is kept back, where the ending isn't known
-pub record CutsPending (old new : FramerData) (before after : List (List ℕ)) : Type 0 where
+pub record CutsPending (old new : FramerData) (before after : RecordsData) : Type 0 where
   pub left : List ℕ
   pub cut : CutsOff old.cutter new.cutter old.pending left before after new.ended
   pub pending : new.ended ≡ None → new.pending ≡ left

@@ -6,3 +6,4 @@ pub mod Fed
 pub mod Shards
 -- what the functions inside the crate promise each other
 pub mod Fronts
+pub mod Laid

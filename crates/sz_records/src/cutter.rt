@@ -51,8 +51,9 @@ impl Cutter {
             scanned,
         ) {
             Front::Record(from, to, size) => {
-                into.push(&bytes[from..to])?;
-                self.place += size as u64;
+                let end = self.place + size as u64;
+                into.push(&bytes[from..to], end, size as u64)?;
+                self.place = end;
                 self.count += 1;
                 Ok(Step::Passed(size))
             }

@@ -47,7 +47,7 @@ impl Model for Framer {
 }
 
 impl Framer {
-    ghost use Rattle.sz_records.specs.Fed.{HasRead, Feeds, Finishes, CutsPending};
+    ghost use Rattle.sz_records.specs.Fed.{HasRead, Feeds, EndAsFed, Finishes, EndAsFinished, CutsPending};
 
     /// A framer at the beginning of a file. It takes no memory.
     pub fn new(alloc: Global, frame: Frame, limits: FrameLimits) -> Framer
@@ -99,7 +99,8 @@ impl Framer {
     #[tactic(auto, using(crate::proofs::FedLemmas::feeds_cut, crate::proofs::ScanLemmas::scanned_longer, crate::proofs::ScanLemmas::none_scanned))]
     fn take_in(&mut self, piece: &[u8], into: &mut Records) -> Result<Option<Ending>, NoMemory>
         requires { self.old.ended ≡ None }
-        ensures fed { IfOk result (λ ended. Feeds self.old self.new piece.now into.old into.new ended) }
+        ensures fed { IfOk result (λ ended. Feeds self.old self.new piece.now into.old.items into.new.items ended) }
+        ensures ends { OnOk result (EndAsFed self.old piece.now into.old into.new) }
         ensures known { IfOk result (λ ended. ended ≡ self.new.ended) }
         ensures err { OnErr result ((self.new ≡ self.old) × (into.new ≡ into.old)) }
     {
@@ -121,7 +122,8 @@ impl Framer {
     /// anything, and the answer stays the same. Where there is no memory the piece isn't taken.
     #[tactic(auto, using(crate::proofs::FedLemmas::feeds_ended))]
     pub fn feed(&mut self, piece: &[u8], into: &mut Records) -> Result<Option<Ending>, NoMemory>
-        ensures fed { IfOk result (λ ended. Feeds self.old self.new piece.now into.old into.new ended) }
+        ensures fed { IfOk result (λ ended. Feeds self.old self.new piece.now into.old.items into.new.items ended) }
+        ensures ends { OnOk result (EndAsFed self.old piece.now into.old into.new) }
         ensures known { IfOk result (λ ended. ended ≡ self.new.ended) }
         ensures err { OnErr result ((self.new ≡ self.old) × (into.new ≡ into.old)) }
     {
@@ -134,7 +136,8 @@ impl Framer {
     // The ending of the file, where it wasn't known before its end.
     fn close(&mut self, into: &mut Records) -> Result<Ending, NoMemory>
         requires { self.old.ended ≡ None }
-        ensures finished { IfOk result (λ e. Finishes self.old into.old into.new e) }
+        ensures finished { IfOk result (λ e. Finishes self.old into.old.items into.new.items e) }
+        ensures ends { OnOk result (EndAsFinished self.old into.old into.new) }
         ensures err { OnErr result ((self.new ≡ self.old) × (into.new ≡ into.old)) }
     {
         if self.pending.is_empty() {
@@ -142,7 +145,9 @@ impl Framer {
         }
         match self.cutter.frame {
             Frame::Lines => {
-                into.push(self.pending.as_slice())?;
+                let size = self.pending.len() as u64;
+                let end = self.cutter.place.saturating_add(size);
+                into.push(self.pending.as_slice(), end, size)?;
                 Ok(Ending::Whole)
             }
             Frame::Delimited => Ok(Ending::Damaged(self.cutter.place)),
@@ -153,7 +158,8 @@ impl Framer {
     ///
     /// No call comes after this one, but another try where there was no memory.
     pub fn finish(&mut self, into: &mut Records) -> Result<Ending, NoMemory>
-        ensures finished { IfOk result (λ e. Finishes self.old into.old into.new e) }
+        ensures finished { IfOk result (λ e. Finishes self.old into.old.items into.new.items e) }
+        ensures ends { OnOk result (EndAsFinished self.old into.old into.new) }
         ensures err { OnErr result ((self.new ≡ self.old) × (into.new ≡ into.old)) }
     {
         match self.ended {

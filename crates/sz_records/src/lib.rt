@@ -5,6 +5,7 @@ mod cutter;
 mod ending;
 mod framer;
 mod front;
+mod laid;
 mod laws;
 mod limits;
 mod places;

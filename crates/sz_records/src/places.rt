@@ -1,5 +1,7 @@
 //! Places in a buffer that loses its front.
-ghost use Rattle.std.specs.Prelude.{◌≡◌, ◌-◌, ◌≤◌, ◌∷◌, map, drop, length, get_or, slice_range};
+ghost use Rattle.std.specs.Prelude.{◌≡◌, ◌-◌, ◌≤◌, ◌++◌, ◌∷◌, [], map, drop, length, get_or, slice_range, OnOk, OnErr};
+
+use crate::NoMemory;
 
 /// The place after so many pieces, which end at these places of a buffer.
 pub(crate) fn place_before(ends: &[usize], count: usize) -> usize
@@ -36,4 +38,16 @@ pub(crate) fn lower(places: &mut Vec<usize>, front: usize)
     for place in places.as_mut_slice().iter_mut() {
         *place = place.saturating_sub(front);
     }
+}
+
+/// Adds a copy of these bytes to the buffer, and the place where they end.
+pub(crate) fn add(bytes: &mut Vec<u8>, ends: &mut Vec<usize>, more: &[u8]) -> Result<(), NoMemory>
+    ensures bytes { OnOk result (bytes.new.items ≡ bytes.old.items ++ more.now) }
+    ensures ends { OnOk result (ends.new.items ≡ ends.old.items ++ length bytes.new.items ∷ []) }
+    ensures err { OnErr result ((bytes.new.items ≡ bytes.old.items) × (ends.new.items ≡ ends.old.items)) }
+{
+    ends.reserve(1)?;
+    bytes.extend_from_slice(more)?;
+    ends.push(bytes.len())?;
+    Ok(())
 }

@@ -1,81 +1,108 @@
 //! Records that were cut from a file.
-ghost use Rattle.std.specs.Prelude.{◌≡◌, ◌==◌, ◌-◌, ◌<◌, ◌≤◌, ◌++◌, ◌∷◌, [], length, take, drop, slice_get, OnOk, OnErr, Some};
+ghost use Rattle.std.specs.Prelude.{◌≡◌, ◌==◌, ◌-◌, ◌<◌, ◌≤◌, length, take, drop, slice_get, OnOk, OnErr, Some};
+ghost use Rattle.sz_records.specs.Ends.{no_records, with_record, first_of, later_of};
 ghost use Rattle.sz_records.specs.Shards.{bytes_in};
 
 use crate::NoMemory;
-use crate::places::{between, drop_front, lower, place_before};
+use crate::laid::{Laid, end_of_laid, left_from, with_next};
+use crate::places::{add, between, drop_front, lower, place_before};
 use std::alloc::Global;
 use std::marker::Model;
 
-/// Records, in the order of the file. Places are counted from 0.
+/// Records, in the order in which they came. Places are counted from 0.
 ///
-/// Contracts see the list of their bytes. All bytes lie in one buffer.
+/// Contracts see the bytes of each, and where it ends in its file. All bytes lie in one buffer. Where a record ends in its file is kept only
+/// from the first one on that doesn't follow the one before it, or takes more or fewer bytes besides its own than that: no line does so
+/// but a last one without its newline.
 #[derive(Debug)]
 pub struct Records {
     bytes: Vec<u8>,
     /// Where each record ends in the buffer. The next one begins there.
     ends: Vec<usize>,
+    /// Where the first records lie in their file.
+    laid: Laid,
+    /// Where the others end in their file.
+    placed: Vec<u64>,
 }
 
 impl Drop for Records {
     fn drop(self) {
-        let Records { bytes: _, ends: _ } = self;
+        let Records {
+            bytes: _,
+            ends: _,
+            laid: _,
+            placed: _,
+        } = self;
     }
 }
 
 impl Model for Records {
-    ghost use Rattle.std.specs.Prelude.{List, ℕ, length};
+    ghost use Rattle.std.specs.Prelude.{length};
+    ghost use Rattle.sz_records.specs.Ends.{RecordsData, records_at, file_ends, AreKept};
 
-    ghost Value = { List (List ℕ) };
+    ghost Value = { RecordsData };
 
-    ghost use Rattle.sz_records.specs.Ends.{records_at, AreEnds};
+    ghost view = { λ r. record { items = records_at 0 r.ends.items r.bytes.items; ends = file_ends r.laid.from r.laid.more r.ends.items r.placed.items } };
 
-    ghost view = { λ records. records_at 0 records.ends.items records.bytes.items };
-
-    ghost invariant = { λ records. AreEnds 0 records.ends.items (length records.bytes.items) };
+    ghost invariant = { λ r. AreKept r.laid.from r.laid.more r.ends.items r.placed.items (length r.bytes.items) };
 }
 
 impl Records {
     /// No records, which takes no memory. They keep the allocator for their calls.
     pub fn new(alloc: Global) -> Records
-        ensures value { result ≡ [] }
+        ensures value { result ≡ no_records }
     {
         Records {
             bytes: Vec::new(alloc),
             ends: Vec::new(alloc),
+            laid: Laid { from: 0, more: 0 },
+            placed: Vec::new(alloc),
         }
     }
 
-    #[tactic(auto, using(crate::proofs::EndsLemmas::records_len))]
     /// The number of records.
     pub fn len(&self) -> usize
-        ensures value { result ≡ length self.now }
+        ensures value { result ≡ length self.now.items }
+        ensures ends { result ≡ length self.now.ends }
     {
         self.ends.len()
     }
 
-    #[tactic(auto, using(crate::proofs::EndsLemmas::records_len))]
     /// Whether there are no records.
     pub fn is_empty(&self) -> bool
-        ensures value { result ≡ (length self.now == 0) }
+        ensures value { result ≡ (length self.now.items == 0) }
     {
         self.ends.is_empty()
     }
 
     /// The bytes of a record.
     pub fn get(&self, i: usize) -> &[u8]
-        requires within { i < length self.now }
-        ensures value { slice_get self.now i ≡ Some result.now }
+        requires within { i < length self.now.items }
+        ensures value { slice_get self.now.items i ≡ Some result.now }
     {
         let from = place_before(self.ends.as_slice(), i);
         between(self.bytes.as_slice(), from, self.ends[i])
     }
 
+    /// Where a record ends, counted in bytes from the first one that the framer which gave it was fed. A line ends after its newline, if it
+    /// has one.
+    pub fn end(&self, i: usize) -> u64
+        requires within { i < length self.now.items }
+        ensures value { slice_get self.now.ends i ≡ Some result }
+    {
+        let laid = self.ends.len() - self.placed.len();
+        if i < laid {
+            end_of_laid(self.laid, i + 1, self.ends[i])
+        } else {
+            self.placed[i - laid]
+        }
+    }
+
     /// How many bytes the records from one place to another have together, by the places where they end.
     pub fn bytes_between(&self, from: usize, to: usize) -> usize
         requires order { from ≤ to }
-        requires within { to ≤ length self.now }
-        ensures value { result ≡ bytes_in (take (to - from) (drop from self.now)) }
+        requires within { to ≤ length self.now.items }
+        ensures value { result ≡ bytes_in (take (to - from) (drop from self.now.items)) }
     {
         let low = place_before(self.ends.as_slice(), from);
         let high = place_before(self.ends.as_slice(), to);
@@ -84,10 +111,13 @@ impl Records {
 
     /// Drops so many records from the front. It moves the bytes that stay, and their ends.
     pub fn clear(&mut self, front: usize)
-        requires within { front ≤ length self.old }
-        ensures value { self.new ≡ drop front self.old }
+        requires within { front ≤ length self.old.items }
+        ensures value { self.new ≡ later_of front self.old }
     {
         let place = place_before(self.ends.as_slice(), front);
+        let laid = self.ends.len() - self.placed.len();
+        self.laid.from = left_from(self.laid, laid, front, place);
+        drop_front(&mut self.placed, front.saturating_sub(laid));
         drop_front(&mut self.bytes, place);
         drop_front(&mut self.ends, front);
         lower(&mut self.ends, place);
@@ -95,23 +125,44 @@ impl Records {
 
     /// Keeps so many records at the front.
     pub(crate) fn truncate(&mut self, count: usize)
-        ensures value { self.new ≡ take count self.old }
+        ensures value { self.new ≡ first_of count self.old }
     {
         if count < self.ends.len() {
             let place = place_before(self.ends.as_slice(), count);
+            let laid = self.ends.len() - self.placed.len();
+            self.placed.truncate(count.saturating_sub(laid));
             self.bytes.truncate(place);
             self.ends.truncate(count);
         }
     }
 
-    /// Adds a copy of these bytes as a record.
-    pub(crate) fn push(&mut self, bytes: &[u8]) -> Result<(), NoMemory>
-        ensures value { OnOk result (self.new ≡ self.old ++ bytes.now ∷ []) }
+    /// Adds a copy of these bytes as a record, which takes `size` bytes of its file, up to the place `end`.
+    pub(crate) fn push(&mut self, bytes: &[u8], end: u64, size: u64) -> Result<(), NoMemory>
+        requires own { length bytes.now ≤ size }
+        requires taken { size ≤ end }
+        ensures value { OnOk result (self.new ≡ with_record bytes.now end self.old) }
         ensures err { OnErr result (self.new ≡ self.old) }
     {
-        self.ends.reserve(1)?;
-        self.bytes.extend_from_slice(bytes)?;
-        self.ends.push(self.bytes.len())?;
+        let next = Laid {
+            from: end - size,
+            more: size - bytes.len() as u64,
+        };
+        match with_next(
+            self.laid,
+            self.ends.as_slice(),
+            self.placed.as_slice(),
+            next,
+        ) {
+            Some(laid) => {
+                add(&mut self.bytes, &mut self.ends, bytes)?;
+                self.laid = laid;
+            }
+            None => {
+                self.placed.reserve(1)?;
+                add(&mut self.bytes, &mut self.ends, bytes)?;
+                self.placed.push(end)?;
+            }
+        }
         Ok(())
     }
 }

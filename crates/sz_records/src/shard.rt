@@ -13,8 +13,8 @@ const SHARD_BYTES: usize = 16_777_216;
 /// Records that fill no shard are not looked at one by one, so that the call may be made again after each of them.
 pub fn shard_end(records: &Records, from: usize, most: u32, at_end: bool) -> Option<usize>
     requires most { 1 ≤ most }
-    ensures some { IfSome result (λ end. EndsShard records.now from most at_end end) }
-    ensures none { IfNone result (IsOpenAt records.now from most at_end) }
+    ensures some { IfSome result (λ end. EndsShard records.now.items from most at_end end) }
+    ensures none { IfNone result (IsOpenAt records.now.items from most at_end) }
 {
     if from >= records.len() {
         return None;
@@ -27,9 +27,9 @@ pub fn shard_end(records: &Records, from: usize, most: u32, at_end: bool) -> Opt
 
 /// Whether the records from a place on fill no shard, nor does a front of them.
 fn fill_none(records: &Records, from: usize, most: u32) -> bool
-    requires from { from ≤ length records.now }
-    ensures few { (result ≡ true) → length records.now - from < most }
-    ensures light { (result ≡ true) → bytes_in (drop from records.now) < 2 ^ 24 }
+    requires from { from ≤ length records.now.items }
+    ensures few { (result ≡ true) → length records.now.items - from < most }
+    ensures light { (result ≡ true) → bytes_in (drop from records.now.items) < 2 ^ 24 }
 {
     let all = records.len();
     let bytes = records.bytes_between(from, all);
@@ -39,8 +39,8 @@ fn fill_none(records: &Records, from: usize, most: u32) -> bool
 /// The place after the last record of the shard that begins at `from`, found record by record.
 fn walked_end(records: &Records, from: usize, most: u32, at_end: bool) -> Option<usize>
     requires most { 1 ≤ most }
-    ensures some { IfSome result (λ end. EndsShard records.now from most at_end end) }
-    ensures none { IfNone result (IsOpenAt records.now from most at_end) }
+    ensures some { IfSome result (λ end. EndsShard records.now.items from most at_end end) }
+    ensures none { IfNone result (IsOpenAt records.now.items from most at_end) }
 {
     if from >= records.len() {
         return None;

@@ -57,10 +57,10 @@ records_from records (s ∷ shards) n place first within next low =
 pub few_records : (round : Round) → IsRound round → length (all_records (shards_of round)) ≤ 2 ^ 31
 few_records round is = by round.shards is.within is.next.0 is.next.1 is.next.2
   where
-    by : (shards : List Shard) → All (IsShardIn round.records) shards → (place first : ℕ) → AreNext place first shards
-        → length (all_records (numbered round.first_shard round.records shards)) ≤ 2 ^ 31
+    by : (shards : List Shard) → All (IsShardIn round.records.items) shards → (place first : ℕ) → AreNext place first shards
+        → length (all_records (numbered round.first_shard round.records.items shards)) ≤ 2 ^ 31
     by [] within place first next = omega arith
     by (s ∷ shards) within place first next =
-        let here = All-head (IsShardIn round.records) s shards within in
-        let all = records_from round.records (s ∷ shards) round.first_shard place first within next (omega (arith, here.few, next.1)) in
+        let here = All-head (IsShardIn round.records.items) s shards within in
+        let all = records_from round.records.items (s ∷ shards) round.first_shard place first within next (omega (arith, here.few, next.1)) in
         omega (arith, all, here.first, next.1)

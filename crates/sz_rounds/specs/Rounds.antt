@@ -18,7 +18,7 @@ numbered number records (shard ∷ shards) = shard_at number records shard ∷ n
 
 -- the shards of a round
 abbrev pub shards_of : Round → List ShardData
-shards_of round = numbered round.first_shard round.records round.shards
+shards_of round = numbered round.first_shard round.records.items round.shards
 
 -- each shard begins, by the place and by the number of its first record, where the one before it ends
 abbrev pub AreNext : ℕ → ℕ → List Shard → Type 0
@@ -30,7 +30,7 @@ AreNext place first (shard ∷ shards) =
 pub record IsRound (round : Round) : Type 0 where
   pub few : length round.shards ≤ 4096
   pub numbers : round.first_shard + length round.shards ≤ 2 ^ 31 + 1
-  pub within : All (IsShardIn round.records) round.shards
+  pub within : All (IsShardIn round.records.items) round.shards
   pub next : (place : ℕ) × (first : ℕ) × AreNext place first round.shards
 
 -- the answer tells what comes of the shards: the tables stand for just the emits, and so many records were passed over

@@ -4,6 +4,7 @@ use Rattle.std.proofs.Common.{refl, sym, ap, ◌∙◌, subst, arith, inl, inr, 
 use Rattle.std.proofs.lemmas.List.{drop-drop}
 use Rattle.std.specs.Prelude.{is_some, not, unwrap_or, IfSome, IfNone}
 use Rattle.sz_records.specs.declared.ending.Ending.{Ending}
+use Rattle.sz_records.specs.Ends.{RecordsData}
 use Rattle.sz_records.specs.Shards.{EndsShard, IsOpenAt, MayGoOn}
 use Rattle.sz_attempt.specs.declared.job.Shard.{Shard}
 use Rattle.sz_rounds.specs.Cuts.{ranges_of}
@@ -27,6 +28,10 @@ closes_none intake = record {
   limit = refl;
 }
 
+-- the bytes of the records stay
+pub items_stay : {old new : Intake} → Closes old new → new.round.records.items ≡ old.round.records.items
+items_stay c = ap (λ (r : RecordsData). r.items) c.records
+
 abbrev shard_of : ℕ → ℕ → ℕ → Shard
 shard_of first start end = record { first = first; start = start; end = end }
 
@@ -34,20 +39,20 @@ shard_of first start end = record { first = first; start = start; end = end }
 abbrev pub with_shards : Intake → List Shard → ℕ → ℕ → Intake
 with_shards intake shards end bytes = record intake { round = record intake.round { shards = shards }; closed = end; bytes = bytes }
 
-module _ (old now : Intake) (c : Closes old now) (low : old.closed ≤ length old.round.records) where
+module _ (old now : Intake) (c : Closes old now) (low : old.closed ≤ length old.round.records.items) where
   -- there are so many records
-  pub still_within : now.closed ≤ length now.round.records
+  pub still_within : now.closed ≤ length now.round.records.items
   still_within =
-      let within = sum_within old.most (is_some old.ending) (drop old.closed old.round.records) c.sizes c.are in
-      omega (arith, low, within, c.closed, ap length c.records, length-drop old.closed old.round.records)
+      let within = sum_within old.most (is_some old.ending) (drop old.closed old.round.records.items) c.sizes c.are in
+      omega (arith, low, within, c.closed, ap length (items_stay c), length-drop old.closed old.round.records.items)
 
-  pub closes_more : (end bytes : ℕ) (shards : List Shard) → EndsShard now.round.records now.closed now.most (is_some now.ending) end
+  pub closes_more : (end bytes : ℕ) (shards : List Shard) → EndsShard now.round.records.items now.closed now.most (is_some now.ending) end
       → shards ≡ now.round.shards ++ shard_of (now.first + now.closed) now.closed end ∷ [] → length now.round.shards < 4096
       → Closes old (with_shards now shards end bytes)
   closes_more end bytes shards ends is room = record {
     sizes = c.sizes ++ n ∷ [];
     are =
-        are_more old.most (is_some old.ending) (drop old.closed old.round.records) c.sizes (n ∷ []) c.are
+        are_more old.most (is_some old.ending) (drop old.closed old.round.records.items) c.sizes (n ∷ []) c.are
         (subst (λ rs. IsClosed old.most (is_some old.ending) rs n) (sym left) here, tt);
     shards =
         is ∙ ap (λ l. l ++ shard_of (now.first + now.closed) now.closed end ∷ []) c.shards
@@ -68,15 +73,15 @@ module _ (old now : Intake) (c : Closes old now) (low : old.closed ≤ length ol
       n : ℕ
       n = end - now.closed
 
-      here : IsClosed old.most (is_some old.ending) (drop now.closed old.round.records) (end - now.closed)
+      here : IsClosed old.most (is_some old.ending) (drop now.closed old.round.records.items) (end - now.closed)
       here =
-          subst (λ rs. IsClosed old.most (is_some old.ending) (drop now.closed rs) (end - now.closed)) c.records
-          (subst (λ e. IsClosed old.most (is_some e) (drop now.closed now.round.records) (end - now.closed)) c.ending
-          (subst (λ m. IsClosed m (is_some now.ending) (drop now.closed now.round.records) (end - now.closed)) c.limit
-          (is_closed now.most (is_some now.ending) now.round.records now.closed end ends)))
+          subst (λ rs. IsClosed old.most (is_some old.ending) (drop now.closed rs) (end - now.closed)) (items_stay c)
+          (subst (λ e. IsClosed old.most (is_some e) (drop now.closed now.round.records.items) (end - now.closed)) c.ending
+          (subst (λ m. IsClosed m (is_some now.ending) (drop now.closed now.round.records.items) (end - now.closed)) c.limit
+          (is_closed now.most (is_some now.ending) now.round.records.items now.closed end ends)))
 
-      left : drop (sum_of c.sizes) (drop old.closed old.round.records) ≡ drop now.closed old.round.records
-      left = drop-drop (sum_of c.sizes) old.closed old.round.records ∙ ap (λ k. drop k old.round.records) (sym c.closed)
+      left : drop (sum_of c.sizes) (drop old.closed old.round.records.items) ≡ drop now.closed old.round.records.items
+      left = drop-drop (sum_of c.sizes) old.closed old.round.records.items ∙ ap (λ k. drop k old.round.records.items) (sym c.closed)
 
       shard_same : (a b d e f h : ℕ) → a ≡ b → d ≡ e → f ≡ h → shard_of a d f ≡ shard_of b e h
       shard_same a b d e f h p q r = cc
@@ -112,12 +117,12 @@ found_open records from most at_end None opened none = opened
 found_open records from most at_end (Some end) opened none = absurd cc
 
 -- no shard can be closed any more
-pub answers_open : (intake : Intake) (at_end wants : Bool) → IsOpenAt intake.round.records intake.closed intake.most at_end → at_end ≡ is_some intake.ending
+pub answers_open : (intake : Intake) (at_end wants : Bool) → IsOpenAt intake.round.records.items intake.closed intake.most at_end → at_end ≡ is_some intake.ending
     → wants ≡ not at_end → IsAnswered intake wants
 answers_open intake true wants opened is answer = subst (IsAnswered intake) (sym answer) (inr (sym is, by opened))
   where
-    by : (length intake.round.records ≤ intake.closed) ⊎ ((true ≡ false) × MayGoOn intake.most (drop intake.closed intake.round.records))
-        → length intake.round.records ≤ intake.closed
+    by : (length intake.round.records.items ≤ intake.closed) ⊎ ((true ≡ false) × MayGoOn intake.most (drop intake.closed intake.round.records.items))
+        → length intake.round.records.items ≤ intake.closed
     by (inl le) = le
     by (inr more) = absurd (let no = more.0 in cc)
 answers_open intake false wants opened is answer = subst (IsAnswered intake) (sym answer) (unknown intake.ending is)

@@ -238,7 +238,7 @@ reads_piece old new buffer count left after can more fits room read taken kept =
   };
   less =
       (let fed = subst (λ e. IsFed can.frame old.framer e can.read can.over can.running.given) more can.running.fed in
-      let less = less_to_read can.frame old.framer new.framer new.ending (take count buffer) can.read old.round.records new.round.records
+      let less = less_to_read can.frame old.framer new.framer new.ending (take count buffer) can.read old.round.records.items new.round.records.items
       can.running.given fed.0 fed.1 (taken can.frame can.read can.running.given fed.0 fed.1) in
       subst (λ e. left_to_read new.ending new.framer < left_to_read e old.framer) (sym more) less);
 }

@@ -31,6 +31,7 @@ use Rattle.sz_stream.specs.InputRuns.{HasRun, IsRunning, ended_so}
 use Rattle.sz_stream.proofs.ShardLemmas.{are_longer, are_more, sum_within, fewer_shards, split, cut_append, length_cut, lie, ranges_append}
 use Rattle.sz_stream.proofs.ShardLemmas.{length-ranges, sum-append}
 use Rattle.sz_stream.proofs.FedLemmas.{begins, few_given}
+use Rattle.sz_stream.proofs.ClosingLemmas.{items_stay}
 use Rattle.sz_stream.proofs.PassedLemmas.{few_passed, passed_records}
 
 -- what comes of shards with these sizes, after shards with these emits of whose records so many were passed over
@@ -57,7 +58,7 @@ module _ (job : Job) (frame : Frame) (most : ℕ) (intake : Intake) (total : Tot
     shards = ap (λ (r : Round). r.shards) empty.round;
     few = (let none = ap (λ (r : Round). length r.shards) empty.round in omega (arith, none));
     closed = empty.closed;
-    count = (let none = ap (λ (r : Round). length r.records) empty.round in omega (arith, none, empty.first));
+    count = (let none = ap (λ (r : Round). length r.records.items) empty.round in omega (arith, none, empty.first));
     numbers = (let none = ap (λ (r : Round). r.first_shard) empty.round in omega (arith, none, empty.first));
     run = record {
       emits = [];
@@ -69,11 +70,11 @@ module _ (job : Job) (frame : Frame) (most : ℕ) (intake : Intake) (total : Tot
       few = omega arith;
       runs = λ more ends all are. record {
         sizes = all;
-        are = subst (λ (r : Round). AreShards most (r.records ++ more) all) (sym empty.round) are;
+        are = subst (λ (r : Round). AreShards most (r.records.items ++ more) all) (sym empty.round) are;
         goes_on =
             after_nothing (outcome_of job (cut_into 0 1 more all))
-            ∙ ap (λ (r : Round). rest_of job [] r.passed r.first_shard 1 (r.records ++ more) all) (sym empty.round)
-            ∙ ap (λ n. rest_of job [] intake.round.passed intake.round.first_shard n (intake.round.records ++ more) all) (sym empty.first);
+            ∙ ap (λ (r : Round). rest_of job [] r.passed r.first_shard 1 (r.records.items ++ more) all) (sym empty.round)
+            ∙ ap (λ n. rest_of job [] intake.round.passed intake.round.first_shard n (intake.round.records.items ++ more) all) (sym empty.first);
       };
     };
   }
@@ -81,21 +82,21 @@ module _ (job : Job) (frame : Frame) (most : ℕ) (intake : Intake) (total : Tot
 module _ (job : Job) (frame : Frame) (most : ℕ) (old : Intake) (total : TotalState) (read : List ℕ) (over : Bool)
     (h : IsRunning job frame most old total read over) where
   -- there are no more records than there may be
-  pub few_left : old.first + length old.round.records ≤ 2 ^ 31 + 1
+  pub few_left : old.first + length old.round.records.items ≤ 2 ^ 31 + 1
   few_left = let few = few_given frame old.framer read over h.given old.ending h.fed in omega (arith, few, h.count)
 
-  pub closed_within : old.closed ≤ length old.round.records
-  closed_within = let within = sum_within most (is_some old.ending) old.round.records h.sizes h.are in omega (arith, within, h.closed)
+  pub closed_within : old.closed ≤ length old.round.records.items
+  closed_within = let within = sum_within most (is_some old.ending) old.round.records.items h.sizes h.are in omega (arith, within, h.closed)
 
   pub few_numbers : old.round.first_shard + length old.round.shards ≤ 2 ^ 31 + 1
   few_numbers =
-      let fewer = fewer_shards most (is_some old.ending) old.round.records h.sizes h.are in
+      let fewer = fewer_shards most (is_some old.ending) old.round.records.items h.sizes h.are in
       omega (arith, few_left, closed_within, fewer, h.closed, h.numbers, ap length h.shards, length-ranges 0 old.first h.sizes)
 
   -- where the round has a shard, it has a record
   pub some_closed : 0 < length old.round.shards → 0 < old.closed
   some_closed some =
-      let fewer = fewer_shards most (is_some old.ending) old.round.records h.sizes h.are in
+      let fewer = fewer_shards most (is_some old.ending) old.round.records.items h.sizes h.are in
       omega (arith, some, fewer, h.closed, ap length h.shards, length-ranges 0 old.first h.sizes)
 
   pub none_closed : length old.round.shards ≡ 0 → old.closed ≡ 0
@@ -110,14 +111,14 @@ module _ (job : Job) (frame : Frame) (most : ℕ) (old : Intake) (total : TotalS
     fed_before : IsFed frame old.framer None read over h.given
     fed_before = subst (λ e. IsFed frame old.framer e read over h.given) more_comes h.fed
 
-    has : HasTaken frame new.framer new.ending old.round.records new.round.records (read ++ piece) (length piece == 0) h.given
+    has : HasTaken frame new.framer new.ending old.round.records.items new.round.records.items (read ++ piece) (length piece == 0) h.given
     has = taken frame read h.given fed_before.0 fed_before.1
 
     not_ended : is_some old.ending ≡ false
     not_ended = ap is_some more_comes
 
     -- what was run stays so
-    has_run : HasRun job most (is_some new.ending) (h.given ++ has.added) new.round.records new.round.first_shard new.first new.round.passed total
+    has_run : HasRun job most (is_some new.ending) (h.given ++ has.added) new.round.records.items new.round.first_shard new.first new.round.passed total
     has_run = record {
       emits = h.run.emits;
       stand = h.run.stand;
@@ -129,8 +130,8 @@ module _ (job : Job) (frame : Frame) (most : ℕ) (old : Intake) (total : TotalS
       runs = λ more ends all are. (
           let before = h.run.runs (has.added ++ more) (λ e. absurd (let no = sym not_ended ∙ e in cc)) all
           (subst (λ rs. AreShards most rs all) (append_assoc h.given has.added more) are) in
-          let records : old.round.records ++ (has.added ++ more) ≡ new.round.records ++ more =
-          sym (append_assoc old.round.records has.added more) ∙ ap (λ rs. rs ++ more) (sym has.gained) in
+          let records : old.round.records.items ++ (has.added ++ more) ≡ new.round.records.items ++ more =
+          sym (append_assoc old.round.records.items has.added more) ∙ ap (λ rs. rs ++ more) (sym has.gained) in
           record {
             sizes = before.sizes;
             are = subst (λ rs. AreShards most rs before.sizes) records before.are;
@@ -138,7 +139,7 @@ module _ (job : Job) (frame : Frame) (most : ℕ) (old : Intake) (total : TotalS
                 ap (λ rs. outcome_of job (cut_into 0 1 rs all)) (append_assoc h.given has.added more)
                 ∙ before.goes_on
                 ∙ ap (λ rs. rest_of job h.run.emits old.round.passed old.round.first_shard old.first rs before.sizes) records
-                ∙ same_rest job h.run.emits (new.round.records ++ more) before.sizes (sym kept.passed) (sym kept.first_shard) (sym kept.first);
+                ∙ same_rest job h.run.emits (new.round.records.items ++ more) before.sizes (sym kept.passed) (sym kept.first_shard) (sym kept.first);
           });
     }
 
@@ -150,12 +151,12 @@ module _ (job : Job) (frame : Frame) (most : ℕ) (old : Intake) (total : TotalS
       limit = kept.limit ∙ h.limit;
       sizes = h.sizes;
       are = subst (λ rs. AreClosed most (is_some new.ending) rs h.sizes) (sym has.gained)
-          (are_longer most (is_some new.ending) old.round.records has.added h.sizes
-          (subst (λ b. AreClosed most b old.round.records h.sizes) not_ended h.are));
+          (are_longer most (is_some new.ending) old.round.records.items has.added h.sizes
+          (subst (λ b. AreClosed most b old.round.records.items h.sizes) not_ended h.are));
       shards = kept.shards ∙ h.shards ∙ ap (λ n. ranges_of 0 n h.sizes) (sym kept.first);
       few = omega (arith, h.few, ap length kept.shards);
       closed = kept.closed ∙ h.closed;
-      count = omega (arith, h.count, kept.first, ap length has.gained, length-append old.round.records has.added, length-append h.given has.added);
+      count = omega (arith, h.count, kept.first, ap length has.gained, length-append old.round.records.items has.added, length-append h.given has.added);
       numbers = omega (arith, h.numbers, kept.first, kept.first_shard);
       run = has_run;
     }
@@ -169,11 +170,11 @@ module _ (job : Job) (frame : Frame) (most : ℕ) (old : Intake) (total : TotalS
     low = h.low;
     limit = c.limit ∙ h.limit;
     sizes = h.sizes ++ c.sizes;
-    are = subst (λ rs. AreClosed most (is_some new.ending) rs (h.sizes ++ c.sizes)) (sym c.records)
-        (subst (λ e. AreClosed most (is_some e) old.round.records (h.sizes ++ c.sizes)) (sym c.ending)
-        (are_more most (is_some old.ending) old.round.records h.sizes c.sizes h.are
-        (subst (λ n. AreClosed most (is_some old.ending) (drop n old.round.records) c.sizes) h.closed
-        (subst (λ m. AreClosed m (is_some old.ending) (drop old.closed old.round.records) c.sizes) h.limit c.are))));
+    are = subst (λ rs. AreClosed most (is_some new.ending) rs (h.sizes ++ c.sizes)) (sym (items_stay c))
+        (subst (λ e. AreClosed most (is_some e) old.round.records.items (h.sizes ++ c.sizes)) (sym c.ending)
+        (are_more most (is_some old.ending) old.round.records.items h.sizes c.sizes h.are
+        (subst (λ n. AreClosed most (is_some old.ending) (drop n old.round.records.items) c.sizes) h.closed
+        (subst (λ m. AreClosed m (is_some old.ending) (drop old.closed old.round.records.items) c.sizes) h.limit c.are))));
     shards =
         c.shards
         ∙ ap (λ l. l ++ ranges_of old.closed (old.first + old.closed) c.sizes) h.shards
@@ -183,7 +184,7 @@ module _ (job : Job) (frame : Frame) (most : ℕ) (old : Intake) (total : TotalS
         ∙ ap (λ n. ranges_of 0 n (h.sizes ++ c.sizes)) (sym c.first);
     few = c.few h.few;
     closed = c.closed ∙ ap (λ n. n + sum_of c.sizes) h.closed ∙ sym (sum-append h.sizes c.sizes);
-    count = omega (arith, h.count, c.first, ap length c.records);
+    count = omega (arith, h.count, c.first, ap length (items_stay c));
     numbers = omega (arith, h.numbers, c.first, c.first_shard);
     run = record {
       emits = h.run.emits;
@@ -197,11 +198,11 @@ module _ (job : Job) (frame : Frame) (most : ℕ) (old : Intake) (total : TotalS
           let before = h.run.runs more (λ e. ends (ap is_some c.ending ∙ e)) all are in
           record {
             sizes = before.sizes;
-            are = subst (λ rs. AreShards most (rs ++ more) before.sizes) (sym c.records) before.are;
+            are = subst (λ rs. AreShards most (rs ++ more) before.sizes) (sym (items_stay c)) before.are;
             goes_on =
                 before.goes_on
-                ∙ ap (λ rs. rest_of job h.run.emits old.round.passed old.round.first_shard old.first (rs ++ more) before.sizes) (sym c.records)
-                ∙ same_rest job h.run.emits (new.round.records ++ more) before.sizes (sym c.passed) (sym c.first_shard) (sym c.first);
+                ∙ ap (λ rs. rest_of job h.run.emits old.round.passed old.round.first_shard old.first (rs ++ more) before.sizes) (sym (items_stay c))
+                ∙ same_rest job h.run.emits (new.round.records.items ++ more) before.sizes (sym c.passed) (sym c.first_shard) (sym c.first);
           });
     };
   }
@@ -212,11 +213,11 @@ module _ (job : Job) (frame : Frame) (most : ℕ) (old : Intake) (total : TotalS
   -- the shards at hand are a round
   pub is_round : IsRound old.round
   is_round =
-      let all = lie most (is_some old.ending) old.round.records 0 old.first h.sizes h.are (omega arith) (omega (arith, h.numbers)) few_left in
+      let all = lie most (is_some old.ending) old.round.records.items 0 old.first h.sizes h.are (omega arith) (omega (arith, h.numbers)) few_left in
       record {
         few = h.few;
         numbers = few_numbers;
-        within = subst (All_in old.round.records) (sym h.shards) all.within;
+        within = subst (All_in old.round.records.items) (sym h.shards) all.within;
         next = (0, old.first, subst (AreNext 0 old.first) (sym h.shards) all.next);
       }
     where
@@ -224,42 +225,42 @@ module _ (job : Job) (frame : Frame) (most : ℕ) (old : Intake) (total : TotalS
       All_in records shards = Rattle.std.proofs.Common.All (IsShardIn records) shards
 
   -- as data they are the front of all that are still to be run
-  of_round : shards_of old.round ≡ cut_into old.round.first_shard old.first old.round.records h.sizes
+  of_round : shards_of old.round ≡ cut_into old.round.first_shard old.first old.round.records.items h.sizes
   of_round =
-      ap (numbered old.round.first_shard old.round.records) h.shards
-      ∙ numbered_cut old.round.first_shard old.round.records 0 old.first h.sizes
+      ap (numbered old.round.first_shard old.round.records.items) h.shards
+      ∙ numbered_cut old.round.first_shard old.round.records.items 0 old.first h.sizes
 
   -- what comes of the shards after those of the round, where so many records of these were passed over
   abbrev later_of : List (List ℕ) → List ℕ → ℕ → ShardsEnd
   later_of more sizes n =
       outcome_from job (old.round.passed + n) (cut_into (old.round.first_shard + length old.round.shards) (old.first + old.closed)
-      (drop old.closed old.round.records ++ more) sizes)
+      (drop old.closed old.round.records.items ++ more) sizes)
 
   -- what comes of all shards, by what comes of those of the round
   record Follows (more : List (List ℕ)) (all : List ℕ) : Type 0 where
     sizes : List ℕ
-    are : AreShards most (drop old.closed old.round.records ++ more) sizes
+    are : AreShards most (drop old.closed old.round.records.items ++ more) sizes
     goes_on : outcome_of job (cut_into 0 1 (h.given ++ more) all)
         ≡ after_front h.run.emits old.round.passed (then_outcome (outcome_from job old.round.passed (shards_of old.round)) (later_of more sizes))
 
   follows : (more : List (List ℕ)) → (is_some old.ending ≡ true → more ≡ []) → (all : List ℕ) → AreShards most (h.given ++ more) all → Follows more all
   follows more ends all are =
       let before = h.run.runs more ends all are in
-      let s = split most (is_some old.ending) old.round.records more h.sizes before.sizes ends h.are before.are in
+      let s = split most (is_some old.ending) old.round.records.items more h.sizes before.sizes ends h.are before.are in
       let p = old.round.passed in
       let n = old.round.first_shard in
       let with_rest = λ (shards : List ShardData) (k : ℕ) (f : ℕ) (c : ℕ). after_front h.run.emits p (then_outcome (outcome_from job p shards)
-      (λ m. outcome_from job (p + m) (cut_into k f (drop c old.round.records ++ more) s.later))) in
+      (λ m. outcome_from job (p + m) (cut_into k f (drop c old.round.records.items ++ more) s.later))) in
       record {
         sizes = s.later;
-        are = subst (λ c. AreShards most (drop c old.round.records ++ more) s.later) (sym h.closed) s.are;
+        are = subst (λ c. AreShards most (drop c old.round.records.items ++ more) s.later) (sym h.closed) s.are;
         goes_on =
             before.goes_on
-            ∙ ap (λ sizes. rest_of job h.run.emits p n old.first (old.round.records ++ more) sizes) s.same
+            ∙ ap (λ sizes. rest_of job h.run.emits p n old.first (old.round.records.items ++ more) sizes) s.same
             ∙ ap (λ shards. after_front h.run.emits p (outcome_from job p shards))
-            (cut_append most (is_some old.ending) n old.first old.round.records more h.sizes s.later h.are)
-            ∙ ap (after_front h.run.emits p) (outcome-append job p (cut_into n old.first old.round.records h.sizes)
-            (cut_into (n + length h.sizes) (old.first + sum_of h.sizes) (drop (sum_of h.sizes) old.round.records ++ more) s.later))
+            (cut_append most (is_some old.ending) n old.first old.round.records.items more h.sizes s.later h.are)
+            ∙ ap (after_front h.run.emits p) (outcome-append job p (cut_into n old.first old.round.records.items h.sizes)
+            (cut_into (n + length h.sizes) (old.first + sum_of h.sizes) (drop (sum_of h.sizes) old.round.records.items ++ more) s.later))
             ∙ ap (λ shards. with_rest shards (n + length h.sizes) (old.first + sum_of h.sizes) (sum_of h.sizes)) (sym of_round)
             ∙ ap (λ c. with_rest (shards_of old.round) (n + length h.sizes) (old.first + c) c) (sym h.closed)
             ∙ ap (λ k. with_rest (shards_of old.round) (n + k) (old.first + old.closed) old.closed)
@@ -298,7 +299,7 @@ module _ (job : Job) (frame : Frame) (most : ℕ) (old : Intake) (total : TotalS
     so_many : length (all_records (shards_of old.round)) ≡ old.closed
     so_many =
         ap (λ l. length (all_records l)) of_round
-        ∙ length_cut most (is_some old.ending) old.round.first_shard old.first old.round.records h.sizes h.are ∙ sym h.closed
+        ∙ length_cut most (is_some old.ending) old.round.first_shard old.first old.round.records.items h.sizes h.are ∙ sym h.closed
 
     -- no more of them fault
     fewer_passed : n ≤ old.closed
@@ -338,9 +339,9 @@ module _ (job : Job) (frame : Frame) (most : ℕ) (old : Intake) (total : TotalS
       shards = refl;
       few = omega arith;
       closed = refl;
-      count = omega (arith, h.count, closed_within, length-drop old.closed old.round.records);
+      count = omega (arith, h.count, closed_within, length-drop old.closed old.round.records.items);
       numbers =
-          (let fewer = fewer_shards most (is_some old.ending) old.round.records h.sizes h.are in
+          (let fewer = fewer_shards most (is_some old.ending) old.round.records.items h.sizes h.are in
           omega (arith, h.numbers, fewer, h.closed, ap length h.shards, length-ranges 0 old.first h.sizes));
       run = record {
         emits = h.run.emits ++ es;
@@ -367,17 +368,17 @@ module _ (job : Job) (frame : Frame) (most : ℕ) (old : Intake) (total : TotalS
     }
 
   -- no record is left
-  pub ends_run : (e : Ending) → old.ending ≡ Some e → length old.round.records ≡ 0 → (input : List ℕ) → GoesOn read over input
+  pub ends_run : (e : Ending) → old.ending ≡ Some e → length old.round.records.items ≡ 0 → (input : List ℕ) → GoesOn read over input
       → RunsInput job most frame input (ended_so total (old.first - 1) e)
   ends_run e known none input on records ending sizes cut are =
       let b = begins frame old.framer read over h.given old.ending h.fed input on records ending cut in
       let nothing_more : b.more ≡ [] = b.ends (ap is_some known) in
       let r = h.run.runs b.more b.ends sizes (subst (λ rs. AreShards most rs sizes) b.same are) in
-      let no_rest : old.round.records ++ b.more ≡ [] = ap (λ rs. old.round.records ++ rs) nothing_more ∙ append-nil old.round.records ∙ no_records old.round.records none in
+      let no_rest : old.round.records.items ++ b.more ≡ [] = ap (λ rs. old.round.records.items ++ rs) nothing_more ∙ append-nil old.round.records.items ∙ no_records old.round.records.items none in
       let no_sizes : r.sizes ≡ [] = without r.sizes (subst (λ rs. AreShards most rs r.sizes) no_rest r.are) in
       let outcome : outcome_of job (cut_into 0 1 records sizes) ≡ emitted h.run.emits (old.round.passed + 0) =
       ap (λ rs. outcome_of job (cut_into 0 1 rs sizes)) b.same ∙ r.goes_on
-      ∙ ap (λ l. rest_of job h.run.emits old.round.passed old.round.first_shard old.first (old.round.records ++ b.more) l) no_sizes
+      ∙ ap (λ l. rest_of job h.run.emits old.round.passed old.round.first_shard old.first (old.round.records.items ++ b.more) l) no_sizes
       ∙ ap (λ es. emitted es (old.round.passed + 0)) (append-nil h.run.emits) in
       let all : length records ≡ length h.given = ap length (b.same ∙ ap (λ rs. h.given ++ rs) nothing_more ∙ append-nil h.given) in
       let count : h.run.count ≡ length records = omega (arith, all, h.run.begun, h.count, none) in

@@ -50,13 +50,13 @@ pub record IsRunning (job : Job) (frame : Frame) (most : ℕ) (intake : Intake) 
   pub low : 1 ≤ most
   pub limit : intake.most ≡ most
   pub sizes : List ℕ
-  pub are : AreClosed most (is_some intake.ending) intake.round.records sizes
+  pub are : AreClosed most (is_some intake.ending) intake.round.records.items sizes
   pub shards : intake.round.shards ≡ ranges_of 0 intake.first sizes
   pub few : length intake.round.shards ≤ 4096
   pub closed : intake.closed ≡ sum_of sizes
-  pub count : intake.first + length intake.round.records ≡ 1 + length given
+  pub count : intake.first + length intake.round.records.items ≡ 1 + length given
   pub numbers : intake.round.first_shard + 1 ≤ intake.first
-  pub run : HasRun job most (is_some intake.ending) given intake.round.records intake.round.first_shard intake.first intake.round.passed total
+  pub run : HasRun job most (is_some intake.ending) given intake.round.records.items intake.round.first_shard intake.first intake.round.passed total
 
 -- from what was left at the start to what is left now bytes were read, and this is known of them
 pub record Reaches (job : Job) (frame : Frame) (most : ℕ) (intake : Intake) (total : TotalState) (start left : Option (List ℕ)) : Type 0 where
@@ -112,7 +112,7 @@ TakesAll old new bytes = (job : Job) (frame : Frame) (most : ℕ) (total : Total
 
 -- the round has a shard, or the ending is known and no record is left
 abbrev pub IsReady : Intake → Type 0
-IsReady intake = length intake.round.shards ≡ 0 → (is_some intake.ending ≡ true) × (length intake.round.records ≡ 0)
+IsReady intake = length intake.round.shards ≡ 0 → (is_some intake.ending ≡ true) × (length intake.round.records.items ≡ 0)
 
 -- the round was run, and no shard of it decides
 pub record RunsRound (job : Job) (old new : Intake) (total merged : TotalState) : Type 0 where

@@ -4,6 +4,7 @@ use Rattle.sz_types.specs.declared.frame.Frame.{Frame}
 use Rattle.sz_records.specs.declared.ending.Ending.{Ending}
 use Rattle.sz_records.specs.declared.ending.Ending.TheVariants.{Whole}
 use Rattle.sz_records.specs.Cutting.{IsCut}
+use Rattle.sz_records.specs.Ends.{no_records, later_of}
 use Rattle.sz_records.specs.Fed.{FramerData, HasRead}
 use Rattle.sz_records.specs.Shards.{IsShard}
 use Rattle.sz_rounds.specs.Cuts.{ranges_of}
@@ -37,7 +38,7 @@ IsFed frame framer (Some e) read over given =
 pub record IsEmpty (frame : Frame) (most : ℕ) (intake : Intake) : Type 0 where
   pub fed : IsFed frame intake.framer intake.ending [] false []
   pub more : intake.ending ≡ None
-  pub round : intake.round ≡ record { records = []; shards = []; first_shard = 0; passed = 0 }
+  pub round : intake.round ≡ record { records = no_records; shards = []; first_shard = 0; passed = 0 }
   pub first : intake.first ≡ 1
   pub closed : intake.closed ≡ 0
   pub limit : intake.most ≡ most
@@ -61,19 +62,19 @@ pub record HasTaken (frame : Frame) (framer : FramerData) (ending : Option Endin
 -- the piece is taken in, whatever was read before it; an empty one is the end
 abbrev pub TakesIn : Intake → Intake → List ℕ → Type 0
 TakesIn old new piece = (frame : Frame) (read : List ℕ) (given : List (List ℕ)) → HasRead frame full old.framer read given → old.framer.ended ≡ None
-    → HasTaken frame new.framer new.ending old.round.records new.round.records (read ++ piece) (length piece == 0) given
+    → HasTaken frame new.framer new.ending old.round.records.items new.round.records.items (read ++ piece) (length piece == 0) given
 
 -- Where the answer is that the round may grow, the ending isn't known. Where it isn't, the round has a shard, or the ending is known and
 -- all records are in closed shards
 abbrev pub IsAnswered : Intake → Bool → Type 0
 IsAnswered intake true = intake.ending ≡ None
 IsAnswered intake false =
-    (0 < length intake.round.shards) ⊎ ((is_some intake.ending ≡ true) × (length intake.round.records ≤ intake.closed))
+    (0 < length intake.round.shards) ⊎ ((is_some intake.ending ≡ true) × (length intake.round.records.items ≤ intake.closed))
 
 -- shards after those of the round were closed, and all else is as before
 pub record Closes (old new : Intake) : Type 0 where
   pub sizes : List ℕ
-  pub are : AreClosed old.most (is_some old.ending) (drop old.closed old.round.records) sizes
+  pub are : AreClosed old.most (is_some old.ending) (drop old.closed old.round.records.items) sizes
   pub shards : new.round.shards ≡ old.round.shards ++ ranges_of old.closed (old.first + old.closed) sizes
   pub few : length old.round.shards ≤ 4096 → length new.round.shards ≤ 4096
   pub closed : new.closed ≡ old.closed + sum_of sizes
@@ -91,7 +92,7 @@ moved_on passed intake = record {
   framer = intake.framer;
   ending = intake.ending;
   round = record {
-    records = drop intake.closed intake.round.records;
+    records = later_of intake.closed intake.round.records;
     shards = [];
     first_shard = intake.round.first_shard + length intake.round.shards;
     passed = intake.round.passed + passed;

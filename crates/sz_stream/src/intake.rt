@@ -91,8 +91,8 @@ impl Intake {
     /// known, and there is room for the next shard as far as that is at hand.
     pub(crate) fn wants_piece(&mut self) -> Result<bool, NoMemory>
         requires most { 1 ≤ self.old.most }
-        requires within { self.old.closed ≤ length self.old.round.records }
-        requires few { self.old.first + length self.old.round.records ≤ 2 ^ 31 + 1 }
+        requires within { self.old.closed ≤ length self.old.round.records.items }
+        requires few { self.old.first + length self.old.round.records.items ≤ 2 ^ 31 + 1 }
         ensures closed { OnOk result (Closes self.old self.new) }
         ensures answer { IfOk result (λ wants. IsAnswered self.new wants) }
     {
@@ -142,8 +142,8 @@ impl Intake {
 
     /// Drops the shards of the round, which were run, and their records, of which so many were passed over.
     pub(crate) fn move_on(&mut self, passed: u32)
-        requires within { self.old.closed ≤ length self.old.round.records }
-        requires few { self.old.first + length self.old.round.records ≤ 2 ^ 31 + 1 }
+        requires within { self.old.closed ≤ length self.old.round.records.items }
+        requires few { self.old.first + length self.old.round.records.items ≤ 2 ^ 31 + 1 }
         requires numbers { self.old.round.first_shard + length self.old.round.shards ≤ 2 ^ 31 + 1 }
         requires passed { self.old.round.passed + passed < 2 ^ 32 }
         ensures value { self.new ≡ moved_on passed self.old }
@@ -166,7 +166,7 @@ fn is_large(records: usize, bytes: usize) -> bool {
 /// How many bytes the records from one place to another have.
 fn bytes_of(records: &Records, start: usize, end: usize) -> usize
     requires order { start ≤ end }
-    requires within { end ≤ length records.now }
+    requires within { end ≤ length records.now.items }
 {
     records.bytes_between(start, end)
 }

@@ -86,7 +86,7 @@ module _ (named : Job) (of : Round) (job : Job) (round : Round) (p : PlanData) (
     front_decides shard there one is =
         let found = in_front_some shard.first (one_too_many job round part.faults) one is in
         fault_before job round few_passed total part ss (holds_here total part ss holds) n front
-        (shard_at (round.first_shard + n) round.records shard) (numbered_at round.first_shard round.records round.shards n shard there) one
+        (shard_at (round.first_shard + n) round.records.items shard) (numbered_at round.first_shard round.records.items round.shards n shard there) one
         found.0 found.1
 
     -- and where there is none, no shard in front does
@@ -98,15 +98,15 @@ module _ (named : Job) (of : Round) (job : Job) (round : Round) (p : PlanData) (
             → NoneInFront job round n
         by (inl none) =
             none_before_by job round few_passed total part ss (holds_here total part ss holds) n front
-            (shard_at (round.first_shard + n) round.records shard) (numbered_at round.first_shard round.records round.shards n shard there) none
+            (shard_at (round.first_shard + n) round.records.items shard) (numbered_at round.first_shard round.records.items round.shards n shard there) none
         by (inr later) =
             later_before job round few_passed total part ss (holds_here total part ss holds) n front
-            (shard_at (round.first_shard + n) round.records shard) (numbered_at round.first_shard round.records round.shards n shard there)
+            (shard_at (round.first_shard + n) round.records.items shard) (numbered_at round.first_shard round.records.items round.shards n shard there)
             later.0 later.1 later.2
 
     all_there : p.shards ≤ n → length (shards_of round) ≤ n
     all_there enough =
-        let long = length-numbered round.first_shard round.records round.shards in
+        let long = length-numbered round.first_shard round.records.items round.shards in
         let same = ap (λ (r : Round). length r.shards) set.round_is in
         let count = ap (λ (q : PlanData). q.shards) set.plan in omega (arith, long, same, count, enough)
 

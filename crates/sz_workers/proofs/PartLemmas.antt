@@ -124,7 +124,7 @@ follow_numbered number place first records (s ∷ shards) within next =
 
 pub follow_shards : (round : Round) → IsRound round → (first : ℕ) × FollowFrom first (shards_of round)
 follow_shards round is =
-    (is.next.1, follow_numbered round.first_shard is.next.0 is.next.1 round.records round.shards is.within is.next.2)
+    (is.next.1, follow_numbered round.first_shard is.next.0 is.next.1 round.records.items round.shards is.within is.next.2)
 
 -- the first of both are the first of the shards of both
 pub first_of_both : (job : Job) (round : Round) (a b new : FirstFaults) (ss ts : List ℕ) → IsRound round → HasFirst job round a ss

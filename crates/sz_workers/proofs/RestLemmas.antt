@@ -179,8 +179,8 @@ one_more job round place k j end all shard there =
 pub lost_there : (job : Job) (round : Round) (place n : ℕ) → place < length round.shards → job.attempts ≤ n → AllDied job round place n
     → (shard : ShardData) × (slice_get (shards_of round) place ≡ Some shard) × (is_lost job shard ≡ true)
 lost_there job round place n within enough all =
-    let long = length-numbered round.first_shard round.records round.shards in
-    let found = shard_there round.first_shard round.records round.shards place (omega (arith, within, long)) in
+    let long = length-numbered round.first_shard round.records.items round.shards in
+    let found = shard_there round.first_shard round.records.items round.shards place (omega (arith, within, long)) in
     (found.shard, found.there, fewer_died job found.shard job.attempts n enough (all found.shard found.there))
 
 -- a lost shard decides where none in front does
@@ -188,8 +188,8 @@ pub lost_ends : (job : Job) (round : Round) (place : ℕ) (shard : ShardData) �
     → slice_get (shards_of round) place ≡ Some shard → is_lost job shard ≡ true → NoneInFront job round place
     → outcome_from job round.passed (shards_of round) ≡ lost (round.first_shard + place)
 lost_ends job round place shard within there dead none =
-    let long = length-numbered round.first_shard round.records round.shards in
-    let found = shard_there round.first_shard round.records round.shards place (omega (arith, within, long)) in
+    let long = length-numbered round.first_shard round.records.items round.shards in
+    let found = shard_there round.first_shard round.records.items round.shards place (omega (arith, within, long)) in
     let same = same_there (shards_of round) place found.shard shard found.there there in
     lost_at job round.passed (shards_of round) place shard there
     (all_live job (shards_of round) place (λ s l. let c = none.count s l in (c.shard, c.there, c.alive))) none.few dead

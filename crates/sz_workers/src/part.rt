@@ -36,7 +36,7 @@ impl RoundName for Brand {
       twice = [];
     } };
 
-    ghost round = { record { records = []; shards = []; first_shard = 0; passed = 0 } };
+    ghost round = { record { records = record { items = []; ends = [] }; shards = []; first_shard = 0; passed = 0 } };
 }
 
 /// The tables of what some shards of a round emit, and the first of their records that fault.

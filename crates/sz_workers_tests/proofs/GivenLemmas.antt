@@ -15,6 +15,7 @@ use Rattle.sz_machine.specs.declared.ends.StaticsEnd.TheVariants as ends
 use Rattle.sz_machine.specs.Ends.{seen_statics_end, StaticsRunEnds}
 use Rattle.sz_gen_rules.specs.Simulates.{IsBudget, static_types}
 use Rattle.sz_gen_rules.specs.Compiled.{IsCompiled}
+use Rattle.sz_records.specs.Ends.{RecordsData}
 use Rattle.sz_attempt.specs.declared.job.Shard.{Shard}
 use Rattle.sz_attempt.specs.Shards.{IsShardIn}
 use Rattle.sz_rounds.specs.Rounds.{IsRound}
@@ -44,15 +45,15 @@ abbrev pub second_shard : Shard
 second_shard = record { first = 2; start = 1; end = 2 }
 
 -- two records with a shard for each are a round
-pub is_round : (records : List (List ℕ)) (shards : List Shard) → length records ≡ 2 → shards ≡ first_shard ∷ second_shard ∷ []
+pub is_round : (records : RecordsData) (shards : List Shard) → length records.items ≡ 2 → shards ≡ first_shard ∷ second_shard ∷ []
     → IsRound record { records = records; shards = shards; first_shard = 0; passed = 0 }
 is_round records shards two is =
     subst (λ (ss : List Shard). IsRound record { records = records; shards = ss; first_shard = 0; passed = 0 }) (sym is) (record {
       few = omega arith;
       numbers = omega arith;
-      within = All-cons (IsShardIn records) first_shard (second_shard ∷ [])
+      within = All-cons (IsShardIn records.items) first_shard (second_shard ∷ [])
           (record { order = omega arith; within = omega (arith, two); first = omega arith; few = omega arith })
-          (All-cons (IsShardIn records) second_shard []
-          (record { order = omega arith; within = omega (arith, two); first = omega arith; few = omega arith }) (All-nil (IsShardIn records)));
+          (All-cons (IsShardIn records.items) second_shard []
+          (record { order = omega arith; within = omega (arith, two); first = omega arith; few = omega arith }) (All-nil (IsShardIn records.items)));
       next = (0, 1, (refl, refl, (refl, refl, tt)));
     })

@@ -80,7 +80,7 @@ pub fn doubled_job(alloc: Global, skip: u32) -> Option<Job>
 
 // Two lines, if the text has so many.
 fn two_records(alloc: Global, text: &[u8]) -> Option<Records>
-    ensures count { IfSome result (λ records. length records ≡ 2) }
+    ensures count { IfSome result (λ records. length records.items ≡ 2) }
 {
     let mut records = Records::new(alloc);
     let mut framer = Framer::new(alloc, Frame::Lines, FrameLimits::FULL);

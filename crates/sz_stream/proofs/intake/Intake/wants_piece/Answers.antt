@@ -9,9 +9,9 @@ pub bytes_of-more-requires : goal.bytes_of-more-requires
 bytes_of-more-requires c =
     let now = c.loop-start.self in
     record {
-      order = found_after now.round.records now.closed now.most c.is_some-at_end.result c.shard_end-found.result c.unwrap_or-end.result c.len-all.result
+      order = found_after now.round.records.items now.closed now.most c.is_some-at_end.result c.shard_end-found.result c.unwrap_or-end.result c.len-all.result
           c.shard_end-found.ensures.some c.unwrap_or-end.ensures c.len-all.ensures.value c.loop-start.invariant.within;
-      within = found_within now.round.records now.closed now.most c.is_some-at_end.result c.shard_end-found.result c.unwrap_or-end.result c.len-all.result
+      within = found_within now.round.records.items now.closed now.most c.is_some-at_end.result c.shard_end-found.result c.unwrap_or-end.result c.len-all.result
           c.shard_end-found.ensures.some c.unwrap_or-end.ensures c.len-all.ensures.value;
     }
 
@@ -19,7 +19,7 @@ bytes_of-more-requires c =
 pub returns-then-is_none-clause-answer : goal.returns-then-is_none-clause-answer
 returns-then-is_none-clause-answer c =
     let now = c.loop-start.self in
-    answers_open now c.is_some-at_end.result _ (found_open now.round.records now.closed now.most c.is_some-at_end.result c.shard_end-found.result
+    answers_open now c.is_some-at_end.result _ (found_open now.round.records.items now.closed now.most c.is_some-at_end.result c.shard_end-found.result
     c.shard_end-found.ensures.none (c.is_none.ensures ∙ ap not c.if-is_none.true)) c.is_some-at_end.ensures (search rules)
 
 -- one shard more is closed
@@ -28,9 +28,9 @@ loop-start-preserved c =
     let old = c.args.self.now in
     let now = c.loop-start.self in
     let end = c.unwrap_or-end.result in
-    let found = found_ends now.round.records now.closed now.most c.is_some-at_end.result c.shard_end-found.result end c.len-all.result c.shard_end-found.ensures.some
+    let found = found_ends now.round.records.items now.closed now.most c.is_some-at_end.result c.shard_end-found.result end c.len-all.result c.shard_end-found.ensures.some
     c.unwrap_or-end.ensures (c.is_none.ensures ∙ ap not c.if-is_none.false) in
-    let ends = subst (λ at_end. EndsShard now.round.records now.closed now.most at_end end) c.is_some-at_end.ensures found in
+    let ends = subst (λ at_end. EndsShard now.round.records.items now.closed now.most at_end end) c.is_some-at_end.ensures found in
     let closes = closes_more old now c.loop-start.invariant.closes c.requires.within end c.saturating_add-bytes.result c.push.new.self ends
     c.in_ok-push.ensures.ok (let room = c.loop-start-test.true in let len = c.len.ensures.value in omega (arith, room, len)) in
     record { closes = closes; within = still_within old _ closes c.requires.within }
@@ -39,6 +39,6 @@ loop-start-preserved c =
 pub loop-start-smaller : goal.loop-start-smaller
 loop-start-smaller c =
     let now = c.loop-start.self in
-    let found = found_ends now.round.records now.closed now.most c.is_some-at_end.result c.shard_end-found.result c.unwrap_or-end.result c.len-all.result
+    let found = found_ends now.round.records.items now.closed now.most c.is_some-at_end.result c.shard_end-found.result c.unwrap_or-end.result c.len-all.result
     c.shard_end-found.ensures.some c.unwrap_or-end.ensures (c.is_none.ensures ∙ ap not c.if-is_none.false) in
     omega (arith, found.within.0, found.within.1)

@@ -6,9 +6,9 @@ use Rattle.sz_stream.proofs.intake.Intake.wants_piece.Given as goal
 abbrev pub invariant-loop-start : goal.invariant-loop-start
 invariant-loop-start l = record {
   closes : Closes l.fn.self l.self;
-  within : l.self.closed ≤ length l.self.round.records;
+  within : l.self.closed ≤ length l.self.round.records.items;
 }
 
 -- how many records are left
 abbrev pub decreases-loop-start : goal.decreases-loop-start
-decreases-loop-start l = length l.self.round.records - l.self.closed
+decreases-loop-start l = length l.self.round.records.items - l.self.closed
