@@ -23,10 +23,10 @@ use Rattle.sz_core.specs.declared.expr.CoreExpr.{CoreExpr}
 use Rattle.sz_core.specs.View.{node_of, form_of}
 use Rattle.sz_gen_expr.specs.Building.{with_constant, with_type, aimed, tables_made, Grows, Appends, AppendsLine, AppendsNode, AppendsClosed, AppendsList, LandsBy, Lands, Nothing}
 
-begins_itself : {A : Type 0} (xs : List A) → BeginsWith xs xs
+pub begins_itself : {A : Type 0} (xs : List A) → BeginsWith xs xs
 begins_itself xs = ([], sym (append-nil xs))
 
-begins_on : {A : Type 0} (xs ys zs : List A) → BeginsWith xs ys → BeginsWith ys zs → BeginsWith xs zs
+pub begins_on : {A : Type 0} (xs ys zs : List A) → BeginsWith xs ys → BeginsWith ys zs → BeginsWith xs zs
 begins_on xs ys zs h k = (h.0 ++ k.0, k.1 ∙ ap (λ l. l ++ k.0) h.1 ∙ append_assoc xs h.0 k.0)
 
 pub grows_itself : (t : Tables) → Grows t t

@@ -1,5 +1,5 @@
 -- Code in the making: what it has so far stays, and more comes after it.
-use Rattle.std.specs.Prelude.{◌≡◌, ℕ, zero, suc, List, [], ◌∷◌, ◌++◌, length, Option, Some, None, unwrap_or, if◌then◌else◌}
+use Rattle.std.specs.Prelude.{◌≡◌, ℕ, zero, suc, List, [], ◌∷◌, ◌++◌, length, Option, Some, None, unwrap_or, if◌then◌else◌, take}
 use Rattle.std.specs.List.{list_any}
 use Rattle.std.specs.Ordering.{is_eq}
 use Rattle.sz_types.specs.Data.{Shape}
@@ -13,6 +13,7 @@ use Rattle.sz_instr.specs.declared.instr.Instr.{Instr}
 use Rattle.sz_instr.specs.declared.instr.Instr.TheVariants.{Jump, Test, AndTest, OrTest, Next, Meets, Fails, MakeMap}
 use Rattle.sz_instr.specs.declared.line.Line.{Line}
 use Rattle.sz_gen_expr.specs.declared.builder.Builder.{Builder}
+use Rattle.sz_gen_expr.specs.declared.mark.Mark.{Mark}
 use Rattle.sz_gen_rules.specs.Tables.{Tables, line}
 use Rattle.sz_gen_rules.specs.ExpressionCode.{closed, decided, pair_count_of, expression_code, expressions_code, pairings_code}
 use Rattle.sz_gen_rules.specs.Named.{HasNames, HaveNames, PairingsHaveNames}
@@ -130,3 +131,31 @@ AppendsDecided old new test place e = Appends old new (λ tables at. decided (ai
 -- names nothing
 abbrev pub Nothing : Tables → Type 0
 Nothing tables = Unit {0}
+
+-- ---- the way back
+
+-- all that the code in the making had stands in front of what it has now, and no routine began
+pub record GoesOn (old new : Builder) : Type 0 where
+  pub lines : BeginsWith old.lines new.lines
+  pub constants : BeginsWith old.constants new.constants
+  pub types : BeginsWith old.types new.types
+  pub functions : new.functions ≡ old.functions
+  pub statics : new.statics ≡ old.statics
+
+-- whatever it went on from, it goes on from still
+abbrev pub StillGoesOn : Builder → Builder → Type 0
+StillGoesOn old new = (first : Builder) → GoesOn first old → GoesOn first new
+
+-- how far it has come
+abbrev pub mark_of : Builder → Mark
+mark_of b = record { lines = length b.lines; constants = length b.constants; types = length b.types }
+
+-- cut back to a mark
+abbrev pub cut_to : Mark → Builder → Builder
+cut_to m b = record {
+  lines = take m.lines b.lines;
+  functions = b.functions;
+  statics = b.statics;
+  constants = take m.constants b.constants;
+  types = take m.types b.types;
+}

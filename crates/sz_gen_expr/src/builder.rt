@@ -7,7 +7,7 @@ ghost use Rattle.sz_instr.specs.declared.instr.Instr.TheVariants.{Push};
 ghost use Rattle.sz_gen_rules.specs.Tables.{line, constant_number, type_number_in, HasConstant};
 ghost use Rattle.sz_gen_rules.specs.ExpressionCode.{changing, conversion};
 ghost use Rattle.sz_gen_rules.specs.Named.{HasTarget};
-ghost use Rattle.sz_gen_expr.specs.Building.{with_type, with_target, with_past, changed, patched, Lands, LandsPast, AppendsLine, Nothing};
+ghost use Rattle.sz_gen_expr.specs.Building.{with_type, with_target, with_past, changed, patched, Lands, LandsPast, AppendsLine, Nothing, StillGoesOn};
 
 use crate::NoMemory;
 use crate::constants::Constants;
@@ -55,12 +55,13 @@ impl Builder {
     }
 
     /// Appends a line, and gives its place.
-    #[tactic(auto, using(crate::proofs::Builds::pushed))]
+    #[tactic(auto, using(crate::proofs::Builds::pushed, crate::proofs::Undone::as_before, crate::proofs::Undone::still_same, crate::proofs::Undone::still_longer))]
     pub fn push(&mut self, instr: Instr, charge: u32, place: Place) -> Result<usize, NoMemory>
         ensures lines { OnOk result (self.new.lines ≡ self.old.lines ++ line instr charge place ∷ []) }
         ensures at { IfOk result (λ at. at ≡ length self.old.lines) }
-        ensures err { OnErr result (self.new.lines ≡ self.old.lines) }
         ensures made { OnOk result (AppendsLine self.old self.new (λ tables. instr) charge place Nothing) }
+        ensures err { OnErr result (self.new ≡ self.old) }
+        ensures kept { StillGoesOn self.old self.new }
         ensures functions { self.new.functions ≡ self.old.functions }
         ensures statics { self.new.statics ≡ self.old.statics }
         ensures constants { self.new.constants ≡ self.old.constants }
@@ -78,6 +79,8 @@ impl Builder {
     /// Appends a line.
     pub fn append(&mut self, instr: Instr, charge: u32, place: Place) -> Result<(), NoMemory>
         ensures made { OnOk result (AppendsLine self.old self.new (λ tables. instr) charge place Nothing) }
+        ensures err { OnErr result (self.new ≡ self.old) }
+        ensures kept { StillGoesOn self.old self.new }
     {
         self.push(instr, charge, place)?;
         Ok(())
@@ -109,6 +112,8 @@ impl Builder {
     /// Appends a line with a tick of its own, which closes the code of what stands at the place.
     pub fn close(&mut self, instr: Instr, place: Place) -> Result<(), NoMemory>
         ensures made { OnOk result (AppendsLine self.old self.new (λ tables. instr) 1 place Nothing) }
+        ensures err { OnErr result (self.new ≡ self.old) }
+        ensures kept { StillGoesOn self.old self.new }
     {
         self.append(instr, 1, place)
     }
@@ -167,14 +172,36 @@ impl Builder {
         place: Place,
     ) -> Result<(), NoMemory>
         ensures made { OnOk result (AppendsLine self.old self.new (λ tables. Push (constant_number tables (seen value.now))) charge place (λ tables. HasConstant tables (seen value.now))) }
+        ensures err { OnErr result (self.new ≡ self.old) }
+    {
+        let mark = self.mark();
+        match self.add_constant(value, charge, place) {
+            Ok(()) => Ok(()),
+            Err(error) => {
+                self.cut(mark);
+                Err(error)
+            }
+        }
+    }
+
+    /// The same, but where there is no memory the constant may be left.
+    pub(crate) fn add_constant(
+        &mut self,
+        value: &Value,
+        charge: u32,
+        place: Place,
+    ) -> Result<(), NoMemory>
+        ensures made { OnOk result (AppendsLine self.old self.new (λ tables. Push (constant_number tables (seen value.now))) charge place (λ tables. HasConstant tables (seen value.now))) }
+        ensures kept { StillGoesOn self.old self.new }
     {
         let number = small(self.constants.number(value)?)?;
         self.append(Instr::Push(number), charge, place)
     }
 
     /// The next line begins a function with so many parameters and locals.
+    #[tactic(auto, using(crate::proofs::Undone::as_before))]
     pub fn begin_function(&mut self, params: u32, locals: u32) -> Result<(), NoMemory>
-        ensures err { OnErr result (self.new.functions ≡ self.old.functions) }
+        ensures err { OnErr result (self.new ≡ self.old) }
         ensures functions { OnOk result (self.new.functions ≡ self.old.functions ++ record { entry = length self.old.lines; params = params; locals = locals } ∷ []) }
         ensures lines { self.new.lines ≡ self.old.lines }
         ensures statics { self.new.statics ≡ self.old.statics }
@@ -190,9 +217,10 @@ impl Builder {
     }
 
     /// The next line begins the code of a static, whose number is given.
+    #[tactic(auto, using(crate::proofs::Undone::as_before))]
     pub fn begin_static(&mut self) -> Result<u32, NoMemory>
         ensures number { IfOk result (λ n. n ≡ length self.old.statics) }
-        ensures err { OnErr result (self.new.statics ≡ self.old.statics) }
+        ensures err { OnErr result (self.new ≡ self.old) }
         ensures statics { OnOk result (self.new.statics ≡ self.old.statics ++ record { entry = length self.old.lines; params = 0; locals = 0 } ∷ []) }
         ensures lines { self.new.lines ≡ self.old.lines }
         ensures functions { self.new.functions ≡ self.old.functions }
@@ -213,6 +241,7 @@ impl Builder {
     fn type_number(&mut self, ty: &Ty) -> Result<usize, NoMemory>
         ensures number { IfOk result (λ n. n ≡ type_number_in self.old.types (shape_of ty.now)) }
         ensures kept { OnOk result (self.new.types ≡ with_type self.old.types (shape_of ty.now)) }
+        ensures err { OnErr result (self.new.types ≡ self.old.types) }
         ensures constants { self.new.constants ≡ self.old.constants }
         ensures lines { self.new.lines ≡ self.old.lines }
         ensures functions { self.new.functions ≡ self.old.functions }
@@ -228,6 +257,27 @@ impl Builder {
     /// Appends a line that converts from the one type to the other.
     pub fn convert(&mut self, from: &Ty, to: &Ty, place: Place) -> Result<(), NoMemory>
         ensures made { OnOk result (AppendsLine self.old self.new (λ tables. conversion tables (shape_of from.now) (shape_of to.now)) 1 place (λ tables. HasTarget tables (alike (shape_of from.now) (shape_of to.now)) (shape_of to.now))) }
+        ensures err { OnErr result (self.new ≡ self.old) }
+    {
+        let mark = self.mark();
+        match self.add_conversion(from, to, place) {
+            Ok(()) => Ok(()),
+            Err(error) => {
+                self.cut(mark);
+                Err(error)
+            }
+        }
+    }
+
+    /// The same, but where there is no memory the type may be left.
+    pub(crate) fn add_conversion(
+        &mut self,
+        from: &Ty,
+        to: &Ty,
+        place: Place,
+    ) -> Result<(), NoMemory>
+        ensures made { OnOk result (AppendsLine self.old self.new (λ tables. conversion tables (shape_of from.now) (shape_of to.now)) 1 place (λ tables. HasTarget tables (alike (shape_of from.now) (shape_of to.now)) (shape_of to.now))) }
+        ensures kept { StillGoesOn self.old self.new }
     {
         if same(from, to) {
             return self.close(Instr::Tick, place);

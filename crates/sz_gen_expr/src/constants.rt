@@ -1,5 +1,5 @@
 //! The constants of code in the making.
-ghost use Rattle.std.specs.Prelude.{◌≡◌, [], map, IfOk, OnOk, OnErr};
+ghost use Rattle.std.specs.Prelude.{◌≡◌, [], length, map, take, IfOk, OnOk, OnErr};
 ghost use Rattle.sz_value.specs.Seen.{seen};
 ghost use Rattle.sz_gen_rules.specs.Tables.{number_in};
 ghost use Rattle.sz_gen_expr.specs.Building.{with_constant};
@@ -49,6 +49,20 @@ impl Constants {
     // The allocator of the set.
     pub(crate) fn allocator(&self) -> Global {
         *self.values.allocator()
+    }
+
+    // How many constants there are.
+    pub(crate) fn len(&self) -> usize
+        ensures value { result ≡ length self.now }
+    {
+        self.values.len()
+    }
+
+    // Keeps the first constants, so many of them, and takes no memory.
+    pub(crate) fn truncate(&mut self, count: usize)
+        ensures value { self.new ≡ take count self.old }
+    {
+        self.values.truncate(count);
     }
 
     /// The constants, each copied, in order.

@@ -10,8 +10,8 @@ use sz_gen_stmt::compile;
 use sz_lex::lex;
 use sz_parse::parse;
 
-// The checked program of a text; nothing where it is none.
-fn checked(alloc: Global, text: &[u8]) -> Option<Program> {
+/// The checked program of a text; nothing where it is none.
+pub fn checked(alloc: Global, text: &[u8]) -> Option<Program> {
     if text.len() > 1_048_576 {
         return None;
     }

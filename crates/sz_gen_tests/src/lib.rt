@@ -4,6 +4,8 @@
 #[cfg(test)]
 mod compiled;
 #[cfg(test)]
+mod left;
+#[cfg(test)]
 mod rows;
 #[cfg(test)]
 mod shown;

@@ -1,6 +1,9 @@
 //! Code as text. Where memory runs out the text is another one than it should be.
+use std::alloc::Global;
 use std::fmt::{Debug, Write};
+use sz_gen_expr::Builder;
 use sz_instr::{Code, Instr, Line, Step, Steps};
+use sz_types::Ty;
 use sz_value::Value;
 
 fn constant(out: &mut String, value: &Value) {
@@ -12,11 +15,11 @@ fn constant(out: &mut String, value: &Value) {
     };
 }
 
-fn names(out: &mut String, code: &Code) {
-    for value in code.constants.as_slice() {
+fn names(out: &mut String, constants: &[Value], types: &[Ty]) {
+    for value in constants {
         constant(out, value);
     }
-    for ty in code.types.as_slice() {
+    for ty in types {
         let _ = write!(out, "type {ty:?} | ");
     }
 }
@@ -122,13 +125,28 @@ fn line(out: &mut String, at: usize, line: &Line) {
     let _ = write!(out, " +{charge} {}:{} | ", place.line, place.column);
 }
 
-/// The code: each name, routine and line of it, and the table that counts lines if there is one, with ` | ` after it.
-pub fn code(out: &mut String, code: &Code) {
-    names(out, code);
-    routines(out, code);
-    for (at, it) in code.lines.as_slice().iter().enumerate() {
+fn lines(out: &mut String, code: &[Line]) {
+    for (at, it) in code.iter().enumerate() {
         line(out, at, it);
     }
+}
+
+/// Code in the making: each name and line of it so far.
+pub fn so_far(alloc: Global, code: &Builder) -> String {
+    let mut out = String::new(alloc);
+    match code.constants.copied() {
+        Ok(constants) => names(&mut out, constants.as_slice(), code.types.as_slice()),
+        Err(_) => word(&mut out, "no memory"),
+    }
+    lines(&mut out, code.lines.as_slice());
+    out
+}
+
+/// The code: each name, routine and line of it, and the table that counts lines if there is one, with ` | ` after it.
+pub fn code(out: &mut String, code: &Code) {
+    names(out, code.constants.as_slice(), code.types.as_slice());
+    routines(out, code);
+    lines(out, code.lines.as_slice());
     if let Some(table) = code.ignore {
         let _ = write!(out, "ignore {table} | ");
     }

@@ -1,33 +1,6 @@
-use Rattle.std.proofs.Common.{◌∙◌, sym, subst}
-use Rattle.std.proofs.lemmas.Result.{on_ok_weaker}
-use Rattle.sz_types.specs.Seen.{seen as shape_of}
-use Rattle.sz_gen_expr.specs.Building.{AppendsLine, Nothing}
-use Rattle.sz_gen_expr.proofs.Numbers.{says_alike}
-use Rattle.sz_gen_expr.proofs.Builds.{kept_pushed, type_pushed}
+-- What was added is cut off again.
+use Rattle.sz_gen_expr.proofs.Undone.{undone}
 use Rattle.sz_gen_expr.proofs.builder.Builder.convert.Goals as goal
 
--- the type stays
-pub returns-then-same : goal.returns-then-same
-returns-then-same c =
-    let from = shape_of c.args.from.now in
-    let to = shape_of c.args.to.now in
-    record {
-      made = on_ok_weaker c.close.result (λ h. kept_pushed c.args.self.now c.close.new.self from to c.args.place
-          (sym (says_alike c.same.result from to c.same.ensures.value) ∙ c.if-same.true) h) c.close.ensures.made;
-    }
-
--- the type changes, and the line names the new one
-pub returns : goal.returns
-returns c =
-    let from = shape_of c.args.from.now in
-    let to = shape_of c.args.to.now in
-    let n = c.in_ok-number.number in
-    record {
-      made = on_ok_weaker c.close-2.result (λ h. type_pushed from to n c.args.place
-          (sym (says_alike c.same.result from to c.same.ensures.value) ∙ c.if-same.false)
-          (c.in_ok-number.ensures.value ∙ c.in_ok-type_number.ensures.number)
-          c.in_ok-type_number.ensures.kept c.type_number.ensures.constants c.type_number.ensures.lines c.type_number.ensures.functions
-          c.type_number.ensures.statics
-          (subst (λ i. AppendsLine c.type_number.new.self c.close-2.new.self (λ tables. i) 1 c.args.place Nothing) c.changing.ensures.value h))
-          c.close-2.ensures.made;
-    }
+pub returns-in-Err-clause-err : goal.returns-in-Err-clause-err
+returns-in-Err-clause-err c = undone c.mark-mark.ensures.value c.add_conversion.ensures.kept c.cut.ensures.value

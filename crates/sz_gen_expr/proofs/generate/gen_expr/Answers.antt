@@ -1,0 +1,6 @@
+-- What was added is cut off again.
+use Rattle.sz_gen_expr.proofs.Undone.{undone}
+use Rattle.sz_gen_expr.proofs.generate.gen_expr.Goals as goal
+
+pub returns-in-Err-clause-err : goal.returns-in-Err-clause-err
+returns-in-Err-clause-err c = undone c.mark-mark.ensures.value c.append_expr.ensures.kept c.cut.ensures.value
