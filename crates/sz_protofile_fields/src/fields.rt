@@ -9,8 +9,8 @@ use crate::messages::message_names;
 use crate::sort::sort_of;
 use std::alloc::Global;
 use sz_protofile::{FieldLine, Line};
-use sz_protofile_names::{Known, Names, full_of, known_in, spelled, step, unreserved};
-use sz_protofile_rules::{FieldIn, Scope};
+use sz_protofile_names::{Known, Names, Open, full_of, known_in, spelled, step, unreserved};
+use sz_protofile_rules::FieldIn;
 use sz_types::{NoMemory, Text};
 
 // A field inside these messages, as programs see it.
@@ -19,7 +19,7 @@ fn field_in(
     bytes: &[u8],
     known: &Known,
     messages: &Names,
-    around: &[Scope],
+    around: &[Open],
     field: &FieldLine,
 ) -> Result<FieldIn, NoMemory>
     ensures value { IfOk result (λ made. made ≡ field_in (spelled bytes.now) known.now messages.now around.now field.now) }
@@ -43,7 +43,7 @@ fn take_field(
     known: &Known,
     messages: &Names,
     fields: &mut Vec<FieldIn>,
-    around: &[Scope],
+    around: &[Open],
     line: &Line,
 ) -> Result<(), NoMemory>
     ensures ok { OnOk result (fields.new.items ≡ fields.old.items ++ field_by (spelled bytes.now) known.now messages.now around.now line.now) }

@@ -5,7 +5,7 @@ ghost use Rattle.sz_protofile_rules.specs.Lookup.{with_declared, message_names_i
 
 use std::alloc::Global;
 use sz_protofile::Line;
-use sz_protofile_names::{Names, called, spelled, step};
+use sz_protofile_names::{Names, Open, called, spelled, step};
 use sz_protofile_rules::Scope;
 use sz_types::NoMemory;
 
@@ -13,7 +13,7 @@ use sz_types::NoMemory;
 fn message_by(
     alloc: Global,
     bytes: &[u8],
-    around: &[Scope],
+    around: &[Open],
     line: &Line,
 ) -> Result<Option<Scope>, NoMemory>
     ensures value { IfOk result (λ scope. scope ≡ message_by (spelled bytes.now) around.now line.now) }
@@ -34,7 +34,7 @@ fn name_message(
     alloc: Global,
     bytes: &[u8],
     names: &mut Names,
-    around: &[Scope],
+    around: &[Open],
     line: &Line,
 ) -> Result<(), NoMemory>
     ensures ok { OnOk result (names.new ≡ with_declared names.old (message_by (spelled bytes.now) around.now line.now)) }
@@ -67,7 +67,7 @@ fn take_message(
     alloc: Global,
     bytes: &[u8],
     messages: &mut Vec<Scope>,
-    around: &[Scope],
+    around: &[Open],
     line: &Line,
 ) -> Result<(), NoMemory>
     ensures ok { OnOk result (messages.new.items ≡ messages.old.items ++ option_to_list (message_by (spelled bytes.now) around.now line.now)) }

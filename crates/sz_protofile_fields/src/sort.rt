@@ -8,8 +8,8 @@ ghost use Rattle.sz_protofile_rules.specs.Lookup.{looked_up};
 ghost use Rattle.sz_protofile_rules.specs.Fields.{sort_of_plain, sort_of_name, sort_by};
 
 use std::alloc::Global;
-use sz_protofile_names::{Known, Names, scalar_of};
-use sz_protofile_rules::{Plain, PlainKind, Scalar, Scope, Sort};
+use sz_protofile_names::{Known, Names, Open, scalar_of};
+use sz_protofile_rules::{Plain, PlainKind, Scalar, Sort};
 use sz_types::{Encoding, NoMemory, Text};
 
 // A whole number in this encoding.
@@ -82,7 +82,7 @@ pub fn sort_of(
     alloc: Global,
     known: &Known,
     messages: &Names,
-    around: &[Scope],
+    around: &[Open],
     word: &str,
 ) -> Result<Sort, NoMemory>
     ensures value { IfOk result (λ sort. sort ≡ sort_by (scalar_of word.now) messages.now (looked_up known.now around.now word.now)) }

@@ -2,3 +2,4 @@ mod SoundLemmas
 mod SetLemmas
 mod WordLemmas
 mod LoopLemmas
+mod HashLemmas

@@ -1,5 +1,5 @@
 -- Steps of the loops over the lines of a file, and over the messages that are open.
-use Rattle.std.proofs.Common.{◌≡◌, ℕ, zero, suc, ◌+◌, ◌-◌, ◌<◌, ◌≤◌, Bool, true, false, List, drop, length, get_or, slice_get, unwrap_or, Option, Some, None, refl, sym, ap, ◌∙◌, arith, if◌then◌else◌}
+use Rattle.std.proofs.Common.{◌≡◌, ℕ, zero, suc, ◌+◌, ◌-◌, ◌<◌, ◌≤◌, List, drop, length, get_or, slice_get, unwrap_or, Option, Some, None, refl, sym, ap, ◌∙◌, arith}
 use Rattle.std.specs.Prelude.{codes}
 use Rattle.std.specs.Option.{option_or}
 use Rattle.std.proofs.lemmas.List.{drop_all, at_drop_more}
@@ -7,8 +7,8 @@ use Rattle.sz_protofile.specs.Reading.{Spelling}
 use Rattle.sz_protofile.specs.declared.line.Line.{Line}
 use Rattle.sz_protofile_rules.specs.declared.fault.Fault.{Fault}
 use Rattle.sz_protofile_rules.specs.declared.scope.Scope.{Scope}
-use Rattle.sz_protofile_rules.specs.Names.{put_after, has_name, outside, declared_by, around_after}
-use Rattle.sz_protofile_rules.specs.Lookup.{Known, found_around, package_by, package_in, with_declared, names_in}
+use Rattle.sz_protofile_rules.specs.Names.{put_after, outside, declared_by, around_after}
+use Rattle.sz_protofile_rules.specs.Lookup.{Known, found, found_around, package_by, package_in, with_declared, names_in}
 use Rattle.sz_protofile_rules.specs.Faults.{Before, fault_of, with_line, first_fault}
 
 module _ (text : Spelling) (all : List Line) (i : ℕ) (d : Line) (lt : i < length all) where
@@ -57,23 +57,22 @@ module _ (names : List (List ℕ)) (around : List Scope) (word : List ℕ) where
   found_none zero low = refl
   found_none (suc k) low = absurd (omega (arith, low))
 
-  module _ (k : ℕ) (s : Scope) (made : List ℕ) (at : slice_get around k ≡ Some s) (is : made ≡ put_after (codes ".") s.full word) where
-    inner : put_after (codes ".") (unwrap_or (slice_get around k) outside).full word ≡ made
-    inner = ap (λ (o : Option Scope). put_after (codes ".") (unwrap_or o outside).full word) at ∙ sym is
-
-    here : (b : Bool) → has_name made names ≡ b
-        → found_around names around word (suc k) ≡ (if b then Some made else found_around names around word k)
+  module _ (s : Scope) (o : Option (List ℕ)) (told : o ≡ found names (put_after (codes ".") s.full word)) where
+    one_more : (k : ℕ) → slice_get around k ≡ Some s → found_around names around word (suc k) ≡ option_or o (found_around names around word k)
     unfolding found_around
-    here true e = rw (inner, e) refl
-    here false e = rw (inner, e) refl
+    one_more k at =
+        ap (λ (here : Option Scope). option_or (found names (put_after (codes ".") (unwrap_or here outside).full word)) (found_around names around word k)) at
+        ∙ ap (λ (here : Option (List ℕ)). option_or here (found_around names around word k)) (sym told)
 
-  module _ (s : Scope) (made : List ℕ) (is : made ≡ put_after (codes ".") s.full word) where
-    pub found_at : (left : ℕ) → 0 < left → slice_get around (left - 1) ≡ Some s → has_name made names ≡ true → found_around names around word left ≡ Some made
-    found_at zero pos at has = absurd (omega (arith, pos))
-    found_at (suc k) pos at has = let e : suc k - 1 ≡ k = omega arith in here k s made (ap (slice_get around) (sym e) ∙ at) is true has
+    pub found_at : (left : ℕ) → 0 < left → slice_get around (left - 1) ≡ Some s → (name : List ℕ) → o ≡ Some name
+        → found_around names around word left ≡ Some name
+    found_at zero pos at name is = absurd (omega (arith, pos))
+    found_at (suc k) pos at name is = let e : suc k - 1 ≡ k = omega arith in
+        one_more k (ap (slice_get around) (sym e) ∙ at) ∙ ap (λ (here : Option (List ℕ)). option_or here (found_around names around word k)) is
 
-    pub found_past : (left : ℕ) → 0 < left → slice_get around (left - 1) ≡ Some s → has_name made names ≡ false
+    pub found_past : (left : ℕ) → 0 < left → slice_get around (left - 1) ≡ Some s → o ≡ None
         → found_around names around word left ≡ found_around names around word (left - 1)
-    found_past zero pos at has = absurd (omega (arith, pos))
-    found_past (suc k) pos at has = let e : suc k - 1 ≡ k = omega arith in
-        here k s made (ap (slice_get around) (sym e) ∙ at) is false has ∙ ap (found_around names around word) (sym e)
+    found_past zero pos at is = absurd (omega (arith, pos))
+    found_past (suc k) pos at is = let e : suc k - 1 ≡ k = omega arith in
+        one_more k (ap (slice_get around) (sym e) ∙ at) ∙ ap (λ (here : Option (List ℕ)). option_or here (found_around names around word k)) is
+        ∙ ap (found_around names around word) (sym e)

@@ -2,3 +2,4 @@
 pub mod Outcome
 -- what the functions inside the crate promise each other
 pub mod Seen
+pub mod Hashes

@@ -5,13 +5,13 @@ ghost use Rattle.sz_protofile_names.specs.Seen.{seen_before};
 
 use crate::members::{FieldNames, FieldNumbers};
 use crate::names::Names;
+use crate::scopes::Open;
 use std::alloc::Global;
-use sz_protofile_rules::Scope;
 
 // What stands before a line.
 pub struct Before {
     // The messages that are open, the innermost last.
-    pub around: Vec<Scope>,
+    pub around: Vec<Open>,
     // The names of messages and enums, as programs see them.
     pub names: Names,
     pub fields: FieldNames,

@@ -10,7 +10,7 @@ use crate::before::Before;
 use crate::known::{Known, known_in};
 use crate::members::{FieldNames, FieldNumbers};
 use crate::names::Names;
-use crate::scopes::{called, full_of, step};
+use crate::scopes::{Open, called, full_of, step};
 use crate::words::{scalar_of, spelled, unreserved};
 use std::alloc::Global;
 use sz_protofile::{FieldLine, Line, Member};
@@ -33,7 +33,7 @@ fn breaks(number: u8, token: &Token, name: String) -> Option<Fault>
 fn take_name(
     alloc: Global,
     bytes: &[u8],
-    around: &[Scope],
+    around: &[Open],
     names: &mut Names,
     token: &Token,
 ) -> Result<Option<Fault>, NoMemory>
@@ -134,7 +134,7 @@ fn type_fault(
     alloc: Global,
     bytes: &[u8],
     known: &Known,
-    around: &[Scope],
+    around: &[Open],
     token: &Token,
 ) -> Result<Option<Fault>, NoMemory>
     ensures fault { IfOk result (λ fault. fault ≡ type_fault (spelled bytes.now) known.now around.now token.now) }

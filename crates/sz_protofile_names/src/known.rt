@@ -5,8 +5,9 @@ ghost use Rattle.std.specs.String.{string_bytes};
 ghost use Rattle.sz_protofile_rules.specs.Names.{spelled, declared_by};
 ghost use Rattle.sz_protofile_rules.specs.Lookup.{known_in, names_in, package_by, package_in, with_declared};
 
+use crate::hashes::Hashes;
 use crate::names::Names;
-use crate::scopes::{declared_by, step};
+use crate::scopes::{Open, declared_by, step};
 use crate::words::spelled;
 use std::alloc::Global;
 use std::marker::Model;
@@ -18,6 +19,7 @@ use sz_types::NoMemory;
 pub struct Known {
     pub(crate) package_name: Option<String>,
     pub(crate) names: Names,
+    pub(crate) hashes: Hashes,
 }
 
 impl Drop for Known {
@@ -25,6 +27,7 @@ impl Drop for Known {
         let Known {
             package_name: _,
             names: _,
+            hashes: _,
         } = self;
     }
 }
@@ -33,10 +36,13 @@ impl Model for Known {
     ghost use Rattle.std.specs.Prelude.{option_map};
     ghost use Rattle.std.specs.String.{string_bytes};
     ghost use Rattle.sz_protofile_rules.specs.Lookup.{Known as Facts, known};
+    ghost use Rattle.sz_protofile_names.specs.Hashes.{AreHashed};
 
     ghost Value = { Facts };
 
     ghost view = { λ file. known (option_map string_bytes file.package_name) file.names };
+
+    ghost invariant = { λ file. AreHashed file.names file.hashes.keys };
 }
 
 // The package that a line names, or else the one named last.
@@ -80,7 +86,7 @@ fn declare(
     alloc: Global,
     bytes: &[u8],
     names: &mut Names,
-    around: &[Scope],
+    around: &[Open],
     line: &Line,
 ) -> Result<(), NoMemory>
     ensures ok { OnOk result (names.new ≡ with_declared names.old (declared_by (spelled bytes.now) around.now line.now)) }
@@ -113,9 +119,11 @@ pub fn known_in(alloc: Global, bytes: &[u8], lines: &[Line]) -> Result<Known, No
     ensures value { IfOk result (λ known. known ≡ known_in (spelled bytes.now) lines.now) }
 {
     let names = names_in(alloc, bytes, lines)?;
+    let hashes = names.hashes(alloc)?;
     let package_name = owned(alloc, package_in(bytes, lines))?;
     Ok(Known {
         package_name,
         names,
+        hashes,
     })
 }

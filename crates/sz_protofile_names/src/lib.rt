@@ -4,6 +4,7 @@
 mod before;
 mod error;
 mod fault;
+mod hashes;
 mod known;
 mod lookup;
 mod members;
@@ -16,6 +17,6 @@ pub use error::ProtoError;
 pub use fault::file_fault;
 pub use known::{Known, known_in};
 pub use names::Names;
-pub use scopes::{called, full_of, step};
+pub use scopes::{Open, called, full_of, step};
 pub use sound::sound_lines;
 pub use words::{scalar_of, spelled, unreserved};

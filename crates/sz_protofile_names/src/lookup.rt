@@ -1,14 +1,17 @@
 //! Which message or enum a word for a type means.
-ghost use Rattle.std.specs.Prelude.{◌≡◌, IfOk, length, option_copied, option_map};
+ghost use Rattle.std.specs.Prelude.{◌≡◌, IfOk, length, codes, option_copied, option_map};
 ghost use Rattle.std.specs.Option.{option_and_then};
 ghost use Rattle.std.specs.String.{string_bytes};
+ghost use Rattle.sz_protofile_rules.specs.Names.{put_after};
+ghost use Rattle.sz_protofile_names.specs.Hashes.{AreHashed};
 ghost use Rattle.sz_protofile_rules.specs.Lookup.{found, found_around, found_outwards, from_the_dot, in_package, looked_up};
 
+use crate::hashes::Hashes;
 use crate::known::Known;
 use crate::names::Names;
+use crate::scopes::Open;
 use crate::words::{behind, put_after};
 use std::alloc::Global;
-use sz_protofile_rules::Scope;
 use sz_types::NoMemory;
 
 // The name, if it is among these.
@@ -32,21 +35,43 @@ fn found_part(alloc: Global, names: &Names, part: Option<&str>) -> Result<Option
     }
 }
 
+// What a word means in this message. Only where there may be such a name is it written out.
+fn found_inside(
+    alloc: Global,
+    names: &Names,
+    hashes: &Hashes,
+    message: &Open,
+    word: &str,
+) -> Result<Option<String>, NoMemory>
+    requires hashed { AreHashed names.now hashes.now.keys }
+    ensures value { IfOk result (λ name. option_map string_bytes name ≡ found names.now (put_after (codes ".") message.now.full word.now)) }
+{
+    let hash = message.hash_inside(word);
+    if hashes.contains(&hash) {
+        Ok(found(names, put_after(alloc, ".", message.full(), word)?))
+    } else {
+        Ok(None)
+    }
+}
+
 // What a word means in one of the messages that are open, the innermost first.
 fn found_around(
     alloc: Global,
     names: &Names,
-    around: &[Scope],
+    hashes: &Hashes,
+    around: &[Open],
     word: &str,
 ) -> Result<Option<String>, NoMemory>
+    requires hashed { AreHashed names.now hashes.now.keys }
     ensures value { IfOk result (λ name. option_map string_bytes name ≡ found_around names.now around.now word.now (length around.now)) }
 {
     let mut left = around.len();
     while left > 0 {
         left -= 1;
-        let name = put_after(alloc, ".", around[left].full.as_str(), word)?;
-        if names.has(name.as_str()) {
-            return Ok(Some(name));
+        let told = found_inside(alloc, names, hashes, &around[left], word)?;
+        match told {
+            Some(name) => return Ok(Some(name)),
+            None => {}
         }
     }
     Ok(None)
@@ -77,12 +102,12 @@ impl Known {
     fn found_outwards(
         &self,
         alloc: Global,
-        around: &[Scope],
+        around: &[Open],
         word: &str,
     ) -> Result<Option<String>, NoMemory>
         ensures value { IfOk result (λ name. option_map string_bytes name ≡ found_outwards self.now around.now word.now) }
     {
-        if let Some(name) = found_around(alloc, &self.names, around, word)? {
+        if let Some(name) = found_around(alloc, &self.names, &self.hashes, around, word)? {
             return Ok(Some(name));
         }
         if let Some(name) = found(&self.names, String::from_str(alloc, word)?) {
@@ -95,7 +120,7 @@ impl Known {
     pub fn looked_up(
         &self,
         alloc: Global,
-        around: &[Scope],
+        around: &[Open],
         word: &str,
     ) -> Result<Option<String>, NoMemory>
         ensures value { IfOk result (λ name. option_map string_bytes name ≡ looked_up self.now around.now word.now) }

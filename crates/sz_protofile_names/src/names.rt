@@ -3,7 +3,9 @@ ghost use Rattle.std.specs.Prelude.{◌≡◌, [], not, IfOk, if◌then◌else�
 ghost use Rattle.std.specs.String.{string_bytes};
 ghost use Rattle.sz_protofile_rules.specs.Names.{has_name};
 ghost use Rattle.sz_protofile_rules.specs.Lookup.{with_name};
+ghost use Rattle.sz_protofile_names.specs.Hashes.{AreHashed};
 
+use crate::hashes::{Hashes, hashes_of};
 use indexmap::IndexSet;
 use std::alloc::Global;
 use std::marker::Model;
@@ -55,5 +57,13 @@ impl Names {
     {
         let (_, new) = self.held.insert_full(name)?;
         Ok(new)
+    }
+
+    // The hashes of the names.
+    pub(crate) fn hashes(&self, alloc: Global) -> Result<Hashes, NoMemory>
+        ensures all { IfOk result (λ hashes. AreHashed self.now hashes.keys) }
+    {
+        let hashes = hashes_of(alloc, self.held.as_slice())?;
+        Ok(hashes)
     }
 }

@@ -52,6 +52,11 @@ message A { enum E { X = 0; } E e = 1; A.E f = 2; } =>
 message A { A. a = 1; } => 5 A. 1:13
 message A { A..A a = 1; } => 5 A..A 1:13
 message A { X b = 1; } message X { } =>
+message A { message B { C.D d = 1; message C { } } message C { message D { } } } =>
+# Of two words with one hash each means its own. => 2 1:1
+message A { lslrqlgswruj b = 1; message piojjpthejgr { } } => 5 lslrqlgswruj 1:13
+message A { message B { lslrqlgswruj b = 1; message piojjpthejgr { } } message lslrqlgswruj { } } =>
+message A { lslrqlgswruj b = 1; piojjpthejgr c = 2; } message piojjpthejgr { } message lslrqlgswruj { } =>
 # The package comes off, behind a dot or by itself; the last one counts. => 2 1:1
 package p.q; message A { A a = 1; p.q.A b = 2; .p.q.A c = 3; } =>
 package p.q; message A { q.A a = 1; } => 5 q.A 1:26

@@ -12,7 +12,8 @@ const ROWS: &str = r##" =>
 syntax = "proto3"; message Q { string country = 1; message P { sint64 d = 1; double x = 2; } repeated P type = 2; oneof o { int32 k = 3; } } => Q/Q Q.P/Q_P | Q country 1 text; Q.P d 1 zigzag; Q.P x 2 -; Q type_ 2 many Q.P;
 message N { N next = 1; int64 v = 2; } => N/N | N next 1 N; N v 2 plain;
 message A { enum E { X = 0; } E e = 1; bool b = 2; bytes c = 3; fixed32 d = 4; sfixed64 f = 5; float g = 6; } => A/A | A e 1 plain; A b 2 truth; A c 3 bytes; A d 4 fixed32; A f 5 fixed64; A g 6 -;
-package p; message map { repeated .p.map for = 1; message A { message A { A a = 1; } p.map.A b = 2; } } => map/map map.A/map_A map.A.A/map_A_A | map for_ 1 many map; map.A.A a 1 map.A.A; map.A b 2 map.A;"##;
+package p; message map { repeated .p.map for = 1; message A { message A { A a = 1; } p.map.A b = 2; } } => map/map map.A/map_A map.A.A/map_A_A | map for_ 1 many map; map.A.A a 1 map.A.A; map.A b 2 map.A;
+message A { message B { lslrqlgswruj b = 1; enum piojjpthejgr { X = 0; } } message lslrqlgswruj { } } => A/A A.B/A_B A.lslrqlgswruj/A_lslrqlgswruj | A.B b 1 A.lslrqlgswruj;"##;
 
 // The table comes from a call, so that no proof sees what stands in it.
 fn rows() -> &'static str {

@@ -70,7 +70,7 @@ fn types_of(alloc: Global, bytes: &[u8], lines: &[Line]) -> Result<Option<NamedT
 /// The numbers of its refusals, of which the first counts: 2, where the file isn't in the grammar; 3, where a message, an enum or a
 /// field has a name that is there before; 4, where a field's number is out of range or there before; 5, where a word for a type means
 /// nothing; and 6, at the first place of the file, where the types have together more than 100,000 fields, those of the types inside
-/// them counted each time. Of 3 to 5 the first in the file counts.
+/// them counted each time. Of 3 to 5 the first in the file counts, and of one field the least number.
 pub fn read_proto(alloc: Global, bytes: &[u8]) -> Result<NamedTypes, ProtoError>
     requires { length bytes.now ≤ 1048576 }
     // What is found are the types of the file.
