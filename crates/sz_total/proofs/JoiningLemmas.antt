@@ -1,6 +1,6 @@
 -- What a merge does to the aggregators of a table, and to the rows that they show.
 use Rattle.std.proofs.Common.{◌≡◌, ◌∙◌, ℕ, ◌+◌, ◌≤◌, Bool, true, false, cond, Option, Some, None, List, [], ◌∷◌, ◌++◌, map, filter, refl}
-use Rattle.std.proofs.Common.{sym, ap, subst, arith, All, IfSome, IfNone, is_some, nat_eq, append_assoc}
+use Rattle.std.proofs.Common.{sym, ap, subst, arith, All, IfSome, IfNone, is_some, nat_eq, append_assoc, if◌then◌else◌}
 use Rattle.std.specs.Option.{option_map_or}
 use Rattle.std.specs.List.{AllByRecursion, IsDistinct}
 use Rattle.std.specs.Map.{keys_of, values_of, lookup, set_value}
@@ -10,6 +10,7 @@ use Rattle.std.proofs.lemmas.Map.{keys-set_value}
 use Rattle.std.proofs.lemmas.Map.Keys.{IsDistinct-head, IsDistinct-tail}
 use Rattle.std.proofs.lemmas.Map.Made.{is_some-lookup}
 use Rattle.std.proofs.lemmas.Map.Views.{IfSome-lookup_from_All, All-values-set_value}
+use Rattle.indexmap.specs.IndexMap.{insert_entry}
 use Rattle.sz_types.specs.Tables.{Declaration}
 use Rattle.sz_value.specs.Data.{Datum}
 use Rattle.sz_flat.specs.Spelling.{HasShortLengths}
@@ -18,10 +19,12 @@ use Rattle.sz_tabs.specs.Rows.{compare_indexes, brought_to, rows_of}
 use Rattle.sz_tabs.specs.Sorting.{distinct}
 use Rattle.sz_tabs.proofs.ForCallers.{all_entered, distinct_of_both, distinct_of_either, no_rows, rows_decide, rows_join, brought_by_both}
 use Rattle.sz_total.specs.Tables.{indexes_to, table_rows}
-use Rattle.sz_total.specs.Aggregates.{family_of, shown_of, HasRoomFor, ChangesRoomAlone, IsJoined}
+use Rattle.sz_total.specs.Aggregates.{sums, family_of, shown_of, HasRoomFor, ChangesRoomAlone, IsJoined}
 use Rattle.sz_total.specs.Entries.{Entries, same_indexes, rows_found, rows_in_order, IsOfTable, AreOfTable}
-use Rattle.sz_total.specs.Joining.{GainsRoom, LooksTheSame, HasRoomUnder, HaveRoomFor, MayTake, MayTakeUnder, AreReady, TakesOne, TakesAll}
+use Rattle.sz_total.specs.Joining.{AreOf, AreAlike, BeginsWithSum, GainsRoom, LooksTheSame, HasRoomUnder, HaveRoomFor}
+use Rattle.sz_total.specs.Joining.{MayTake, MayTakeUnder, AreReady, TakesOne, TakesAll}
 use Rattle.sz_total.specs.declared.aggregate.Aggregate.{Aggregate}
+use Rattle.sz_total.specs.declared.aggregate.Aggregate.TheVariants.{Sum, Extreme, Members}
 use Rattle.sz_total.proofs.TablesLemmas.{indexes_total, indexes_tie}
 use Rattle.sz_total.proofs.ListLemmas.{same_laws, same_is, distinct_of_more, entered_there}
 use Rattle.sz_total.proofs.EntryLemmas.{rows_stand, lists_stand, of_table_there, found_replaced, found_in_front, found_last}
@@ -122,6 +125,24 @@ gains_none indexes entries new none same = record {
       tt;
 }
 
+-- an index list that is there keeps its place where its aggregator is written
+pub put_there : (indexes : List Datum) (entries : Entries) (own now : Aggregate) → lookup (same_indexes indexes) entries ≡ Some own
+    → insert_entry same_indexes entries indexes now ≡ set_value (same_indexes indexes) entries now
+put_there indexes [] own now there = absurd (cc)
+put_there indexes (e ∷ es) own now there = by_test (same_indexes indexes e.0) refl there (put_there indexes es own now)
+  where
+    by_test : (b : Bool) → same_indexes indexes e.0 ≡ b → cond b (Some e.1) (lookup (same_indexes indexes) es) ≡ Some own
+        → (lookup (same_indexes indexes) es ≡ Some own
+        → insert_entry same_indexes es indexes now ≡ set_value (same_indexes indexes) es now)
+        → insert_entry same_indexes (e ∷ es) indexes now ≡ set_value (same_indexes indexes) (e ∷ es) now
+    by_test true same found rest =
+        ap (λ b. if b then (e.0, now) ∷ es else e ∷ insert_entry same_indexes es indexes now) same
+        ∙ sym (ap (λ b. cond b ((e.0, now) ∷ es) (e ∷ set_value (same_indexes indexes) es now)) same)
+    by_test false same found rest =
+        ap (λ b. if b then (e.0, now) ∷ es else e ∷ insert_entry same_indexes es indexes now) same
+        ∙ ap (λ l. e ∷ l) (rest found)
+        ∙ sym (ap (λ b. cond b ((e.0, now) ∷ es) (e ∷ set_value (same_indexes indexes) es now)) same)
+
 -- the same of an aggregator that takes another, and of one that is put where there is none
 pub takes_some : (indexes : List Datum) (other : Aggregate) (entries new : Entries) (own now : Aggregate) → lookup (same_indexes indexes) entries ≡ Some own
     → IsJoined own other now → new ≡ set_value (same_indexes indexes) entries now → TakesOne indexes other entries new
@@ -160,6 +181,33 @@ room_made (o ∷ os) apart old new made = (
       (sym (untouched os made.0 new made.3 o.0 (IsDistinct-head same_indexes o.0 (keys_of os) apart))) made.2,
   room_made os (IsDistinct-tail same_indexes o.0 (keys_of os) apart) made.0 new made.3,
 )
+
+-- sums have room for each other
+sum_room : (own other : Aggregate) → family_of own ≡ sums → family_of other ≡ sums → HasRoomFor own other
+sum_room (Sum s) (Sum other) mine yours = tt
+sum_room (Extreme e) other mine yours = absurd (cc)
+sum_room (Members m) other mine yours = absurd (cc)
+sum_room own (Extreme e) mine yours = absurd (cc)
+sum_room own (Members m) mine yours = absurd (cc)
+
+sums_room : (own others : Entries) → AreOf sums own → AreOf sums others → HaveRoomFor own others
+sums_room own [] mine yours = tt
+sums_room own (o ∷ os) mine yours = (
+  by_found (lookup (same_indexes o.0) own)
+      (IfSome-lookup_from_All (λ (a : Aggregate). family_of a ≡ sums) (same_indexes o.0) own mine),
+  sums_room own os mine (All-tail (λ (a : Aggregate). family_of a ≡ sums) o.1 (values_of os) yours),
+)
+  where
+    by_found : (found : Option Aggregate) → IfSome found (λ a. family_of a ≡ sums) → IfSome found (λ a. HasRoomFor a o.1)
+    by_found None is = tt
+    by_found (Some a) is = sum_room a o.1 is (All-head (λ (a : Aggregate). family_of a ≡ sums) o.1 (values_of os) yours)
+
+-- so where all are of one family, and the first is a sum, there is room
+pub room_for_sums : (own others : Entries) → AreAlike own others → BeginsWithSum others → HaveRoomFor own others
+room_for_sums own [] alike first = tt
+room_for_sums own (o ∷ os) alike first =
+    let all = sym (All-head (λ (a : Aggregate). family_of a ≡ alike.family) o.1 (values_of os) alike.others_too) ∙ first in
+    sums_room own (o ∷ os) (subst (λ f. AreOf f own) all alike.mine) (subst (λ f. AreOf f (o ∷ os)) all alike.others_too)
 
 -- where there is room, aggregators of one table may take each other
 pub are_ready : (table : Declaration) (mine yours count : ℕ) → mine + yours ≤ count → (own others : Entries) → AreOfTable table mine own

@@ -1,6 +1,6 @@
 -- The first key, and the keys in value order.
-use Rattle.std.proofs.Common.{Result, Ok, Err, IsOk, IfOk, OnOk, Option, None, ℕ, ◌+◌, if◌then◌else◌, is_some, true≢false, option_map, slice_get}
-use Rattle.std.proofs.Common.{◌≡◌, ◌∙◌, Bool, true, false, cond, Some, List, [], ◌∷◌, map, refl, sym, ap, Ordering, IsSorted, is_lt}
+use Rattle.std.proofs.Common.{option_map, slice_get}
+use Rattle.std.proofs.Common.{◌≡◌, ◌∙◌, Bool, false, cond, Some, List, [], ◌∷◌, map, refl, sym, ap, Ordering, IsSorted, is_lt}
 use Rattle.std.specs.Cmp.Lexicographic.{slice_cmp}
 use Rattle.std.specs.Cmp.Derive.Mapped.{lex_map}
 use Rattle.std.specs.Cmp.{on_total, IsStrictWeakOrder}
@@ -67,17 +67,6 @@ rows_sorted entries old new apart are in_order stable =
     ∙ ap (sorted rows_order) (are ∙ entries_indexed entries apart)
     ∙ sorted_mapped rows_order (indexed entries) (keys_of entries)
     ∙ ap (map (indexed entries)) (sym (distinct_apart (keys_of entries) apart))
-
--- what a sure answer says
-pub surely : {T E P : Type 0} (r : Result T E) → IsOk r → OnOk r P → P
-surely (Ok x) sure p = p
-surely (Err e) sure p = absurd (true≢false (sym sure))
-
--- a map that takes a key that it hasn't is longer by one
-pub one_longer : {V E : Type 0} (r : Result (Option V) E) (found : Option V) (before after : ℕ) → IfOk r (λ old. old ≡ found) → found ≡ None
-    → IfOk r (λ old. after ≡ before + (if is_some old then 0 else 1)) → OnOk r (after ≡ before + 1)
-one_longer (Ok x) found before after is none long = long ∙ ap (λ o. before + (if is_some o then 0 else 1)) (is ∙ none)
-one_longer (Err e) found before after is none long = tt
 
 -- the first key, where it is empty
 pub first_key : (es : Entries) (key : List Datum) (a : Aggregate) → Some (key, a) ≡ slice_get es 0 → key ≡ [] → slice_get (keys_of es) 0 ≡ Some []

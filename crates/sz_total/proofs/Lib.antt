@@ -6,6 +6,7 @@ mod JoiningLemmas
 mod TurnLemmas
 mod TypedLemmas
 mod KeyLemmas
+mod PlaceLemmas
 mod TotalLemmas
 mod MergingLemmas
 mod OriginLemmas

@@ -1,5 +1,5 @@
 -- What a merge does to the aggregators of a table: first there is made room, and then each of the other side is taken.
-use Rattle.std.specs.Prelude.{◌≡◌, ◌≤◌, ◌+◌, ℕ, List, [], ◌∷◌, ◌++◌, All, IfSome, IfNone}
+use Rattle.std.specs.Prelude.{◌≡◌, ◌≤◌, ◌+◌, ℕ, List, [], ◌∷◌, ◌++◌, All, IfSome, IfNone, slice_get}
 use Rattle.std.specs.List.{AllByRecursion}
 use Rattle.std.specs.Map.{keys_of, values_of, lookup, set_value}
 use Rattle.sz_types.specs.Tables.{Declaration}
@@ -7,7 +7,7 @@ use Rattle.sz_value.specs.Data.{Datum}
 use Rattle.sz_tabs.specs.Data.{Weighted}
 use Rattle.sz_tabs.specs.Rows.{compare_indexes, rows_of}
 use Rattle.sz_tabs.specs.Sorting.{distinct}
-use Rattle.sz_total.specs.Aggregates.{Family, family_of, declaration_of, count_of, HasRoomFor, ChangesRoomAlone, IsJoined}
+use Rattle.sz_total.specs.Aggregates.{Family, sums, family_of, declaration_of, count_of, HasRoomFor, ChangesRoomAlone, IsJoined}
 use Rattle.sz_total.specs.Entries.{Entries, same_indexes, rows_found, AreOfTable}
 use Rattle.sz_total.specs.declared.aggregate.Aggregate.{Aggregate}
 
@@ -33,6 +33,10 @@ pub record LooksTheSame (old new : Entries) : Type 0 where
   pub rows : (indexes : List Datum) → rows_found new indexes ≡ rows_found old indexes
   pub still : (table : Declaration) (count : ℕ) → AreOfTable table count old → AreOfTable table count new
   pub families : (family : Family) → AreOf family old → AreOf family new
+
+-- the first aggregator is a sum, if there is one
+abbrev pub BeginsWithSum : Entries → Type 0
+BeginsWithSum entries = IfSome (slice_get entries 0) (λ entry. family_of entry.1 ≡ sums)
 
 -- the aggregator under these indexes has room for the other, if there is one
 abbrev pub HasRoomUnder : Entries → List Datum × Aggregate → Type 0

@@ -1,10 +1,10 @@
 //! The aggregator of a table of any kind.
-ghost use Rattle.std.specs.Prelude.{◌≡◌, ◌<◌, ◌≤◌, ◌+◌, ◌^◌, IfOk, OnOk, OnErr};
+ghost use Rattle.std.specs.Prelude.{◌≡◌, ◌<◌, ◌≤◌, ◌+◌, ◌^◌, true, IfOk, OnOk, OnErr};
 ghost use Rattle.sz_types.specs.SeenTables.{seen_table};
 ghost use Rattle.sz_value.specs.Seen.{seen};
 ghost use Rattle.sz_tabs.specs.Aggregating.{weighted, IsNew, Gains};
 ghost use Rattle.sz_tabs.specs.Fitting.{Fits};
-ghost use Rattle.sz_total.specs.Aggregates.{declaration_of, count_of, shown_of, IsBounded, family_of, family_for, HasRoomFor, ChangesRoomAlone, IsJoined};
+ghost use Rattle.sz_total.specs.Aggregates.{declaration_of, count_of, shown_of, IsBounded, sums, family_of, family_for, HasRoomFor, ChangesRoomAlone, IsJoined};
 ghost use Rattle.sz_total.specs.Weights.{HasItsWeights};
 
 use crate::boxed::BoxedMembers;
@@ -60,6 +60,13 @@ pub(crate) fn add_to<'a>(
         Aggregate::Extreme(extreme) => extreme.add(value, weight),
         Aggregate::Members(members) => members.add(value, weight),
     }
+}
+
+// Whether it is a sum, which needs no room for a merge.
+pub(crate) fn is_sum<'a>(aggregate: &Aggregate<'a>) -> bool
+    ensures sum { (result ≡ true) → family_of aggregate.now ≡ sums }
+{
+    matches!(aggregate, Aggregate::Sum(_))
 }
 
 // Makes room for a merge of the other side, which is of the same family.

@@ -1,17 +1,19 @@
 //! The merge of one table's aggregators with those of another side: first all room is made, and then nothing can be refused.
-ghost use Rattle.std.specs.Prelude.{◌≡◌, ◌<◌, ◌≤◌, ◌+◌, ◌++◌, ◌∷◌, ◌^◌, [], None, IfSome, OnOk};
+ghost use Rattle.std.specs.Prelude.{◌≡◌, ◌<◌, ◌≤◌, ◌+◌, ◌^◌, true, IfSome, OnOk};
 ghost use Rattle.std.specs.Map.{lookup};
 ghost use Rattle.indexmap.specs.IndexMap.{index_map_len, spare};
 ghost use Rattle.sz_total.specs.Aggregates.{family_of};
 ghost use Rattle.sz_total.specs.Entries.{same_indexes};
-ghost use Rattle.sz_total.specs.Joining.{GainsRoom, LooksTheSame, HasRoomUnder, HaveRoomFor, MayTakeUnder, AreAlike, AreReady, TakesOne, JoinsEntries};
+ghost use Rattle.sz_total.specs.Joining.{GainsRoom, LooksTheSame, BeginsWithSum, HasRoomUnder, HaveRoomFor};
+ghost use Rattle.sz_total.specs.Joining.{MayTakeUnder, AreAlike, AreReady, TakesOne, JoinsEntries};
 
-use crate::aggregate::{Aggregate, merge_into, reserve_for};
+use crate::aggregate::{Aggregate, is_sum, merge_into, reserve_for};
 use crate::lists::Lists;
+use indexmap::map::Entry;
 use sz_flat::FlatList;
 use sz_tabs::NoMemory;
 
-// Makes room for a merge of the other side: for its index lists, and in the aggregators that both sides have.
+// Makes room for a merge of the other side: for its index lists, and in the aggregators that both sides have. Sums need none of their own.
 pub(crate) fn make_room<'a>(lists: &mut Lists<'a>, others: &Lists<'a>) -> Result<(), NoMemory>
     requires alike { AreAlike lists.old.entries others.now.entries }
     ensures ok { OnOk result (HaveRoomFor lists.new.entries others.now.entries) }
@@ -20,7 +22,20 @@ pub(crate) fn make_room<'a>(lists: &mut Lists<'a>, others: &Lists<'a>) -> Result
     ensures capacity { index_map_len lists.old + spare lists.old ≤ index_map_len lists.new + spare lists.new }
 {
     lists.reserve(others.len())?;
+    if begin_with_sum(others) {
+        return Ok(());
+    }
     make_room_in_each(lists, others)
+}
+
+// Whether the first aggregator is a sum, if there is one. All are of one family.
+fn begin_with_sum<'a>(others: &Lists<'a>) -> bool
+    ensures sum { (result ≡ true) → BeginsWithSum others.now.entries }
+{
+    match others.first() {
+        Some((_, other)) => is_sum(other),
+        None => true,
+    }
 }
 
 // Makes room in the aggregators that both sides have.
@@ -75,19 +90,11 @@ fn take<'a>(lists: &mut Lists<'a>, key: FlatList, other: Aggregate<'a>)
     ensures spare { spare lists.old ≤ spare lists.new + 1 }
     ensures capacity { index_map_len lists.old + spare lists.old ≤ index_map_len lists.new + spare lists.new }
 {
-    match lists.get_mut(&key) {
-        Some(own) => merge_into(own, other),
-        None => put(lists, key, other),
+    match lists.entry(key) {
+        Ok(Entry::Occupied(own)) => merge_into(own.into_mut(), other),
+        Ok(Entry::Vacant(place)) => {
+            place.insert(other);
+        }
+        Err(_) => unreachable!(),
     }
-}
-
-// Puts the other aggregator under its index list, which isn't there. There is room for it.
-fn put<'a>(lists: &mut Lists<'a>, key: FlatList, other: Aggregate<'a>)
-    requires absent { lookup (same_indexes key) lists.old.entries ≡ None }
-    requires room { 0 < spare lists.old }
-    ensures value { lists.new.entries ≡ lists.old.entries ++ (key, other.entry) ∷ [] }
-    ensures spare { spare lists.old ≤ spare lists.new + 1 }
-    ensures capacity { index_map_len lists.old + spare lists.old ≤ index_map_len lists.new + spare lists.new }
-{
-    let _ = lists.insert(key, other);
 }
