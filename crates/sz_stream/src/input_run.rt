@@ -187,7 +187,7 @@ fn merge<'a>(total: &mut Total<'a>, part: Total<'a>) -> Result<(), NoMemory>
     requires room { total.old.count + part.count ≤ 2 ^ 63 }
     ensures ok { OnOk result (Joins declarations emit_count shown total.old part.entry total.new) }
 {
-    match total.merge(part) {
+    match total.absorb(part) {
         Ok(()) => Ok(()),
         Err(_) => Err(NoMemory),
     }

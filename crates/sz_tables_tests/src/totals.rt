@@ -156,7 +156,7 @@ fn merged_by<'a>(
 {
     match order {
         0 => merged(merged(first, second)?, third),
-        1 => merged(first, merged(second, third)?),
+        1 => absorbed(first, absorbed(second, third)?),
         _ => merged(merged(third, first)?, second),
     }
 }
@@ -169,6 +169,19 @@ pub(crate) fn merged<'a>(mut first: Total<'a>, second: Total<'a>) -> Result<Tota
     ensures count { IfOk result (λ both. both.count ≡ first.entry.count + second.entry.count) }
 {
     match first.merge(second) {
+        Ok(()) => Ok(first),
+        Err(_) => Err(NoMemory),
+    }
+}
+
+// The two totals joined, of which that with more emits takes in the other.
+fn absorbed<'a>(mut first: Total<'a>, second: Total<'a>) -> Result<Total<'a>, NoMemory>
+    requires same { second.tables ≡ first.tables }
+    requires room { first.count + second.count ≤ 2 ^ 63 }
+    ensures same { IfOk result (λ both. both.tables ≡ first.entry.tables) }
+    ensures count { IfOk result (λ both. both.count ≡ first.entry.count + second.entry.count) }
+{
+    match first.absorb(second) {
         Ok(()) => Ok(first),
         Err(_) => Err(NoMemory),
     }

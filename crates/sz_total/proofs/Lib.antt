@@ -10,4 +10,5 @@ mod PlaceLemmas
 mod TotalLemmas
 mod MergingLemmas
 mod OriginLemmas
+pub mod OrderLemmas
 mod StandardFacts

@@ -15,6 +15,7 @@ use crate::indexed::TableRows;
 use crate::one_table::OneTable;
 use std::alloc::Global;
 use std::marker::Model;
+use std::mem;
 use sz_tabs::{Emit, NoMemory};
 use sz_types::TableDecls;
 
@@ -86,6 +87,27 @@ impl<'a> Total<'a> {
         self.count += other.count;
         merge_all(&mut self.states, other.states);
         Ok(())
+    }
+
+    /// Merges the other side as `merge` does, with the same promise. The side with more emits takes in the other's entries, which are
+    /// moved over one by one; since tables forget the order of emits, nobody can see which side it was.
+    pub fn absorb(&mut self, mut other: Total<'a>) -> Result<(), Total<'a>>
+        requires same { other.tables ≡ self.old.tables }
+        requires room { self.old.count + other.count ≤ 2 ^ 63 }
+        ensures ok { OnOk result (Joins declarations emit_count shown self.old other.entry self.new) }
+        ensures err { IfErr result (λ back. (back ≡ other.entry) × (self.new ≡ self.old)) }
+    {
+        if other.emits() <= self.emits() {
+            return self.merge(other);
+        }
+        mem::swap(self, &mut other);
+        match self.merge(other) {
+            Ok(()) => Ok(()),
+            Err(mut back) => {
+                mem::swap(self, &mut back);
+                Err(back)
+            }
+        }
     }
 
     /// The rows of the table at a place, with the index lists in value order.

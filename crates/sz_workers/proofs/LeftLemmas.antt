@@ -8,6 +8,7 @@ use Rattle.sz_tabs.specs.Data.{EmitDatum}
 use Rattle.sz_total.specs.States.{TotalState, declarations, emit_count, shown}
 use Rattle.sz_total.specs.Totals.{StandsFor}
 use Rattle.sz_total.specs.Laws.{ForgetsOrder}
+use Rattle.sz_total.proofs.OrderLemmas.{stands_in_any_order}
 use Rattle.sz_book_rules.specs.History.{IsAmong, AreApart}
 use Rattle.sz_attempt.specs.declared.job.Job.{Job}
 use Rattle.sz_attempt.specs.declared.ends.Skipped.{Skipped}
@@ -27,7 +28,7 @@ use Rattle.sz_workers.proofs.FaultLemmas.{faults_of_front, faults_of_one}
 use Rattle.sz_workers.proofs.GatherLemmas.{in_order, gives_all}
 use Rattle.sz_workers.specs.FirstOfBoth.{IsFirstOfBoth}
 use Rattle.sz_workers_loop.proofs.WonLemmas.{among_front, among_back}
-use Rattle.sz_workers.proofs.PartLemmas.{counts_low, first_of_both, stands_in_any_order}
+use Rattle.sz_workers.proofs.PartLemmas.{counts_low, first_of_both}
 use Rattle.sz_workers.proofs.DecideLemmas.{all_live, few_of_all, got_taken, cut_at}
 
 -- the emits of shards up to a place, one shard after the other

@@ -2,14 +2,12 @@
 use Rattle.std.proofs.Common.{◌≡◌, ℕ, zero, suc, ◌+◌, ◌*◌, ◌^◌, ◌<◌, ◌≤◌, List, [], ◌∷◌, ◌++◌, length, take, Some, refl, ap, sym, ◌∙◌, subst, inl, inr, ⊎_elim}
 use Rattle.std.proofs.Common.{arith, append-nil, length-append}
 use native.Mathlib.Nat.{mul-add}
-use Rattle.std.specs.Prelude.{◌⊎◌, ◌-◌, max, All, slice_get, IsPermutation}
+use Rattle.std.specs.Prelude.{◌⊎◌, ◌-◌, max, All, slice_get}
 use Rattle.std.proofs.lemmas.List.Elements.{All-head, All-tail}
-use Rattle.std.proofs.lemmas.List.Sorted.{IsPermutation-append_comm, length_permutation}
 use Rattle.sz_tabs.specs.Data.{EmitDatum}
 use Rattle.sz_mean.specs.Marked.{all_tables}
 use Rattle.sz_total.specs.States.{TotalState, declarations, emit_count, shown}
 use Rattle.sz_total.specs.Totals.{StandsFor, IsNew, Joins}
-use Rattle.sz_total.specs.Laws.{ForgetsOrder}
 use Rattle.sz_book_rules.specs.History.{IsAmong, AreDistinct, AreApart}
 use Rattle.sz_attempt.specs.declared.job.Job.{Job}
 use Rattle.sz_attempt.specs.Shards.{ShardData, IsJob, IsShardIn}
@@ -24,7 +22,7 @@ use Rattle.sz_rounds.proofs.CountLemmas.{fewer_records, few_records}
 use Rattle.sz_workers.specs.declared.first_faults.FirstFaults.{FirstFaults}
 use Rattle.sz_workers.specs.FirstFaults.{merged}
 use Rattle.sz_workers.specs.FirstOfBoth.{IsFirstOfBoth}
-use Rattle.sz_workers.specs.Parts.{yield_in, emits_at, faults_at, faults_from, Counts, gathered, HasFirst, HoldsShards, JoinsEither}
+use Rattle.sz_workers.specs.Parts.{yield_in, emits_at, faults_at, faults_from, Counts, gathered, HasFirst, HoldsShards}
 use Rattle.sz_workers.proofs.FaultLemmas.{merge, seen_merged, merge_fronts, merge_faults, faults_of_none, faults_of_one}
 use Rattle.sz_workers.proofs.GatherLemmas.{in_order, gathered-append, gives_fewer}
 use Rattle.sz_workers_loop.proofs.WonLemmas.{among_either, distinct_joined}
@@ -187,14 +185,6 @@ pub apart_one : (ss : List ℕ) (s : ℕ) → ¬ IsAmong s ss → AreApart ss (s
 apart_one ss s absent t here one =
     ⊎_elim (λ (is : s ≡ t). absent (subst (λ (k : ℕ). IsAmong k ss) (sym is) here)) (λ (no : ⊥). no) one
 
--- tables stand for their emits in whatever order
-pub stands_in_any_order : ForgetsOrder → (total : TotalState) (es fs : List EmitDatum) → IsPermutation es fs
-    → StandsFor declarations emit_count shown total es → StandsFor declarations emit_count shown total fs
-stands_in_any_order forgets total es fs mixed stands = record {
-  rows = λ table declaration there. stands.rows table declaration there ∙ forgets table declaration es fs mixed;
-  counted = stands.counted ∙ sym (length_permutation es fs mixed);
-}
-
 module _ (job : Job) (round : Round) (a b : TotalState) (p q : FirstFaults) (ss ts : List ℕ) (left : HoldsShards job round a p ss)
     (right : HoldsShards job round b q ts) (apart : AreApart ss ts) where
   both_count : (s : ℕ) → IsAmong s (ss ++ ts) → Counts job (shards_of round) s
@@ -230,29 +220,3 @@ module _ (job : Job) (round : Round) (a b : TotalState) (p q : FirstFaults) (ss 
         };
         faults = first_of_both job round p q first ss ts left.round_is left.faults right.faults apart both;
       }
-
-  -- and so do tables that join them the other way round
-  holds_both_turned : ForgetsOrder → (new : TotalState) (first : FirstFaults) → Joins declarations emit_count shown b a new → IsFirstOfBoth p q first
-      → HoldsShards job round new first (ss ++ ts)
-  holds_both_turned forgets new first joins both =
-      let f = emits_at job (shards_of round) in
-      let front : List EmitDatum = gathered f ss in
-      let back : List EmitDatum = gathered f ts in
-      let turned : IsPermutation (back ++ front) (gathered f (ss ++ ts)) =
-      subst (IsPermutation (back ++ front)) (sym (gathered-append f ss ts)) (IsPermutation-append_comm back front) in record {
-        job_is = left.job_is;
-        round_is = left.round_is;
-        distinct = both_distinct;
-        counts = both_count;
-        stand = record {
-          tables = joins.same_tables ∙ right.stand.tables;
-          stands = stands_in_any_order forgets new (back ++ front) (gathered f (ss ++ ts)) turned
-              (joins.joined back front right.stand.stands left.stand.stands);
-        };
-        faults = first_of_both job round p q first ss ts left.round_is left.faults right.faults apart both;
-      }
-
-  pub holds_either : ForgetsOrder → (new : TotalState) (first : FirstFaults) → JoinsEither a b new → IsFirstOfBoth p q first
-      → HoldsShards job round new first (ss ++ ts)
-  holds_either forgets new first (inl joins) both = holds_both new first joins both
-  holds_either forgets new first (inr joins) both = holds_both_turned forgets new first joins both

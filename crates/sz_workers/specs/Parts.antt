@@ -1,8 +1,7 @@
 -- What tables stand for that hold the emits of some shards of a round, and which records of these fault.
 use Rattle.std.specs.Prelude.{◌≡◌, ◌⊎◌, ℕ, suc, ◌≤◌, false, true, List, [], ◌∷◌, ◌++◌, length, take, Option, Some, None, slice_get, if◌then◌else◌}
 use Rattle.sz_tabs.specs.Data.{EmitDatum}
-use Rattle.sz_total.specs.States.{TotalState, declarations, emit_count, shown}
-use Rattle.sz_total.specs.Totals.{Joins}
+use Rattle.sz_total.specs.States.{TotalState}
 use Rattle.sz_book_rules.specs.Plan.{PlanData}
 use Rattle.sz_book_rules.specs.History.{IsAmong, AreDistinct}
 use Rattle.sz_words.specs.Lists.{is_among}
@@ -83,7 +82,3 @@ pub record HoldsShards (job : Job) (round : Round) (total : TotalState) (first :
   pub counts : (s : ℕ) → IsAmong s ss → Counts job (shards_of round) s
   pub stand : StandForEmits job.compiled total (gathered (emits_at job (shards_of round)) ss)
   pub faults : HasFirst job round first ss
-
--- the new tables stand for the emits of both, in either order
-abbrev pub JoinsEither : TotalState → TotalState → TotalState → Type 0
-JoinsEither a b new = Joins declarations emit_count shown a b new ⊎ Joins declarations emit_count shown b a new

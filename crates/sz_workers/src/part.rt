@@ -1,19 +1,18 @@
 //! Parts of a round, which stand for shards.
-ghost use Rattle.std.specs.Prelude.{◌≡◌, ◌+◌, ◌^◌, ◌≤◌, [], false, IfOk, OnOk, IfErr};
+ghost use Rattle.std.specs.Prelude.{◌≡◌, [], IfOk};
 ghost use Rattle.sz_mean.specs.Marked.{all_tables};
 ghost use Rattle.sz_book_rules.specs.Plan.{IsPlan};
 ghost use Rattle.sz_attempt.specs.declared.job.Job.{Job};
 ghost use Rattle.sz_attempt.specs.Shards.{IsJob};
 ghost use Rattle.sz_rounds.specs.declared.round.Round.{Round};
 ghost use Rattle.sz_rounds.specs.Rounds.{shards_of, IsRound};
-ghost use Rattle.sz_workers.specs.Parts.{plan_for, Dies, Bad, HoldsShards, JoinsEither};
+ghost use Rattle.sz_workers.specs.Parts.{plan_for, Dies, Bad, HoldsShards};
 
 use crate::first_faults::{FirstFaults, first_of_both, no_faults};
 use std::alloc::Global;
 use std::marker::{Brand, PhantomData};
-use std::mem;
 use sz_book::{Lane, Load, NoMemory, Plan};
-use sz_total::{Total, tables_forget_the_order};
+use sz_total::Total;
 use sz_types::TableDecls;
 
 /// Names a round for contracts: a type of it has no values. Each run of a round picks one.
@@ -57,7 +56,6 @@ impl<'a, N: RoundName> Load for RoundPart<'a, N> {
     ghost stands = { λ part ss. HoldsShards N.job N.round part.total part.first ss };
 
     fn absorb(&mut self, part: RoundPart<'a, N>) -> Result<(), RoundPart<'a, N>> {
-        tables_forget_the_order();
         let RoundPart {
             total,
             first,
@@ -70,7 +68,7 @@ impl<'a, N: RoundName> Load for RoundPart<'a, N> {
                 of: PhantomData,
             });
         };
-        match merge_into_larger(&mut self.total, total) {
+        match self.total.absorb(total) {
             Ok(()) => {
                 self.first = both;
                 Ok(())
@@ -80,26 +78,6 @@ impl<'a, N: RoundName> Load for RoundPart<'a, N> {
                 first,
                 of: PhantomData,
             }),
-        }
-    }
-}
-
-// Merges tables. Those with more emits take in the others, whose entries are moved over one by one.
-fn merge_into_larger<'a>(ours: &mut Total<'a>, mut theirs: Total<'a>) -> Result<(), Total<'a>>
-    requires same { theirs.tables ≡ ours.old.tables }
-    requires room { ours.old.count + theirs.count ≤ 2 ^ 63 }
-    ensures ok { OnOk result (JoinsEither ours.old theirs.entry ours.new) }
-    ensures err { IfErr result (λ back. (back ≡ theirs.entry) × (ours.new ≡ ours.old)) }
-{
-    if theirs.emits() <= ours.emits() {
-        return ours.merge(theirs);
-    }
-    mem::swap(ours, &mut theirs);
-    match ours.merge(theirs) {
-        Ok(()) => Ok(()),
-        Err(mut back) => {
-            mem::swap(ours, &mut back);
-            Err(back)
         }
     }
 }
