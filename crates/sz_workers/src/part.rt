@@ -1,5 +1,5 @@
 //! Parts of a round, which stand for shards.
-ghost use Rattle.std.specs.Prelude.{◌≡◌, [], IfOk};
+ghost use Rattle.std.specs.Prelude.{◌≡◌, [], false, IfOk};
 ghost use Rattle.sz_mean.specs.Marked.{all_tables};
 ghost use Rattle.sz_book_rules.specs.Plan.{IsPlan};
 ghost use Rattle.sz_attempt.specs.declared.job.Job.{Job};
