@@ -1,22 +1,29 @@
 # make install PREFIX=/usr/local: the program, which ./szl builds and proves first where it has to, szl-rows, the manual pages, completions for
 # bash and zsh, and the files of editors. DESTDIR stands before every name, as packages want it. PROGRAM may name a program that is built
-# already.
+# already. So may CUT: szl-cut is put in place beside them.
 PREFIX = /usr/local
 DESTDIR =
 built = crates/szl_cli/out/szl_cli
 PROGRAM = $(built)
+cuts = crates/szl_cut_cli/out/szl_cut_cli
+CUT = $(cuts)
 
 share = $(DESTDIR)$(PREFIX)/share
 vim = $(share)/vim/vimfiles
 put = install -D -m 644
 
-all: $(built)
+all: $(built) $(cuts)
 
 $(built): always
 	./szl check - </dev/null
 
-install: $(PROGRAM)
+$(cuts): always
+	./szl-cut - 1 </dev/null
+
+install: $(PROGRAM) $(CUT)
 	install -D -m 755 $(PROGRAM) $(DESTDIR)$(PREFIX)/bin/szl
+	install -D -m 755 $(CUT) $(DESTDIR)$(PREFIX)/bin/szl-cut
+	$(put) man/szl-cut.1 $(share)/man/man1/szl-cut.1
 	install -D -m 755 tools/szl-rows $(DESTDIR)$(PREFIX)/bin/szl-rows
 	$(put) man/szl.1 $(share)/man/man1/szl.1
 	$(put) man/szl-rows.1 $(share)/man/man1/szl-rows.1
@@ -27,6 +34,7 @@ install: $(PROGRAM)
 	$(put) editors/szl.tmLanguage.json $(share)/szl/szl.tmLanguage.json
 
 uninstall:
+	rm -f $(DESTDIR)$(PREFIX)/bin/szl-cut $(share)/man/man1/szl-cut.1
 	rm -f $(DESTDIR)$(PREFIX)/bin/szl $(DESTDIR)$(PREFIX)/bin/szl-rows
 	rm -f $(share)/man/man1/szl.1 $(share)/man/man1/szl-rows.1
 	rm -f $(share)/bash-completion/completions/szl $(share)/bash-completion/completions/szl-rows $(share)/zsh/site-functions/_szl

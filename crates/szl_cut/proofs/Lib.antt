@@ -1,0 +1,4 @@
+pub mod MessageLemmas
+pub mod PartLemmas
+pub mod ReadingLemmas
+pub mod AnswerLemmas

@@ -1,0 +1,6 @@
+-- what the public contracts rest on
+pub mod Cuts
+pub mod Parts
+pub mod Answers
+-- what the functions inside the crate promise each other
+pub mod Reading

@@ -1,0 +1,108 @@
+//! From the words and the devices to the answer.
+ghost use Rattle.std.specs.Prelude.{◌≡◌, ◌≤◌, ◌<◌, ◌⊎◌, IfSome, IfErr, IsErrOf, OnOk, length, map, string_bytes};
+ghost use Rattle.std.specs.Io.KnownBytes.{Appends};
+ghost use Rattle.sz_io.specs.Rose.{Rose};
+ghost use Rattle.szl_cut.specs.Answers.{asked_in, size_in, IsWhy, Writes, AppendsSome, Untouched, line_of};
+
+use crate::cut::cut_places;
+use crate::failure::Failure;
+use crate::lines::{line_of, places_text};
+use std::alloc::Global;
+use sz_io::{Files, Sink, WriteError, write_whole};
+use sz_types::digits_up_to;
+
+/// The most bytes of a part that can be asked for.
+const MOST_SIZE: u64 = 1 << 40;
+
+/// Cuts the file that the words name into parts of the size that they ask for: the places are written to `out`, each as a line, and the line
+/// that says why there are none to `err`. The words come without the program's name.
+pub fn cut_file<F: Files, O: Sink, E: Sink>(
+    alloc: Global,
+    words: &[String],
+    files: &mut F,
+    out: &mut O,
+    err: &mut E,
+) -> Result<(), Failure>
+    requires { length (F.names files.old) < 128 }
+    ensures done { OnOk result (Writes (F.held files.old) (asked_in (map string_bytes words.now)) (O.taken out.old) (O.taken out.new)) }
+    ensures why { IfErr result (IsWhy (F.held files.old) (asked_in (map string_bytes words.now))) }
+    ensures line { IfErr result (λ failure. AppendsSome (E.taken err.old) (E.taken err.new) (line_of failure)) }
+    ensures nothing { IfErr result (λ failure. Untouched failure out.old out.new) }
+    ensures read_failed { IsErrOf result Failure.ReadFailed → Rose (F.faults files.old) (F.faults files.new) }
+    ensures write_failed { IsErrOf result Failure.WriteFailed → Rose (O.faults out.old) (O.faults out.new) }
+{
+    match write_places(alloc, words, files, out) {
+        Ok(()) => Ok(()),
+        Err(failure) => Err(tell(alloc, err, failure)),
+    }
+}
+
+/// Writes the places that the words ask for.
+fn write_places<F: Files, O: Sink>(
+    alloc: Global,
+    words: &[String],
+    files: &mut F,
+    out: &mut O,
+) -> Result<(), Failure>
+    requires { length (F.names files.old) < 128 }
+    ensures done { OnOk result (Writes (F.held files.old) (asked_in (map string_bytes words.now)) (O.taken out.old) (O.taken out.new)) }
+    ensures why { IfErr result (IsWhy (F.held files.old) (asked_in (map string_bytes words.now))) }
+    ensures nothing { IfErr result (λ failure. Untouched failure out.old out.new) }
+    ensures read_failed { IsErrOf result Failure.ReadFailed → Rose (F.faults files.old) (F.faults files.new) }
+    ensures write_failed { IsErrOf result Failure.WriteFailed → Rose (O.faults out.old) (O.faults out.new) }
+{
+    let [name, word] = words else {
+        return Err(Failure::Usage);
+    };
+    let Some(size) = size_in(word.as_bytes()) else {
+        return Err(Failure::Usage);
+    };
+    let places = cut_places(alloc, files, name.as_str(), size)?;
+    let text = places_text(alloc, &places)?;
+    write_text(out, &text)
+}
+
+/// The size of parts that a word asks for.
+fn size_in(word: &[u8]) -> Option<u64>
+    ensures value { result ≡ size_in word.now }
+    ensures some { IfSome result (λ size. 1 ≤ size) }
+{
+    match digits_up_to(word, MOST_SIZE) {
+        Some(size) if size >= 1 => Some(size),
+        _ => None,
+    }
+}
+
+/// Writes a text.
+fn write_text<O: Sink>(out: &mut O, text: &[u8]) -> Result<(), Failure>
+    ensures done { OnOk result (Appends (O.taken out.old) (O.taken out.new) text.now) }
+    ensures why { IfErr result (λ failure. (failure ≡ Failure.NoMemory) ⊎ (failure ≡ Failure.WriteFailed)) }
+    ensures failed { IsErrOf result Failure.WriteFailed → Rose (O.faults out.old) (O.faults out.new) }
+{
+    match write_whole(out, text) {
+        Ok(()) => Ok(()),
+        Err(WriteError::Failed(_)) => Err(Failure::WriteFailed),
+        Err(WriteError::NoMemory(_)) => Err(Failure::NoMemory),
+    }
+}
+
+/// Writes the line of a failure, and gives what was told: the failure, or want of memory where there was none for its line.
+fn tell<E: Sink>(alloc: Global, err: &mut E, failure: Failure) -> Failure
+    ensures told { (result ≡ failure) ⊎ (result ≡ Failure.NoMemory) }
+    ensures line { AppendsSome (E.taken err.old) (E.taken err.new) (line_of result) }
+{
+    match line_of(alloc, failure) {
+        Ok(line) => tell_line(err, &line, failure),
+        Err(_) => tell_line(err, b"out of memory\n", Failure::NoMemory),
+    }
+}
+
+/// Writes the line of a failure, which is told. A line that can't be written changes nothing more.
+fn tell_line<E: Sink>(err: &mut E, line: &[u8], failure: Failure) -> Failure
+    requires { line.now ≡ line_of failure }
+    ensures told { result ≡ failure }
+    ensures line { AppendsSome (E.taken err.old) (E.taken err.new) (line_of failure) }
+{
+    let _ = write_whole(err, line);
+    failure
+}
