@@ -27,6 +27,13 @@ _szl() {
 }
 complete -F _szl szl
 
+# Completion of szl-explain: one name of a file.
+_szl_explain() {
+    compopt -o filenames
+    mapfile -t COMPREPLY < <(compgen -f -- "${COMP_WORDS[COMP_CWORD]}")
+}
+complete -F _szl_explain szl-explain
+
 # Completion of szl-rows.
 _szl_rows() {
     local word=${COMP_WORDS[COMP_CWORD]}

@@ -1,0 +1,213 @@
+//! What is said of a program: that it passes, or why it is refused.
+ghost use Rattle.std.specs.Prelude.{◌≡◌, ◌≤◌, length, IfOk, IfSome, IfNone, Some as Just};
+ghost use Rattle.szl_explain_judge.specs.Refusing.{refusal_line, IsProgram, IsRefused};
+
+use crate::fault::Fault;
+use crate::tables::say_left_out;
+use crate::wrong_type::say_wrong_type;
+use std::alloc::{AllocError, Global};
+use sz_check_rules::Cause;
+use sz_lex::{Tokens, lex};
+use sz_parse::parse;
+use sz_types::Place;
+use szl_explain_judge::{
+    FIRST_PLACE, MOST_PROGRAM_BYTES, Refusal, can_be_tried, refusal_in, refusal_line, top_of,
+};
+use szl_explain_source::{Page, Source};
+use szl_explain_syntax::{say_character, say_literal, say_not_utf8, say_syntax};
+
+/// What is said of a program.
+#[derive(Drop)]
+pub struct Explanation {
+    /// Why it is refused, or nothing where it isn't.
+    pub refusal: Option<Refusal>,
+    /// The line of the refusal as `szl check` writes it, with its newline; empty where there is none.
+    pub line: Vec<u8>,
+    /// The lines that say more, each with its newline.
+    pub more: Vec<u8>,
+}
+
+/// Why the program is refused, and what more can be said of it; or that it passes.
+pub fn explain(alloc: Global, text: &[u8]) -> Result<Explanation, AllocError>
+    ensures program { IfOk result (λ e. IfNone e.refusal (IsProgram text.now)) }
+    ensures refused { IfOk result (λ e. IfSome e.refusal (IsRefused text.now)) }
+    ensures line { IfOk result (λ e. IfSome e.refusal (λ r. e.line.items ≡ refusal_line r)) }
+{
+    match refusal_in(alloc, text)? {
+        Some(refusal) => refused(alloc, text, refusal),
+        None => Ok(Explanation {
+            refusal: None,
+            line: Vec::new(alloc),
+            more: passing_lines(alloc, text)?,
+        }),
+    }
+}
+
+/// The explanation of a refusal of the text.
+fn refused(alloc: Global, text: &[u8], refusal: Refusal) -> Result<Explanation, AllocError>
+    ensures kept { IfOk result (λ e. e.refusal ≡ Just refusal) }
+    ensures line { IfOk result (λ e. e.line.items ≡ refusal_line refusal) }
+{
+    let more = more_lines(alloc, text, &refusal)?;
+    explained(alloc, refusal, more)
+}
+
+/// An explanation of these lines.
+fn explained(alloc: Global, refusal: Refusal, more: Vec<u8>) -> Result<Explanation, AllocError>
+    ensures kept { IfOk result (λ e. e.refusal ≡ Just refusal) }
+    ensures line { IfOk result (λ e. e.line.items ≡ refusal_line refusal) }
+{
+    let line = refusal_line(alloc, &refusal)?;
+    Ok(Explanation {
+        refusal: Some(refusal),
+        line,
+        more,
+    })
+}
+
+/// What is said of a program whose text has more bytes than a program may have, whatever they are.
+pub fn explain_too_long(alloc: Global) -> Result<Explanation, AllocError> {
+    let refusal = Refusal::at(Cause::TooLong, FIRST_PLACE);
+    let more = too_long_lines(alloc)?;
+    explained(alloc, refusal, more)
+}
+
+/// The lines of a text that is too long.
+fn too_long_lines(alloc: Global) -> Result<Vec<u8>, AllocError> {
+    let mut page = Page::new(alloc);
+    page.say("refusal 4\nThe text has more than 1048576 bytes.\n");
+    page.into_bytes()
+}
+
+/// The lines below the first.
+fn more_lines(alloc: Global, text: &[u8], refusal: &Refusal) -> Result<Vec<u8>, AllocError> {
+    if text.len() > MOST_PROGRAM_BYTES {
+        return too_long_lines(alloc);
+    }
+    let mut page = Page::new(alloc);
+    page.say("refusal ");
+    page.number(refusal.cause.number() as u64);
+    page.say("\n");
+    match refusal.cause {
+        Cause::BadChar => say_character(&mut page, text, refusal.place),
+        Cause::BadLiteral => say_literal(&mut page, text, refusal.place),
+        Cause::NotUtf8 => say_not_utf8(&mut page, text, refusal.place),
+        _ => say_tokens(alloc, &mut page, text, refusal)?,
+    }
+    page.into_bytes()
+}
+
+/// Says more of a text that has tokens, so that its lexer fails for want of memory alone.
+fn say_tokens(
+    alloc: Global,
+    page: &mut Page,
+    text: &[u8],
+    refusal: &Refusal,
+) -> Result<(), AllocError>
+    requires { length text.now ≤ 1048576 }
+{
+    let Ok(tokens) = lex(alloc, text) else {
+        return Err(AllocError);
+    };
+    let source = Source {
+        text,
+        tokens: tokens.as_slice(),
+    };
+    let place = refusal.place;
+    if let Cause::Syntax = refusal.cause {
+        return say_syntax(alloc, page, source, place);
+    }
+    let tops = tops_of(alloc, &tokens)?;
+    let fault = Fault {
+        source,
+        token: source.token_at(place),
+        top: top_of(&tops, source, place),
+    };
+    if refusal.cause == Cause::WrongType && can_be_tried(source) {
+        return say_wrong_type(alloc, page, fault);
+    }
+    fault.show(page);
+    match refusal.cause {
+        Cause::LeftOut => say_left_out(page, refusal.name_bytes()),
+        Cause::BadTable => fault.say_table(page),
+        Cause::BadProto => fault.say_field(page),
+        Cause::TooMany => page.say(
+            "A program has at most 64 tables. Hint: tables of the same kind and types can be one, with an index more.\n",
+        ),
+        Cause::NoType => fault.say_no_type(page),
+        Cause::Misplaced => fault.say_misplaced(page),
+        Cause::Unbounded => fault.say_unbounded(page),
+        Cause::QuantOrder => fault.say_order(page),
+        cause => return say_names(alloc, page, fault, cause),
+    }
+    Ok(())
+}
+
+/// The places where the statements at the top level begin, of tokens that spell a tree.
+fn tops_of(alloc: Global, tokens: &Tokens) -> Result<Vec<Place>, AllocError> {
+    let Ok(tree) = parse(alloc, tokens) else {
+        return Err(AllocError);
+    };
+    let mut tops = Vec::new(alloc);
+    for statement in tree.statements.as_slice() {
+        tops.push(statement.place())?;
+    }
+    Ok(tops)
+}
+
+/// Says more of a refusal for which the names of the program are looked at.
+fn say_names(
+    alloc: Global,
+    page: &mut Page,
+    fault: Fault<'_>,
+    cause: Cause,
+) -> Result<(), AllocError> {
+    match cause {
+        Cause::UnknownName => fault.say_unknown(alloc, page),
+        Cause::Redeclared => fault.say_twice(alloc, page),
+        Cause::WrongKind => fault.say_wrong_kind(alloc, page),
+        Cause::NoField => fault.say_no_field(alloc, page),
+        Cause::WrongCount => fault.say_count(alloc, page),
+        Cause::WrongWeight => fault.say_weight(alloc, page),
+        Cause::NotAssignable => fault.say_not_assignable(alloc, page),
+        Cause::EmitHere => fault.say_emit_here(alloc, page),
+        _ => Ok(()),
+    }
+}
+
+/// What is said of a program that passes: that a run with `--ignore-undefs` refuses it, if one does.
+fn passing_lines(alloc: Global, text: &[u8]) -> Result<Vec<u8>, AllocError> {
+    let mut page = Page::new(alloc);
+    page.say("the program passes\n");
+    if text.len() <= MOST_PROGRAM_BYTES {
+        let Ok(tokens) = lex(alloc, text) else {
+            return Err(AllocError);
+        };
+        let source = Source {
+            text,
+            tokens: tokens.as_slice(),
+        };
+        say_reserved(&mut page, source);
+    }
+    page.into_bytes()
+}
+
+/// Says where a table has the name that a run with `--ignore-undefs` keeps for its own.
+fn say_reserved(page: &mut Page, source: Source<'_>) {
+    for (index, token) in source.tokens.iter().enumerate() {
+        let is_table = source.is(index.saturating_add(1), ":")
+            && source.is(index.saturating_add(2), "table");
+        if is_table && source.spelled(index) == b"_undefs".as_slice() {
+            page.say("refusal 24 with --ignore-undefs: ");
+            page.say(Cause::ReservedName.text());
+            page.say(" at ");
+            page.place(token.place);
+            page.say("\n");
+            page.line(source.text, token.place, token.len);
+            page.say(
+                "With --ignore-undefs the table that counts what is passed over has this name: give this one another.\n",
+            );
+            return;
+        }
+    }
+}

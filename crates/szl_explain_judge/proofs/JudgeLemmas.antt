@@ -1,0 +1,76 @@
+-- How a text is judged step by step: its tokens, its tree, and what the tree stands for.
+use Rattle.std.proofs.Common.{◌≡◌, ◌⊎◌, inl, inr, ℕ, List, Option, refl, sym, ap, ◌∙◌, subst}
+use Rattle.std.specs.Prelude.{Ok, Err}
+use Rattle.sz_types.specs.declared.place.Place.{Place}
+use Rattle.sz_lex.specs.declared.error.LexError.{LexError}
+use Rattle.sz_lex.specs.declared.error.LexError.TheVariants as lexing
+use Rattle.sz_lex.specs.Tokens.{HasTokens, IsRefused}
+use Rattle.sz_lex.specs.Lexed.{Lexed}
+use Rattle.sz_tree.specs.Statements.{Stms}
+use Rattle.sz_parse.specs.declared.error.ParseError.{ParseError}
+use Rattle.sz_parse.specs.declared.error.ParseError.TheVariants as parsing
+use Rattle.sz_parse.specs.Program.{Spells, IsStuck}
+use Rattle.sz_parse.specs.Parsed.{OrNoMemory}
+use Rattle.sz_core.specs.Programs.{Core}
+use Rattle.sz_check_rules.specs.declared.cause.Cause.{Cause}
+use Rattle.sz_check_rules.specs.Causes.{number_of, IsNumber}
+use Rattle.sz_check_rules.specs.Refusals.{Judged}
+use Rattle.sz_check.specs.declared.error.CheckError.TheVariants as checking
+use Rattle.sz_check.specs.Answering.{Answers}
+use Rattle.szl_explain_judge.specs.Refusing.{IsShort, HasStatements, IsProgram, IsJudged, checked, judged_so, stop_of_lexing, stop_of_parsing, IsUnreadStop, IsStopOf, IsStopOn}
+use Rattle.szl_explain_judge.specs.declared.stop.Stop.{Stop}
+use Rattle.szl_explain_judge.specs.declared.stop.Stop.TheVariants as stops
+
+-- a text without tokens is refused
+refused_stop : (text : List ℕ) (e : LexError) → IsShort text → IsRefused text e → IsUnreadStop text (stop_of_lexing e)
+refused_stop text (lexing.BadChar q) short h = ((short, h), refl)
+refused_stop text (lexing.BadLiteral q) short h = ((short, h), refl)
+refused_stop text (lexing.NotUtf8 q) short h = ((short, h), refl)
+refused_stop text lexing.NoMemory short h = tt
+
+pub unread_stop : (text : List ℕ) (e : LexError) → IsShort text → (e ≡ lexing.NoMemory) ⊎ IsRefused text e
+    → IsUnreadStop text (stop_of_lexing e)
+unread_stop text e short (inl is) = subst (λ x. IsUnreadStop text (stop_of_lexing x)) (sym is) tt
+unread_stop text e short (inr h) = refused_stop text e short h
+
+-- tokens that are stuck are refused
+pub stuck_stop : (text : List ℕ) (tokens : Lexed) (e : ParseError) → IsShort text → HasTokens text tokens.tokens → tokens.text ≡ text
+    → OrNoMemory e (λ p. IsStuck tokens p) → IsUnreadStop text (stop_of_parsing e)
+stuck_stop text tokens (parsing.Syntax q) short has is h =
+    let stuck = subst (λ t. IsStuck (record { text = t; tokens = tokens.tokens }) q) is h in
+    ((short, record { tokens = tokens.tokens; has = has; stuck = stuck }), refl)
+stuck_stop text tokens parsing.NoMemory short has is h = tt
+
+-- tokens that spell statements are those of the text
+pub has_statements : (text : List ℕ) (tokens : Lexed) (ss : Stms) → HasTokens text tokens.tokens → tokens.text ≡ text → Spells tokens ss
+    → HasStatements text ss
+has_statements text tokens ss has is h = record {
+  tokens = tokens.tokens;
+  has = has;
+  spells = subst (λ t. Spells (record { text = t; tokens = tokens.tokens }) ss) is h;
+}
+
+-- a tree that is refused has the number of a cause, and is refused for it
+pub is_number : (number : ℕ) (p : Place) (name : Option (List ℕ)) (judged : Judged Core) → Answers (Err (checking.Refused number p name)) judged
+    → IsNumber number
+is_number number p name judged h = (h.0, h.1)
+
+pub refused_tree : (number : ℕ) (p : Place) (name : Option (List ℕ)) (judged : Judged Core) (cause : Cause)
+    → Answers (Err (checking.Refused number p name)) judged → ((c : Cause) → number ≡ number_of c → cause ≡ c)
+    → judged_so judged ≡ Err (record { cause = cause; place = p; name = name })
+refused_tree number p name judged cause h only =
+    ap judged_so h.2 ∙ ap (λ (c : Cause). Err (record { cause = c; place = p; name = name })) (sym (only h.0 h.1))
+
+-- what stops the reading of a text stops the judgement of it
+pub unread_is_stop : (text : List ℕ) (s : Stop) → IsUnreadStop text s → IsStopOf text s
+unread_is_stop text (stops.Refused r) h = inl h
+unread_is_stop text stops.NoMemory h = tt
+
+-- what stops the judgement of the statements of a text stops that of the text
+pub judged_is_stop : (text : List ℕ) (ss : Stms) (s : Stop) → HasStatements text ss → IsStopOn (checked ss) s → IsStopOf text s
+judged_is_stop text ss (stops.Refused r) has h = inr (record { statements = ss; spelled = has; judged = h })
+judged_is_stop text ss stops.NoMemory has h = tt
+
+-- a text whose statements are a program is one
+pub spelled_program : (text : List ℕ) (ss : Stms) (program : Core) → HasStatements text ss → checked ss ≡ Ok program → IsProgram text
+spelled_program text ss program has h = record { statements = ss; program = program; spelled = has; judged = h }
