@@ -4,19 +4,21 @@ ghost use Rattle.sz_save_laws.specs.Laws.{Gives};
 ghost use Rattle.sz_merge.specs.Together.{CanBeTogether};
 ghost use Rattle.sz_merge.specs.Groups.{held_by, Regroups};
 
-use std::alloc::{AllocError, Global};
-use sz_save::{JoinError, NoMemory, Saved, join};
+use std::alloc::Global;
+use sz_save::{NoMemory, Saved, join_owned};
+use sz_total::IndexedRows;
 
 /// What some files that stand side by side hold together.
 #[derive(Drop)]
 pub(crate) struct Group {
     /// What they hold.
     pub(crate) saved: Saved,
-    /// How many files they are.
-    pub(crate) files: u32,
+    /// How many rows that is.
+    pub(crate) rows: usize,
 }
 
-// The groups with one more behind them. It is joined to the last one as long as both are of as many files.
+// The groups with one more behind them. It is joined to the last one as long as that has at most twice as many rows,
+// so that each group has more than twice the rows of the next: all together have less than twice those of the first.
 pub(crate) fn with_group(
     alloc: Global,
     groups: Vec<Group>,
@@ -28,23 +30,41 @@ pub(crate) fn with_group(
 {
     let mut groups = groups;
     let mut group = group;
-    while let Some(last) = take_equal(&mut groups, group.files) {
+    while let Some(last) = take_small(&mut groups, group.rows) {
         group = joined(alloc, last, group)?;
     }
     groups.push(group)?;
     Ok(groups)
 }
 
-// Takes the last group, if it is of so many files.
-fn take_equal(groups: &mut Vec<Group>, files: u32) -> Option<Group>
+// How many rows a state has in all its tables.
+pub(crate) fn row_count(saved: &Saved) -> usize {
+    let mut count: usize = 0;
+    for entries in saved.tables().as_slice() {
+        count = count.saturating_add(rows_under(entries.as_slice()));
+    }
+    count
+}
+
+// How many rows there are under index lists.
+fn rows_under(entries: &[IndexedRows]) -> usize {
+    let mut count: usize = 0;
+    for entry in entries {
+        count = count.saturating_add(entry.rows.len());
+    }
+    count
+}
+
+// Takes the last group, if it has at most twice as many rows as this.
+fn take_small(groups: &mut Vec<Group>, rows: usize) -> Option<Group>
     ensures some { IfSome result (λ last. groups.old.items ≡ groups.new.items ++ last ∷ []) }
     ensures none { IfNone result (groups.new.items ≡ groups.old.items) }
 {
-    let is_equal = match groups.last() {
-        Some(last) => last.files == files,
+    let is_small = match groups.last() {
+        Some(last) => last.rows.saturating_sub(rows) <= rows,
         None => false,
     };
-    if is_equal { groups.pop() } else { None }
+    if is_small { groups.pop() } else { None }
 }
 
 // Both groups as one.
@@ -52,26 +72,19 @@ fn joined(alloc: Global, front: Group, back: Group) -> Result<Group, NoMemory>
     requires can { CanBeTogether (front.saved ∷ back.saved ∷ []) }
     ensures value { IfOk result (λ both. Gives front.saved back.saved both.saved) }
 {
-    let saved = both_saved(alloc, &front.saved, &back.saved)?;
-    Ok(Group {
-        saved,
-        files: front.files.saturating_add(back.files),
-    })
+    let saved = both_saved(alloc, front.saved, back.saved)?;
+    let rows = row_count(&saved);
+    Ok(Group { saved, rows })
 }
 
 // What two states hold together that can be joined.
-fn both_saved(alloc: Global, front: &Saved, back: &Saved) -> Result<Saved, NoMemory>
-    requires can { CanBeTogether (front.now ∷ back.now ∷ []) }
-    ensures value { IfOk result (λ both. Gives front.now back.now both) }
+fn both_saved(alloc: Global, front: Saved, back: Saved) -> Result<Saved, NoMemory>
+    requires can { CanBeTogether (front ∷ back ∷ []) }
+    ensures value { IfOk result (λ both. Gives front back both) }
 {
-    match join(alloc, front, back) {
-        Ok(both) => {
-            let _ = both.bound();
-            Ok(both)
-        }
-        Err(JoinError::NoMemory) => Err(AllocError),
-        Err(JoinError::Other) | Err(JoinError::Limit) => unreachable!(),
-    }
+    let both = join_owned(alloc, front, back)?;
+    let _ = both.bound();
+    Ok(both)
 }
 
 // What all groups hold together.
@@ -88,6 +101,6 @@ pub(crate) fn join_all(alloc: Global, groups: Vec<Group>) -> Result<Saved, NoMem
     while let Some(group) = groups.pop() {
         all = joined(alloc, group, all)?;
     }
-    let Group { saved, files: _ } = all;
+    let Group { saved, rows: _ } = all;
     Ok(saved)
 }

@@ -6,7 +6,7 @@ ghost use Rattle.sz_merge.specs.Files.{IsUnfit, IsStopped};
 ghost use Rattle.sz_merge.specs.Groups.{AreOf, Adds};
 
 use crate::error::MergeError;
-use crate::groups::{Group, join_all, with_group};
+use crate::groups::{Group, join_all, row_count, with_group};
 use std::alloc::Global;
 use std::marker::Model;
 use sz_save::{NoMemory, Saved, read_saved, same_decls};
@@ -14,8 +14,8 @@ use sz_save::{NoMemory, Saved, read_saved, same_decls};
 /// The greatest bound.
 const MOST: u64 = 1 << 63;
 
-/// Files that were joined, in groups of files that stand side by side. Each group is of twice as many files as the next, or of more, so that
-/// there are few groups, and each index list is copied a few times at most.
+/// Files that were joined, in groups of files that stand side by side. Each group has more than twice as many rows as the next, so that all
+/// together have less than twice the rows of the first, and no row is moved many times.
 ///
 /// Contracts see what each group holds. It takes memory for what the groups hold, and for no file's bytes.
 pub struct Merging {
@@ -76,7 +76,8 @@ impl Merging {
         let saved = read_saved(alloc, bytes)?;
         let bound = self.bound_with(&saved)?;
         let Merging { groups, bound: _ } = self;
-        let groups = with_group(alloc, groups, Group { saved, files: 1 })?;
+        let rows = row_count(&saved);
+        let groups = with_group(alloc, groups, Group { saved, rows })?;
         Ok(Merging { groups, bound })
     }
 

@@ -1,5 +1,6 @@
 mod ListLemmas
 mod WalkLemmas
+mod TakenLemmas
 mod SumLemmas
 pub mod RisingLemmas
 pub mod RowLemmas

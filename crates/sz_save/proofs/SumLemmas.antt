@@ -1,11 +1,10 @@
 -- Sums added, one by one.
-use Rattle.std.proofs.Common.{◌≡◌, ◌∙◌, ℕ, zero, suc, ◌+◌, ◌<◌, ◌≤◌, ◌^◌, ℤ, pos, ◌+ℤ◌, List, [], ◌∷◌, ◌++◌, length, take, get_or, refl, sym, subst, arith, take_all}
-use Rattle.std.proofs.lemmas.List.{take_more}
+use Rattle.std.proofs.Common.{◌≡◌, ◌∙◌, ℕ, zero, suc, ◌+◌, ◌<◌, ◌≤◌, ◌^◌, ℤ, pos, ◌+ℤ◌, Some, None, List, [], ◌∷◌, ◌++◌, length, take, drop, set, slice_get, get_or, refl, sym, ap, subst, arith}
 use Rattle.sz_tabs.specs.Bounds.{IsWithin, AreWithin}
-use Rattle.sz_tabs.specs.Data.{RowDatum}
+use Rattle.sz_tabs.specs.Data.{sums, RowDatum}
 use Rattle.sz_tabs.specs.Rows.{plus}
 use Rattle.sz_tabs.proofs.ForCallers.{within_further, within_plus}
-use Rattle.sz_save.specs.Joined.{sums_in}
+use Rattle.sz_save.specs.Joined.{sums_in, joined_sums}
 use Rattle.sz_save.specs.Walk.{CanAdd}
 
 pub length_of_plus : (ns ms : List ℤ) → length ms ≡ length ns → length (plus ns ms) ≡ length ns
@@ -39,16 +38,48 @@ both_within a ns ms i n m long less is also h =
     let more = length_of_plus ns ms long in
     within_at a (plus ns ms) i (n +ℤ m) (omega (arith, less, more)) (plus_at ns ms i n m (n +ℤ m) long less is also) h
 
--- one sum more
-pub sums_more : (ns ms : List ℤ) (i : ℕ) (n m sum : ℤ) (now next : List ℤ) → length ms ≡ length ns → i < length ns → n ≡ get_or ns i n → m ≡ get_or ms i m
-    → sum ≡ n +ℤ m → now ≡ take i (plus ns ms) → next ≡ now ++ sum ∷ [] → next ≡ take (i + 1) (plus ns ms)
-sums_more ns ms i n m sum now next long less is also total before pushed =
-    let more = length_of_plus ns ms long in
-    let there = total ∙ plus_at ns ms i n m sum long less is also in
-    pushed ∙ (λ j. before j ++ there j ∷ []) ∙ sym (take_more (plus ns ms) i sum (omega (arith, less, more)))
+-- the first sums are added in place, and the others stand as they did
+abbrev pub added_up_to : ℕ → List ℤ → List ℤ → List ℤ
+added_up_to i ns ms = take i (plus ns ms) ++ drop i ns
 
-pub sums_end : (ns ms : List ℤ) (i : ℕ) (now : List ℤ) → length ms ≡ length ns → length ns ≤ i → now ≡ take i (plus ns ms) → now ≡ plus ns ms
-sums_end ns ms i now long last is = let more = length_of_plus ns ms long in is ∙ take_all i (plus ns ms) (omega (arith, last, more))
+-- the next one stands as it did
+pub next_stands : (ns ms : List ℤ) (i : ℕ) → length ms ≡ length ns → i < length ns → slice_get (added_up_to i ns ms) i ≡ slice_get ns i
+next_stands [] ms i long less = absurd (omega (arith, less))
+next_stands (n ∷ ns) [] i long less = absurd (omega (arith, long))
+next_stands (n ∷ ns) (m ∷ ms) zero long less = refl
+next_stands (n ∷ ns) (m ∷ ms) (suc i) long less = next_stands ns ms i (omega (arith, long)) (omega (arith, less))
+
+pub still_long : (ns ms : List ℤ) (i : ℕ) → length ms ≡ length ns → length (added_up_to i ns ms) ≡ length ns
+still_long [] [] zero long = refl
+still_long [] [] (suc i) long = refl
+still_long [] (m ∷ ms) i long = absurd (omega (arith, long))
+still_long (n ∷ ns) [] i long = absurd (omega (arith, long))
+still_long (n ∷ ns) (m ∷ ms) zero long = refl
+still_long (n ∷ ns) (m ∷ ms) (suc i) long = let more = still_long ns ms i (omega (arith, long)) in omega (arith, more)
+
+-- and is added
+pub next_added : (ns ms : List ℤ) (i : ℕ) (n m sum : ℤ) → length ms ≡ length ns → i < length ns → n ≡ get_or ns i n → m ≡ get_or ms i m → sum ≡ n +ℤ m
+    → set (added_up_to i ns ms) i sum ≡ added_up_to (i + 1) ns ms
+next_added [] ms i n m sum long less is also total = absurd (omega (arith, less))
+next_added (k ∷ ns) [] i n m sum long less is also total = absurd (omega (arith, long))
+next_added (k ∷ ns) (l ∷ ms) zero n m sum long less is also total = λ j. (total ∙ (λ h. is h +ℤ also h)) j ∷ ns
+next_added (k ∷ ns) (l ∷ ms) (suc i) n m sum long less is also total =
+    let next : suc i + 1 ≡ suc (i + 1) = omega arith in
+    ap (λ s. (k +ℤ l) ∷ s) (next_added ns ms i n m sum (omega (arith, long)) (omega (arith, less)) is also total)
+    ∙ sym (ap (λ h. added_up_to h (k ∷ ns) (l ∷ ms)) next)
+
+pub all_added : (ns ms : List ℤ) (i : ℕ) → length ms ≡ length ns → length ns ≤ i → added_up_to i ns ms ≡ plus ns ms
+all_added [] [] zero long last = refl
+all_added [] [] (suc i) long last = refl
+all_added [] (m ∷ ms) i long last = absurd (omega (arith, long))
+all_added (n ∷ ns) [] i long last = absurd (omega (arith, long))
+all_added (n ∷ ns) (m ∷ ms) zero long last = absurd (omega (arith, last))
+all_added (n ∷ ns) (m ∷ ms) (suc i) long last = ap (λ s. (n +ℤ m) ∷ s) (all_added ns ms i (omega (arith, long)) (omega (arith, last)))
+
+pub found_at : (ns : List ℤ) (i : ℕ) (n : ℤ) → slice_get ns i ≡ Some n → n ≡ get_or ns i n
+found_at [] i n is = refl
+found_at (m ∷ ns) zero n is = cc
+found_at (m ∷ ns) (suc i) n is = found_at ns i n is
 
 -- of two rows that can be added the sums are as many, and near to 0
 pub record AreNear (ns ms : List ℤ) : Type 0 where
@@ -73,3 +104,20 @@ pub are_near : (rows others : List RowDatum) (row : RowDatum) (tail : List RowDa
 are_near rows others row tail other other_tail ns ms split other_split are others_are can =
     subst (λ l. AreNear l ms) (sym are) (subst (AreNear (sums_in row.shown)) (sym others_are)
     (near row tail other other_tail (subst (CanAdd (row ∷ tail)) other_split (subst (λ l. CanAdd l others) split can))))
+
+-- the row of both sums stands where that of the one side stood
+pub row_of_both : (rows others : List RowDatum) (row other : RowDatum) (tail : List RowDatum) (ns : List ℤ) (away added : RowDatum) → slice_get rows 0 ≡ Some row
+    → others ≡ other ∷ tail → ns ≡ sums_in other.shown → added ≡ record { shown = sums (plus (sums_in row.shown) ns); weight = None }
+    → take 1 (set (set rows 0 away) 0 added) ≡ joined_sums rows others
+row_of_both [] others row other tail ns away added there split are is = absurd (cc)
+row_of_both (r ∷ rows) others row other tail ns away added there split are is =
+    let first : r ≡ row = cc in
+    (λ i. is i ∷ []) ∙ (λ i. record { shown = sums (plus (sums_in (sym first i).shown) (are i)); weight = None } ∷ []) ∙ (λ i. joined_sums (r ∷ rows) (sym split i))
+
+-- the same, where the first row is found at its place
+pub found_near : (rows others : List RowDatum) (row other : RowDatum) (tail : List RowDatum) (ms : List ℤ) → slice_get rows 0 ≡ Some row → others ≡ other ∷ tail
+    → ms ≡ sums_in other.shown → CanAdd rows others → AreNear (sums_in row.shown) ms
+found_near [] others row other tail ms there split are can = absurd (cc)
+found_near (r ∷ rows) others row other tail ms there split are can =
+    let first : r ≡ row = cc in
+    are_near (r ∷ rows) others row rows other tail (sums_in row.shown) ms (λ i. first i ∷ rows) split refl are can

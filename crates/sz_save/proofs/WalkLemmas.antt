@@ -96,15 +96,6 @@ pub both_can : (kind : TableKind) (entries others : List Indexed) (e : Indexed) 
 both_can kind entries others e es o os split other_split can =
     can_both kind e es o os (subst (CanJoin kind (e ∷ es)) other_split (subst (λ l. CanJoin kind l others) split can))
 
-pub empty : (es : List Indexed) → length es < 1 → es ≡ []
-empty [] few = refl
-empty (e ∷ es) few = absurd (omega (arith, few))
-
-pub nothing_joined : (kind : TableKind) (limit : ℕ) (entries others : List Indexed) → entries ≡ [] → length others < 1
-    → joined_entries kind limit entries others ≡ []
-unfolding joined_entries
-nothing_joined kind limit entries others none few = λ i. joined_entries kind limit (none i) (empty others few i)
-
 -- the steps, where each side is the first with what stands behind it
 module _ (kind : TableKind) (limit : ℕ) where
   pub steps_other : (entries others : List Indexed) (o : Indexed) (os : List Indexed) (joined : Indexed) → entries ≡ [] → others ≡ o ∷ os

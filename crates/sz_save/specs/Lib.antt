@@ -3,4 +3,5 @@ pub mod Joined
 pub mod Saving
 -- what the functions inside the crate promise each other
 pub mod Walk
+pub mod Taken
 pub mod Spelled

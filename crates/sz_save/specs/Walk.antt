@@ -1,7 +1,9 @@
 -- The walk over the index lists of both sides, and what it asks of their sums.
-use Rattle.std.specs.Prelude.{◌≡◌, ℕ, ◌+◌, ◌<◌, ◌≤◌, ◌^◌, ⊤, List, [], ◌∷◌, length, map}
+use Rattle.std.specs.Prelude.{◌≡◌, ℕ, ◌+◌, ◌<◌, ◌≤◌, ◌^◌, ⊤, Option, Some, None, List, [], ◌∷◌, length, map}
 use Rattle.std.specs.List.{AllByRecursion}
 use Rattle.std.specs.Ordering.{match_ordering}
+use Rattle.std.specs.declared.cmp.Ordering.{Ordering}
+use Rattle.std.specs.declared.cmp.Ordering.TheVariants.{Less, Equal, Greater}
 use Rattle.sz_types.specs.Tables.{Declaration}
 use Rattle.sz_types.specs.declared.table.TableKind.{TableKind}
 use Rattle.sz_types.specs.declared.table.TableKind.TheVariants.{Sum, Maximum, Minimum, Set, Collection}
@@ -35,6 +37,13 @@ against kind limit entry rest (other ∷ others) =
 unfoldable pub joined_entries : TableKind → ℕ → List Indexed → List Indexed → List Indexed
 joined_entries kind limit [] others = map (other_alone kind limit) others
 joined_entries kind limit (entry ∷ entries) others = against kind limit entry (joined_entries kind limit entries) others
+
+-- how the first index lists of both sides compare, where one that isn't there is greater
+abbrev pub compare_firsts : List Indexed → List Indexed → Option Ordering
+compare_firsts [] [] = None
+compare_firsts (e ∷ es) [] = Some Less
+compare_firsts [] (o ∷ os) = Some Greater
+compare_firsts (e ∷ es) (o ∷ os) = Some (compare_indexes e.indexes o.indexes)
 
 -- the tables of both sides, one by one
 abbrev pub joined_tables : List Declaration → List (List Indexed) → List (List Indexed) → List (List Indexed)

@@ -1,38 +1,65 @@
-//! Rows that are copied.
-ghost use Rattle.std.specs.Prelude.{◌≡◌, ◌++◌, IfOk, OnOk};
+//! Saved states that are copied.
+ghost use Rattle.std.specs.Prelude.{◌≡◌, IfOk};
 ghost use Rattle.sz_tabs.specs.Seen.{seen_shown};
 
+use crate::declared::copied_decls;
 use std::alloc::Global;
-use sz_tabs::{NoMemory, Row, RowValue, Rows, Sums};
-use sz_value::copy;
+use sz_print::SavedTables;
+use sz_save_format::{NoMemory, Saved};
+use sz_tabs::{Row, RowValue, Rows, Sums};
+use sz_total::{IndexedRows, TableRows};
+use sz_value::{copy, copy_list};
+
+// The same state once more.
+pub(crate) fn copied_saved(alloc: Global, saved: &Saved) -> Result<Saved, NoMemory>
+    ensures value { IfOk result (λ copied. copied ≡ saved.now) }
+{
+    let bound = saved.bound();
+    let tables = copied_tables(alloc, saved.tables())?;
+    let decls = copied_decls(alloc, saved.decls())?;
+    Ok(Saved::new(bound, decls, tables))
+}
+
+// The same tables once more.
+fn copied_tables(alloc: Global, tables: &SavedTables) -> Result<SavedTables, NoMemory>
+    ensures value { IfOk result (λ copied. copied ≡ tables.now) }
+{
+    let mut copied = SavedTables::new(alloc);
+    for entries in tables.as_slice() {
+        copied.push(copied_entries(alloc, entries)?)?;
+    }
+    Ok(copied)
+}
+
+// The same index lists once more, each with its rows.
+fn copied_entries(alloc: Global, entries: &TableRows) -> Result<TableRows, NoMemory>
+    ensures value { IfOk result (λ copied. copied ≡ entries.now) }
+{
+    let mut copied = TableRows::new(alloc);
+    for entry in entries.as_slice() {
+        copied.push(copied_entry(alloc, entry)?)?;
+    }
+    Ok(copied)
+}
+
+// The same index list once more, with its rows.
+fn copied_entry(alloc: Global, entry: &IndexedRows) -> Result<IndexedRows, NoMemory>
+    ensures value { IfOk result (λ copied. copied ≡ entry.now) }
+{
+    let rows = copied_rows(alloc, &entry.rows)?;
+    let indexes = copy_list(alloc, &entry.indexes)?;
+    Ok(IndexedRows { indexes, rows })
+}
 
 // The same rows once more.
-pub(crate) fn copied_rows(alloc: Global, rows: &[Row]) -> Result<Rows, NoMemory>
+fn copied_rows(alloc: Global, rows: &Rows) -> Result<Rows, NoMemory>
     ensures value { IfOk result (λ copied. copied ≡ rows.now) }
 {
-    let mut copied = Vec::new(alloc);
-    push_rows(alloc, rows, &mut copied)?;
-    Ok(Rows::from_vec(copied))
-}
-
-// Copies of the rows of both lists.
-pub(crate) fn both_rows(alloc: Global, rows: &[Row], others: &[Row]) -> Result<Vec<Row>, NoMemory>
-    ensures value { IfOk result (λ both. both.items ≡ rows.now ++ others.now) }
-{
-    let mut both = Vec::new(alloc);
-    push_rows(alloc, rows, &mut both)?;
-    push_rows(alloc, others, &mut both)?;
-    Ok(both)
-}
-
-// Appends a copy of each row.
-fn push_rows(alloc: Global, rows: &[Row], copied: &mut Vec<Row>) -> Result<(), NoMemory>
-    ensures value { OnOk result (copied.new.items ≡ copied.old.items ++ rows.now) }
-{
-    for row in rows {
+    let mut copied = Rows::new(alloc);
+    for row in rows.as_slice() {
         copied.push(copied_row(alloc, row)?)?;
     }
-    Ok(())
+    Ok(copied)
 }
 
 // The same row once more.

@@ -1,95 +1,121 @@
 //! The index lists of both sides in ascending order, each with the rows of both.
-ghost use Rattle.std.specs.Prelude.{◌≡◌, [], IfOk, IfSome, IfNone};
-ghost use Rattle.sz_save.specs.Walk.{alone, other_alone, joined_entry, joined_entries, Steps, CanJoin, RowsCanJoin, HasCountedRows, AreCounted};
+ghost use Rattle.std.specs.Prelude.{◌≡◌, ◌≤◌, [], ◌∷◌, length, IfOk, IfSome, IfNone};
+ghost use Rattle.sz_save.specs.Walk.{alone, other_alone, joined_entry, joined_entries, compare_firsts, Steps, CanJoin, RowsCanJoin, HasCountedRows, AreCounted};
+ghost use Rattle.sz_save.specs.Taken.{Takes};
 
 use crate::order::order_lists;
 use crate::rows::join_rows;
 use std::alloc::Global;
 use std::cmp::Ordering;
+use std::collections::VecDeque;
+use std::mem;
 use sz_tabs::{NoMemory, Rows};
 use sz_total::{IndexedRows, TableRows};
 use sz_types::TableKind;
-use sz_value::{List, copy_list};
 
 // All index lists of both sides, each with the rows of both.
 pub(crate) fn join_entries(
     alloc: Global,
     kind: TableKind,
     limit: u32,
-    entries: &[IndexedRows],
-    others: &[IndexedRows],
+    entries: TableRows,
+    others: TableRows,
 ) -> Result<TableRows, NoMemory>
-    requires can { CanJoin kind entries.now others.now }
-    ensures value { IfOk result (λ joined. joined ≡ joined_entries kind limit entries.now others.now) }
+    requires can { CanJoin kind entries others }
+    ensures value { IfOk result (λ joined. joined ≡ joined_entries kind limit entries others) }
     ensures counted { IfOk result (λ joined. AreCounted joined) }
 {
     let mut joined = TableRows::new(alloc);
-    let mut rest = entries;
-    let mut left = others;
-    while let Some((entry, after, left_after)) = join_first(alloc, kind, limit, rest, left)? {
+    let mut rest = VecDeque::from_vec(entries.into_vec());
+    let mut left = VecDeque::from_vec(others.into_vec());
+    while let Some(entry) = join_first(alloc, kind, limit, &mut rest, &mut left)? {
         joined.push(entry)?;
-        rest = after;
-        left = left_after;
     }
     let _ = joined.len();
     Ok(joined)
 }
 
-// The first index list of both sides with the rows of both, and what is left behind it on either side; none where there is none.
-#[tactic(auto, using(crate::proofs::WalkLemmas::alone_can, crate::proofs::WalkLemmas::other_can, crate::proofs::WalkLemmas::both_can))]
-fn join_first<'e>(
+// Takes the first index list of both sides, and gives it with the rows of both; none where there is none.
+fn join_first(
     alloc: Global,
     kind: TableKind,
     limit: u32,
-    entries: &'e [IndexedRows],
-    others: &'e [IndexedRows],
-) -> Result<Option<(IndexedRows, &'e [IndexedRows], &'e [IndexedRows])>, NoMemory>
-    requires can { CanJoin kind entries.now others.now }
-    ensures some { IfOk result (λ first. IfSome first (λ f. Steps kind limit entries.now others.now f.0 f.1.now f.2.now)) }
-    ensures none { IfOk result (λ first. IfNone first (joined_entries kind limit entries.now others.now ≡ [])) }
+    entries: &mut VecDeque<IndexedRows>,
+    others: &mut VecDeque<IndexedRows>,
+) -> Result<Option<IndexedRows>, NoMemory>
+    requires can { CanJoin kind entries.old.items others.old.items }
+    ensures some { IfOk result (λ first. IfSome first (λ f. Steps kind limit entries.old.items others.old.items f entries.new.items others.new.items)) }
+    ensures none { IfOk result (λ first. IfNone first (joined_entries kind limit entries.old.items others.old.items ≡ [])) }
 {
-    let [entry, after @ ..] = entries else {
-        return join_other(alloc, kind, limit, entries, others);
-    };
-    let [other, left @ ..] = others else {
-        let joined = join_alone(alloc, kind, limit, entry)?;
-        return Ok(Some((joined, after, others)));
-    };
-    match order_lists(&entry.indexes, &other.indexes) {
-        Ordering::Less => {
+    match take_first(entries, others) {
+        First::Neither => Ok(None),
+        First::One(entry) => {
             let joined = join_alone(alloc, kind, limit, entry)?;
-            Ok(Some((joined, after, others)))
+            Ok(Some(joined))
         }
-        Ordering::Equal => {
-            let joined = join_both(alloc, kind, limit, entry, other)?;
-            Ok(Some((joined, after, left)))
-        }
-        Ordering::Greater => {
+        First::Other(other) => {
             let joined = join_other_alone(alloc, kind, limit, other)?;
-            Ok(Some((joined, entries, left)))
+            Ok(Some(joined))
+        }
+        First::Both(entry, other) => {
+            let joined = join_both(alloc, kind, limit, entry, other)?;
+            Ok(Some(joined))
         }
     }
 }
 
-// The same where the first side has no index lists.
-#[tactic(auto, using(crate::proofs::WalkLemmas::other_can))]
-fn join_other<'e>(
-    alloc: Global,
-    kind: TableKind,
-    limit: u32,
-    entries: &'e [IndexedRows],
-    others: &'e [IndexedRows],
-) -> Result<Option<(IndexedRows, &'e [IndexedRows], &'e [IndexedRows])>, NoMemory>
-    requires can { CanJoin kind entries.now others.now }
-    requires none { entries.now ≡ [] }
-    ensures some { IfOk result (λ first. IfSome first (λ f. Steps kind limit entries.now others.now f.0 f.1.now f.2.now)) }
-    ensures none { IfOk result (λ first. IfNone first (joined_entries kind limit entries.now others.now ≡ [])) }
+// The first index list of both sides.
+#[derive(Drop)]
+pub(crate) enum First {
+    // There is none.
+    Neither,
+    // The other side hasn't this one.
+    One(IndexedRows),
+    // The other side alone has this one.
+    Other(IndexedRows),
+    // The other side has it too.
+    Both(IndexedRows, IndexedRows),
+}
+
+// Takes the first index list of both sides.
+fn take_first(entries: &mut VecDeque<IndexedRows>, others: &mut VecDeque<IndexedRows>) -> First
+    ensures value { Takes result entries.old.items others.old.items entries.new.items others.new.items }
 {
-    let [other, left @ ..] = others else {
-        return Ok(None);
+    match compare_firsts(entries, others) {
+        None => First::Neither,
+        Some(Ordering::Less) => First::One(take_entry(entries)),
+        Some(Ordering::Equal) => {
+            let entry = take_entry(entries);
+            First::Both(entry, take_entry(others))
+        }
+        Some(Ordering::Greater) => First::Other(take_entry(others)),
+    }
+}
+
+// How the first index lists of both sides compare. One that isn't there is greater.
+fn compare_firsts(
+    entries: &VecDeque<IndexedRows>,
+    others: &VecDeque<IndexedRows>,
+) -> Option<Ordering>
+    ensures value { result ≡ compare_firsts entries.now.items others.now.items }
+{
+    match (entries.front(), others.front()) {
+        (None, None) => None,
+        (Some(_), None) => Some(Ordering::Less),
+        (None, Some(_)) => Some(Ordering::Greater),
+        (Some(entry), Some(other)) => Some(order_lists(&entry.indexes, &other.indexes)),
+    }
+}
+
+// Takes the first index list of a side, which has one.
+fn take_entry(entries: &mut VecDeque<IndexedRows>) -> IndexedRows
+    requires some { 1 ≤ length entries.old.items }
+    ensures value { entries.old.items ≡ result ∷ entries.new.items }
+{
+    let Some(entry) = entries.pop_front() else {
+        unreachable!()
     };
-    let joined = join_other_alone(alloc, kind, limit, other)?;
-    Ok(Some((joined, entries, left)))
+    entry
 }
 
 // An index list that the other side hasn't.
@@ -97,14 +123,17 @@ fn join_alone(
     alloc: Global,
     kind: TableKind,
     limit: u32,
-    entry: &IndexedRows,
+    entry: IndexedRows,
 ) -> Result<IndexedRows, NoMemory>
-    requires can { RowsCanJoin kind entry.now.rows [] }
-    ensures value { IfOk result (λ joined. joined ≡ alone kind limit entry.now) }
+    requires can { RowsCanJoin kind entry.rows [] }
+    ensures value { IfOk result (λ joined. joined ≡ alone kind limit entry) }
     ensures few { IfOk result (λ joined. HasCountedRows joined) }
 {
-    let rows = join_rows(alloc, kind, limit, entry.rows.as_slice(), &[])?;
-    with_indexes(alloc, &entry.indexes, rows)
+    let mut joined = entry;
+    let rows = take_rows(alloc, &mut joined);
+    joined.rows = join_rows(alloc, kind, limit, rows, Rows::new(alloc))?;
+    let _ = joined.rows.len();
+    Ok(joined)
 }
 
 // An index list that the other side alone has.
@@ -112,14 +141,17 @@ fn join_other_alone(
     alloc: Global,
     kind: TableKind,
     limit: u32,
-    other: &IndexedRows,
+    other: IndexedRows,
 ) -> Result<IndexedRows, NoMemory>
-    requires can { RowsCanJoin kind [] other.now.rows }
-    ensures value { IfOk result (λ joined. joined ≡ other_alone kind limit other.now) }
+    requires can { RowsCanJoin kind [] other.rows }
+    ensures value { IfOk result (λ joined. joined ≡ other_alone kind limit other) }
     ensures few { IfOk result (λ joined. HasCountedRows joined) }
 {
-    let rows = join_rows(alloc, kind, limit, &[], other.rows.as_slice())?;
-    with_indexes(alloc, &other.indexes, rows)
+    let mut joined = other;
+    let rows = take_rows(alloc, &mut joined);
+    joined.rows = join_rows(alloc, kind, limit, Rows::new(alloc), rows)?;
+    let _ = joined.rows.len();
+    Ok(joined)
 }
 
 // An index list of both sides.
@@ -127,29 +159,25 @@ fn join_both(
     alloc: Global,
     kind: TableKind,
     limit: u32,
-    entry: &IndexedRows,
-    other: &IndexedRows,
+    entry: IndexedRows,
+    other: IndexedRows,
 ) -> Result<IndexedRows, NoMemory>
-    requires can { RowsCanJoin kind entry.now.rows other.now.rows }
-    ensures value { IfOk result (λ joined. joined ≡ joined_entry kind limit entry.now.indexes entry.now.rows other.now.rows) }
+    requires can { RowsCanJoin kind entry.rows other.rows }
+    ensures value { IfOk result (λ joined. joined ≡ joined_entry kind limit entry.indexes entry.rows other.rows) }
     ensures few { IfOk result (λ joined. HasCountedRows joined) }
 {
-    let rows = join_rows(
-        alloc,
-        kind,
-        limit,
-        entry.rows.as_slice(),
-        other.rows.as_slice(),
-    )?;
-    with_indexes(alloc, &entry.indexes, rows)
+    let mut joined = entry;
+    let mut other = other;
+    let rows = take_rows(alloc, &mut joined);
+    joined.rows = join_rows(alloc, kind, limit, rows, take_rows(alloc, &mut other))?;
+    let _ = joined.rows.len();
+    Ok(joined)
 }
 
-// A copy of the indexes, with the rows under them.
-fn with_indexes(alloc: Global, indexes: &List, rows: Rows) -> Result<IndexedRows, NoMemory>
-    ensures value { IfOk result (λ entry. entry ≡ record { indexes = indexes.now; rows = rows }) }
-    ensures few { IfOk result (λ entry. HasCountedRows entry) }
+// Takes the rows under an index list, which has none then.
+fn take_rows(alloc: Global, entry: &mut IndexedRows) -> Rows
+    ensures rows { result ≡ entry.old.rows }
+    ensures kept { entry.new.indexes ≡ entry.old.indexes }
 {
-    let _ = rows.len();
-    let indexes = copy_list(alloc, indexes)?;
-    Ok(IndexedRows { indexes, rows })
+    mem::replace(&mut entry.rows, Rows::new(alloc))
 }

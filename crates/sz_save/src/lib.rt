@@ -15,7 +15,7 @@ mod values;
 
 pub use declared::same_decls;
 pub use heights::is_low;
-pub use joining::{JoinError, join};
+pub use joining::{JoinError, join, join_owned};
 pub use saving::save;
 pub use sz_save_format::{
     NoMemory, Saved, SavedError, SavedTables, one_spelling, read_saved, write_saved,

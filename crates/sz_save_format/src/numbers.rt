@@ -1,5 +1,5 @@
 //! Numbers and strings, read from the front of bytes.
-ghost use Rattle.std.specs.Prelude.{◌≡◌, length, take};
+ghost use Rattle.std.specs.Prelude.{◌≡◌, ◌≤◌, ◌*◌, length, take};
 ghost use Rattle.std.specs.Int.{w32, w64, to_be_bytes};
 ghost use Rattle.sz_save_format.specs.Decoding.{Reads, length_at, byte_at, string_at};
 ghost use Rattle.sz_save_format.specs.DecodingRows.{count_at, number_at, wide_at};
@@ -88,4 +88,18 @@ pub(crate) fn read_string(flat: &[u8]) -> Result<(&[u8], &[u8]), SavedError>
         return Err(SavedError::NotSaved);
     }
     Ok(rest.split_at(length))
+}
+
+// How many items to take room for, of which the bytes claim so many and each has at least so many bytes: never more than the bytes can hold.
+pub(crate) fn room_for(count: u64, least: usize, flat: &[u8]) -> usize
+    requires some { 1 ≤ least }
+    ensures claimed { result ≤ count }
+    ensures held { result * least ≤ length flat.now }
+{
+    let most = flat.len() / least;
+    if count < most as u64 {
+        count as usize
+    } else {
+        most
+    }
 }

@@ -13,7 +13,7 @@ ghost use Rattle.sz_save_format.specs.DecodingRows.{sum_at, long_counted_at, sum
 
 use crate::error::SavedError;
 use crate::kind::{Kind, type_kind};
-use crate::numbers::{read_byte, read_count, read_length, read_number, read_wide};
+use crate::numbers::{read_byte, read_count, read_length, read_number, read_wide, room_for};
 use crate::order::rows_in_order;
 use crate::sized::read_sized;
 use std::alloc::Global;
@@ -34,12 +34,11 @@ pub(crate) fn read_sum_row<'f>(
     if sums.len() != components(element) {
         return Err(SavedError::NotSaved);
     }
-    let mut rows = Rows::new(alloc);
-    rows.push(Row {
+    let row = Row {
         value: RowValue::Sums(sums),
         weight: None,
-    })?;
-    Ok((rows, rest))
+    };
+    Ok((Rows::from_vec(vec![in alloc; row]?), rest))
 }
 
 // How many sums a table has under an index list, by the type of its elements.
@@ -58,7 +57,7 @@ fn read_sums<'f>(alloc: Global, most: u128, flat: &'f [u8]) -> Result<(Sums, &'f
     ensures value { Reads (λ r. (r.0, r.1.now)) (counted_at (sum_at most) flat.now) result }
 {
     let (count, mut rest) = read_length(flat)?;
-    let mut sums = Sums::new(alloc);
+    let mut sums = Sums::with_capacity(alloc, room_for(count as u64, 16, rest))?;
     for _ in 0..count {
         let (sum, after) = read_sum(most, rest)?;
         sums.push(sum)?;
@@ -104,12 +103,11 @@ fn overflow_rows(alloc: Global) -> Result<Rows, SavedError>
     ensures value { IfOk result (λ rows. rows ≡ overflow_row ∷ []) }
     ensures memory { IfErr result (λ e. e ≡ errors.NoMemory) }
 {
-    let mut rows = Rows::new(alloc);
-    rows.push(Row {
+    let row = Row {
         value: RowValue::Overflow,
         weight: None,
-    })?;
-    Ok(rows)
+    };
+    Ok(Rows::from_vec(vec![in alloc; row]?))
 }
 
 // The rows in front, behind their number in 4 bytes.
@@ -184,7 +182,7 @@ fn read_rows<'f>(
 ) -> Result<(Rows, &'f [u8]), SavedError>
     ensures value { Reads (λ r. (r.0, r.1.now)) (many_at (row_at ranked (shapes.seen element.now)) count flat.now) result }
 {
-    let mut rows = Rows::new(alloc);
+    let mut rows = Rows::with_capacity(alloc, room_for(count, 9, flat))?;
     let mut rest = flat;
     for _ in 0..count {
         let (row, after) = read_row(alloc, ranked, element, rest)?;

@@ -88,6 +88,19 @@ impl Saved {
     {
         &self.tables
     }
+
+    /// Gives back the declarations and the rows of each table, and takes no memory.
+    pub fn into_parts(self) -> (TableDecls, SavedTables)
+        ensures decls { result.0 ≡ self.decls }
+        ensures tables { result.1 ≡ self.tables }
+    {
+        let Saved {
+            bound: _,
+            decls,
+            tables,
+        } = self;
+        (decls, tables)
+    }
 }
 
 /// The tables that the bytes are those of, all of them.

@@ -41,7 +41,7 @@ pub(crate) fn read_indexes<'f>(
 ) -> Result<(List, &'f [u8]), SavedError>
     ensures value { Reads (λ r. (r.0, r.1.now)) (indexes_at (map shapes.seen types.now) flat.now) result }
 {
-    let mut values = List::new(alloc);
+    let mut values = List::with_capacity(alloc, types.len())?;
     let mut rest = flat;
     for ty in types {
         let (value, after) = read_sized(alloc, ty, rest)?;

@@ -7,7 +7,7 @@ use Rattle.sz_merge.proofs.groups.with_group.Goals as goal
 
 pub joined-requires : goal.joined-requires
 joined-requires c =
-    let left = c.take_equal.new.groups.items in
+    let left = c.take_small.new.groups.items in
     let last = c.in-Some.last in
     let group = c.loop-last.group.saved in
     record {
@@ -17,7 +17,7 @@ joined-requires c =
 
 pub loop-last-preserved : goal.loop-last-preserved
 loop-last-preserved c =
-    let left = c.take_equal.new.groups.items in
+    let left = c.take_small.new.groups.items in
     let last = c.in-Some.last in
     let group = c.loop-last.group.saved in
     let before = held_by c.args.groups.items ++ c.args.group.saved ∷ [] in

@@ -4,12 +4,12 @@ use Rattle.std.specs.List.{AllByRecursion}
 use Rattle.sz_save.specs.Walk.{joined_entries, CanJoin, HasCountedRows}
 use Rattle.sz_save.proofs.entries.join_entries.Given as goal
 
-abbrev pub invariant-loop-joined : goal.invariant-loop-joined
-invariant-loop-joined l = record {
-  all : l.joined ++ joined_entries l.kind l.limit l.rest l.left ≡ joined_entries l.kind l.limit l.entries l.others;
-  can : CanJoin l.kind l.rest l.left;
+abbrev pub invariant-loop-left : goal.invariant-loop-left
+invariant-loop-left l = record {
+  all : l.joined ++ joined_entries l.kind l.limit l.rest.items l.left.items ≡ joined_entries l.kind l.limit l.fn.entries l.fn.others;
+  can : CanJoin l.kind l.rest.items l.left.items;
   few : AllByRecursion HasCountedRows l.joined;
 }
 
-abbrev pub decreases-loop-joined : goal.decreases-loop-joined
-decreases-loop-joined l = length l.rest + length l.left
+abbrev pub decreases-loop-left : goal.decreases-loop-left
+decreases-loop-left l = length l.rest.items + length l.left.items

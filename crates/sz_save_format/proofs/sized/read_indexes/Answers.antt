@@ -10,7 +10,7 @@ use Rattle.sz_save_format.proofs.sized.read_indexes.Goals as goal
 
 pub returns-in_err-value : goal.returns-in_err-value
 returns-in_err-value c =
-    let p = err_from_is_err_and c.from_residual.result c.from_residual.ensures.1 in
+    let p = err_from_is_err_and c.from_residual-in_err-value.result c.from_residual-in_err-value.ensures.1 in
     let types = c.args.types.now in
     let whole = indexes_at (map shapes.seen types) c.args.flat.now in
     let ty = c.ty-item.result in
