@@ -3,3 +3,4 @@ pub mod Crashes
 pub mod Calls
 pub mod Stretches
 pub mod MemDisk
+pub mod OsDisk

@@ -3,10 +3,12 @@
 
 mod disk;
 mod mem_disk;
+mod os_disk;
 mod record;
 mod span;
 mod tearing;
 
 pub use disk::Disk;
 pub use mem_disk::MemDisk;
+pub use os_disk::OsDisk;
 pub use span::Span;

@@ -1,5 +1,5 @@
 //! The first entry of a disk that holds none.
-ghost use Rattle.std.specs.Prelude.{◌≡◌, ◌<◌, ◌^◌, ℕ, List, [], ◌∷◌, length, IfSome, IfOk, OnOk, IsErrOf, Some, true};
+ghost use Rattle.std.specs.Prelude.{◌≡◌, ◌<◌, ◌^◌, ℕ, List, [], ◌∷◌, length, None, IfSome, IfOk, OnOk, IsErrOf, Some, true};
 ghost use Rattle.sz_io.specs.Rose.{Rose};
 ghost use Rattle.sz_disk.specs.Crashes.{IsTheImage, are_told};
 ghost use Rattle.sz_gates.specs.Entries.{opened, Holds, IsEmpty, IsEmptyOrHolds};
@@ -29,6 +29,7 @@ pub fn begin<K: Disk>(
     ensures leaves { (held : List ℕ) → Rests (K.bytes disk.old) (K.may_leave disk.old) held → IsEmpty held → are_told (K.may_leave disk.old) ≡ true
         → LeavesOnly K.time K.left_since disk.old disk.new (IsEmptyOrHolds entry.now) }
     ensures told { are_told (K.may_leave disk.new) ≡ are_told (K.may_leave disk.old) }
+    ensures untold { K.bytes disk.old ≡ None → K.bytes disk.new ≡ None }
 
     ensures failed { IsErrOf result OutsideError.Failed → Rose (K.faults disk.old) (K.faults disk.new) }
 
@@ -49,6 +50,7 @@ fn close_first<K: Disk>(disk: &mut K, count: u64) -> Result<(), OutsideError>
     ensures leaves { (held : List ℕ) → Rests (K.bytes disk.old) (K.may_leave disk.old) held → IsEmpty held → are_told (K.may_leave disk.old) ≡ true
         → LeavesOnly K.time K.left_since disk.old disk.new IsEmpty }
     ensures told { are_told (K.may_leave disk.new) ≡ are_told (K.may_leave disk.old) }
+    ensures untold { K.bytes disk.old ≡ None → K.bytes disk.new ≡ None }
 
     ensures failed { IsErrOf result OutsideError.Failed → Rose (K.faults disk.old) (K.faults disk.new) }
 

@@ -1,5 +1,5 @@
 //! An entry that is appended behind a gate.
-ghost use Rattle.std.specs.Prelude.{◌≡◌, ◌+◌, ◌<◌, ◌≤◌, ◌-◌, ◌^◌, ℕ, List, [], ◌∷◌, ◌++◌, length, IfSome, IfOk, OnOk, IsErrOf, true};
+ghost use Rattle.std.specs.Prelude.{◌≡◌, ◌+◌, ◌<◌, ◌≤◌, ◌-◌, ◌^◌, ℕ, List, [], ◌∷◌, ◌++◌, length, None, IfSome, IfOk, OnOk, IsErrOf, true};
 ghost use Rattle.sz_io.specs.Rose.{Rose};
 ghost use Rattle.sz_disk.specs.Crashes.{IsTheImage, are_told};
 ghost use Rattle.sz_gates.specs.Entries.{with_gate, opened, IsCounted, end_of, Holds, HoldsOneOf};
@@ -38,6 +38,7 @@ pub fn append<K: Disk>(
         → gate ≡ end_of entries → are_told (K.may_leave disk.old) ≡ true
         → LeavesOnly K.time K.left_since disk.old disk.new (HoldsOneOf entries entry.now) }
     ensures told { are_told (K.may_leave disk.new) ≡ are_told (K.may_leave disk.old) }
+    ensures untold { K.bytes disk.old ≡ None → K.bytes disk.new ≡ None }
 
     ensures failed { IsErrOf result OutsideError.Failed → Rose (K.faults disk.old) (K.faults disk.new) }
 
@@ -73,6 +74,7 @@ fn open_gate<K: Disk>(disk: &mut K, gate: u64, written: &[u8]) -> Result<(), Out
         → are_told (K.may_leave disk.old) ≡ true
         → LeavesOnly K.time K.left_since disk.old disk.new (IsBeforeOrBehind front g written.now) }
     ensures told { are_told (K.may_leave disk.new) ≡ are_told (K.may_leave disk.old) }
+    ensures untold { K.bytes disk.old ≡ None → K.bytes disk.new ≡ None }
 
     ensures failed { IsErrOf result OutsideError.Failed → Rose (K.faults disk.old) (K.faults disk.new) }
 

@@ -1,5 +1,5 @@
 //! Bytes that are written and synced.
-ghost use Rattle.std.specs.Prelude.{◌≡◌, ◌+◌, ◌<◌, ◌≤◌, ◌^◌, ℕ, List, [], ◌∷◌, length, IfSome, IfOk, OnOk, IsErrOf, true};
+ghost use Rattle.std.specs.Prelude.{◌≡◌, ◌+◌, ◌<◌, ◌≤◌, ◌^◌, ℕ, List, [], ◌∷◌, length, None, IfSome, IfOk, OnOk, IsErrOf, true};
 ghost use Rattle.sz_io.specs.Rose.{Rose};
 ghost use Rattle.sz_disk.specs.Crashes.{Torn, IsTheImage, are_told};
 ghost use Rattle.sz_disk.specs.Calls.{overwrites};
@@ -51,6 +51,7 @@ pub(crate) fn put<K: Disk>(disk: &mut K, at: u64, written: &[u8]) -> Result<(), 
     ensures leaves { (held : List ℕ) → Rests (K.bytes disk.old) (K.may_leave disk.old) held → are_told (K.may_leave disk.old) ≡ true
         → LeavesOnly K.time K.left_since disk.old disk.new (Torn (record { at = at; count = length written.now } ∷ []) held) }
     ensures told { are_told (K.may_leave disk.new) ≡ are_told (K.may_leave disk.old) }
+    ensures untold { K.bytes disk.old ≡ None → K.bytes disk.new ≡ None }
 
     ensures failed { IsErrOf result OutsideError.Failed → Rose (K.faults disk.old) (K.faults disk.new) }
 

@@ -1,0 +1,7 @@
+mod SpellLemmas
+mod FirstLemmas
+mod RoundLemmas
+mod TurnLemmas
+mod LeftLemmas
+mod ReadLemmas
+mod OpenLemmas

@@ -1,0 +1,78 @@
+//! Opening a journal: its rounds are read, or it begins with the job.
+ghost use Rattle.std.specs.Prelude.{◌≡◌, ℕ, List, [], ◌∷◌, length, None, IfOk, OnOk, IfSome, IsErrOf, Some, true};
+ghost use Rattle.sz_io.specs.Rose.{Rose};
+ghost use Rattle.sz_disk.specs.Crashes.{are_told};
+ghost use Rattle.sz_gates.specs.Entries.{opened, IsEmpty, IsEmptyOrHolds};
+ghost use Rattle.sz_gates.specs.Crashing.{Rests, LeavesOnly, DoesNotFall};
+ghost use Rattle.sz_gates.specs.Calls.{Keeps};
+ghost use Rattle.sz_journal_format.specs.Rounds.{AreRounds};
+ghost use Rattle.sz_journal.specs.Journal.{rounds_of, end_gate, IsOf, KeepsRounds};
+ghost use Rattle.sz_journal.specs.Opening.{FitsAnswer, IsKept};
+
+use crate::error::OpenError;
+use crate::journal::Journal;
+use crate::reading::{has_job, read_rounds};
+use std::alloc::Global;
+use sz_disk::Disk;
+use sz_gates::{begin, settle};
+use sz_journal_format::{JobBytes, write_job};
+use sz_types::TableDecls;
+
+/// Opens the journal of a job whose program declares these tables. An empty one begins with the job.
+pub fn open_journal<K: Disk>(
+    alloc: Global,
+    disk: &mut K,
+    job: &JobBytes,
+    decls: &TableDecls,
+) -> Result<Journal, OpenError>
+    ensures causes { (held : List ℕ) → K.bytes disk.old ≡ Some held → FitsAnswer job.now decls.now held result }
+    ensures ok { (held : List ℕ) → K.bytes disk.old ≡ Some held
+        → IfOk result (λ journal. KeepsRounds (K.bytes disk.new) (K.may_leave disk.new) job.now decls.now (rounds_of journal)) }
+    ensures is_of { IfOk result (IsOf job.now) }
+    ensures are { IfOk result (λ journal. AreRounds job.now decls.now (rounds_of journal)) }
+
+    ensures leaves { (held : List ℕ) → Rests (K.bytes disk.old) (K.may_leave disk.old) held → are_told (K.may_leave disk.old) ≡ true
+        → LeavesOnly K.time K.left_since disk.old disk.new (IsKept job.now decls.now held) }
+    ensures told { are_told (K.may_leave disk.new) ≡ are_told (K.may_leave disk.old) }
+    ensures untold { K.bytes disk.old ≡ None → K.bytes disk.new ≡ None }
+
+    ensures failed { IsErrOf result OpenError.Failed → Rose (K.faults disk.old) (K.faults disk.new) }
+
+    ensures faults { DoesNotFall (K.faults disk.old) (K.faults disk.new) }
+{
+    let entry = write_job(alloc, job)?;
+    let count = settle(disk)?;
+    if !has_job(alloc, disk, count, &entry)? {
+        return start(alloc, disk, count, &entry);
+    }
+    read_rounds(alloc, disk, count, job, decls, entry.len() as u64)
+}
+
+// Begins the journal of the job with this entry, on a disk that holds none.
+fn start<K: Disk>(
+    alloc: Global,
+    disk: &mut K,
+    count: u64,
+    entry: &[u8],
+) -> Result<Journal, OpenError>
+    requires { IfSome (K.bytes disk.old) (λ held. count ≡ length held) }
+
+    ensures rounds { IfOk result (λ journal. rounds_of journal ≡ []) }
+    ensures end { IfOk result (λ journal. end_gate journal ≡ length (opened entry.now)) }
+    ensures ok { (held : List ℕ) → Rests (K.bytes disk.old) (K.may_leave disk.old) held → IsEmpty held
+        → OnOk result (Keeps (K.bytes disk.new) (K.may_leave disk.new) (entry.now ∷ [])) }
+
+    ensures leaves { (held : List ℕ) → Rests (K.bytes disk.old) (K.may_leave disk.old) held → IsEmpty held → are_told (K.may_leave disk.old) ≡ true
+        → LeavesOnly K.time K.left_since disk.old disk.new (IsEmptyOrHolds entry.now) }
+    ensures told { are_told (K.may_leave disk.new) ≡ are_told (K.may_leave disk.old) }
+    ensures untold { K.bytes disk.old ≡ None → K.bytes disk.new ≡ None }
+
+    ensures other { IsErrOf result OpenError.OtherJob → ⊥ }
+    ensures damaged { (place : ℕ) → IsErrOf result (OpenError.Damaged place) → ⊥ }
+    ensures failed { IsErrOf result OpenError.Failed → Rose (K.faults disk.old) (K.faults disk.new) }
+
+    ensures faults { DoesNotFall (K.faults disk.old) (K.faults disk.new) }
+{
+    let end = begin(alloc, disk, count, entry)?;
+    Ok(Journal::new(alloc, end))
+}

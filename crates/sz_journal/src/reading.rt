@@ -1,0 +1,162 @@
+//! What a journal holds before it is opened.
+ghost use Rattle.std.specs.Prelude.{◌≡◌, ◌↔◌, ◌+◌, ◌<◌, ◌-◌, ◌^◌, ℕ, List, [], length, IfOk, IfSome, IsErrOf, IsTrue, Some, true};
+ghost use Rattle.sz_types.specs.Tables.{Declaration};
+ghost use Rattle.sz_io.specs.Rose.{Rose};
+ghost use Rattle.sz_gates.specs.Entries.{opened};
+ghost use Rattle.sz_gates.specs.Crashing.{DoesNotFall, WritesNothing};
+ghost use Rattle.sz_journal_format.specs.Jobs.{job_bytes};
+ghost use Rattle.sz_journal_format.specs.Rounds.{AreRounds};
+ghost use Rattle.sz_journal_format.specs.declared.job.JobBytes as jobs;
+ghost use Rattle.sz_journal.specs.Journal.{rounds_of, end_gate, IsOf};
+ghost use Rattle.sz_journal.specs.Reading.{FitsRefused, FitsFirst, FitsTaken, IsAt, FitsTurn, FitsRead, IsReadTo};
+
+use crate::error::OpenError;
+use crate::journal::{FRONT_BYTES, Journal};
+use std::alloc::Global;
+use sz_disk::Disk;
+use sz_gates::{AtGate, read_gate};
+use sz_journal_format::{EntryError, JobBytes, may_be_next, read_job, read_round};
+use sz_types::TableDecls;
+
+// Whether a disk of `count` bytes begins with the entry of the job, which this is. It doesn't where it holds no entry.
+pub(crate) fn has_job<K: Disk>(
+    alloc: Global,
+    disk: &mut K,
+    count: u64,
+    own: &[u8],
+) -> Result<bool, OpenError>
+    requires all { IfSome (K.bytes disk.old) (λ held. count ≡ length held) }
+
+    ensures value { (job : jobs.JobBytes) (decls : List Declaration) (held : List ℕ) → own.now ≡ job_bytes job → K.bytes disk.old ≡ Some held
+        → FitsFirst job decls held result }
+    ensures within { IfOk result (λ has. has ≡ true → length (opened own.now) < count) }
+
+    ensures failed { IsErrOf result OpenError.Failed → Rose (K.faults disk.old) (K.faults disk.new) }
+
+    ensures kept { WritesNothing K.bytes K.may_leave K.time K.left_since disk.old disk.new }
+    ensures faults { DoesNotFall (K.faults disk.old) (K.faults disk.new) }
+{
+    if count < 2 {
+        return Ok(false);
+    }
+    match read_gate(alloc, disk, count, 0)? {
+        AtGate::Closed => Ok(false),
+        AtGate::Cut => Err(OpenError::Damaged(0)),
+        AtGate::Ending(first) => Err(refused(alloc, own, &first)),
+        AtGate::Entry(first) => {
+            if is_same(&first, own) {
+                return Ok(true);
+            }
+            Err(refused(alloc, own, &first))
+        }
+    }
+}
+
+// Whether bytes are the same.
+fn is_same(one: &[u8], other: &[u8]) -> bool
+    ensures value { IsTrue result ↔ (one.now ≡ other.now) }
+{
+    one == other
+}
+
+// What a first entry is that isn't the job's own, or has no gate behind it.
+fn refused(alloc: Global, own: &[u8], first: &[u8]) -> OpenError
+    ensures value { FitsRefused own.now first.now result }
+{
+    if is_same(first, own) {
+        return OpenError::Damaged(0);
+    }
+    match read_job(alloc, first) {
+        Ok(_) => OpenError::OtherJob,
+        Err(EntryError::NotEntry) => OpenError::Damaged(0),
+        Err(EntryError::NoMemory) => OpenError::NoMemory,
+    }
+}
+
+// Reads the rounds behind the entry of the job, which has `size` bytes, from a disk of `count` bytes.
+pub(crate) fn read_rounds<K: Disk>(
+    alloc: Global,
+    disk: &mut K,
+    count: u64,
+    job: &JobBytes,
+    decls: &TableDecls,
+    size: u64,
+) -> Result<Journal, OpenError>
+    requires all { IfSome (K.bytes disk.old) (λ held. count ≡ length held) }
+    requires first { (held : List ℕ) → K.bytes disk.old ≡ Some held → IsReadTo job.now [] held }
+    requires of_job { size ≡ length (job_bytes job.now) }
+    requires here { 9 + size < count }
+
+    ensures value { (held : List ℕ) → K.bytes disk.old ≡ Some held → FitsRead job.now decls.now held result }
+    ensures is_of { IfOk result (IsOf job.now) }
+    ensures are { IfOk result (λ journal. AreRounds job.now decls.now (rounds_of journal)) }
+
+    ensures failed { IsErrOf result OpenError.Failed → Rose (K.faults disk.old) (K.faults disk.new) }
+
+    ensures kept { WritesNothing K.bytes K.may_leave K.time K.left_since disk.old disk.new }
+    ensures faults { DoesNotFall (K.faults disk.old) (K.faults disk.new) }
+{
+    let mut journal = Journal::new(alloc, FRONT_BYTES + size);
+    while read_next(alloc, disk, count, job, decls, &mut journal)? {}
+    Ok(journal)
+}
+
+// Reads a further round, if the gate behind the last one is open.
+fn read_next<K: Disk>(
+    alloc: Global,
+    disk: &mut K,
+    count: u64,
+    job: &JobBytes,
+    decls: &TableDecls,
+    journal: &mut Journal,
+) -> Result<bool, OpenError>
+    requires all { IfSome (K.bytes disk.old) (λ held. count ≡ length held) }
+    requires at { IsAt job.now decls.now journal.old (K.bytes disk.old) count }
+
+    ensures value { FitsTurn job.now decls.now (K.bytes disk.old) count journal.old journal.new result }
+
+    ensures failed { IsErrOf result OpenError.Failed → Rose (K.faults disk.old) (K.faults disk.new) }
+
+    ensures kept { WritesNothing K.bytes K.may_leave K.time K.left_since disk.old disk.new }
+    ensures faults { DoesNotFall (K.faults disk.old) (K.faults disk.new) }
+{
+    let gate = journal.end();
+    match read_gate(alloc, disk, count, gate)? {
+        AtGate::Closed => Ok(false),
+        AtGate::Ending(_) => Err(OpenError::Damaged(gate)),
+        AtGate::Cut => Err(OpenError::Damaged(gate)),
+        AtGate::Entry(entry) => {
+            take_round(alloc, job, decls, journal, &entry)?;
+            Ok(true)
+        }
+    }
+}
+
+// Takes over the round whose entry was read at the end of the journal, if it may be the next one.
+fn take_round(
+    alloc: Global,
+    job: &JobBytes,
+    decls: &TableDecls,
+    journal: &mut Journal,
+    entry: &[u8],
+) -> Result<(), OpenError>
+    requires are { AreRounds job.now decls.now (rounds_of journal.old) }
+    requires low { end_gate journal.old + length (opened entry.now) < 2 ^ 64 - 1 }
+
+    ensures value { FitsTaken job.now decls.now journal.old journal.new entry.now result }
+{
+    let gate = journal.end();
+    // No round passes over more records, so that each that may be the next one has its bytes.
+    let _most_passed = job.skip;
+    match read_round(alloc, entry) {
+        Ok(round) => {
+            if !may_be_next(job, decls, journal.rounds(), &round) {
+                return Err(OpenError::Damaged(gate));
+            }
+            journal.take(round, entry.len() as u64)?;
+            Ok(())
+        }
+        Err(EntryError::NotEntry) => Err(OpenError::Damaged(gate)),
+        Err(EntryError::NoMemory) => Err(OpenError::NoMemory),
+    }
+}

@@ -1,0 +1,5 @@
+pub mod FindLemmas
+pub mod JobLemmas
+pub mod RoundLemmas
+pub mod FollowLemmas
+mod PutLemmas

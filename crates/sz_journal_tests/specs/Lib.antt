@@ -1,0 +1,2 @@
+-- what the tests promise each other
+pub mod Ready

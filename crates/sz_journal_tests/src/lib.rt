@@ -1,0 +1,13 @@
+//! Tests of journals: their entries as rows of data, and what is kept of them through calls that fail and crashes.
+#![tactic(auto)]
+
+#[cfg(test)]
+mod following;
+#[cfg(test)]
+mod jobs;
+#[cfg(test)]
+mod keeping;
+#[cfg(test)]
+mod rounds;
+#[cfg(test)]
+mod rows;
