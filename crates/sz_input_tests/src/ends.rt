@@ -35,7 +35,7 @@ fn rows() -> &'static [Row] {
 }
 
 // Whether records end at these places.
-fn end_at(records: &Records, wanted: &[u64]) -> bool {
+pub(crate) fn end_at(records: &Records, wanted: &[u64]) -> bool {
     if records.len() != wanted.len() {
         return false;
     }

@@ -7,7 +7,7 @@ use sz_types::Frame::{self, Delimited, Lines};
 
 // What a file may hold.
 #[derive(Clone, Copy)]
-enum Limits {
+pub(crate) enum Limits {
     Full,
     // A record of four bytes, two records.
     Small,
@@ -15,7 +15,7 @@ enum Limits {
     Short,
 }
 
-fn limits_of(limits: Limits) -> FrameLimits {
+pub(crate) fn limits_of(limits: Limits) -> FrameLimits {
     let (record_bytes, records, input_bytes) = match limits {
         Full => return FrameLimits::FULL,
         Small => (4, 2, 100),
@@ -98,7 +98,7 @@ pub(crate) fn fed(
 }
 
 // Whether these are the records.
-fn are(records: &Records, wanted: &[&[u8]]) -> bool {
+pub(crate) fn are(records: &Records, wanted: &[&[u8]]) -> bool {
     if records.len() != wanted.len() {
         return false;
     }

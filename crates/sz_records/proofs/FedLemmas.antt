@@ -12,7 +12,7 @@ use Rattle.sz_records.specs.declared.limits.FrameLimits.{FrameLimits}
 use Rattle.sz_records.specs.Cutting.{stopped, unfinished, at_end, standing, IsCut, place_after, places_of}
 use Rattle.sz_records.specs.Ends.{RecordsData, with_record}
 use Rattle.sz_records.specs.Steps.{stands, IsCutOn, place_on, IsLeft, CutsOff}
-use Rattle.sz_records.specs.Fed.{FramerData, IsCutAfter, IsCutBy, IsOpen, HasRead, Feeds, EndSo, EndAsFed, Finishes, EndAsFinished, CutsPending}
+use Rattle.sz_records.specs.Fed.{FramerData, IsCutAfter, IsCutBy, IsOpen, HasReadBehind, Feeds, EndSo, EndAsFed, Finishes, EndAsFinished, CutsPending}
 use Rattle.sz_records.proofs.CutLemmas.{cut_stopped, cut_end, place_ended, same_places}
 use Rattle.sz_records.proofs.StayLemmas.{ending_stays}
 use Rattle.sz_records.proofs.StandingLemmas.{never_whole, begun_within, lines_within}
@@ -102,19 +102,20 @@ takes_ignored framer taken given is = by_ended framer.ended refl is
 -- what was read goes on in what is taken in
 feeds : {old new : FramerData} {piece : List ℕ} {before after : List (List ℕ)} → TakesIn old new piece before after
     → Feeds old new piece before after new.ended
-feeds {old} {new} {piece} {before} {after} t = λ frame limits fed given h. (
+feeds {old} {new} {piece} {before} {after} t = λ p n frame limits fed given h. (
     let goes : (more : List ℕ) (rs : List (List ℕ)) (e : Ending) → IsCutBy new more rs e
-    → IsCut frame limits 0 0 (fed ++ piece ++ more) (given ++ t.added ++ rs) e =
+    → IsCut frame limits p n (fed ++ piece ++ more) (given ++ t.added ++ rs) e =
     λ more rs e k. rw (append_assoc fed piece more, append_assoc given t.added rs) (h.goes_on (piece ++ more) (t.added ++ rs) e (t.goes_on more rs e k)) in
-    let read : HasRead frame limits new (fed ++ piece) (given ++ t.added) = record {
+    let read : HasReadBehind p n frame limits new (fed ++ piece) (given ++ t.added) = record {
+      within = h.within;
       goes_on = goes;
       nothing_whole = t.nothing_whole h.nothing_whole;
       same_limits = t.same_limits ∙ h.same_limits;
       later = λ none more count. (
           let joined = append_assoc fed piece more in
           let longer : length (given ++ t.added) + count ≡ length given + (length t.added + count) = omega (arith, length-append given t.added) in
-          ap (λ (l : List ℕ). place_after frame limits 0 0 l (length (given ++ t.added) + count)) joined
-          ∙ ap (place_after frame limits 0 0 (fed ++ (piece ++ more))) longer
+          ap (λ (l : List ℕ). place_after frame limits p n l (length (given ++ t.added) + count)) joined
+          ∙ ap (place_after frame limits p n (fed ++ (piece ++ more))) longer
           ∙ h.later (t.reached none).0 (piece ++ more) (length t.added + count)
           ∙ t.later none more count);
       reached = λ none. (let r = t.reached none in omega (arith, r.1, h.reached r.0, length-append fed piece));
@@ -126,12 +127,12 @@ feeds {old} {new} {piece} {before} {after} t = λ frame limits fed given h. (
       read = read;
       fixed = λ e is more. (let cut = goes more [] e (whatever_comes new.cutter new.pending new.ended e is more) in
           rw (append-nil (given ++ t.added)) at cut);
-      unfixed = fixes_none frame limits new (fed ++ piece) (given ++ t.added) read;
+      unfixed = fixes_none p n frame limits new (fed ++ piece) (given ++ t.added) read;
     })
 
 -- the file ends where its ending is known
 pub closes_ended : (framer : FramerData) (into : List (List ℕ)) (e : Ending) → framer.ended ≡ Some e → Finishes framer into into e
-closes_ended framer into e is = λ frame limits fed given h. record {
+closes_ended framer into e is = λ p n frame limits fed given h. record {
   added = [];
   gained = sym (append-nil into);
   cut = let cut = h.goes_on [] [] e (whatever_comes framer.cutter framer.pending framer.ended e is []) in rw (append-nil fed) at cut;
@@ -140,7 +141,7 @@ closes_ended framer into e is = λ frame limits fed given h. record {
 closes_open : (framer : FramerData) (before after rs : List (List ℕ)) (e : Ending) → framer.ended ≡ None
     → at_end framer.cutter.frame framer.cutter.place framer.pending ≡ (rs, e) → after ≡ before ++ rs
     → Finishes framer before after e
-closes_open framer before after rs e none ends grown = λ frame limits fed given h. record {
+closes_open framer before after rs e none ends grown = λ p n frame limits fed given h. record {
   added = rs;
   gained = grown;
   cut =
@@ -181,25 +182,27 @@ closes_damaged framer into none is some =
     closes_open framer into into [] (Damaged framer.cutter.place) none
     (end_damaged framer.cutter.frame framer.cutter.place framer.pending is some) (sym (append-nil into))
 
-pub starts_reading : (frame : Frame) (limits : FrameLimits) (framer : FramerData) → framer.cutter.frame ≡ frame → framer.cutter.limits ≡ limits
-    → framer.cutter.place ≡ 0 → framer.cutter.count ≡ 0 → framer.pending ≡ [] → framer.ended ≡ None
-    → HasRead frame limits framer [] []
+pub starts_reading : (p n : ℕ) (frame : Frame) (limits : FrameLimits) (framer : FramerData) → framer.cutter.frame ≡ frame
+    → framer.cutter.limits ≡ limits → framer.cutter.place ≡ p → framer.cutter.count ≡ n → framer.pending ≡ [] → framer.ended ≡ None
+    → HasReadBehind p n frame limits framer [] []
 unfolding standing
-starts_reading frame limits framer f l p n pending none = record {
-  goes_on = λ more rs e k. (let k' = rw (none, f, l, p, n, pending) at k in k');
+starts_reading p n frame limits framer f l place count_is pending none = record {
+  within = (let low = framer.cutter.in_input in omega (arith, low, place, ap (λ (x : FrameLimits). x.input_bytes) l));
+  goes_on = λ more rs e k. (let k' = rw (none, f, l, place, count_is, pending) at k in k');
   nothing_whole = λ e. rw pending refl;
   same_limits = l;
   later = λ e more count. (
       let none_given : 0 + count ≡ count = omega arith in
-      ap (place_after frame limits 0 0 more) none_given ∙ rw (f, l, p, n, pending) refl);
-  reached = λ e. omega (arith, p, ap length pending);
+      ap (place_after frame limits p n more) none_given ∙ rw (f, l, place, count_is, pending) refl);
+  reached = λ e. omega (arith, place, ap length pending);
   early = λ whole. (let no = sym none ∙ whole in cc);
 }
 
 -- no more bytes are read than an input may have, and those of a length that is begun, before the ending is known
-pub read_within : (frame : Frame) (limits : FrameLimits) (framer : FramerData) (fed : List ℕ) (given : List (List ℕ)) → HasRead frame limits framer fed given
+pub read_within : (p n : ℕ) (frame : Frame) (limits : FrameLimits) (framer : FramerData) (fed : List ℕ) (given : List (List ℕ))
+    → HasReadBehind p n frame limits framer fed given
     → framer.ended ≡ None → framer.cutter.place + length framer.pending ≤ limits.input_bytes + 9
-read_within frame limits framer fed given h none =
+read_within p n frame limits framer fed given h none =
     let c = framer.cutter in
     let within = begun_within c.frame c.limits c.place c.count framer.pending c.in_input (h.nothing_whole none) in
     omega (arith, within, ap (λ (l : FrameLimits). l.input_bytes) h.same_limits)
@@ -232,27 +235,27 @@ damage_closes framer now into same none is some =
     subst (λ (f : FramerData). Finishes f into into (Damaged framer.cutter.place)) same (closes_damaged framer into (ap (λ (f : FramerData). f.ended) same ∙ none) is some)
 
 -- no record came
-no_more : (frame : Frame) (limits : FrameLimits) (file : List ℕ) (n : ℕ) (into : RecordsData) → EndSo frame limits file n into into
-no_more frame limits file n into =
+no_more : (p n : ℕ) (frame : Frame) (limits : FrameLimits) (file : List ℕ) (i : ℕ) (into : RecordsData) → EndSo p n frame limits file i into into
+no_more p n frame limits file i into =
     let none : length into.items - length into.items ≡ 0 = omega arith in
-    sym (append-nil into.ends) ∙ ap (λ (k : ℕ). into.ends ++ places_of (place_after frame limits 0 0 file) n k) (sym none)
+    sym (append-nil into.ends) ∙ ap (λ (k : ℕ). into.ends ++ places_of (place_after frame limits p n file) i k) (sym none)
 
 pub none_came : (framer : FramerData) (piece : List ℕ) (into : RecordsData) → EndAsFed framer piece into into
-none_came framer piece into = λ frame limits fed given h more. no_more frame limits (fed ++ piece ++ more) (length given) into
+none_came framer piece into = λ p n frame limits fed given h more. no_more p n frame limits (fed ++ piece ++ more) (length given) into
 
 pub none_finished : (framer : FramerData) (into : RecordsData) → EndAsFinished framer into into
-none_finished framer into = λ frame limits fed given h. no_more frame limits fed (length given) into
+none_finished framer into = λ p n frame limits fed given h. no_more p n frame limits fed (length given) into
 
 -- the records that were cut off end where they do in the file
 pub ends_cut : (old mid new : FramerData) (piece : List ℕ) (before after : RecordsData) → old.ended ≡ None → mid ≡ record old { pending = old.pending ++ piece }
     → CutsPending mid new before after → EndAsFed old piece before after
-ends_cut old mid new piece before after none is c = λ frame limits fed given h more. (
+ends_cut old mid new piece before after none is c = λ p n frame limits fed given h more. (
     let s : CutsOff old.cutter new.cutter (old.pending ++ piece) c.left before after new.ended = rw is at c.cut in
     let file = fed ++ piece ++ more in
     let joined : fed ++ (piece ++ more) ≡ file = sym (append_assoc fed piece more) in
-    let same : (k : ℕ) → place_after frame limits 0 0 file (length given + k) ≡ place_on old.cutter (old.pending ++ piece ++ more) (0 + k) =
+    let same : (k : ℕ) → place_after frame limits p n file (length given + k) ≡ place_on old.cutter (old.pending ++ piece ++ more) (0 + k) =
     λ k. (let start : k ≡ 0 + k = omega arith in
-    ap (λ (l : List ℕ). place_after frame limits 0 0 l (length given + k)) (sym joined)
+    ap (λ (l : List ℕ). place_after frame limits p n l (length given + k)) (sym joined)
     ∙ h.later none (piece ++ more) k
     ∙ ap (λ (l : List ℕ). place_on old.cutter l k) (sym (append_assoc old.pending piece more))
     ∙ ap (place_on old.cutter (old.pending ++ piece ++ more)) start) in
@@ -260,8 +263,8 @@ ends_cut old mid new piece before after none is c = λ frame limits fed given h 
     omega (arith, ap length s.front.gained, length-append before.items s.front.given) in
     s.front.ends more
     ∙ ap (λ (l : List ℕ). before.ends ++ l)
-    (sym (ap (places_of (place_after frame limits 0 0 file) (length given)) came
-    ∙ same_places (place_after frame limits 0 0 file) (place_on old.cutter (old.pending ++ piece ++ more)) (length given) 0 (length s.front.given) same)))
+    (sym (ap (places_of (place_after frame limits p n file) (length given)) came
+    ∙ same_places (place_after frame limits p n file) (place_on old.cutter (old.pending ++ piece ++ more)) (length given) 0 (length s.front.given) same)))
 
 -- a last line ends with the file
 pub line_ends : (framer now : FramerData) (before after : RecordsData) (end : ℕ) → framer ≡ now → now.ended ≡ None → after ≡ with_record framer.pending end before
@@ -270,7 +273,7 @@ pub line_ends : (framer now : FramerData) (before after : RecordsData) (end : �
 line_ends framer now before after end same none grown is small lines = subst (λ (f : FramerData). EndAsFinished f before after) same from_inside
   where
     from_inside : EndAsFinished framer before after
-    from_inside = λ frame limits fed given h. (
+    from_inside = λ p n frame limits fed given h. (
         let c = framer.cutter in
         let unended = ap (λ (f : FramerData). f.ended) same ∙ none in
         let stood : stands c framer.pending ≡ unfinished = h.nothing_whole unended in
@@ -278,13 +281,13 @@ line_ends framer now before after end same none grown is small lines = subst (λ
         let one : length after.items - length before.items ≡ 1 =
         omega (arith, ap (λ (x : RecordsData). length x.items) grown, length-append before.items (framer.pending ∷ [])) in
         let next : suc (length given) ≡ length given + 1 = omega arith in
-        let there : place_after frame limits 0 0 fed (suc (length given)) ≡ end =
-        ap (place_after frame limits 0 0 fed) next
-        ∙ ap (λ (l : List ℕ). place_after frame limits 0 0 l (length given + 1)) (sym (append-nil fed))
+        let there : place_after frame limits p n fed (suc (length given)) ≡ end =
+        ap (place_after frame limits p n fed) next
+        ∙ ap (λ (l : List ℕ). place_after frame limits p n l (length given + 1)) (sym (append-nil fed))
         ∙ h.later unended [] 1
         ∙ ap (λ (l : List ℕ). place_on c l 1) (append-nil framer.pending)
         ∙ place_ended c.frame c.limits c.place c.count framer.pending 0 stood
         ∙ sym (is (omega (arith, within, small))) in
         ap (λ (x : RecordsData). x.ends) grown
         ∙ ap (λ (e : ℕ). before.ends ++ e ∷ []) (sym there)
-        ∙ ap (λ (k : ℕ). before.ends ++ places_of (place_after frame limits 0 0 fed) (length given) k) (sym one))
+        ∙ ap (λ (k : ℕ). before.ends ++ places_of (place_after frame limits p n fed) (length given) k) (sym one))

@@ -7,5 +7,6 @@ pub mod CutLemmas
 pub mod FedLemmas
 pub mod CutLaws
 pub mod OpenLemmas
+pub mod BehindLemmas
 pub mod ScanLemmas
 pub mod ShardLemmas

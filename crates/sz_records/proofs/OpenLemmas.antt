@@ -2,7 +2,7 @@
 use Rattle.std.proofs.Common.{◌≡◌, ◌≢◌, ℕ, zero, suc, ◌+◌, ◌-◌, ◌*◌, ◌%◌, ◌^◌, ◌<◌, ◌≤◌, min, List, [], ◌∷◌, ◌++◌, length, take, drop, replicate, Option}
 use Rattle.std.proofs.Common.{Some, None, Bool, true, false, cond, ltb, refl, subst, sym, ap, ◌∙◌, arith, length-append, length-drop, append_assoc}
 use Rattle.std.specs.Prelude.{nat_lt, nat_le}
-use Rattle.std.proofs.lemmas.Bool.{le-leb, ltb-true, ltb-false, leb-false}
+use Rattle.std.proofs.lemmas.Bool.{le-leb, ltb-true, ltb-false, leb-true, leb-false}
 use Rattle.std.proofs.lemmas.List.{append-nil, length-replicate}
 use Rattle.std.proofs.lemmas.Option.{some_pair_parts}
 use Rattle.sz_types.specs.declared.frame.Frame.{Frame}
@@ -14,7 +14,7 @@ use Rattle.sz_records.specs.declared.ending.Ending.TheVariants.{Whole, Damaged, 
 use Rattle.sz_records.specs.declared.limits.FrameLimits.{FrameLimits}
 use Rattle.sz_records.specs.Cutting.{Standing, record_of, stopped, unfinished, by_limits, line_len, line_standing, sized_standing, length_standing}
 use Rattle.sz_records.specs.Cutting.{frame_standing, standing, at_end, EndsHere, BeginsWith, IsCut}
-use Rattle.sz_records.specs.Fed.{FramerData, IsCutBy, HasRead, EndsSo}
+use Rattle.sz_records.specs.Fed.{FramerData, IsCutBy, HasReadBehind, EndsSo}
 use Rattle.sz_records.proofs.StandingLemmas.{by_frame, never_whole, nothing_stands, lines_within}
 use Rattle.sz_records.proofs.CutLemmas.{cut_record, cut_stopped, cut_end}
 use Rattle.sz_records.proofs.CutLaws.{cut_once}
@@ -36,41 +36,78 @@ is_there false false false p found r size e = absurd cc
 same_size : (r q : List ℕ) (size other : ℕ) → record_of r size ≡ record_of q other → size ≡ other
 same_size r q size other e = cc
 
-line_inside : (limits : FrameLimits) (p : ℕ) (bytes r : List ℕ) (size : ℕ) → line_standing limits p bytes ≡ record_of r size → p + size ≤ limits.input_bytes
+-- what follows a number is shorter than what it stands in
+number_shorter : (most : ℕ) (bytes : List ℕ) (n : ℕ) (rest : List ℕ) → number_at most bytes ≡ Some (n, rest) → length rest < length bytes
+unfolding number_at
+number_shorter zero bytes n rest e = absurd cc
+number_shorter (suc most) [] n rest e = absurd cc
+number_shorter (suc most) (x ∷ xs) n rest e = by_test (number_at most xs) (λ high h. number_shorter most xs high rest h) (ltb x 128) e
+  where
+    by_test : (read : Option (ℕ × List ℕ)) → ((high : ℕ) → read ≡ Some (high, rest) → length rest < length xs) → (t : Bool)
+        → cond t (Some (x, xs)) (low_bits x read) ≡ Some (n, rest) → length rest < suc (length xs)
+    by_test read goes true h = let parts = some_pair_parts x n xs rest h in omega (arith, ap length parts.1)
+    by_test None goes false h = absurd cc
+    by_test (Some found) goes false h =
+        let parts = some_pair_parts (x - 128 + 128 * found.0) n found.1 rest h in
+        let short = goes found.0 (ap (λ (r : List ℕ). Some (found.0, r)) parts.1) in omega (arith, short)
+
+varint_shorter : (bytes : List ℕ) (n : ℕ) (rest : List ℕ) → varint_at bytes ≡ Some (n, rest) → length rest < length bytes
+unfolding varint_at
+varint_shorter bytes n rest e = by (number_at 10 bytes) (λ m h. number_shorter 10 bytes m rest h) e
+  where
+    by : (read : Option (ℕ × List ℕ)) → ((m : ℕ) → read ≡ Some (m, rest) → length rest < length bytes) → in_64_bits read ≡ Some (n, rest)
+        → length rest < length bytes
+    by None goes h = absurd cc
+    by (Some found) goes h =
+        let parts = some_pair_parts (found.0 % 2 ^ 64) n found.1 rest h in goes found.0 (ap (λ (r : List ℕ). Some (found.0, r)) parts.1)
+
+-- a record takes some bytes, and ends inside the input and inside the bytes that are there
+pub record IsInside (limits : FrameLimits) (p size : ℕ) (bytes : List ℕ) : Type 0 where
+  pub some : 0 < size
+  pub in_input : p + size ≤ limits.input_bytes
+  pub in_bytes : size ≤ length bytes
+
+line_inside : (limits : FrameLimits) (p : ℕ) (bytes r : List ℕ) (size : ℕ) → line_standing limits p bytes ≡ record_of r size → IsInside limits p size bytes
 unfolding line_standing
 line_inside limits p bytes r size e =
     let h = is_there (nat_lt limits.record_bytes (line_len bytes)) (nat_lt limits.input_bytes (p + min (line_len bytes + 1) (length bytes)))
     (nat_lt (line_len bytes) (length bytes)) p (record_of (take (line_len bytes) bytes) (line_len bytes + 1)) r size e in
     let within : p + min (line_len bytes + 1) (length bytes) ≤ limits.input_bytes = ltb-false _ _ h.within in
     let whole : line_len bytes < length bytes = ltb-true _ _ h.whole in
-    omega (arith, within, whole, same_size _ _ _ _ h.same)
+    let same : line_len bytes + 1 ≡ size = same_size _ _ _ _ h.same in
+    record { some = omega (arith, same); in_input = omega (arith, within, whole, same); in_bytes = omega (arith, whole, same) }
 
 length_inside : (limits : FrameLimits) (p : ℕ) (bytes : List ℕ) (read : Option (ℕ × List ℕ)) (r : List ℕ) (size : ℕ)
-    → length_standing limits p bytes read ≡ record_of r size → p + size ≤ limits.input_bytes
+    → ((n : ℕ) (rest : List ℕ) → read ≡ Some (n, rest) → length rest < length bytes) → length_standing limits p bytes read ≡ record_of r size
+    → IsInside limits p size bytes
 unfolding length_standing sized_standing
-length_inside limits p bytes None r size e = by (ltb (length bytes) 10) e
+length_inside limits p bytes None r size shorter e = by (ltb (length bytes) 10) e
   where
-    by : (t : Bool) → cond t unfinished (stopped (Damaged p)) ≡ record_of r size → p + size ≤ limits.input_bytes
+    by : (t : Bool) → cond t unfinished (stopped (Damaged p)) ≡ record_of r size → IsInside limits p size bytes
     by true is = absurd cc
     by false is = absurd cc
-length_inside limits p bytes (Some read) r size e =
+length_inside limits p bytes (Some read) r size shorter e =
     let used = length bytes - length read.1 in
     let h = is_there (nat_lt limits.record_bytes read.0) (nat_lt limits.input_bytes (p + (used + read.0))) (nat_le read.0 (length read.1)) p
     (record_of (take read.0 read.1) (used + read.0)) r size e in
     let within : p + (used + read.0) ≤ limits.input_bytes = ltb-false _ _ h.within in
-    omega (arith, within, same_size _ _ _ _ h.same)
+    let whole : read.0 ≤ length read.1 = leb-true _ _ h.whole in
+    let short : length read.1 < length bytes = shorter read.0 read.1 refl in
+    let same : used + read.0 ≡ size = same_size _ _ _ _ h.same in
+    record { some = omega (arith, short, same); in_input = omega (arith, within, same); in_bytes = omega (arith, whole, short, same) }
 
--- a record that stands ends inside the input
-record_inside : (frame : Frame) (limits : FrameLimits) (p n : ℕ) (bytes r : List ℕ) (size : ℕ) → standing frame limits p n bytes ≡ record_of r size
-    → p + size ≤ limits.input_bytes
+-- so does a record that stands
+pub record_inside : (frame : Frame) (limits : FrameLimits) (p n : ℕ) (bytes r : List ℕ) (size : ℕ)
+    → standing frame limits p n bytes ≡ record_of r size → IsInside limits p size bytes
 unfolding standing frame_standing
 record_inside frame limits p n [] r size e = absurd cc
 record_inside frame limits p n (b ∷ bytes) r size e = by frame (ltb n limits.records) e
   where
-    by : (frame : Frame) (t : Bool) → cond t (frame_standing frame limits p (b ∷ bytes)) (stopped (Limit p)) ≡ record_of r size → p + size ≤ limits.input_bytes
+    by : (frame : Frame) (t : Bool) → cond t (frame_standing frame limits p (b ∷ bytes)) (stopped (Limit p)) ≡ record_of r size
+        → IsInside limits p size (b ∷ bytes)
     by frame false is = absurd cc
     by Lines true is = line_inside limits p (b ∷ bytes) r size is
-    by Delimited true is = length_inside limits p (b ∷ bytes) (varint_at (b ∷ bytes)) r size is
+    by Delimited true is = length_inside limits p (b ∷ bytes) (varint_at (b ∷ bytes)) r size (varint_shorter (b ∷ bytes)) is
 
 -- what is only begun at the end of a whole file lies inside the input
 end_inside : (frame : Frame) (limits : FrameLimits) (p n : ℕ) (bytes : List ℕ) (rs : List (List ℕ)) → p ≤ limits.input_bytes
@@ -99,34 +136,9 @@ whole_inside frame limits p n bytes (first ∷ others) low h =
         → p + length bytes ≤ limits.input_bytes
     by goes (record_of r size) stood k =
         let inside = record_inside frame limits p n bytes r size stood in
-        let rest = goes size inside k.1 in omega (arith, inside, rest, length-drop size bytes)
+        let rest = goes size inside.in_input k.1 in omega (arith, inside.in_input, rest, length-drop size bytes)
     by goes (stopped why) stood k = absurd k
     by goes unfinished stood k = end_inside frame limits p n bytes (first ∷ others) low stood k
-
--- what follows a number is no longer than what it stands in
-number_shorter : (most : ℕ) (bytes : List ℕ) (n : ℕ) (rest : List ℕ) → number_at most bytes ≡ Some (n, rest) → length rest ≤ length bytes
-unfolding number_at
-number_shorter zero bytes n rest e = absurd cc
-number_shorter (suc most) [] n rest e = absurd cc
-number_shorter (suc most) (x ∷ xs) n rest e = by_test (number_at most xs) (λ high h. number_shorter most xs high rest h) (ltb x 128) e
-  where
-    by_test : (read : Option (ℕ × List ℕ)) → ((high : ℕ) → read ≡ Some (high, rest) → length rest ≤ length xs) → (t : Bool)
-        → cond t (Some (x, xs)) (low_bits x read) ≡ Some (n, rest) → length rest ≤ suc (length xs)
-    by_test read goes true h = let parts = some_pair_parts x n xs rest h in omega (arith, ap length parts.1)
-    by_test None goes false h = absurd cc
-    by_test (Some found) goes false h =
-        let parts = some_pair_parts (x - 128 + 128 * found.0) n found.1 rest h in
-        let short = goes found.0 (ap (λ (r : List ℕ). Some (found.0, r)) parts.1) in omega (arith, short)
-
-varint_shorter : (bytes : List ℕ) (n : ℕ) (rest : List ℕ) → varint_at bytes ≡ Some (n, rest) → length rest ≤ length bytes
-unfolding varint_at
-varint_shorter bytes n rest e = by (number_at 10 bytes) (λ m h. number_shorter 10 bytes m rest h) e
-  where
-    by : (read : Option (ℕ × List ℕ)) → ((m : ℕ) → read ≡ Some (m, rest) → length rest ≤ length bytes) → in_64_bits read ≡ Some (n, rest)
-        → length rest ≤ length bytes
-    by None goes h = absurd cc
-    by (Some found) goes h =
-        let parts = some_pair_parts (found.0 % 2 ^ 64) n found.1 rest h in goes found.0 (ap (λ (r : List ℕ). Some (found.0, r)) parts.1)
 
 -- a byte 0 ends a number that is begun
 number_ends : (most : ℕ) (bytes : List ℕ) → length bytes < most → number_at most bytes ≡ None
@@ -258,9 +270,9 @@ ends_open Delimited limits p n (b ∷ bytes) stood = by (ltb n limits.records) r
     by false e h = absurd cc
 
 -- where the ending isn't known, the bytes that were read fix none
-pub fixes_none : (frame : Frame) (limits : FrameLimits) (framer : FramerData) (fed : List ℕ) (given : List (List ℕ))
-    → HasRead frame limits framer fed given → framer.ended ≡ None → (e : Ending) → EndsSo frame limits fed e → ⊥
-fixes_none frame limits framer fed given h none e all = by (ends_open c.frame c.limits c.place c.count framer.pending stood)
+pub fixes_none : (p n : ℕ) (frame : Frame) (limits : FrameLimits) (framer : FramerData) (fed : List ℕ) (given : List (List ℕ))
+    → HasReadBehind p n frame limits framer fed given → framer.ended ≡ None → (e : Ending) → EndsSo p n frame limits fed e → ⊥
+fixes_none p n frame limits framer fed given h none e all = by (ends_open c.frame c.limits c.place c.count framer.pending stood)
   where
     c : Cutter
     c = framer.cutter
@@ -272,7 +284,7 @@ fixes_none frame limits framer fed given h none e all = by (ends_open c.frame c.
     same_ending : (more : List ℕ) (rs : List (List ℕ)) (end : Ending) → IsCut c.frame c.limits c.place c.count (framer.pending ++ more) rs end → e ≡ end
     same_ending more rs end cut =
         let on : IsCutBy framer more rs end = rw none cut in
-        (cut_once frame limits 0 0 (fed ++ more) (all more).0 (given ++ rs) e end (all more).1 (h.goes_on more rs end on)).1
+        (cut_once frame limits p n (fed ++ more) (all more).0 (given ++ rs) e end (all more).1 (h.goes_on more rs end on)).1
 
     at_its_end : (rs : List (List ℕ)) (end : Ending) → at_end c.frame c.place framer.pending ≡ (rs, end) → e ≡ end
     at_its_end rs end is = same_ending [] rs end (rw (append-nil framer.pending) (cut_end c.frame c.limits c.place c.count framer.pending rs end stood is))
@@ -286,9 +298,9 @@ fixes_none frame limits framer fed given h none e all = by (ends_open c.frame c.
     by : EndsOpen c.frame c.limits c.place c.count framer.pending → ⊥
     by (ends_whole rs is) =
         let here = at_its_end rs Whole is in
-        let cut : IsCut frame limits 0 0 (fed ++ too_long) (all too_long).0 Whole =
-        subst (λ end. IsCut frame limits 0 0 (fed ++ too_long) (all too_long).0 end) here (all too_long).1 in
-        let inside = whole_inside frame limits 0 0 (fed ++ too_long) (all too_long).0 (omega arith) cut in
+        let cut : IsCut frame limits p n (fed ++ too_long) (all too_long).0 Whole =
+        subst (λ end. IsCut frame limits p n (fed ++ too_long) (all too_long).0 end) here (all too_long).1 in
+        let inside = whole_inside frame limits p n (fed ++ too_long) (all too_long).0 h.within cut in
         omega (arith, inside, length-append fed too_long, how_long)
     by (ends_damaged frames is goes) =
         let here = at_its_end [] (Damaged c.place) is in

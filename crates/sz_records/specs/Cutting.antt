@@ -102,6 +102,6 @@ abbrev pub places_of : (ℕ → ℕ) → ℕ → ℕ → List ℕ
 places_of place i zero = []
 places_of place i (suc count) = place (suc i) ∷ places_of place (suc i) count
 
--- where so many records of a file end, from record i on, counted from 0
-abbrev pub ends_in : Frame → FrameLimits → List ℕ → ℕ → ℕ → List ℕ
-ends_in frame limits file i count = places_of (place_after frame limits 0 0 file) i count
+-- where so many records of what stands behind byte p and n records of a file end, from record i of them on, counted from 0
+abbrev pub ends_in : ℕ → ℕ → Frame → FrameLimits → List ℕ → ℕ → ℕ → List ℕ
+ends_in p n frame limits bytes i count = places_of (place_after frame limits p n bytes) i count

@@ -1,5 +1,5 @@
 -- What a framer has read, and what it makes of the bytes that are still to come.
-use Rattle.std.specs.Prelude.{◌≡◌, ◌≢◌, ℕ, ◌+◌, ◌-◌, List, [], ◌++◌, length, Option, Some, None}
+use Rattle.std.specs.Prelude.{◌≡◌, ◌≢◌, ℕ, ◌+◌, ◌-◌, ◌≤◌, List, [], ◌++◌, length, Option, Some, None}
 use Rattle.sz_types.specs.declared.frame.Frame.{Frame}
 use Rattle.sz_records.specs.declared.cutter.Cutter.{Cutter}
 use Rattle.sz_records.specs.declared.ending.Ending.{Ending}
@@ -28,65 +28,71 @@ IsCutBy framer more rs e = IsCutAfter framer.cutter framer.pending framer.ended 
 abbrev pub IsOpen : FramerData → Type 0
 IsOpen framer = framer.ended ≡ None → stands framer.cutter framer.pending ≡ unfinished
 
--- The framer was fed these bytes and gave these records: however the file goes on, what is still cut of it goes on that. Until the ending is
--- known, the bytes that are kept back are those after the place where the next record begins, and further records end where they do after
--- these; a file isn't whole before its end
-pub record HasRead (frame : Frame) (limits : FrameLimits) (framer : FramerData) (fed : List ℕ) (given : List (List ℕ)) : Type 0 where
-  pub goes_on : (more : List ℕ) (rs : List (List ℕ)) (e : Ending) → IsCutBy framer more rs e → IsCut frame limits 0 0 (fed ++ more) (given ++ rs) e
+-- The framer was fed these bytes of a file, those behind byte p and n records, and gave these records: however the file goes on, what is still cut of
+-- it goes on that. Until the ending is known, the bytes that are kept back are those after the place where the next record begins, and further records
+-- end where they do after these; a file isn't whole before its end
+pub record HasReadBehind (p n : ℕ) (frame : Frame) (limits : FrameLimits) (framer : FramerData) (fed : List ℕ) (given : List (List ℕ)) : Type 0 where
+  pub within : p ≤ limits.input_bytes
+  pub goes_on : (more : List ℕ) (rs : List (List ℕ)) (e : Ending) → IsCutBy framer more rs e → IsCut frame limits p n (fed ++ more) (given ++ rs) e
   pub nothing_whole : IsOpen framer
   pub same_limits : framer.cutter.limits ≡ limits
-  pub reached : framer.ended ≡ None → framer.cutter.place + length framer.pending ≡ length fed
+  pub reached : framer.ended ≡ None → framer.cutter.place + length framer.pending ≡ p + length fed
   pub later : framer.ended ≡ None → (more : List ℕ) (count : ℕ)
-      → place_after frame limits 0 0 (fed ++ more) (length given + count) ≡ place_on framer.cutter (framer.pending ++ more) count
+      → place_after frame limits p n (fed ++ more) (length given + count) ≡ place_on framer.cutter (framer.pending ++ more) count
   pub early : framer.ended ≢ Some Whole
 
--- each file that begins with these bytes has these records and this ending
-abbrev pub Fixes : Frame → FrameLimits → List ℕ → List (List ℕ) → Ending → Type 0
-Fixes frame limits fed given e = (more : List ℕ) → IsCut frame limits 0 0 (fed ++ more) given e
+-- the same of a whole file
+abbrev pub HasRead : Frame → FrameLimits → FramerData → List ℕ → List (List ℕ) → Type 0
+HasRead frame limits framer fed given = HasReadBehind 0 0 frame limits framer fed given
 
--- each file that begins with these bytes has this ending
-abbrev pub EndsSo : Frame → FrameLimits → List ℕ → Ending → Type 0
-EndsSo frame limits fed e = (more : List ℕ) → (rs : List (List ℕ)) × IsCut frame limits 0 0 (fed ++ more) rs e
+-- each file that goes on with these bytes, behind byte p and n records, has these records then, and this ending
+abbrev pub Fixes : ℕ → ℕ → Frame → FrameLimits → List ℕ → List (List ℕ) → Ending → Type 0
+Fixes p n frame limits fed given e = (more : List ℕ) → IsCut frame limits p n (fed ++ more) given e
+
+-- each file that goes on with these bytes has this ending
+abbrev pub EndsSo : ℕ → ℕ → Frame → FrameLimits → List ℕ → Ending → Type 0
+EndsSo p n frame limits fed e = (more : List ℕ) → (rs : List (List ℕ)) × IsCut frame limits p n (fed ++ more) rs e
 
 -- A piece was fed, and records were added: the records of a file whose bytes so far are those and the piece. An ending is answered exactly
 -- where those bytes fix one
-pub record Adds (frame : Frame) (limits : FrameLimits) (framer : FramerData) (fed : List ℕ) (given before after : List (List ℕ))
+pub record Adds (p n : ℕ) (frame : Frame) (limits : FrameLimits) (framer : FramerData) (fed : List ℕ) (given before after : List (List ℕ))
     (ended : Option Ending) : Type 0 where
   pub added : List (List ℕ)
   pub gained : after ≡ before ++ added
-  pub read : HasRead frame limits framer fed (given ++ added)
-  pub fixed : (e : Ending) → ended ≡ Some e → Fixes frame limits fed (given ++ added) e
-  pub unfixed : ended ≡ None → (e : Ending) → EndsSo frame limits fed e → ⊥
+  pub read : HasReadBehind p n frame limits framer fed (given ++ added)
+  pub fixed : (e : Ending) → ended ≡ Some e → Fixes p n frame limits fed (given ++ added) e
+  pub unfixed : ended ≡ None → (e : Ending) → EndsSo p n frame limits fed e → ⊥
 
 -- the piece is read, whatever was read before it
 abbrev pub Feeds : FramerData → FramerData → List ℕ → List (List ℕ) → List (List ℕ) → Option Ending → Type 0
-Feeds old new piece before after ended = (frame : Frame) (limits : FrameLimits) (fed : List ℕ) (given : List (List ℕ))
-    → HasRead frame limits old fed given → Adds frame limits new (fed ++ piece) given before after ended
+Feeds old new piece before after ended = (p n : ℕ) (frame : Frame) (limits : FrameLimits) (fed : List ℕ) (given : List (List ℕ))
+    → HasReadBehind p n frame limits old fed given → Adds p n frame limits new (fed ++ piece) given before after ended
 
--- the records that came now end in this file where those from record n on do, counted from 0
-abbrev pub EndSo : Frame → FrameLimits → List ℕ → ℕ → RecordsData → RecordsData → Type 0
-EndSo frame limits file n before after = after.ends ≡ before.ends ++ ends_in frame limits file n (length after.items - length before.items)
+-- the records that came now end in this file where those from record i on do, counted from 0
+abbrev pub EndSo : ℕ → ℕ → Frame → FrameLimits → List ℕ → ℕ → RecordsData → RecordsData → Type 0
+EndSo p n frame limits file i before after = after.ends ≡ before.ends ++ ends_in p n frame limits file i (length after.items - length before.items)
 
 -- the records that came with the piece end where they do in each file that so begins
 abbrev pub EndAsFed : FramerData → List ℕ → RecordsData → RecordsData → Type 0
-EndAsFed old piece before after = (frame : Frame) (limits : FrameLimits) (fed : List ℕ) (given : List (List ℕ)) → HasRead frame limits old fed given
-    → (more : List ℕ) → EndSo frame limits (fed ++ piece ++ more) (length given) before after
+EndAsFed old piece before after = (p n : ℕ) (frame : Frame) (limits : FrameLimits) (fed : List ℕ) (given : List (List ℕ))
+    → HasReadBehind p n frame limits old fed given
+    → (more : List ℕ) → EndSo p n frame limits (fed ++ piece ++ more) (length given) before after
 
 -- the file ends here: the records that were given before and now are its records, with this ending
-pub record Closes (frame : Frame) (limits : FrameLimits) (file : List ℕ) (given before after : List (List ℕ)) (e : Ending) : Type 0 where
+pub record Closes (p n : ℕ) (frame : Frame) (limits : FrameLimits) (file : List ℕ) (given before after : List (List ℕ)) (e : Ending) : Type 0 where
   pub added : List (List ℕ)
   pub gained : after ≡ before ++ added
-  pub cut : IsCut frame limits 0 0 file (given ++ added) e
+  pub cut : IsCut frame limits p n file (given ++ added) e
 
 -- the file that was read ends here
 abbrev pub Finishes : FramerData → List (List ℕ) → List (List ℕ) → Ending → Type 0
-Finishes old before after e = (frame : Frame) (limits : FrameLimits) (fed : List ℕ) (given : List (List ℕ))
-    → HasRead frame limits old fed given → Closes frame limits fed given before after e
+Finishes old before after e = (p n : ℕ) (frame : Frame) (limits : FrameLimits) (fed : List ℕ) (given : List (List ℕ))
+    → HasReadBehind p n frame limits old fed given → Closes p n frame limits fed given before after e
 
 -- the records that came at the file's end end where they do in it
 abbrev pub EndAsFinished : FramerData → RecordsData → RecordsData → Type 0
-EndAsFinished old before after = (frame : Frame) (limits : FrameLimits) (fed : List ℕ) (given : List (List ℕ)) → HasRead frame limits old fed given
-    → EndSo frame limits fed (length given) before after
+EndAsFinished old before after = (p n : ℕ) (frame : Frame) (limits : FrameLimits) (fed : List ℕ) (given : List (List ℕ))
+    → HasReadBehind p n frame limits old fed given → EndSo p n frame limits fed (length given) before after
 
 -- the whole records in what was kept back were cut off, and what is left is kept back, where the ending isn't known
 pub record CutsPending (old new : FramerData) (before after : RecordsData) : Type 0 where

@@ -1,6 +1,7 @@
 -- what the public contracts rest on
 pub mod Ends
 pub mod Cutting
+pub mod Behind
 pub mod Steps
 pub mod Fed
 pub mod Shards

@@ -47,18 +47,35 @@ impl Model for Framer {
 }
 
 impl Framer {
-    ghost use Rattle.sz_records.specs.Fed.{HasRead, Feeds, EndAsFed, Finishes, EndAsFinished, CutsPending};
+    ghost use Rattle.sz_records.specs.Fed.{HasRead, HasReadBehind, Feeds, EndAsFed, Finishes, EndAsFinished, CutsPending};
 
     /// A framer at the beginning of a file. It takes no memory.
     pub fn new(alloc: Global, frame: Frame, limits: FrameLimits) -> Framer
         ensures start { HasRead frame limits result [] [] }
         ensures not_ended { result.ended ≡ None }
     {
+        Framer::behind(alloc, frame, limits, 0, 0)
+    }
+
+    /// A framer in a file, behind so many of its bytes, which so many records take. The bytes that it is fed are those after these, and places
+    /// are counted from the first byte of the file. It takes no memory.
+    pub fn behind(
+        alloc: Global,
+        frame: Frame,
+        limits: FrameLimits,
+        bytes: u64,
+        records: u64,
+    ) -> Framer
+        requires bytes { bytes ≤ limits.input_bytes }
+        requires records { records ≤ limits.records }
+        ensures start { HasReadBehind bytes records frame limits result [] [] }
+        ensures not_ended { result.ended ≡ None }
+    {
         let cutter = Cutter {
             frame,
             limits,
-            place: 0,
-            count: 0,
+            place: bytes,
+            count: records,
         };
         Framer {
             cutter,

@@ -4,7 +4,8 @@ ghost use Rattle.sz_types.specs.declared.frame.Frame.{Frame};
 ghost use Rattle.sz_records.specs.declared.ending.Ending.{Ending};
 ghost use Rattle.sz_records.specs.declared.limits.FrameLimits.{FrameLimits};
 ghost use Rattle.sz_records.specs.Cutting.{IsCut, HasCut};
-ghost use Rattle.sz_records.specs.Fed.{FramerData, HasRead, EndsSo};
+ghost use Rattle.sz_records.specs.Behind.{RestIsCutSo};
+ghost use Rattle.sz_records.specs.Fed.{FramerData, HasReadBehind, EndsSo};
 
 /// Each file is cut in just one way.
 pub fn each_file_is_cut_once()
@@ -22,6 +23,12 @@ pub fn records_are_few()
 
 /// Bytes after which a framer knows no ending fix none: files that begin with them end in more than one way.
 pub fn what_is_unfinished_fixes_no_ending()
-    ensures none { (frame : Frame) (limits : FrameLimits) (framer : FramerData) (fed : List ℕ) (given : List (List ℕ)) (ending : Ending)
-        → HasRead frame limits framer fed given → framer.ended ≡ None → EndsSo frame limits fed ending → ⊥ }
+    ensures none { (p n : ℕ) (frame : Frame) (limits : FrameLimits) (framer : FramerData) (fed : List ℕ) (given : List (List ℕ)) (ending : Ending)
+        → HasReadBehind p n frame limits framer fed given → framer.ended ≡ None → EndsSo p n frame limits fed ending → ⊥ }
+{}
+
+/// Behind any of its records a file goes on as it is cut: what stands there has the file's further records, which end where they do in the
+/// file, and the file's ending.
+pub fn the_rest_is_cut_so()
+    ensures rest { RestIsCutSo }
 {}

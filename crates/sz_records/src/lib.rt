@@ -14,7 +14,9 @@ mod shard;
 
 pub use ending::Ending;
 pub use framer::Framer;
-pub use laws::{each_file_is_cut_once, records_are_few, what_is_unfinished_fixes_no_ending};
+pub use laws::{
+    each_file_is_cut_once, records_are_few, the_rest_is_cut_so, what_is_unfinished_fixes_no_ending,
+};
 pub use limits::FrameLimits;
 pub use records::Records;
 pub use shard::{shard_end, shards_are_unique};

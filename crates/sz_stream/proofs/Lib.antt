@@ -1,3 +1,4 @@
+pub mod PlaceLemmas
 pub mod ShardLemmas
 pub mod FedLemmas
 pub mod ClosingLemmas

@@ -1,5 +1,5 @@
 -- What is known between two rounds, and what each step of the loop over them changes.
-use Rattle.std.specs.Prelude.{◌≡◌, ℕ, suc, ◌+◌, ◌-◌, ◌*◌, ◌^◌, ◌<◌, ◌≤◌, Bool, true, false, List, [], ◌++◌, length, Option, Some, None, is_some}
+use Rattle.std.specs.Prelude.{◌≡◌, ℕ, suc, ◌+◌, ◌-◌, ◌*◌, ◌^◌, ◌<◌, ◌≤◌, ⊤, Bool, true, false, List, [], ◌++◌, length, Option, Some, None, is_some}
 use Rattle.std.specs.Prelude.{Result, Ok, Err}
 use Rattle.std.specs.Io.KnownBytes.{Consumes, IsAtEnd}
 use Rattle.sz_types.specs.declared.frame.Frame.{Frame}
@@ -9,44 +9,55 @@ use Rattle.sz_io.specs.declared.error.OutsideError.{OutsideError}
 use Rattle.sz_io.specs.declared.error.OutsideError.TheVariants as outside
 use Rattle.sz_records.specs.declared.ending.Ending.{Ending}
 use Rattle.sz_records.specs.declared.ending.Ending.TheVariants as endings
+use Rattle.sz_records.specs.Cutting.{place_after, ends_in}
 use Rattle.sz_records.specs.Fed.{FramerData}
 use Rattle.sz_records.specs.Shards.{AreShards}
 use Rattle.sz_attempt.specs.declared.job.Job.{Job}
 use Rattle.sz_attempt.specs.Ends.{StandForEmits}
-use Rattle.sz_rounds.specs.Outcomes.{ShardsEnd, after_front, outcome_from, outcome_of}
+use Rattle.sz_machine.specs.Ends.{seen_fault}
+use Rattle.sz_rounds.specs.Outcomes.{ShardsEnd, emitted, faulted, lost, after_front, outcome_from}
+use Rattle.sz_rounds.specs.Rounds.{shards_of}
 use Rattle.sz_rounds.specs.Cuts.{ranges_of, cut_into}
+use Rattle.sz_stream.specs.declared.done.Done.{Done}
 use Rattle.sz_stream.specs.declared.intake.Intake.{Intake}
 use Rattle.sz_stream.specs.declared.tables.InputTables.{InputTables}
 use Rattle.sz_stream.specs.declared.stop.Stop.{Stop}
-use Rattle.sz_stream.specs.declared.stop.Stop.TheVariants.{ReadFailed, NoMemory, Damaged, Limit}
-use Rattle.sz_stream.specs.Inputs.{GoesOn, RunsInput}
-use Rattle.sz_stream.specs.Intakes.{AreClosed, sum_of, IsFed}
+use Rattle.sz_stream.specs.declared.stop.Stop.TheVariants.{Fault, Lost, ReadFailed, NoMemory, Damaged, Limit}
+use Rattle.sz_stream.specs.Inputs.{full, GoesOn}
+use Rattle.sz_stream.specs.Intakes.{AreClosed, sum_of, CanGoOn, IsFed}
 
--- shards in front gave these emits, and so many of their records were passed over; what comes of all shards is what comes of those after them,
--- which begin with the shard of this number and the record of this one
-pub record RunsOn (job : Job) (most number first passed : ℕ) (emits : List EmitDatum) (rest : List (List ℕ)) (outcome : ShardsEnd) : Type 0 where
+-- shards in front gave these emits, and so many of their records were passed over, with those before them so many; what comes of all shards is what
+-- comes of those after them, which begin with the shard of this number and the record of this one
+pub record RunsOn (job : Job) (most number first front_passed passed : ℕ) (emits : List EmitDatum) (rest : List (List ℕ)) (outcome : ShardsEnd)
+    : Type 0 where
   pub sizes : List ℕ
   pub are : AreShards most rest sizes
-  pub goes_on : outcome ≡ after_front emits passed (outcome_from job passed (cut_into number first rest sizes))
+  pub goes_on : outcome ≡ after_front emits front_passed (outcome_from job passed (cut_into number first rest sizes))
 
--- Of the records that were given, all but those at hand were run, shard by shard, and no shard decided: so many were passed over. The tables stand for
--- the emits of the others
-pub record HasRun (job : Job) (most : ℕ) (at_end : Bool) (given records : List (List ℕ)) (number first passed : ℕ) (total : TotalState) : Type 0 where
-  pub emits : List EmitDatum
-  pub stand : StandForEmits job.compiled total emits
+-- Of the records that were given behind what of the input is done, all but those at hand were run, shard by shard, and no shard decided: so many of all
+-- were passed over, and these are the emits of the others
+pub record HasRun (done : Done) (job : Job) (most : ℕ) (at_end : Bool) (given records : List (List ℕ)) (number first passed : ℕ) (emits : List EmitDatum)
+    : Type 0 where
   pub count : ℕ
-  pub begun : first ≡ suc count
+  pub begun : first ≡ done.records + suc count
   pub low : passed ≤ job.skip
-  pub fewer : passed ≤ count
+  pub more_passed : ℕ
+  pub passed_so_far : passed ≡ done.passed + more_passed
+  pub fewer : more_passed ≤ count
   pub few : length emits ≤ job.budget * count
   pub runs : (more : List (List ℕ)) → (at_end ≡ true → more ≡ []) → (all : List ℕ) → AreShards most (given ++ more) all
-      → RunsOn job most number first passed emits (records ++ more) (outcome_of job (cut_into 0 1 (given ++ more) all))
+      → RunsOn job most number first more_passed passed emits (records ++ more)
+      (outcome_from job done.passed (cut_into done.shards (done.records + 1) (given ++ more) all))
 
--- These bytes were read, perhaps to their end. The records at hand are the last of those that were given, the round's shards are closed, and
--- all shards before them were run
-pub record IsRunning (job : Job) (frame : Frame) (most : ℕ) (intake : Intake) (total : TotalState) (read : List ℕ) (over : Bool) : Type 0 where
+-- These bytes were read, perhaps to their end. The records at hand are the last of those that were given, and end where they do in each input that
+-- goes on so; the round's shards are closed, and all shards before them were run
+pub record IsRunning (done : Done) (job : Job) (frame : Frame) (most : ℕ) (intake : Intake) (emits : List EmitDatum) (read : List ℕ) (over : Bool)
+    : Type 0 where
+  pub can : CanGoOn done
   pub given : List (List ℕ)
-  pub fed : IsFed frame intake.framer intake.ending read over given
+  pub front : List (List ℕ)
+  pub given_is : given ≡ front ++ intake.round.records.items
+  pub fed : IsFed done frame intake.framer intake.ending read over given
   pub low : 1 ≤ most
   pub limit : intake.most ≡ most
   pub sizes : List ℕ
@@ -54,41 +65,52 @@ pub record IsRunning (job : Job) (frame : Frame) (most : ℕ) (intake : Intake) 
   pub shards : intake.round.shards ≡ ranges_of 0 intake.first sizes
   pub few : length intake.round.shards ≤ 4096
   pub closed : intake.closed ≡ sum_of sizes
-  pub count : intake.first + length intake.round.records.items ≡ 1 + length given
+  pub count : intake.first + length intake.round.records.items ≡ 1 + done.records + length given
+  pub ends : (rest : List ℕ) → GoesOn read over rest → intake.round.records.ends
+      ≡ ends_in done.bytes done.records frame full rest (length given - length intake.round.records.items) (length intake.round.records.items)
   pub numbers : intake.round.first_shard + 1 ≤ intake.first
-  pub run : HasRun job most (is_some intake.ending) given intake.round.records.items intake.round.first_shard intake.first intake.round.passed total
+  pub run : HasRun done job most (is_some intake.ending) given intake.round.records.items intake.round.first_shard intake.first intake.round.passed emits
 
--- from what was left at the start to what is left now bytes were read, and this is known of them
-pub record Reaches (job : Job) (frame : Frame) (most : ℕ) (intake : Intake) (total : TotalState) (start left : Option (List ℕ)) : Type 0 where
+-- from what was left at the start, behind what of the input is done, to what is left now bytes were read, and this is known of them
+pub record Reaches (done : Done) (job : Job) (frame : Frame) (most : ℕ) (intake : Intake) (emits : List EmitDatum) (start left : Option (List ℕ))
+    : Type 0 where
   pub read : List ℕ
   pub over : Bool
-  pub running : IsRunning job frame most intake total read over
+  pub running : IsRunning done job frame most intake emits read over
   pub consumed : Consumes start left read
   pub at_end : over ≡ true → IsAtEnd left
 
--- it is known of some bytes that were read, and of some tables
+-- it is known of some bytes that were read, and of some emits
 pub record CanRead (intake : Intake) : Type 0 where
+  pub done : Done
   pub job : Job
   pub frame : Frame
   pub most : ℕ
-  pub total : TotalState
+  pub emits : List EmitDatum
   pub read : List ℕ
   pub over : Bool
-  pub running : IsRunning job frame most intake total read over
+  pub running : IsRunning done job frame most intake emits read over
 
 -- the same, and the round has a shard
-pub record CanRun (job : Job) (intake : Intake) (total : TotalState) : Type 0 where
+pub record HasRound (job : Job) (intake : Intake) (emits : List EmitDatum) : Type 0 where
+  pub done : Done
   pub frame : Frame
   pub most : ℕ
   pub read : List ℕ
   pub over : Bool
-  pub running : IsRunning job frame most intake total read over
+  pub running : IsRunning done job frame most intake emits read over
   pub some : 0 < length intake.round.shards
+
+-- the same, where tables stand for the emits
+pub record CanRun (job : Job) (intake : Intake) (total : TotalState) : Type 0 where
+  pub emits : List EmitDatum
+  pub stand : StandForEmits job.compiled total emits
+  pub has_round : HasRound job intake emits
 
 -- no bytes are left unread that the intake didn't take in
 abbrev pub Fills : Intake → Intake → Option (List ℕ) → Option (List ℕ) → Type 0
-Fills old new before after = (job : Job) (frame : Frame) (most : ℕ) (total : TotalState) (start : Option (List ℕ))
-    → Reaches job frame most old total start before → Reaches job frame most new total start after
+Fills old new before after = (done : Done) (job : Job) (frame : Frame) (most : ℕ) (emits : List EmitDatum) (start : Option (List ℕ))
+    → Reaches done job frame most old emits start before → Reaches done job frame most new emits start after
 
 -- how many bytes may still be read: no more than an input may have, and those of a length that is begun
 abbrev pub left_to_read : Option Ending → FramerData → ℕ
@@ -102,29 +124,50 @@ pub record ReadsPiece (old new : Intake) (before after : Option (List ℕ)) : Ty
   pub less : left_to_read new.ending new.framer < left_to_read old.ending old.framer
 
 -- all these bytes were taken in, and then the end
-pub record HasTakenAll (job : Job) (frame : Frame) (most : ℕ) (intake : Intake) (total : TotalState) (bytes : List ℕ) : Type 0 where
-  pub reached : Reaches job frame most intake total (Some bytes) (Some [])
+pub record HasTakenAll (done : Done) (job : Job) (frame : Frame) (most : ℕ) (intake : Intake) (emits : List EmitDatum) (bytes : List ℕ) : Type 0 where
+  pub reached : Reaches done job frame most intake emits (Some bytes) (Some [])
   pub known : is_some intake.ending ≡ true
 
 abbrev pub TakesAll : Intake → Intake → List ℕ → Type 0
-TakesAll old new bytes = (job : Job) (frame : Frame) (most : ℕ) (total : TotalState) → IsRunning job frame most old total [] false
-    → HasTakenAll job frame most new total bytes
+TakesAll old new bytes = (done : Done) (job : Job) (frame : Frame) (most : ℕ) (emits : List EmitDatum)
+    → IsRunning done job frame most old emits [] false → HasTakenAll done job frame most new emits bytes
 
 -- the round has a shard, or the ending is known and no record is left
 abbrev pub IsReady : Intake → Type 0
 IsReady intake = length intake.round.shards ≡ 0 → (is_some intake.ending ≡ true) × (length intake.round.records.items ≡ 0)
 
+-- the tables stand for the emits of all that was run
+pub record Gathers (done : Done) (job : Job) (frame : Frame) (most : ℕ) (intake : Intake) (total : TotalState) (start left : Option (List ℕ))
+    : Type 0 where
+  pub emits : List EmitDatum
+  pub stand : StandForEmits job.compiled total emits
+  pub reached : Reaches done job frame most intake emits start left
+
 -- the round was run, and no shard of it decides
 pub record RunsRound (job : Job) (old new : Intake) (total merged : TotalState) : Type 0 where
-  pub goes_on : (frame : Frame) (most : ℕ) (start left : Option (List ℕ)) → Reaches job frame most old total start left
-      → Reaches job frame most new merged start left
+  pub goes_on : (done : Done) (frame : Frame) (most : ℕ) (start left : Option (List ℕ)) → Gathers done job frame most old total start left
+      → Gathers done job frame most new merged start left
   pub further : old.first < new.first
   pub ending : new.ending ≡ old.ending
 
--- the first shard of the round that decides does so
-abbrev pub StopsRound : Job → Intake → TotalState → Stop → Type 0
-StopsRound job intake total stop = (frame : Frame) (most : ℕ) (read : List ℕ) (over : Bool) → IsRunning job frame most intake total read over
-    → (input : List ℕ) → GoesOn read over input → RunsInput job most frame input (Err stop)
+-- what is done once the round is ends, in each input that goes on so, where the last of its records does
+abbrev pub EndsAt : Intake → Done → Type 0
+EndsAt intake next = (done : Done) (job : Job) (frame : Frame) (most : ℕ) (emits : List EmitDatum) (read : List ℕ) (over : Bool)
+    → IsRunning done job frame most intake emits read over → (rest : List ℕ) → GoesOn read over rest
+    → next.bytes ≡ place_after frame full done.bytes done.records rest (next.records - done.records)
+
+-- where no shard of the round decides, and so many of its records are passed over, all is known after it with its emits that was before it
+abbrev pub MovesOn : ℕ → Intake → Intake → Type 0
+MovesOn passed old new = (done : Done) (job : Job) (frame : Frame) (most : ℕ) (emits es : List EmitDatum) (start left : Option (List ℕ))
+    → Reaches done job frame most old emits start left → outcome_from job old.round.passed (shards_of old.round) ≡ emitted es passed
+    → Reaches done job frame most new (emits ++ es) start left
+
+-- what comes of shards ends a run so: the first of them that decides does
+abbrev pub StopsShards : ShardsEnd → Stop → Type 0
+StopsShards end (Fault number fault) = end ≡ faulted number (seen_fault fault)
+StopsShards end (Lost shard) = end ≡ lost shard
+StopsShards end NoMemory = ⊤
+StopsShards end stop = ⊥
 
 -- the tables of so many records, by how the records end
 abbrev pub ended_so : TotalState → ℕ → Ending → Result InputTables Stop

@@ -1,5 +1,5 @@
 -- What running a job over an input gives.
-use Rattle.std.specs.Prelude.{◌≡◌, ℕ, ◌*◌, ◌^◌, ◌≤◌, ⊤, Bool, true, List, [], ◌++◌, length, Option, Result, Ok, Err}
+use Rattle.std.specs.Prelude.{◌≡◌, ℕ, ◌+◌, ◌*◌, ◌^◌, ◌≤◌, ⊤, Bool, true, List, [], ◌++◌, length, Option, Result, Ok, Err}
 use Rattle.std.specs.Io.KnownBytes.{Consumes, IsAtEnd}
 use Rattle.sz_types.specs.declared.frame.Frame.{Frame}
 use Rattle.sz_tabs.specs.Data.{EmitDatum}
@@ -11,8 +11,9 @@ use Rattle.sz_records.specs.Cutting.{IsCut}
 use Rattle.sz_records.specs.Shards.{AreShards}
 use Rattle.sz_attempt.specs.declared.job.Job.{Job}
 use Rattle.sz_attempt.specs.Ends.{StandForEmits}
-use Rattle.sz_rounds.specs.Outcomes.{ShardsEnd, emitted, faulted, lost, outcome_of}
+use Rattle.sz_rounds.specs.Outcomes.{ShardsEnd, emitted, faulted, lost, outcome_from}
 use Rattle.sz_rounds.specs.Cuts.{cut_into}
+use Rattle.sz_stream.specs.declared.done.Done.{Done}
 use Rattle.sz_stream.specs.declared.tables.InputTables.{InputTables}
 use Rattle.sz_stream.specs.declared.stop.Stop.{Stop}
 use Rattle.sz_stream.specs.declared.stop.Stop.TheVariants.{Fault, Lost, Damaged, Limit, ReadFailed, NoMemory}
@@ -53,11 +54,21 @@ EndsInput job count ending outcome (Err (Limit byte)) = (ending ≡ endings.Limi
 EndsInput job count ending outcome (Err ReadFailed) = ⊤
 EndsInput job count ending outcome (Err NoMemory) = ⊤
 
--- the answer is that of the input's records, and of the shards that they are cut into, each of so many records at most
+-- the answer is that of the records of what stands behind what of an input is done, and of the shards that they are cut into, each of so many records at
+-- most, which are numbered on from there
+abbrev pub RunsBehind : Done → Job → ℕ → Frame → List ℕ → Result InputTables Stop → Type 0
+RunsBehind done job most frame input answer =
+    (records : List (List ℕ)) (ending : Ending) (sizes : List ℕ) → IsCut frame full done.bytes done.records input records ending
+    → AreShards most records sizes
+    → EndsInput job (length records) ending (outcome_from job done.passed (cut_into done.shards (done.records + 1) records sizes)) answer
+
+-- nothing of an input is done
+abbrev pub nothing : Done
+nothing = record { shards = 0; records = 0; bytes = 0; passed = 0 }
+
+-- the same of a whole input
 abbrev pub RunsInput : Job → ℕ → Frame → List ℕ → Result InputTables Stop → Type 0
-RunsInput job most frame input answer =
-    (records : List (List ℕ)) (ending : Ending) (sizes : List ℕ) → IsCut frame full 0 0 input records ending → AreShards most records sizes
-    → EndsInput job (length records) ending (outcome_of job (cut_into 0 1 records sizes)) answer
+RunsInput job most frame input answer = RunsBehind nothing job most frame input answer
 
 -- bytes were read, perhaps to their end, and the answer is that of each input which they may begin
 pub record RunsRead (job : Job) (most : ℕ) (frame : Frame) (before after : Option (List ℕ)) (answer : Result InputTables Stop) : Type 0 where

@@ -1,13 +1,14 @@
 -- What is known of an input that comes in pieces, and what taking a piece in, closing shards and moving on change.
-use Rattle.std.specs.Prelude.{◌≡◌, ◌⊎◌, ℕ, ◌+◌, ◌<◌, ◌≤◌, ◌==◌, Bool, true, false, List, [], ◌∷◌, ◌++◌, length, drop, Option, Some, None, is_some, if◌then◌else◌}
+use Rattle.std.specs.Prelude.{◌≡◌, ◌⊎◌, ℕ, ◌+◌, ◌-◌, ◌^◌, ◌<◌, ◌≤◌, ◌==◌, Bool, true, false, List, [], ◌∷◌, ◌++◌, length, drop, get_or, Option, Some, None, is_some, if◌then◌else◌}
 use Rattle.sz_types.specs.declared.frame.Frame.{Frame}
 use Rattle.sz_records.specs.declared.ending.Ending.{Ending}
 use Rattle.sz_records.specs.declared.ending.Ending.TheVariants.{Whole}
 use Rattle.sz_records.specs.Cutting.{IsCut}
-use Rattle.sz_records.specs.Ends.{no_records, later_of}
-use Rattle.sz_records.specs.Fed.{FramerData, HasRead}
+use Rattle.sz_records.specs.Ends.{RecordsData, no_records, later_of}
+use Rattle.sz_records.specs.Fed.{FramerData, HasReadBehind, EndSo}
 use Rattle.sz_records.specs.Shards.{IsShard}
 use Rattle.sz_rounds.specs.Cuts.{ranges_of}
+use Rattle.sz_stream.specs.declared.done.Done.{Done}
 use Rattle.sz_stream.specs.declared.intake.Intake.{Intake}
 use Rattle.sz_stream.specs.Inputs.{full, GoesOn}
 
@@ -27,19 +28,26 @@ abbrev pub sum_of : List ℕ → ℕ
 sum_of [] = 0
 sum_of (n ∷ ns) = n + sum_of ns
 
--- These bytes were read, perhaps to their end, and these records were given: the ending isn't known yet; or each input that they may begin
--- has these records and this ending
-abbrev pub IsFed : Frame → FramerData → Option Ending → List ℕ → Bool → List (List ℕ) → Type 0
-IsFed frame framer None read over given = HasRead frame full framer read given × (framer.ended ≡ None) × (over ≡ false)
-IsFed frame framer (Some e) read over given =
-    ((input : List ℕ) → GoesOn read over input → IsCut frame full 0 0 input given e) × (e ≡ Whole → over ≡ true)
+-- what is done of an input is within what one may hold, and a shard has a record
+pub record CanGoOn (done : Done) : Type 0 where
+  pub shards : done.shards ≤ done.records
+  pub records : done.records ≤ 2 ^ 31
+  pub bytes : done.bytes ≤ 2 ^ 40
 
--- nothing was read, and no record is at hand
-pub record IsEmpty (frame : Frame) (most : ℕ) (intake : Intake) : Type 0 where
-  pub fed : IsFed frame intake.framer intake.ending [] false []
+-- Behind what of an input is done these bytes were read, perhaps to their end, and these records were given: the ending isn't known yet; or each
+-- input that goes on with them there has these records there and this ending
+abbrev pub IsFed : Done → Frame → FramerData → Option Ending → List ℕ → Bool → List (List ℕ) → Type 0
+IsFed done frame framer None read over given =
+    HasReadBehind done.bytes done.records frame full framer read given × (framer.ended ≡ None) × (over ≡ false)
+IsFed done frame framer (Some e) read over given =
+    ((input : List ℕ) → GoesOn read over input → IsCut frame full done.bytes done.records input given e) × (e ≡ Whole → over ≡ true)
+
+-- nothing was read behind what of the input is done, and no record is at hand
+pub record IsEmpty (frame : Frame) (most : ℕ) (done : Done) (intake : Intake) : Type 0 where
+  pub fed : IsFed done frame intake.framer intake.ending [] false []
   pub more : intake.ending ≡ None
-  pub round : intake.round ≡ record { records = no_records; shards = []; first_shard = 0; passed = 0 }
-  pub first : intake.first ≡ 1
+  pub round : intake.round ≡ record { records = no_records; shards = []; first_shard = done.shards; passed = done.passed }
+  pub first : intake.first ≡ done.records + 1
   pub closed : intake.closed ≡ 0
   pub limit : intake.most ≡ most
 
@@ -52,17 +60,19 @@ pub record KeepsRound (old new : Intake) : Type 0 where
   pub closed : new.closed ≡ old.closed
   pub limit : new.most ≡ old.most
 
--- a piece was read, and records came after those at hand
-pub record HasTaken (frame : Frame) (framer : FramerData) (ending : Option Ending) (before after : List (List ℕ)) (read : List ℕ) (over : Bool)
+-- a piece was read, and records came after those at hand, which end where they do in each input that goes on so
+pub record HasTaken (done : Done) (frame : Frame) (framer : FramerData) (ending : Option Ending) (before after : RecordsData) (read : List ℕ) (over : Bool)
     (given : List (List ℕ)) : Type 0 where
   pub added : List (List ℕ)
-  pub gained : after ≡ before ++ added
-  pub fed : IsFed frame framer ending read over (given ++ added)
+  pub gained : after.items ≡ before.items ++ added
+  pub fed : IsFed done frame framer ending read over (given ++ added)
+  pub ends : (rest : List ℕ) → GoesOn read over rest → EndSo done.bytes done.records frame full rest (length given) before after
 
 -- the piece is taken in, whatever was read before it; an empty one is the end
 abbrev pub TakesIn : Intake → Intake → List ℕ → Type 0
-TakesIn old new piece = (frame : Frame) (read : List ℕ) (given : List (List ℕ)) → HasRead frame full old.framer read given → old.framer.ended ≡ None
-    → HasTaken frame new.framer new.ending old.round.records.items new.round.records.items (read ++ piece) (length piece == 0) given
+TakesIn old new piece = (done : Done) (frame : Frame) (read : List ℕ) (given : List (List ℕ))
+    → HasReadBehind done.bytes done.records frame full old.framer read given → old.framer.ended ≡ None
+    → HasTaken done frame new.framer new.ending old.round.records new.round.records (read ++ piece) (length piece == 0) given
 
 -- Where the answer is that the round may grow, the ending isn't known. Where it isn't, the round has a shard, or the ending is known and
 -- all records are in closed shards
@@ -101,6 +111,15 @@ moved_on passed intake = record {
   closed = 0;
   bytes = 0;
   most = intake.most;
+}
+
+-- what is done of the input once the round is, of whose records so many were passed over
+abbrev pub done_with : ℕ → Intake → Done
+done_with passed intake = record {
+  shards = intake.round.first_shard + length intake.round.shards;
+  records = intake.first - 1 + intake.closed;
+  bytes = get_or intake.round.records.ends (intake.closed - 1) 0;
+  passed = intake.round.passed + passed;
 }
 
 -- the ending, where no shard is left to be run

@@ -1,5 +1,5 @@
 //! An input, run.
-ghost use Rattle.std.specs.Prelude.{◌≡◌, ◌+◌, ◌<◌, ◌≤◌, ◌^◌, None, length, IsTrue, IfErr, OnOk, IsErrOf};
+ghost use Rattle.std.specs.Prelude.{◌≡◌, ◌+◌, ◌<◌, ◌≤◌, ◌^◌, None, length, IsTrue, IfOk, IfErr, OnOk, IsErrOf};
 ghost use Rattle.std.specs.Io.KnownBytes.{IsAtEnd};
 ghost use Rattle.sz_io.specs.Rose.{Rose};
 ghost use Rattle.sz_io.specs.Opened.{KeepsOtherFiles};
@@ -7,8 +7,12 @@ ghost use Rattle.sz_total.specs.States.{declarations, emit_count, shown};
 ghost use Rattle.sz_total.specs.Totals.{Joins};
 ghost use Rattle.sz_attempt.specs.Shards.{IsJob};
 ghost use Rattle.sz_stream.specs.Inputs.{RunsInput, RunsFile};
-ghost use Rattle.sz_stream.specs.InputRuns.{CanRead, CanRun, Fills, ReadsPiece, TakesAll, IsReady, RunsRound, StopsRound, ended_so};
+ghost use Rattle.sz_stream.specs.InputRuns.{CanRead, CanRun, Fills, ReadsPiece, TakesAll, IsReady, RunsRound, StopsShards, ended_so};
+ghost use Rattle.sz_rounds.specs.Rounds.{IsRound, EndsRound, shards_of};
+ghost use Rattle.sz_rounds.specs.Outcomes.{outcome_from};
+ghost use Rattle.sz_rounds.specs.declared.round.RoundEnd.TheVariants as ends;
 
+use crate::done::Done;
 use crate::intake::Intake;
 use crate::stop::Stop;
 use crate::tables::InputTables;
@@ -24,7 +28,7 @@ use sz_words::RunSettings;
 use sz_workers::run_round;
 
 /// How many bytes are read at most by one call.
-const PIECE_BYTES: usize = 65_536;
+pub const PIECE_BYTES: usize = 65_536;
 
 /// The tables of all that the records of an opened file emit, by the frame and shards of these settings, and the number of the records; or
 /// why there are none.
@@ -56,7 +60,7 @@ pub fn run_file<'a, R: Threads + Sync, F: Files, G: Gate + Sync>(
 {
     let mut buffer = Vec::new(alloc);
     buffer.resize(PIECE_BYTES, 0)?;
-    let mut intake = Intake::new(alloc, settings.frame, settings.shard);
+    let mut intake = Intake::behind(alloc, settings.frame, settings.shard, Done::NOTHING);
     let mut total = Total::new(alloc, job.compiled.tables())?;
     loop {
         fill(&mut intake, files, file, &mut buffer)?;
@@ -84,7 +88,7 @@ pub fn run_bytes<'a, R: Threads + Sync, G: Gate + Sync>(
     ensures value { RunsInput job.now settings.now.shard settings.now.frame bytes.now result }
     ensures read { IsErrOf result Stop.ReadFailed → ⊥ }
 {
-    let mut intake = Intake::new(alloc, settings.frame, settings.shard);
+    let mut intake = Intake::behind(alloc, settings.frame, settings.shard, Done::NOTHING);
     let mut total = Total::new(alloc, job.compiled.tables())?;
     take_all(&mut intake, bytes)?;
     loop {
@@ -109,7 +113,7 @@ fn take_all(intake: &mut Intake, bytes: &[u8]) -> Result<(), NoMemory>
 }
 
 /// Reads pieces of a file until its next round is full, or its ending is known.
-fn fill<F: Files>(
+pub fn fill<F: Files>(
     intake: &mut Intake,
     files: &mut F,
     file: u32,
@@ -121,6 +125,7 @@ fn fill<F: Files>(
     ensures ok { OnOk result (Fills intake.old intake.new (F.left files.old file) (F.left files.new file)) }
     ensures ready { OnOk result (IsReady intake.new) }
     ensures first { OnOk result (intake.new.first ≡ intake.old.first) }
+    ensures first_shard { OnOk result (intake.new.round.first_shard ≡ intake.old.round.first_shard) }
     ensures failed { IsErrOf result OutsideError.Failed → Rose (F.faults files.old) (F.faults files.new) }
     ensures kept { KeepsOtherFiles F.held F.left F.given F.names F.faults file files.old files.new }
 {
@@ -143,6 +148,7 @@ fn read_piece<F: Files>(
     requires more { intake.old.ending ≡ None }
     ensures ok { OnOk result (ReadsPiece intake.old intake.new (F.left files.old file) (F.left files.new file)) }
     ensures first { intake.new.first ≡ intake.old.first }
+    ensures first_shard { intake.new.round.first_shard ≡ intake.old.round.first_shard }
     ensures failed { IsErrOf result OutsideError.Failed → Rose (F.faults files.old) (F.faults files.new) }
     ensures kept { KeepsOtherFiles F.held F.left F.given F.names F.faults file files.old files.new }
 {
@@ -167,15 +173,40 @@ fn run_next<'a, R: Threads + Sync, G: Gate + Sync>(
     requires workers { (1 ≤ workers) × (workers ≤ 64) }
     requires can_run { CanRun job.now intake.old total.old }
     ensures ok { OnOk result (RunsRound job.now intake.old intake.new total.old total.new) }
-    ensures err { IfErr result (λ stop. StopsRound job.now intake.old total.old stop) }
+    ensures err { IfErr result (λ stop. StopsShards (outcome_from job.now intake.old.round.passed (shards_of intake.old.round)) stop) }
     ensures read { IsErrOf result Stop.ReadFailed → ⊥ }
 {
+    let (part, passed) = run_at_hand(rt, alloc, job, workers, intake, gate)?;
+    merge(total, part)?;
+    intake.move_on(passed);
+    Ok(())
+}
+
+/// Runs the round at hand by so many workers: its tables, and how many of its records were passed over.
+pub fn run_at_hand<'a, R: Threads + Sync, G: Gate + Sync>(
+    rt: &R,
+    alloc: Global,
+    job: &'a Job,
+    workers: u32,
+    intake: &Intake,
+    gate: &G,
+) -> Result<(Total<'a>, u32), Stop>
+    requires job { IsJob job.now }
+    requires attempts { (1 ≤ job.now.attempts) × (job.now.attempts ≤ 8) }
+    requires workers { (1 ≤ workers) × (workers ≤ 64) }
+    requires round { IsRound intake.now.round }
+    requires passed { intake.now.round.passed ≤ job.now.skip }
+    ensures value { IfOk result (λ given. EndsRound job.now.compiled
+        (outcome_from job.now intake.now.round.passed (shards_of intake.now.round)) (ends.Tables given.0 given.1)) }
+    ensures fits { IfOk result (λ given. intake.now.round.passed + given.1 < 2 ^ 32) }
+    ensures err { IfErr result (λ stop. StopsShards
+        (outcome_from job.now intake.now.round.passed (shards_of intake.now.round)) stop) }
+    ensures read { IsErrOf result Stop.ReadFailed → ⊥ }
+{
+    // no more records are passed over than a number of this type says
+    let _skip = job.skip;
     match run_round(rt, alloc, job, &intake.round, workers, gate)? {
-        RoundEnd::Tables(part, passed) => {
-            merge(total, part)?;
-            intake.move_on(passed);
-            Ok(())
-        }
+        RoundEnd::Tables(part, passed) => Ok((part, passed)),
         RoundEnd::Fault { record_no, fault } => Err(Stop::Fault { record_no, fault }),
         RoundEnd::Lost(shard) => Err(Stop::Lost(shard)),
     }

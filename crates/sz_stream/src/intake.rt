@@ -1,7 +1,9 @@
 //! The records at hand of an input, and the round that is made of them.
 ghost use Rattle.std.specs.Prelude.{◌≡◌, ◌+◌, ◌-◌, ◌<◌, ◌≤◌, ◌^◌, None, length, IfOk, OnOk};
-ghost use Rattle.sz_stream.specs.Intakes.{IsEmpty, TakesIn, KeepsRound, Closes, IsAnswered, moved_on, end_of};
+ghost use Rattle.sz_stream.specs.Intakes.{CanGoOn, IsEmpty, TakesIn, KeepsRound, Closes, IsAnswered, moved_on, done_with, end_of};
+ghost use Rattle.sz_stream.specs.InputRuns.{EndsAt, MovesOn};
 
+use crate::done::Done;
 use std::alloc::Global;
 use sz_attempt::Shard;
 use sz_list::Items;
@@ -20,7 +22,7 @@ const MOST_RECORDS: usize = 1 << 20;
 const MOST_BYTES: usize = 1 << 26;
 
 /// The records at hand of an input that comes in pieces, and the round that is made of them.
-pub(crate) struct Intake {
+pub struct Intake {
     /// Cuts the pieces into records.
     pub(crate) framer: Framer,
     /// How the records end, where that is known. Then no more of them come.
@@ -52,20 +54,21 @@ impl Drop for Intake {
 }
 
 impl Intake {
-    /// An intake at the beginning of an input. It takes no memory.
-    pub(crate) fn new(alloc: Global, frame: Frame, most: u32) -> Intake
-        ensures empty { IsEmpty frame most result }
+    /// An intake in an input whose front is done: its pieces are those behind that. A shard has so many records at most. It takes no memory.
+    pub fn behind(alloc: Global, frame: Frame, most: u32, done: Done) -> Intake
+        requires done { CanGoOn done }
+        ensures empty { IsEmpty frame most done result }
     {
         Intake {
-            framer: Framer::new(alloc, frame, FrameLimits::FULL),
+            framer: Framer::behind(alloc, frame, FrameLimits::FULL, done.bytes, done.records),
             ending: None,
             round: Round {
                 records: Records::new(alloc),
                 shards: Items::new(alloc),
-                first_shard: 0,
-                passed: 0,
+                first_shard: done.shards,
+                passed: done.passed,
             },
-            first: 1,
+            first: done.records + 1,
             closed: 0,
             bytes: 0,
             most,
@@ -122,7 +125,7 @@ impl Intake {
     }
 
     /// The ending, where it is known and no shard is left to be run.
-    pub(crate) fn end(&self) -> Option<Ending>
+    pub fn end(&self) -> Option<Ending>
         ensures value { result ≡ end_of self.now }
     {
         if self.round.shards.is_empty() {
@@ -132,8 +135,34 @@ impl Intake {
         }
     }
 
+    /// The round at hand.
+    pub fn round(&self) -> &Round
+        ensures value { result.now ≡ self.now.round }
+    {
+        &self.round
+    }
+
+    /// What is done once the round at hand is, of whose records so many were passed over.
+    pub fn done_with(&self, passed: u32) -> Done
+        requires begun { 1 ≤ self.now.first }
+        requires some { 0 < self.now.closed }
+        requires within { self.now.closed ≤ length self.now.round.records.items }
+        requires few { self.now.first + length self.now.round.records.items ≤ 2 ^ 31 + 1 }
+        requires numbers { self.now.round.first_shard + length self.now.round.shards ≤ 2 ^ 31 + 1 }
+        requires passed { self.now.round.passed + passed < 2 ^ 32 }
+        ensures value { result ≡ done_with passed self.now }
+        ensures place { EndsAt self.now result }
+    {
+        Done {
+            shards: self.round.first_shard + self.round.shards.len() as u64,
+            records: self.records_run() + self.closed as u64,
+            bytes: self.round.records.end(self.closed - 1),
+            passed: self.round.passed + passed,
+        }
+    }
+
     /// How many records there were before those at hand.
-    pub(crate) fn records_run(&self) -> u64
+    pub fn records_run(&self) -> u64
         requires begun { 1 ≤ self.now.first }
         ensures value { result ≡ self.now.first - 1 }
     {
@@ -141,12 +170,13 @@ impl Intake {
     }
 
     /// Drops the shards of the round, which were run, and their records, of which so many were passed over.
-    pub(crate) fn move_on(&mut self, passed: u32)
+    pub fn move_on(&mut self, passed: u32)
         requires within { self.old.closed ≤ length self.old.round.records.items }
         requires few { self.old.first + length self.old.round.records.items ≤ 2 ^ 31 + 1 }
         requires numbers { self.old.round.first_shard + length self.old.round.shards ≤ 2 ^ 31 + 1 }
         requires passed { self.old.round.passed + passed < 2 ^ 32 }
         ensures value { self.new ≡ moved_on passed self.old }
+        ensures goes_on { MovesOn passed self.old self.new }
     {
         self.round.records.clear(self.closed);
         self.round.first_shard += self.round.shards.len() as u64;

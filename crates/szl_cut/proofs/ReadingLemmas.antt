@@ -59,10 +59,10 @@ noted_next old mid new ends i end n there m =
 -- messages came, and were noted
 module _ (size : ℕ) (old mid new : Progress) (bytes piece : List ℕ) (given added : List (List ℕ)) (at : IsAt size old bytes given) where
   -- with the ends of those that came
-  more_cut : (file : List ℕ) (ends : List ℕ) → ends ≡ ends_in Delimited full file (length given) (length added) → (noted : Notes mid new ends)
+  more_cut : (file : List ℕ) (ends : List ℕ) → ends ≡ ends_in 0 0 Delimited full file (length given) (length added) → (noted : Notes mid new ends)
       → mid.places ≡ old.places → mid.before ≡ old.before → mid.start ≡ old.start → mid.size ≡ old.size
-      → (rest : List ℕ) → ((rest : List ℕ) → cuts size 0 0 (ends_in Delimited full file 0 (length given) ++ rest) ≡ old.places.items ++ cuts size old.before old.start rest)
-      → cuts size 0 0 (ends_in Delimited full file 0 (length (given ++ added)) ++ rest) ≡ new.places.items ++ cuts size new.before new.start rest
+      → (rest : List ℕ) → ((rest : List ℕ) → cuts size 0 0 (ends_in 0 0 Delimited full file 0 (length given) ++ rest) ≡ old.places.items ++ cuts size old.before old.start rest)
+      → cuts size 0 0 (ends_in 0 0 Delimited full file 0 (length (given ++ added)) ++ rest) ≡ new.places.items ++ cuts size new.before new.start rest
   more_cut file ends ends_are noted same_places same_before same_start same_size rest before =
       let place = place_after Delimited full 0 0 file in
       let all : places_of place 0 (length (given ++ added)) ≡ places_of place 0 (length given) ++ ends =
@@ -88,15 +88,15 @@ module _ (size : ℕ) (old mid new : Progress) (bytes piece : List ℕ) (given a
         (ap (λ (p : Progress). p.start) is) (ap (λ (p : Progress). p.size) is) rest (before more);
   }
     where
-      came : (more : List ℕ) → records.ends ≡ ends_in Delimited full (bytes ++ piece ++ more) (length given) (length added)
+      came : (more : List ℕ) → records.ends ≡ ends_in 0 0 Delimited full (bytes ++ piece ++ more) (length given) (length added)
       came more =
           let count : length records.items - 0 ≡ length added = omega (arith, ap length items) in
-          rw at.empty at (ends Delimited full bytes given at.read more) ∙ ap (ends_in Delimited full (bytes ++ piece ++ more) (length given)) count
+          rw at.empty at (ends 0 0 Delimited full bytes given at.read more) ∙ ap (ends_in 0 0 Delimited full (bytes ++ piece ++ more) (length given)) count
 
-      before : (more rest : List ℕ) → cuts size 0 0 (ends_in Delimited full (bytes ++ piece ++ more) 0 (length given) ++ rest)
+      before : (more rest : List ℕ) → cuts size 0 0 (ends_in 0 0 Delimited full (bytes ++ piece ++ more) 0 (length given) ++ rest)
           ≡ old.places.items ++ cuts size old.before old.start rest
       before more rest =
-          ap (λ (file : List ℕ). cuts size 0 0 (ends_in Delimited full file 0 (length given) ++ rest)) (append_assoc bytes piece more) ∙ at.cut (piece ++ more) rest
+          ap (λ (file : List ℕ). cuts size 0 0 (ends_in 0 0 Delimited full file 0 (length given) ++ rest)) (append_assoc bytes piece more) ∙ at.cut (piece ++ more) rest
 
 -- no message is at hand before a piece
 items_came : (old : Progress) (records : RecordsData) (added : List (List ℕ)) → old.records ≡ no_records → records.items ≡ old.records.items ++ added → records.items ≡ added
@@ -108,7 +108,7 @@ module _ (old mid new : Progress) (piece : List ℕ) (records : RecordsData) (is
       (ends : EndAsFed old.framer piece old.records records) where
     pub takes : ended_so ending ≡ Ok tt → (size : ℕ) (bytes : List ℕ) (given : List (List ℕ)) → IsAt size old bytes given → TakesIn size new (bytes ++ piece)
     takes ok size bytes given at =
-        let adds = feeds Delimited full bytes given at.read in
+        let adds = feeds 0 0 Delimited full bytes given at.read in
         record {
           given = given ++ adds.added;
           at = took size old mid new bytes piece given adds.added at records is ends (items_came old records adds.added at.empty adds.gained) adds.read noted none;
@@ -125,10 +125,10 @@ module _ (old mid new : Progress) (piece : List ℕ) (records : RecordsData) (is
         → (more : List ℕ) → IsFor (Some (bytes ++ piece ++ more)) failure
     stops failure err size bytes given at more = by ending err adds.fixed
       where
-        adds : Adds Delimited full mid.framer (bytes ++ piece) given old.records.items records.items ending
-        adds = feeds Delimited full bytes given at.read
+        adds : Adds 0 0 Delimited full mid.framer (bytes ++ piece) given old.records.items records.items ending
+        adds = feeds 0 0 Delimited full bytes given at.read
 
-        by : (ending : Option Ending) → ended_so ending ≡ Err failure → ((e : Ending) → ending ≡ Some e → Fixes Delimited full (bytes ++ piece) (given ++ adds.added) e)
+        by : (ending : Option Ending) → ended_so ending ≡ Err failure → ((e : Ending) → ending ≡ Some e → Fixes 0 0 Delimited full (bytes ++ piece) (given ++ adds.added) e)
             → IsFor (Some (bytes ++ piece ++ more)) failure
         by None err fixed = absurd cc
         by (Some endings.Whole) err fixed = absurd cc
@@ -140,19 +140,19 @@ module _ (old mid new : Progress) (piece : List ℕ) (records : RecordsData) (is
   module _ (ending : Ending) (finishes : fed.Finishes old.framer old.records.items records.items ending) (ends : EndAsFinished old.framer old.records records) where
     pub cut_whole : ended_so (Some ending) ≡ Ok tt → (size : ℕ) (bytes : List ℕ) (given : List (List ℕ)) → IsAt size old bytes given → IsCutAt size bytes new.places.items
     cut_whole ok size bytes given at =
-        let closes = finishes Delimited full bytes given at.read in
+        let closes = finishes 0 0 Delimited full bytes given at.read in
         let items = items_came old records closes.added at.empty closes.gained in
         let count : length records.items - 0 ≡ length closes.added = omega (arith, ap length items) in
-        let came : records.ends ≡ ends_in Delimited full bytes (length given) (length closes.added) =
-        rw at.empty at (ends Delimited full bytes given at.read) ∙ ap (ends_in Delimited full bytes (length given)) count in
-        let before : (rest : List ℕ) → cuts size 0 0 (ends_in Delimited full bytes 0 (length given) ++ rest) ≡ old.places.items ++ cuts size old.before old.start rest =
-        λ rest. ap (λ (file : List ℕ). cuts size 0 0 (ends_in Delimited full file 0 (length given) ++ rest)) (sym (append-nil bytes)) ∙ at.cut [] rest in
+        let came : records.ends ≡ ends_in 0 0 Delimited full bytes (length given) (length closes.added) =
+        rw at.empty at (ends 0 0 Delimited full bytes given at.read) ∙ ap (ends_in 0 0 Delimited full bytes (length given)) count in
+        let before : (rest : List ℕ) → cuts size 0 0 (ends_in 0 0 Delimited full bytes 0 (length given) ++ rest) ≡ old.places.items ++ cuts size old.before old.start rest =
+        λ rest. ap (λ (file : List ℕ). cuts size 0 0 (ends_in 0 0 Delimited full file 0 (length given) ++ rest)) (sym (append-nil bytes)) ∙ at.cut [] rest in
         let all = more_cut size old mid new bytes piece given closes.added at bytes records.ends came noted (ap (λ (p : Progress). p.places) is)
         (ap (λ (p : Progress). p.before) is) (ap (λ (p : Progress). p.start) is) (ap (λ (p : Progress). p.size) is) [] before in
         record {
           messages = given ++ closes.added;
           whole = subst (IsCut Delimited full 0 0 bytes (given ++ closes.added)) (whole ending ok) closes.cut;
-          are = sym (append-nil new.places.items) ∙ sym all ∙ ap (cuts size 0 0) (append-nil (ends_in Delimited full bytes 0 (length (given ++ closes.added))));
+          are = sym (append-nil new.places.items) ∙ sym all ∙ ap (cuts size 0 0) (append-nil (ends_in 0 0 Delimited full bytes 0 (length (given ++ closes.added))));
         }
       where
         whole : (ending : Ending) → ended_so (Some ending) ≡ Ok tt → ending ≡ endings.Whole
@@ -163,10 +163,10 @@ module _ (old mid new : Progress) (piece : List ℕ) (records : RecordsData) (is
     -- the end of the file, where nothing more comes
     pub ends_otherwise : (failure : Failure) → ended_so (Some ending) ≡ Err failure → (size : ℕ) (bytes : List ℕ) (given : List (List ℕ)) → IsAt size old bytes given
         → IsFor (Some bytes) failure
-    ends_otherwise failure err size bytes given at = by ending err (finishes Delimited full bytes given at.read).cut
+    ends_otherwise failure err size bytes given at = by ending err (finishes 0 0 Delimited full bytes given at.read).cut
       where
         added : List (List ℕ)
-        added = (finishes Delimited full bytes given at.read).added
+        added = (finishes 0 0 Delimited full bytes given at.read).added
 
         by : (ending : Ending) → ended_so (Some ending) ≡ Err failure → IsCut Delimited full 0 0 bytes (given ++ added) ending → IsFor (Some bytes) failure
         by endings.Whole err cut = absurd cc
@@ -187,7 +187,7 @@ pub reads_more : (old new : Progress) (piece : List ℕ) (left after : Option (L
     → Takes old new piece → (size : ℕ) (start : Option (List ℕ)) → Reaches size old start left → ReadsOn size old new start after true
 reads_more old new piece left after some consumed taken size start r =
     let t = taken size r.fed r.given r.at r.goes_on in
-    let low = read_within Delimited full new.framer (r.fed ++ piece) t.given t.at.read t.goes_on in
+    let low = read_within 0 0 Delimited full new.framer (r.fed ++ piece) t.given t.at.read t.goes_on in
     let here = t.at.read.reached t.goes_on in
     let there = r.at.read.reached r.goes_on in
     record {

@@ -19,7 +19,7 @@ cuts size before start (end ∷ ends) =
 
 -- where a file of so many messages is cut
 abbrev pub file_cuts : ℕ → List ℕ → ℕ → List ℕ
-file_cuts size file count = cuts size 0 0 (ends_in Delimited full file 0 count)
+file_cuts size file count = cuts size 0 0 (ends_in 0 0 Delimited full file 0 count)
 
 -- the file is whole, and is cut so
 pub record IsCutAt (size : ℕ) (file places : List ℕ) : Type 0 where

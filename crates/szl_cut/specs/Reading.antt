@@ -28,7 +28,7 @@ pub record IsAt (size : ℕ) (progress : Progress) (fed : List ℕ) (given : Lis
   pub read : HasRead Delimited full progress.framer fed given
   pub empty : progress.records ≡ no_records
   pub same_size : progress.size ≡ size
-  pub cut : (more rest : List ℕ) → cuts size 0 0 (ends_in Delimited full (fed ++ more) 0 (length given) ++ rest)
+  pub cut : (more rest : List ℕ) → cuts size 0 0 (ends_in 0 0 Delimited full (fed ++ more) 0 (length given) ++ rest)
       ≡ progress.places.items ++ cuts size progress.before progress.start rest
 
 -- messages that end at these places were noted

@@ -7,11 +7,11 @@ use Rattle.sz_stream.proofs.input_run.fill.Goals as goal
 -- shards can be closed
 pub wants_piece-requires-clause-within : goal.wants_piece-requires-clause-within
 wants_piece-requires-clause-within g c =
-    let r = c.loop-intake.invariant.can_read in closed_within r.job r.frame r.most c.loop-intake.intake r.total r.read r.over r.running
+    let r = c.loop-intake.invariant.can_read in closed_within r.done r.job r.frame r.most c.loop-intake.intake r.emits r.read r.over r.running
 
 pub wants_piece-requires-clause-few : goal.wants_piece-requires-clause-few
 wants_piece-requires-clause-few g c =
-    let r = c.loop-intake.invariant.can_read in few_left r.job r.frame r.most c.loop-intake.intake r.total r.read r.over r.running
+    let r = c.loop-intake.invariant.can_read in few_left r.done r.job r.frame r.most c.loop-intake.intake r.emits r.read r.over r.running
 
 -- a piece can be read
 pub read_piece-requires-clause-can_read : goal.read_piece-requires-clause-can_read
@@ -34,6 +34,8 @@ loop-intake-preserved g c =
       fills = fills_more first c.wants_piece.new.self c.read_piece.new.intake (files.left c.args.files.now file) left
           (files.left c.read_piece.new.files file) closed reads;
       first = c.read_piece.ensures.first ∙ c.in_ok-wants_piece.ensures.closed.first ∙ c.loop-intake.invariant.first;
+      first_shard =
+          c.read_piece.ensures.first_shard ∙ c.in_ok-wants_piece.ensures.closed.first_shard ∙ c.loop-intake.invariant.first_shard;
       kept = keeps_on files.held files.left files.given files.names files.faults file c.args.files.now c.loop-intake.files c.read_piece.new.files
           c.loop-intake.invariant.kept c.read_piece.ensures.kept;
     }
@@ -54,3 +56,7 @@ returns-clause-ready g c =
 -- where the records at hand begin
 pub returns-clause-first : goal.returns-clause-first
 returns-clause-first g c = c.in_ok-wants_piece.ensures.closed.first ∙ c.loop-intake.invariant.first
+
+-- and their first shard
+pub returns-clause-first_shard : goal.returns-clause-first_shard
+returns-clause-first_shard g c = c.in_ok-wants_piece.ensures.closed.first_shard ∙ c.loop-intake.invariant.first_shard

@@ -1,12 +1,13 @@
 use Rattle.std.proofs.Common.{◌≡◌, ◌+◌, ◌-◌, ◌^◌, [], true, Some}
 use Rattle.std.specs.Prelude.{is_some}
-use Rattle.sz_stream.specs.InputRuns.{Reaches}
+use Rattle.sz_stream.specs.Inputs.{nothing}
+use Rattle.sz_stream.specs.InputRuns.{Gathers}
 use Rattle.sz_stream.proofs.input_run.run_bytes.Given as goal
 
 -- the records before those at hand were run, and no more come
 abbrev pub invariant-loop-total : goal.invariant-loop-total
 invariant-loop-total g l = record {
-  reached : Reaches l.job l.settings.frame l.settings.shard l.intake l.total (Some l.bytes) (Some []);
+  gathered : Gathers nothing l.job l.settings.frame l.settings.shard l.intake l.total (Some l.bytes) (Some []);
   known : is_some l.intake.ending ≡ true;
 }
 
