@@ -16,6 +16,7 @@ use Rattle.sz_words.specs.Asked.{asked_bare, asked_option, with_options}
 use Rattle.sz_words.specs.Parts.{Parts, option_names, parts_of, values_of}
 use Rattle.sz_words.specs.Matches.{HasParts, names_in, values_in}
 use Rattle.sz_words.specs.Settings.{Values, check_settings, command_settings, plain_settings, run_settings, stand_at_most, run_with, selftest_settings, merge_settings}
+use Rattle.sz_words.specs.declared.settings.RunSettings.{RunSettings}
 use Rattle.sz_words.specs.declared.settings.Settings.{Settings}
 use Rattle.sz_words.specs.declared.settings.Settings.TheVariants.{Merge}
 
@@ -70,7 +71,7 @@ module _ (values : List ℕ → List (List ℕ)) (most : ℕ) where
 no_run : (given : Values) → run_settings given [] ≡ None
 no_run given = go (stand_at_most 1 given option_names)
   where
-    none : Option Settings
+    none : Option RunSettings
     none = None
 
     go : (once : Bool) → (if once then none else none) ≡ None
@@ -93,17 +94,19 @@ no_merge given = go (stand_at_most 0 given option_names)
 no_names : (command : List ℕ) (given : Values) → command_settings command given [] ≡ None
 no_names command given =
     rw (no_run given, no_merge given)
-    (go (bytes_eq command (codes "run")) (bytes_eq command (codes "check")) (bytes_eq command (codes "selftest")) (bytes_eq command (codes "merge")))
+    (go (bytes_eq command (codes "run")) (bytes_eq command (codes "resume")) (bytes_eq command (codes "check")) (bytes_eq command (codes "selftest"))
+    (bytes_eq command (codes "merge")))
   where
     none : Option Settings
     none = None
 
-    go : (a b c d : Bool) → (if a then none else if b then none else if c then none else if d then none else none) ≡ None
-    go true b c d = refl
-    go false true c d = refl
-    go false false true d = refl
-    go false false false true = refl
-    go false false false false = refl
+    go : (a b c d e : Bool) → (if a then none else if b then none else if c then none else if d then none else if e then none else none) ≡ None
+    go true b c d e = refl
+    go false true c d e = refl
+    go false false true d e = refl
+    go false false false true e = refl
+    go false false false false true = refl
+    go false false false false false = refl
 
 -- where there were no names
 pub unnamed : (m : ArgMatches) (got : Option (Bor (List (Bor (List ℕ)))))

@@ -1,9 +1,9 @@
 -- The bounds of what a command line asks for.
-use Rattle.std.specs.Prelude.{ℕ, ◌≤◌, ◌^◌, length, ⊤}
+use Rattle.std.specs.Prelude.{◌≡◌, ℕ, ◌≤◌, ◌^◌, false, length, ⊤}
 use Rattle.sz_words.specs.declared.reading.Numbers.{Numbers}
 use Rattle.sz_words.specs.declared.settings.RunSettings.{RunSettings}
 use Rattle.sz_words.specs.declared.settings.Settings.{Settings}
-use Rattle.sz_words.specs.declared.settings.Settings.TheVariants.{Run, Selftest, Merge}
+use Rattle.sz_words.specs.declared.settings.Settings.TheVariants.{Run, Selftest, Resume, Merge}
 
 -- the number is within these bounds
 abbrev pub InRange : ℕ → ℕ → ℕ → Type 0
@@ -26,9 +26,11 @@ pub record NumbersHaveBounds (n : Numbers) : Type 0 where
   pub shard : InRange 1 65536 n.shard
   pub attempts : InRange 1 8 n.attempts
 
--- what is asked for has its bounds: those of a run, the numbers of records and of workers of a self test, and that of files to join
+-- what is asked for has its bounds: those of a run, and that the tables of a job which is resumed aren't saved; the numbers of records and of
+-- workers of a self test, and that of files to join
 abbrev pub IsBounded : Settings → Type 0
 IsBounded (Run s) = HasBounds s
+IsBounded (Resume s) = HasBounds s × (s.save ≡ false)
 IsBounded (Selftest seed records workers) = (records ≤ 1000000) × ((1 ≤ workers) × (workers ≤ 64))
 IsBounded (Merge files save) = InRange 1 64 (length files)
 IsBounded _ = ⊤

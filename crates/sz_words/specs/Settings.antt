@@ -14,7 +14,7 @@ use Rattle.sz_words.specs.declared.reading.Numbers.{Numbers}
 use Rattle.sz_words.specs.declared.settings.RunSettings.{RunSettings}
 use Rattle.sz_words.specs.declared.settings.Kill.{Kill}
 use Rattle.sz_words.specs.declared.settings.Settings.{Settings}
-use Rattle.sz_words.specs.declared.settings.Settings.TheVariants.{Run, Check, Selftest, Merge}
+use Rattle.sz_words.specs.declared.settings.Settings.TheVariants.{Run, Check, Selftest, Resume, Merge}
 
 -- the values that were given to each option, by its name
 abbrev pub Values : Type 0
@@ -117,11 +117,11 @@ abbrev pub files_in : Option (List ℕ) → List (List ℕ) → Option (List ℕ
 files_in proto (program ∷ input ∷ []) = if all_are_files proto (program ∷ input ∷ []) then Some (program, input) else None
 files_in _ _ = None
 
--- what is asked for by `run PROGRAM INPUT`; no option stands twice
-abbrev pub run_settings : Values → List (List ℕ) → Option Settings
+-- what is asked for by `run PROGRAM INPUT`, and by `resume PROGRAM INPUT`; no option stands twice
+abbrev pub run_settings : Values → List (List ℕ) → Option RunSettings
 run_settings given names =
     if stand_at_most 1 given option_names
-    then option_and_then (λ files. option_map Run (run_with given files.0 files.1)) (files_in (value_of given (codes "proto")) names)
+    then option_and_then (λ files. run_with given files.0 files.1) (files_in (value_of given (codes "proto")) names)
     else None
 
 -- whether `--proto` stands once at the most, and no option of `run` alone
@@ -159,7 +159,8 @@ merge_settings given names = if stand_at_most 0 given option_names && can_be_joi
 -- what is asked for by a command with these options and names after it
 abbrev pub command_settings : List ℕ → Values → List (List ℕ) → Option Settings
 command_settings command given names =
-    if bytes_eq command (codes "run") then run_settings given names
+    if bytes_eq command (codes "run") then option_map Run (run_settings given names)
+    else if bytes_eq command (codes "resume") then option_map Resume (run_settings given names)
     else if bytes_eq command (codes "check") then check_settings given names
     else if bytes_eq command (codes "selftest") then selftest_settings given names
     else if bytes_eq command (codes "merge") then merge_settings given names else None
@@ -169,9 +170,10 @@ abbrev pub plain_settings : List ℕ → List (List ℕ) → Option Settings
 plain_settings command words =
     option_and_then (λ parts. command_settings command (λ name. values_of name parts.options) parts.names) (parts_of words)
 
--- the same with a flag more, which doesn't stand there yet: `run` takes each of them, and `merge` takes `--save`
+-- the same with a flag more, which doesn't stand there yet: `run` takes each of them, `resume` takes `--ignore-undefs`, and `merge` takes `--save`
 abbrev pub with_flag : Flag → Settings → Option Settings
 with_flag IgnoreUndefs (Run s) = if not s.ignore_undefs then Some (Run (record s { ignore_undefs = true })) else None
+with_flag IgnoreUndefs (Resume s) = if not s.ignore_undefs then Some (Resume (record s { ignore_undefs = true })) else None
 with_flag Save (Run s) = if not s.save then Some (Run (record s { save = true })) else None
 with_flag Save (Merge files save) = if not save then Some (Merge files true) else None
 with_flag _ settings = None

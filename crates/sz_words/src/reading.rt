@@ -1,5 +1,5 @@
 //! What a command line asks for.
-ghost use Rattle.std.specs.Prelude.{◌≡◌, ◌≤◌, ◌^◌, map, not, true, string_bytes, IfOk, IfErr, MatchOption, Some, None};
+ghost use Rattle.std.specs.Prelude.{◌≡◌, ◌≤◌, ◌^◌, map, not, true, false, string_bytes, IfOk, IfErr, MatchOption, Some, None};
 ghost use Rattle.std.specs.Prelude.{option_map, IfSome, if◌then◌else◌};
 ghost use Rattle.sz_words.specs.Matches.{names_in, values_in};
 ghost use Rattle.sz_words.specs.Settings.{settings_in, frame_in, number_or, kills_or_none, shards_or_none};
@@ -68,6 +68,7 @@ fn take_flag(settings: &mut Settings, flag: Flag) -> bool
 {
     match (flag, settings) {
         (Flag::IgnoreUndefs, Settings::Run(run)) => raise(&mut run.ignore_undefs),
+        (Flag::IgnoreUndefs, Settings::Resume(run)) => raise(&mut run.ignore_undefs),
         (Flag::Save, Settings::Run(run)) => raise(&mut run.save),
         (Flag::Save, Settings::Merge { save, .. }) => raise(save),
         _ => false,
@@ -110,7 +111,8 @@ fn command_settings(
         return Err(WordsError::Usage);
     };
     match command {
-        "run" => run_settings(alloc, matches, names),
+        "run" => Ok(Settings::Run(run_settings(alloc, matches, names)?)),
+        "resume" => Ok(Settings::Resume(run_settings(alloc, matches, names)?)),
         "check" => check_settings(alloc, matches, names),
         "selftest" => selftest_settings(matches, names).ok_or(WordsError::Usage),
         "merge" => merge_settings(alloc, matches, names),
@@ -118,11 +120,16 @@ fn command_settings(
     }
 }
 
-// What is asked for by `run PROGRAM INPUT`.
-fn run_settings(alloc: Global, options: &ArgMatches, names: &[&str]) -> Result<Settings, WordsError>
+// What is asked for by `run PROGRAM INPUT`, and by `resume PROGRAM INPUT`.
+fn run_settings(
+    alloc: Global,
+    options: &ArgMatches,
+    names: &[&str],
+) -> Result<RunSettings, WordsError>
     ensures value { IfOk result (λ s. run_settings (values_in options.now) (map (λ n. n.now) names.now) ≡ Some s) }
     ensures usage { IfErr result (λ e. e ≡ Usage → run_settings (values_in options.now) (map (λ n. n.now) names.now) ≡ None) }
-    ensures bounds { IfOk result IsBounded }
+    ensures bounds { IfOk result HasBounds }
+    ensures unsaved { IfOk result (λ s. s.save ≡ false) }
 {
     let Some((program, input)) = files_in(value_of(options, "proto"), names) else {
         return Err(WordsError::Usage);
@@ -130,8 +137,7 @@ fn run_settings(alloc: Global, options: &ArgMatches, names: &[&str]) -> Result<S
     if !stand_at_most(options, 1, &OPTIONS) {
         return Err(WordsError::Usage);
     }
-    let settings = run_with(alloc, options, program, input)?;
-    Ok(Settings::Run(settings))
+    run_with(alloc, options, program, input)
 }
 
 // What is asked for by `run` with these options, a program and an input.
@@ -145,6 +151,7 @@ fn run_with(
     ensures value { IfOk result (λ s. run_with (values_in options.now) program.now input.now ≡ Some s) }
     ensures usage { IfErr result (λ e. e ≡ Usage → run_with (values_in options.now) program.now input.now ≡ None) }
     ensures bounds { IfOk result HasBounds }
+    ensures unsaved { IfOk result (λ s. s.save ≡ false) }
 {
     let Some(numbers) = numbers_in(options) else {
         return Err(WordsError::Usage);

@@ -101,6 +101,9 @@ pub enum Settings {
         /// The number of threads that work: 1 to 64.
         workers: u32,
     },
+    /// To run a program over an input, and to keep each round that is done in a journal, behind whose last one the run goes on. Its tables
+    /// aren't saved.
+    Resume(RunSettings),
     /// To join saved tables.
     Merge {
         /// The names of 1 to 64 files of saved tables, of which one at the most is `-` for standard input.
@@ -114,6 +117,7 @@ impl Drop for Settings {
     fn drop(self) {
         match self {
             Settings::Run(_)
+            | Settings::Resume(_)
             | Settings::Check {
                 program: _,
                 proto: _,

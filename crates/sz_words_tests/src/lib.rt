@@ -4,6 +4,8 @@
 #[cfg(test)]
 mod file_rows;
 #[cfg(test)]
+mod resume_rows;
+#[cfg(test)]
 mod rows;
 #[cfg(test)]
 mod told;

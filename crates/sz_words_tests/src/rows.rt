@@ -35,7 +35,9 @@ run help => usage
 --frame lines run p f => usage
 merges a b => usage
 Merge a b => usage
-resume p f => usage
+resum p f => usage
+resumes p f => usage
+Resume p f => usage
 p f => usage
 == names of run
 run p f => run p f lines 4 1000 3 16777216 [] []

@@ -1,5 +1,5 @@
 //! Command lines as rows of one text.
-use crate::{file_rows, rows};
+use crate::{file_rows, resume_rows, rows};
 use std::alloc::{AllocError, Global};
 use std::fmt::Write;
 use std::process::Abort;
@@ -15,6 +15,11 @@ fn most_rows() -> &'static str {
 /// The same of those with saved tables and files of types.
 fn file_rows() -> &'static str {
     file_rows::FILE_ROWS
+}
+
+/// The same of jobs that are resumed.
+fn resume_rows() -> &'static str {
+    resume_rows::RESUME_ROWS
 }
 
 /// The words of a line, in which `~` stands for an empty word.
@@ -49,7 +54,8 @@ fn told_settings(alloc: Global, settings: &Settings) -> Result<String, Fail> {
             records,
             workers,
         } => Ok(format!(in alloc; "selftest {seed} {records} {workers}")?),
-        Settings::Run(run) => told_run(alloc, run),
+        Settings::Run(run) => told_run(alloc, "run", run),
+        Settings::Resume(run) => told_run(alloc, "resume", run),
         Settings::Merge { files, save } => told_merge(alloc, files, *save),
     }
 }
@@ -89,10 +95,10 @@ fn frame_name(frame: Frame) -> &'static str {
     }
 }
 
-/// What a run is asked for, as a row says it.
-fn told_run(alloc: Global, run: &RunSettings) -> Result<String, Fail> {
+/// What a run is asked for, or a job that is resumed, as a row says it.
+fn told_run(alloc: Global, command: &str, run: &RunSettings) -> Result<String, Fail> {
     let mut told = format!(in alloc;
-        "run {} {} {}",
+        "{command} {} {} {}",
         run.program.as_str(),
         run.input.as_str(),
         frame_name(run.frame)
@@ -145,6 +151,11 @@ fn each_command_line_asks_for_what_its_row_says(rt: HostRuntime) -> Result<(), F
 #[test]
 fn saved_tables_and_files_of_types_are_asked_for(rt: HostRuntime) -> Result<(), Fail> {
     try_rows(&rt, rt.alloc(), file_rows())
+}
+
+#[test]
+fn jobs_that_are_resumed_are_asked_for(rt: HostRuntime) -> Result<(), Fail> {
+    try_rows(&rt, rt.alloc(), resume_rows())
 }
 
 /// `run p f --twice` with the shards below a number.

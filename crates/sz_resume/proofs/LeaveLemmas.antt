@@ -1,0 +1,93 @@
+-- What a call of a job leaves of its journal, from round to round.
+use Rattle.std.proofs.Common.{◌≡◌, ◌⊎◌, inl, inr, ℕ, ◌+◌, ◌<◌, true, List, [], ◌∷◌, ◌++◌, length, Option, Some, IfSome, refl, sym, ap, ◌∙◌, subst, arith, append_assoc, append-nil, length-append}
+use Rattle.sz_types.specs.Tables.{Declaration}
+use Rattle.sz_mean.specs.Marked.{all_tables}
+use Rattle.sz_attempt.specs.declared.job.Job.{Job}
+use Rattle.sz_disk.specs.Crashes.{Images, are_told, MayBe}
+use Rattle.sz_disk.specs.Calls.{AreAmong}
+use Rattle.sz_gates.specs.Crashing.{Rests, LeavesOnly}
+use Rattle.sz_gates.specs.Entries.{with_length, all_opened, IsEmpty}
+use Rattle.sz_gates.proofs.ForCallers.{the_image, leaves_if, leaves_none, leaves_both}
+use Rattle.sz_journal_format.specs.Jobs.{job_bytes}
+use Rattle.sz_journal_format.specs.declared.job.JobBytes.{JobBytes}
+use Rattle.sz_journal_format.specs.declared.round.RoundEntry.{RoundEntry}
+use Rattle.sz_journal_format.specs.Rounds.{round_bytes, no_progress, progress_after, last_progress}
+use Rattle.sz_journal_rules.specs.Journals.{entries_of, Spells}
+use Rattle.sz_resume.specs.Standing.{Source, StandsFor, Stands, IsFound}
+use Rattle.sz_resume.specs.Stops.{AreFirst, IsLeft, AreSmall, LeavesRounds}
+use Rattle.sz_resume.proofs.NumberLemmas.{progress-append, small-append}
+
+-- a journal that spells a job isn't empty
+not_one : (bytes : List ℕ) → 0 < length bytes → IsEmpty (1 ∷ bytes) → ⊥
+not_one [] some none = omega (arith, some)
+not_one (byte ∷ bytes) some none = none refl
+
+pub not_empty : (name : JobBytes) (decls : List Declaration) (held : List ℕ) (rounds : List RoundEntry) → Spells name decls held rounds
+    → IsEmpty held → ⊥
+not_empty name decls held rounds spells none =
+    let entry = job_bytes name in
+    let rest = all_opened (Rattle.std.specs.Prelude.map round_bytes rounds) ++ spells.holds.gate ∷ spells.holds.behind in
+    let is : held ≡ (1 ∷ with_length entry) ++ rest =
+    spells.holds.is
+    ∙ append_assoc (1 ∷ with_length entry) (all_opened (Rattle.std.specs.Prelude.map round_bytes rounds)) (spells.holds.gate ∷ spells.holds.behind) in
+    let some : 0 < length (with_length entry ++ rest) =
+    omega (
+      arith,
+      length-append (with_length entry) rest,
+      length-append (all_opened (Rattle.std.specs.Prelude.map round_bytes rounds)) (spells.holds.gate ∷ spells.holds.behind),
+    ) in
+    not_one (with_length entry ++ rest) some (subst IsEmpty is none)
+
+module _ (name : JobBytes) (job : Job) (source : Source) where
+  -- what is left of a journal that spells the job, with some of its rounds
+  left_more : (held : List ℕ) (before added more : List RoundEntry) (image : List ℕ) → IsLeft name job source held before added image
+      → IsLeft name job source held before (added ++ more) image
+  left_more held before added more image (inl empty) = inl empty
+  left_more held before added more image (inr left) =
+      inr (
+        left.0,
+        record { more = left.1.more ++ more; is = ap (λ rs. rs ++ more) left.1.is ∙ append_assoc left.0 left.1.more more },
+        left.2,
+      )
+
+  left_later : (held mid : List ℕ) (before added more : List RoundEntry) (image : List ℕ) → (IsEmpty mid → ⊥)
+      → IsLeft name job source mid (before ++ added) more image → IsLeft name job source held before (added ++ more) image
+  left_later held mid before added more image some (inl empty) = absurd (some empty.0)
+  left_later held mid before added more image some (inr left) =
+      inr (
+        added ++ left.0,
+        record { more = left.1.more; is = ap (λ rs. added ++ rs) left.1.is ∙ sym (append_assoc added left.0 left.1.more) },
+        subst (Stands name job source image) (append_assoc before added left.0) left.2,
+      )
+
+  module _ {D : Type 0} (time : D → ℕ) (left_since : D → ℕ → Images) where
+    -- rounds were added, and then others
+    pub leaves_rounds : (old mid new : D) (held now : List ℕ) (before added more : List RoundEntry) → (IsEmpty now → ⊥)
+        → LeavesRounds time left_since old mid name job source held before added
+        → LeavesRounds time left_since mid new name job source now (before ++ added) more
+        → LeavesRounds time left_since old new name job source held before (added ++ more)
+    leaves_rounds old mid new held now before added more some first second = record {
+      found = first.found;
+      small = small-append (last_progress before) added more first.small
+          (subst (λ p. AreSmall p more) (progress-append no_progress before added) second.small);
+      leaves =
+          leaves_both time left_since old mid new (IsLeft name job source held before (added ++ more))
+          (leaves_if time left_since old mid (IsLeft name job source held before added) (IsLeft name job source held before (added ++ more))
+          (left_more held before added more) first.leaves)
+          (leaves_if time left_since mid new (IsLeft name job source now (before ++ added) more) (IsLeft name job source held before (added ++ more))
+          (λ image. left_later held now before added more image some) second.leaves);
+    }
+
+    -- the disk isn't called
+    pub leaves_nothing : (may_leave : D → Images) (faults : D → ℕ) (bytes : Option (List ℕ)) (old : D) (held : List ℕ) (before : List RoundEntry)
+        → AreAmong (left_since old (time old)) (may_leave old) → Rests bytes (may_leave old) held → are_told (may_leave old) ≡ true
+        → Stands name job source held before → LeavesRounds time left_since old old name job source held before []
+    leaves_nothing may_leave faults bytes old held before now rests told stands = record {
+      found = inr stands;
+      small = tt;
+      leaves = leaves_none may_leave time left_since faults old (IsLeft name job source held before []) now
+          (λ image left. subst (IsLeft name job source held before []) (sym (the_image (may_leave old) held image told rests.only left)) this);
+    }
+      where
+        this : IsLeft name job source held before [] held
+        this = inr ([], record { more = []; is = refl }, subst (Stands name job source held) (sym (append-nil before)) stands)

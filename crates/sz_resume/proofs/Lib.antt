@@ -1,0 +1,14 @@
+pub mod JoinedLemmas
+pub mod RoundLemmas
+pub mod SkipLemmas
+mod StopLemmas
+mod ShardLemmas
+mod StandLemmas
+mod NumberLemmas
+mod LeaveLemmas
+mod FedLemmas
+mod NextLemmas
+mod TurnLemmas
+mod AppendLemmas
+mod WayLemmas
+mod StartLemmas

@@ -1,0 +1,91 @@
+-- A job that is resumed, up to where its rounds end.
+use Rattle.std.proofs.Common.{◌≡◌, ◌⊎◌, inl, inr, ℕ, ◌+◌, ◌<◌, ◌≤◌, Bool, true, false, List, [], ◌∷◌, ◌++◌, length, drop, Option, Some, None, IfSome}
+use Rattle.std.proofs.Common.{refl, sym, ap, ◌∙◌, subst, arith, append-nil, length-append}
+use Rattle.std.specs.Prelude.{Result, Ok, Err}
+use Rattle.std.specs.Io.KnownBytes.{Consumes, IsAtEnd}
+use Rattle.sz_types.specs.Tables.{Declaration}
+use Rattle.sz_mean.specs.Marked.{all_tables}
+use Rattle.sz_save_format.specs.Saved.{SavedState}
+use Rattle.sz_attempt.specs.declared.job.Job.{Job}
+use Rattle.sz_journal_format.specs.declared.job.JobBytes.{JobBytes}
+use Rattle.sz_journal_format.specs.declared.round.RoundEntry.{RoundEntry}
+use Rattle.sz_journal_format.specs.Rounds.{last_progress, AreRounds}
+use Rattle.sz_journal.specs.declared.journal.Journal.{Journal}
+use Rattle.sz_journal.specs.Journal.{rounds_of, last_gate}
+use Rattle.sz_stream.specs.declared.stop.Stop.TheVariants as stops
+use Rattle.sz_resume.specs.declared.halt.Halt.{Halt}
+use Rattle.sz_resume.specs.declared.halt.Halt.TheVariants as halts
+use Rattle.sz_resume.specs.Halts.{no_memory, read_failed}
+use Rattle.sz_resume.specs.Standing.{Source, Stands, IsFound}
+use Rattle.sz_resume.specs.Runs.{IsJournalOf, HasJournal, Skips, RunsSource, TellsShort}
+use Rattle.sz_resume.proofs.LeaveLemmas.{not_empty}
+use Rattle.sz_resume.proofs.WayLemmas.{spelled_at}
+
+drop_front : (xs ys : List ℕ) → drop (length xs) (xs ++ ys) ≡ ys
+drop_front [] ys = refl
+drop_front (x ∷ xs) ys = drop_front xs ys
+
+-- what is left behind the bytes that were dropped
+pub left_then : (before after : Option (List ℕ)) (bytes : ℕ) (input : List ℕ) → Skips before after bytes true → before ≡ Some input
+    → after ≡ Some (drop bytes input)
+left_then None after bytes input skips is = absurd (cc)
+left_then (Some s) None bytes input skips is = absurd skips.consumed
+left_then (Some s) (Some l) bytes input skips is =
+    let same : s ≡ input = cc in
+    ap (λ b. Some b) (sym (drop_front skips.dropped l) ∙ ap (drop (length skips.dropped)) (sym skips.consumed ∙ same)
+    ∙ ap (λ n. drop n input) (skips.enough refl))
+
+pub long_enough : (before after : Option (List ℕ)) (bytes : ℕ) (input : List ℕ) → Skips before after bytes true → before ≡ Some input → bytes ≤ length input
+long_enough None after bytes input skips is = absurd (cc)
+long_enough (Some s) None bytes input skips is = absurd skips.consumed
+long_enough (Some s) (Some l) bytes input skips is =
+    let same : s ≡ input = cc in
+    let long = ap length (sym same ∙ skips.consumed) in
+    let enough = skips.enough refl in omega (arith, long, enough, length-append skips.dropped l)
+
+pub too_short : (before after : Option (List ℕ)) (bytes : ℕ) (input : List ℕ) → Skips before after bytes false → before ≡ Some input → length input < bytes
+too_short None after bytes input skips is = absurd (cc)
+too_short (Some s) None bytes input skips is = absurd skips.consumed
+too_short (Some s) (Some l) bytes input skips is =
+    let same : s ≡ input = cc in
+    let short = skips.short refl in
+    let long = ap length (sym same ∙ skips.consumed ∙ ap (λ b. skips.dropped ++ b) short.1 ∙ append-nil skips.dropped) in
+    omega (arith, long, short.0)
+
+-- the same by the test
+pub behind_dropped : (before after : Option (List ℕ)) (bytes : ℕ) (all : Bool) (input : List ℕ) (place : ℕ) → Skips before after bytes all
+    → all ≡ true → before ≡ Some input → bytes ≡ place → after ≡ Some (drop place input)
+behind_dropped before after bytes true input place skips test is same =
+    left_then before after bytes input skips is ∙ ap (λ n. Some (drop n input)) same
+behind_dropped before after bytes false input place skips test is same = absurd (cc)
+
+pub long_input : (before after : Option (List ℕ)) (bytes : ℕ) (all : Bool) (input : List ℕ) (place : ℕ) → Skips before after bytes all
+    → all ≡ true → before ≡ Some input → bytes ≡ place → place ≤ length input
+long_input before after bytes true input place skips test is same =
+    let long = long_enough before after bytes input skips is in omega (arith, long, same)
+long_input before after bytes false input place skips test is same = absurd (cc)
+
+-- the journal that is found has the job's entry
+pub found_is : (name : JobBytes) (job : Job) (source : Source) (journal : Journal) (bytes : Option (List ℕ)) (held : List ℕ) → bytes ≡ Some held
+    → IsJournalOf name job journal bytes → IsFound name job source held (rounds_of journal) → Stands name job source held (rounds_of journal)
+found_is name job source journal bytes held told j (inl none) =
+    absurd (not_empty name (all_tables job.compiled) held (rounds_of journal) (spelled_at name job journal bytes held told j) none.0)
+found_is name job source journal bytes held told j (inr stands) = stands
+
+-- what an answer says of the input's length
+pub tells_all : (journal : Journal) (left : Option (List ℕ)) (answer : Result SavedState Halt)
+    → ((input : List ℕ) → left ≡ Some input → TellsShort journal input answer) → IfSome left (λ input. TellsShort journal input answer)
+tells_all journal None answer tells = tt
+tells_all journal (Some input) answer tells = tells input refl
+
+pub tells_long : (journal : Journal) (input : List ℕ) (answer : Result SavedState Halt) → ((gate : ℕ) → answer ≡ Err (halts.Short gate) → ⊥)
+    → (last_progress (rounds_of journal)).bytes ≤ length input → TellsShort journal input answer
+tells_long journal input (Ok all) none long = long
+tells_long journal input (Err (halts.Short gate)) none long = absurd (none gate refl)
+tells_long journal input (Err halts.DiskFailed) none long = long
+tells_long journal input (Err (halts.Stopped stops.ReadFailed)) none long = tt
+tells_long journal input (Err (halts.Stopped stops.NoMemory)) none long = tt
+tells_long journal input (Err (halts.Stopped (stops.Fault n f))) none long = long
+tells_long journal input (Err (halts.Stopped (stops.Lost n))) none long = long
+tells_long journal input (Err (halts.Stopped (stops.Damaged n))) none long = long
+tells_long journal input (Err (halts.Stopped (stops.Limit n))) none long = long

@@ -1,0 +1,47 @@
+use Rattle.std.proofs.Common.{◌≡◌, ◌+◌, ◌-◌, ◌^◌, ◌<◌, ◌≤◌, ◌++◌, ℕ, List, Some, true, length, drop, IsTrue}
+use Rattle.sz_mean.specs.Marked.{all_tables}
+use Rattle.sz_io.specs.Opened.{KeepsOtherFiles}
+use Rattle.sz_disk.specs.Crashes.{are_told}
+use Rattle.sz_gates.specs.Crashing.{Rests, DoesNotFall}
+use Rattle.sz_journal_format.specs.declared.job.JobBytes.{JobBytes}
+use Rattle.sz_journal_format.specs.declared.round.RoundEntry.{RoundEntry}
+use Rattle.sz_journal_format.specs.Rounds.{last_progress}
+use Rattle.sz_journal.specs.Journal.{rounds_of, KeepsRounds}
+use Rattle.sz_resume.specs.Standing.{Source, Stands}
+use Rattle.sz_resume.specs.Stops.{LeavesRounds}
+use Rattle.sz_resume.specs.Runs.{IsJournalOf}
+use Rattle.sz_resume.specs.Turns.{AllStand, IsBehind, rest_from}
+use Rattle.sz_resume.proofs.resume.run_behind.Given as goal
+
+-- the rounds before the records at hand are the journal's
+abbrev pub invariant-loop-intake : goal.invariant-loop-intake
+invariant-loop-intake g l = record {
+  given : IsTrue (g.F.Files.given l.files l.file);
+  room : 0 < length l.buffer;
+  rises : (last_progress (rounds_of l.fn.journal)).bytes ≤ (last_progress (rounds_of l.journal)).bytes;
+  behind : IsBehind l.job l.settings.frame l.settings.shard (rounds_of l.journal) l.intake
+      (rest_from ((last_progress (rounds_of l.journal)).bytes - (last_progress (rounds_of l.fn.journal)).bytes) (g.F.Files.left l.fn.files l.file))
+      (g.F.Files.left l.files l.file);
+  journal_is : (name : JobBytes) → IsJournalOf name l.job l.fn.journal (g.K.Disk.bytes l.fn.disk) → IsJournalOf name l.job l.journal (g.K.Disk.bytes l.disk);
+  grows : (added : List RoundEntry) × (rounds_of l.journal ≡ rounds_of l.fn.journal ++ added);
+  stands : (input : List ℕ) → g.F.Files.left l.fn.files l.file ≡ Some (drop (last_progress (rounds_of l.fn.journal)).bytes input)
+      → AllStand l.job (record { frame = l.settings.frame; most = l.settings.shard; bytes = input }) (rounds_of l.fn.journal)
+      → AllStand l.job (record { frame = l.settings.frame; most = l.settings.shard; bytes = input }) (rounds_of l.journal);
+  keeps : (name : JobBytes) (held : List ℕ) → Rests (g.K.Disk.bytes l.fn.disk) (g.K.Disk.may_leave l.fn.disk) held
+      → IsJournalOf name l.job l.fn.journal (g.K.Disk.bytes l.fn.disk)
+      → KeepsRounds (g.K.Disk.bytes l.disk) (g.K.Disk.may_leave l.disk) name (all_tables l.job.compiled) (rounds_of l.journal);
+  stopped : (input held : List ℕ) (name : JobBytes) → g.F.Files.left l.fn.files l.file ≡ Some (drop (last_progress (rounds_of l.fn.journal)).bytes input)
+      → Rests (g.K.Disk.bytes l.fn.disk) (g.K.Disk.may_leave l.fn.disk) held → are_told (g.K.Disk.may_leave l.fn.disk) ≡ true
+      → IsJournalOf name l.job l.fn.journal (g.K.Disk.bytes l.fn.disk)
+      → Stands name l.job (record { frame = l.settings.frame; most = l.settings.shard; bytes = input }) held (rounds_of l.fn.journal)
+      → (added : List RoundEntry) × LeavesRounds g.K.Disk.time g.K.Disk.left_since l.fn.disk l.disk name l.job
+      (record { frame = l.settings.frame; most = l.settings.shard; bytes = input }) held (rounds_of l.fn.journal) added
+      × (rounds_of l.journal ≡ rounds_of l.fn.journal ++ added);
+  told : are_told (g.K.Disk.may_leave l.disk) ≡ are_told (g.K.Disk.may_leave l.fn.disk);
+  kept : KeepsOtherFiles g.F.Files.held g.F.Files.left g.F.Files.given g.F.Files.names g.F.Files.faults l.file l.fn.files l.files;
+  faults : DoesNotFall (g.K.Disk.faults l.fn.disk) (g.K.Disk.faults l.disk);
+}
+
+-- how many records there may still be
+abbrev pub decreases-loop-intake : goal.decreases-loop-intake
+decreases-loop-intake g l = 2 ^ 31 + 2 - l.intake.first

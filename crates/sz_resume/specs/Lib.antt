@@ -1,0 +1,8 @@
+-- what the public contracts rest on
+pub mod Standing
+pub mod Stops
+pub mod Runs
+-- what the functions inside the crate promise each other
+pub mod Halts
+pub mod Entries
+pub mod Turns

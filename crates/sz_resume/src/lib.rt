@@ -1,0 +1,13 @@
+//! A job that goes on behind the rounds of its journal, and appends each further round to it.
+#![tactic(auto)]
+
+mod halt;
+mod laws;
+mod resume;
+mod round;
+mod skip;
+mod tables;
+
+pub use halt::Halt;
+pub use laws::stops_leave_the_job;
+pub use resume::resume_file;

@@ -1,0 +1,268 @@
+//! An input that is run on behind the rounds of a journal.
+ghost use Rattle.std.specs.Prelude.{◌≡◌, ◌<◌, ◌≤◌, ◌^◌, ◌++◌, ◌∷◌, [], ℕ, List, drop, length, Some, Option, true, IfOk, IfSome, IfErr, OnOk, IsSome, IsTrue, IsErrOf};
+ghost use Rattle.std.specs.Io.KnownBytes.{IsAtEnd};
+ghost use Rattle.sz_io.specs.Rose.{Rose};
+ghost use Rattle.sz_io.specs.Opened.{KeepsOtherFiles};
+ghost use Rattle.sz_mean.specs.Marked.{all_tables};
+ghost use Rattle.sz_save.specs.Saving.{HaveSpelling};
+ghost use Rattle.sz_attempt.specs.Shards.{IsJob};
+ghost use Rattle.sz_disk.specs.Crashes.{are_told};
+ghost use Rattle.sz_gates.specs.Crashing.{Rests, DoesNotFall};
+ghost use Rattle.sz_journal.specs.Journal.{rounds_of, last_gate, KeepsRounds};
+ghost use Rattle.sz_journal_format.specs.declared.job.JobBytes.{JobBytes};
+ghost use Rattle.sz_journal_format.specs.declared.round.RoundEntry.{RoundEntry};
+ghost use Rattle.sz_journal_format.specs.Rounds.{AreRounds, last_progress};
+ghost use Rattle.sz_rounds.specs.Outcomes.{outcome_from};
+ghost use Rattle.sz_rounds.specs.Rounds.{shards_of};
+ghost use Rattle.sz_stream.specs.Intakes.{CanGoOn};
+ghost use Rattle.sz_stream.specs.InputRuns.{CanRead, Fills, IsReady};
+ghost use Rattle.sz_resume.specs.Halts.{of_file};
+ghost use Rattle.sz_resume.specs.Standing.{Source, Stands, IsFound};
+ghost use Rattle.sz_resume.specs.Entries.{done_of};
+ghost use Rattle.sz_resume.specs.Turns.{AllStand, IsBehind, HasNext, AddsRound, StopsHalt, EndsSo};
+ghost use Rattle.sz_resume.specs.Stops.{LeavesRounds, HoldsAll};
+ghost use Rattle.sz_resume.specs.Runs.{IsJournalOf, HasJournal, RunsSource, TellsShort};
+
+use crate::halt::{Halt, of_disk, of_file};
+use crate::round::{done_behind, round_entry};
+use crate::skip::skip;
+use crate::tables::tables_of;
+use std::alloc::Global;
+use std::thread::Threads;
+use sz_attempt::Job;
+use sz_disk::Disk;
+use sz_io::{Files, Gate, OutsideError};
+use sz_journal::Journal;
+use sz_records::Ending;
+use sz_save::Saved;
+use sz_stream::{Done, Intake, PIECE_BYTES, Stop, fill, run_at_hand};
+use sz_words::RunSettings;
+
+/// The tables of all that the records of an opened file emit, by the frame and shards of these settings; or why there are none.
+///
+/// The bytes of the rounds that the job's journal has are read and dropped. Behind them the file is run as by `run_file`, and each round is
+/// appended to the journal before the next one is run.
+pub fn resume_file<R: Threads + Sync, F: Files, G: Gate + Sync, K: Disk>(
+    rt: &R,
+    alloc: Global,
+    job: &Job,
+    settings: &RunSettings,
+    workers: u32,
+    files: &mut F,
+    file: u32,
+    gate: &G,
+    journal: &mut Journal,
+    disk: &mut K,
+) -> Result<Saved, Halt>
+    requires given { IsTrue (F.given files.old file) }
+    requires job { IsJob job.now }
+    requires attempts { (1 ≤ job.now.attempts) × (job.now.attempts ≤ 8) }
+    requires workers { (1 ≤ workers) × (workers ≤ 64) }
+    requires shard { 1 ≤ settings.now.shard }
+    requires spelled { HaveSpelling (all_tables job.now.compiled) }
+    requires journal { HasJournal job.now journal.old (K.bytes disk.old) }
+
+    ensures value { (input held : List ℕ) (name : JobBytes) → F.left files.old file ≡ Some input → K.bytes disk.old ≡ Some held
+        → IsFound name job.now (record { frame = settings.now.frame; most = settings.now.shard; bytes = input }) held (rounds_of journal.old)
+        → RunsSource job.now journal.old (record { frame = settings.now.frame; most = settings.now.shard; bytes = input }) result }
+    ensures short { IfSome (F.left files.old file) (λ input. TellsShort journal.old input result) }
+    ensures gate { (gate : ℕ) → IsErrOf result (Halt.Short gate) → (gate ≡ last_gate journal.old) × (0 < (last_progress (rounds_of journal.old)).bytes) }
+    ensures end { OnOk result (IsAtEnd (F.left files.new file)) }
+    ensures told { OnOk result (IfSome (F.left files.old file) (λ _. IsSome (F.left files.new file))) }
+    ensures grows { OnOk result ((added : List RoundEntry) × (rounds_of journal.new ≡ rounds_of journal.old ++ added)) }
+
+    ensures stopped { (input held : List ℕ) (name : JobBytes) → F.left files.old file ≡ Some input → Rests (K.bytes disk.old) (K.may_leave disk.old) held
+        → are_told (K.may_leave disk.old) ≡ true → IsJournalOf name job.now journal.old (K.bytes disk.old)
+        → IsFound name job.now (record { frame = settings.now.frame; most = settings.now.shard; bytes = input }) held (rounds_of journal.old)
+        → (added : List RoundEntry) × LeavesRounds K.time K.left_since disk.old disk.new name job.now
+        (record { frame = settings.now.frame; most = settings.now.shard; bytes = input }) held (rounds_of journal.old) added
+        × OnOk result (rounds_of journal.new ≡ rounds_of journal.old ++ added) }
+    ensures ended { (input held : List ℕ) (name : JobBytes) → F.left files.old file ≡ Some input → Rests (K.bytes disk.old) (K.may_leave disk.old) held
+        → IsJournalOf name job.now journal.old (K.bytes disk.old)
+        → IsFound name job.now (record { frame = settings.now.frame; most = settings.now.shard; bytes = input }) held (rounds_of journal.old)
+        → OnOk result (HoldsAll (K.bytes disk.new) (K.may_leave disk.new) name job.now
+        (record { frame = settings.now.frame; most = settings.now.shard; bytes = input }) (rounds_of journal.new)) }
+
+    ensures failed { IsErrOf result (Halt.Stopped Stop.ReadFailed) → Rose (F.faults files.old) (F.faults files.new) }
+    ensures disk_failed { IsErrOf result Halt.DiskFailed → Rose (K.faults disk.old) (K.faults disk.new) }
+    ensures kept { KeepsOtherFiles F.held F.left F.given F.names F.faults file files.old files.new }
+    ensures faults { DoesNotFall (K.faults disk.old) (K.faults disk.new) }
+{
+    let mut buffer = Vec::new(alloc);
+    buffer.resize(PIECE_BYTES, 0)?;
+    let done = done_behind(journal.rounds());
+    let all = skip(files, file, &mut buffer, done.bytes)?;
+    if !all {
+        return Err(Halt::Short(journal.last_gate()));
+    }
+    run_behind(
+        rt,
+        alloc,
+        job,
+        settings,
+        workers,
+        files,
+        file,
+        &mut buffer,
+        gate,
+        journal,
+        disk,
+        done,
+    )
+}
+
+/// The same where the bytes of the journal's rounds were read, and this is done of the input: what is left of the file stands behind them.
+fn run_behind<R: Threads + Sync, F: Files, G: Gate + Sync, K: Disk>(
+    rt: &R,
+    alloc: Global,
+    job: &Job,
+    settings: &RunSettings,
+    workers: u32,
+    files: &mut F,
+    file: u32,
+    buffer: &mut [u8],
+    gate: &G,
+    journal: &mut Journal,
+    disk: &mut K,
+    done: Done,
+) -> Result<Saved, Halt>
+    requires given { IsTrue (F.given files.old file) }
+    requires room { 0 < length buffer.old }
+    requires job { IsJob job.now }
+    requires attempts { (1 ≤ job.now.attempts) × (job.now.attempts ≤ 8) }
+    requires workers { (1 ≤ workers) × (workers ≤ 64) }
+    requires shard { 1 ≤ settings.now.shard }
+    requires spelled { HaveSpelling (all_tables job.now.compiled) }
+    requires journal { HasJournal job.now journal.old (K.bytes disk.old) }
+    requires done { done ≡ done_of (last_progress (rounds_of journal.old)) }
+    requires can { CanGoOn done }
+    requires passed { done.passed ≤ job.now.skip }
+
+    ensures value { (input : List ℕ) → F.left files.old file ≡ Some (drop (last_progress (rounds_of journal.old)).bytes input)
+        → AllStand job.now (record { frame = settings.now.frame; most = settings.now.shard; bytes = input }) (rounds_of journal.old)
+        → RunsSource job.now journal.old (record { frame = settings.now.frame; most = settings.now.shard; bytes = input }) result }
+    ensures long { (gate : ℕ) → IsErrOf result (Halt.Short gate) → ⊥ }
+    ensures end { OnOk result (IsAtEnd (F.left files.new file)) }
+    ensures told { OnOk result (IfSome (F.left files.old file) (λ _. IsSome (F.left files.new file))) }
+    ensures grows { OnOk result ((added : List RoundEntry) × (rounds_of journal.new ≡ rounds_of journal.old ++ added)) }
+
+    ensures stopped { (input held : List ℕ) (name : JobBytes) → F.left files.old file ≡ Some (drop (last_progress (rounds_of journal.old)).bytes input)
+        → Rests (K.bytes disk.old) (K.may_leave disk.old) held → are_told (K.may_leave disk.old) ≡ true
+        → IsJournalOf name job.now journal.old (K.bytes disk.old)
+        → Stands name job.now (record { frame = settings.now.frame; most = settings.now.shard; bytes = input }) held (rounds_of journal.old)
+        → (added : List RoundEntry) × LeavesRounds K.time K.left_since disk.old disk.new name job.now
+        (record { frame = settings.now.frame; most = settings.now.shard; bytes = input }) held (rounds_of journal.old) added
+        × OnOk result (rounds_of journal.new ≡ rounds_of journal.old ++ added) }
+    ensures ended { (input held : List ℕ) (name : JobBytes) → F.left files.old file ≡ Some (drop (last_progress (rounds_of journal.old)).bytes input)
+        → Rests (K.bytes disk.old) (K.may_leave disk.old) held → IsJournalOf name job.now journal.old (K.bytes disk.old)
+        → Stands name job.now (record { frame = settings.now.frame; most = settings.now.shard; bytes = input }) held (rounds_of journal.old)
+        → OnOk result (HoldsAll (K.bytes disk.new) (K.may_leave disk.new) name job.now
+        (record { frame = settings.now.frame; most = settings.now.shard; bytes = input }) (rounds_of journal.new)) }
+
+    ensures failed { IsErrOf result (Halt.Stopped Stop.ReadFailed) → Rose (F.faults files.old) (F.faults files.new) }
+    ensures disk_failed { IsErrOf result Halt.DiskFailed → Rose (K.faults disk.old) (K.faults disk.new) }
+    ensures kept { KeepsOtherFiles F.held F.left F.given F.names F.faults file files.old files.new }
+    ensures faults { DoesNotFall (K.faults disk.old) (K.faults disk.new) }
+{
+    let mut intake = Intake::behind(alloc, settings.frame, settings.shard, done);
+    loop {
+        fill_round(&mut intake, files, file, buffer)?;
+        if let Some(ending) = intake.end() {
+            return ended(alloc, job, journal, ending);
+        }
+        run_next(rt, alloc, job, workers, &mut intake, gate, journal, disk)?;
+    }
+}
+
+/// Reads pieces of a file until its next round is full, or its ending is known.
+fn fill_round<F: Files>(
+    intake: &mut Intake,
+    files: &mut F,
+    file: u32,
+    buffer: &mut [u8],
+) -> Result<(), Halt>
+    requires given { IsTrue (F.given files.old file) }
+    requires room { 0 < length buffer.old }
+    requires can_read { CanRead intake.old }
+    ensures ok { OnOk result (Fills intake.old intake.new (F.left files.old file) (F.left files.new file)) }
+    ensures ready { OnOk result (IsReady intake.new) }
+    ensures first { OnOk result (intake.new.first ≡ intake.old.first) }
+    ensures first_shard { OnOk result (intake.new.round.first_shard ≡ intake.old.round.first_shard) }
+    ensures room { length buffer.new ≡ length buffer.old }
+    ensures err { IfErr result (λ halt. (error : OutsideError) × (halt ≡ of_file error)) }
+    ensures failed { IsErrOf result (Halt.Stopped Stop.ReadFailed) → Rose (F.faults files.old) (F.faults files.new) }
+    ensures kept { KeepsOtherFiles F.held F.left F.given F.names F.faults file files.old files.new }
+{
+    match fill(intake, files, file, buffer) {
+        Ok(()) => Ok(()),
+        Err(error) => Err(of_file(error)),
+    }
+}
+
+/// Runs the next round by so many workers, appends it to the journal, and moves on after it.
+fn run_next<R: Threads + Sync, G: Gate + Sync, K: Disk>(
+    rt: &R,
+    alloc: Global,
+    job: &Job,
+    workers: u32,
+    intake: &mut Intake,
+    gate: &G,
+    journal: &mut Journal,
+    disk: &mut K,
+) -> Result<(), Halt>
+    requires job { IsJob job.now }
+    requires attempts { (1 ≤ job.now.attempts) × (job.now.attempts ≤ 8) }
+    requires workers { (1 ≤ workers) × (workers ≤ 64) }
+    requires spelled { HaveSpelling (all_tables job.now.compiled) }
+    requires journal { HasJournal job.now journal.old (K.bytes disk.old) }
+    requires next { HasNext job.now (rounds_of journal.old) intake.old }
+
+    ensures ok { OnOk result (AddsRound job.now (rounds_of journal.old) (rounds_of journal.new) intake.old intake.new) }
+    ensures journal { OnOk result ((name : JobBytes) → IsJournalOf name job.now journal.old (K.bytes disk.old)
+        → IsJournalOf name job.now journal.new (K.bytes disk.new)) }
+    ensures stands { OnOk result ((source : Source) (start left : Option (List ℕ))
+        → IsBehind job.now source.frame source.most (rounds_of journal.old) intake.old start left
+        → start ≡ Some (drop (last_progress (rounds_of journal.old)).bytes source.bytes) → AllStand job.now source (rounds_of journal.old)
+        → AllStand job.now source (rounds_of journal.new)) }
+    ensures keeps { OnOk result ((name : JobBytes) (held : List ℕ) → K.bytes disk.old ≡ Some held
+        → IsJournalOf name job.now journal.old (K.bytes disk.old)
+        → KeepsRounds (K.bytes disk.new) (K.may_leave disk.new) name (all_tables job.now.compiled) (rounds_of journal.new)) }
+
+    ensures stopped { (name : JobBytes) (source : Source) (held : List ℕ) (start left : Option (List ℕ))
+        → IsBehind job.now source.frame source.most (rounds_of journal.old) intake.old start left
+        → start ≡ Some (drop (last_progress (rounds_of journal.old)).bytes source.bytes)
+        → Stands name job.now source held (rounds_of journal.old) → Rests (K.bytes disk.old) (K.may_leave disk.old) held
+        → are_told (K.may_leave disk.old) ≡ true → IsJournalOf name job.now journal.old (K.bytes disk.old)
+        → (added : List RoundEntry) × LeavesRounds K.time K.left_since disk.old disk.new name job.now source held (rounds_of journal.old) added
+        × OnOk result (rounds_of journal.new ≡ rounds_of journal.old ++ added) }
+    ensures told { are_told (K.may_leave disk.new) ≡ are_told (K.may_leave disk.old) }
+
+    ensures err { IfErr result (StopsHalt (outcome_from job.now intake.old.round.passed (shards_of intake.old.round))) }
+    ensures read { IsErrOf result (Halt.Stopped Stop.ReadFailed) → ⊥ }
+    ensures disk_failed { IsErrOf result Halt.DiskFailed → Rose (K.faults disk.old) (K.faults disk.new) }
+    ensures faults { DoesNotFall (K.faults disk.old) (K.faults disk.new) }
+{
+    let (tables, passed) = run_at_hand(rt, alloc, job, workers, intake, gate)?;
+    let round = round_entry(alloc, job, intake, &tables, passed)?;
+    match journal.append(disk, &round) {
+        Ok(()) => {
+            intake.move_on(passed);
+            Ok(())
+        }
+        Err(error) => Err(of_disk(error)),
+    }
+}
+
+/// The tables of a job whose input ends so behind the rounds of its journal.
+fn ended(alloc: Global, job: &Job, journal: &Journal, ending: Ending) -> Result<Saved, Halt>
+    requires job { IsJob job.now }
+    requires spelled { HaveSpelling (all_tables job.now.compiled) }
+    requires are { (name : JobBytes) × AreRounds name (all_tables job.now.compiled) (rounds_of journal.now) }
+    ensures value { EndsSo (all_tables job.now.compiled) (rounds_of journal.now) ending result }
+{
+    match ending {
+        Ending::Whole => Ok(tables_of(alloc, job, journal.rounds())?),
+        Ending::Damaged(byte) => Err(Halt::Stopped(Stop::Damaged(byte))),
+        Ending::Limit(byte) => Err(Halt::Stopped(Stop::Limit(byte))),
+    }
+}
