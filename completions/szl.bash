@@ -5,7 +5,7 @@ _szl() {
     [ "$word" = "=" ] && word=
     COMPREPLY=()
     if [ "$COMP_CWORD" -eq 1 ]; then
-        mapfile -t COMPREPLY < <(compgen -W "run check merge selftest" -- "$word")
+        mapfile -t COMPREPLY < <(compgen -W "run resume check merge selftest" -- "$word")
         return
     fi
     case $before in
@@ -14,6 +14,8 @@ _szl() {
     *)
         if [[ $word == -* && ${COMP_WORDS[1]} == run ]]; then
             mapfile -t COMPREPLY < <(compgen -W "--frame --workers --budget --skip --shard --attempts --kill --twice --ignore-undefs --proto --save" -- "$word")
+        elif [[ $word == -* && ${COMP_WORDS[1]} == resume ]]; then
+            mapfile -t COMPREPLY < <(compgen -W "--frame --workers --budget --skip --shard --attempts --kill --twice --ignore-undefs --proto" -- "$word")
         elif [[ $word == -* && ${COMP_WORDS[1]} == check ]]; then
             mapfile -t COMPREPLY < <(compgen -W "--proto" -- "$word")
         elif [[ $word == -* && ${COMP_WORDS[1]} == merge ]]; then

@@ -188,6 +188,9 @@ decides_still (Err (failure.Limit b)) outcome rose h = h
 decides_still (Err (failure.BadTables n)) outcome rose h = h
 decides_still (Err (failure.OtherTables n)) outcome rose h = h
 decides_still (Err (failure.TablesLimit n)) outcome rose h = h
+decides_still (Err failure.OtherJob) outcome rose h = h
+decides_still (Err (failure.JournalDamaged n)) outcome rose h = h
+decides_still (Err failure.DiskFailed) outcome rose h = h
 decides_still (Err (failure.BadProtoFile n)) outcome rose h = h
 
 -- and no read failed
@@ -205,6 +208,9 @@ not_read (Err (failure.Limit b)) outcome h = λ e. cc
 not_read (Err (failure.BadTables n)) outcome h = λ e. cc
 not_read (Err (failure.OtherTables n)) outcome h = λ e. cc
 not_read (Err (failure.TablesLimit n)) outcome h = λ e. cc
+not_read (Err failure.OtherJob) outcome h = λ e. cc
+not_read (Err (failure.JournalDamaged n)) outcome h = λ e. cc
+not_read (Err failure.DiskFailed) outcome h = absurd h
 not_read (Err (failure.BadProtoFile n)) outcome h = λ e. cc
 
 module _ {F : Type 0} (the_files : files.Ghosts F) (frame : Frame) (name : List ℕ) (old : F) where
@@ -246,6 +252,9 @@ module _ {F : Type 0} (the_files : files.Ghosts F) (frame : Frame) (name : List 
   static_fails program s (failure.BadTables n) h = absurd h
   static_fails program s (failure.OtherTables n) h = absurd h
   static_fails program s (failure.TablesLimit n) h = absurd h
+  static_fails program s failure.OtherJob h = absurd h
+  static_fails program s (failure.JournalDamaged n) h = absurd h
+  static_fails program s failure.DiskFailed h = absurd h
   static_fails program s (failure.BadProtoFile n) h = absurd h
   static_fails program s failure.ReadFailed h = absurd h
   static_fails program s failure.WriteFailed h = absurd h
@@ -338,6 +347,9 @@ module _ {F : Type 0} (the_files : files.Ghosts F) (types : List TypeShape) (s :
   text_refused (failure.BadTables n) h = absurd h
   text_refused (failure.OtherTables n) h = absurd h
   text_refused (failure.TablesLimit n) h = absurd h
+  text_refused failure.OtherJob h = absurd h
+  text_refused (failure.JournalDamaged n) h = absurd h
+  text_refused failure.DiskFailed h = absurd h
   text_refused (failure.BadProtoFile n) h = absurd h
   text_refused failure.ReadFailed h = absurd h
   text_refused failure.WriteFailed h = absurd h
@@ -360,6 +372,9 @@ module _ {F : Type 0} (the_files : files.Ghosts F) (types : List TypeShape) (s :
   statements_refused ss (failure.BadTables n) short has h = absurd h
   statements_refused ss (failure.OtherTables n) short has h = absurd h
   statements_refused ss (failure.TablesLimit n) short has h = absurd h
+  statements_refused ss failure.OtherJob short has h = absurd h
+  statements_refused ss (failure.JournalDamaged n) short has h = absurd h
+  statements_refused ss failure.DiskFailed short has h = absurd h
   statements_refused ss (failure.BadProtoFile n) short has h = absurd h
   statements_refused ss failure.ReadFailed short has h = absurd h
   statements_refused ss failure.WriteFailed short has h = absurd h
@@ -380,6 +395,9 @@ module _ (types : List TypeShape) (text : List ℕ) where
   check_unread (failure.BadTables n) h = absurd h
   check_unread (failure.OtherTables n) h = absurd h
   check_unread (failure.TablesLimit n) h = absurd h
+  check_unread failure.OtherJob h = absurd h
+  check_unread (failure.JournalDamaged n) h = absurd h
+  check_unread failure.DiskFailed h = absurd h
   check_unread (failure.BadProtoFile n) h = absurd h
   check_unread failure.ReadFailed h = absurd h
   check_unread failure.WriteFailed h = absurd h
@@ -396,6 +414,9 @@ module _ (types : List TypeShape) (text : List ℕ) where
   check_fails ss (failure.BadTables n) short has h = absurd h
   check_fails ss (failure.OtherTables n) short has h = absurd h
   check_fails ss (failure.TablesLimit n) short has h = absurd h
+  check_fails ss failure.OtherJob short has h = absurd h
+  check_fails ss (failure.JournalDamaged n) short has h = absurd h
+  check_fails ss failure.DiskFailed short has h = absurd h
   check_fails ss (failure.BadProtoFile n) short has h = absurd h
   check_fails ss failure.ReadFailed short has h = absurd h
   check_fails ss failure.WriteFailed short has h = absurd h

@@ -48,7 +48,7 @@ says_behind : (name : List ℕ) (o : Answer) {status : Status} {output line : Li
     → behind_file (Some name) o ≡ record { status = status; output = output; line = line; opens = suc o.opens }
 says_behind name o is = ap (λ (a : Answer). record a { opens = suc o.opens }) is
 
-decides_behind : (name : List ℕ) (answer : Result (List ℕ) Failure) (o : Answer) (rose : Type 0) → Decides answer o rose
+pub decides_behind : (name : List ℕ) (answer : Result (List ℕ) Failure) (o : Answer) (rose : Type 0) → Decides answer o rose
     → Decides answer (behind_file (Some name) o) rose
 decides_behind name (Ok output) o rose h = says_behind name o h
 decides_behind name (Err failure.ReadFailed) o rose h = h
@@ -63,6 +63,9 @@ decides_behind name (Err (failure.Limit b)) o rose h = says_behind name o h
 decides_behind name (Err (failure.BadTables n)) o rose h = says_behind name o h
 decides_behind name (Err (failure.OtherTables n)) o rose h = says_behind name o h
 decides_behind name (Err (failure.TablesLimit n)) o rose h = says_behind name o h
+decides_behind name (Err failure.OtherJob) o rose h = says_behind name o h
+decides_behind name (Err (failure.JournalDamaged n)) o rose h = says_behind name o h
+decides_behind name (Err failure.DiskFailed) o rose h = absurd h
 decides_behind name (Err (failure.BadProtoFile f)) o rose h = says_behind name o h
 
 -- the bytes that files hold for settings that name a program are those that they hold later
@@ -201,6 +204,9 @@ module _ {F : Type 0} (the_files : files.Ghosts F) (s : Settings) (name : List �
   file_fails (Some file_name) new (failure.BadTables k) r = absurd r.tells
   file_fails (Some file_name) new (failure.OtherTables k) r = absurd r.tells
   file_fails (Some file_name) new (failure.TablesLimit k) r = absurd r.tells
+  file_fails (Some file_name) new failure.OtherJob r = absurd r.tells
+  file_fails (Some file_name) new (failure.JournalDamaged k) r = absurd r.tells
+  file_fails (Some file_name) new failure.DiskFailed r = absurd r.tells
   file_fails (Some file_name) new failure.WriteFailed r = absurd r.tells
 
   -- the file's types are known, and the rest is answered with these

@@ -25,6 +25,9 @@ answered answer status.Limit is read written = inr is
 answered answer status.BadTables is read written = inr is
 answered answer status.OtherTables is read written = inr is
 answered answer status.TablesLimit is read written = inr is
+answered answer status.OtherJob is read written = inr is
+answered answer status.JournalDamaged is read written = inr is
+answered answer status.DiskFailed is read written = inr is
 answered answer status.BadProtoFile is read written = inr is
 
 pub completes : {F O E : Type 0} (the_files : files.Ghosts F) (the_out : sink.Ghosts O) (the_err : sink.Ghosts E) (words : List (List ℕ))

@@ -6,11 +6,11 @@ use Rattle.sz_words.specs.declared.flags.Flag.{Flag}
 use Rattle.sz_words.specs.declared.flags.Flag.TheVariants.{IgnoreUndefs, Save}
 use Rattle.sz_words.specs.declared.settings.RunSettings.{RunSettings}
 use Rattle.sz_words.specs.declared.settings.Settings.{Settings}
-use Rattle.sz_words.specs.declared.settings.Settings.TheVariants.{Run, Check, Selftest, Merge}
+use Rattle.sz_words.specs.declared.settings.Settings.TheVariants.{Run, Check, Selftest, Resume, Merge}
 use Rattle.sz_words.specs.Flags.{plain_words, flags_in}
 use Rattle.sz_words.specs.Parts.{run_names, option_names, values_of, parts_of}
 use Rattle.sz_words.specs.Texts.{number_in}
-use Rattle.sz_words.specs.Settings.{Values, stand_at_most, value_of, are_files, all_are_files, is_proto_alone, files_in, run_with, can_be_joined, most_files}
+use Rattle.sz_words.specs.Settings.{Values, stand_at_most, value_of, are_files, all_are_files, is_proto_alone, can_be_joined, most_files}
 use Rattle.sz_words.specs.Settings.{run_settings, check_settings, selftest_settings, merge_settings, command_settings, plain_settings, with_flag, with_flags}
 use Rattle.sz_words.specs.Settings.{settings_in}
 
@@ -38,11 +38,9 @@ run_few : (o : Option RunSettings) → IfSome (option_map Run o) JoinsFew
 run_few None = tt
 run_few (Some s) = tt
 
-run_settings_few : (given : Values) (names : List (List ℕ)) → IfSome (run_settings given names) JoinsFew
-run_settings_few given names =
-    if_few (stand_at_most 1 given option_names) _ None
-    (then_few (λ files. option_map Run (run_with given files.0 files.1)) (files_in (value_of given (codes "proto")) names)
-    (λ files. run_few (run_with given files.0 files.1))) tt
+resume_few : (o : Option RunSettings) → IfSome (option_map Resume o) JoinsFew
+resume_few None = tt
+resume_few (Some s) = tt
 
 check_settings_few : (given : Values) (names : List (List ℕ)) → IfSome (check_settings given names) JoinsFew
 check_settings_few given [] = tt
@@ -77,17 +75,20 @@ merge_settings_few given names =
 
 command_few : (command : List ℕ) (given : Values) (names : List (List ℕ)) → IfSome (command_settings command given names) JoinsFew
 command_few command given names =
-    if_few (bytes_eq command (codes "run")) _ _ (run_settings_few given names)
+    if_few (bytes_eq command (codes "run")) _ _ (run_few (run_settings given names))
+    (if_few (bytes_eq command (codes "resume")) _ _ (resume_few (run_settings given names))
     (if_few (bytes_eq command (codes "check")) _ _ (check_settings_few given names)
     (if_few (bytes_eq command (codes "selftest")) _ _ (selftest_settings_few given names)
-    (if_few (bytes_eq command (codes "merge")) _ None (merge_settings_few given names) tt)))
+    (if_few (bytes_eq command (codes "merge")) _ None (merge_settings_few given names) tt))))
 
 flag_few : (flag : Flag) (settings : Settings) → JoinsFew settings → IfSome (with_flag flag settings) JoinsFew
 flag_few IgnoreUndefs (Run s) few = if_few (not s.ignore_undefs) _ None tt tt
+flag_few IgnoreUndefs (Resume s) few = if_few (not s.ignore_undefs) _ None tt tt
 flag_few IgnoreUndefs (Check program proto) few = tt
 flag_few IgnoreUndefs (Selftest seed records workers) few = tt
 flag_few IgnoreUndefs (Merge names save) few = tt
 flag_few Save (Run s) few = if_few (not s.save) _ None tt tt
+flag_few Save (Resume s) few = tt
 flag_few Save (Check program proto) few = tt
 flag_few Save (Selftest seed records workers) few = tt
 flag_few Save (Merge names save) few = if_few (not save) (Some (Merge names true)) None few tt

@@ -1,13 +1,16 @@
 mod AnswerLemmas
 mod BehindLemmas
+mod BehindRoundsLemmas
 mod BoundLemmas
 mod CompleteLemmas
 mod EndedLemmas
 mod EndingLemmas
 mod FileLemmas
+mod JobLemmas
 mod JoinLemmas
 mod JudgeLemmas
 mod JudgementLemmas
+mod KeepLemmas
 mod MainLemmas
 mod MergeEnds
 mod MergeLemmas
@@ -18,6 +21,8 @@ mod OpenedLemmas
 mod OpeningLemmas
 mod PieceLemmas
 mod ProtoLemmas
+mod ResumeLemmas
+mod ResumedMainLemmas
 mod RunningLemmas
 mod SavableLemmas
 mod SavedLemmas

@@ -14,7 +14,7 @@ use Rattle.szl.specs.declared.status.Status.{Status}
 use Rattle.szl.specs.declared.status.Status.TheVariants as status
 use Rattle.szl.specs.declared.failure.Failure.{Failure}
 use Rattle.szl.specs.declared.failure.Failure.TheVariants.{Usage, Refused, Faulted, Lost, Damaged, Limit, BadTables, OtherTables, TablesLimit, BadProtoFile}
-use Rattle.szl.specs.declared.failure.Failure.TheVariants.{ReadFailed, WriteFailed, NoMemory}
+use Rattle.szl.specs.declared.failure.Failure.TheVariants.{OtherJob, JournalDamaged, DiskFailed, ReadFailed, WriteFailed, NoMemory}
 use Rattle.szl.specs.Failing.{status_of, line_of_failure}
 use Rattle.szl.specs.Opening.{Decides, Answers, status_of_answer}
 use Rattle.szl.specs.Answers.{Answer, Says, success}
@@ -33,15 +33,15 @@ some_bytes place (b ∷ bytes) within = not_none
     not_none p = cc
 
 -- what a status says of an answer, of the output and of the line
-record Fits (answer : Answer) (s : Status) (old new : Option (List ℕ)) : Type 0 where
-  status_is : IsStatusOf answer s
-  output : GainsOutput s old new answer.output
+pub record Fits (answer : Answer) (s : Status) (old new : Option (List ℕ)) : Type 0 where
+  pub status_is : IsStatusOf answer s
+  pub output : GainsOutput s old new answer.output
 
 prefix_none : (old : Option (List ℕ)) (bytes : List ℕ) (new : Option (List ℕ)) → Appends old new [] → AppendsPrefix old new bytes
 prefix_none old bytes new h = record { count = 0; appends = h }
 
 -- all was printed
-fits_done : (answer : Answer) (output : List ℕ) (old new : Option (List ℕ)) → Says answer (success output) → Appends old new output → Fits answer
+pub fits_done : (answer : Answer) (output : List ℕ) (old new : Option (List ℕ)) → Says answer (success output) → Appends old new output → Fits answer
     status.Done old new
 fits_done answer output old new is h =
     subst (λ a. Fits a status.Done old new) (sym is) (record { status_is = refl; output = h })
@@ -58,18 +58,21 @@ fits_error answer (Limit byte) rose old new decides h = record { status_is = sym
 fits_error answer (BadTables n) rose old new decides h = record { status_is = sym (ap (λ (a : Answer). a.status) decides); output = h }
 fits_error answer (OtherTables n) rose old new decides h = record { status_is = sym (ap (λ (a : Answer). a.status) decides); output = h }
 fits_error answer (TablesLimit n) rose old new decides h = record { status_is = sym (ap (λ (a : Answer). a.status) decides); output = h }
+fits_error answer OtherJob rose old new decides h = record { status_is = sym (ap (λ (a : Answer). a.status) decides); output = h }
+fits_error answer (JournalDamaged n) rose old new decides h = record { status_is = sym (ap (λ (a : Answer). a.status) decides); output = h }
+fits_error answer DiskFailed rose old new decides h = absurd decides
 fits_error answer (BadProtoFile n) rose old new decides h = record { status_is = sym (ap (λ (a : Answer). a.status) decides); output = h }
 fits_error answer ReadFailed rose old new decides h = record { status_is = decides.1; output = h }
 fits_error answer WriteFailed rose old new decides h = absurd decides
 fits_error answer NoMemory rose old new decides h = record { status_is = tt; output = prefix_none old answer.output new h }
 
 -- why printing ended in a failure: there was one before, and nothing was printed; or writing failed, or memory ran out
-data Ended (old new : Option (List ℕ)) : Result (List ℕ) Failure → Failure → Type 0 where
+pub data Ended (old new : Option (List ℕ)) : Result (List ℕ) Failure → Failure → Type 0 where
   before : (f : Failure) → Appends old new [] → Ended old new (Err f) f
   unwritten : (output : List ℕ) → output ≢ [] → AppendsPrefix old new output → Ended old new (Ok output) WriteFailed
   no_room : (output : List ℕ) → AppendsPrefix old new output → Ended old new (Ok output) NoMemory
 
-ended : (f : Failure) (made : Result (List ℕ) Failure) (old new : Option (List ℕ)) → Prints {T = Unit {0}} old new made (Err f) → Ended old new made f
+pub ended : (f : Failure) (made : Result (List ℕ) Failure) (old new : Option (List ℕ)) → Prints {T = Unit {0}} old new made (Err f) → Ended old new made f
 ended f (Err g) old new printed = subst (Ended old new (Err g)) (sym printed.0) (before g printed.1)
 ended WriteFailed (Ok output) old new printed = unwritten output printed.0 printed.1
 ended NoMemory (Ok output) old new printed = no_room output printed
@@ -82,11 +85,14 @@ ended (Limit byte) (Ok output) old new printed = absurd printed
 ended (BadTables n) (Ok output) old new printed = absurd printed
 ended (OtherTables n) (Ok output) old new printed = absurd printed
 ended (TablesLimit n) (Ok output) old new printed = absurd printed
+ended OtherJob (Ok output) old new printed = absurd printed
+ended (JournalDamaged n) (Ok output) old new printed = absurd printed
+ended DiskFailed (Ok output) old new printed = absurd printed
 ended (BadProtoFile n) (Ok output) old new printed = absurd printed
 ended ReadFailed (Ok output) old new printed = absurd printed
 
 -- a failure, before or while something was printed
-fits_failure : (answer : Answer) (f : Failure) (made : Result (List ℕ) Failure) (rose : Type 0) (old new : Option (List ℕ))
+pub fits_failure : (answer : Answer) (f : Failure) (made : Result (List ℕ) Failure) (rose : Type 0) (old new : Option (List ℕ))
     → Decides made answer rose → Ended old new made f → Fits answer (status_of f) old new
 fits_failure answer _ _ rose old new decides (before g none) = fits_error answer g rose old new decides none
 fits_failure answer _ _ rose old new decides (unwritten output some part) =
@@ -104,20 +110,23 @@ line_error answer (Limit byte) rose decides = sym (ap (λ (a : Answer). a.line) 
 line_error answer (BadTables n) rose decides = sym (ap (λ (a : Answer). a.line) decides)
 line_error answer (OtherTables n) rose decides = sym (ap (λ (a : Answer). a.line) decides)
 line_error answer (TablesLimit n) rose decides = sym (ap (λ (a : Answer). a.line) decides)
+line_error answer OtherJob rose decides = sym (ap (λ (a : Answer). a.line) decides)
+line_error answer (JournalDamaged n) rose decides = sym (ap (λ (a : Answer). a.line) decides)
+line_error answer DiskFailed rose decides = absurd decides
 line_error answer (BadProtoFile n) rose decides = sym (ap (λ (a : Answer). a.line) decides)
 line_error answer ReadFailed rose decides = refl
 line_error answer WriteFailed rose decides = refl
 line_error answer NoMemory rose decides = refl
 
 -- the line of a failure is that of its status
-line_is : (answer : Answer) (f : Failure) (made : Result (List ℕ) Failure) (rose : Type 0) (old new : Option (List ℕ))
+pub line_is : (answer : Answer) (f : Failure) (made : Result (List ℕ) Failure) (rose : Type 0) (old new : Option (List ℕ))
     → Decides made answer rose → Ended old new made f → line_of_failure f ≡ line_of answer (status_of f)
 line_is answer _ _ rose old new decides (before g none) = line_error answer g rose decides
 line_is answer _ _ rose old new decides (unwritten output some part) = refl
 line_is answer _ _ rose old new decides (no_room output part) = refl
 
 -- where printing failed, a prefix of the output is written at the most, so want of memory fits
-fits_no_memory : (answer : Answer) (f : Failure) (made : Result (List ℕ) Failure) (rose : Type 0) (old new : Option (List ℕ))
+pub fits_no_memory : (answer : Answer) (f : Failure) (made : Result (List ℕ) Failure) (rose : Type 0) (old new : Option (List ℕ))
     → Decides made answer rose → Ended old new made f → Fits answer status.NoMemory old new
 fits_no_memory answer _ _ rose old new decides (before g none) = record { status_is = tt; output = prefix_none old answer.output new none }
 fits_no_memory answer _ _ rose old new decides (unwritten output some part) =
@@ -140,28 +149,31 @@ alone_always status.Limit output old new same = same
 alone_always status.BadTables output old new same = same
 alone_always status.OtherTables output old new same = same
 alone_always status.TablesLimit output old new same = same
+alone_always status.OtherJob output old new same = same
+alone_always status.JournalDamaged output old new same = same
+alone_always status.DiskFailed output old new same = same
 alone_always status.BadProtoFile output old new same = same
 
 -- the output is what was to be printed, so where it has no byte no call was made
-alone_printed : {O : Type 0} (answer : Answer) (output : List ℕ) (old new : O) → Says answer (success output) → (output ≡ [] → new ≡ old)
+pub alone_printed : {O : Type 0} (answer : Answer) (output : List ℕ) (old new : O) → Says answer (success output) → (output ≡ [] → new ≡ old)
     → answer.output ≡ [] → new ≡ old
 alone_printed answer output old new is nothing none = nothing (sym (ap (λ (a : Answer). a.output) is) ∙ none)
 
 -- a failure leaves the sink alone, and so does want of memory in its place
-alone_failure : {O : Type 0} (answer : Answer) (f : Failure) (made : Result (List ℕ) Failure) (rose : Type 0) (told : Option (List ℕ))
+pub alone_failure : {O : Type 0} (answer : Answer) (f : Failure) (made : Result (List ℕ) Failure) (rose : Type 0) (told : Option (List ℕ))
     (told_now : Option (List ℕ)) (old new : O) → Decides made answer rose → Ended told told_now made f
     → PrintsNothing made old new → IsLeftAlone (status_of f) answer.output old new
 alone_failure answer _ _ rose told told_now old new decides (before g none) nothing = alone_always (status_of g) answer.output old new nothing
 alone_failure answer _ _ rose told told_now old new decides (unwritten output some part) nothing = alone_printed answer output old new decides nothing
 alone_failure answer _ _ rose told told_now old new decides (no_room output part) nothing = alone_printed answer output old new decides nothing
 
-alone_no_memory : {O : Type 0} (answer : Answer) (made : Result (List ℕ) Failure) (rose : Type 0) (old new : O) → Decides made answer rose
+pub alone_no_memory : {O : Type 0} (answer : Answer) (made : Result (List ℕ) Failure) (rose : Type 0) (old new : O) → Decides made answer rose
     → PrintsNothing made old new → IsLeftAlone status.NoMemory answer.output old new
 alone_no_memory answer (Err g) rose old new decides nothing = alone_always status.NoMemory answer.output old new nothing
 alone_no_memory answer (Ok output) rose old new decides nothing = alone_printed answer output old new decides nothing
 
 -- the files are opened for the failure as they were for the answer
-opened_failure : {F : Type 0} (the_files : files.Ghosts F) (old new : F) (asked : List (List ℕ)) (most : ℕ) (f : Failure)
+pub opened_failure : {F : Type 0} (the_files : files.Ghosts F) (old new : F) (asked : List (List ℕ)) (most : ℕ) (f : Failure)
     (made : Result (List ℕ) Failure) (told told_now : Option (List ℕ)) → Ended told told_now made f
     → OpensFiles the_files old new asked most (status_of_answer made) → OpensFiles the_files old new asked most (status_of f)
 opened_failure the_files old new asked most _ _ told told_now (before g none) o = o

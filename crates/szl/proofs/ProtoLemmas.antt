@@ -91,6 +91,9 @@ tells_still bytes rose (Err (failure.Limit b)) h = absurd h
 tells_still bytes rose (Err (failure.BadTables n)) h = absurd h
 tells_still bytes rose (Err (failure.OtherTables n)) h = absurd h
 tells_still bytes rose (Err (failure.TablesLimit n)) h = absurd h
+tells_still bytes rose (Err failure.OtherJob) h = absurd h
+tells_still bytes rose (Err (failure.JournalDamaged n)) h = absurd h
+tells_still bytes rose (Err failure.DiskFailed) h = absurd h
 tells_still bytes rose (Err failure.WriteFailed) h = absurd h
 
 -- and no read failed
@@ -118,7 +121,15 @@ unread_tells told rose (failure.Limit b) r = let e = r.tells.0 in absurd (cc)
 unread_tells told rose (failure.BadTables n) r = let e = r.tells.0 in absurd (cc)
 unread_tells told rose (failure.OtherTables n) r = let e = r.tells.0 in absurd (cc)
 unread_tells told rose (failure.TablesLimit n) r = let e = r.tells.0 in absurd (cc)
+unread_tells told rose failure.OtherJob r = let e = r.tells.0 in absurd (cc)
+unread_tells told rose (failure.JournalDamaged n) r = let e = r.tells.0 in absurd (cc)
+unread_tells told rose failure.DiskFailed r = let e = r.tells.0 in absurd (cc)
 unread_tells told rose failure.WriteFailed r = let e = r.tells.0 in absurd (cc)
+
+-- a file that was read holds these bytes, where they are told
+pub bytes_held : (told : Option (List ℕ)) (limit : ℕ) (past : Failure) (rose : Type 0) (bytes : List ℕ) → ReadsText told limit past rose (Ok bytes)
+    → IfSome told (λ held. held ≡ bytes)
+bytes_held told limit past rose bytes r = subst (λ t. IfSome told (λ held. held ≡ t)) (sym r.tells.0) r.holds
 
 module _ {F : Type 0} (the_files : files.Ghosts F) (name : List ℕ) (old new : F) where
   -- the file couldn't be read, or is too long
@@ -148,6 +159,9 @@ module _ {F : Type 0} (the_files : files.Ghosts F) (name : List ℕ) (old new : 
       gains (failure.BadTables n) h = h
       gains (failure.OtherTables n) h = h
       gains (failure.TablesLimit n) h = h
+      gains failure.OtherJob h = h
+      gains (failure.JournalDamaged n) h = h
+      gains failure.DiskFailed h = h
       gains failure.WriteFailed h = h
 
   -- it was read, and this is said of its types
@@ -177,4 +191,7 @@ module _ {F : Type 0} (the_files : files.Ghosts F) (name : List ℕ) (old new : 
       gains (Err (failure.BadTables n)) = gained
       gains (Err (failure.OtherTables n)) = gained
       gains (Err (failure.TablesLimit n)) = gained
+      gains (Err failure.OtherJob) = gained
+      gains (Err (failure.JournalDamaged n)) = gained
+      gains (Err failure.DiskFailed) = gained
       gains (Err failure.WriteFailed) = gained

@@ -19,7 +19,7 @@ use Rattle.sz_stream.specs.declared.tables.InputTables.{InputTables}
 use Rattle.sz_stream.specs.Inputs.{RunsInput, RunsFile}
 use Rattle.sz_words.specs.declared.settings.RunSettings.{RunSettings}
 use Rattle.sz_words.specs.declared.settings.Settings.{Settings}
-use Rattle.sz_words.specs.declared.settings.Settings.TheVariants.{Run, Check, Selftest, Merge}
+use Rattle.sz_words.specs.declared.settings.Settings.TheVariants.{Run, Check, Selftest, Resume, Merge}
 use Rattle.sz_words.specs.Bounds.{HasBounds}
 use Rattle.sz_protofile_rules.specs.Types.{TypeShape}
 use Rattle.sz_protofile_laws.specs.Readings.{with_types}
@@ -178,5 +178,6 @@ printed_saves the_files taken taken_now old None (Ok v) done printed saves = tt
 printed_saves the_files taken taken_now old (Some (Run s)) (Ok v) done printed saves =
     λ saving. record { bytes = v.items; gained = printed; so = saves saving }
 printed_saves the_files taken taken_now old (Some (Check program proto)) (Ok v) done printed saves = tt
+printed_saves the_files taken taken_now old (Some (Resume s)) (Ok v) done printed saves = tt
 printed_saves the_files taken taken_now old (Some (Selftest seed records workers)) (Ok v) done printed saves = tt
 printed_saves the_files taken taken_now old (Some (Merge names save)) (Ok v) done printed saves = tt

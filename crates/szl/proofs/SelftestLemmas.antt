@@ -69,6 +69,9 @@ module _ (program : Marked) (s : RunSettings) (input : List ℕ) where
   static_fails_over (failure.BadTables n) h = absurd h
   static_fails_over (failure.OtherTables n) h = absurd h
   static_fails_over (failure.TablesLimit n) h = absurd h
+  static_fails_over failure.OtherJob h = absurd h
+  static_fails_over (failure.JournalDamaged n) h = absurd h
+  static_fails_over failure.DiskFailed h = absurd h
   static_fails_over (failure.BadProtoFile n) h = absurd h
   static_fails_over failure.ReadFailed h = absurd h
   static_fails_over failure.WriteFailed h = absurd h
@@ -108,6 +111,9 @@ module _ (s : RunSettings) (text input : List ℕ) where
   text_refused_over (failure.BadTables n) h = absurd h
   text_refused_over (failure.OtherTables n) h = absurd h
   text_refused_over (failure.TablesLimit n) h = absurd h
+  text_refused_over failure.OtherJob h = absurd h
+  text_refused_over (failure.JournalDamaged n) h = absurd h
+  text_refused_over failure.DiskFailed h = absurd h
   text_refused_over (failure.BadProtoFile n) h = absurd h
   text_refused_over failure.ReadFailed h = absurd h
   text_refused_over failure.WriteFailed h = absurd h
@@ -131,6 +137,9 @@ module _ (s : RunSettings) (text input : List ℕ) where
     statements_refused_over (failure.BadTables n) h = absurd h
     statements_refused_over (failure.OtherTables n) h = absurd h
     statements_refused_over (failure.TablesLimit n) h = absurd h
+    statements_refused_over failure.OtherJob h = absurd h
+    statements_refused_over (failure.JournalDamaged n) h = absurd h
+    statements_refused_over failure.DiskFailed h = absurd h
     statements_refused_over (failure.BadProtoFile n) h = absurd h
     statements_refused_over failure.ReadFailed h = absurd h
     statements_refused_over failure.WriteFailed h = absurd h

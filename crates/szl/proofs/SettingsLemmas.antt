@@ -23,7 +23,7 @@ use Rattle.sz_records.specs.declared.ending.Ending.{Ending}
 use Rattle.sz_records.specs.declared.ending.Ending.TheVariants.{Whole, Damaged, Limit}
 use Rattle.sz_words.specs.declared.settings.RunSettings.{RunSettings}
 use Rattle.sz_words.specs.declared.settings.Settings.{Settings}
-use Rattle.sz_words.specs.declared.settings.Settings.TheVariants.{Run, Check, Selftest, Merge}
+use Rattle.sz_words.specs.declared.settings.Settings.TheVariants.{Run, Check, Selftest, Resume, Merge}
 use Rattle.sz_words.specs.declared.error.WordsError.{WordsError}
 use Rattle.sz_words.specs.declared.error.WordsError.TheVariants as words_errors
 use Rattle.sz_words.specs.Settings.{settings_in}
@@ -106,7 +106,7 @@ joins_nothing _ _ (of_run s) saved merged = tt
 joins_nothing _ _ (of_check program proto) saved merged = tt
 
 -- a text past the limit is read as refused
-long_failure : (text : List ℕ) (f : Failure) → f ≡ past_program → most_program_bytes < length text → IsFailureOf text f
+pub long_failure : (text : List ℕ) (f : Failure) → f ≡ past_program → most_program_bytes < length text → IsFailureOf text f
 long_failure text f is long = subst (IsFailureOf text) (sym is) ((long, refl), refl)
 
 -- a count that rose later rose
@@ -125,6 +125,9 @@ decides_since (Err (failure.Limit b)) outcome later since rose h = h
 decides_since (Err (failure.BadTables n)) outcome later since rose h = h
 decides_since (Err (failure.OtherTables n)) outcome later since rose h = h
 decides_since (Err (failure.TablesLimit n)) outcome later since rose h = h
+decides_since (Err failure.OtherJob) outcome later since rose h = h
+decides_since (Err (failure.JournalDamaged n)) outcome later since rose h = h
+decides_since (Err failure.DiskFailed) outcome later since rose h = h
 decides_since (Err (failure.BadProtoFile n)) outcome later since rose h = h
 
 -- a fact under what may be told
@@ -163,6 +166,11 @@ module _ {F : Type 0} (the_files : files.Ghosts F) (types : List TypeShape) (old
   -- words that are no command line ask for no file
   pub no_settings : AnswersWith the_files types None old old (Err failure.Usage)
   no_settings = let r = every_text_is_read [] in unopened None [] [] r.reading r.read [] (bad 0) tt tt failure.Usage (λ e. cc)
+      (λ cut read memory. refl) (λ cut. says refl)
+
+  -- nor does a job that is resumed, where there is no disk
+  pub no_disk : (s : RunSettings) → AnswersWith the_files types (Some (Resume s)) old old (Err failure.Usage)
+  no_disk s = let r = every_text_is_read [] in unopened (Some (Resume s)) [] [] r.reading r.read [] (bad 0) tt tt failure.Usage (λ e. cc)
       (λ cut read memory. refl) (λ cut. says refl)
 
 -- the outcome of a refused text is its refusal, whatever the command
@@ -255,6 +263,9 @@ module _ {F : Type 0} (the_files : files.Ghosts F) (types : List TypeShape) (s :
   text_fails (failure.BadTables n) reads gains one = let e = reads.tells.0 in absurd (cc)
   text_fails (failure.OtherTables n) reads gains one = let e = reads.tells.0 in absurd (cc)
   text_fails (failure.TablesLimit n) reads gains one = let e = reads.tells.0 in absurd (cc)
+  text_fails failure.OtherJob reads gains one = let e = reads.tells.0 in absurd (cc)
+  text_fails (failure.JournalDamaged n) reads gains one = let e = reads.tells.0 in absurd (cc)
+  text_fails failure.DiskFailed reads gains one = let e = reads.tells.0 in absurd (cc)
   text_fails (failure.BadProtoFile n) reads gains one = let e = reads.tells.0 in absurd (cc)
   text_fails failure.WriteFailed reads gains one = let e = reads.tells.0 in absurd (cc)
 

@@ -7,7 +7,7 @@ use Rattle.sz_io.specs.declared.files.Files as files
 use Rattle.sz_protofile_rules.specs.Types.{TypeShape}
 use Rattle.sz_words.specs.declared.settings.RunSettings.{RunSettings}
 use Rattle.sz_words.specs.declared.settings.Settings.{Settings}
-use Rattle.sz_words.specs.declared.settings.Settings.TheVariants.{Run, Check, Selftest, Merge}
+use Rattle.sz_words.specs.declared.settings.Settings.TheVariants.{Run, Check, Selftest, Resume, Merge}
 use Rattle.szl.specs.declared.status.Status.TheVariants as status
 use Rattle.szl.specs.declared.failure.Failure.{Failure}
 use Rattle.szl.specs.declared.failure.Failure.TheVariants as failure
@@ -68,6 +68,10 @@ module _ {F : Type 0} (the_files : files.Ghosts F) (types : List TypeShape) (old
   pub no_memory_for : (asked : Option Settings) → IfSome asked JoinsFew → AnswersWith the_files types asked old old (Err failure.NoMemory)
   no_memory_for None few = let r = every_text_is_read [] in unopened the_files types old None [] [] r.reading r.read [] (bad 0) tt tt failure.NoMemory
       (λ e. cc) (λ cut read memory. absurd (memory refl)) (λ cut. tt)
+  no_memory_for (Some (Resume s)) few =
+      let r = every_text_is_read [] in
+      unopened the_files types old (Some (Resume s)) [] [] r.reading r.read [] (bad 0) tt tt failure.NoMemory (λ e. cc)
+      (λ cut read memory. absurd (memory refl)) (λ cut. tt)
   no_memory_for (Some (Run s)) few =
       let text = unwrap_or (the_files.held old s.program) [] in
       let r = every_text_is_read text in

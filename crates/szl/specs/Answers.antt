@@ -45,6 +45,16 @@ other_tables_line number = codes "other tables in file " ++ (decimal number ++ 1
 abbrev pub tables_limit_line : ℕ → List ℕ
 tables_limit_line number = codes "table limit in file " ++ (decimal number ++ 10 ∷ [])
 
+-- the lines of a journal: it is that of another job, or it is damaged behind the gate at a place, or its disk failed
+abbrev pub other_job_line : List ℕ
+other_job_line = codes "other job in journal\n"
+
+abbrev pub journal_damaged_line : ℕ → List ℕ
+journal_damaged_line gate = codes "journal damaged at byte " ++ (decimal gate ++ 10 ∷ [])
+
+abbrev pub disk_failed_line : List ℕ
+disk_failed_line = codes "disk failed\n"
+
 -- the line of a shard that is lost
 abbrev pub lost_line : ℕ → List ℕ
 lost_line shard = codes "shard " ++ (decimal shard ++ codes " lost\n")

@@ -4,10 +4,10 @@ use Rattle.szl.specs.declared.status.Status.{Status}
 use Rattle.szl.specs.declared.status.Status.TheVariants as status
 use Rattle.szl.specs.declared.failure.Failure.{Failure}
 use Rattle.szl.specs.declared.failure.Failure.TheVariants.{Usage, Refused, Faulted, Lost, Damaged, Limit, BadTables, OtherTables, TablesLimit}
-use Rattle.szl.specs.declared.failure.Failure.TheVariants.{BadProtoFile, ReadFailed, WriteFailed, NoMemory}
+use Rattle.szl.specs.declared.failure.Failure.TheVariants.{BadProtoFile, OtherJob, JournalDamaged, DiskFailed, ReadFailed, WriteFailed, NoMemory}
 use Rattle.sz_machine.specs.Ends.{seen_fault}
 use Rattle.szl.specs.Answers.{fault_line, usage_line, lost_line, damaged_line, limit_line, bad_tables_line, other_tables_line, tables_limit_line}
-use Rattle.szl.specs.Answers.{read_failed_line, write_failed_line, no_memory_line}
+use Rattle.szl.specs.Answers.{other_job_line, journal_damaged_line, disk_failed_line, read_failed_line, write_failed_line, no_memory_line}
 use Rattle.szl.specs.Outcome.{refusal_line}
 use Rattle.szl.specs.ProtoFiles.{bad_file_line}
 
@@ -27,6 +27,9 @@ code_of status.BadTables = 10
 code_of status.OtherTables = 11
 code_of status.TablesLimit = 12
 code_of status.BadProtoFile = 13
+code_of status.OtherJob = 14
+code_of status.JournalDamaged = 15
+code_of status.DiskFailed = 16
 
 -- the exit status of a failure
 abbrev pub status_of : Failure → Status
@@ -40,6 +43,9 @@ status_of (BadTables number) = status.BadTables
 status_of (OtherTables number) = status.OtherTables
 status_of (TablesLimit number) = status.TablesLimit
 status_of (BadProtoFile f) = status.BadProtoFile
+status_of OtherJob = status.OtherJob
+status_of (JournalDamaged gate) = status.JournalDamaged
+status_of DiskFailed = status.DiskFailed
 status_of ReadFailed = status.ReadFailed
 status_of WriteFailed = status.WriteFailed
 status_of NoMemory = status.NoMemory
@@ -56,6 +62,9 @@ line_of_failure (BadTables number) = bad_tables_line number
 line_of_failure (OtherTables number) = other_tables_line number
 line_of_failure (TablesLimit number) = tables_limit_line number
 line_of_failure (BadProtoFile f) = bad_file_line f
+line_of_failure OtherJob = other_job_line
+line_of_failure (JournalDamaged gate) = journal_damaged_line gate
+line_of_failure DiskFailed = disk_failed_line
 line_of_failure ReadFailed = read_failed_line
 line_of_failure WriteFailed = write_failed_line
 line_of_failure NoMemory = no_memory_line

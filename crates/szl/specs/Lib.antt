@@ -14,6 +14,8 @@ pub mod SavedRuns
 pub mod Saving
 pub mod Promise
 pub mod Completeness
+pub mod Resuming
+pub mod ResumePromise
 -- what the functions inside the crate promise each other
 pub mod Failing
 pub mod Opening
@@ -22,3 +24,4 @@ pub mod ProtoReads
 pub mod Judging
 pub mod Printing
 pub mod ProgramRuns
+pub mod JournalRuns

@@ -6,7 +6,7 @@ use Rattle.szl.specs.declared.status.Status.{Status}
 use Rattle.szl.specs.declared.status.Status.TheVariants as status
 use Rattle.szl.specs.declared.failure.Failure.{Failure}
 use Rattle.szl.specs.declared.failure.Failure.TheVariants.{Usage, Refused, Faulted, Lost, Damaged, Limit, BadTables, OtherTables, TablesLimit}
-use Rattle.szl.specs.declared.failure.Failure.TheVariants.{BadProtoFile, ReadFailed, WriteFailed, NoMemory}
+use Rattle.szl.specs.declared.failure.Failure.TheVariants.{BadProtoFile, OtherJob, JournalDamaged, DiskFailed, ReadFailed, WriteFailed, NoMemory}
 use Rattle.sz_check_rules.specs.declared.cause.Cause.TheVariants.{TooLong}
 use Rattle.sz_lex.specs.Tokens.{first_place}
 use Rattle.sz_types.specs.declared.frame.Frame.{Frame}
@@ -18,6 +18,7 @@ use Rattle.szl.specs.Settings.{frame_asked}
 use Rattle.szl.specs.Records.{Cut, IsCutInto}
 use Rattle.szl.specs.Judgement.{Reading, IsRead, refusal_at}
 use Rattle.szl.specs.Answers.{Answer, Says, usage_line, damaged_line, limit_line, bad_tables_line, other_tables_line, tables_limit_line, success, refusal}
+use Rattle.szl.specs.Answers.{other_job_line, journal_damaged_line}
 use Rattle.szl.specs.Outcome.{outcome_faulted, outcome_lost, outcome_refused}
 use Rattle.szl.specs.Failing.{status_of}
 use Rattle.szl.specs.Outcome.{outcome_of_program, outcome_of_run, outcome_of_check, outcome_with, outcome_behind}
@@ -54,7 +55,7 @@ abbrev pub status_of_answer : {A : Type 0} → Result A Failure → Status
 status_of_answer (Ok output) = status.Done
 status_of_answer (Err failure) = status_of failure
 
--- the cause of a failure, by the outcome: all but the free ones say what the outcome does
+-- the cause of a failure, by the outcome: all but the free ones say what the outcome does. No call of a disk is made here, so that none fails
 abbrev pub IsCause : Failure → Answer → Type 0 → Type 0
 IsCause Usage answer rose = Says answer (refusal status.Usage usage_line 0)
 IsCause (Refused r) answer rose = Says answer (outcome_refused r)
@@ -66,6 +67,9 @@ IsCause (BadTables number) answer rose = Says answer (refusal status.BadTables (
 IsCause (OtherTables number) answer rose = Says answer (refusal status.OtherTables (other_tables_line number) number)
 IsCause (TablesLimit number) answer rose = Says answer (refusal status.TablesLimit (tables_limit_line number) number)
 IsCause (BadProtoFile f) answer rose = Says answer (outcome_bad_file f)
+IsCause OtherJob answer rose = Says answer (refusal status.OtherJob other_job_line 1)
+IsCause (JournalDamaged gate) answer rose = Says answer (refusal status.JournalDamaged (journal_damaged_line gate) 1)
+IsCause DiskFailed answer rose = ⊥
 IsCause ReadFailed answer rose = rose × (answer.status ≢ status.Usage)
 IsCause WriteFailed answer rose = ⊥
 IsCause NoMemory answer rose = ⊤

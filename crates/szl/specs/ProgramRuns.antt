@@ -1,5 +1,5 @@
 -- What running a program gives, part by part.
-use Rattle.std.specs.Prelude.{◌≡◌, ℕ, ⊤, Bool, true, List, [], ◌∷◌, length, IfSome, Result, Ok, Err, Vec}
+use Rattle.std.specs.Prelude.{◌≡◌, ℕ, ◌≤◌, ⊤, Bool, true, List, [], ◌∷◌, length, IfSome, Result, Ok, Err, Vec}
 use Rattle.sz_io.specs.Rose.{Rose}
 use Rattle.sz_io.specs.declared.files.Files as files
 use Rattle.sz_io.specs.declared.error.OutsideError.{OutsideError}
@@ -12,6 +12,7 @@ use Rattle.sz_mean.specs.Programs.{statics}
 use Rattle.sz_machine.specs.Ends.{seen_fault}
 use Rattle.sz_words.specs.declared.settings.RunSettings.{RunSettings}
 use Rattle.sz_attempt.specs.declared.job.Job.{Job}
+use Rattle.sz_attempt.specs.Shards.{IsJob}
 use Rattle.sz_rounds.specs.Outcomes.{outcome_of}
 use Rattle.sz_save.specs.Saving.{HaveSpelling}
 use Rattle.sz_stream.specs.declared.stop.Stop.{Stop}
@@ -72,3 +73,17 @@ pub record GivesFile {F : Type 0} (the_files : files.Ghosts F) (job : Job) (s : 
 -- the job is what the outcome knows of the run, with some shards doubled
 pub record IsJobOf (program : Marked) (slots : List Slot) (s : RunSettings) (job : Job) : Type 0 where
   pub same : job ≡ record (job_of program slots s) { twice = job.twice }
+
+-- the job is that of the program, with the statics that it means, and can be run; and so many workers run it
+pub record IsJobFor (program : Marked) (s : RunSettings) (job : Job) (workers : ℕ) : Type 0 where
+  pub slots : List Slot
+  pub means : statics program s.budget ≡ Done slots
+  pub is_job_of : IsJobOf program slots s job
+  pub can_run : IsJob job
+  pub attempts : (1 ≤ job.attempts) × (job.attempts ≤ 8)
+  pub are_workers : (1 ≤ workers) × (workers ≤ 64)
+
+-- the job of a program and how many workers run it; or, as of its statics, the fault in one, or want of memory
+abbrev pub GivesJob : Marked → RunSettings → Result (Job × ℕ) Failure → Type 0
+GivesJob program s (Ok made) = IsJobFor program s made.0 made.1
+GivesJob program s (Err failure) = GivesStatics program s.budget (Err failure)

@@ -7,6 +7,7 @@ use Rattle.sz_protofile_rules.specs.declared.fault.Fault.{Fault}
 use Rattle.sz_protofile_rules.specs.Types.{TypeShape}
 use Rattle.sz_protofile_laws.specs.Readings.{bad_file, with_types}
 use Rattle.sz_save_format.specs.Types.{HasTypeBytes}
+use Rattle.szl.specs.declared.proto.TypesFile.{TypesFile}
 use Rattle.szl.specs.declared.failure.Failure.{Failure}
 use Rattle.szl.specs.declared.failure.Failure.TheVariants.{BadProtoFile, ReadFailed, NoMemory}
 use Rattle.szl.specs.Opening.{ran_out, status_of_answer}
@@ -29,6 +30,11 @@ TellsTypes bytes rose (Err (BadProtoFile f)) = IsFileRead bytes (bad_file f)
 TellsTypes bytes rose (Err ReadFailed) = rose
 TellsTypes bytes rose (Err NoMemory) = ⊤
 TellsTypes bytes rose (Err failure) = ⊥
+
+-- the types of a file, or why there are none
+abbrev pub types_of : Result TypesFile Failure → Result (List TypeShape) Failure
+types_of (Ok file) = Ok file.types
+types_of (Err failure) = Err failure
 
 -- a file of this name was read: it holds these bytes where it is told, and the answer is of these
 pub record ReadsTypes {F : Type 0} (the_files : files.Ghosts F) (name : List ℕ) (old new : F) (answer : Result (List TypeShape) Failure) : Type 0 where

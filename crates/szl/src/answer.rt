@@ -19,11 +19,11 @@ ghost use Rattle.szl.specs.ProtoReads.{HaveTypeBytes};
 ghost use Rattle.sz_words.specs.Bounds.{HasBounds, IsBounded};
 
 use crate::failure::{Failure, refused};
-use crate::heights::{Stack, declares_low, workers_for};
+use crate::heights::Stack;
 use crate::judge::{checked, tree_in};
 use crate::merging::answer_merge;
 use crate::opening::read_text;
-use crate::program_run::{job_of, statics_of, tables_of_file};
+use crate::program_run::{job_with_workers, tables_of_file};
 use crate::proto::types_named;
 use crate::refusal::FIRST_PLACE;
 use crate::savable::savable;
@@ -32,7 +32,6 @@ use std::alloc::Global;
 use std::thread::Threads;
 use sz_check_rules::Cause;
 use sz_core::Program;
-use sz_gen_stmt::compile;
 use sz_io::{Files, Gate};
 use sz_protofile_types::NamedTypes;
 use sz_types::Text;
@@ -60,8 +59,8 @@ pub fn answer<R: Threads + Sync, F: Files, G: Gate + Sync>(
     answer_settings(rt, alloc, &settings, files, gate, stack)
 }
 
-/// The text that the settings ask for.
-fn answer_settings<R: Threads + Sync, F: Files, G: Gate + Sync>(
+/// The text that the settings ask for. A job that is resumed needs a disk: without one this is no command line.
+pub fn answer_settings<R: Threads + Sync, F: Files, G: Gate + Sync>(
     rt: &R,
     alloc: Global,
     settings: &Settings,
@@ -78,6 +77,7 @@ fn answer_settings<R: Threads + Sync, F: Files, G: Gate + Sync>(
 {
     match settings {
         Settings::Run(run) => answer_run(rt, alloc, run, files, gate, stack),
+        Settings::Resume(_) => Err(Failure::Usage),
         Settings::Check { program, proto } => answer_check(
             alloc,
             program.as_str(),
@@ -100,7 +100,7 @@ fn answer_settings<R: Threads + Sync, F: Files, G: Gate + Sync>(
 }
 
 /// The text of the program under a name.
-fn read_program<F: Files>(alloc: Global, name: &str, files: &mut F) -> Result<Vec<u8>, Failure>
+pub fn read_program<F: Files>(alloc: Global, name: &str, files: &mut F) -> Result<Vec<u8>, Failure>
     requires few { length (F.names files.old) < 128 }
     ensures text { ReadsText (F.held files.old name.now) most_program_bytes past_program
         (Rose (F.faults files.old) (F.faults files.new)) (vec_items_of result) }
@@ -261,10 +261,6 @@ fn answer_program<R: Threads + Sync, F: Files, G: Gate + Sync>(
         (λ input. SavesTables (marked program settings.now.ignore_undefs) settings.now input bytes.items)) }
     ensures kept { KeepsFiles F.held F.left F.given F.faults files.old files.new }
 {
-    let low = declares_low(&program);
-    let compiled = compile(alloc, program, settings.ignore_undefs)?;
-    let workers = workers_for(low, &compiled, settings.workers);
-    let statics = statics_of(alloc, &compiled, settings.budget)?;
-    let job = job_of(alloc, compiled, statics, settings)?;
+    let (job, workers) = job_with_workers(alloc, program, settings)?;
     tables_of_file(rt, alloc, &job, settings, workers, files, gate)
 }

@@ -9,10 +9,12 @@ use crate::status::Status;
 use std::alloc::AllocError;
 use sz_check_rules::Cause;
 use sz_io::OutsideError;
+use sz_journal::OpenError;
 use sz_lex::LexError;
 use sz_machine::Fault;
 use sz_parse::ParseError;
 use sz_protofile_rules::Fault as FileFault;
+use sz_resume::Halt;
 use sz_stream::Stop;
 use sz_types::Place;
 use sz_words::WordsError;
@@ -40,6 +42,12 @@ pub enum Failure {
     TablesLimit(u64),
     /// The `.proto` file is refused.
     BadProtoFile(FileFault),
+    /// The journal is that of another job.
+    OtherJob,
+    /// The journal is damaged behind the gate at this place, or the input is shorter than the round behind that says.
+    JournalDamaged(u64),
+    /// The disk of the journal failed.
+    DiskFailed,
     /// A file couldn't be opened or read.
     ReadFailed,
     /// The text couldn't be written.
@@ -61,6 +69,9 @@ impl Drop for Failure {
             | Failure::OtherTables(_)
             | Failure::TablesLimit(_)
             | Failure::BadProtoFile(_)
+            | Failure::OtherJob
+            | Failure::JournalDamaged(_)
+            | Failure::DiskFailed
             | Failure::ReadFailed
             | Failure::WriteFailed
             | Failure::NoMemory => {}
@@ -84,6 +95,9 @@ impl Failure {
             Failure::OtherTables(_) => Status::OtherTables,
             Failure::TablesLimit(_) => Status::TablesLimit,
             Failure::BadProtoFile(_) => Status::BadProtoFile,
+            Failure::OtherJob => Status::OtherJob,
+            Failure::JournalDamaged(_) => Status::JournalDamaged,
+            Failure::DiskFailed => Status::DiskFailed,
             Failure::ReadFailed => Status::ReadFailed,
             Failure::WriteFailed => Status::WriteFailed,
             Failure::NoMemory => Status::NoMemory,
@@ -134,6 +148,35 @@ impl From<Stop> for Failure {
             Stop::Limit(byte) => Failure::Limit(byte),
             Stop::ReadFailed => Failure::ReadFailed,
             Stop::NoMemory => Failure::NoMemory,
+        }
+    }
+}
+
+impl From<OpenError> for Failure {
+    ghost use Rattle.szl.specs.JournalRuns.{failure_of_journal};
+
+    ghost from_gives = { λ error failure. failure ≡ failure_of_journal error };
+
+    fn from(error: OpenError) -> Failure {
+        match error {
+            OpenError::OtherJob => Failure::OtherJob,
+            OpenError::Damaged(gate) => Failure::JournalDamaged(gate),
+            OpenError::Failed => Failure::DiskFailed,
+            OpenError::NoMemory => Failure::NoMemory,
+        }
+    }
+}
+
+impl From<Halt> for Failure {
+    ghost use Rattle.szl.specs.JournalRuns.{failure_of_halt};
+
+    ghost from_gives = { λ halt failure. failure ≡ failure_of_halt halt };
+
+    fn from(halt: Halt) -> Failure {
+        match halt {
+            Halt::Stopped(stop) => Failure::from(stop),
+            Halt::Short(gate) => Failure::JournalDamaged(gate),
+            Halt::DiskFailed => Failure::DiskFailed,
         }
     }
 }

@@ -14,6 +14,7 @@ mod program_run;
 mod proto;
 mod refusal;
 mod reserved;
+mod resuming;
 mod savable;
 mod selftest;
 mod status;
@@ -26,4 +27,4 @@ pub use laws::{
     sizes_are_shards,
 };
 pub use status::Status;
-pub use top::{szl_main, szl_main_on};
+pub use top::{szl_disk_main, szl_disk_main_on, szl_main, szl_main_on};

@@ -1,7 +1,7 @@
 //! The lines that name the byte of an input, a file to be joined, a record that faults, or a shard that is lost.
 ghost use Rattle.std.specs.Prelude.{◌≡◌, ◌++◌, ◌∷◌, [], IfOk, decimal, slice_index_or};
 ghost use Rattle.sz_machine.specs.Ends.{seen_fault};
-ghost use Rattle.szl.specs.Answers.{lost_line, damaged_line, limit_line, bad_tables_line, other_tables_line, tables_limit_line, fault_texts, fault_line};
+ghost use Rattle.szl.specs.Answers.{lost_line, damaged_line, limit_line, bad_tables_line, other_tables_line, tables_limit_line, journal_damaged_line, fault_texts, fault_line};
 
 use crate::refusal::push_place;
 use itoa::Buffer;
@@ -41,6 +41,13 @@ pub fn tables_limit_line(alloc: Global, number: u64) -> Result<Vec<u8>, AllocErr
     ensures value { IfOk result (λ line. line.items ≡ tables_limit_line number) }
 {
     numbered_line(alloc, b"table limit in file ", number)
+}
+
+/// The line of a journal that is damaged behind the gate at a place, with its newline.
+pub fn journal_damaged_line(alloc: Global, gate: u64) -> Result<Vec<u8>, AllocError>
+    ensures value { IfOk result (λ line. line.items ≡ journal_damaged_line gate) }
+{
+    numbered_line(alloc, b"journal damaged at byte ", gate)
 }
 
 /// The line of a shard that is lost, with its newline.

@@ -1,6 +1,6 @@
 //! A program run over an input.
 ghost use Rattle.std.specs.Prelude.{◌≡◌, ◌<◌, ◌≤◌, ◌*◌, ◌^◌, ◌++◌, ◌∷◌, [], List, true, IfOk, OnOk, length};
-ghost use Rattle.sz_mean.specs.Marked.{all_tables};
+ghost use Rattle.sz_mean.specs.Marked.{all_tables, marked};
 ghost use Rattle.sz_tabs.specs.Data.{EmitDatum};
 ghost use Rattle.sz_total.specs.States.{declarations, emit_count, shown};
 ghost use Rattle.sz_total.specs.Totals.{StandsFor};
@@ -13,14 +13,17 @@ ghost use Rattle.sz_attempt.specs.Shards.{IsJob};
 ghost use Rattle.sz_io.specs.Opened.{KeepsFiles};
 ghost use Rattle.sz_io.specs.Calls.{ReadToEnd};
 ghost use Rattle.szl.specs.Saving.{OfHeld, JobSaves};
-ghost use Rattle.szl.specs.ProgramRuns.{CanSave, GivesStatics, GivesTables, GivesFile, IsJobOf, vec_items_of};
+ghost use Rattle.szl.specs.ProgramRuns.{CanSave, GivesStatics, GivesJob, GivesTables, GivesFile, IsJobOf, vec_items_of};
+ghost use Rattle.sz_core.specs.Sound.{IsSound};
 ghost use Rattle.sz_words.specs.Bounds.{HasBounds};
 
 use crate::failure::Failure;
+use crate::heights::{declares_low, workers_for};
 use std::alloc::Global;
 use std::thread::Threads;
 use sz_attempt::Job;
-use sz_gen_stmt::Compiled;
+use sz_core::Program;
+use sz_gen_stmt::{Compiled, compile};
 use sz_io::{Files, Gate};
 use sz_list::Items;
 use sz_machine::{StaticsEnd, run_statics};
@@ -63,6 +66,24 @@ pub fn job_of(
         kills,
         twice,
     })
+}
+
+/// The job of a program, as its settings ask for it, and how many workers run it: one where the types of the program are very high.
+pub fn job_with_workers(
+    alloc: Global,
+    program: Program,
+    settings: &RunSettings,
+) -> Result<(Job, u32), Failure>
+    requires sound { IsSound program }
+    requires bounds { HasBounds settings.now }
+    ensures value { GivesJob (marked program settings.now.ignore_undefs) settings.now result }
+{
+    let low = declares_low(&program);
+    let compiled = compile(alloc, program, settings.ignore_undefs)?;
+    let workers = workers_for(low, &compiled, settings.workers);
+    let statics = statics_of(alloc, &compiled, settings.budget)?;
+    let job = job_of(alloc, compiled, statics, settings)?;
+    Ok((job, workers))
 }
 
 /// The text of the program's tables for all records of the file that the settings name, or the saved tables if they ask for them: by the

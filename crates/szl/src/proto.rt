@@ -7,8 +7,9 @@ ghost use Rattle.sz_protofile_laws.specs.Sound.{AreSound};
 ghost use Rattle.szl.specs.Opening.{ReadsText, ran_out, status_of_answer};
 ghost use Rattle.szl.specs.Promise.{IfRead};
 ghost use Rattle.szl.specs.ProgramRuns.{vec_items_of};
-ghost use Rattle.szl.specs.ProtoFiles.{most_file_bytes, file_texts, bad_file_line};
-ghost use Rattle.szl.specs.ProtoReads.{past_file, HaveTypeBytes, TellsTypes, ReadsTypes, GivesTypes};
+ghost use Rattle.sz_protofile_laws.specs.Readings.{with_types};
+ghost use Rattle.szl.specs.ProtoFiles.{most_file_bytes, file_texts, bad_file_line, IsFileRead, IsOfFile};
+ghost use Rattle.szl.specs.ProtoReads.{past_file, HaveTypeBytes, TellsTypes, ReadsTypes, GivesTypes, types_of};
 
 use crate::failure::Failure;
 use crate::heights::Stack;
@@ -23,6 +24,13 @@ use sz_types::{Place, Text};
 
 /// The most bytes of the file.
 const MOST_FILE_BYTES: usize = 1_048_576;
+
+/// A `.proto` file: its bytes and its types.
+#[derive(Drop)]
+pub struct TypesFile {
+    pub bytes: Vec<u8>,
+    pub types: NamedTypes,
+}
 
 /// The failure for a file with more bytes.
 fn too_long() -> Failure
@@ -89,22 +97,58 @@ fn types_held(alloc: Global, bytes: &[u8], stack: Stack) -> Result<NamedTypes, F
     }
 }
 
-/// The types of the file under a name.
-fn types_of_file<F: Files>(
+/// The bytes of the file under a name, and their types.
+fn file_with_types<F: Files>(
     alloc: Global,
     name: &str,
     files: &mut F,
     stack: Stack,
-) -> Result<NamedTypes, Failure>
+) -> Result<TypesFile, Failure>
     requires few { length (F.names files.old) < 128 }
-    ensures value { ReadsTypes F.Files name.now files.old files.new result }
-    ensures sound { IfOk result (λ types. AreSound types) }
-    ensures named { IfOk result (λ types. HaveTypeBytes types) }
+    ensures value { ReadsTypes F.Files name.now files.old files.new (types_of result) }
+    ensures held { IfOk result (λ file. IfSome (F.held files.old name.now) (λ told. told ≡ file.bytes.items)) }
+    ensures read { IfOk result (λ file. IsFileRead file.bytes.items (with_types file.types)) }
+    ensures sound { IfOk result (λ file. AreSound file.types) }
+    ensures named { IfOk result (λ file. HaveTypeBytes file.types) }
     ensures end { OnOk result (ReadToEnd F.Files files.old files.new name.now) }
     ensures kept { KeepsFiles F.held F.left F.given F.faults files.old files.new }
 {
     let bytes = read_file(alloc, name, files)?;
-    types_held(alloc, &bytes, stack)
+    let types = types_held(alloc, &bytes, stack)?;
+    Ok(TypesFile { bytes, types })
+}
+
+/// The bytes of the file of this name and their types; without a name no bytes and no types.
+pub fn file_named<F: Files>(
+    alloc: Global,
+    name: &Option<Text>,
+    files: &mut F,
+    stack: Stack,
+) -> Result<TypesFile, Failure>
+    requires few { length (F.names files.old) < 128 }
+    ensures value { GivesTypes F.Files name.now files.old files.new (types_of result) }
+    ensures held { IfOk result (λ file. IsOfFile name.now (F.held files.old) file.bytes.items) }
+    ensures read { IfOk result (λ file. IsFileRead file.bytes.items (with_types file.types)) }
+    ensures sound { IfOk result (λ file. AreSound file.types) }
+    ensures named { IfOk result (λ file. HaveTypeBytes file.types) }
+    ensures end { OnOk result (IfSome name.now (λ name. ReadToEnd F.Files files.old files.new name)) }
+    ensures kept { KeepsFiles F.held F.left F.given F.faults files.old files.new }
+{
+    match name {
+        Some(name) => file_with_types(alloc, name.as_str(), files, stack),
+        None => Ok(no_file(alloc)),
+    }
+}
+
+/// Without a name: no bytes and no types.
+fn no_file(alloc: Global) -> TypesFile
+    ensures bytes { result.bytes.items ≡ [] }
+    ensures types { result.types ≡ [] }
+{
+    TypesFile {
+        bytes: Vec::new(alloc),
+        types: NamedTypes::new(alloc),
+    }
 }
 
 /// The types of the file of this name, if there is one, and else none.
@@ -121,10 +165,8 @@ pub fn types_named<F: Files>(
     ensures end { OnOk result (IfSome name.now (λ name. ReadToEnd F.Files files.old files.new name)) }
     ensures kept { KeepsFiles F.held F.left F.given F.faults files.old files.new }
 {
-    match name {
-        Some(name) => types_of_file(alloc, name.as_str(), files, stack),
-        None => Ok(NamedTypes::new(alloc)),
-    }
+    let TypesFile { bytes: _, types } = file_named(alloc, name, files, stack)?;
+    Ok(types)
 }
 
 /// The text of a refusal, by its number.

@@ -2,7 +2,7 @@
 ghost use Rattle.std.specs.Prelude.{◌≡◌};
 ghost use Rattle.szl.specs.Failing.{code_of};
 
-/// The exit statuses 0 to 13, in order.
+/// The exit statuses 0 to 16, in order.
 #[derive(Clone, Copy, Debug, PartialEq, Eq)]
 pub enum Status {
     /// All text was written.
@@ -33,6 +33,12 @@ pub enum Status {
     TablesLimit,
     /// The `.proto` file is refused.
     BadProtoFile,
+    /// The journal is that of another job.
+    OtherJob,
+    /// The journal is damaged, or the input is shorter than what the journal has of it.
+    JournalDamaged,
+    /// The disk of the journal failed.
+    DiskFailed,
 }
 
 impl Status {

@@ -8,20 +8,24 @@ ghost use Rattle.szl.specs.Printing.{Prints, PrintsNothing};
 ghost use Rattle.szl.specs.Promise.{MeansSource, GainsLine, AreReadToEnd, names_asked, most_before};
 ghost use Rattle.szl.specs.Completeness.{Completes};
 ghost use Rattle.szl.specs.Saving.{SavesOutput};
+ghost use Rattle.szl.specs.ResumePromise.{ByCommand, MeansJob, CompletesJob, KeepsJournal, names_on_disk};
+ghost use Rattle.sz_gates.specs.Crashing.{DoesNotFall};
 ghost use Rattle.szl.specs.ProgramRuns.{vec_items_of};
 
 use crate::answer::answer;
 use crate::failure::Failure;
 use crate::heights::Stack;
 use crate::lines::{
-    bad_tables_line, damaged_line, fault_line, limit_line, lost_line, other_tables_line,
-    tables_limit_line,
+    bad_tables_line, damaged_line, fault_line, journal_damaged_line, limit_line, lost_line,
+    other_tables_line, tables_limit_line,
 };
 use crate::proto::bad_file_line;
 use crate::refusal::refusal_line;
+use crate::resuming::answer_on_disk;
 use crate::status::Status;
 use std::alloc::{AllocError, Global};
 use std::thread::Threads;
+use sz_disk::Disk;
 use sz_io::{Files, Gate, Sink, WriteError, write_whole};
 
 /// Runs the command line of these words, which come without the program's name: opens what it names in `files`,
@@ -90,6 +94,81 @@ pub fn szl_main_on<R: Threads + Sync, F: Files, O: Sink, E: Sink, G: Gate + Sync
     }
 }
 
+/// The same as `szl_main` where there is a disk: a job that is resumed has its journal there. No other command calls the disk.
+pub fn szl_disk_main<R: Threads + Sync, F: Files, O: Sink, E: Sink, G: Gate + Sync, K: Disk>(
+    rt: &R,
+    alloc: Global,
+    words: &[String],
+    files: &mut F,
+    out: &mut O,
+    err: &mut E,
+    gate: &G,
+    disk: &mut K,
+) -> Status
+    requires { length (F.names files.old) ≤ most_before (settings_in (map string_bytes words.now)) }
+
+    ensures outcome { ByCommand (settings_in (map string_bytes words.now))
+        (λ s. MeansJob F.Files O.Sink E.Sink K.Disk s result files.old files.new out.old out.new err.old err.new disk.old)
+        (MeansSource F.Files O.Sink E.Sink (map string_bytes words.now) result files.old files.new out.old out.new err.old err.new) }
+    ensures end { result ≡ Status.Done → AreReadToEnd F.Files files.old files.new (names_on_disk (settings_in (map string_bytes words.now))) }
+    ensures saved { result ≡ Status.Done → SavesOutput F.Files O.Sink (settings_in (map string_bytes words.now)) files.old out.old out.new }
+    ensures journal { ByCommand (settings_in (map string_bytes words.now)) (λ s. KeepsJournal F.Files K.Disk s result files.old disk.old disk.new)
+        (disk.new ≡ disk.old) }
+
+    ensures read_failed { result ≡ Status.ReadFailed → Rose (F.faults files.old) (F.faults files.new) }
+    ensures write_failed { result ≡ Status.WriteFailed → Rose (O.faults out.old) (O.faults out.new) }
+    ensures disk_failed { result ≡ Status.DiskFailed → Rose (K.faults disk.old) (K.faults disk.new) }
+    ensures complete { (Rose (F.faults files.old) (F.faults files.new) → ⊥) → (Rose (O.faults out.old) (O.faults out.new) → ⊥)
+        → (Rose (K.faults disk.old) (K.faults disk.new) → ⊥) → ByCommand (settings_in (map string_bytes words.now))
+        (λ s. CompletesJob F.Files O.Sink E.Sink K.Disk s result files.old files.new out.old out.new err.old err.new disk.old)
+        (Completes F.Files O.Sink E.Sink (map string_bytes words.now) result files.old files.new out.old out.new err.old err.new) }
+
+    ensures kept { KeepsFiles F.held F.left F.given F.faults files.old files.new }
+    ensures out_counts { DoNotFall O.faults O.refusals out.old out.new }
+    ensures err_counts { DoNotFall E.faults E.refusals err.old err.new }
+    ensures disk_counts { DoesNotFall (K.faults disk.old) (K.faults disk.new) }
+{
+    szl_disk_main_on(rt, alloc, words, files, out, err, gate, disk, Stack::Large)
+}
+
+/// The same as `szl_disk_main` on the stack that the caller has.
+pub fn szl_disk_main_on<R: Threads + Sync, F: Files, O: Sink, E: Sink, G: Gate + Sync, K: Disk>(
+    rt: &R,
+    alloc: Global,
+    words: &[String],
+    files: &mut F,
+    out: &mut O,
+    err: &mut E,
+    gate: &G,
+    disk: &mut K,
+    stack: Stack,
+) -> Status
+    requires { length (F.names files.old) ≤ most_before (settings_in (map string_bytes words.now)) }
+
+    ensures outcome { ByCommand (settings_in (map string_bytes words.now))
+        (λ s. MeansJob F.Files O.Sink E.Sink K.Disk s result files.old files.new out.old out.new err.old err.new disk.old)
+        (MeansSource F.Files O.Sink E.Sink (map string_bytes words.now) result files.old files.new out.old out.new err.old err.new) }
+    ensures end { result ≡ Status.Done → AreReadToEnd F.Files files.old files.new (names_on_disk (settings_in (map string_bytes words.now))) }
+    ensures saved { result ≡ Status.Done → SavesOutput F.Files O.Sink (settings_in (map string_bytes words.now)) files.old out.old out.new }
+    ensures journal { ByCommand (settings_in (map string_bytes words.now)) (λ s. KeepsJournal F.Files K.Disk s result files.old disk.old disk.new)
+        (disk.new ≡ disk.old) }
+
+    ensures read_failed { result ≡ Status.ReadFailed → Rose (F.faults files.old) (F.faults files.new) }
+    ensures write_failed { result ≡ Status.WriteFailed → Rose (O.faults out.old) (O.faults out.new) }
+    ensures disk_failed { result ≡ Status.DiskFailed → Rose (K.faults disk.old) (K.faults disk.new) }
+
+    ensures kept { KeepsFiles F.held F.left F.given F.faults files.old files.new }
+    ensures out_counts { DoNotFall O.faults O.refusals out.old out.new }
+    ensures err_counts { DoNotFall E.faults E.refusals err.old err.new }
+    ensures disk_counts { DoesNotFall (K.faults disk.old) (K.faults disk.new) }
+{
+    let answer = answer_on_disk(rt, alloc, words, files, gate, disk, stack);
+    match print(out, answer) {
+        Ok(()) => Status::Done,
+        Err(failure) => tell(alloc, err, failure).status(),
+    }
+}
+
 /// Writes the text of an answer, if it has one.
 fn print<O: Sink>(out: &mut O, answer: Result<Vec<u8>, Failure>) -> Result<(), Failure>
     ensures value { Prints (O.taken out.old) (O.taken out.new) (vec_items_of answer) result }
@@ -139,6 +218,13 @@ fn tell<E: Sink>(alloc: Global, err: &mut E, failure: Failure) -> Failure
         Failure::OtherTables(number) => tell_made(err, other_tables_line(alloc, *number), failure),
         Failure::BadProtoFile(fault) => tell_made(err, bad_file_line(alloc, fault), failure),
         Failure::TablesLimit(number) => tell_made(err, tables_limit_line(alloc, *number), failure),
+        Failure::OtherJob => tell_line(err, b"other job in journal\n", failure),
+        Failure::JournalDamaged(gate) => tell_made(
+            err,
+            journal_damaged_line(alloc, *gate),
+            failure,
+        ),
+        Failure::DiskFailed => tell_line(err, b"disk failed\n", failure),
         Failure::ReadFailed => tell_line(err, b"read failed\n", failure),
         Failure::WriteFailed => tell_line(err, b"write failed\n", failure),
         Failure::NoMemory => tell_line(err, b"out of memory\n", failure),

@@ -10,8 +10,9 @@ use std::io::{self, Input, Stderr, Stdout};
 use std::process::ExitCode;
 use std::thread::{Builder, Threads};
 use std::{env, thread};
+use sz_disk::OsDisk;
 use sz_io::{NoGate, OsFiles, OsSink, write_whole};
-use szl::{Stack, Status, szl_main_on};
+use szl::{Stack, Status, szl_disk_main_on};
 
 /// The words of the command line without the program's name. Words that aren't UTF-8 are no command line.
 fn given_words(rt: &HostRuntime) -> Result<Vec<String>, AllocError> {
@@ -34,11 +35,12 @@ fn tell_no_memory(err: Stderr) -> ExitCode {
     ExitCode::from(Status::NoMemory.code())
 }
 
-/// Runs the command line of these words over real files and streams, on the stack that there is, and gives the exit status.
+/// Runs the command line of these words over real files and streams, with this disk, on the stack that there is, and gives the exit status.
 fn run<R: Threads + Sync + Files + Input>(
     rt: &R,
     alloc: Global,
     words: &[String],
+    disk: OsDisk<'_>,
     out: Stdout,
     err: Stderr,
     stack: Stack,
@@ -46,8 +48,9 @@ fn run<R: Threads + Sync + Files + Input>(
     let mut files = OsFiles::new(rt, alloc);
     let mut out = OsSink::new(out);
     let mut err = OsSink::new(err);
-    let status = szl_main_on(
-        rt, alloc, words, &mut files, &mut out, &mut err, &NoGate, stack,
+    let mut disk = disk;
+    let status = szl_disk_main_on(
+        rt, alloc, words, &mut files, &mut out, &mut err, &NoGate, &mut disk, stack,
     );
     status.code()
 }
@@ -69,13 +72,29 @@ fn main(rt: HostRuntime) -> ExitCode {
             let work = Builder::new()
                 .stack_size(STACK_BYTES / part)
                 .spawn_scoped(scope, || {
-                    run(&rt, alloc, &words, rt.stdout(), rt.stderr(), Stack::Large)
+                    run(
+                        &rt,
+                        alloc,
+                        &words,
+                        OsDisk::new(&rt),
+                        rt.stdout(),
+                        rt.stderr(),
+                        Stack::Large,
+                    )
                 });
             if let Ok(work) = work {
                 return work.join(&rt);
             }
         }
-        run(&rt, alloc, &words, rt.stdout(), rt.stderr(), Stack::Small)
+        run(
+            &rt,
+            alloc,
+            &words,
+            OsDisk::new(&rt),
+            rt.stdout(),
+            rt.stderr(),
+            Stack::Small,
+        )
     });
     ExitCode::from(code)
 }

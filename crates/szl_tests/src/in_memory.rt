@@ -22,6 +22,8 @@ const ROWS: &[Row] = &[
     ("run none f", COUNT, "3¶", "0"),
     ("check none", COUNT, "", "0"),
     ("walk p f", COUNT, "3¶", "1 ! bad command line"),
+    // Without a disk no job is resumed.
+    ("resume p f", COUNT, "3¶", "1 ! bad command line"),
     (
         "check p",
         "x: bool = 1;",

@@ -1,6 +1,7 @@
 use Rattle.std.proofs.Common.{[], Some, sym, subst}
-use Rattle.std.specs.Prelude.{IfOk, OnOk}
-use Rattle.sz_words.specs.declared.settings.Settings.TheVariants.{Check, Selftest, Merge}
+use Rattle.std.specs.Prelude.{IfOk, OnOk, Err}
+use Rattle.sz_words.specs.declared.settings.Settings.TheVariants.{Check, Selftest, Resume, Merge}
+use Rattle.szl.specs.declared.failure.Failure.TheVariants.{Usage}
 use Rattle.szl.specs.MergeAnswers.{AnswersMerge}
 use Rattle.szl.specs.Opening.{Answers}
 use Rattle.szl.specs.Promise.{AreReadToEnd, names_asked}
@@ -9,7 +10,7 @@ use Rattle.szl.specs.Saving.{HasSaved, IfSaving}
 use Rattle.sz_words.specs.Bounds.{IsBounded}
 use Rattle.szl.proofs.BehindLemmas.{no_file}
 use Rattle.szl.proofs.SelftestLemmas.{selftest_answered, nothing_opened}
-use Rattle.szl.proofs.SettingsLemmas.{when_ok}
+use Rattle.szl.proofs.SettingsLemmas.{when_ok, no_disk}
 use Rattle.szl.proofs.WordsLemmas.{merge_answered}
 use Rattle.szl.proofs.SavedLemmas.{saves_nothing}
 use Rattle.szl.proofs.answer.answer_settings.Goals as goal
@@ -34,6 +35,13 @@ answer_selftest-requires-clause-within g c κs within = let bounds = subst IsBou
 
 pub answer_selftest-requires-clause-workers : goal.answer_selftest-requires-clause-workers
 answer_selftest-requires-clause-workers g c κs within = let bounds = subst IsBounded c.in-Selftest.is c.requires.bounds in bounds.1
+
+-- a job can't be resumed without a disk
+pub returns-in-Resume-clause-value : goal.returns-in-Resume-clause-value
+returns-in-Resume-clause-value g c =
+    subst (λ s. Answers g.F.Files (Some s) c.args.files.now c.args.files.now (Err Usage)) (sym c.in-Resume.is)
+    (no_file g.F.Files (Some (Resume c.in-Resume.field-0)) c.args.files.now c.args.files.now (Err Usage)
+    (no_disk g.F.Files [] c.args.files.now c.in-Resume.field-0))
 
 -- a check is answered
 pub returns-in-Check-clause-value : goal.returns-in-Check-clause-value

@@ -1,6 +1,0 @@
-use Rattle.std.proofs.Common.{refl}
-use Rattle.sz_records.proofs.FedLemmas.{starts_reading}
-use Rattle.sz_records.proofs.framer.Framer.new.Goals as goal
-
-pub returns : goal.returns
-returns c = record { start = starts_reading c.args.frame c.args.limits _ refl refl refl refl c.new.ensures.items refl; not_ended = refl }

@@ -1,0 +1,471 @@
+-- The promise of the top call for a job that is resumed, from the answer, what was printed of it, and the line.
+use Rattle.std.proofs.Common.{◌≡◌, ◌≢◌, ◌⊎◌, inl, inr, ℕ, List, [], ◌∷◌, ◌++◌, length, Option, Some, None, refl, sym, ap, ◌∙◌, subst, arith}
+use Rattle.std.specs.Prelude.{Result, Ok, Err, OnOk, IfOk, option_to_list}
+use Rattle.std.specs.Io.KnownBytes.{Appends}
+use Rattle.std.proofs.KnownBytes.{Appends-nil}
+use Rattle.sz_io.specs.Rose.{Rose}
+use Rattle.sz_io.specs.declared.files.Files as files
+use Rattle.sz_io.specs.declared.sink.Sink as sink
+use Rattle.sz_disk.specs.declared.disk.Disk as disks
+use Rattle.sz_words.specs.declared.settings.RunSettings.{RunSettings}
+use Rattle.sz_words.specs.declared.settings.Settings.{Settings}
+use Rattle.sz_words.specs.declared.settings.Settings.TheVariants.{Run, Check, Selftest, Merge, Resume}
+use Rattle.szl.specs.declared.status.Status.{Status}
+use Rattle.szl.specs.declared.status.Status.TheVariants as status
+use Rattle.szl.specs.declared.failure.Failure.{Failure}
+use Rattle.szl.specs.declared.failure.Failure.TheVariants as failure
+use Rattle.szl.specs.Answers.{Answer, Says, success}
+use Rattle.szl.specs.Failing.{status_of, line_of_failure}
+use Rattle.szl.specs.Opening.{Decides, Answers, status_of_answer}
+use Rattle.szl.specs.Printing.{Prints, PrintsNothing}
+use Rattle.szl.specs.Judging.{failure_of_words}
+use Rattle.sz_words.specs.declared.error.WordsError.{WordsError}
+use Rattle.sz_words.specs.declared.error.WordsError.TheVariants as words_errors
+use Rattle.sz_words.specs.Settings.{settings_in}
+use Rattle.szl.proofs.BehindLemmas.{words_fail}
+use Rattle.szl.proofs.ResumeLemmas.{nothing_answered}
+use Rattle.szl.specs.Promise.{names_asked, IsStatusOf, AppendsPrefix, GainsOutput, IsLeftAlone, GainsLine, OpensFiles, line_of}
+use Rattle.szl.specs.ResumePromise.{ByCommand, IfKnown, IsJobOutcome, IsStatusOnDisk, MeansJob, CompletesJob, KeepsJob, KeepsFound, KeepsJournal, IfRun}
+use Rattle.szl.specs.ResumePromise.{free_status, line_on_disk, names_on_disk, IsByJournal}
+use Rattle.szl.specs.JournalRuns.{as_memory, AnswersJob}
+use Rattle.szl.specs.Judgement.{Reading, refused, spells}
+use Rattle.szl.specs.Resuming.{name_of, source_of}
+use Rattle.szl.specs.Shards.{job_of}
+use Rattle.sz_protofile_laws.specs.Readings.{FileReading, bad_file, with_types}
+use Rattle.sz_journal_format.specs.declared.round.RoundEntry.{RoundEntry}
+use Rattle.sz_resume.specs.Standing.{IsFound}
+use Rattle.szl.proofs.OpenedLemmas.{opened_no_memory, opened_unwritten}
+use Rattle.szl.proofs.MainLemmas.{Fits, Ended, ended, before, unwritten, no_room, fits_done, fits_failure, line_is, fits_no_memory, alone_printed}
+use Rattle.szl.proofs.MainLemmas.{alone_failure, alone_no_memory, opened_failure}
+
+module _ {F K : Type 0} (the_files : files.Ghosts F) (the_disk : disks.Ghosts K) (s : RunSettings) (old : F) (disk : K) where
+  -- what is known under one status is known under another
+  pub outcome_under : (first later : Status) (outcome : Answer) → ((X : Type 0) → IfKnown first X → IfKnown later X)
+      → IsJobOutcome the_files the_disk s first old disk outcome → IsJobOutcome the_files the_disk s later old disk outcome
+  outcome_under first later outcome known o =
+      let b = o.by_journal in
+      record {
+        proto = o.proto;
+        file = o.file;
+        file_read = o.file_read;
+        of_file = o.of_file;
+        text = o.text;
+        reading = o.reading;
+        read = o.read;
+        of_program = o.of_program;
+        by_journal = record {
+          input = b.input;
+          cut = b.cut;
+          is_cut = b.is_cut;
+          of_input = b.of_input;
+          standing = b.standing;
+          stands = known _ b.stands;
+          rest = b.rest;
+          behind = b.behind;
+          is = b.is;
+        };
+      }
+
+  outcome_no_memory : (first : Status) (outcome : Answer) → IsJobOutcome the_files the_disk s first old disk outcome
+      → IsJobOutcome the_files the_disk s status.NoMemory old disk outcome
+  outcome_no_memory first outcome o = outcome_under first status.NoMemory outcome (λ X known read memory. absurd (memory refl)) o
+
+  module _ {O E : Type 0} (the_out : sink.Ghosts O) (the_err : sink.Ghosts E) (new : F) (out new_out : O) (err : E) where
+    abbrev job_names : List (List ℕ)
+    job_names = option_to_list s.proto ++ s.program ∷ s.input ∷ []
+
+    abbrev AnsweredJob : Result (List ℕ) Failure → Type 0
+    AnsweredJob made = AnswersJob the_files (λ st outcome. IsJobOutcome the_files the_disk s st old disk outcome) job_names (λ n. n) old new made
+
+    -- all was printed, and nothing is told
+    pub job_done : (made : Result (List ℕ) Failure) (done : Unit {0}) → AnsweredJob made
+        → Prints {T = Unit {0}} (the_out.taken out) (the_out.taken new_out) made (Ok done) → PrintsNothing made out new_out
+        → MeansJob the_files the_out the_err the_disk s status.Done old new out new_out err err disk
+    job_done (Err f) done a printed nothing = absurd printed
+    job_done (Ok output) done a printed nothing =
+        let fit = fits_done a.outcome output (the_out.taken out) (the_out.taken new_out) a.decides printed in
+        let no_line : [] ≡ a.outcome.line = sym (ap (λ (x : Answer). x.line) a.decides) in
+        record {
+          outcome = a.outcome;
+          of = a.of;
+          answers = fit.status_is;
+          output = fit.output;
+          left_alone = alone_printed a.outcome output out new_out a.decides nothing;
+          line = subst (GainsLine the_err err err) no_line (record { count = 0; appends = Appends-nil (the_err.taken err); whole = inl (omega arith) });
+          opened = a.opened;
+        }
+
+    -- the status of a failure that isn't the disk's is that of an answer without a disk
+    same_answers : (outcome : Answer) (f : Failure) → f ≢ failure.DiskFailed → IsStatusOf outcome (status_of f) → IsStatusOnDisk outcome (status_of f)
+    same_answers outcome failure.Usage other is = is
+    same_answers outcome (failure.Refused r) other is = is
+    same_answers outcome (failure.Faulted n x) other is = is
+    same_answers outcome (failure.Lost n) other is = is
+    same_answers outcome (failure.Damaged b) other is = is
+    same_answers outcome (failure.Limit b) other is = is
+    same_answers outcome (failure.BadTables n) other is = is
+    same_answers outcome (failure.OtherTables n) other is = is
+    same_answers outcome (failure.TablesLimit n) other is = is
+    same_answers outcome (failure.BadProtoFile x) other is = is
+    same_answers outcome failure.OtherJob other is = is
+    same_answers outcome (failure.JournalDamaged n) other is = is
+    same_answers outcome failure.DiskFailed other is = tt
+    same_answers outcome failure.ReadFailed other is = is
+    same_answers outcome failure.WriteFailed other is = is
+    same_answers outcome failure.NoMemory other is = is
+
+    same_line : (outcome : Answer) (f : Failure) → f ≢ failure.DiskFailed → line_of outcome (status_of f) ≡ line_on_disk outcome (status_of f)
+    same_line outcome failure.Usage other = refl
+    same_line outcome (failure.Refused r) other = refl
+    same_line outcome (failure.Faulted n x) other = refl
+    same_line outcome (failure.Lost n) other = refl
+    same_line outcome (failure.Damaged b) other = refl
+    same_line outcome (failure.Limit b) other = refl
+    same_line outcome (failure.BadTables n) other = refl
+    same_line outcome (failure.OtherTables n) other = refl
+    same_line outcome (failure.TablesLimit n) other = refl
+    same_line outcome (failure.BadProtoFile x) other = refl
+    same_line outcome failure.OtherJob other = refl
+    same_line outcome (failure.JournalDamaged n) other = refl
+    same_line outcome failure.DiskFailed other = absurd (other refl)
+    same_line outcome failure.ReadFailed other = refl
+    same_line outcome failure.WriteFailed other = refl
+    same_line outcome failure.NoMemory other = refl
+
+    same_free : (f : Failure) → f ≢ failure.DiskFailed → status_of f ≡ free_status (status_of f)
+    same_free failure.Usage other = refl
+    same_free (failure.Refused r) other = refl
+    same_free (failure.Faulted n x) other = refl
+    same_free (failure.Lost n) other = refl
+    same_free (failure.Damaged b) other = refl
+    same_free (failure.Limit b) other = refl
+    same_free (failure.BadTables n) other = refl
+    same_free (failure.OtherTables n) other = refl
+    same_free (failure.TablesLimit n) other = refl
+    same_free (failure.BadProtoFile x) other = refl
+    same_free failure.OtherJob other = refl
+    same_free (failure.JournalDamaged n) other = refl
+    same_free failure.DiskFailed other = absurd (other refl)
+    same_free failure.ReadFailed other = refl
+    same_free failure.WriteFailed other = refl
+    same_free failure.NoMemory other = refl
+
+    -- what was made is a text or a failure that isn't the disk's; or the disk failed
+    data Made : Result (List ℕ) Failure → Type 0 where
+      disk_failed : Made (Err failure.DiskFailed)
+      other_made : (made : Result (List ℕ) Failure) → as_memory made ≡ made → (made ≡ Err failure.DiskFailed → ⊥) → Made made
+
+    made_so : (made : Result (List ℕ) Failure) → Made made
+    made_so (Ok output) = other_made (Ok output) refl (λ e. cc)
+    made_so (Err failure.DiskFailed) = disk_failed
+    made_so (Err failure.Usage) = other_made (Err failure.Usage) refl (λ e. cc)
+    made_so (Err (failure.Refused r)) = other_made (Err (failure.Refused r)) refl (λ e. cc)
+    made_so (Err (failure.Faulted n x)) = other_made (Err (failure.Faulted n x)) refl (λ e. cc)
+    made_so (Err (failure.Lost n)) = other_made (Err (failure.Lost n)) refl (λ e. cc)
+    made_so (Err (failure.Damaged b)) = other_made (Err (failure.Damaged b)) refl (λ e. cc)
+    made_so (Err (failure.Limit b)) = other_made (Err (failure.Limit b)) refl (λ e. cc)
+    made_so (Err (failure.BadTables n)) = other_made (Err (failure.BadTables n)) refl (λ e. cc)
+    made_so (Err (failure.OtherTables n)) = other_made (Err (failure.OtherTables n)) refl (λ e. cc)
+    made_so (Err (failure.TablesLimit n)) = other_made (Err (failure.TablesLimit n)) refl (λ e. cc)
+    made_so (Err (failure.BadProtoFile x)) = other_made (Err (failure.BadProtoFile x)) refl (λ e. cc)
+    made_so (Err failure.OtherJob) = other_made (Err failure.OtherJob) refl (λ e. cc)
+    made_so (Err (failure.JournalDamaged n)) = other_made (Err (failure.JournalDamaged n)) refl (λ e. cc)
+    made_so (Err failure.ReadFailed) = other_made (Err failure.ReadFailed) refl (λ e. cc)
+    made_so (Err failure.WriteFailed) = other_made (Err failure.WriteFailed) refl (λ e. cc)
+    made_so (Err failure.NoMemory) = other_made (Err failure.NoMemory) refl (λ e. cc)
+
+    -- what printing ended in isn't the disk's failure, where what was made isn't
+    not_disk : (made : Result (List ℕ) Failure) (f : Failure) → (made ≡ Err failure.DiskFailed → ⊥)
+        → Ended (the_out.taken out) (the_out.taken new_out) made f → f ≢ failure.DiskFailed
+    not_disk _ _ other (before f none) = λ e. other (ap Err e)
+    not_disk _ _ other (unwritten output some part) = λ e. cc
+    not_disk _ _ other (no_room output part) = λ e. cc
+
+    -- what is known of the outcome is known under the status of the failure
+    ended_known : (made : Result (List ℕ) Failure) (f : Failure) (X : Type 0) → Ended (the_out.taken out) (the_out.taken new_out) made f
+        → IfKnown (status_of_answer made) X → IfKnown (status_of f) X
+    ended_known _ _ X (before f none) known = known
+    ended_known _ _ X (unwritten output some part) known = λ read memory. known (λ e. cc) (λ e. cc)
+    ended_known _ _ X (no_room output part) known = λ read memory. absurd (memory refl)
+
+    -- want of memory is told
+    means_no_memory : (new_err : E) (made : Result (List ℕ) Failure) (a : AnsweredJob made)
+        → GainsOutput status.NoMemory (the_out.taken out) (the_out.taken new_out) a.outcome.output
+        → IsLeftAlone status.NoMemory a.outcome.output out new_out
+        → GainsLine the_err err new_err (line_of_failure failure.NoMemory)
+        → MeansJob the_files the_out the_err the_disk s status.NoMemory old new out new_out err new_err disk
+    means_no_memory new_err made a output alone gained = record {
+      outcome = a.outcome;
+      of = outcome_no_memory (status_of_answer made) a.outcome a.of;
+      answers = tt;
+      output = output;
+      left_alone = alone;
+      line = gained;
+      opened = opened_no_memory the_files old new job_names a.outcome.opens (status_of_answer (as_memory made)) a.opened;
+    }
+
+    -- a failure, and its line is told, or that of want of memory
+    pub job_failed : (new_err : E) (f told : Failure) (made : Result (List ℕ) Failure) → AnsweredJob made
+        → Prints {T = Unit {0}} (the_out.taken out) (the_out.taken new_out) made (Err f) → PrintsNothing made out new_out
+        → (told ≡ f) ⊎ (told ≡ failure.NoMemory) → GainsLine the_err err new_err (line_of_failure told)
+        → MeansJob the_files the_out the_err the_disk s (status_of told) old new out new_out err new_err disk
+    job_failed new_err f told made a printed nothing told_is gained = by made (made_so made) a printed nothing told_is
+      where
+        by : (made : Result (List ℕ) Failure) → Made made → AnsweredJob made
+            → Prints {T = Unit {0}} (the_out.taken out) (the_out.taken new_out) made (Err f) → PrintsNothing made out new_out
+            → (told ≡ f) ⊎ (told ≡ failure.NoMemory) → MeansJob the_files the_out the_err the_disk s (status_of told) old new out new_out err new_err disk
+        by _ disk_failed a printed nothing (inl is) =
+            let is_disk : told ≡ failure.DiskFailed = is ∙ printed.0 in
+            subst (λ t. MeansJob the_files the_out the_err the_disk s (status_of t) old new out new_out err new_err disk) (sym is_disk) (record {
+              outcome = a.outcome;
+              of = a.of;
+              answers = tt;
+              output = printed.1;
+              left_alone = nothing;
+              line = subst (GainsLine the_err err new_err) (ap line_of_failure is_disk) gained;
+              opened = a.opened;
+            })
+        by _ disk_failed a printed nothing (inr is) =
+            subst (λ t. MeansJob the_files the_out the_err the_disk s (status_of t) old new out new_out err new_err disk) (sym is)
+            (means_no_memory new_err (Err failure.DiskFailed) a (record { count = 0; appends = printed.1 }) (λ none. nothing)
+            (subst (GainsLine the_err err new_err) (ap line_of_failure is) gained))
+        by _ (other_made made same other) a printed nothing (inl is) =
+            let end = ended f made (the_out.taken out) (the_out.taken new_out) printed in
+            let decides = subst (λ m. Decides m a.outcome (Rose (the_files.faults old) (the_files.faults new))) same a.decides in
+            let fit = fits_failure a.outcome f made _ (the_out.taken out) (the_out.taken new_out) decides end in
+            let not = not_disk made f other end in
+            let line = ap line_of_failure is ∙ line_is a.outcome f made _ (the_out.taken out) (the_out.taken new_out) decides end ∙ same_line a.outcome f not in
+            subst (λ t. MeansJob the_files the_out the_err the_disk s (status_of t) old new out new_out err new_err disk) (sym is) (record {
+              outcome = a.outcome;
+              of = outcome_under (status_of_answer made) (status_of f) a.outcome (λ X known. ended_known made f X end known) a.of;
+              answers = same_answers a.outcome f not fit.status_is;
+              output = fit.output;
+              left_alone = alone_failure a.outcome f made _ (the_out.taken out) (the_out.taken new_out) out new_out decides end nothing;
+              line = subst (GainsLine the_err err new_err) line gained;
+              opened = subst (OpensFiles the_files old new job_names a.outcome.opens) (same_free f not)
+                  (opened_failure the_files old new job_names a.outcome.opens f made (the_out.taken out) (the_out.taken new_out) end
+                  (subst (λ m. OpensFiles the_files old new job_names a.outcome.opens (status_of_answer m)) same a.opened));
+            })
+        by _ (other_made made same other) a printed nothing (inr is) =
+            let end = ended f made (the_out.taken out) (the_out.taken new_out) printed in
+            let decides = subst (λ m. Decides m a.outcome (Rose (the_files.faults old) (the_files.faults new))) same a.decides in
+            let fit = fits_no_memory a.outcome f made _ (the_out.taken out) (the_out.taken new_out) decides end in
+            subst (λ t. MeansJob the_files the_out the_err the_disk s (status_of t) old new out new_out err new_err disk) (sym is)
+            (means_no_memory new_err made a fit.output (alone_no_memory a.outcome made _ out new_out decides nothing)
+            (subst (GainsLine the_err err new_err) (ap line_of_failure is) gained))
+
+-- ---- the journal
+
+-- under a later status nothing more is owed
+pub keeps_under : {F K : Type 0} (the_files : files.Ghosts F) (the_disk : disks.Ghosts K) (s : RunSettings) (first later : Status) (old : F) (disk new : K)
+    → (later ≡ status.Done → first ≡ status.Done) → KeepsJournal the_files the_disk s first old disk new
+    → KeepsJournal the_files the_disk s later old disk new
+keeps_under the_files the_disk s first later old disk new done k text proto file reading t p file_read read input held i rests =
+    by file reading (k text proto file reading t p file_read read input held i rests)
+  where
+    by : (file : FileReading) (reading : Reading)
+        → IfRun s file reading (λ program slots. (before : List RoundEntry)
+        → IsFound (name_of s text proto) (job_of program slots s) (source_of s input) held before
+        → KeepsJob the_disk (name_of s text proto) (job_of program slots s) (source_of s input) held before first disk new)
+        → IfRun s file reading (λ program slots. (before : List RoundEntry)
+        → IsFound (name_of s text proto) (job_of program slots s) (source_of s input) held before
+        → KeepsJob the_disk (name_of s text proto) (job_of program slots s) (source_of s input) held before later disk new)
+    by (bad_file f) reading h = tt
+    by (with_types types) (refused r) h = tt
+    by (with_types types) (spells ss) h = λ program slots is begun before found.
+        let kept = h program slots is begun before found in
+        record { added = kept.added; stopped = kept.stopped; ended = λ e. kept.ended (done e) }
+
+-- ---- by command
+
+-- something is so by command, where it is of other commands
+pub of_others : (asked : Option Settings) (IsSo : RunSettings → Type 0) (other : Type 0) → ((s : RunSettings) → asked ≡ Some (Resume s) → ⊥) → other
+    → ByCommand asked IsSo other
+of_others None IsSo other not o = o
+of_others (Some (Run s)) IsSo other not o = o
+of_others (Some (Check program proto)) IsSo other not o = o
+of_others (Some (Selftest seed records workers)) IsSo other not o = o
+of_others (Some (Merge names save)) IsSo other not o = o
+of_others (Some (Resume s)) IsSo other not o = absurd (not s refl)
+
+-- one follows from another by command
+pub each_command : (asked : Option Settings) (IsSo IsToo : RunSettings → Type 0) (other too : Type 0) → ((s : RunSettings) → IsSo s → IsToo s)
+    → (other → too) → ByCommand asked IsSo other → ByCommand asked IsToo too
+each_command None IsSo IsToo other too f h o = h o
+each_command (Some (Run s)) IsSo IsToo other too f h o = h o
+each_command (Some (Check program proto)) IsSo IsToo other too f h o = h o
+each_command (Some (Selftest seed records workers)) IsSo IsToo other too f h o = h o
+each_command (Some (Merge names save)) IsSo IsToo other too f h o = h o
+each_command (Some (Resume s)) IsSo IsToo other too f h o = f s o
+
+-- what is so by every command is so
+pub by_any : (asked : Option Settings) (P : Type 0) → ByCommand asked (λ s. P) P → P
+by_any None P h = h
+by_any (Some (Run s)) P h = h
+by_any (Some (Check program proto)) P h = h
+by_any (Some (Selftest seed records workers)) P h = h
+by_any (Some (Merge names save)) P h = h
+by_any (Some (Resume s)) P h = h
+
+-- other commands open the names that they ask for
+pub other_names : (asked : Settings) → ((s : RunSettings) → asked ≡ Resume s → ⊥) → names_asked (Some asked) ≡ names_on_disk (Some asked)
+other_names (Run s) not = refl
+other_names (Check program proto) not = refl
+other_names (Selftest seed records workers) not = refl
+other_names (Merge names save) not = refl
+other_names (Resume s) not = absurd (not s refl)
+
+module _ {F K : Type 0} (the_files : files.Ghosts F) (the_disk : disks.Ghosts K) (old new : F) (disk : K) where
+  -- what is answered, by command
+  abbrev pub AnswersAsked : Option Settings → Result (List ℕ) Failure → Type 0
+  AnswersAsked asked made =
+      ByCommand asked (λ s. AnswersJob the_files (λ st outcome. IsJobOutcome the_files the_disk s st old disk outcome) (names_on_disk (Some (Resume s))) (λ n. n)
+      old new made) (Answers the_files asked old new made)
+
+  -- a read failed
+  pub read_rose : (asked : Option Settings) → AnswersAsked asked (Err failure.ReadFailed) → Rose (the_files.faults old) (the_files.faults new)
+  read_rose asked a = by_any asked _ (each_command asked _ _ _ _ (λ s a. a.decides.0) (λ a. a.decides.0) a)
+
+  -- no answer is that writing failed, and none of another command that the disk did
+  pub not_written : (asked : Option Settings) → AnswersAsked asked (Err failure.WriteFailed) → ⊥
+  not_written asked a = by_any asked _ (each_command asked _ _ _ _ (λ s a. a.decides) (λ a. a.decides) a)
+
+-- words without settings
+pub by_words_fail : {F K : Type 0} (the_files : files.Ghosts F) (the_disk : disks.Ghosts K) (old : F) (disk : K) (words : List (List ℕ)) (e : WordsError)
+    → (e ≡ words_errors.Usage → settings_in words ≡ None)
+    → AnswersAsked the_files the_disk old old disk (settings_in words) (Err (failure_of_words e))
+by_words_fail the_files the_disk old disk words words_errors.Usage none =
+    of_others (settings_in words) _ _ (λ s is. let no = sym (none refl) ∙ is in absurd (cc)) (words_fail the_files old words words_errors.Usage none)
+by_words_fail the_files the_disk old disk words words_errors.NoMemory none =
+    by (settings_in words) (words_fail the_files old words words_errors.NoMemory none)
+  where
+    by : (asked : Option Settings) → Answers the_files asked old old (Err failure.NoMemory)
+        → AnswersAsked the_files the_disk old old disk asked (Err failure.NoMemory)
+    by None a = a
+    by (Some (Run s)) a = a
+    by (Some (Check program proto)) a = a
+    by (Some (Selftest seed records workers)) a = a
+    by (Some (Merge names save)) a = a
+    by (Some (Resume s)) a = nothing_answered the_files the_disk s old disk
+
+-- and the disk was left alone
+pub by_nothing : {K : Type 0} (asked : Option Settings) (IsSo : RunSettings → Type 0) (disk : K) → ((s : RunSettings) → IsSo s)
+    → ByCommand asked IsSo (disk ≡ disk)
+by_nothing None IsSo disk each = refl
+by_nothing (Some (Run s)) IsSo disk each = refl
+by_nothing (Some (Check program proto)) IsSo disk each = refl
+by_nothing (Some (Selftest seed records workers)) IsSo disk each = refl
+by_nothing (Some (Merge names save)) IsSo disk each = refl
+by_nothing (Some (Resume s)) IsSo disk each = each s
+
+-- ---- why a status is told
+
+-- all was printed of an output
+pub printed_done : (made : Result (List ℕ) Failure) (done : Unit {0}) (old new : Option (List ℕ)) → Prints {T = Unit {0}} old new made (Ok done)
+    → status_of_answer made ≡ status.Done
+printed_done (Ok output) done old new printed = refl
+printed_done (Err f) done old new printed = absurd printed
+
+-- a failure that isn't one of writing or of memory was there before
+pub failed_before : (made : Result (List ℕ) Failure) (f : Failure) (old new : Option (List ℕ)) → Prints {T = Unit {0}} old new made (Err f)
+    → f ≢ failure.WriteFailed → f ≢ failure.NoMemory → made ≡ Err f
+failed_before made f old new printed written room = by made f (ended f made old new printed) written room
+  where
+    by : (made : Result (List ℕ) Failure) (f : Failure) → Ended old new made f → f ≢ failure.WriteFailed → f ≢ failure.NoMemory → made ≡ Err f
+    by _ _ (before g none) written room = refl
+    by _ _ (unwritten output some part) written room = absurd (written refl)
+    by _ _ (no_room output part) written room = absurd (room refl)
+
+-- ---- where no device failed
+
+completed : (answer : Answer) (st : Status) → IsStatusOnDisk answer st → st ≢ status.ReadFailed → st ≢ status.WriteFailed → st ≢ status.DiskFailed
+    → (st ≡ status.NoMemory) ⊎ (st ≡ answer.status)
+completed answer status.Done is read written disk = inr is
+completed answer status.Usage is read written disk = inr is
+completed answer status.Program is read written disk = inr is
+completed answer status.RecordFault is read written disk = inr is
+completed answer status.Damaged is read written disk = inr is
+completed answer status.ReadFailed is read written disk = absurd (read refl)
+completed answer status.WriteFailed is read written disk = absurd (written refl)
+completed answer status.ShardLost is read written disk = inr is
+completed answer status.NoMemory is read written disk = inl refl
+completed answer status.Limit is read written disk = inr is
+completed answer status.BadTables is read written disk = inr is
+completed answer status.OtherTables is read written disk = inr is
+completed answer status.TablesLimit is read written disk = inr is
+completed answer status.BadProtoFile is read written disk = inr is
+completed answer status.OtherJob is read written disk = inr is
+completed answer status.JournalDamaged is read written disk = inr is
+completed answer status.DiskFailed is read written disk = absurd (disk refl)
+
+pub completes_job : {F O E K : Type 0} (the_files : files.Ghosts F) (the_out : sink.Ghosts O) (the_err : sink.Ghosts E) (the_disk : disks.Ghosts K)
+    (s : RunSettings) (st : Status) (files new_files : F) (out new_out : O) (err new_err : E) (disk : K)
+    → MeansJob the_files the_out the_err the_disk s st files new_files out new_out err new_err disk → st ≢ status.ReadFailed → st ≢ status.WriteFailed
+    → st ≢ status.DiskFailed → CompletesJob the_files the_out the_err the_disk s st files new_files out new_out err new_err disk
+completes_job the_files the_out the_err the_disk s st files new_files out new_out err new_err disk means read written failed =
+    record { means = means; status_is = completed means.outcome st means.answers read written failed }
+
+-- settings that aren't those of a job that is resumed
+pub not_resumed : (settings : Settings) → ((s : RunSettings) → settings ≡ Resume s → ⊥) → (s : RunSettings) → Some settings ≡ Some (Resume s) → ⊥
+not_resumed settings not s is = not s (by is)
+  where
+    by : Some settings ≡ Some (Resume s) → settings ≡ Resume s
+    by e = cc
+
+-- which failure a status is told for
+of_read : (f : Failure) → status_of f ≡ status.ReadFailed → f ≡ failure.ReadFailed
+of_read failure.ReadFailed e = refl
+of_read failure.Usage e = absurd (cc)
+of_read (failure.Refused r) e = absurd (cc)
+of_read (failure.Faulted n x) e = absurd (cc)
+of_read (failure.Lost n) e = absurd (cc)
+of_read (failure.Damaged b) e = absurd (cc)
+of_read (failure.Limit b) e = absurd (cc)
+of_read (failure.BadTables n) e = absurd (cc)
+of_read (failure.OtherTables n) e = absurd (cc)
+of_read (failure.TablesLimit n) e = absurd (cc)
+of_read (failure.BadProtoFile x) e = absurd (cc)
+of_read failure.OtherJob e = absurd (cc)
+of_read (failure.JournalDamaged n) e = absurd (cc)
+of_read failure.DiskFailed e = absurd (cc)
+of_read failure.WriteFailed e = absurd (cc)
+of_read failure.NoMemory e = absurd (cc)
+
+of_write : (f : Failure) → status_of f ≡ status.WriteFailed → f ≡ failure.WriteFailed
+of_write failure.WriteFailed e = refl
+of_write failure.Usage e = absurd (cc)
+of_write (failure.Refused r) e = absurd (cc)
+of_write (failure.Faulted n x) e = absurd (cc)
+of_write (failure.Lost n) e = absurd (cc)
+of_write (failure.Damaged b) e = absurd (cc)
+of_write (failure.Limit b) e = absurd (cc)
+of_write (failure.BadTables n) e = absurd (cc)
+of_write (failure.OtherTables n) e = absurd (cc)
+of_write (failure.TablesLimit n) e = absurd (cc)
+of_write (failure.BadProtoFile x) e = absurd (cc)
+of_write failure.OtherJob e = absurd (cc)
+of_write (failure.JournalDamaged n) e = absurd (cc)
+of_write failure.DiskFailed e = absurd (cc)
+of_write failure.ReadFailed e = absurd (cc)
+of_write failure.NoMemory e = absurd (cc)
+
+told_failure : (f told wanted : Failure) → (told ≡ f) ⊎ (told ≡ failure.NoMemory) → told ≡ wanted → wanted ≢ failure.NoMemory → f ≡ wanted
+told_failure f told wanted (inl is) e other = sym is ∙ e
+told_failure f told wanted (inr is) e other = absurd (other (sym e ∙ is))
+
+module _ {F K : Type 0} (the_files : files.Ghosts F) (the_disk : disks.Ghosts K) (old new : F) (disk : K) (asked : Option Settings)
+    (made : Result (List ℕ) Failure) (answers : AnswersAsked the_files the_disk old new disk asked made) (f told : Failure)
+    (told_is : (told ≡ f) ⊎ (told ≡ failure.NoMemory)) (out new_out : Option (List ℕ)) (printed : Prints {T = Unit {0}} out new_out made (Err f)) where
+  pub read_told : status_of told ≡ status.ReadFailed → Rose (the_files.faults old) (the_files.faults new)
+  read_told e =
+      let is : f ≡ failure.ReadFailed = told_failure f told failure.ReadFailed told_is (of_read told e) (λ no. cc) in
+      let there = failed_before made f out new_out printed (λ w. let no = sym is ∙ w in absurd (cc)) (λ n. let no = sym is ∙ n in absurd (cc)) in
+      read_rose the_files the_disk old new disk asked (subst (AnswersAsked the_files the_disk old new disk asked) (there ∙ ap Err is) answers)
+
+  pub write_told : (rose : Type 0) → (f ≡ failure.WriteFailed → (made ≡ Err failure.WriteFailed) ⊎ rose) → status_of told ≡ status.WriteFailed → rose
+  write_told rose failed e =
+      by (failed (told_failure f told failure.WriteFailed told_is (of_write told e) (λ no. cc)))
+    where
+      by : (made ≡ Err failure.WriteFailed) ⊎ rose → rose
+      by (inl is) = absurd (not_written the_files the_disk old new disk asked (subst (AnswersAsked the_files the_disk old new disk asked) is answers))
+      by (inr is) = is

@@ -1,0 +1,145 @@
+-- The job is made, its journal is opened, and it goes on behind that.
+use Rattle.std.proofs.Common.{◌≡◌, [], ◌∷◌, refl, sym, ap, ◌∙◌, subst, Some, None, Option, List, ℕ, IfSome}
+use Rattle.std.specs.Prelude.{Err, Ok, Result}
+use Rattle.std.proofs.lemmas.Result.{err_from_is_err_and}
+use Rattle.sz_attempt.specs.declared.job.Job.{Job}
+use Rattle.sz_mean.specs.Marked.{marked, all_tables}
+use Rattle.sz_save.specs.Saving.{HaveSpelling}
+use Rattle.sz_journal_format.specs.Rounds.{AreRounds}
+use Rattle.sz_journal.specs.Journal.{rounds_of, KeepsRounds}
+use Rattle.sz_journal.specs.Opening.{FitsAnswer, FitsError, IsKept}
+use Rattle.sz_gates.specs.Crashing.{LeavesOnly}
+use Rattle.szl.specs.Failing.{status_of}
+use Rattle.szl.specs.JournalRuns.{failure_of_journal, AnswersJob, IsBehindRounds, but_one}
+use Rattle.szl.specs.Opening.{status_of_answer}
+use Rattle.szl.specs.ProgramRuns.{vec_items_of}
+use Rattle.szl.specs.ResumePromise.{KeepsJob}
+use Rattle.szl.specs.Resuming.{source_of}
+use Rattle.szl.specs.Shards.{job_of}
+use Rattle.szl.proofs.JobLemmas.{no_job, no_journal, behind_journal, job_keeps, is_journal, keeps_unopened}
+use Rattle.szl.proofs.KeepLemmas.{keeps_none, not_done}
+use Rattle.szl.proofs.resuming.resume_program.Goals as goal
+
+-- a static faults, or there was no memory for the job
+pub returns-in_err-job-clause-value : goal.returns-in_err-job-clause-value
+returns-in_err-job-clause-value g c =
+    let p = err_from_is_err_and c.from_residual.result c.from_residual.ensures.1 in
+    let s = c.args.settings.now in
+    rw (p.1, p.2) (no_job g.F.Files s (marked c.args.program s.ignore_undefs) c.args.bytes.now c.args.files.now (g.K.Disk.bytes c.args.disk.now)
+    c.in_err-job.field-0.0 c.in_err-job.ensures.value)
+
+pub returns-in_err-job-clause-stopped : goal.returns-in_err-job-clause-stopped
+returns-in_err-job-clause-stopped g c input held told rests slots begun before found =
+    let p = err_from_is_err_and c.from_residual.result c.from_residual.ensures.1 in
+    let s = c.args.settings.now in
+    let f = c.in_err-job.field-0.0 in
+    let disk = c.args.disk.now in
+    rw (p.1, p.2) (keeps_none c.args.bytes.now (job_of (marked c.args.program s.ignore_undefs) slots s) (source_of s input) g.K.Disk held before found
+    (status_of f) (not_done f) disk (g.met.K.Disk.only_now disk) rests)
+
+-- the journal isn't opened
+pub returns-in_err-journal-clause-value : goal.returns-in_err-journal-clause-value
+returns-in_err-journal-clause-value g c =
+    let p = err_from_is_err_and c.from_residual-in_err-journal.result c.from_residual-in_err-journal.ensures.1 in
+    let s = c.args.settings.now in
+    let program = marked c.args.program s.ignore_undefs in
+    let made = c.in_ok-job.ensures.value in
+    let decls = c.tables.ensures.value ∙ ap (λ (j : Job). all_tables j.compiled) made.is_job_of.same in
+    let e = c.in_err-journal.field-0.0 in
+    rw (p.1, p.2) (no_journal g.F.Files s program c.args.bytes.now c.args.files.now (g.K.Disk.bytes c.args.disk.now) made.slots made.means e
+    (λ held told. subst (λ ds. FitsError c.args.bytes.now ds held e) decls (c.in_err-journal.ensures.causes held told)))
+
+pub returns-in_err-journal-clause-stopped : goal.returns-in_err-journal-clause-stopped
+returns-in_err-journal-clause-stopped g c input held told rests slots begun before found =
+    let p = err_from_is_err_and c.from_residual-in_err-journal.result c.from_residual-in_err-journal.ensures.1 in
+    let s = c.args.settings.now in
+    let program = marked c.args.program s.ignore_undefs in
+    let made = c.in_ok-job.ensures.value in
+    let decls = c.tables.ensures.value ∙ ap (λ (j : Job). all_tables j.compiled) made.is_job_of.same in
+    let f = failure_of_journal c.in_err-journal.field-0.0 in
+    let disk = c.args.disk.now in
+    let mid = c.open_journal.new.disk in
+    rw (p.1, p.2) (keeps_unopened c.one_standing.ensures.law s c.requires.bounds.shard program slots c.args.bytes.now c.requires.low g.K.Disk input held before
+    (status_of f) (not_done f) disk mid found
+    (λ is. subst (λ ds. LeavesOnly g.K.Disk.time g.K.Disk.left_since disk mid (IsKept c.args.bytes.now ds held)) decls
+    (c.open_journal.ensures.leaves held rests is)))
+
+-- the job can be run, and has this journal
+pub text_behind-requires-clause-job : goal.text_behind-requires-clause-job
+text_behind-requires-clause-job g c κs within = c.in_ok-job.ensures.value.can_run
+
+pub text_behind-requires-clause-attempts : goal.text_behind-requires-clause-attempts
+text_behind-requires-clause-attempts g c κs within = c.in_ok-job.ensures.value.attempts
+
+pub text_behind-requires-clause-workers : goal.text_behind-requires-clause-workers
+text_behind-requires-clause-workers g c κs within = c.in_ok-job.ensures.value.are_workers
+
+pub text_behind-requires-clause-spelled : goal.text_behind-requires-clause-spelled
+text_behind-requires-clause-spelled g c κs within =
+    subst HaveSpelling (sym (ap (λ (j : Job). all_tables j.compiled) c.in_ok-job.ensures.value.is_job_of.same)) (c.requires.can_save refl)
+
+pub text_behind-requires-clause-journal : goal.text_behind-requires-clause-journal
+text_behind-requires-clause-journal g c κs within =
+    let name = c.args.bytes.now in
+    let journal = c.in_ok-journal.journal in
+    let job = c.in_ok-job.job in
+    let same = c.in_ok-job.ensures.value.is_job_of.same in
+    let mid = c.open_journal.new.disk in
+    record {
+      name = name;
+      is = is_journal name job journal (g.K.Disk.bytes c.args.disk.now) (g.K.Disk.bytes mid) (g.K.Disk.may_leave mid) c.in_ok-journal.ensures.is_of
+          (c.requires.budget ∙ sym (ap (λ (j : Job). j.budget) same)) (c.requires.skip ∙ sym (ap (λ (j : Job). j.skip) same))
+          c.open_journal.ensures.untold
+          (λ held told. subst (λ ds. KeepsRounds (g.K.Disk.bytes mid) (g.K.Disk.may_leave mid) name ds (rounds_of journal)) c.tables.ensures.value
+          (c.in_ok-journal.ensures.ok held told))
+          (subst (λ ds. AreRounds name ds (rounds_of journal)) c.tables.ensures.value c.in_ok-journal.ensures.are);
+    }
+
+-- the job goes on behind its journal
+pub returns-clause-value : goal.returns-clause-value
+returns-clause-value g c =
+    let s = c.args.settings.now in
+    let program = marked c.args.program s.ignore_undefs in
+    let name = c.args.bytes.now in
+    let made = c.in_ok-job.ensures.value in
+    let job = c.in_ok-job.job in
+    let journal = c.in_ok-journal.journal in
+    let old = c.args.files.now in
+    let new = c.text_behind.new.files in
+    let mid = g.K.Disk.bytes c.open_journal.new.disk in
+    let may = g.K.Disk.may_leave c.open_journal.new.disk in
+    let answer = vec_items_of c.text_behind.result in
+    let decls = c.tables.ensures.value ∙ ap (λ (j : Job). all_tables j.compiled) made.is_job_of.same in
+    behind_journal c.one_standing.ensures.law s c.requires.bounds.shard c.requires.no_save program made.slots made.means name c.requires.low job.twice journal
+    g.F.Files old new (g.K.Disk.bytes c.args.disk.now) mid may answer
+    (λ held told. subst (λ ds. FitsAnswer name ds held (Ok journal)) decls (c.in_ok-journal.ensures.causes held told))
+    (λ held told. subst (λ ds. KeepsRounds mid may name ds (rounds_of journal)) decls (c.in_ok-journal.ensures.ok held told))
+    (subst (λ (j : Job). AnswersJob g.F.Files (λ st. IsBehindRounds s j name (rounds_of journal) (g.F.Files.held old s.input) mid) (s.input ∷ []) but_one old new
+    answer) made.is_job_of.same (c.text_behind.ensures.value name c.in_ok-journal.ensures.is_of))
+
+pub returns-clause-stopped : goal.returns-clause-stopped
+returns-clause-stopped g c input held told rests slots begun before found =
+    let s = c.args.settings.now in
+    let program = marked c.args.program s.ignore_undefs in
+    let name = c.args.bytes.now in
+    let made = c.in_ok-job.ensures.value in
+    let job = c.in_ok-job.job in
+    let same = made.is_job_of.same in
+    let journal = c.in_ok-journal.journal in
+    let disk = c.args.disk.now in
+    let mid = c.open_journal.new.disk in
+    let new = c.text_behind.new.disk in
+    let st = status_of_answer (vec_items_of c.text_behind.result) in
+    let decls = c.tables.ensures.value ∙ ap (λ (j : Job). all_tables j.compiled) same in
+    let keeps = subst (λ ds. KeepsRounds (g.K.Disk.bytes mid) (g.K.Disk.may_leave mid) name ds (rounds_of journal)) decls
+    (c.in_ok-journal.ensures.ok held rests.read) in
+    let fits = subst (λ ds. FitsAnswer name ds held (Ok journal)) decls (c.in_ok-journal.ensures.causes held rests.read) in
+    let is = is_journal name job journal (g.K.Disk.bytes disk) (g.K.Disk.bytes mid) (g.K.Disk.may_leave mid) c.in_ok-journal.ensures.is_of
+    (c.requires.budget ∙ sym (ap (λ (j : Job). j.budget) same)) (c.requires.skip ∙ sym (ap (λ (j : Job). j.skip) same)) c.open_journal.ensures.untold
+    (λ bytes there. subst (λ ds. KeepsRounds (g.K.Disk.bytes mid) (g.K.Disk.may_leave mid) name ds (rounds_of journal)) c.tables.ensures.value
+    (c.in_ok-journal.ensures.ok bytes there))
+    (subst (λ ds. AreRounds name ds (rounds_of journal)) c.tables.ensures.value c.in_ok-journal.ensures.are) in
+    job_keeps c.one_standing.ensures.law s c.requires.bounds.shard c.requires.no_save program slots begun name c.requires.low job.twice journal
+    g.K.Disk job made.slots made.means made.is_job_of input held before st disk mid new found fits keeps c.open_journal.ensures.told
+    (λ at. subst (λ ds. LeavesOnly g.K.Disk.time g.K.Disk.left_since disk mid (IsKept name ds held)) decls (c.open_journal.ensures.leaves held rests at))
+    refl (λ now. c.text_behind.ensures.stopped input keeps.held name told keeps.rests is now)

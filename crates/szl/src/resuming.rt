@@ -1,0 +1,344 @@
+//! A job that is resumed: its rounds are kept in a journal, and it goes on behind the last one.
+ghost use Rattle.std.specs.Prelude.{◌≡◌, ◌<◌, ◌≤◌, ◌^◌, ◌++◌, ◌∷◌, [], ℕ, List, length, map, string_bytes, Option, Some, true, false, IfOk, OnOk, IsErrOf};
+ghost use Rattle.sz_io.specs.Rose.{Rose};
+ghost use Rattle.sz_io.specs.Opened.{KeepsFiles};
+ghost use Rattle.sz_io.specs.Calls.{ReadToEnd};
+ghost use Rattle.sz_core.specs.Sound.{IsSound};
+ghost use Rattle.sz_mean.specs.Marked.{marked, all_tables};
+ghost use Rattle.sz_save.specs.Saving.{HaveSpelling, state_of_emits};
+ghost use Rattle.sz_attempt.specs.Shards.{IsJob};
+ghost use Rattle.sz_gates.specs.Crashing.{Rests, DoesNotFall};
+ghost use Rattle.sz_journal.specs.Journal.{rounds_of, IsOf};
+ghost use Rattle.sz_journal_format.specs.declared.job.JobBytes.{JobBytes};
+ghost use Rattle.sz_print.specs.Tables.{lists_text, tables_text};
+ghost use Rattle.sz_tabs.specs.Data.{EmitDatum};
+ghost use Rattle.sz_types.specs.Tables.{Declaration};
+ghost use Rattle.sz_protofile_laws.specs.Sound.{AreSound};
+ghost use Rattle.sz_resume.specs.Standing.{IsFound};
+ghost use Rattle.sz_resume.specs.Runs.{IsJournalOf, HasJournal};
+ghost use Rattle.sz_words.specs.Bounds.{HasBounds, IsBounded};
+ghost use Rattle.sz_words.specs.Settings.{settings_in};
+ghost use Rattle.sz_words.specs.declared.settings.Settings.TheVariants.{Resume};
+ghost use Rattle.szl.specs.Judgement.{Reading, IsRead, most_program_bytes};
+ghost use Rattle.szl.specs.JournalRuns.{AnswersJob, IsBehindRounds, IsProgramOutcome, IsTextOutcome, IsFileOutcome, IfBegun, but_one};
+ghost use Rattle.szl.specs.Opening.{Answers, status_of_answer};
+ghost use Rattle.szl.specs.ProgramRuns.{CanSave, vec_items_of};
+ghost use Rattle.szl.specs.Promise.{AreReadToEnd, most_before};
+ghost use Rattle.szl.specs.ProtoReads.{HaveTypeBytes};
+ghost use Rattle.szl.specs.ResumePromise.{ByCommand, IfSpelled, IsJobOutcome, KeepsFound, KeepsJob, KeepsJournal, names_on_disk};
+ghost use Rattle.szl.specs.Resuming.{name_of, source_of, triple_of};
+ghost use Rattle.szl.specs.Saving.{HasSaved, IfSaving};
+
+use crate::answer::{answer_settings, read_program};
+use crate::failure::Failure;
+use crate::heights::Stack;
+use crate::judge::tree_in;
+use crate::program_run::job_with_workers;
+use crate::proto::{TypesFile, file_named};
+use crate::savable::savable;
+use std::alloc::Global;
+use std::thread::Threads;
+use sz_attempt::Job;
+use sz_core::Program;
+use sz_disk::Disk;
+use sz_io::{Files, Gate};
+use sz_journal::{Journal, open_journal};
+use sz_journal_format::{JobBytes, Numbers, Triple, Triples};
+use sz_journal_rules::one_standing;
+use sz_list::Items;
+use sz_print::text_rows;
+use sz_resume::resume_file;
+use sz_save::Saved;
+use sz_save_laws::saved_runs_join;
+use sz_value::{NoMemory, Octets};
+use sz_words::{Kill, RunSettings, Settings, read_words};
+
+/// The text that the words ask for where there is a disk, or why there is none. A job that is resumed has its journal there; no other
+/// command calls the disk.
+pub fn answer_on_disk<R: Threads + Sync, F: Files, G: Gate + Sync, K: Disk>(
+    rt: &R,
+    alloc: Global,
+    words: &[String],
+    files: &mut F,
+    gate: &G,
+    disk: &mut K,
+    stack: Stack,
+) -> Result<Vec<u8>, Failure>
+    requires { length (F.names files.old) ≤ most_before (settings_in (map string_bytes words.now)) }
+
+    ensures value { ByCommand (settings_in (map string_bytes words.now))
+        (λ s. AnswersJob F.Files (λ status outcome. IsJobOutcome F.Files K.Disk s status files.old disk.old outcome) (names_on_disk (Some (Resume s))) (λ n. n)
+        files.old files.new (vec_items_of result))
+        (Answers F.Files (settings_in (map string_bytes words.now)) files.old files.new (vec_items_of result)) }
+    ensures end { OnOk result (AreReadToEnd F.Files files.old files.new (names_on_disk (settings_in (map string_bytes words.now)))) }
+    ensures saved { IfOk result (λ bytes. IfSaving (settings_in (map string_bytes words.now)) (λ s. HasSaved F.Files s files.old bytes.items)) }
+    ensures stopped { ByCommand (settings_in (map string_bytes words.now))
+        (λ s. KeepsJournal F.Files K.Disk s (status_of_answer (vec_items_of result)) files.old disk.old disk.new) (disk.new ≡ disk.old) }
+
+    ensures disk_failed { IsErrOf result Failure.DiskFailed → Rose (K.faults disk.old) (K.faults disk.new) }
+
+    ensures kept { KeepsFiles F.held F.left F.given F.faults files.old files.new }
+    ensures faults { DoesNotFall (K.faults disk.old) (K.faults disk.new) }
+{
+    let settings = read_words(alloc, words)?;
+    match &settings {
+        Settings::Resume(run) => answer_resume(rt, alloc, run, files, gate, disk, stack),
+        _ => answer_settings(rt, alloc, &settings, files, gate, stack),
+    }
+}
+
+/// The text of the tables of a program for an input, as these settings ask for it. A `.proto` file that they name is read first.
+fn answer_resume<R: Threads + Sync, F: Files, G: Gate + Sync, K: Disk>(
+    rt: &R,
+    alloc: Global,
+    settings: &RunSettings,
+    files: &mut F,
+    gate: &G,
+    disk: &mut K,
+    stack: Stack,
+) -> Result<Vec<u8>, Failure>
+    requires few { length (F.names files.old) < 126 }
+    requires bounds { HasBounds settings.now }
+    requires no_save { settings.now.save ≡ false }
+
+    ensures value { AnswersJob F.Files (λ status outcome. IsJobOutcome F.Files K.Disk settings.now status files.old disk.old outcome)
+        (names_on_disk (Some (Resume settings.now))) (λ n. n) files.old files.new (vec_items_of result) }
+    ensures end { OnOk result (AreReadToEnd F.Files files.old files.new (names_on_disk (Some (Resume settings.now)))) }
+    ensures stopped { KeepsJournal F.Files K.Disk settings.now (status_of_answer (vec_items_of result)) files.old disk.old disk.new }
+
+    ensures disk_failed { IsErrOf result Failure.DiskFailed → Rose (K.faults disk.old) (K.faults disk.new) }
+
+    ensures kept { KeepsFiles F.held F.left F.given F.faults files.old files.new }
+    ensures faults { DoesNotFall (K.faults disk.old) (K.faults disk.new) }
+{
+    let proto = file_named(alloc, &settings.proto, files, stack)?;
+    resume_with(rt, alloc, &proto, settings, files, gate, disk, stack)
+}
+
+/// The same where this is the file of types.
+fn resume_with<R: Threads + Sync, F: Files, G: Gate + Sync, K: Disk>(
+    rt: &R,
+    alloc: Global,
+    proto: &TypesFile,
+    settings: &RunSettings,
+    files: &mut F,
+    gate: &G,
+    disk: &mut K,
+    stack: Stack,
+) -> Result<Vec<u8>, Failure>
+    requires sound { AreSound proto.now.types }
+    requires named { HaveTypeBytes proto.now.types }
+    requires few { length (F.names files.old) < 127 }
+    requires bounds { HasBounds settings.now }
+    requires no_save { settings.now.save ≡ false }
+
+    ensures value { AnswersJob F.Files (IsFileOutcome F.Files settings.now proto.now.types proto.now.bytes.items (K.bytes disk.old) files.old)
+        (settings.now.program ∷ settings.now.input ∷ []) (λ n. n) files.old files.new (vec_items_of result) }
+    ensures end { OnOk result (AreReadToEnd F.Files files.old files.new (settings.now.program ∷ settings.now.input ∷ [])) }
+    ensures stopped { (text : List ℕ) (reading : Reading) → F.held files.old settings.now.program ≡ Some text → IsRead text reading
+        → KeepsFound K.Disk settings.now (IfSpelled settings.now proto.now.types reading) (name_of settings.now text proto.now.bytes.items)
+        (F.held files.old settings.now.input) (status_of_answer (vec_items_of result)) disk.old disk.new }
+
+    ensures disk_failed { IsErrOf result Failure.DiskFailed → Rose (K.faults disk.old) (K.faults disk.new) }
+
+    ensures kept { KeepsFiles F.held F.left F.given F.faults files.old files.new }
+    ensures faults { DoesNotFall (K.faults disk.old) (K.faults disk.new) }
+{
+    let text = read_program(alloc, settings.program.as_str(), files)?;
+    resume_text(rt, alloc, &text, proto, settings, files, gate, disk, stack)
+}
+
+/// The same of the program that is spelled by a text. Each round is saved, so that the program's tables have to be such as can be.
+fn resume_text<R: Threads + Sync, F: Files, G: Gate + Sync, K: Disk>(
+    rt: &R,
+    alloc: Global,
+    text: &[u8],
+    proto: &TypesFile,
+    settings: &RunSettings,
+    files: &mut F,
+    gate: &G,
+    disk: &mut K,
+    stack: Stack,
+) -> Result<Vec<u8>, Failure>
+    requires sound { AreSound proto.now.types }
+    requires named { HaveTypeBytes proto.now.types }
+    requires few { length (F.names files.old) < 128 }
+    requires bounds { HasBounds settings.now }
+    requires no_save { settings.now.save ≡ false }
+    requires short { length text.now ≤ most_program_bytes }
+
+    ensures value { AnswersJob F.Files (IsTextOutcome settings.now proto.now.types text.now (name_of settings.now text.now proto.now.bytes.items)
+        (F.held files.old settings.now.input) (K.bytes disk.old)) (settings.now.input ∷ []) but_one files.old files.new (vec_items_of result) }
+    ensures end { OnOk result (ReadToEnd F.Files files.old files.new settings.now.input) }
+    ensures names { OnOk result (F.names files.new ≡ F.names files.old ++ settings.now.input ∷ []) }
+    ensures stopped { (reading : Reading) → IsRead text.now reading
+        → KeepsFound K.Disk settings.now (IfSpelled settings.now proto.now.types reading) (name_of settings.now text.now proto.now.bytes.items)
+        (F.held files.old settings.now.input) (status_of_answer (vec_items_of result)) disk.old disk.new }
+
+    ensures disk_failed { IsErrOf result Failure.DiskFailed → Rose (K.faults disk.old) (K.faults disk.new) }
+
+    ensures kept { KeepsFiles F.held F.left F.given F.faults files.old files.new }
+    ensures faults { DoesNotFall (K.faults disk.old) (K.faults disk.new) }
+{
+    let tree = tree_in(alloc, text, stack)?;
+    let program = savable(alloc, &tree, &proto.types, true, settings.ignore_undefs)?;
+    let bytes = job_bytes(alloc, settings, text, &proto.bytes)?;
+    resume_program(rt, alloc, program, &bytes, settings, files, gate, disk)
+}
+
+/// The same of a checked program, whose job has these bytes. The journal is opened after the statics, and before the input.
+fn resume_program<R: Threads + Sync, F: Files, G: Gate + Sync, K: Disk>(
+    rt: &R,
+    alloc: Global,
+    program: Program,
+    bytes: &JobBytes,
+    settings: &RunSettings,
+    files: &mut F,
+    gate: &G,
+    disk: &mut K,
+) -> Result<Vec<u8>, Failure>
+    requires sound { IsSound program }
+    requires can_save { CanSave true (marked program settings.now.ignore_undefs) }
+    requires few { length (F.names files.old) < 128 }
+    requires bounds { HasBounds settings.now }
+    requires no_save { settings.now.save ≡ false }
+    requires budget { bytes.now.budget ≡ settings.now.budget }
+    requires skip { bytes.now.skip ≡ settings.now.skip }
+    requires low { bytes.now.skip < 2 ^ 32 }
+
+    ensures value { AnswersJob F.Files (IsProgramOutcome settings.now (marked program settings.now.ignore_undefs) bytes.now
+        (F.held files.old settings.now.input) (K.bytes disk.old)) (settings.now.input ∷ []) but_one files.old files.new (vec_items_of result) }
+    ensures end { OnOk result (ReadToEnd F.Files files.old files.new settings.now.input) }
+    ensures names { OnOk result (F.names files.new ≡ F.names files.old ++ settings.now.input ∷ []) }
+    ensures stopped { KeepsFound K.Disk settings.now (IfBegun settings.now (marked program settings.now.ignore_undefs)) bytes.now
+        (F.held files.old settings.now.input) (status_of_answer (vec_items_of result)) disk.old disk.new }
+
+    ensures disk_failed { IsErrOf result Failure.DiskFailed → Rose (K.faults disk.old) (K.faults disk.new) }
+
+    ensures kept { KeepsFiles F.held F.left F.given F.faults files.old files.new }
+    ensures faults { DoesNotFall (K.faults disk.old) (K.faults disk.new) }
+{
+    one_standing();
+    let (job, workers) = job_with_workers(alloc, program, settings)?;
+    let mut journal = open_journal(alloc, disk, bytes, job.compiled.tables())?;
+    text_behind(
+        rt,
+        alloc,
+        &job,
+        settings,
+        workers,
+        files,
+        gate,
+        &mut journal,
+        disk,
+    )
+}
+
+/// The text of the tables of a job that goes on behind its journal.
+fn text_behind<R: Threads + Sync, F: Files, G: Gate + Sync, K: Disk>(
+    rt: &R,
+    alloc: Global,
+    job: &Job,
+    settings: &RunSettings,
+    workers: u32,
+    files: &mut F,
+    gate: &G,
+    journal: &mut Journal,
+    disk: &mut K,
+) -> Result<Vec<u8>, Failure>
+    requires few { length (F.names files.old) < 128 }
+    requires job { IsJob job.now }
+    requires attempts { (1 ≤ job.now.attempts) × (job.now.attempts ≤ 8) }
+    requires workers { (1 ≤ workers) × (workers ≤ 64) }
+    requires bounds { HasBounds settings.now }
+    requires spelled { HaveSpelling (all_tables job.now.compiled) }
+    requires journal { HasJournal job.now journal.old (K.bytes disk.old) }
+
+    ensures value { (name : JobBytes) → IsOf name journal.old
+        → AnswersJob F.Files (λ status. IsBehindRounds settings.now job.now name (rounds_of journal.old) (F.held files.old settings.now.input)
+        (K.bytes disk.old)) (settings.now.input ∷ []) but_one files.old files.new (vec_items_of result) }
+    ensures end { OnOk result (ReadToEnd F.Files files.old files.new settings.now.input) }
+    ensures names { OnOk result (F.names files.new ≡ F.names files.old ++ settings.now.input ∷ []) }
+    ensures stopped { (input held : List ℕ) (name : JobBytes) → F.held files.old settings.now.input ≡ Some input
+        → Rests (K.bytes disk.old) (K.may_leave disk.old) held → IsJournalOf name job.now journal.old (K.bytes disk.old)
+        → IsFound name job.now (source_of settings.now input) held (rounds_of journal.old)
+        → KeepsJob K.Disk name job.now (source_of settings.now input) held (rounds_of journal.old) (status_of_answer (vec_items_of result)) disk.old
+        disk.new }
+
+    ensures disk_failed { IsErrOf result Failure.DiskFailed → Rose (K.faults disk.old) (K.faults disk.new) }
+
+    ensures kept { KeepsFiles F.held F.left F.given F.faults files.old files.new }
+    ensures faults { DoesNotFall (K.faults disk.old) (K.faults disk.new) }
+{
+    let file = files.open_file(settings.input.as_str())?;
+    let all = resume_file(
+        rt, alloc, job, settings, workers, files, file, gate, journal, disk,
+    )?;
+    Ok(text_of(alloc, &all)?)
+}
+
+/// The text of saved tables.
+fn text_of(alloc: Global, all: &Saved) -> Result<Vec<u8>, NoMemory>
+    ensures value { (bound : ℕ) (decls : List Declaration) (emits : List EmitDatum) → all.now ≡ state_of_emits bound decls emits
+        → IfOk result (λ text. text.items ≡ tables_text decls emits) }
+{
+    saved_runs_join();
+    let _ = all.bound();
+    text_held(alloc, all)
+}
+
+/// The text of these tables, of which there are as many as declarations.
+fn text_held(alloc: Global, all: &Saved) -> Result<Vec<u8>, NoMemory>
+    requires { length all.now.tables ≡ length all.now.decls }
+    ensures value { IfOk result (λ text. text.items ≡ lists_text all.now.decls all.now.tables) }
+{
+    let text = text_rows(alloc, all.decls(), all.tables())?;
+    Vec::from_slice(alloc, text.as_slice())
+}
+
+/// What the journal says of the job that the settings ask for, with these texts of the program and of the file of types.
+fn job_bytes(
+    alloc: Global,
+    settings: &RunSettings,
+    program: &[u8],
+    proto: &[u8],
+) -> Result<JobBytes, NoMemory>
+    ensures value { IfOk result (λ name. name ≡ name_of settings.now program.now proto.now) }
+    ensures low { IfOk result (λ name. name.skip < 2 ^ 32) }
+{
+    Ok(JobBytes {
+        frame: settings.frame,
+        shard: settings.shard,
+        attempts: settings.attempts,
+        budget: settings.budget,
+        ignoring: settings.ignore_undefs,
+        skip: skip_of(settings),
+        kills: triples_of(alloc, settings.kills.as_slice())?,
+        doubled: Numbers::copied(alloc, settings.twice.as_slice())?,
+        program: Octets::from_slice(alloc, program)?,
+        proto: Octets::from_slice(alloc, proto)?,
+    })
+}
+
+/// How many records the settings let pass, which fits 4 bytes.
+fn skip_of(settings: &RunSettings) -> u32
+    ensures value { result ≡ settings.now.skip }
+    ensures low { result < 2 ^ 32 }
+{
+    settings.skip
+}
+
+/// The kills as the journal has them.
+fn triples_of(alloc: Global, kills: &[Kill]) -> Result<Triples, NoMemory>
+    ensures value { IfOk result (λ triples. triples ≡ map triple_of kills.now) }
+{
+    let mut triples = Items::with_capacity(alloc, kills.len())?;
+    for kill in kills {
+        triples.push(Triple {
+            shard: kill.shard,
+            number: kill.number,
+            after: kill.after,
+        })?;
+    }
+    Ok(triples)
+}
