@@ -71,7 +71,7 @@ module _ (l g j : SavedState) (gives : Gives l g j) where
   same_last [] h = tt
   same_last (s ∷ groups) h = tables_last s.decls groups h
 
-  can_last : (groups : List SavedState) → CanBeTogether (groups ++ l ∷ g ∷ []) → CanBeTogether (groups ++ j ∷ [])
+  pub can_last : (groups : List SavedState) → CanBeTogether (groups ++ l ∷ g ∷ []) → CanBeTogether (groups ++ j ∷ [])
   can_last groups can = record {
     same = same_last groups can.same;
     low = let bounds = bounds_last groups in omega (arith, bounds, can.low);

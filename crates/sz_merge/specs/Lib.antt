@@ -4,3 +4,4 @@ pub mod Files
 pub mod Laws
 -- what the functions inside the crate promise each other
 pub mod Groups
+pub mod Reading

@@ -15,6 +15,8 @@ pub(crate) struct Group {
     pub(crate) saved: Saved,
     /// How many rows that is.
     pub(crate) rows: usize,
+    /// How many bytes its first file has for a row.
+    pub(crate) width: usize,
 }
 
 // The groups with one more behind them. It is joined to the last one as long as that has at most twice as many rows,
@@ -61,10 +63,15 @@ fn take_small(groups: &mut Vec<Group>, rows: usize) -> Option<Group>
     ensures none { IfNone result (groups.new.items ≡ groups.old.items) }
 {
     let is_small = match groups.last() {
-        Some(last) => last.rows.saturating_sub(rows) <= rows,
+        Some(last) => is_small(last, rows),
         None => false,
     };
     if is_small { groups.pop() } else { None }
+}
+
+// Whether a group has at most twice as many rows as this.
+pub(crate) fn is_small(group: &Group, rows: usize) -> bool {
+    group.rows.saturating_sub(rows) <= rows
 }
 
 // Both groups as one.
@@ -72,9 +79,10 @@ fn joined(alloc: Global, front: Group, back: Group) -> Result<Group, NoMemory>
     requires can { CanBeTogether (front.saved ∷ back.saved ∷ []) }
     ensures value { IfOk result (λ both. Gives front.saved back.saved both.saved) }
 {
+    let width = front.width;
     let saved = both_saved(alloc, front.saved, back.saved)?;
     let rows = row_count(&saved);
-    Ok(Group { saved, rows })
+    Ok(Group { saved, rows, width })
 }
 
 // What two states hold together that can be joined.
@@ -101,6 +109,10 @@ pub(crate) fn join_all(alloc: Global, groups: Vec<Group>) -> Result<Saved, NoMem
     while let Some(group) = groups.pop() {
         all = joined(alloc, group, all)?;
     }
-    let Group { saved, rows: _ } = all;
+    let Group {
+        saved,
+        rows: _,
+        width: _,
+    } = all;
     Ok(saved)
 }

@@ -5,6 +5,7 @@ mod error;
 mod groups;
 mod laws;
 mod merging;
+mod reading;
 
 pub use error::MergeError;
 pub use laws::merging_forgets_the_order;

@@ -4,12 +4,14 @@ ghost use Rattle.sz_save_format.specs.Saved.{SavedState, most_bound};
 ghost use Rattle.sz_merge.specs.Together.{AreTogether, HasSameTables, bounds_of};
 ghost use Rattle.sz_merge.specs.Files.{IsUnfit, IsStopped};
 ghost use Rattle.sz_merge.specs.Groups.{AreOf, Adds};
+ghost use Rattle.sz_merge.specs.Reading.{FitsBehind};
 
 use crate::error::MergeError;
-use crate::groups::{Group, join_all, row_count, with_group};
+use crate::groups::{Group, is_small, join_all, row_count, with_group};
+use crate::reading::with_read;
 use std::alloc::Global;
 use std::marker::Model;
-use sz_save::{NoMemory, Saved, read_saved, same_decls};
+use sz_save::{NoMemory, Saved, read_head, read_saved, same_decls};
 
 /// The greatest bound.
 const MOST: u64 = 1 << 63;
@@ -73,11 +75,65 @@ impl Merging {
         ensures stopped { (before : List SavedState) → AreOf self before → IfErr result (λ cause. IsStopped before bytes.now cause) }
         ensures some { IfOk result (λ groups. groups ≢ []) }
     {
+        if self.fits_behind(bytes) {
+            return self.add_read(alloc, bytes);
+        }
+        self.add_group(alloc, bytes)
+    }
+
+    // Whether a file of these bytes is joined to the last group while it is read: where its bound is low enough, and the group has at most twice
+    // as many rows, by the bytes that a row takes.
+    fn fits_behind(&self, bytes: &[u8]) -> bool
+        ensures value { IsTrue result → FitsBehind self.now bytes.now }
+    {
+        if self.is_empty() {
+            return false;
+        }
+        let Ok((more, _)) = read_head(bytes) else {
+            return false;
+        };
+        if !is_low(self.bound, more) {
+            return false;
+        }
+        self.has_small_last(bytes)
+    }
+
+    // Whether there is a group, and the last has at most about twice as many rows as a file of these bytes.
+    fn has_small_last(&self, bytes: &[u8]) -> bool {
+        match self.groups.last() {
+            Some(last) => is_small(last, rows_in(bytes, last.width)),
+            None => false,
+        }
+    }
+
+    // The same of a file that is joined to the last group while it is read.
+    fn add_read(self, alloc: Global, bytes: &[u8]) -> Result<Merging, MergeError>
+        requires fits { FitsBehind self bytes.now }
+        ensures ok { (before : List SavedState) → AreOf self before → IfOk result (λ groups. Adds before bytes.now groups) }
+        ensures stopped { (before : List SavedState) → AreOf self before → IfErr result (λ cause. IsStopped before bytes.now cause) }
+        ensures some { IfOk result (λ groups. groups ≢ []) }
+    {
+        let (more, _) = read_head(bytes)?;
+        let Merging { groups, bound } = self;
+        let now = with_read(alloc, groups, bytes)?;
+        Ok(Merging {
+            groups: now,
+            bound: bound + more,
+        })
+    }
+
+    // The same of a file that is a group of its own.
+    fn add_group(self, alloc: Global, bytes: &[u8]) -> Result<Merging, MergeError>
+        ensures ok { (before : List SavedState) → AreOf self before → IfOk result (λ groups. Adds before bytes.now groups) }
+        ensures stopped { (before : List SavedState) → AreOf self before → IfErr result (λ cause. IsStopped before bytes.now cause) }
+        ensures some { IfOk result (λ groups. groups ≢ []) }
+    {
         let saved = read_saved(alloc, bytes)?;
         let bound = self.bound_with(&saved)?;
         let Merging { groups, bound: _ } = self;
         let rows = row_count(&saved);
-        let groups = with_group(alloc, groups, Group { saved, rows })?;
+        let width = width_of(bytes, rows);
+        let groups = with_group(alloc, groups, Group { saved, rows, width })?;
         Ok(Merging { groups, bound })
     }
 
@@ -115,4 +171,27 @@ impl Merging {
         let Merging { groups, bound: _ } = self;
         join_all(alloc, groups)
     }
+}
+
+// Whether both bounds together aren't too large.
+fn is_low(bound: u64, more: u64) -> bool
+    ensures value { IsTrue result → bound + more ≤ most_bound }
+{
+    more <= MOST && bound <= MOST - more
+}
+
+// How many bytes a file has for a row, where it has so many rows.
+fn width_of(bytes: &[u8], rows: usize) -> usize {
+    if rows == 0 {
+        return bytes.len();
+    }
+    bytes.len() / rows
+}
+
+// How many rows a file may have, where each has about so many bytes.
+fn rows_in(bytes: &[u8], width: usize) -> usize {
+    if width == 0 {
+        return bytes.len();
+    }
+    bytes.len() / width
 }

@@ -233,7 +233,7 @@ table_saved table first second es os g h counted =
     }
 
 -- the sums of both sides can be added
-row_sums : (bound : ℕ) (element : Shape) (rows : List RowDatum) → AreSumRows bound element rows
+pub row_sums : (bound : ℕ) (element : Shape) (rows : List RowDatum) → AreSumRows bound element rows
     → AllByRecursion (HasSum (components element) (bound * 2 ^ 63)) rows
 row_sums bound element [] h = absurd h
 row_sums bound element (r ∷ s ∷ rows) h = absurd h
@@ -244,7 +244,7 @@ row_sums bound element (r ∷ []) h = (has r.shown h.sums, tt)
     has (one d) g = absurd g
     has overflow g = absurd g
 
-all_sums : (bound : ℕ) (limit : ℕ) (element : Shape) (es : List Indexed) → AllByRecursion (λ e. HaveRows Sum bound limit element e.rows) es
+pub all_sums : (bound : ℕ) (limit : ℕ) (element : Shape) (es : List Indexed) → AllByRecursion (λ e. HaveRows Sum bound limit element e.rows) es
     → AllByRecursion (HasSums (components element) (bound * 2 ^ 63)) es
 all_sums bound limit element [] h = tt
 all_sums bound limit element (e ∷ es) h = (row_sums bound element e.rows h.0, all_sums bound limit element es h.1)
@@ -264,7 +264,7 @@ can_of Minimum first second limit element es os low g h = tt
 can_of Set first second limit element es os low g h = tt
 can_of Collection first second limit element es os low g h = tt
 
-have_rows : (bound : ℕ) (table : Declaration) (es : List Indexed) → AllByRecursion (IsSavedEntry bound table) es
+pub have_rows : (bound : ℕ) (table : Declaration) (es : List Indexed) → AllByRecursion (IsSavedEntry bound table) es
     → AllByRecursion (λ e. HaveRows table.kind bound table.limit table.element e.rows) es
 have_rows bound table [] h = tt
 have_rows bound table (e ∷ es) h = (h.0.rows, have_rows bound table es h.1)
@@ -392,7 +392,7 @@ table_can (e ∷ ds) (s ∷ ts) (v ∷ us) zero d t u here there beyond can =
     subst (λ (p : Declaration × (List Indexed × List Indexed)). CanJoin p.0.kind p.1.0 p.1.1) (λ k. (first k, (second k, last k))) can.0
 table_can (e ∷ ds) (s ∷ ts) (v ∷ us) (suc i) d t u here there beyond can = table_can ds ts us i d t u here there beyond can.1
 
-counted_push : (ts : List (List Indexed)) (t : List Indexed) → AllByRecursion AreCounted ts → AreCounted t → AllByRecursion AreCounted (ts ++ t ∷ [])
+pub counted_push : (ts : List (List Indexed)) (t : List Indexed) → AllByRecursion AreCounted ts → AreCounted t → AllByRecursion AreCounted (ts ++ t ∷ [])
 counted_push [] t h g = (g, tt)
 counted_push (s ∷ ts) t h g = (h.0, counted_push ts t h.1 g)
 

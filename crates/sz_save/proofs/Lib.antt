@@ -1,6 +1,9 @@
 mod ListLemmas
 mod WalkLemmas
 mod TakenLemmas
+mod PassingLemmas
+mod ReadingLemmas
+mod TablesReadLemmas
 mod SumLemmas
 pub mod RisingLemmas
 pub mod RowLemmas

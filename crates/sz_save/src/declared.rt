@@ -30,7 +30,7 @@ fn are_same(one: &[TableDecl], other: &[TableDecl]) -> bool
 }
 
 // Whether the declarations agree in all parts.
-fn same_decl(one: &TableDecl, other: &TableDecl) -> bool
+pub(crate) fn same_decl(one: &TableDecl, other: &TableDecl) -> bool
     ensures value { IsTrue result ↔ (seen_table one.now ≡ seen_table other.now) }
 {
     one.name.as_str() == other.name.as_str()

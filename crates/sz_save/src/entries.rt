@@ -119,7 +119,7 @@ fn take_entry(entries: &mut VecDeque<IndexedRows>) -> IndexedRows
 }
 
 // An index list that the other side hasn't.
-fn join_alone(
+pub(crate) fn join_alone(
     alloc: Global,
     kind: TableKind,
     limit: u32,
@@ -137,7 +137,7 @@ fn join_alone(
 }
 
 // An index list that the other side alone has.
-fn join_other_alone(
+pub(crate) fn join_other_alone(
     alloc: Global,
     kind: TableKind,
     limit: u32,
@@ -155,7 +155,7 @@ fn join_other_alone(
 }
 
 // An index list of both sides.
-fn join_both(
+pub(crate) fn join_both(
     alloc: Global,
     kind: TableKind,
     limit: u32,

@@ -108,7 +108,7 @@ fn join_tables(
 }
 
 // Takes the first table, of which there is one.
-fn take_table(tables: &mut VecDeque<TableRows>) -> TableRows
+pub(crate) fn take_table(tables: &mut VecDeque<TableRows>) -> TableRows
     requires some { 1 ≤ length tables.old.items }
     ensures value { tables.old.items ≡ result ∷ tables.new.items }
 {

@@ -369,7 +369,7 @@ module _ (bound : ℕ) (table : Declaration) (low : bound ≤ 2 ^ 63) (short : I
       ∙ first_again (kind_rows_finds table.kind bound table.limit table.element low short) entry.rows rest
       (λ rows more. Some (record { indexes = entry.indexes; rows = rows }, more)) h.rows
 
-  entry_finds : Finds (IsSavedEntry bound table) (entry_bytes table.kind) (entry_at bound table)
+  pub entry_finds : Finds (IsSavedEntry bound table) (entry_bytes table.kind) (entry_at bound table)
   entry_finds = record { sound = entry_sound; again = entry_again }
 
   none_at_zero : (b z : Bool) (entries : List Indexed) → (bound == 0) ≡ b → (length entries == 0) ≡ z → (not b || z) ≡ true → bound ≡ 0 → entries ≡ []

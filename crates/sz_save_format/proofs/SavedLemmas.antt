@@ -37,7 +37,7 @@ module _ (bound : ℕ) (low : bound ≤ 2 ^ 63) where
       (append_assoc (declaration_bytes table.0) (entries_bytes table.0.kind table.1) rest)
       ∙ first_again (entries_finds bound table.0 low h.declaration.limit) table.1 rest (λ entries more. Some ((table.0, entries), more)) h.entries
 
-  table_finds : Finds (IsSavedTable bound) table_bytes (table_at bound)
+  pub table_finds : Finds (IsSavedTable bound) table_bytes (table_at bound)
   table_finds = record { sound = table_sound; again = table_again }
 
 mark_found : (flat : List ℕ) (x : ℕ) (rest : List ℕ) → mark_at flat ≡ Some (x, rest) → flat ≡ mark ++ rest

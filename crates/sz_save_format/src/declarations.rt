@@ -14,9 +14,9 @@ use crate::types::{read_saved_type, read_types};
 use std::alloc::Global;
 use sz_types::{TableDecl, TableKind, Ty};
 
-// The declaration in front.
+/// The declaration in front.
 #[tactic(auto, unfolding(crate::specs::Decoding::declaration_at))]
-pub(crate) fn read_declaration(alloc: Global, flat: &[u8]) -> Result<(TableDecl, &[u8]), SavedError>
+pub fn read_declaration(alloc: Global, flat: &[u8]) -> Result<(TableDecl, &[u8]), SavedError>
     ensures value { Reads (λ r. (seen_table r.0, r.1.now)) (declaration_at flat.now) result }
 {
     let (name, rest) = read_name(alloc, flat)?;

@@ -60,9 +60,9 @@ fn read_lists<'f>(
     Ok((entries, rest))
 }
 
-// The index list in front, with its rows.
+/// The index list in front of a table, with its rows, where no more emits were counted than the bound says.
 #[tactic(auto, unfolding(crate::specs::DecodingRows::entry_at))]
-fn read_entry<'f>(
+pub fn read_entry<'f>(
     alloc: Global,
     bound: u64,
     table: &TableDecl,

@@ -19,9 +19,12 @@ mod types;
 mod values;
 mod writing;
 
+pub use declarations::read_declaration;
+pub use entries::read_entry;
 pub use error::SavedError;
 pub use laws::one_spelling;
-pub use saved::{Saved, read_saved};
+pub use numbers::{read_count, read_length};
+pub use saved::{Saved, read_head, read_saved};
 pub use sz_print::SavedTables;
 pub use sz_value::NoMemory;
 pub use writing::write_saved;

@@ -16,9 +16,9 @@ pub(crate) fn read_byte(flat: &[u8]) -> Result<(u8, &[u8]), SavedError>
     Ok((*byte, rest))
 }
 
-// The length in front, of 4 bytes.
+/// The length in front, of 4 bytes.
 #[tactic(auto, using(crate::proofs::NumberLemmas::length_found, crate::proofs::NumberLemmas::length_lacked))]
-pub(crate) fn read_length(flat: &[u8]) -> Result<(u32, &[u8]), SavedError>
+pub fn read_length(flat: &[u8]) -> Result<(u32, &[u8]), SavedError>
     ensures value { Reads (λ r. (r.0, r.1.now)) (length_at flat.now) result }
 {
     if flat.len() < 4 {
@@ -36,9 +36,9 @@ fn length_of(front: &[u8]) -> u32
     u32::from_be_bytes([front[0], front[1], front[2], front[3]])
 }
 
-// The count in front, of 8 bytes.
+/// The count in front, of 8 bytes.
 #[tactic(auto, using(crate::proofs::NumberLemmas::count_found, crate::proofs::NumberLemmas::count_lacked))]
-pub(crate) fn read_count(flat: &[u8]) -> Result<(u64, &[u8]), SavedError>
+pub fn read_count(flat: &[u8]) -> Result<(u64, &[u8]), SavedError>
     ensures value { Reads (λ r. (r.0, r.1.now)) (count_at flat.now) result }
 {
     if flat.len() < 8 {

@@ -128,9 +128,9 @@ struct Tables {
     tables: SavedTables,
 }
 
-// The bound behind the mark.
+/// The bound behind the mark, in front of a file.
 #[tactic(auto, unfolding(crate::specs::DecodingRows::head_at))]
-fn read_head(flat: &[u8]) -> Result<(u64, &[u8]), SavedError>
+pub fn read_head(flat: &[u8]) -> Result<(u64, &[u8]), SavedError>
     ensures value { Reads (λ r. (r.0, r.1.now)) (head_at flat.now) result }
 {
     let rest = read_mark(flat)?;

@@ -6,6 +6,8 @@ mod files;
 #[cfg(test)]
 mod joining;
 #[cfg(test)]
+mod lists;
+#[cfg(test)]
 mod merging;
 #[cfg(test)]
 mod pairs;

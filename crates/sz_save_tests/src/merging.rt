@@ -1,5 +1,6 @@
 //! Files that are merged, one after the other.
 
+use crate::lists::{printed, stopped};
 use crate::pairs::{joined, limit, other};
 use std::alloc::Global;
 use std::test::Fail;
@@ -257,6 +258,22 @@ const PRINTED: &[(&str, &[&[u8]], &str)] = &[
 fn files_are_merged_however_many(rt: HostRuntime) -> Result<(), Fail> {
     for (what, files, text) in PRINTED {
         assert!(rt; is_printed(rt.alloc(), files, text), "at {what}");
+    }
+    Ok(())
+}
+
+#[test]
+fn files_with_index_lists_are_merged(rt: HostRuntime) -> Result<(), Fail> {
+    for (what, files, text) in printed() {
+        assert!(rt; is_printed(rt.alloc(), files, text), "at {what}");
+    }
+    Ok(())
+}
+
+#[test]
+fn a_file_with_index_lists_that_cant_be_joined_is_named(rt: HostRuntime) -> Result<(), Fail> {
+    for (what, files, file, cause) in stopped() {
+        assert!(rt; is_stopped(rt.alloc(), files, *file, *cause), "at {what}");
     }
     Ok(())
 }

@@ -5,7 +5,7 @@ use Rattle.sz_merge.specs.Together.{HasSameTables, bounds_of}
 use Rattle.sz_merge.specs.Groups.{held_by, AreOf}
 use Rattle.sz_merge.proofs.TogetherLemmas.{can_more}
 use Rattle.sz_merge.proofs.GroupLemmas.{added, unfit_stops, bound_more}
-use Rattle.sz_merge.proofs.merging.Merging.add.Goals as goal
+use Rattle.sz_merge.proofs.merging.Merging.add_group.Goals as goal
 
 -- the state can't be joined
 pub returns-in_err-bound-clause-stopped : goal.returns-in_err-bound-clause-stopped
