@@ -43,10 +43,6 @@ pub same_bytes : (xs ys : List ℕ) → length xs ≡ length ys → ((i : ℕ) �
 same_bytes xs ys same each =
     fill_by_all (λ i. get_or ys i 0) xs (length ys) 0 same each ∙ sym (fill_by_all (λ i. get_or ys i 0) ys (length ys) 0 refl (λ i lt. refl))
 
--- with no write a crash leaves what was synced
-pub torn_nothing : (synced image : List ℕ) → Torn [] synced image → image ≡ synced
-torn_nothing synced image torn = same_bytes image synced (omega (arith, torn.no_shorter, torn.no_longer)) (λ i lt. torn.same i lt refl)
-
 -- all writes may be lost
 pub torn_refl : (spans : List Span) (bytes : List ℕ) → Torn spans bytes bytes
 torn_refl spans bytes = record { no_shorter = omega arith; no_longer = grows (length bytes) spans; same = λ i lt out. refl }

@@ -5,7 +5,7 @@ ghost use Rattle.std.specs.List.{list_any};
 ghost use Rattle.std.proofs.Common.{inl};
 ghost use Rattle.sz_io.specs.Rose.{Rose, faults_after};
 ghost use Rattle.sz_disk.specs.Crashes.{Torn, told, IsTheImage};
-ghost use Rattle.sz_disk.specs.Calls.{overwritten, overwrites, IsTorn, MayTear, NoMore, GoesOn};
+ghost use Rattle.sz_disk.specs.Calls.{overwritten, overwrites, IsTorn, MayTear, NoMore};
 ghost use Rattle.sz_disk.specs.Stretches.{LeftBy, at_hand, and_also, only_this_moment};
 
 use crate::record::Record;

@@ -1,5 +1,5 @@
 //! The record of what was written to a disk in memory.
-ghost use Rattle.std.specs.Prelude.{◌≡◌, ◌++◌, [], ◌∷◌, List, ℕ, true, false, IfOk, OnOk, OnErr};
+ghost use Rattle.std.specs.Prelude.{◌≡◌, [], List, ℕ, true, false, IfOk, OnOk, OnErr};
 ghost use Rattle.sz_disk.specs.Stretches.{LeftBy, at_hand, ended_by, Notes, NotesNothing, Syncs};
 
 use crate::{Span, tearing};

@@ -1,5 +1,5 @@
 //! What a crash leaves of a disk in memory, chosen by a number.
-ghost use Rattle.std.specs.Prelude.{◌≡◌, ◌≤◌, length};
+ghost use Rattle.std.specs.Prelude.{◌≤◌};
 ghost use Rattle.sz_disk.specs.Crashes.{Torn};
 
 use crate::Span;

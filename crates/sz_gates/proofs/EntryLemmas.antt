@@ -1,5 +1,5 @@
 -- What bytes hold once an entry was appended, and what they hold in between.
-use Rattle.std.proofs.Common.{◌≡◌, inl, inr, ℕ, ◌+◌, ◌<◌, ◌≤◌, List, [], ◌∷◌, ◌++◌, length, Option, refl, sym, ◌∙◌, ap, subst, arith, append_assoc, length-append}
+use Rattle.std.proofs.Common.{◌≡◌, inl, inr, ℕ, ◌+◌, ◌<◌, List, [], ◌∷◌, ◌++◌, length, Option, refl, sym, ◌∙◌, ap, subst, arith, append_assoc, length-append}
 use Rattle.std.specs.List.{AllByRecursion}
 use Rattle.std.proofs.lemmas.List.{append-nil}
 use Rattle.std.proofs.lemmas.List.Concat.{flat_map-append}
@@ -27,12 +27,6 @@ counted_more : (entries : List (List ℕ)) (entry : List ℕ) → AllByRecursion
     → AllByRecursion IsCounted (entries ++ entry ∷ [])
 counted_more [] entry all one = (one, tt)
 counted_more (e ∷ entries) entry all one = (all.0, counted_more entries entry all.1 one)
-
--- the gate behind the entries is there
-pub holds_long : (entries : List (List ℕ)) (held : List ℕ) → Holds entries held → end_of entries < length held
-holds_long entries held holds =
-    let parts = length-append (all_opened entries) (holds.gate ∷ holds.behind) in
-    omega (arith, ap length holds.is, parts)
 
 module _ (entries : List (List ℕ)) (entry : List ℕ) (counted : IsCounted entry) where
   abbrev front : List ℕ
@@ -92,12 +86,6 @@ empty_of (gate ∷ byte ∷ bytes) holds = λ is_open. holds.closed (sym (first 
   where
     first : gate ∷ byte ∷ bytes ≡ holds.gate ∷ holds.behind → gate ≡ holds.gate
     first e = cc
-
--- one byte at most
-pub empty_short : (bytes : List ℕ) → length bytes ≤ 1 → IsEmpty bytes
-empty_short [] short = tt
-empty_short (gate ∷ []) short = tt
-empty_short (gate ∷ byte ∷ bytes) short = absurd (omega (arith, short))
 
 -- two bytes or more that hold no entry have a closed gate
 pub holds_none : (bytes : List ℕ) → 1 < length bytes → IsEmpty bytes → Holds [] bytes

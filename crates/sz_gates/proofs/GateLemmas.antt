@@ -52,9 +52,3 @@ module _ (front : List ℕ) (gate : ℕ) (rest : List ℕ) (at : ℕ) (here : at
       sym (take-append-drop at image)
       ∙ ap (λ (l : List ℕ). l ++ drop at image) (torn_front at 1 file image torn (omega (arith, within)) ∙ front_is)
       ∙ ap (λ (l : List ℕ). front ++ l) ends
-
-  pub written_gate : (other : ℕ) → overwritten at (other ∷ []) file ≡ front ++ other ∷ rest
-  written_gate other =
-      ap (λ (l : List ℕ). l ++ (other ∷ []) ++ drop (at + 1) file) front_is
-      ∙ append_assoc front (other ∷ []) (drop (at + 1) file)
-      ∙ ap (λ (l : List ℕ). front ++ other ∷ l) back_is

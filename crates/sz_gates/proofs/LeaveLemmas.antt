@@ -140,14 +140,6 @@ module _ {D : Type 0} (bytes : D → Option (List ℕ)) (may_leave : D → Image
     leaves = leaves_call may_leave time left_since faults old new (MayBe (may_leave old)) now on (λ image left. left) no_more;
   }
 
-  pub nothing_refl : (old : D) → AreAmong (left_since old (time old)) (may_leave old) → WritesNothing bytes may_leave time left_since old old
-  nothing_refl old now = record {
-    same = refl;
-    no_more = λ image left. left;
-    told_now = refl;
-    leaves = leaves_none may_leave time left_since faults old (MayBe (may_leave old)) now (λ image left. left);
-  }
-
   pub nothing_both : (old mid new : D) → WritesNothing bytes may_leave time left_since old mid → WritesNothing bytes may_leave time left_since mid new
       → WritesNothing bytes may_leave time left_since old new
   nothing_both old mid new first second = record {

@@ -5,7 +5,7 @@ use Rattle.sz_disk.specs.Calls.{overwritten, overwrites}
 use Rattle.sz_gates.specs.Crashing.{Rests, LeavesOnly}
 use Rattle.sz_gates.specs.Gates.{IsBeforeOrBehind}
 use Rattle.sz_gates.proofs.LeaveLemmas.{rests_synced, leaves_if, leaves_both}
-use Rattle.sz_gates.proofs.GateLemmas.{torn_behind, written_behind, torn_gate, written_gate}
+use Rattle.sz_gates.proofs.GateLemmas.{torn_behind, written_behind, torn_gate}
 
 -- what a read gives after a write
 pub overwrites_some : (old new : Option (List ℕ)) (at : ℕ) (written held : List ℕ) → old ≡ Some held → new ≡ overwrites at written old
@@ -28,13 +28,6 @@ module _ (front : List ℕ) (gate : ℕ) (rest written : List ℕ) (at : ℕ) (h
   staged_rests old new may_leave read is synced =
       rests_synced new may_leave staged
       (overwrites_some old new (at + 1) written file read is ∙ ap (λ (l : List ℕ). Some l) (written_behind front gate rest at here written)) synced
-
-  pub open_rests : (old new : Option (List ℕ)) (may_leave : Images) → old ≡ Some staged → new ≡ overwrites at (1 ∷ []) old
-      → IfSome new (IsTheImage may_leave) → Rests new may_leave (front ++ 1 ∷ (written ++ behind))
-  open_rests old new may_leave read is synced =
-      rests_synced new may_leave (front ++ 1 ∷ (written ++ behind))
-      (overwrites_some old new at (1 ∷ []) staged read is
-      ∙ ap (λ (l : List ℕ). Some l) (written_gate front gate (written ++ behind) at here 1)) synced
 
   module _ {D : Type 0} (time : D → ℕ) (left_since : D → ℕ → Images) where
     pub leaves_behind : (old mid : D) → LeavesOnly time left_since old mid (Torn (record { at = at + 1; count = length written } ∷ []) file)

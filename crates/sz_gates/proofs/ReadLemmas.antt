@@ -3,8 +3,8 @@ use Rattle.std.proofs.Common.{◌≡◌, ◌≢◌, ℕ, ◌+◌, ◌-◌, ◌<�
 use Rattle.std.specs.Int.{w64, from_be_bytes}
 use Rattle.std.proofs.lemmas.List.{take_all, drop_more, drop_all, drop-drop}
 use Rattle.std.proofs.lemmas.Nat.{from_be_bytes-to_be_bytes_8}
-use Rattle.sz_gates.specs.Entries.{count_bytes, with_length, opened, IsCounted}
-use Rattle.sz_gates.specs.Calls.{IsClosed, Begins, HasEntry, IsCut}
+use Rattle.sz_gates.specs.Entries.{count_bytes, with_length, IsCounted}
+use Rattle.sz_gates.specs.Calls.{Begins, HasEntry, IsCut}
 
 -- facts of bytes that may not be told
 pub some_if : (bytes : Option (List ℕ)) (P Q : List ℕ → Type 0) → ((held : List ℕ) → P held → Q held) → IfSome bytes P → IfSome bytes Q
@@ -29,9 +29,6 @@ count_again m n few small same = sym (from_be_bytes-to_be_bytes_8 m few) ∙ ap 
 pub counted_by : (n at : ℕ) (into held : List ℕ) → count_bytes n ≡ take 8 into → into ≡ take 8 (drop at held) → count_bytes n ≡ take 8 (drop at held)
 counted_by n at into held counts is =
     counts ∙ ap (λ (l : List ℕ). take 8 l) is ∙ take_all 8 (take 8 (drop at held)) (omega (arith, length-take 8 (drop at held)))
-
-pub closed_here : (gate byte : ℕ) (held : List ℕ) → drop gate held ≡ byte ∷ drop (gate + 1) held → byte ≢ 1 → IsClosed (drop gate held)
-closed_here gate byte held is shut = record { gate = byte; behind = drop (gate + 1) held; is = is; closed = shut }
 
 module _ (held : List ℕ) (count gate : ℕ) (all : count ≡ length held) (here : gate < count) where
   abbrev rest : List ℕ
@@ -94,7 +91,3 @@ module _ (held : List ℕ) (count gate : ℕ) (all : count ≡ length held) (her
       -- the disk ends with it
       pub ends : n ≡ count - gate - 1 - 8 → Begins entry [] (1 ∷ rest)
       ends same = subst (λ (l : List ℕ). Begins entry l (1 ∷ rest)) (drop_all (gate + 1 + 8 + n) held (omega (arith, same, all, eight))) begins
-
-      -- and the next gate is within the disk
-      pub entry_within : n < count - gate - 1 - 8 → gate + length (opened entry) < count
-      entry_within less = let parts = length-append (count_bytes (length entry)) entry in omega (arith, less, parts, entry_long)

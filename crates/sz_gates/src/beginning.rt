@@ -1,8 +1,8 @@
 //! The first entry of a disk that holds none.
-ghost use Rattle.std.specs.Prelude.{◌≡◌, ◌<◌, ◌^◌, ℕ, List, [], ◌∷◌, length, None, IfSome, IfOk, OnOk, IsErrOf, Some, true};
+ghost use Rattle.std.specs.Prelude.{◌≡◌, ◌<◌, ◌^◌, ℕ, List, [], ◌∷◌, length, None, IfSome, IfOk, OnOk, IsErrOf, true};
 ghost use Rattle.sz_io.specs.Rose.{Rose};
-ghost use Rattle.sz_disk.specs.Crashes.{IsTheImage, are_told};
-ghost use Rattle.sz_gates.specs.Entries.{opened, Holds, IsEmpty, IsEmptyOrHolds};
+ghost use Rattle.sz_disk.specs.Crashes.{are_told};
+ghost use Rattle.sz_gates.specs.Entries.{opened, IsEmpty, IsEmptyOrHolds};
 ghost use Rattle.sz_gates.specs.Crashing.{Rests, LeavesOnly, DoesNotFall};
 ghost use Rattle.sz_gates.specs.Calls.{Keeps};
 

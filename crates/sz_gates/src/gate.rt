@@ -1,11 +1,11 @@
 //! An entry that is appended behind a gate.
-ghost use Rattle.std.specs.Prelude.{◌≡◌, ◌+◌, ◌<◌, ◌≤◌, ◌-◌, ◌^◌, ℕ, List, [], ◌∷◌, ◌++◌, length, None, IfSome, IfOk, OnOk, IsErrOf, true};
+ghost use Rattle.std.specs.Prelude.{◌≡◌, ◌+◌, ◌<◌, ◌-◌, ◌^◌, ℕ, List, [], ◌∷◌, ◌++◌, length, None, IfSome, IfOk, OnOk, IsErrOf, true};
 ghost use Rattle.sz_io.specs.Rose.{Rose};
-ghost use Rattle.sz_disk.specs.Crashes.{IsTheImage, are_told};
+ghost use Rattle.sz_disk.specs.Crashes.{are_told};
 ghost use Rattle.sz_gates.specs.Entries.{with_gate, opened, IsCounted, end_of, Holds, HoldsOneOf};
 ghost use Rattle.sz_gates.specs.Crashing.{Rests, LeavesOnly, DoesNotFall};
 ghost use Rattle.sz_gates.specs.Calls.{Keeps};
-ghost use Rattle.sz_gates.specs.Gates.{HasWritten, IsBeforeOrBehind};
+ghost use Rattle.sz_gates.specs.Gates.{IsBeforeOrBehind};
 
 use crate::put::put;
 use std::alloc::{AllocError, Global};

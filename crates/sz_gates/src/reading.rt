@@ -1,5 +1,5 @@
 //! What stands at a gate.
-ghost use Rattle.std.specs.Prelude.{◌≡◌, ◌+◌, ◌<◌, ◌≤◌, ◌^◌, ℕ, List, ◌∷◌, length, take, drop, IfSome, IfOk, OnOk, IsErrOf};
+ghost use Rattle.std.specs.Prelude.{◌≡◌, ◌+◌, ◌<◌, ◌≤◌, ◌^◌, ◌∷◌, length, take, drop, IfSome, IfOk, OnOk, IsErrOf};
 ghost use Rattle.sz_io.specs.Rose.{Rose};
 ghost use Rattle.sz_gates.specs.Entries.{count_bytes};
 ghost use Rattle.sz_gates.specs.Crashing.{DoesNotFall, WritesNothing};

@@ -1,16 +1,16 @@
 -- What a journal is for a job, by what stands at its first gate.
-use Rattle.std.proofs.Common.{◌≡◌, ◌≢◌, inl, inr, ℕ, ◌+◌, ◌<◌, ◌≤◌, List, [], ◌∷◌, ◌++◌, length, drop, Vec, Option, Some, IfSome, refl, sym, ◌∙◌, ap, subst, arith, length-append}
+use Rattle.std.proofs.Common.{◌≡◌, ◌≢◌, inl, ℕ, ◌+◌, ◌<◌, List, [], ◌∷◌, ◌++◌, length, drop, Vec, Option, Some, IfSome, refl, sym, ◌∙◌, ap, subst, arith, length-append}
 use Rattle.std.specs.declared.alloc.Global.{Global}
 use Rattle.std.proofs.lemmas.List.{drop_at, append-nil}
 use Rattle.sz_types.specs.Tables.{Declaration}
-use Rattle.sz_gates.specs.Entries.{with_length, opened, all_opened, end_of, IsCounted, IsEmpty}
-use Rattle.sz_gates.specs.Calls.{IsClosed, Begins, HasEntry, IsCut, StandsAt}
+use Rattle.sz_gates.specs.Entries.{with_length, opened, all_opened, end_of, IsCounted}
+use Rattle.sz_gates.specs.Calls.{Begins, HasEntry, IsCut, StandsAt}
 use Rattle.sz_gates.specs.declared.reading.AtGate.{AtGate}
 use Rattle.sz_gates.specs.declared.reading.AtGate.TheVariants.{Entry, Ending, Cut}
 use Rattle.sz_gates.proofs.ForCallers.{same_opened, opened_long}
 use Rattle.sz_journal_format.specs.Jobs.{job_bytes, IsJob}
 use Rattle.sz_journal_format.specs.declared.job.JobBytes.{JobBytes}
-use Rattle.sz_journal_rules.specs.Journals.{entries_of, BeginsWith, IsOfOtherJob, IsDamagedFirst, Stands, Empty, OtherJob, DamagedAt}
+use Rattle.sz_journal_rules.specs.Journals.{entries_of, BeginsWith, IsOfOtherJob, Stands, OtherJob, DamagedAt}
 use Rattle.sz_journal.specs.declared.error.OpenError.{OpenError}
 use Rattle.sz_journal.specs.declared.error.OpenError.TheVariants as errors
 use Rattle.sz_journal.specs.Opening.{FitsError}
@@ -25,15 +25,6 @@ pub stands_at : (bytes : Option (List ℕ)) (gate : ℕ) (found other : AtGate) 
     → IfSome bytes (λ held. StandsAt (drop gate held) other)
 stands_at bytes gate found other is stands = subst (λ (f : AtGate). IfSome bytes (λ (h : List ℕ). StandsAt (drop gate h) f)) is stands
 
--- the first gate isn't open
-pub closed_empty : (held : List ℕ) → IsClosed held → IsEmpty held
-closed_empty [] closed = tt
-closed_empty (gate ∷ []) closed = tt
-closed_empty (gate ∷ byte ∷ rest) closed = λ is_open. closed.closed (sym (first closed.is) ∙ is_open)
-  where
-    first : gate ∷ byte ∷ rest ≡ closed.gate ∷ closed.behind → gate ≡ closed.gate
-    first e = cc
-
 -- bytes that begin with these entries, and what stands behind
 pub read_to : (entries : List (List ℕ)) (held rest : List ℕ) → held ≡ all_opened entries ++ rest → held ≡ all_opened entries ++ drop (end_of entries) held
 read_to entries held rest is =
@@ -44,7 +35,7 @@ read_to entries held rest is =
 pub same_entry : (held e f a b : List ℕ) → Begins e a held → Begins f b held → (e ≡ f) × (a ≡ b)
 same_entry held e f a b first second = same_opened e f a b first.counted second.counted (sym first.is ∙ second.is)
 
-no_gate : (gate : ℕ) (behind : List ℕ) → gate ∷ behind ≡ [] → ⊥
+pub no_gate : (gate : ℕ) (behind : List ℕ) → gate ∷ behind ≡ [] → ⊥
 no_gate gate behind e = absurd cc
 
 module _ (job : JobBytes) (decls : List Declaration) (held : List ℕ) where

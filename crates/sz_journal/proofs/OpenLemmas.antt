@@ -1,27 +1,24 @@
 -- What opening a journal answers, by what its parts do.
-use Rattle.std.proofs.Common.{◌≡◌, inl, inr, List, [], ◌∷◌, length, Option, ℕ, Bool, true, false, true≢false, Result, Ok, Err, IfOk, OnOk, IsErrOf}
+use Rattle.std.proofs.Common.{◌≡◌, inl, inr, List, [], ◌∷◌, Option, ℕ, Bool, true, false, true≢false, Result, Ok, Err, IfOk, OnOk, IsErrOf}
 use Rattle.std.proofs.Common.{refl, sym, ◌∙◌, ap, subst}
-use Rattle.std.proofs.lemmas.List.{append-nil}
 use Rattle.sz_types.specs.Tables.{Declaration}
 use Rattle.sz_io.specs.declared.error.OutsideError.{OutsideError}
 use Rattle.sz_io.specs.declared.error.OutsideError.TheVariants as outside
 use Rattle.sz_disk.specs.Crashes.{Images, are_told}
-use Rattle.sz_gates.specs.Entries.{opened, IsEmpty, IsEmptyOrHolds}
+use Rattle.sz_gates.specs.Entries.{IsEmpty, IsEmptyOrHolds}
 use Rattle.sz_gates.specs.Crashing.{Rests, LeavesOnly, WritesNothing}
 use Rattle.sz_gates.specs.Calls.{Keeps}
 use Rattle.sz_gates.proofs.ForCallers.{leaves_if, leaves_both}
 use Rattle.sz_journal_format.specs.Jobs.{job_bytes}
-use Rattle.sz_journal_format.specs.Rounds.{AreRounds}
 use Rattle.sz_journal_format.specs.declared.job.JobBytes.{JobBytes}
 use Rattle.sz_journal_format.specs.declared.round.RoundEntry.{RoundEntry}
 use Rattle.sz_journal.specs.declared.error.OpenError.{OpenError}
 use Rattle.sz_journal.specs.declared.error.OpenError.TheVariants as errors
 use Rattle.sz_journal.specs.declared.journal.Journal.{Journal}
-use Rattle.sz_journal.specs.Journal.{rounds_of, end_gate, IsOf, KeepsRounds}
+use Rattle.sz_journal.specs.Journal.{rounds_of, KeepsRounds}
 use Rattle.sz_journal.specs.Opening.{open_error, FitsError, FitsAnswer, IsKept}
 use Rattle.sz_journal.specs.Reading.{IsReadTo, FitsFirst, FitsRead}
-use Rattle.sz_journal.proofs.SpellLemmas.{is_of_none}
-use Rattle.sz_journal.proofs.LeftLemmas.{no_rounds, keeps_none, leaves_nothing, kept_empty}
+use Rattle.sz_journal.proofs.LeftLemmas.{keeps_none, leaves_nothing, kept_empty}
 
 -- an error of the outside tells nothing of the bytes
 pub fits_outside : (job : JobBytes) (decls : List Declaration) (held : List ℕ) (result : Result Journal OpenError) (error : OutsideError)
@@ -66,36 +63,19 @@ keeps_started job decls entry bytes may_leave (Ok journal) is keeps rounds =
 keeps_started job decls entry bytes may_leave (Err error) is keeps rounds = tt
 
 -- a journal that was read
-pub fits_read : (job : JobBytes) (decls : List Declaration) (held : List ℕ) (result : Result Journal OpenError) → FitsRead job decls held result
-    → FitsAnswer job decls held result
-fits_read job decls held (Ok journal) read = inl read
-fits_read job decls held (Err error) read = read
-
 pub keeps_read : (job : JobBytes) (decls : List Declaration) (held : List ℕ) (bytes : Option (List ℕ)) (may_leave : Images)
     (result : Result Journal OpenError) → Rests bytes may_leave held → FitsRead job decls held result
     → IfOk result (λ journal. KeepsRounds bytes may_leave job decls (rounds_of journal))
 keeps_read job decls held bytes may_leave (Ok journal) rests read = record { held = held; rests = rests; spells = read }
 keeps_read job decls held bytes may_leave (Err error) rests read = tt
 
-pub started_is_of : (job : JobBytes) (entry : List ℕ) (result : Result Journal OpenError) → entry ≡ job_bytes job
-    → IfOk result (λ journal. rounds_of journal ≡ []) → IfOk result (λ journal. end_gate journal ≡ length (opened entry)) → IfOk result (IsOf job)
-started_is_of job entry (Ok journal) is rounds end =
-    is_of_none job journal rounds
-    (end ∙ ap (λ (e : List ℕ). length (opened e)) is ∙ sym (ap length (append-nil (opened (job_bytes job)))))
-started_is_of job entry (Err error) is rounds end = tt
-
-pub started_are : (job : JobBytes) (decls : List Declaration) (result : Result Journal OpenError) → IfOk result (λ journal. rounds_of journal ≡ [])
-    → IfOk result (λ journal. AreRounds job decls (rounds_of journal))
-started_are job decls (Ok journal) rounds = subst (λ (rs : List RoundEntry). AreRounds job decls rs) (sym rounds) (no_rounds job decls)
-started_are job decls (Err error) rounds = tt
-
 -- what a crash might have left where a journal begins
-pub leaves_started : {D : Type 0} (bytes : D → Option (List ℕ)) (may_leave : D → Images) (time : D → ℕ) (left_since : D → ℕ → Images) (faults : D → ℕ)
-    (job : JobBytes) (decls : List Declaration) (entry held : List ℕ) (old mid new : D) → entry ≡ job_bytes job
-    → WritesNothing bytes may_leave time left_since old mid → Rests (bytes old) (may_leave old) held → are_told (may_leave old) ≡ true → IsEmpty held
+pub leaves_started : {D : Type 0} {bytes : D → Option (List ℕ)} {may_leave : D → Images} {time : D → ℕ} {left_since : D → ℕ → Images} (job : JobBytes)
+    (decls : List Declaration) {entry held : List ℕ} {old mid new : D} → entry ≡ job_bytes job → WritesNothing bytes may_leave time left_since old mid
+    → Rests (bytes old) (may_leave old) held → are_told (may_leave old) ≡ true → IsEmpty held
     → LeavesOnly time left_since mid new (IsEmptyOrHolds entry) → LeavesOnly time left_since old new (IsKept job decls held)
-leaves_started bytes may_leave time left_since faults job decls entry held old mid new is none rests is_told empty leaves =
-    leaves_both time left_since old mid new (IsKept job decls held)
-    (leaves_nothing bytes may_leave time left_since faults old mid held (IsKept job decls held) none rests is_told (inl refl))
+leaves_started {time = time} {left_since = left_since} job decls {entry = entry} {held = held} {old = old} {mid = mid} {new = new} is none rests is_told
+    empty leaves =
+    leaves_both time left_since old mid new (IsKept job decls held) (leaves_nothing none rests is_told (inl refl))
     (leaves_if time left_since mid new (IsEmptyOrHolds entry) (IsKept job decls held) (λ image left. kept_empty job decls entry held image is empty left)
     leaves)

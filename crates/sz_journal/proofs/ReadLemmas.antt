@@ -1,12 +1,10 @@
 -- Rounds that are read one after the other.
-use Rattle.std.proofs.Common.{◌≡◌, ℕ, ◌+◌, ◌<◌, List, [], length, drop, Option, Some, Bool, true, false, true≢false, Result, Ok, Err, refl, sym, ◌∙◌, ap, subst, arith}
+use Rattle.std.proofs.Common.{◌≡◌, ℕ, ◌+◌, ◌<◌, List, [], length, Option, Some, Bool, true, false, true≢false, Result, Ok, Err, sym, ◌∙◌, ap, subst, arith}
 use Rattle.sz_types.specs.Tables.{Declaration}
-use Rattle.sz_gates.specs.Entries.{end_of}
 use Rattle.sz_journal_format.specs.Jobs.{job_bytes}
 use Rattle.sz_journal_format.specs.Rounds.{AreRounds}
 use Rattle.sz_journal_format.specs.declared.job.JobBytes.{JobBytes}
 use Rattle.sz_journal_format.specs.declared.round.RoundEntry.{RoundEntry}
-use Rattle.sz_journal_rules.specs.Journals.{entries_of}
 use Rattle.sz_journal.specs.declared.error.OpenError.{OpenError}
 use Rattle.sz_journal.specs.declared.journal.Journal.{Journal}
 use Rattle.sz_journal.specs.Journal.{rounds_of, end_gate}

@@ -1,8 +1,8 @@
 -- What a journal is for a job, by what stands behind its rounds.
-use Rattle.std.proofs.Common.{◌≡◌, ◌≢◌, inl, inr, ℕ, ◌+◌, ◌<◌, ◌^◌, List, [], ◌∷◌, ◌++◌, length, drop, IsTrue, refl, sym, ◌∙◌, ap, subst, arith, append_assoc}
+use Rattle.std.proofs.Common.{◌≡◌, inr, ℕ, ◌+◌, ◌<◌, ◌^◌, List, [], ◌∷◌, ◌++◌, drop, refl, sym, ◌∙◌, ap, subst, append_assoc}
 use Rattle.std.specs.List.{AllByRecursion}
 use Rattle.sz_types.specs.Tables.{Declaration}
-use Rattle.sz_gates.specs.Entries.{with_length, opened, all_opened, end_of, IsCounted, Holds}
+use Rattle.sz_gates.specs.Entries.{with_length, opened, all_opened, end_of, IsCounted}
 use Rattle.sz_gates.specs.Calls.{IsClosed, Begins, HasEntry, IsCut}
 use Rattle.sz_gates.proofs.ForCallers.{opened_more}
 use Rattle.sz_journal_format.specs.Rounds.{round_bytes, IsSpelledRound, IsOfRound, no_progress, AreRounds}
@@ -10,10 +10,10 @@ use Rattle.sz_journal_format.specs.declared.job.JobBytes.{JobBytes}
 use Rattle.sz_journal_format.specs.declared.round.RoundEntry.{RoundEntry}
 use Rattle.sz_journal_format.proofs.FollowLemmas.{spelled_rounds}
 use Rattle.sz_journal_format.proofs.RoundLemmas.{one_round}
-use Rattle.sz_journal_rules.specs.Journals.{entries_of, Spells, BeginsWith, IsNextRound, Stands, DamagedAt, Spelled}
+use Rattle.sz_journal_rules.specs.Journals.{entries_of, BeginsWith, IsNextRound, Stands, DamagedAt, Spelled}
 use Rattle.sz_journal.specs.Reading.{IsReadTo}
 use Rattle.sz_journal.proofs.SpellLemmas.{entries_with}
-use Rattle.sz_journal.proofs.FirstLemmas.{read_to, same_entry}
+use Rattle.sz_journal.proofs.FirstLemmas.{read_to, same_entry, no_gate}
 
 -- an open gate stands in front, and behind it no entry is whole and has a gate behind it
 pub record IsBroken (bytes : List ℕ) : Type 0 where
@@ -26,10 +26,7 @@ pub ending_broken : (entry bytes : List ℕ) → Begins entry [] bytes → IsBro
 ending_broken entry bytes begins = record { behind = with_length entry ++ []; is = begins.is; none = none }
   where
     none : (other : List ℕ) → HasEntry other bytes → ⊥
-    none other has = no has.gate has.behind (same_entry bytes other entry (has.gate ∷ has.behind) [] has.begins begins).1
-      where
-        no : (gate : ℕ) (behind : List ℕ) → gate ∷ behind ≡ [] → ⊥
-        no gate behind e = absurd cc
+    none other has = no_gate has.gate has.behind (same_entry bytes other entry (has.gate ∷ has.behind) [] has.begins begins).1
 
 -- and where no entry is whole, none has a gate
 pub cut_broken : (bytes : List ℕ) → IsCut bytes → IsBroken bytes

@@ -1,11 +1,12 @@
 -- What a journal spells once a round was appended, and what a crash during that leaves.
-use Rattle.std.proofs.Common.{◌≡◌, ◌⊎◌, inl, inr, ℕ, ◌+◌, ◌<◌, List, [], ◌∷◌, ◌++◌, length, map, Option, Some, None, IfSome, refl, sym, ◌∙◌, ap, subst, arith}
+use Rattle.std.proofs.Common.{◌≡◌, inl, inr, ℕ, ◌+◌, List, [], ◌∷◌, ◌++◌, length, Option, sym, ◌∙◌, ap, subst}
 use Rattle.std.proofs.lemmas.List.{map-append, same_from_push}
 use Rattle.sz_types.specs.Tables.{Declaration}
 use Rattle.sz_disk.specs.Crashes.{Images}
 use Rattle.sz_gates.specs.Entries.{opened, end_of, Holds, HoldsOneOf}
 use Rattle.sz_gates.specs.Calls.{Keeps}
-use Rattle.sz_gates.proofs.ForCallers.{end_more, holds_long, some_if}
+use Rattle.sz_gates.specs.Crashing.{LeavesOnly}
+use Rattle.sz_gates.proofs.ForCallers.{end_more, leaves_if}
 use Rattle.sz_journal_format.specs.Jobs.{job_bytes}
 use Rattle.sz_journal_format.specs.Rounds.{round_bytes, AreRounds}
 use Rattle.sz_journal_format.specs.declared.job.JobBytes.{JobBytes}
@@ -33,10 +34,17 @@ module _ (job : JobBytes) (rounds : List RoundEntry) (round : RoundEntry) (entry
         → KeepsRounds bytes may_leave job decls (rounds ++ round ∷ [])
     keeps_more bytes may_leave keeps = record { held = keeps.held; rests = keeps.rests; spells = spells_more keeps.held keeps.holds }
 
-    pub spells_one : (image : List ℕ) → AreRounds job decls rounds → HoldsOneOf (entries_of job rounds) entry image
+    spells_one : (image : List ℕ) → AreRounds job decls rounds → HoldsOneOf (entries_of job rounds) entry image
         → SpellsOneOf job decls rounds round image
     spells_one image before (inl holds) = inl (record { holds = holds; are = before })
     spells_one image before (inr holds) = inr (spells_more image holds)
+
+    pub leaves_one : {D : Type 0} {time : D → ℕ} {left_since : D → ℕ → Images} {old new : D} → AreRounds job decls rounds
+        → LeavesOnly time left_since old new (HoldsOneOf (entries_of job rounds) entry)
+        → LeavesOnly time left_since old new (SpellsOneOf job decls rounds round)
+    leaves_one {time = time} {left_since = left_since} {old = old} {new = new} before leaves =
+        leaves_if time left_since old new (HoldsOneOf (entries_of job rounds) entry) (SpellsOneOf job decls rounds round)
+        (λ image left. spells_one image before left) leaves
 
 -- a journal of the job that gained a round
 module _ (job : JobBytes) (old new : Journal) (round : RoundEntry) (entry : List ℕ) (entry_is : entry ≡ round_bytes round) where
@@ -60,10 +68,3 @@ is_of_none job journal none end = record {
     no_push : (before : List RoundEntry) (round : RoundEntry) → [] ≡ before ++ round ∷ [] → ⊥
     no_push [] round e = absurd cc
     no_push (first ∷ before) round e = absurd cc
-
--- the last gate is in the journal
-pub end_here : (job : JobBytes) (decls : List Declaration) (journal : Journal) (bytes : Option (List ℕ)) → IsOf job journal
-    → IfSome bytes (λ held. Spells job decls held (rounds_of journal)) → IfSome bytes (λ held. end_gate journal < length held)
-end_here job decls journal bytes is_of spells =
-    some_if bytes (λ held. Spells job decls held (rounds_of journal)) (λ held. end_gate journal < length held)
-    (λ held h. let long = holds_long (entries_of job (rounds_of journal)) held h.holds in omega (arith, long, is_of.end)) spells

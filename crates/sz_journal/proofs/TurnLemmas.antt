@@ -1,5 +1,5 @@
 -- What a journal is for a job, by what stands at the gate behind the rounds that were read.
-use Rattle.std.proofs.Common.{◌≡◌, ℕ, ◌+◌, ◌<◌, ◌^◌, List, [], ◌∷◌, ◌++◌, length, drop, Vec, Option, Some, IfSome, Bool, Result, Err, refl, sym, ◌∙◌, ap, subst, arith}
+use Rattle.std.proofs.Common.{◌≡◌, ℕ, ◌+◌, ◌<◌, List, length, drop, Vec, Option, Some, IfSome, Bool, Result, Err, sym, ◌∙◌, ap, subst, arith}
 use Rattle.std.specs.declared.alloc.Global.{Global}
 use Rattle.sz_types.specs.Tables.{Declaration}
 use Rattle.sz_gates.specs.Entries.{opened, end_of}
@@ -10,7 +10,7 @@ use Rattle.sz_gates.proofs.ForCallers.{opened_long}
 use Rattle.sz_journal_format.specs.Rounds.{AreRounds}
 use Rattle.sz_journal_format.specs.declared.job.JobBytes.{JobBytes}
 use Rattle.sz_journal_format.specs.declared.round.RoundEntry.{RoundEntry}
-use Rattle.sz_journal_rules.specs.Journals.{entries_of, Stands, DamagedAt, Spelled}
+use Rattle.sz_journal_rules.specs.Journals.{entries_of, Stands, DamagedAt}
 use Rattle.sz_journal.specs.declared.error.OpenError.{OpenError}
 use Rattle.sz_journal.specs.declared.error.OpenError.TheVariants as errors
 use Rattle.sz_journal.specs.declared.journal.Journal.{Journal}
@@ -21,8 +21,8 @@ use Rattle.sz_journal.proofs.SpellLemmas.{is_of_more}
 use Rattle.sz_journal.proofs.FirstLemmas.{told_at, stands_at}
 use Rattle.sz_journal.proofs.RoundLemmas.{ending_broken, cut_broken, closed_spelled, broken_damaged, other_damaged, read_more}
 
-module _ (job : JobBytes) (decls : List Declaration) (bytes : Option (List ℕ)) (count : ℕ) (journal : Journal) (at : IsAt job decls journal bytes count)
-    (gate : ℕ) (gate_is : gate ≡ end_gate journal) where
+module _ {job : JobBytes} {decls : List Declaration} {bytes : Option (List ℕ)} {count : ℕ} {journal : Journal} (at : IsAt job decls journal bytes count)
+    {gate : ℕ} (gate_is : gate ≡ end_gate journal) where
   abbrev rounds : List RoundEntry
   rounds = rounds_of journal
 
@@ -37,7 +37,7 @@ module _ (job : JobBytes) (decls : List Declaration) (bytes : Option (List ℕ))
   damaged : (held : List ℕ) → Stands job decls held (DamagedAt (end_of (entries_of job rounds))) → FitsError job decls held (errors.Damaged gate)
   damaged held stands = subst (λ (n : ℕ). Stands job decls held (DamagedAt n)) (sym end_is) stands
 
-  module _ (found : AtGate) (stands : IfSome bytes (λ held. StandsAt (drop gate held) found)) where
+  module _ {found : AtGate} (stands : IfSome bytes (λ held. StandsAt (drop gate held) found)) where
     is_at : (other : AtGate) → found ≡ other → (held : List ℕ) → bytes ≡ Some held → StandsAt (drop (end_of (entries_of job rounds)) held) other
     is_at other is held told = here (λ (l : List ℕ). StandsAt l other) (stands_at bytes gate found other is stands) held told
 
@@ -60,7 +60,7 @@ module _ (job : JobBytes) (decls : List Declaration) (bytes : Option (List ℕ))
     turn_cut is held told =
         damaged held (broken_damaged job decls rounds held (at.read held told) at.are (cut_broken _ (is_at Cut is held told)))
 
-  module _ (found : AtGate) (behind : Vec ℕ Global) (entry : List ℕ) (stands : IfSome bytes (λ held. StandsAt (drop gate held) found))
+  module _ {found : AtGate} {behind : Vec ℕ Global} {entry : List ℕ} (stands : IfSome bytes (λ held. StandsAt (drop gate held) found))
       (found_is : found ≡ Entry behind) (entry_is : entry ≡ behind.items) (new : Journal) where
     has : (held : List ℕ) → bytes ≡ Some held → HasEntry entry (drop (end_of (entries_of job rounds)) held)
     has held told =

@@ -1,13 +1,12 @@
 -- What opening a journal promises.
-use Rattle.std.specs.Prelude.{◌≡◌, ◌⊎◌, ℕ, List, [], Option, Result, Ok, Err, ⊤}
+use Rattle.std.specs.Prelude.{◌≡◌, ◌⊎◌, ℕ, List, [], Result, Ok, Err, ⊤}
 use Rattle.sz_types.specs.Tables.{Declaration}
 use Rattle.sz_io.specs.declared.error.OutsideError.{OutsideError}
 use Rattle.sz_io.specs.declared.error.OutsideError.TheVariants as outside
-use Rattle.sz_disk.specs.Crashes.{Images}
 use Rattle.sz_gates.specs.Entries.{IsEmpty}
 use Rattle.sz_journal_format.specs.declared.job.JobBytes.{JobBytes}
 use Rattle.sz_journal_rules.specs.Journals.{Spells, Stands, Empty, OtherJob, DamagedAt, Spelled}
-use Rattle.sz_journal.specs.Journal.{rounds_of, KeepsRounds}
+use Rattle.sz_journal.specs.Journal.{rounds_of}
 use Rattle.sz_journal.specs.declared.error.OpenError.{OpenError}
 use Rattle.sz_journal.specs.declared.error.OpenError.TheVariants as errors
 use Rattle.sz_journal.specs.declared.journal.Journal.{Journal}

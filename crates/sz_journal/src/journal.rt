@@ -1,13 +1,12 @@
 //! An open journal, and rounds that are appended to it.
-ghost use Rattle.std.specs.Prelude.{◌≡◌, ◌+◌, ◌<◌, ◌-◌, ◌^◌, ℕ, List, [], ◌∷◌, ◌++◌, length, OnOk, OnErr, IsErrOf, Some, None, true};
+ghost use Rattle.std.specs.Prelude.{◌≡◌, ◌+◌, ◌<◌, ◌-◌, ◌^◌, ℕ, List, [], ◌∷◌, ◌++◌, length, OnOk, IsErrOf, Some, None, true};
 ghost use Rattle.sz_types.specs.Tables.{Declaration};
 ghost use Rattle.sz_io.specs.Rose.{Rose};
 ghost use Rattle.sz_disk.specs.Crashes.{are_told};
-ghost use Rattle.sz_gates.specs.Entries.{end_of};
 ghost use Rattle.sz_gates.specs.Crashing.{Rests, LeavesOnly, DoesNotFall};
 ghost use Rattle.sz_journal_format.specs.Rounds.{AreRounds};
 ghost use Rattle.sz_journal_format.specs.declared.job.JobBytes.{JobBytes};
-ghost use Rattle.sz_journal_rules.specs.Journals.{entries_of, Spells};
+ghost use Rattle.sz_journal_rules.specs.Journals.{Spells};
 
 use std::alloc::Global;
 use sz_disk::Disk;

@@ -1,12 +1,21 @@
 -- Readers of what stands in front of bytes: of one byte, of a text, and of what is made of parts.
-use Rattle.std.proofs.Common.{◌≡◌, ◌∙◌, ℕ, ◌≤◌, nat_le, Option, Some, List, [], ◌∷◌, ◌++◌, length, take, drop, refl, sym, ap, subst, append_assoc, arith, take_at, drop_at, take-append-drop, length-take-le, length-append, leb-true, le-leb}
+use Rattle.std.proofs.Common.{◌≡◌, ◌∙◌, ℕ, ◌+◌, ◌-◌, ◌<◌, ◌≤◌, nat_le, Option, Some, List, [], ◌∷◌, ◌++◌, length, take, drop, refl, sym, ap, subst, append_assoc, arith, take_at, drop_at, take-append-drop, length-take-le, length-append, leb-true, le-leb}
 use Rattle.std.specs.Prelude.{⊤}
 use Rattle.sz_save_format.specs.Entries.{count_bytes, IsCount}
-use Rattle.sz_save_format.specs.Decoding.{Decoder, and_then, only, byte_at, in_front}
-use Rattle.sz_save_format.proofs.FrontLemmas.{Finds, then_some, only_some, only_true, found_is, found_first, first_again, first_there, carried, byte_some, in_front_some}
+use Rattle.sz_save_format.specs.Decoding.{Decoder, and_then, only, byte_at, in_front, many_at}
+use Rattle.sz_save_format.proofs.FrontLemmas.{Finds, after, many_goes, then_some, only_some, only_true, found_is, found_first, first_again, first_there, carried, byte_some, in_front_some}
 use Rattle.sz_save_format.proofs.NameLemmas.{count_finds}
 use Rattle.sz_journal_format.specs.Jobs.{text_bytes}
 use Rattle.sz_journal_format.specs.Reading.{meant_at, text_at}
+
+-- one of so many was read
+pub read_one : {X : Type 0} (read : Decoder X) (whole : Option (List X × List ℕ)) (found now : List X) (rest more : List ℕ) (n i : ℕ) (x : X) → i < n
+    → read rest ≡ Some (x, more) → (whole ≡ after found (many_at read (n - i) rest)) × (i ≤ n) → now ≡ found ++ x ∷ []
+    → (whole ≡ after now (many_at read (n - (i + 1)) more)) × (i + 1 ≤ n)
+read_one read whole found now rest more n i x less is so_far pushed = (
+  subst (λ l. whole ≡ after l (many_at read (n - (i + 1)) more)) (sym pushed) (many_goes read whole found rest n i x more less is so_far.0),
+  omega (arith, less),
+)
 
 -- what a byte means that each meaning has
 module _ {X : Type 0} (meaning : ℕ → Option X) (byte : X → ℕ) (told : (n : ℕ) (x : X) → meaning n ≡ Some x → n ≡ byte x)

@@ -1,6 +1,6 @@
 -- Jobs, and the bytes that are those of one.
 use Rattle.std.proofs.Common.{◌≡◌, ◌∙◌, ℕ, ◌==◌, nat_le, Bool, true, false, ◌&&◌, ⊎_elim, Option, Some, None, List, [], ◌∷◌, ◌++◌, length, take, drop, bytes_eq, refl, sym, ap, subst, arith, append-nil, take-append-drop, length-append, eqb-true, le-leb}
-use Rattle.std.specs.Prelude.{⊤, IfOk, IsErrOf}
+use Rattle.std.specs.Prelude.{⊤, if◌then◌else◌, IfOk, IsErrOf}
 use Rattle.std.specs.List.{AllByRecursion}
 use Rattle.std.specs.declared.result.Result.{Result}
 use Rattle.std.specs.declared.result.Result.TheVariants.{Ok, Err}
@@ -22,33 +22,28 @@ use Rattle.sz_journal_format.specs.declared.job.JobBytes.{JobBytes}
 use Rattle.sz_journal_format.specs.declared.job.Triple.{Triple}
 use Rattle.sz_journal_format.proofs.FindLemmas.{meant_finds, made_finds, text_finds}
 
-frame_told : (n : ℕ) (frame : Frame) → frame_in n ≡ Some frame → n ≡ frame_byte frame
-frame_told n frame e =
-    ⊎_elim (λ h. eqb-true n 0 h.0 ∙ ap frame_byte (some_is Lines frame h.1))
-    (λ a. ⊎_elim (λ h. eqb-true n 1 h.0 ∙ ap frame_byte (some_is Delimited frame h.1)) (λ b. absurd (none_some b.1))
-    (if_some (n == 1) (Some Delimited) None frame a.1))
-    (if_some (n == 0) (Some Lines) _ frame e)
+-- what the bytes 0 and 1 mean is told by its byte
+two_told : {X : Type 0} (first second x : X) (byte : X → ℕ) (n : ℕ) → byte first ≡ 0 → byte second ≡ 1
+    → (if n == 0 then Some first else (if n == 1 then Some second else None)) ≡ Some x → n ≡ byte x
+two_told first second x byte n zero one e =
+    ⊎_elim (λ h. eqb-true n 0 h.0 ∙ sym zero ∙ ap byte (some_is first x h.1))
+    (λ a. ⊎_elim (λ h. eqb-true n 1 h.0 ∙ sym one ∙ ap byte (some_is second x h.1)) (λ b. absurd (none_some b.1))
+    (if_some (n == 1) (Some second) None x a.1))
+    (if_some (n == 0) (Some first) (if n == 1 then Some second else None) x e)
 
 frame_again : (frame : Frame) → frame_in (frame_byte frame) ≡ Some frame
 frame_again Lines = refl
 frame_again Delimited = refl
-
-flag_told : (n : ℕ) (flag : Bool) → flag_in n ≡ Some flag → n ≡ flag_byte flag
-flag_told n flag e =
-    ⊎_elim (λ h. eqb-true n 0 h.0 ∙ ap flag_byte (some_is false flag h.1))
-    (λ a. ⊎_elim (λ h. eqb-true n 1 h.0 ∙ ap flag_byte (some_is true flag h.1)) (λ b. absurd (none_some b.1))
-    (if_some (n == 1) (Some true) None flag a.1))
-    (if_some (n == 0) (Some false) _ flag e)
 
 flag_again : (flag : Bool) → flag_in (flag_byte flag) ≡ Some flag
 flag_again false = refl
 flag_again true = refl
 
 frame_finds : Finds (λ frame. ⊤) (λ frame. frame_byte frame ∷ []) (meant_at frame_in)
-frame_finds = meant_finds frame_in frame_byte frame_told frame_again
+frame_finds = meant_finds frame_in frame_byte (λ n frame. two_told Lines Delimited frame frame_byte n refl refl) frame_again
 
 flag_finds : Finds (λ flag. ⊤) (λ flag. flag_byte flag ∷ []) (meant_at flag_in)
-flag_finds = meant_finds flag_in flag_byte flag_told flag_again
+flag_finds = meant_finds flag_in flag_byte (λ n flag. two_told false true flag flag_byte n refl refl) flag_again
 
 -- kills
 abbrev triple_of : ℕ × (ℕ × ℕ) → Triple

@@ -3,3 +3,4 @@ pub mod JobLemmas
 pub mod RoundLemmas
 pub mod FollowLemmas
 mod PutLemmas
+mod NumberLemmas

@@ -1,5 +1,5 @@
 //! Jobs and rounds, and the bytes that they are read from.
-ghost use Rattle.std.specs.Prelude.{◌≡◌, [], IfOk, IsErrOf};
+ghost use Rattle.std.specs.Prelude.{[], IfOk, IsErrOf};
 ghost use Rattle.sz_journal_format.specs.declared.error.EntryError.TheVariants as errors;
 ghost use Rattle.sz_journal_format.specs.declared.job.JobBytes as jobs;
 ghost use Rattle.sz_journal_format.specs.declared.round.RoundEntry as rounds;

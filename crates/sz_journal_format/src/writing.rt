@@ -1,5 +1,5 @@
 //! The bytes of jobs and rounds.
-ghost use Rattle.std.specs.Prelude.{◌≡◌, ◌++◌, ◌∷◌, [], IfOk, OnOk};
+ghost use Rattle.std.specs.Prelude.{◌≡◌, IfOk};
 ghost use Rattle.sz_journal_format.specs.Jobs as jobs;
 ghost use Rattle.sz_journal_format.specs.Jobs.{job_bytes};
 ghost use Rattle.sz_journal_format.specs.Rounds.{round_bytes};

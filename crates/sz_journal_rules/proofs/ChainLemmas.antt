@@ -1,5 +1,5 @@
 -- Entries behind their gates: two chains of the same bytes are one, or one goes on where the other ends.
-use Rattle.std.proofs.Common.{◌≡◌, ◌∙◌, ◌⊎◌, inl, inr, ⊎_elim, ℕ, List, [], ◌∷◌, ◌++◌, refl, sym, append_assoc}
+use Rattle.std.proofs.Common.{◌≡◌, ◌≢◌, ◌∙◌, ◌⊎◌, inl, inr, ⊎_elim, ℕ, List, [], ◌∷◌, ◌++◌, refl, sym, append_assoc}
 use Rattle.std.specs.List.{AllByRecursion}
 use Rattle.sz_save_format.proofs.FrontLemmas.{unique}
 use Rattle.sz_gates.specs.Entries.{with_length, opened, all_opened, IsCounted}
@@ -95,3 +95,9 @@ compared_from (e ∷ es) (f ∷ fs) g r h s few low is =
 
 pub compared : (c d : Chain) → IsCountedChain c → IsCountedChain d → bytes_of c ≡ bytes_of d → Compared c d
 compared c d few low is = compared_from c.entries d.entries c.gate c.behind d.gate d.behind few low is
+
+-- two that both end at a gate that isn't open are the same
+pub both_closed : (c d : Chain) → c.gate ≢ 1 → d.gate ≢ 1 → Compared c d → AreSame c d
+both_closed c d first second both =
+    ⊎_elim (λ (same : AreSame c d). same)
+    (λ apart. absurd (⊎_elim (λ (longer : IsLonger c d). first longer.opens) (λ (longer : IsLonger d c). second longer.opens) apart)) both

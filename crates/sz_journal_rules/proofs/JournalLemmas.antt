@@ -4,7 +4,7 @@ use Rattle.std.specs.List.{AllByRecursion}
 use Rattle.sz_types.specs.Tables.{Declaration}
 use Rattle.sz_flat.specs.Spelling.{IsShort}
 use Rattle.sz_gates.specs.Entries.{with_length, opened, all_opened, end_of, IsCounted, IsEmpty}
-use Rattle.sz_journal_format.specs.Jobs.{job_bytes, IsSpelledJob}
+use Rattle.sz_journal_format.specs.Jobs.{job_bytes}
 use Rattle.sz_journal_format.specs.Rounds.{round_bytes, IsSpelledRound, no_progress, AreRounds}
 use Rattle.sz_journal_format.specs.declared.job.JobBytes.{JobBytes}
 use Rattle.sz_journal_format.specs.declared.round.RoundEntry.{RoundEntry}
@@ -12,7 +12,7 @@ use Rattle.sz_journal_format.proofs.FollowLemmas.{are_front, spelled_rounds}
 use Rattle.sz_journal_format.proofs.JobLemmas.{one_job}
 use Rattle.sz_journal_rules.specs.Journals.{entries_of, Spells, IsOfOtherJob, BeginsWith, IsNextRound, IsDamagedFirst, IsDamagedBehind, IsDamaged, Standing, Empty, OtherJob, DamagedAt, Spelled, Stands}
 use Rattle.sz_journal_rules.specs.Laws.{IsOneStanding, IsOneJournal}
-use Rattle.sz_journal_rules.proofs.ChainLemmas.{heads, tails, first_entry, front_gate, Chain, bytes_of, AreSame, IsLonger, Compared, compared}
+use Rattle.sz_journal_rules.proofs.ChainLemmas.{heads, tails, first_entry, front_gate, Chain, AreSame, IsLonger, Compared, compared, both_closed}
 use Rattle.sz_journal_rules.proofs.RoundsLemmas.{rounds_same, has_round}
 
 -- a journal that isn't empty: its first gate is open, and a byte follows
@@ -123,10 +123,9 @@ module _ (job : JobBytes) (decls : List Declaration) (bytes : List ℕ) where
     spelled_once rounds others h k =
         let one = chain_of job rounds h.holds.gate h.holds.behind in
         let other = chain_of job others k.holds.gate k.holds.behind in
-        ⊎_elim (λ (same : AreSame one other). rounds_same rounds others (spelled rounds h.are) (spelled others k.are) (tails same.entries))
-        (λ apart. absurd (⊎_elim (λ (longer : IsLonger one other). h.holds.closed longer.opens)
-        (λ (longer : IsLonger other one). k.holds.closed longer.opens) apart))
-        (chains (chain_spelled job decls bytes rounds h) (chain_spelled job decls bytes others k))
+        let same = both_closed one other h.holds.closed k.holds.closed
+        (chains (chain_spelled job decls bytes rounds h) (chain_spelled job decls bytes others k)) in
+        rounds_same rounds others (spelled rounds h.are) (spelled others k.are) (tails same.entries)
 
     damaged_not_spelled : (place : ℕ) (rounds : List RoundEntry) → IsDamagedBehind job decls bytes place → Spells job decls bytes rounds → ⊥
     damaged_not_spelled place rounds h k =
@@ -192,11 +191,8 @@ pub one_journal : IsOneJournal
 one_journal bytes first second decls others rounds more one other h k =
     let c = chain_of first rounds h.holds.gate h.holds.behind in
     let d = chain_of second more k.holds.gate k.holds.behind in
-    ⊎_elim
-    (λ (same : AreSame c d). (
+    let same = both_closed c d h.holds.closed k.holds.closed (compared c d h.holds.counted k.holds.counted (sym h.holds.is ∙ k.holds.is)) in (
       one_job (job_bytes first) first second (record { spelled = one; is = refl }) (record { spelled = other; is = heads same.entries }),
       rounds_same rounds more (spelled_rounds first decls no_progress rounds one.skip h.are.follow)
           (spelled_rounds second others no_progress more other.skip k.are.follow) (tails same.entries),
-    ))
-    (λ apart. absurd (⊎_elim (λ (longer : IsLonger c d). h.holds.closed longer.opens) (λ (longer : IsLonger d c). k.holds.closed longer.opens) apart))
-    (compared c d h.holds.counted k.holds.counted (sym h.holds.is ∙ k.holds.is))
+    )

@@ -1,12 +1,8 @@
 -- The disk is synced and read; where it holds no entry, it begins with that of the job.
-use Rattle.std.proofs.Common.{◌≡◌, ◌∙◌, List, ℕ, inl, refl, sym}
+use Rattle.std.proofs.Common.{◌≡◌, ◌∙◌, inl, refl, sym}
 use Rattle.std.proofs.lemmas.Result.{err_from_is_err_and}
-use Rattle.sz_gates.specs.Entries.{IsEmpty}
-use Rattle.sz_gates.specs.Crashing.{Rests, WritesNothing}
-use Rattle.sz_gates.proofs.ForCallers.{nothing_both, rests_still}
 use Rattle.sz_journal_format.specs.Jobs.{job_bytes}
-use Rattle.sz_journal.specs.Opening.{IsKept}
-use Rattle.sz_journal.proofs.LeftLemmas.{leaves_nothing, rests_read}
+use Rattle.sz_journal.proofs.LeftLemmas.{nothing_both, rests_still, leaves_nothing, rests_read}
 use Rattle.sz_journal.proofs.OpenLemmas.{fits_outside, fits_first, first_none, first_read, fits_started, keeps_started, leaves_started, keeps_read}
 use Rattle.sz_journal.proofs.opening.open_journal.Goals as goal
 
@@ -16,9 +12,7 @@ returns-in_err-count-clause-causes g c held told =
     fits_outside c.args.job.now c.args.decls.now held c.from_residual-in_err-count.result c.in_err-count.field-0.0 p.0 p.1 p.2
 
 pub returns-in_err-count-clause-leaves : goal.returns-in_err-count-clause-leaves
-returns-in_err-count-clause-leaves g c held rests is_told =
-    leaves_nothing g.K.Disk.bytes g.K.Disk.may_leave g.K.Disk.time g.K.Disk.left_since g.K.Disk.faults c.args.disk.now c.settle.new.disk held
-    (IsKept c.args.job.now c.args.decls.now held) c.settle.ensures.kept rests is_told (inl refl)
+returns-in_err-count-clause-leaves g c held rests is_told = leaves_nothing c.settle.ensures.kept rests is_told (inl refl)
 
 pub returns-in_err-has_job-clause-causes : goal.returns-in_err-has_job-clause-causes
 returns-in_err-has_job-clause-causes g c held told =
@@ -29,11 +23,7 @@ returns-in_err-has_job-clause-causes g c held told =
 
 pub returns-in_err-has_job-clause-leaves : goal.returns-in_err-has_job-clause-leaves
 returns-in_err-has_job-clause-leaves g c held rests is_told =
-    leaves_nothing g.K.Disk.bytes g.K.Disk.may_leave g.K.Disk.time g.K.Disk.left_since g.K.Disk.faults c.args.disk.now c.has_job.new.disk held
-    (IsKept c.args.job.now c.args.decls.now held)
-    (nothing_both g.K.Disk.bytes g.K.Disk.may_leave g.K.Disk.time g.K.Disk.left_since g.K.Disk.faults c.args.disk.now c.settle.new.disk
-    c.has_job.new.disk c.settle.ensures.kept c.has_job.ensures.kept)
-    rests is_told (inl refl)
+    leaves_nothing (nothing_both c.settle.ensures.kept c.has_job.ensures.kept) rests is_told (inl refl)
 
 pub returns-then-not-branch-clause-causes : goal.returns-then-not-branch-clause-causes
 returns-then-not-branch-clause-causes g c held told =
@@ -51,9 +41,7 @@ returns-then-not-branch-clause-ok g c held told =
     let none =
     first_none c.args.job.now c.args.decls.now held c.in_ok-has_job.field-0
     (c.in_ok-has_job.ensures.value c.args.job.now c.args.decls.now held own (c.settle.ensures.kept.same ∙ told)) c.if-not-branch.true in
-    let rests =
-    rests_read g.K.Disk.bytes g.K.Disk.may_leave g.K.Disk.time g.K.Disk.left_since g.K.Disk.faults c.args.disk.now c.settle.new.disk
-    c.has_job.new.disk held told c.settle.ensures.kept c.in_ok-count.ensures.synced c.has_job.ensures.kept in
+    let rests = rests_read told c.settle.ensures.kept c.in_ok-count.ensures.synced c.has_job.ensures.kept in
     keeps_started c.args.job.now c.args.decls.now c.deref-then-not-branch.result.now (g.K.Disk.bytes c.start.new.disk)
     (g.K.Disk.may_leave c.start.new.disk) c.start.result entry (c.start.ensures.ok held rests none) c.start.ensures.rounds
 
@@ -65,14 +53,9 @@ returns-then-not-branch-clause-leaves g c held rests is_told =
     let none =
     first_none c.args.job.now c.args.decls.now held c.in_ok-has_job.field-0
     (c.in_ok-has_job.ensures.value c.args.job.now c.args.decls.now held own (c.settle.ensures.kept.same ∙ rests.read)) c.if-not-branch.true in
-    let kept =
-    nothing_both g.K.Disk.bytes g.K.Disk.may_leave g.K.Disk.time g.K.Disk.left_since g.K.Disk.faults c.args.disk.now c.settle.new.disk
-    c.has_job.new.disk c.settle.ensures.kept c.has_job.ensures.kept in
-    let rests_now =
-    rests_still g.K.Disk.bytes g.K.Disk.may_leave g.K.Disk.time g.K.Disk.left_since g.K.Disk.faults c.args.disk.now c.has_job.new.disk held kept rests in
-    leaves_started g.K.Disk.bytes g.K.Disk.may_leave g.K.Disk.time g.K.Disk.left_since g.K.Disk.faults c.args.job.now c.args.decls.now
-    c.deref-then-not-branch.result.now held c.args.disk.now c.has_job.new.disk c.start.new.disk entry kept rests is_told none
-    (c.start.ensures.leaves held rests_now none (kept.told_now ∙ is_told))
+    let kept = nothing_both c.settle.ensures.kept c.has_job.ensures.kept in
+    leaves_started c.args.job.now c.args.decls.now entry kept rests is_told none
+    (c.start.ensures.leaves held (rests_still kept rests) none (kept.told_now ∙ is_told))
 
 pub read_rounds-requires-clause-first : goal.read_rounds-requires-clause-first
 read_rounds-requires-clause-first g c held told =
@@ -82,22 +65,11 @@ read_rounds-requires-clause-first g c held told =
 
 pub returns-clause-ok : goal.returns-clause-ok
 returns-clause-ok g c held told =
-    let read =
-    nothing_both g.K.Disk.bytes g.K.Disk.may_leave g.K.Disk.time g.K.Disk.left_since g.K.Disk.faults c.settle.new.disk c.has_job.new.disk
-    c.read_rounds.new.disk c.has_job.ensures.kept c.read_rounds.ensures.kept in
-    let rests =
-    rests_read g.K.Disk.bytes g.K.Disk.may_leave g.K.Disk.time g.K.Disk.left_since g.K.Disk.faults c.args.disk.now c.settle.new.disk
-    c.read_rounds.new.disk held told c.settle.ensures.kept c.in_ok-count.ensures.synced read in
+    let read = nothing_both c.has_job.ensures.kept c.read_rounds.ensures.kept in
+    let rests = rests_read told c.settle.ensures.kept c.in_ok-count.ensures.synced read in
     keeps_read c.args.job.now c.args.decls.now held (g.K.Disk.bytes c.read_rounds.new.disk) (g.K.Disk.may_leave c.read_rounds.new.disk)
     c.read_rounds.result rests (c.read_rounds.ensures.value held (c.has_job.ensures.kept.same ∙ c.settle.ensures.kept.same ∙ told))
 
 pub returns-clause-leaves : goal.returns-clause-leaves
 returns-clause-leaves g c held rests is_told =
-    let first =
-    nothing_both g.K.Disk.bytes g.K.Disk.may_leave g.K.Disk.time g.K.Disk.left_since g.K.Disk.faults c.args.disk.now c.settle.new.disk
-    c.has_job.new.disk c.settle.ensures.kept c.has_job.ensures.kept in
-    leaves_nothing g.K.Disk.bytes g.K.Disk.may_leave g.K.Disk.time g.K.Disk.left_since g.K.Disk.faults c.args.disk.now c.read_rounds.new.disk held
-    (IsKept c.args.job.now c.args.decls.now held)
-    (nothing_both g.K.Disk.bytes g.K.Disk.may_leave g.K.Disk.time g.K.Disk.left_since g.K.Disk.faults c.args.disk.now c.has_job.new.disk
-    c.read_rounds.new.disk first c.read_rounds.ensures.kept)
-    rests is_told (inl refl)
+    leaves_nothing (nothing_both (nothing_both c.settle.ensures.kept c.has_job.ensures.kept) c.read_rounds.ensures.kept) rests is_told (inl refl)

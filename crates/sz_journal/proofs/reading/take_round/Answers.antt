@@ -1,5 +1,5 @@
 -- Bytes that are those of no round, or of one that may not be the next one, aren't those of the next one.
-use Rattle.std.proofs.Common.{◌≡◌, ◌∙◌, ◌<◌, ◌^◌, ◌∷◌, ◌++◌, [], List, Err, true≢false, sym, ap, subst, rules}
+use Rattle.std.proofs.Common.{◌∙◌, ◌<◌, ◌^◌, ◌∷◌, ◌++◌, [], List, Err, true≢false, sym, ap, subst, rules}
 use Rattle.sz_journal_format.specs.Rounds.{AreRounds}
 use Rattle.sz_journal_format.specs.declared.round.RoundEntry.{RoundEntry}
 use Rattle.sz_journal.specs.Journal.{rounds_of}
